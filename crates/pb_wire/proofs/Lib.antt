@@ -1,0 +1,15 @@
+pub mod VarintLemmas
+pub mod ReadingLemmas
+pub mod UnknownLemmas
+pub mod Unique
+pub mod WritingLemmas
+pub mod Places
+pub mod Tokens
+pub mod Elements
+pub mod Fronts
+pub mod OneFault
+pub mod Total
+pub mod ExactLemmas
+pub mod Longer
+pub mod CutAtEnd
+pub mod Transfers

@@ -1,0 +1,208 @@
+-- Laws of tags and records.
+use Rattle.std.proofs.Common.{◌≡◌, ℕ, ◌+◌, ◌-◌, ◌*◌, ◌/◌, ◌%◌, ◌^◌, ◌<◌, ◌≤◌, List, [], ◌∷◌, ◌++◌, length, take, drop, refl, sym, ap, subst, ◌∙◌, arith, append_assoc, length-append, Option, Some, None}
+use Rattle.std.proofs.Common.{zero, suc, inl, inr, ◌⊎◌}
+use Rattle.pb_wire.specs.Schema.{Schema, blank}
+use Rattle.pb_wire.specs.Sound.{Sound, AllSound, one}
+use Rattle.pb_wire.specs.Grammar.{Bad, RecordFault, Begins, HasFault, beyond}
+use Rattle.pb_wire.specs.Limits.{Bounds}
+use Rattle.pb_wire.specs.Reading.{Front, ReadsAll, ReadsValue, BadValue, BadFrom, opened}
+use Rattle.pb_wire.specs.Reading.{IfFault, IfRawFault}
+use Rattle.pb_wire.specs.declared.fault.RawError.{RawError}
+use Rattle.pb_wire.specs.declared.fault.RawError.TheVariants as raw
+use Rattle.pb_wire.specs.declared.fault.WireFault.{WireFault}
+use Rattle.pb_wire.specs.declared.fault.ReadError.{ReadError}
+use Rattle.pb_wire.specs.declared.fault.ReadError.TheVariants as errors
+use Rattle.std.specs.Prelude.{option_map, MatchOption, option_to_list}
+use Rattle.std.proofs.lemmas.List.{take-append-drop, drop-drop, length-take-le, length-drop, append-nil, same_from_push}
+use Rattle.pb_wire.specs.Record.{Payload, len, group, Record, group_of}
+use Rattle.pb_wire.specs.Spell.{Body, Spells, AreRecords, SpellsGroup}
+use Rattle.pb_wire.specs.Fault.{Fault, fault, VarintFault, FixedFault, LengthFault, CutFault, TagFault, Place, place, HasTag, Reads, Leads, Moves}
+
+-- the two parts of a tag
+pub tag_parts :
+    {p q : Place} {n : ℕ} → Reads p n q → (w : ℕ) → n % 8 ≡ w → w < 6 → 8 ≤ n → n < 2 ^ 32 → HasTag p (n / 8) w q
+tag_parts {p} {q} {n} r w is_type known some small = record {
+  tag = let e : 8 * (n / 8) + w ≡ n = omega arith in rw e r;
+  number = (omega arith, omega arith);
+  type = known;
+}
+
+-- ---- moving over bytes
+
+within_sum : (e : Option ℕ) (a b : ℕ) → MatchOption e (Unit {0}) (λ n. a ≤ n) → MatchOption (option_map (λ n. n - a) e) (Unit {0}) (λ n. b ≤ n) → MatchOption e (Unit {0}) (λ n. a + b ≤ n)
+within_sum None a b h g = tt
+within_sum (Some n) a b h g = omega arith
+
+known_sum : (e : Option ℕ) (a b : ℕ) → option_map (λ n. n - b) (option_map (λ n. n - a) e) ≡ option_map (λ n. n - (a + b)) e
+known_sum None a b = refl
+known_sum (Some n) a b = ap (λ (m : ℕ). Some m) (omega arith)
+
+pub moves_both : {p q r : Place} (a b : List ℕ) → Moves p a q → Moves q b r → Moves p (a ++ b) r
+moves_both {p} {q} {r} a b h g = record {
+  given = h.given ∙ ap (λ (s : List ℕ). a ++ s) g.given ∙ sym (append_assoc a b r.rest);
+  within = rw (length-append a b) (within_sum p.known (length a) (length b) h.within (let W : Option ℕ → Type 0 = λ e. MatchOption e (Unit {0}) (λ n. length b ≤ n) in subst W h.known g.within));
+  at = rw (length-append a b) (omega (arith, h.at, g.at));
+  known = g.known ∙ ap (λ (e : Option ℕ). option_map (λ n. n - length b) e) h.known ∙ rw (length-append a b) (known_sum p.known (length a) (length b));
+}
+
+pub moves_none : (p : Place) → (e : p.known ≡ None) → Moves p [] p
+moves_none p e = record {
+  given = refl;
+  within = rw e tt;
+  at = omega arith;
+  known = rw e refl;
+}
+
+-- n bytes of a text are passed
+pub moves_at : (b : List ℕ) (i n : ℕ) → i + n ≤ length b → Moves (place b i) (take n (drop i b)) (place b (i + n))
+moves_at b i n h =
+    let size : length (take n (drop i b)) ≡ n = length-take-le n (drop i b) (simp length-drop (omega arith)) in
+    record {
+      given = rw (← drop-drop n i b) (sym (take-append-drop n (drop i b)));
+      within = tt;
+      at = rw size refl;
+      known = refl;
+    }
+
+-- a length and its bytes
+pub leads_to_bytes :
+    (b : List ℕ) (at start size k : ℕ) → Reads (place b at) size (place b start) → start + size ≤ length b → size < 2 ^ 31
+    → Leads (Body k (len (take (start + size - start) (drop start b)))) (place b at) (place b (start + size))
+leads_to_bytes b at start size k r h small =
+    let e : start + size - start ≡ size = omega arith in
+    let n : length (take size (drop start b)) ≡ size = length-take-le size (drop start b) (simp length-drop (omega arith)) in
+    rw e (r.0 ++ take size (drop start b), (rw n small, r.0, rw n r.1, refl), moves_both r.0 (take size (drop start b)) r.2 (moves_at b start size h))
+
+-- ---- records
+
+pub AreRecords-push : (rs : List Record) (r : Record) (a b : List ℕ) → AreRecords rs a → Spells r b → AreRecords (rs ++ r ∷ []) (a ++ b)
+AreRecords-push [] r a b e s = rw e (b, [], s, refl, sym (append-nil b))
+AreRecords-push (q ∷ rs) r a b h s =
+    (h.0, h.1 ++ b, h.2, AreRecords-push rs r h.1 b h.3 s, rw h.4 (append_assoc h.0 h.1 b))
+
+pub AllSound-push : {S : Schema} {c : S.Context} {room : ℕ} (rs : List Record) (r : Record) → AllSound S c room rs → Sound S c room r.number r.payload → AllSound S c room (rs ++ r ∷ [])
+AllSound-push [] r h s = AllSound.one s AllSound.none
+AllSound-push (q ∷ rs) r (one x xs) s = AllSound.one x (AllSound-push rs r xs s)
+
+pub SpellsGroup-from_records : (rs : List Record) (b : List ℕ) → AreRecords rs b → SpellsGroup (group_of rs) b
+SpellsGroup-from_records [] b h = h
+SpellsGroup-from_records (r ∷ rs) b h = (h.0, h.1, h.2, SpellsGroup-from_records rs h.1 h.3, h.4)
+
+pub front_none : (room : ℕ) (b : List ℕ) (at : ℕ) → Front room (place b at) [] (place b at)
+front_none room b at = record { spelled = ([], refl, moves_none (place b at) refl); sound = AllSound.none }
+
+pub front_push :
+    {room k w : ℕ} {p q s r : Place} (rs : List Record) (payload : Payload) → Front room p rs q → HasTag q k w s
+    → ReadsValue room k w s payload r → Front room p (rs ++ record { number = k; payload = payload } ∷ []) r
+front_push {room} {k} {w} {p} {q} {s} {r} rs payload f tag value =
+    let the_record : Record = record { number = k; payload = payload } in
+    let spelled : Spells the_record (tag.tag.0 ++ value.spelled.0) = record {
+      number = tag.number;
+      tag = tag.tag.0;
+      tagged = rw value.type tag.tag.1;
+      body = value.spelled.0;
+      follows = value.spelled.1;
+      joined = refl;
+    } in
+    record {
+      spelled = (
+        f.spelled.0 ++ (tag.tag.0 ++ value.spelled.0),
+        AreRecords-push rs the_record _ _ f.spelled.1 spelled,
+        moves_both _ _ f.spelled.2 (moves_both _ _ tag.tag.2 value.spelled.2),
+      );
+      sound = AllSound-push rs the_record f.sound value.sound;
+    }
+
+pub group_value :
+    (room k : ℕ) (p q : Place) (rs : List Record) → 0 < room → ReadsAll (room - 1) (Some k) p rs q → ReadsValue room k 3 p (group (group_of rs)) q
+group_value zero k p q rs h r = absurd (omega arith)
+group_value (suc n) k p q rs h r =
+    let e : suc n - 1 ≡ n = omega arith in
+    let inside = rw e at r.1 in
+    record {
+      type = refl;
+      spelled = (
+        inside.spelled.0 ++ r.2.0,
+        (inside.spelled.0, r.2.0, SpellsGroup-from_records rs _ inside.spelled.1, r.2.1, refl),
+        moves_both _ _ inside.spelled.2 r.2.2,
+      );
+      sound = Sound.a_group refl inside.sound;
+    }
+
+-- ---- faults
+
+pub begins : (innermost : Option ℕ) (b : List ℕ) (at : ℕ) → (innermost ≡ None → at < length b) → Begins (opened innermost) (place b at)
+begins None b at h =
+    (λ e. cc, λ _ e. let n : length (drop at b) ≡ 0 = ap length e in let k : at < length b = h refl in omega (arith, n, length-drop at b))
+begins (Some k) b at h = λ e. cc
+
+pub bad_from :
+    (innermost : Option ℕ) (b : List ℕ) (at here room : ℕ) (rs : List Record) (f : Fault) → (innermost ≡ None → here < length b)
+    → Front room (place b at) rs (place b here) → RecordFault blank (opened innermost) room (place b here) f
+    → Bad blank (opened innermost) room (place b at) f
+bad_from innermost b at here room rs f h front bad =
+    Bad.at_record (rs, front.spelled.1, front.sound) front.spelled.2 (begins innermost b here h) bad
+
+pub bad_tag :
+    (innermost : Option ℕ) (p : Place) (room : ℕ) (f : Fault) → TagFault innermost p f → RecordFault blank (opened innermost) room p f
+bad_tag None p room f h = RecordFault.tag h
+bad_tag (Some k) p room f h = RecordFault.tag h
+
+pub bad_varint_value : (room k : ℕ) (q : Place) (old : List ℕ) (w : WireFault) → VarintFault q (fault w.byte [] w.cause) → BadValue room k 0 q old old w
+bad_varint_value room k q old w h = ([], sym (append-nil old), λ o p tag. RecordFault.varint tag h refl)
+
+pub bad_fixed64_value : (room k : ℕ) (q : Place) (old : List ℕ) (w : WireFault) → FixedFault 8 q (fault w.byte [] w.cause) → BadValue room k 1 q old old w
+bad_fixed64_value room k q old w h = ([], sym (append-nil old), λ o p tag. RecordFault.fixed64 tag h refl)
+
+pub bad_fixed32_value : (room k : ℕ) (q : Place) (old : List ℕ) (w : WireFault) → FixedFault 4 q (fault w.byte [] w.cause) → BadValue room k 5 q old old w
+bad_fixed32_value room k q old w h = ([], sym (append-nil old), λ o p tag. RecordFault.fixed32 tag h refl)
+
+pub bad_bytes_value :
+    (room k : ℕ) (q : Place) (old : List ℕ) (w : WireFault)
+    → LengthFault q (fault w.byte [] w.cause) ⊎ CutFault q (fault w.byte [] w.cause) → BadValue room k 2 q old old w
+bad_bytes_value room k q old w (inl h) = ([], sym (append-nil old), λ o p tag. RecordFault.length_of tag tt h refl)
+bad_bytes_value room k q old w (inr h) = ([], sym (append-nil old), λ o p tag. RecordFault.cut_payload tag (inl refl) h refl)
+
+pub bad_group_value :
+    (room k : ℕ) (q : Place) (old new : List ℕ) (w : WireFault) → 0 < room → BadFrom (room - 1) (Some k) q old new w
+    → BadValue room k 3 q old new w
+bad_group_value zero k q old new w h bad = absurd (omega arith)
+bad_group_value (suc n) k q old new w h bad =
+    let e : suc n - 1 ≡ n = omega arith in
+    let inner = rw e at bad.2 in
+    (bad.0, bad.1, λ o p tag. RecordFault.in_a_group tag inner refl)
+
+pub value_from_group :
+    (room k : ℕ) (q : Place) (old new : List ℕ) (e : ReadError) → 0 < room → IfFault e (BadFrom (room - 1) (Some k) q old new)
+    → IfFault e (BadValue room k 3 q old new)
+value_from_group room k q old new (errors.Fault w) h bad = bad_group_value room k q old new w h bad
+value_from_group room k q old new errors.Memory h bad = tt
+
+-- a value has a fault, behind a front of whole records
+pub bad_after :
+    (innermost : Option ℕ) (b : List ℕ) (at here start room k code : ℕ) (rs : List Record) (old pushed new : List ℕ) (e : ReadError)
+    → (innermost ≡ None → here < length b) → Front room (place b at) rs (place b here) → HasTag (place b here) k code (place b start)
+    → pushed ≡ old ++ k ∷ [] → IfFault e (BadValue room k code (place b start) pushed new)
+    → IfFault e (BadFrom room innermost (place b at) old new)
+bad_after innermost b at here start room k code rs old pushed new errors.Memory goes front tag e bad = tt
+bad_after innermost b at here start room k code rs old pushed new (errors.Fault w) goes front tag e bad = (
+  k ∷ bad.0,
+  bad.1 ∙ ap (λ (xs : List ℕ). xs ++ bad.0) e ∙ append_assoc old (k ∷ []) bad.0,
+  bad_from innermost b at here room rs (fault w.byte (k ∷ bad.0) w.cause) goes front (bad.2 (opened innermost) (place b here) tag),
+)
+
+-- what `pop` leaves of what `push` made
+pub popped : (xs ys s : List ℕ) (x z : ℕ) (r : Option ℕ) → s ≡ xs ++ x ∷ [] → s ≡ ys ++ option_to_list r → r ≡ Some z → ys ≡ xs
+popped xs ys s x z r made left is =
+    let e : ys ++ z ∷ [] ≡ xs ++ x ∷ [] = sym (rw is at left) ∙ made in
+    (same_from_push ys xs z x e).0
+
+-- a fault of the bytes within the limit
+pub from_front :
+    (e : RawError) (limits : Bounds) (b old new : List ℕ) (max room : ℕ) (w : WireFault) → limits.bytes < length b
+    → max ≡ limits.bytes → old ≡ [] → room ≡ limits.depth → BadFrom room None (place (take max b) 0) old new w
+    → IfRawFault e (λ f. f ≡ beyond max (fault w.byte new w.cause)) → IfRawFault e (HasFault blank tt limits b)
+from_front raw.Memory limits b old new max room w long is_max none is_depth bad told = tt
+from_front (raw.Fault byte path cause) limits b old new max room w long is_max none is_depth bad told =
+    let steps : new ≡ bad.0 = bad.1 ∙ ap (λ (xs : List ℕ). xs ++ bad.0) none in
+    HasFault.bad_front long (rw (is_max, is_depth) at bad.2) (rw (← steps, ← is_max) told)

@@ -1,0 +1,15 @@
+pub mod Varint
+pub mod Record
+pub mod Spell
+pub mod Fault
+pub mod Schema
+pub mod Sound
+pub mod Grammar
+pub mod Exact
+pub mod Unknown
+pub mod WireType
+pub mod Reading
+pub mod Limits
+pub mod Writable
+pub mod CauseName
+pub mod Zigzag

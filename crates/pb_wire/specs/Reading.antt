@@ -1,0 +1,54 @@
+-- What the parts of the reader say of one another: places of a text that has no known end.
+use Rattle.std.specs.Prelude.{◌≡◌, ℕ, ◌+◌, ◌*◌, List, ◌∷◌, ◌++◌, Option, Some, None}
+use Rattle.pb_wire.specs.Record.{Payload, wire_type, Record}
+use Rattle.pb_wire.specs.Spell.{Body, AreRecords}
+use Rattle.pb_wire.specs.Fault.{Fault, fault, Place, Leads, Reads, HasTag}
+use Rattle.pb_wire.specs.Schema.{blank, Open, records, in_group}
+use Rattle.pb_wire.specs.Sound.{Sound, AllSound}
+use Rattle.pb_wire.specs.Grammar.{Bad, RecordFault}
+use Rattle.pb_wire.specs.declared.fault.WireFault.{WireFault}
+use Rattle.pb_wire.specs.declared.fault.RawError.{RawError}
+use Rattle.pb_wire.specs.declared.fault.RawError.TheVariants as raw
+use Rattle.pb_wire.specs.declared.fault.ReadError.{ReadError}
+use Rattle.pb_wire.specs.declared.fault.ReadError.TheVariants as errors
+
+abbrev pub opened : Option ℕ → Open (Unit {0})
+opened None = records tt
+opened (Some k) = in_group k tt
+
+-- whole sound records lead from p to q
+pub record Front (room : ℕ) (p : Place) (rs : List Record) (q : Place) : Type 0 where
+  pub spelled : Leads (AreRecords rs) p q
+  pub sound : AllSound blank tt room rs
+
+-- the records of a context, and the end tag if it is a group
+abbrev pub ReadsAll : ℕ → Option ℕ → Place → List Record → Place → Type 0
+ReadsAll room None p rs q = Front room p rs q
+ReadsAll room (Some k) p rs q = (end : Place) × Front room p rs end × Reads end (8 * k + 4) q
+
+-- what follows the tag
+pub record ReadsValue (room k code : ℕ) (p : Place) (payload : Payload) (q : Place) : Type 0 where
+  pub type : wire_type payload ≡ code
+  pub spelled : Leads (Body k payload) p q
+  pub sound : Sound blank tt room k payload
+
+-- a fact of a fault, if it is one
+abbrev pub IfFault : ReadError → (WireFault → Type 0) → Type 0
+IfFault (errors.Fault w) P = P w
+IfFault errors.Memory P = Unit {0}
+
+-- the value that begins at q, behind the tag of a record of number k, has a fault below these steps of the path
+abbrev pub BadValue : ℕ → ℕ → ℕ → Place → List ℕ → List ℕ → WireFault → Type 0
+BadValue room k code q old new w =
+    (steps : List ℕ) × (new ≡ old ++ steps)
+    × ((o : Open (Unit {0})) (p : Place) → HasTag p k code q → RecordFault blank o room p (fault w.byte (k ∷ steps) w.cause))
+
+-- reading from p fails below these steps of the path
+abbrev pub BadFrom : ℕ → Option ℕ → Place → List ℕ → List ℕ → WireFault → Type 0
+BadFrom room innermost p old new w =
+    (steps : List ℕ) × (new ≡ old ++ steps) × Bad blank (opened innermost) room p (fault w.byte steps w.cause)
+
+-- a fact of a fault as a reader tells it, if it is one
+abbrev pub IfRawFault : RawError → (Fault → Type 0) → Type 0
+IfRawFault (raw.Fault byte path cause) P = P (fault byte path.items cause)
+IfRawFault raw.Memory P = Unit {0}

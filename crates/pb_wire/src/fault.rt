@@ -1,0 +1,162 @@
+//! What is wrong with bytes that are no message.
+
+ghost use Rattle.std.specs.Prelude.{◌≡◌};
+ghost use Rattle.pb_wire.specs.CauseName.{number_of, name_of, raw_number_of};
+ghost use Rattle.pb_wire.specs.declared.fault.ReadError.TheVariants.{Fault, Memory};
+
+use std::alloc::{AllocError, AllocFailed};
+use std::error::Error as StdError;
+use std::fmt;
+use thiserror::Error;
+
+/// Why bytes are refused. A cause shows as its name.
+#[derive(Clone, Copy, Debug, PartialEq, Eq)]
+pub enum Cause {
+    /// The input ends inside a token, or with a payload or a group open.
+    Truncated,
+    /// A token would pass a known end.
+    PastEnd,
+    /// Ten bytes of a varint all have the high bit.
+    VarintTooLong,
+    /// A tag is 2^32 or more.
+    TagTooLarge,
+    /// A record has the number 0.
+    NumberZero,
+    /// The wire type is 6 or 7.
+    BadType,
+    /// A group ends where the innermost open thing is no group.
+    StrayEnd,
+    /// A group ends with another number than it began with.
+    WrongEnd,
+    /// A length is above 2^31 - 1.
+    LengthTooLarge,
+    /// A text is not UTF-8.
+    BadText,
+    /// A message, an entry or a group nests too deep.
+    TooDeep,
+    /// There are more bytes than the limit allows.
+    InputTooLarge,
+}
+
+impl Cause {
+    /// The cause's number, from 1 to 12.
+    pub fn number(self) -> u8
+        ensures { result ≡ number_of self }
+    {
+        match self {
+            Cause::Truncated => 1,
+            Cause::PastEnd => 2,
+            Cause::VarintTooLong => 3,
+            Cause::TagTooLarge => 4,
+            Cause::NumberZero => 5,
+            Cause::BadType => 6,
+            Cause::StrayEnd => 7,
+            Cause::WrongEnd => 8,
+            Cause::LengthTooLarge => 9,
+            Cause::BadText => 10,
+            Cause::TooDeep => 11,
+            Cause::InputTooLarge => 12,
+        }
+    }
+
+    /// The cause's name, as every printed fault has it.
+    pub fn name(self) -> &'static str
+        ensures { result.now ≡ name_of self }
+    {
+        match self {
+            Cause::Truncated => "Truncated",
+            Cause::PastEnd => "PastEnd",
+            Cause::VarintTooLong => "VarintTooLong",
+            Cause::TagTooLarge => "TagTooLarge",
+            Cause::NumberZero => "NumberZero",
+            Cause::BadType => "BadType",
+            Cause::StrayEnd => "StrayEnd",
+            Cause::WrongEnd => "WrongEnd",
+            Cause::LengthTooLarge => "LengthTooLarge",
+            Cause::BadText => "BadText",
+            Cause::TooDeep => "TooDeep",
+            Cause::InputTooLarge => "InputTooLarge",
+        }
+    }
+}
+
+impl fmt::Display for Cause {
+    ghost use Rattle.std.specs.Prelude.{Some};
+
+    ghost output = { λ cause. Some (name_of cause) };
+
+    fn fmt<W: fmt::Write>(&self, f: &mut fmt::Formatter<W>) -> fmt::Result {
+        f.write_str(self.name())
+    }
+}
+
+impl StdError for Cause {}
+
+/// A fault without the path that leads to it.
+#[derive(Clone, Copy, Debug, PartialEq, Eq, Error)]
+#[error("{cause} at byte {byte}")]
+pub struct WireFault {
+    pub byte: u64,
+    pub cause: Cause,
+}
+
+/// Why records were not read or written.
+#[derive(Debug, Drop, Error)]
+pub enum RawError {
+    /// The bytes are no records: where they fail, the numbers of the open records outermost first, and why.
+    #[error("{cause} at byte {byte}")]
+    Fault {
+        byte: u64,
+        path: Vec<u32>,
+        cause: Cause,
+    },
+    #[error("out of memory")]
+    Memory,
+}
+
+impl RawError {
+    /// The error's number: 13 for a fault and 14 for want of memory.
+    pub fn number(&self) -> u8
+        ensures { result ≡ raw_number_of self.now }
+    {
+        match self {
+            RawError::Fault {
+                byte: _,
+                path: _,
+                cause: _,
+            } => 13,
+            RawError::Memory => 14,
+        }
+    }
+}
+
+/// A fault whose path stands elsewhere, or want of memory.
+#[derive(Debug, Drop)]
+pub(crate) enum ReadError {
+    Fault(WireFault),
+    Memory,
+}
+
+impl From<AllocError> for ReadError {
+    ghost from_gives = { λ _ e. e ≡ Memory };
+
+    fn from(_e: AllocError) -> ReadError {
+        ReadError::Memory
+    }
+}
+
+impl<T: Drop> From<AllocFailed<T>> for ReadError {
+    ghost from_gives = { λ _ e. e ≡ Memory };
+
+    fn from(_e: AllocFailed<T>) -> ReadError {
+        ReadError::Memory
+    }
+}
+
+impl From<WireFault> for ReadError {
+    ghost from_gives = { λ w e. e ≡ Fault w };
+
+    fn from(fault: WireFault) -> ReadError {
+        ReadError::Fault(fault)
+    }
+}

@@ -1,0 +1,31 @@
+//! Varints, records and devices of the wire format.
+#![tactic(auto)]
+
+mod device;
+mod fault;
+mod host;
+mod laws;
+mod limits;
+mod memory;
+mod reading;
+mod transfer;
+mod unknown;
+mod varint;
+mod writing;
+mod zigzag;
+
+pub use device::{DeviceFault, Input, Output};
+pub use fault::{Cause, RawError, WireFault};
+pub use host::{ReadInput, WriteOutput};
+pub use laws::{longer_text, one_fault};
+pub use limits::{Limits, MAX_BYTES, MAX_DEPTH};
+pub use memory::{FailurePlan, MemInput, MemOutput};
+pub use reading::read_raw;
+pub use transfer::{ReadFault, WriteFault, read_up_to, write_all};
+pub use unknown::Unknown;
+pub use varint::{VarintBytes, put_varint, read_varint};
+pub use writing::{can_write, write_raw};
+pub use zigzag::{unzigzag32, unzigzag64, zigzag32, zigzag64};
+
+#[cfg(test)]
+mod tests;

@@ -1,0 +1,341 @@
+//! Bytes as records.
+
+ghost use Rattle.std.specs.Prelude.{List, MatchResult};
+ghost use Rattle.pb_wire.specs.Record.{Record};
+ghost use Rattle.pb_wire.specs.Fault.{Fault};
+ghost use Rattle.pb_wire.specs.Exact.{Exactly, IsSomeText};
+ghost use Rattle.std.specs.Prelude.{◌≡◌, ◌≢◌, ◌+◌, ◌≤◌, ◌<◌, ℕ, [], Ok, Some, None, true, false, length, option_map, IfOk, IfErr, OnOk};
+ghost use Rattle.pb_wire.specs.declared.reading.WireType.{WireType};
+ghost use Rattle.pb_wire.specs.Fault.{VarintFault, FixedFault, LengthFault, CutFault, TagFault, fault, place, Leads, Reads, HasTag};
+ghost use Rattle.std.specs.Prelude.{◌⊎◌};
+ghost use Rattle.std.specs.Int.{w32, w64, to_le_bytes};
+ghost use Rattle.pb_wire.specs.Record.{len};
+ghost use Rattle.pb_wire.specs.Spell.{Body};
+ghost use Rattle.pb_wire.specs.WireType.{code_of};
+ghost use Rattle.pb_wire.specs.Unknown.{payload_of, records_of};
+ghost use Rattle.pb_wire.specs.Reading.{ReadsAll, ReadsValue, IfFault, IfRawFault, BadValue, BadFrom};
+ghost use Rattle.pb_wire.specs.Grammar.{IsText, HasFault, beyond};
+ghost use Rattle.pb_wire.specs.Fault.{fault as fault_with};
+ghost use Rattle.pb_wire.specs.Schema.{blank};
+
+use crate::fault::{Cause, RawError, ReadError, WireFault};
+use crate::limits::Limits;
+use crate::unknown::Unknown;
+use crate::varint::read_varint;
+use std::alloc::Global;
+
+/// What follows a tag.
+#[derive(Clone, Copy, Debug, PartialEq, Eq)]
+pub(crate) enum WireType {
+    Varint,
+    I64,
+    Len,
+    StartGroup,
+    EndGroup,
+    I32,
+}
+
+/// Reads the varint that begins at an index, and tells the index after it.
+fn varint_at(bytes: &[u8], at: usize) -> Result<(u64, usize), WireFault>
+    requires { at ≤ length bytes.now }
+    ensures within { IfOk result (λ r. (at < r.1) × (r.1 ≤ length bytes.now)) }
+    ensures ok { IfOk result (λ r. Reads (place bytes.now at) r.0 (place bytes.now r.1)) }
+    ensures fault { IfErr result (λ e. VarintFault (place bytes.now at) (fault e.byte [] e.cause)) }
+{
+    match read_varint(&bytes[at..]) {
+        Ok((number, size)) => Ok((number, at + size)),
+        Err(fault) => Err(WireFault {
+            byte: at as u64 + fault.byte,
+            cause: fault.cause,
+        }),
+    }
+}
+
+/// Reads the tag that begins at an index: the number, the wire type, and the index after it.
+fn tag_at(
+    bytes: &[u8],
+    at: usize,
+    innermost: Option<u32>,
+) -> Result<(u32, WireType, usize), WireFault>
+    requires { at ≤ length bytes.now }
+    ensures within { IfOk result (λ r. (at < r.2) × (r.2 ≤ length bytes.now)) }
+    ensures ok { IfOk result (λ r. HasTag (place bytes.now at) r.0 (code_of r.1) (place bytes.now r.2)) }
+    ensures ends { IfOk result (λ r. code_of r.1 ≡ 4 → innermost ≡ Some r.0) }
+    ensures fault { IfErr result (λ e. TagFault innermost (place bytes.now at) (fault e.byte [] e.cause)) }
+{
+    let (tag, after) = varint_at(bytes, at)?;
+    let number = tag / 8;
+    if tag > u64::from(u32::MAX) {
+        return Err(refused(at, Cause::TagTooLarge));
+    }
+    if number == 0 {
+        return Err(refused(at, Cause::NumberZero));
+    }
+    let number = number as u32;
+    let Some(wire_type) = wire_type_of(tag % 8) else {
+        return Err(refused(at, Cause::BadType));
+    };
+    if let WireType::EndGroup = wire_type {
+        match innermost {
+            None => return Err(refused(at, Cause::StrayEnd)),
+            Some(open) => {
+                if open != number {
+                    return Err(refused(at, Cause::WrongEnd));
+                }
+            }
+        }
+    }
+    Ok((number, wire_type, after))
+}
+
+fn refused(at: usize, cause: Cause) -> WireFault
+    ensures { result ≡ record { byte = at; cause = cause } }
+{
+    WireFault {
+        byte: at as u64,
+        cause,
+    }
+}
+
+fn wire_type_of(code: u64) -> Option<WireType>
+    ensures found { (w : WireType) → result ≡ Some w → code_of w ≡ code }
+    ensures none { result ≡ None → 6 ≤ code }
+{
+    match code {
+        0 => Some(WireType::Varint),
+        1 => Some(WireType::I64),
+        2 => Some(WireType::Len),
+        3 => Some(WireType::StartGroup),
+        4 => Some(WireType::EndGroup),
+        5 => Some(WireType::I32),
+        _ => None,
+    }
+}
+
+/// Reads the eight bytes that begin at an index.
+fn u64_at(bytes: &[u8], at: usize) -> Result<(u64, usize), WireFault>
+    requires { at ≤ length bytes.now }
+    ensures within { IfOk result (λ r. (at < r.1) × (r.1 ≤ length bytes.now)) }
+    ensures ok { IfOk result (λ r. Leads (λ s. s ≡ to_le_bytes w64 r.0) (place bytes.now at) (place bytes.now r.1)) }
+    ensures fault { IfErr result (λ e. FixedFault 8 (place bytes.now at) (fault e.byte [] e.cause)) }
+{
+    if bytes.len() - at < 8 {
+        return Err(refused(bytes.len(), Cause::Truncated));
+    }
+    let front = [
+        bytes[at],
+        bytes[at + 1],
+        bytes[at + 2],
+        bytes[at + 3],
+        bytes[at + 4],
+        bytes[at + 5],
+        bytes[at + 6],
+        bytes[at + 7],
+    ];
+    Ok((u64::from_le_bytes(front), at + 8))
+}
+
+/// Reads the four bytes that begin at an index.
+fn u32_at(bytes: &[u8], at: usize) -> Result<(u32, usize), WireFault>
+    requires { at ≤ length bytes.now }
+    ensures within { IfOk result (λ r. (at < r.1) × (r.1 ≤ length bytes.now)) }
+    ensures ok { IfOk result (λ r. Leads (λ s. s ≡ to_le_bytes w32 r.0) (place bytes.now at) (place bytes.now r.1)) }
+    ensures fault { IfErr result (λ e. FixedFault 4 (place bytes.now at) (fault e.byte [] e.cause)) }
+{
+    if bytes.len() - at < 4 {
+        return Err(refused(bytes.len(), Cause::Truncated));
+    }
+    let front = [bytes[at], bytes[at + 1], bytes[at + 2], bytes[at + 3]];
+    Ok((u32::from_le_bytes(front), at + 4))
+}
+
+/// The most bytes that a payload has.
+const MAX_LENGTH: u64 = 0x7fff_ffff;
+
+/// Reads the length that begins at an index and the bytes that it counts.
+fn bytes_at(bytes: &[u8], at: usize) -> Result<(&[u8], usize), WireFault>
+    requires { at ≤ length bytes.now }
+    ensures within { IfOk result (λ r. (at < r.1) × (r.1 ≤ length bytes.now)) }
+    ensures ok { IfOk result (λ r. (k : ℕ) → Leads (Body k (len r.0.now)) (place bytes.now at) (place bytes.now r.1)) }
+    ensures fault { IfErr result (λ e. LengthFault (place bytes.now at) (fault e.byte [] e.cause)
+        ⊎ CutFault (place bytes.now at) (fault e.byte [] e.cause)) }
+{
+    let (size, start) = varint_at(bytes, at)?;
+    if size > MAX_LENGTH {
+        return Err(refused(at, Cause::LengthTooLarge));
+    }
+    let size = size as usize;
+    if bytes.len() - start < size {
+        return Err(refused(bytes.len(), Cause::Truncated));
+    }
+    Ok((&bytes[start..start + size], start + size))
+}
+
+/// Reads the value that begins at an index, behind its tag.
+#[cycle(read)]
+fn value_at(
+    alloc: Global,
+    bytes: &[u8],
+    at: usize,
+    number: u32,
+    wire_type: WireType,
+    room: u8,
+    path: &mut Vec<u32>,
+) -> Result<(Unknown, usize), ReadError>
+    requires at_in_bounds { at ≤ length bytes.now }
+    requires no_end { code_of wire_type ≢ 4 }
+    requires level { code_of wire_type ≡ 3 → 0 < room }
+    ensures within { IfOk result (λ r. (at ≤ r.1) × (r.1 ≤ length bytes.now)) }
+    ensures ok { IfOk result
+        (λ r. ReadsValue room number (code_of wire_type) (place bytes.now at) (payload_of r.0) (place bytes.now r.1)) }
+    ensures path { OnOk result (path.new.items ≡ path.old.items) }
+    ensures fault { IfErr result (λ e. IfFault e
+        (BadValue room number (code_of wire_type) (place bytes.now at) path.old.items path.new.items)) }
+{
+    match wire_type {
+        WireType::Varint => {
+            let (n, after) = varint_at(bytes, at)?;
+            Ok((Unknown::Varint(n), after))
+        }
+        WireType::I64 => {
+            let (n, after) = u64_at(bytes, at)?;
+            Ok((Unknown::I64(n), after))
+        }
+        WireType::Len => {
+            let (payload, after) = bytes_at(bytes, at)?;
+            Ok((Unknown::Len(Vec::from_slice(alloc, payload)?), after))
+        }
+        WireType::StartGroup => {
+            let (inside, after) = records_at(alloc, bytes, at, Some(number), room - 1, path)?;
+            Ok((Unknown::Group(inside), after))
+        }
+        WireType::EndGroup => unreachable!(),
+        WireType::I32 => {
+            let (n, after) = u32_at(bytes, at)?;
+            Ok((Unknown::I32(n), after))
+        }
+    }
+}
+
+/// Reads records up to the end of the text, or up to and with the end of the group that is open.
+#[cycle(read)]
+fn records_at(
+    alloc: Global,
+    bytes: &[u8],
+    at: usize,
+    innermost: Option<u32>,
+    room: u8,
+    path: &mut Vec<u32>,
+) -> Result<(Vec<(u32, Unknown)>, usize), ReadError>
+    requires { at ≤ length bytes.now }
+    ensures within { IfOk result (λ r. (at ≤ r.1) × (r.1 ≤ length bytes.now)) }
+    ensures whole { innermost ≡ None → IfOk result (λ r. r.1 ≡ length bytes.now) }
+    ensures ok { IfOk result
+        (λ r. ReadsAll room innermost (place bytes.now at) (records_of r.0.items) (place bytes.now r.1)) }
+    ensures path { OnOk result (path.new.items ≡ path.old.items) }
+    ensures fault { IfErr result (λ e. IfFault e
+        (BadFrom room innermost (place bytes.now at) path.old.items path.new.items)) }
+{
+    let mut records = Vec::new(alloc);
+    let mut here = at;
+    'records: while !is_at_end(bytes, here, innermost) {
+        let (number, wire_type, start) = tag_at(bytes, here, innermost)?;
+        if let WireType::EndGroup = wire_type {
+            return Ok((records, start));
+        }
+        path.push(number)?;
+        if let WireType::StartGroup = wire_type {
+            if room == 0 {
+                return Err(ReadError::Fault(refused(here, Cause::TooDeep)));
+            }
+        }
+        let (payload, after) = value_at(alloc, bytes, start, number, wire_type, room, path)?;
+        path.pop();
+        records.push((number, payload))?;
+        here = after;
+    }
+    Ok((records, here))
+}
+
+/// Says that nothing is open and nothing is left.
+fn is_at_end(bytes: &[u8], at: usize, innermost: Option<u32>) -> bool
+    requires { at ≤ length bytes.now }
+    ensures ends { result ≡ true → (innermost ≡ None) × (at ≡ length bytes.now) }
+    ensures goes_on { result ≡ false → innermost ≡ None → at < length bytes.now }
+{
+    match innermost {
+        None => at == bytes.len(),
+        Some(_) => false,
+    }
+}
+
+/// The records that the bytes spell, all of the bytes.
+pub fn read_raw(
+    alloc: Global,
+    bytes: &[u8],
+    limits: Limits,
+) -> Result<Vec<(u32, Unknown)>, RawError>
+    ensures ok { IfOk result (λ v. IsText blank tt limits bytes.now (records_of v.items)) }
+    ensures fault { IfErr result (λ e. IfRawFault e (HasFault blank tt limits bytes.now)) }
+{
+    let max_bytes = limits.max_bytes() as usize;
+    let mut path = Vec::new(alloc);
+    if bytes.len() <= max_bytes {
+        return match records_at(alloc, bytes, 0, None, limits.max_depth(), &mut path) {
+            Ok((records, _)) => Ok(records),
+            Err(ReadError::Memory) => Err(RawError::Memory),
+            Err(ReadError::Fault(fault)) => Err(RawError::Fault {
+                byte: fault.byte,
+                path,
+                cause: fault.cause,
+            }),
+        };
+    }
+    match records_at(
+        alloc,
+        &bytes[..max_bytes],
+        0,
+        None,
+        limits.max_depth(),
+        &mut path,
+    ) {
+        Ok(_) => Err(RawError::Fault {
+            byte: max_bytes as u64,
+            path: Vec::new(alloc),
+            cause: Cause::InputTooLarge,
+        }),
+        Err(ReadError::Memory) => Err(RawError::Memory),
+        Err(ReadError::Fault(fault)) => Err(of_longer(alloc, max_bytes, fault, path)),
+    }
+}
+
+/// A fault of the bytes within the limit, as the fault of the longer text.
+fn of_longer(alloc: Global, max_bytes: usize, fault: WireFault, path: Vec<u32>) -> RawError
+    ensures { IfRawFault result (λ f. f ≡ beyond max_bytes (fault_with fault.byte path.items fault.cause)) }
+{
+    match fault.cause {
+        Cause::Truncated => RawError::Fault {
+            byte: max_bytes as u64,
+            path: Vec::new(alloc),
+            cause: Cause::InputTooLarge,
+        },
+        cause => RawError::Fault {
+            byte: fault.byte,
+            path,
+            cause,
+        },
+    }
+}
+
+/// The records exactly where the bytes are a text, and its fault exactly where they are none, if memory is there.
+pub fn read_exactly(
+    alloc: Global,
+    bytes: &[u8],
+    limits: Limits,
+) -> Result<Vec<(u32, Unknown)>, RawError>
+    ensures text { (rs : List Record) → IsText blank tt limits bytes.now rs → MatchResult result (λ v. records_of v.items ≡ rs) (λ e. IfRawFault e (λ f. ⊥)) }
+    ensures fault { (f : Fault) → HasFault blank tt limits bytes.now f → MatchResult result (λ v. ⊥) (λ e. IfRawFault e (λ g. g ≡ f)) }
+    ensures told { Exactly (IsSomeText blank tt limits bytes.now) (HasFault blank tt limits bytes.now) }
+{
+    read_raw(alloc, bytes, limits)
+}

@@ -1,0 +1,82 @@
+//! Numbers as varints.
+
+ghost use Rattle.std.specs.Prelude.{◌≡◌, ◌+◌, ◌≤◌, ℕ, [], Ok, length, take, IfOk, IfErr};
+ghost use Rattle.pb_wire.specs.Varint.{IsVarint, shortest};
+ghost use Rattle.pb_wire.specs.Fault.{VarintFault, fault, text_at};
+
+use crate::fault::{Cause, WireFault};
+use std::marker::Model;
+
+/// The most bytes that a varint has.
+const MAX_LEN: usize = 10;
+
+/// Reads the varint at the front: its number, and how many bytes it takes. Bytes may follow it.
+pub fn read_varint(bytes: &[u8]) -> Result<(u64, usize), WireFault>
+    ensures within { IfOk result (λ found. found.1 ≤ length bytes.now) }
+    ensures found { IfOk result (λ found. IsVarint found.0 (take found.1 bytes.now)) }
+    ensures only { (n size : ℕ) → size ≤ length bytes.now → IsVarint n (take size bytes.now) → result ≡ Ok (n, size) }
+    ensures fault { IfErr result (λ e. VarintFault (text_at bytes.now) (fault e.byte [] e.cause)) }
+{
+    let mut value = 0u64;
+    for i in 0..MAX_LEN {
+        if i == bytes.len() {
+            return Err(WireFault {
+                byte: i as u64,
+                cause: Cause::Truncated,
+            });
+        }
+        let byte = bytes[i];
+        value |= u64::from(byte & 0x7f) << (7 * i);
+        if byte < 0x80 {
+            return Ok((value, i + 1));
+        }
+    }
+    Err(WireFault {
+        byte: 0,
+        cause: Cause::VarintTooLong,
+    })
+}
+
+/// The bytes of a varint.
+#[derive(Debug, Drop)]
+pub struct VarintBytes {
+    bytes: [u8; MAX_LEN],
+    len: usize,
+}
+
+impl Model for VarintBytes {
+    ghost use Rattle.std.specs.Prelude.{ℕ, List, take, ◌≤◌};
+
+    ghost Value = { List ℕ };
+
+    ghost view = { λ v. take v.len v.bytes };
+
+    ghost invariant = { λ v. v.len ≤ 10 };
+}
+
+impl VarintBytes {
+    pub fn as_slice(&self) -> &[u8]
+        ensures { result.now ≡ self.now }
+    {
+        &self.bytes[..self.len]
+    }
+}
+
+/// The shortest varint of a number.
+pub fn put_varint(number: u64) -> VarintBytes
+    ensures { result ≡ shortest number }
+{
+    let mut bytes = [0u8; MAX_LEN];
+    let mut len = 0;
+    let mut rest = number;
+    while rest >= 0x80 {
+        bytes[len] = (rest & 0x7f) as u8 | 0x80;
+        rest >>= 7;
+        len += 1;
+    }
+    bytes[len] = rest as u8;
+    VarintBytes {
+        bytes,
+        len: len + 1,
+    }
+}
