@@ -13,3 +13,6 @@ pub mod ExactLemmas
 pub mod Longer
 pub mod CutAtEnd
 pub mod Transfers
+pub mod ShortestLemmas
+pub mod DepthLemmas
+pub mod RangeLemmas

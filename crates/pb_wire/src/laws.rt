@@ -1,19 +1,21 @@
 //! Laws of the spellings.
 
-ghost use Rattle.std.specs.Prelude.{◌≡◌, ◌++◌, ◌≢◌, ◌⊎◌, ℕ, List, All, None};
-ghost use Rattle.pb_wire.specs.Exact.{IsByte, IsRead, Exactly, IsFrame, ending_at, IsSomeText, schema, longer, IsCut};
+ghost use Rattle.std.specs.Prelude.{◌≡◌, ◌++◌, ◌≢◌, ◌≤◌, ◌⊎◌, ℕ, List, length, All, None};
+ghost use Rattle.pb_wire.specs.Ranges.{IsByte, AreInRange};
+ghost use Rattle.pb_wire.specs.Exact.{IsRead, Exactly, IsFrame, ending_at, IsSomeText, schema, longer, IsCut};
 ghost use Rattle.pb_wire.specs.Fault.{Fault, Place, input_end};
 ghost use Rattle.pb_wire.specs.Grammar.{Bad, HasFault};
 ghost use Rattle.pb_wire.specs.declared.fault.Cause.TheVariants.{InputTooLarge};
 ghost use Rattle.pb_wire.specs.Limits.{Bounds};
 ghost use Rattle.pb_wire.specs.Schema.{Reading, Open, records, open_group};
 ghost use Rattle.pb_wire.specs.Record.{Record};
-ghost use Rattle.pb_wire.specs.Spell.{Spells, AreRecords};
+ghost use Rattle.pb_wire.specs.Spell.{AreRecords, shortest_records};
+ghost use Rattle.pb_wire.specs.Writable.{AreWritable};
 
-/// No spelling begins another, so a text has at most one list of records.
-pub fn one_reading()
-    ensures front { (r s : Record) (a b x y : List ℕ) → Spells r a → Spells s b → a ++ x ≡ b ++ y → (r ≡ s) × (a ≡ b) }
-    ensures whole { (rs ss : List Record) (b : List ℕ) → AreRecords rs b → AreRecords ss b → rs ≡ ss }
+/// The shortest spelling of records that can be written is a spelling of them, and no other spelling is shorter.
+pub fn shortest_spelling()
+    ensures spells { (rs : List Record) → AreInRange rs → AreWritable rs → AreRecords rs (shortest_records rs) }
+    ensures least { (rs : List Record) (b : List ℕ) → AreRecords rs b → length (shortest_records rs) ≤ length b }
 {}
 
 /// Every place is read whole, or has exactly one fault; so has every frame, and every text within its limits.
