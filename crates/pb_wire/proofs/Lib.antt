@@ -13,3 +13,5 @@ pub mod ExactLemmas
 pub mod Longer
 pub mod CutAtEnd
 pub mod Transfers
+pub mod Nesting
+pub mod RecordIterLemmas
