@@ -15,3 +15,4 @@ pub mod CutAtEnd
 pub mod Transfers
 pub mod Nesting
 pub mod RecordIterLemmas
+pub mod RecordIterSteps

@@ -1,12 +1,12 @@
 //! Records of a text in turn, none of them copied.
 
-ghost use Rattle.std.specs.Prelude.{◌≡◌, ◌≢◌, ◌+◌, ◌-◌, ◌<◌, ◌≤◌, ◌++◌, ◌∷◌, ℕ, List, [], Ok, Err, Some, None, length, IfOk, IfErr};
+ghost use Rattle.std.specs.Prelude.{if◌then◌else◌, ◌≡◌, ◌≢◌, ◌+◌, ◌-◌, ◌<◌, ◌≤◌, ◌++◌, ◌∷◌, ℕ, List, [], Ok, Err, Some, None, length, IfOk, IfErr};
 ghost use Rattle.pb_wire.specs.Record.{Record};
 ghost use Rattle.pb_wire.specs.Record as wire;
 ghost use Rattle.pb_wire.specs.Exact.{Exactly, IsSomeText};
 ghost use Rattle.pb_wire.specs.Fault.{Fault, HasTag, place};
 ghost use Rattle.pb_wire.specs.Fault.{fault as fault_with};
-ghost use Rattle.pb_wire.specs.Grammar.{Bad, RecordFault, IsText, HasFault, beyond as beyond_limit};
+ghost use Rattle.pb_wire.specs.Grammar.{Bad, RecordFault, IsText, HasFault, beyond};
 ghost use Rattle.pb_wire.specs.Limits.{Bounds};
 ghost use Rattle.pb_wire.specs.Reading.{Front, ReadsValue};
 ghost use Rattle.pb_wire.specs.RecordIter.{Seen, seen, AreShown, Gives, all_ok, as_told, ShowsRecord, IsValueFault};
@@ -101,18 +101,21 @@ impl<'a> Iterator for RecordIter<'a> {
             Err(fault) => {
                 self.at = end;
                 self.is_cut = false;
-                Some(Err(if is_cut { beyond(end, fault) } else { fault }))
+                Some(Err(told(fault, is_cut, end)))
             }
         }
     }
 }
 
-/// A fault of the bytes within the limit, as the fault of the longer text.
-fn beyond(max_bytes: usize, fault: WireFault) -> WireFault
-    ensures { (path : List ℕ) → result ≡ as_told (beyond_limit max_bytes (fault_with fault.byte path fault.cause)) }
+/// A fault of the bytes that are read, as a fault of the text: which goes on where it is cut, so that no token is cut short by its end.
+fn told(fault: WireFault, is_cut: bool, end: usize) -> WireFault
+    ensures { (path : List ℕ) → result ≡ as_told (let f = fault_with fault.byte path fault.cause in if is_cut then beyond end f else f) }
 {
+    if !is_cut {
+        return fault;
+    }
     match fault.cause {
-        Cause::Truncated => refused(max_bytes, Cause::InputTooLarge),
+        Cause::Truncated => refused(end, Cause::InputTooLarge),
         _ => fault,
     }
 }
