@@ -16,3 +16,4 @@ pub mod Transfers
 pub mod Nesting
 pub mod RecordIterLemmas
 pub mod RecordIterSteps
+pub mod RecordIterStart

@@ -61,13 +61,12 @@ impl<'a> RecordIter<'a> {
             → (xs : List (ℕ × Seen)) × Gives result (all_ok xs ++ Err (as_told f) ∷ []) }
         ensures told { Exactly (IsSomeText blank tt limits bytes.now) (HasFault blank tt limits bytes.now) }
     {
-        let max_bytes = limits.max_bytes() as usize;
-        let is_cut = max_bytes < bytes.len();
+        let end = bytes.len().min(limits.max_bytes() as usize);
         RecordIter {
-            bytes: if is_cut { &bytes[..max_bytes] } else { bytes },
+            bytes: &bytes[..end],
             at: 0,
             max_depth: limits.max_depth(),
-            is_cut,
+            is_cut: end < bytes.len(),
         }
     }
 }

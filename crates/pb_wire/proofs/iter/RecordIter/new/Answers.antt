@@ -1,26 +1,22 @@
-use Rattle.std.proofs.Common.{rules, ◌≡◌, ◌≢◌, ◌+◌, ◌-◌, ◌<◌, ◌≤◌, ◌++◌, ◌∷◌, ℕ, List, [], Ok, Err, Some, None, length, IfOk, IfErr, ◌*◌, ◌/◌, ◌%◌, Bool, true, false, nat_eq, nat_lt, slice_index_or, slice_set, bit_and, bit_or, Fits, w8, w32, w64, Bor, MutBor}
-use Rattle.pb_wire.specs.Record.{Record}
-use Rattle.pb_wire.specs.Record as wire
-use Rattle.pb_wire.specs.Exact.{Exactly, IsSomeText}
-use Rattle.pb_wire.specs.Fault.{Fault, HasTag, place}
-use Rattle.pb_wire.specs.Fault.{fault as fault_with}
-use Rattle.pb_wire.specs.Grammar.{Bad, RecordFault, IsText, HasFault}
-use Rattle.pb_wire.specs.Grammar.{beyond as beyond_limit}
-use Rattle.pb_wire.specs.Limits.{Bounds}
-use Rattle.pb_wire.specs.Reading.{Front, ReadsValue}
-use Rattle.pb_wire.specs.RecordIter.{Seen, seen, AreShown, Gives, all_ok, as_told, ShowsRecord, IsValueFault}
-use Rattle.pb_wire.specs.Schema.{blank, records, in_group, Open}
-use Rattle.pb_wire.specs.WireType.{code_of}
+use Rattle.std.proofs.Common.{arith, rules}
+use Rattle.std.proofs.lemmas.List.Elements.{All-from_get_or}
+use Rattle.pb_wire.specs.Exact.{IsByte}
+use Rattle.pb_wire.specs.Schema.{blank}
+use Rattle.pb_wire.proofs.ExactLemmas.{exactly}
+use Rattle.pb_wire.proofs.RecordIterStart.{text_given, fault_given}
 use Rattle.pb_wire.proofs.iter.RecordIter.new.Goals as goal
 
--- src/iter.rt:57:5
 pub returns-clause-text : goal.returns-clause-text
-returns-clause-text c = ?
+returns-clause-text c = λ rs t.
+    let given = text_given c.args.limits c.args.bytes.now rs t in
+    (given.0, given.1, rw (c.min-end.ensures, c.max_bytes.ensures, c.max_depth.ensures) given.2)
 
--- src/iter.rt:57:5
 pub returns-clause-fault : goal.returns-clause-fault
-returns-clause-fault c = ?
+returns-clause-fault c = λ f h.
+    let given = fault_given c.args.limits c.args.bytes.now f h in
+    (given.0, rw (c.min-end.ensures, c.max_bytes.ensures, c.max_depth.ensures) given.1)
 
--- src/iter.rt:57:5
 pub returns-clause-told : goal.returns-clause-told
-returns-clause-told c = ?
+returns-clause-told c =
+    exactly blank tt c.args.limits c.args.bytes.now
+    (All-from_get_or IsByte c.args.bytes.now 0 (λ i h. let fits = c.type_inv.bytes i in search (rules, fits)))
