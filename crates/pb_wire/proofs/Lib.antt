@@ -17,3 +17,4 @@ pub mod Nesting
 pub mod RecordIterLemmas
 pub mod RecordIterSteps
 pub mod RecordIterStart
+pub mod RecordIterRuns

@@ -217,3 +217,6 @@ fn value_end(bytes: &[u8], at: usize, wire_type: WireType) -> Result<usize, Wire
         WireType::StartGroup | WireType::EndGroup => unreachable!(),
     }
 }
+
+#[cfg(test)]
+mod tests;
