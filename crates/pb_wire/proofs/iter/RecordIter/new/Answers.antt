@@ -1,6 +1,6 @@
 use Rattle.std.proofs.Common.{arith, rules}
 use Rattle.std.proofs.lemmas.List.Elements.{All-from_get_or}
-use Rattle.pb_wire.specs.Exact.{IsByte}
+use Rattle.pb_wire.specs.Ranges.{IsByte}
 use Rattle.pb_wire.specs.Schema.{blank}
 use Rattle.pb_wire.proofs.ExactLemmas.{exactly}
 use Rattle.pb_wire.proofs.RecordIterStart.{text_given, fault_given}
