@@ -36,8 +36,7 @@ fault_after s t u xs ys r x w items run oks is fails step given =
     let before = given_so_far s t xs items run given in
     let e : r ≡ Some (Err w) = is ∙ ap (λ (z : Given). Some z) fails in
     let here = subst (λ (z : Option Given). NextGives t z u) e step in
-    let first = here before.0 before.2 in
-    (
+    let first = here before.0 before.2 in (
       first.0,
       before.1 ∙ ap (λ (z : List Item). map item_seen xs ++ z) first.1
           ∙ ap (λ (z : List Given). map item_seen z ++ Err w ∷ first.0) oks,

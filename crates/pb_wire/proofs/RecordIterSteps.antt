@@ -169,8 +169,7 @@ record_left text is_cut at after depth x items shown (to_end {xs = xs} {q = q} h
         let size = fewer shown.front shown.moves in let n : length (drop at text) ≡ 0 = ap length none in let some = record_some (record_at shown) in
         absurd (omega (arith, size, n, some))
     judge (more {x = y} {others = ys} {mid = mid} e first others) =
-        let same = same_shown shown first in
-        (
+        let same = same_shown shown first in (
           all_ok ys ++ (if is_cut then Err (as_told (too_large (rest_of text is_cut at depth))) ∷ [] else []),
           rw (e, ← same.0) at is,
           to_end (rw (← same.1) at others) over refl,
@@ -180,8 +179,7 @@ record_left text is_cut at after depth x items shown (to_fault {xs = xs} {q = q}
     judge : Parts depth (place text at) xs q → (others : List Item) × (items ≡ Ok x ∷ others) × Gives (rest_of text is_cut after depth) others
     judge (no_more e same) = absurd (bad_not_record (rw (← same) at bad) (record_at shown))
     judge (more {x = y} {others = ys} {mid = mid} e first others) =
-        let same = same_shown shown first in
-        (
+        let same = same_shown shown first in (
           all_ok ys ++ Err (as_told (if is_cut then beyond (length text) f else f)) ∷ [],
           rw (e, ← same.0) at is,
           to_fault (rw (← same.1) at others) goes bad refl,

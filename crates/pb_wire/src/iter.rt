@@ -120,11 +120,7 @@ fn told(fault: WireFault, is_cut: bool, end: usize) -> WireFault
 }
 
 /// Reads the record that begins at an index, and tells the index after it.
-fn record_at(
-    bytes: &[u8],
-    at: usize,
-    max_depth: u8,
-) -> Result<(u32, Payload<'_>, usize), WireFault>
+fn record_at(bytes: &[u8], at: usize, max_depth: u8) -> Result<(u32, Payload<'_>, usize), WireFault>
     requires at_in_bounds { at ≤ length bytes.now }
     requires depth { max_depth ≤ 100 }
     ensures within { IfOk result (λ r. (at < r.2) × (r.2 ≤ length bytes.now)) }

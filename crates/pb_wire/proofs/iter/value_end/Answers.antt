@@ -35,4 +35,3 @@ returns-in_ok-bytes_at-in-Len-clause-ok c = λ room k. rw c.in-Len.is (_, len_re
 
 pub returns-in_ok-u32_at-in-I32-clause-ok : goal.returns-in_ok-u32_at-in-I32-clause-ok
 returns-in_ok-u32_at-in-I32-clause-ok c = λ room k. rw c.in-I32.is (_, fixed32_read room k _ _ _ (omega arith) c.in_ok-u32_at-in-I32.ensures.ok)
-
