@@ -1,18 +1,17 @@
 -- Laws of records as an iterator shows them.
-use Rattle.std.proofs.Common.{◌≡◌, ◌≢◌, ℕ, zero, suc, ◌+◌, ◌-◌, ◌*◌, ◌^◌, ◌<◌, ◌≤◌, List, [], ◌∷◌, ◌++◌, length, take, drop, refl, sym, ap, ◌∙◌, arith, append_assoc, Option, Some, None, ◌⊎◌, inl, inr}
+use Rattle.std.proofs.Common.{◌≡◌, ℕ, zero, suc, ◌+◌, ◌-◌, ◌^◌, ◌<◌, List, [], ◌∷◌, ◌++◌, length, take, drop, refl, ap, ◌∙◌, arith, ◌⊎◌, inl, inr}
 use Rattle.std.specs.Int.{w32, w64, to_le_bytes}
 use Rattle.std.proofs.lemmas.List.{take_at}
 use Rattle.pb_wire.specs.Record.{Record, group_of}
 use Rattle.pb_wire.specs.Record as wire
-use Rattle.pb_wire.specs.Spell.{Body, Spells, AreRecords}
-use Rattle.pb_wire.specs.Fault.{Fault, fault, VarintFault, FixedFault, LengthFault, CutFault, TagFault, Place, place, HasTag, Reads, Leads, Moves}
+use Rattle.pb_wire.specs.Spell.{Body}
+use Rattle.pb_wire.specs.Fault.{fault, VarintFault, FixedFault, LengthFault, CutFault, Place, place, HasTag, Reads, Leads, Moves}
 use Rattle.pb_wire.specs.Schema.{blank, records, in_group}
-use Rattle.pb_wire.specs.Sound.{Sound, AllSound}
+use Rattle.pb_wire.specs.Sound.{Sound}
 use Rattle.pb_wire.specs.Grammar.{Bad, RecordFault}
 use Rattle.pb_wire.specs.Reading.{Front, ReadsValue}
-use Rattle.pb_wire.specs.RecordIter.{Seen, varint, fixed64, len, group, fixed32, Shows, IsShown, ShowsRecord, Encloses, IsValueFault}
+use Rattle.pb_wire.specs.RecordIter.{Seen, group, Shows, ShowsRecord, IsValueFault}
 use Rattle.pb_wire.specs.declared.fault.WireFault.{WireFault}
-use Rattle.pb_wire.specs.declared.fault.Cause.TheVariants.{TooDeep}
 use Rattle.pb_wire.proofs.ReadingLemmas.{moves_both, SpellsGroup-from_records}
 
 -- ---- values

@@ -18,7 +18,7 @@ pub given_so_far :
     → (others : List Item) × (items ≡ map item_seen xs ++ others) × Gives t others
 given_so_far s t [] items run given = (items, refl, subst (λ (z : Rest). Gives z items) run given)
 given_so_far s t (x ∷ xs) items run given =
-    let first = run.1 items given in
+    let first = run.1.first items given in
     let rest = given_so_far run.0 t xs first.0 run.2 first.2 in
     (rest.0, first.1 ∙ ap (λ (z : List Item). item_seen x ∷ z) rest.1, rest.2)
 
@@ -36,7 +36,7 @@ fault_after s t u xs ys r x w items run oks is fails step given =
     let before = given_so_far s t xs items run given in
     let e : r ≡ Some (Err w) = is ∙ ap (λ (z : Given). Some z) fails in
     let here = subst (λ (z : Option Given). NextGives t z u) e step in
-    let first = here before.0 before.2 in (
+    let first = here.first before.0 before.2 in (
       first.0,
       before.1 ∙ ap (λ (z : List Item). map item_seen xs ++ z) first.1
           ∙ ap (λ (z : List Given). map item_seen z ++ Err w ∷ first.0) oks,
@@ -49,15 +49,15 @@ pub records_alone :
 records_alone s t u xs ys r items run oks is step given =
     let before = given_so_far s t xs items run given in
     let here = subst (λ (z : Option Given). NextGives t z u) is step in
-    before.1 ∙ ap (λ (z : List Item). map item_seen xs ++ z) (here before.0 before.2).0
+    before.1 ∙ ap (λ (z : List Item). map item_seen xs ++ z) (here.first before.0 before.2).0
     ∙ ap (λ (z : List Given). map item_seen z ++ []) oks
 
 always : (items : List Item) (s : Rest) → Gives s items → AlwaysYields NextGives item_seen s items
-always [] s given = λ x j step. let first = step [] given in let e = first.1 in cc
+always [] s given = λ x j step. let first = step.first [] given in let e = first.1 in cc
 always (y ∷ ys) s given = (
-  λ j step. let e = (step (y ∷ ys) given).0 in cc,
+  λ j step. let e = (step.first (y ∷ ys) given).0 in cc,
   λ x j step.
-      let first = step (y ∷ ys) given in
+      let first = step.first (y ∷ ys) given in
       let e = first.1 in
       let same : item_seen x ≡ y = cc in
       let others : first.0 ≡ ys = cc in

@@ -1,19 +1,16 @@
 -- What an iterator over the records of a text gives from its start on.
-use Rattle.std.proofs.Common.{◌≡◌, ◌≢◌, ℕ, ◌+◌, ◌*◌, ◌<◌, ◌≤◌, min, List, [], ◌∷◌, ◌++◌, length, take, drop, refl, sym, ap, subst, ◌∙◌, arith, append-nil, Option, Some, None, Bool, true, false, nat_lt, Result, Ok, Err}
+use Rattle.std.proofs.Common.{◌≡◌, ◌≢◌, ℕ, ◌<◌, ◌≤◌, min, List, [], ◌∷◌, ◌++◌, length, take, refl, sym, ap, ◌∙◌, arith, append-nil, None, Bool, true, false, nat_lt, Err, ⊎_elim}
 use Rattle.std.proofs.lemmas.List.{take_all, length-take-le}
-use Rattle.std.proofs.lemmas.Bool.{lt-ltb, le-ltb}
+use Rattle.std.proofs.lemmas.Bool.{cases_lt, lt-ltb, le-ltb}
 use Rattle.pb_wire.specs.Record.{Payload, Group, no_more, more, Record, group_of, records_in}
 use Rattle.pb_wire.specs.Record as wire
 use Rattle.pb_wire.specs.Spell.{Spells, AreRecords}
-use Rattle.pb_wire.specs.Fault.{Fault, fault, Place, place, text_at, Moves}
+use Rattle.pb_wire.specs.Fault.{Fault, Place, place}
 use Rattle.pb_wire.specs.Limits.{Bounds}
-use Rattle.pb_wire.specs.Schema.{blank, Open, records, in_group}
-use Rattle.pb_wire.specs.Sound.{AllSound}
-use Rattle.pb_wire.specs.Grammar.{Whole, Bad, RecordFault, IsText, HasFault, beyond}
-use Rattle.pb_wire.specs.declared.fault.Cause.TheVariants.{InputTooLarge}
-use Rattle.pb_wire.specs.declared.fault.WireFault.{WireFault}
+use Rattle.pb_wire.specs.Schema.{blank, Open, records}
+use Rattle.pb_wire.specs.Grammar.{Whole, Bad, RecordFault, IsText, HasFault}
 use Rattle.pb_wire.specs.Rest.{Rest}
-use Rattle.pb_wire.specs.RecordIter.{Seen, varint, fixed64, len, group, fixed32, Item, Shows, IsShown, AreShown, Passes, Gives, to_end, to_fault, all_ok, as_told}
+use Rattle.pb_wire.specs.RecordIter.{Seen, varint, fixed64, len, group, fixed32, Shows, IsShown, AreShown, Passes, Gives, to_end, to_fault, all_ok, as_told, start}
 use Rattle.pb_wire.proofs.Fronts.{AreRecords-from_group}
 use Rattle.pb_wire.proofs.RecordIterSteps.{rest_of}
 
@@ -52,20 +49,31 @@ all_shown (r ∷ rs) b h =
 
 -- ---- the start
 
--- where an iterator over the bytes b begins
-abbrev pub start : Bounds → List ℕ → Rest
-start limits b = rest_of (take (min (length b) limits.bytes) b) (nat_lt (min (length b) limits.bytes) (length b)) 0 limits.depth
-
 start-short : (limits : Bounds) (b : List ℕ) → length b ≤ limits.bytes → start limits b ≡ rest_of b false 0 limits.depth
 start-short limits b h =
-    let n : min (length b) limits.bytes ≡ length b = omega arith in
-    rw n (ap (λ (z : List ℕ). rest_of z (nat_lt (length b) (length b)) 0 limits.depth) (take_all (length b) b (omega arith))
-    ∙ ap (λ (z : Bool). rest_of b z 0 limits.depth) (le-ltb (length b) (length b) (omega arith)))
+    ap (λ (z : List ℕ). rest_of z (nat_lt limits.bytes (length b)) 0 limits.depth) (take_all limits.bytes b h)
+    ∙ ap (λ (z : Bool). rest_of b z 0 limits.depth) (le-ltb limits.bytes (length b) h)
 
 start-long : (limits : Bounds) (b : List ℕ) → limits.bytes < length b → start limits b ≡ rest_of (take limits.bytes b) true 0 limits.depth
-start-long limits b h =
-    let n : min (length b) limits.bytes ≡ limits.bytes = omega arith in
-    rw n (ap (λ (z : Bool). rest_of (take limits.bytes b) z 0 limits.depth) (lt-ltb limits.bytes (length b) h))
+start-long limits b h = ap (λ (z : Bool). rest_of (take limits.bytes b) z 0 limits.depth) (lt-ltb limits.bytes (length b) h)
+
+-- the start as the code has it
+pub start-min :
+    (limits : Bounds) (b : List ℕ)
+    → rest_of (take (min (length b) limits.bytes) b) (nat_lt (min (length b) limits.bytes) (length b)) 0 limits.depth ≡ start limits b
+start-min limits b = ⊎_elim (λ (h : limits.bytes < length b). long h) (λ (h : length b ≤ limits.bytes). short h) (cases_lt limits.bytes (length b))
+  where
+    at_most : ℕ → Rest
+    at_most n = rest_of (take n b) (nat_lt n (length b)) 0 limits.depth
+
+    long : limits.bytes < length b → at_most (min (length b) limits.bytes) ≡ start limits b
+    long h = let n : min (length b) limits.bytes ≡ limits.bytes = omega arith in ap at_most n
+
+    short : length b ≤ limits.bytes → at_most (min (length b) limits.bytes) ≡ start limits b
+    short h =
+        let n : min (length b) limits.bytes ≡ length b = omega arith in
+        ap at_most n ∙ ap (λ (z : List ℕ). rest_of z (nat_lt (length b) (length b)) 0 limits.depth) (take_all (length b) b (omega arith))
+        ∙ ap (λ (z : Bool). rest_of b z 0 limits.depth) (le-ltb (length b) (length b) (omega arith)) ∙ sym (start-short limits b h)
 
 abbrev end_of : List ℕ → Place
 end_of b = record { at = length b; known = None; rest = [] }

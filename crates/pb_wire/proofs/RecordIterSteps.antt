@@ -1,19 +1,18 @@
 -- What each call of an iterator over records gives is the first of what is left.
-use Rattle.std.proofs.Common.{◌≡◌, ◌≢◌, ℕ, ◌+◌, ◌*◌, ◌<◌, ◌≤◌, List, [], ◌∷◌, ◌++◌, length, drop, refl, sym, ap, subst, ◌∙◌, arith, append_assoc, length-drop, Option, None, ◌⊎◌, inl, inr, ⊎_elim, Bool, true, false, Result, Ok, Err}
+use Rattle.std.proofs.Common.{◌≡◌, ℕ, ◌<◌, List, [], ◌∷◌, ◌++◌, length, drop, refl, sym, ap, ◌∙◌, arith, append_assoc, length-drop, Bool, true, false, Ok, Err}
 use Rattle.std.specs.Prelude.{if◌then◌else◌}
 use Rattle.std.proofs.Math.Seq.{drop-length}
 use Rattle.std.proofs.lemmas.List.{append_cancel_left}
-use Rattle.pb_wire.specs.Record.{Record, Group, group_of}
-use Rattle.pb_wire.specs.Record as wire
+use Rattle.pb_wire.specs.Record.{Record, group_of}
 use Rattle.pb_wire.specs.Spell.{AreRecords}
-use Rattle.pb_wire.specs.Fault.{Fault, fault, Place, place, Moves}
+use Rattle.pb_wire.specs.Fault.{Fault, Place, place, Moves}
 use Rattle.pb_wire.specs.Schema.{blank, records}
 use Rattle.pb_wire.specs.Sound.{AllSound, one}
 use Rattle.pb_wire.specs.Grammar.{RecordFault, beyond}
+use Rattle.pb_wire.specs.Ranges.{IsNumber}
 use Rattle.pb_wire.specs.Rest.{Rest}
-use Rattle.pb_wire.specs.RecordIter.{Seen, varint, fixed64, len, group, fixed32, Item, Shows, IsShown, AreShown, ShowsRecord, Passes, Gives, to_end, to_fault, all_ok, as_told, too_large, Encloses}
-use Rattle.pb_wire.specs.declared.fault.WireFault.{WireFault}
-use Rattle.pb_wire.proofs.Places.{moves_split, moved_nothing, moves_nothing, moves_from, same_place_by, fewer}
+use Rattle.pb_wire.specs.RecordIter.{Seen, varint, fixed64, len, group, fixed32, Item, Shows, AreShown, ShowsRecord, Passes, Gives, to_end, to_fault, all_ok, as_told, too_large}
+use Rattle.pb_wire.proofs.Places.{moves_split, moved_nothing, moves_nothing, same_place_by, fewer}
 use Rattle.pb_wire.proofs.Unique.{same_varint, same_spelling}
 use Rattle.pb_wire.proofs.Fronts.{RecordAt, record_some}
 use Rattle.pb_wire.proofs.OneFault.{bad_not_record, one_record_fault}
@@ -119,6 +118,9 @@ fails_here {depth} {p} {q} xs bad h = judge (parts xs h)
     judge : Parts depth p xs q → (xs ≡ []) × (p ≡ q)
     judge (no_more e same) = (e, same)
     judge (more e first others) = absurd (bad_not_record bad (record_at first))
+
+pub shown_number : {depth : ℕ} {p q : Place} {x : ℕ × Seen} → ShowsRecord depth p x q → IsNumber x.0
+shown_number h = rw h.shown.number h.shown.spelled.number
 
 -- ---- the four answers
 

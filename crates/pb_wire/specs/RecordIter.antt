@@ -1,5 +1,5 @@
 -- What an iterator over the records of a text gives.
-use Rattle.std.specs.Prelude.{◌≡◌, ◌≢◌, ℕ, ◌+◌, ◌*◌, List, [], ◌∷◌, ◌++◌, length, Option, Some, None, MatchOption, Result, Ok, Err, if◌then◌else◌}
+use Rattle.std.specs.Prelude.{◌≡◌, ◌≢◌, ℕ, ◌+◌, ◌*◌, List, [], ◌∷◌, ◌++◌, length, take, nat_lt, Option, MatchOption, IfSome, IfOk, Result, Ok, Err, if◌then◌else◌}
 use Rattle.pb_wire.specs.Varint.{IsVarint}
 use Rattle.pb_wire.specs.Record.{Record, group_of}
 use Rattle.pb_wire.specs.Record as wire
@@ -8,6 +8,8 @@ use Rattle.pb_wire.specs.Fault.{Fault, fault, Place, Moves, place, HasTag}
 use Rattle.pb_wire.specs.Schema.{blank, records, Open}
 use Rattle.pb_wire.specs.Sound.{Sound, AllSound}
 use Rattle.pb_wire.specs.Grammar.{RecordFault, beyond}
+use Rattle.pb_wire.specs.Ranges.{IsNumber}
+use Rattle.pb_wire.specs.Limits.{Bounds}
 use Rattle.pb_wire.specs.Rest.{Rest}
 use Rattle.pb_wire.specs.declared.fault.WireFault.{WireFault}
 use Rattle.pb_wire.specs.declared.fault.Cause.TheVariants.{InputTooLarge}
@@ -89,6 +91,10 @@ all_ok (x ∷ xs) = Ok x ∷ all_ok xs
 abbrev pub as_told : Fault → WireFault
 as_told f = record { byte = f.byte; cause = f.cause }
 
+-- at the front of the bytes b, of which no more are read than the limit allows
+abbrev pub start : Bounds → List ℕ → Rest
+start limits b = record { text = take limits.bytes b; is_cut = nat_lt limits.bytes (length b); at = 0; depth = limits.depth }
+
 -- the text has more bytes than its limit allows
 abbrev pub too_large : Rest → Fault
 too_large s = fault (length s.text) [] InputTooLarge
@@ -104,11 +110,13 @@ pub data Gives (s : Rest) (items : List Item) : Type 0 where
       → RecordFault blank (records tt) s.depth q f
       → items ≡ all_ok xs ++ Err (as_told (if s.is_cut then beyond (length s.text) f else f)) ∷ [] → Gives s items
 
--- a call gave the first of the items that were left, and leaves the others, or gave `None` where none were left, and leaves none
-abbrev pub NextGives : Rest → Option (Result (ℕ × Payload) WireFault) → Rest → Type 0
-NextGives s r t =
-    (items : List Item) → Gives s items
-    → MatchOption r ((items ≡ []) × Gives t []) (λ x. (others : List Item) × (items ≡ item_seen x ∷ others) × Gives t others)
+-- what a call gave from s, leaving t
+pub record NextGives (s : Rest) (r : Option (Result (ℕ × Payload) WireFault)) (t : Rest) : Type 0 where
+  -- the first of the items that were left, and leaves the others, or `None` where none were left, and leaves none
+  pub first :
+      (items : List Item) → Gives s items
+      → MatchOption r ((items ≡ []) × Gives t []) (λ x. (others : List Item) × (items ≡ item_seen x ∷ others) × Gives t others)
+  pub number : IfSome r (λ x. IfOk x (λ y. IsNumber y.0))
 
 -- the value that begins at p, behind the tag of a record with this wire type, has a fault
 abbrev pub IsValueFault : ℕ → Place → WireFault → Type 0

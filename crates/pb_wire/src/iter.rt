@@ -9,7 +9,7 @@ ghost use Rattle.pb_wire.specs.Fault.{fault as fault_with};
 ghost use Rattle.pb_wire.specs.Grammar.{Bad, RecordFault, IsText, HasFault, beyond};
 ghost use Rattle.pb_wire.specs.Limits.{Bounds};
 ghost use Rattle.pb_wire.specs.Reading.{Front, ReadsValue};
-ghost use Rattle.pb_wire.specs.RecordIter.{Seen, seen, AreShown, Gives, all_ok, as_told, ShowsRecord, IsValueFault};
+ghost use Rattle.pb_wire.specs.RecordIter.{Seen, seen, AreShown, Gives, all_ok, as_told, start, ShowsRecord, IsValueFault};
 ghost use Rattle.pb_wire.specs.Schema.{blank, records, in_group, Open};
 ghost use Rattle.pb_wire.specs.WireType.{code_of};
 
@@ -17,6 +17,7 @@ use crate::fault::{Cause, WireFault};
 use crate::limits::Limits;
 use crate::open_groups::OpenGroups;
 use crate::reading::{WireType, bytes_at, refused, tag_at, u32_at, u64_at, varint_at};
+use std::iter::FusedIterator;
 use std::marker::Model;
 
 /// A payload, whose bytes are a part of the source. A group is what stands between its tags.
@@ -55,10 +56,14 @@ impl<'a> Model for RecordIter<'a> {
 impl<'a> RecordIter<'a> {
     /// The records of these bytes, within the limits.
     pub fn new(bytes: &'a [u8], limits: Limits) -> RecordIter<'a>
+        ensures begins { result ≡ start limits bytes.now }
+
         ensures text { (rs : List Record) → IsText blank tt limits bytes.now rs
             → (xs : List (ℕ × Seen)) × AreShown rs xs bytes.now × Gives result (all_ok xs) }
         ensures fault { (f : Fault) → HasFault blank tt limits bytes.now f
             → (xs : List (ℕ × Seen)) × Gives result (all_ok xs ++ Err (as_told f) ∷ []) }
+
+        // One of the two is so.
         ensures told { Exactly (IsSomeText blank tt limits bytes.now) (HasFault blank tt limits bytes.now) }
     {
         let end = bytes.len().min(limits.max_bytes() as usize);
@@ -105,6 +110,8 @@ impl<'a> Iterator for RecordIter<'a> {
         }
     }
 }
+
+impl<'a> FusedIterator for RecordIter<'a> {}
 
 /// A fault of the bytes that are read, as a fault of the text: which goes on where it is cut, so that no token is cut short by its end.
 fn told(fault: WireFault, is_cut: bool, end: usize) -> WireFault

@@ -26,6 +26,7 @@ impl Model for OpenGroups {
 
 impl OpenGroups {
     /// The group of this number alone.
+    #[inline]
     pub(crate) fn new(number: u32) -> OpenGroups
         ensures { result ≡ number ∷ [] }
     {
@@ -34,6 +35,7 @@ impl OpenGroups {
         OpenGroups { numbers, len: 1 }
     }
 
+    #[inline]
     pub(crate) fn len(&self) -> usize
         ensures { result ≡ length self.now }
     {
@@ -41,6 +43,7 @@ impl OpenGroups {
     }
 
     /// The number of the innermost group.
+    #[inline]
     pub(crate) fn innermost(&self) -> u32
         requires { 0 < length self.now }
         ensures { slice_get self.now 0 ≡ Some result }
@@ -48,6 +51,7 @@ impl OpenGroups {
         self.numbers[self.len - 1]
     }
 
+    #[inline]
     pub(crate) fn push(&mut self, number: u32)
         requires { length self.old < 100 }
         ensures { self.new ≡ number ∷ self.old }
@@ -56,6 +60,7 @@ impl OpenGroups {
         self.len += 1;
     }
 
+    #[inline]
     pub(crate) fn pop(&mut self)
         requires { 0 < length self.old }
         ensures { self.new ≡ drop 1 self.old }

@@ -1,7 +1,7 @@
-use Rattle.std.proofs.Common.{◌≡◌, ◌+◌, ◌-◌, ◌<◌, ◌≤◌, suc, ℕ, [], ◌∷◌, length, Some, arith, refl, ap, ◌∙◌}
+use Rattle.std.proofs.Common.{◌≡◌, ◌-◌, ◌<◌, suc, [], ◌∷◌, Some, arith, refl, ap, ◌∙◌}
 use Rattle.std.proofs.lemmas.Result.{err_from_is_err_and}
 use Rattle.pb_wire.specs.WireType.{code_of}
-use Rattle.pb_wire.specs.Fault.{HasTag, place}
+use Rattle.pb_wire.specs.Fault.{place}
 use Rattle.pb_wire.specs.Fault.{fault as fault_with}
 use Rattle.pb_wire.specs.Schema.{in_group}
 use Rattle.pb_wire.specs.Grammar.{RecordFault}

@@ -1,4 +1,4 @@
-use Rattle.std.proofs.Common.{◌≡◌, ◌+◌, ◌-◌, ◌≤◌, length, ℕ}
+use Rattle.std.proofs.Common.{◌-◌, ◌≤◌, length, ℕ}
 use Rattle.pb_wire.proofs.Nesting.{Nested}
 use Rattle.pb_wire.proofs.iter.group_end.Given as goal
 

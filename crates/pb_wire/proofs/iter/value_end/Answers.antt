@@ -1,4 +1,4 @@
-use Rattle.std.proofs.Common.{arith, refl, ap}
+use Rattle.std.proofs.Common.{arith, ap}
 use Rattle.std.proofs.lemmas.Result.{err_from_is_err_and}
 use Rattle.pb_wire.specs.WireType.{code_of}
 use Rattle.pb_wire.proofs.RecordIterLemmas.{varint_read, fixed64_read, fixed32_read, len_read, varint_fault, fixed64_fault, fixed32_fault, len_fault}

@@ -1,8 +1,7 @@
-use Rattle.std.proofs.Common.{◌≡◌, ◌++◌, ◌∷◌, [], List, ℕ, refl, sym, ap, ◌∙◌, inr, Err, Ok, Some}
-use Rattle.std.specs.Prelude.{map}
+use Rattle.std.proofs.Common.{◌++◌, ◌∷◌, [], List, ℕ, sym, ap, ◌∙◌, inr, Err}
 use Rattle.std.proofs.lemmas.List.{map-append}
 use Rattle.std.proofs.lemmas.Result.{err_from_is_err_and}
-use Rattle.pb_wire.specs.RecordIter.{Gives, Item, item_seen, all_ok, as_told}
+use Rattle.pb_wire.specs.RecordIter.{Gives, all_ok, as_told}
 use Rattle.pb_wire.specs.declared.iter.Payload.{Payload}
 use Rattle.pb_wire.specs.declared.fault.ReadError.TheVariants.{Fault}
 use Rattle.pb_wire.proofs.RecordIterRuns.{Given, given_ok, fault_after, records_alone, given_ok-push, shown_numbers, all_numbers, no_fault, fault_follows, one_follows}
