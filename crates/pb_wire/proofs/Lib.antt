@@ -13,6 +13,11 @@ pub mod ExactLemmas
 pub mod Longer
 pub mod FaultBounds
 pub mod Transfers
+pub mod Nesting
+pub mod RecordIterLemmas
+pub mod RecordIterSteps
+pub mod RecordIterStart
+pub mod RecordIterRuns
 pub mod ShortestLemmas
 pub mod DepthLemmas
 pub mod RangeLemmas

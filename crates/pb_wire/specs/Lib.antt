@@ -14,3 +14,5 @@ pub mod Limits
 pub mod Writable
 pub mod CauseName
 pub mod Zigzag
+pub mod Rest
+pub mod RecordIter

@@ -33,7 +33,7 @@ pub(crate) enum WireType {
 }
 
 /// Reads the varint that begins at an index, and tells the index after it.
-fn varint_at(bytes: &[u8], at: usize) -> Result<(u64, usize), WireFault>
+pub(crate) fn varint_at(bytes: &[u8], at: usize) -> Result<(u64, usize), WireFault>
     requires { at ≤ length bytes.now }
     ensures within { IfOk result (λ r. (at < r.1) × (r.1 ≤ length bytes.now)) }
     ensures ok { IfOk result (λ r. Reads (place bytes.now at) r.0 (place bytes.now r.1)) }
@@ -49,7 +49,7 @@ fn varint_at(bytes: &[u8], at: usize) -> Result<(u64, usize), WireFault>
 }
 
 /// Reads the tag that begins at an index: the number, the wire type, and the index after it.
-fn tag_at(
+pub(crate) fn tag_at(
     bytes: &[u8],
     at: usize,
     innermost: Option<u32>,
@@ -85,7 +85,7 @@ fn tag_at(
     Ok((number, wire_type, after))
 }
 
-fn refused(at: usize, cause: Cause) -> WireFault
+pub(crate) fn refused(at: usize, cause: Cause) -> WireFault
     ensures { result ≡ record { byte = at; cause = cause } }
 {
     WireFault {
@@ -110,7 +110,7 @@ fn wire_type_of(code: u64) -> Option<WireType>
 }
 
 /// Reads the eight bytes that begin at an index.
-fn u64_at(bytes: &[u8], at: usize) -> Result<(u64, usize), WireFault>
+pub(crate) fn u64_at(bytes: &[u8], at: usize) -> Result<(u64, usize), WireFault>
     requires { at ≤ length bytes.now }
     ensures within { IfOk result (λ r. (at < r.1) × (r.1 ≤ length bytes.now)) }
     ensures ok { IfOk result (λ r. Leads (λ s. s ≡ to_le_bytes w64 r.0) (place bytes.now at) (place bytes.now r.1)) }
@@ -133,7 +133,7 @@ fn u64_at(bytes: &[u8], at: usize) -> Result<(u64, usize), WireFault>
 }
 
 /// Reads the four bytes that begin at an index.
-fn u32_at(bytes: &[u8], at: usize) -> Result<(u32, usize), WireFault>
+pub(crate) fn u32_at(bytes: &[u8], at: usize) -> Result<(u32, usize), WireFault>
     requires { at ≤ length bytes.now }
     ensures within { IfOk result (λ r. (at < r.1) × (r.1 ≤ length bytes.now)) }
     ensures ok { IfOk result (λ r. Leads (λ s. s ≡ to_le_bytes w32 r.0) (place bytes.now at) (place bytes.now r.1)) }
@@ -150,7 +150,7 @@ fn u32_at(bytes: &[u8], at: usize) -> Result<(u32, usize), WireFault>
 const MAX_LENGTH: u64 = 0x7fff_ffff;
 
 /// Reads the length that begins at an index and the bytes that it counts.
-fn bytes_at(bytes: &[u8], at: usize) -> Result<(&[u8], usize), WireFault>
+pub(crate) fn bytes_at(bytes: &[u8], at: usize) -> Result<(&[u8], usize), WireFault>
     requires { at ≤ length bytes.now }
     ensures within { IfOk result (λ r. (at < r.1) × (r.1 ≤ length bytes.now)) }
     ensures ok { IfOk result (λ r. (k : ℕ) → Leads (Body k (len r.0.now)) (place bytes.now at) (place bytes.now r.1)) }
