@@ -1,6 +1,6 @@
 -- What an iterator over the records of a text gives from its start on.
-use Rattle.std.proofs.Common.{◌≡◌, ◌≢◌, ℕ, ◌<◌, ◌≤◌, min, List, [], ◌∷◌, ◌++◌, length, take, refl, sym, ap, ◌∙◌, arith, append-nil, None, Bool, true, false, nat_lt, Err, ⊎_elim}
-use Rattle.std.proofs.lemmas.List.{take_all, length-take-le}
+use Rattle.std.proofs.Common.{◌≡◌, ◌≢◌, ℕ, ◌<◌, ◌≤◌, min, List, [], ◌∷◌, ◌++◌, length, take, drop, refl, sym, ap, ◌∙◌, arith, append-nil, append_assoc, None, Bool, true, false, nat_lt, Err, ⊎_elim}
+use Rattle.std.proofs.lemmas.List.{take_all, length-take-le, take-append-drop}
 use Rattle.std.proofs.lemmas.Bool.{cases_lt, lt-ltb, le-ltb}
 use Rattle.pb_wire.specs.Record.{Payload, Group, no_more, more, Record, group_of, records_in}
 use Rattle.pb_wire.specs.Record as wire
@@ -10,7 +10,7 @@ use Rattle.pb_wire.specs.Limits.{Bounds}
 use Rattle.pb_wire.specs.Schema.{blank, Open, records}
 use Rattle.pb_wire.specs.Grammar.{Whole, Bad, RecordFault, IsText, HasFault}
 use Rattle.pb_wire.specs.Rest.{Rest}
-use Rattle.pb_wire.specs.RecordIter.{Seen, varint, fixed64, len, group, fixed32, Shows, IsShown, AreShown, Passes, Gives, to_end, to_fault, all_ok, as_told, start}
+use Rattle.pb_wire.specs.RecordIter.{Seen, varint, fixed64, len, group, fixed32, Shows, IsShown, AreShown, ShowsFront, Passes, Gives, to_end, to_fault, all_ok, as_told, start}
 use Rattle.pb_wire.proofs.Fronts.{AreRecords-from_group}
 use Rattle.pb_wire.proofs.RecordIterSteps.{rest_of}
 
@@ -87,10 +87,22 @@ passes_all depth b w =
       record { rs = w.0; front = b; shown = xs.1; sound = w.2; moves = record { given = sym (append-nil b); within = tt; at = omega arith; known = refl } },
     )
 
+-- a front of the bytes that are read begins the text
+front_of_more : (xs : List (ℕ × Seen)) (n : ℕ) (b : List ℕ) → ShowsFront xs (take n b) → ShowsFront xs b
+front_of_more xs n b h = record {
+  rs = h.rs;
+  front = h.front;
+  others = h.others ++ drop n b;
+  shown = h.shown;
+  begins =
+      sym (take-append-drop n b) ∙ ap (λ (z : List ℕ). z ++ drop n b) h.begins ∙ append_assoc h.front h.others (drop n b);
+}
+
 -- the records before a fault, and it
 record BadParts (depth : ℕ) (b : List ℕ) (f : Fault) : Type 0 where
   pub xs : List (ℕ × Seen)
   pub at : Place
+  pub front : ShowsFront xs b
   pub passes : Passes depth (place b 0) xs at
   pub goes : at.rest ≢ []
   pub bad : RecordFault blank (records tt) depth at f
@@ -102,6 +114,7 @@ bad_parts b top from (Bad.at_record {q = q} {front = front} w m goes bad) =
     record {
       xs = xs.0;
       at = q;
+      front = record { rs = w.0; front = front; others = q.rest; shown = xs.1; begins = rw from at m.given };
       passes = record { rs = w.0; front = front; shown = xs.1; sound = w.2; moves = rw from at m };
       goes = begins.1 (rw from at m.known);
       bad = rw top at bad;
@@ -117,15 +130,18 @@ text_given limits b rs t =
 
 pub fault_given :
     (limits : Bounds) (b : List ℕ) (f : Fault) → HasFault blank tt limits b f
-    → (xs : List (ℕ × Seen)) × Gives (start limits b) (all_ok xs ++ Err (as_told f) ∷ [])
+    → (xs : List (ℕ × Seen)) × ShowsFront xs b × Gives (start limits b) (all_ok xs ++ Err (as_told f) ∷ [])
 fault_given limits b f (HasFault.bad h x) =
     let parts = bad_parts b refl refl x in
-    (parts.xs, rw (start-short limits b h) (to_fault parts.passes parts.goes parts.bad refl))
+    (parts.xs, parts.front, rw (start-short limits b h) (to_fault parts.passes parts.goes parts.bad refl))
 fault_given limits b f (HasFault.bad_front {g = g} h x e) =
     let parts = bad_parts (take limits.bytes b) refl refl x in
     let size : length (take limits.bytes b) ≡ limits.bytes = length-take-le limits.bytes b (omega arith) in
-    (parts.xs, rw (start-long limits b h, e) (to_fault parts.passes parts.goes parts.bad (rw size refl)))
+    (parts.xs, front_of_more parts.xs limits.bytes b parts.front, rw (start-long limits b h, e) (to_fault parts.passes parts.goes parts.bad (rw size refl)))
 fault_given limits b f (HasFault.too_large h w e) =
     let all = passes_all limits.depth (take limits.bytes b) w in
-    let size : length (take limits.bytes b) ≡ limits.bytes = length-take-le limits.bytes b (omega arith) in
-    (all.0, rw (start-long limits b h, e) (to_end all.2 refl (rw size refl)))
+    let size : length (take limits.bytes b) ≡ limits.bytes = length-take-le limits.bytes b (omega arith) in (
+      all.0,
+      front_of_more all.0 limits.bytes b (record { rs = w.0; front = take limits.bytes b; others = []; shown = all.1; begins = sym (append-nil (take limits.bytes b)) }),
+      rw (start-long limits b h, e) (to_end all.2 refl (rw size refl)),
+    )

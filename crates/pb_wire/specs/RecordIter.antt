@@ -67,6 +67,14 @@ AreShown [] (x ∷ xs) b = ⊥
 AreShown (r ∷ rs) [] b = ⊥
 AreShown (r ∷ rs) (x ∷ xs) b = (first : List ℕ) × (others : List ℕ) × IsShown r x first × AreShown rs xs others × (b ≡ first ++ others)
 
+-- b begins with spellings of records, in order, and the list shows each of them
+pub record ShowsFront (xs : List (ℕ × Seen)) (b : List ℕ) : Type 0 where
+  pub rs : List Record
+  pub front : List ℕ
+  pub others : List ℕ
+  pub shown : AreShown rs xs front
+  pub begins : b ≡ front ++ others
+
 -- whole sound records lead from p to q, and the list shows them
 pub record Passes (depth : ℕ) (p : Place) (xs : List (ℕ × Seen)) (q : Place) : Type 0 where
   pub rs : List Record

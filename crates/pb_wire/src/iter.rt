@@ -9,7 +9,7 @@ ghost use Rattle.pb_wire.specs.Fault.{fault as fault_with};
 ghost use Rattle.pb_wire.specs.Grammar.{Bad, RecordFault, IsText, HasFault, beyond};
 ghost use Rattle.pb_wire.specs.Limits.{Bounds};
 ghost use Rattle.pb_wire.specs.Reading.{Front, ReadsValue};
-ghost use Rattle.pb_wire.specs.RecordIter.{Seen, seen, AreShown, Gives, all_ok, as_told, start, ShowsRecord, IsValueFault};
+ghost use Rattle.pb_wire.specs.RecordIter.{Seen, seen, AreShown, ShowsFront, Gives, all_ok, as_told, start, ShowsRecord, IsValueFault};
 ghost use Rattle.pb_wire.specs.Schema.{blank, records, in_group, Open};
 ghost use Rattle.pb_wire.specs.WireType.{code_of};
 
@@ -54,14 +54,15 @@ impl<'a> Model for RecordIter<'a> {
 }
 
 impl<'a> RecordIter<'a> {
-    /// The records of these bytes, within the limits.
+    /// The records of these bytes, within the limits. On a text they come all, in order. On other bytes the records before
+    /// the fault come, and then it.
     pub fn new(bytes: &'a [u8], limits: Limits) -> RecordIter<'a>
         ensures begins { result ≡ start limits bytes.now }
 
         ensures text { (rs : List Record) → IsText blank tt limits bytes.now rs
             → (xs : List (ℕ × Seen)) × AreShown rs xs bytes.now × Gives result (all_ok xs) }
         ensures fault { (f : Fault) → HasFault blank tt limits bytes.now f
-            → (xs : List (ℕ × Seen)) × Gives result (all_ok xs ++ Err (as_told f) ∷ []) }
+            → (xs : List (ℕ × Seen)) × ShowsFront xs bytes.now × Gives result (all_ok xs ++ Err (as_told f) ∷ []) }
 
         // One of the two is so.
         ensures told { Exactly (IsSomeText blank tt limits bytes.now) (HasFault blank tt limits bytes.now) }
@@ -113,7 +114,8 @@ impl<'a> Iterator for RecordIter<'a> {
 
 impl<'a> FusedIterator for RecordIter<'a> {}
 
-/// A fault of the bytes that are read, as a fault of the text: which goes on where it is cut, so that no token is cut short by its end.
+/// A fault of the bytes that are read, as a fault of the text. Where the text goes on behind them, their end is no end
+/// of a token.
 fn told(fault: WireFault, is_cut: bool, end: usize) -> WireFault
     ensures { (path : List ℕ) → result ≡ as_told (let f = fault_with fault.byte path fault.cause in if is_cut then beyond end f else f) }
 {

@@ -17,7 +17,7 @@ returns-clause-text c = λ rs t.
 pub returns-clause-fault : goal.returns-clause-fault
 returns-clause-fault c = λ f h.
     let given = fault_given c.args.limits c.args.bytes.now f h in
-    (given.0, rw (c.min-end.ensures, c.max_bytes.ensures, c.max_depth.ensures, start-min c.args.limits c.args.bytes.now) given.1)
+    (given.0, given.1, rw (c.min-end.ensures, c.max_bytes.ensures, c.max_depth.ensures, start-min c.args.limits c.args.bytes.now) given.2)
 
 pub returns-clause-told : goal.returns-clause-told
 returns-clause-told c =
