@@ -1,0 +1,5 @@
+pub mod FileMap
+pub mod MemFiles
+pub mod Sending
+pub mod RawListing
+pub mod Report

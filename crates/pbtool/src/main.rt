@@ -1,0 +1,11 @@
+//! The program: shows messages.
+#![tactic(auto)]
+
+mod buffer;
+mod command;
+mod files;
+mod host;
+mod listing;
+mod memory;
+
+fn main() {}
