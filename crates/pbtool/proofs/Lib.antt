@@ -1,2 +1,4 @@
 pub mod SendingLemmas
 pub mod HexParts
+pub mod Depths
+pub mod Lines

@@ -18,6 +18,7 @@ const LINE: usize = 256;
 
 /// A line for each record, at a level of groups.
 #[cycle(listing)]
+#[tactic(auto, using(crate::proofs::Depths::depths))]
 pub fn put_records<O: Output>(
     buffer: &mut OutputBuffer,
     out: &mut O,
@@ -35,6 +36,7 @@ pub fn put_records<O: Output>(
 }
 
 #[cycle(listing)]
+#[tactic(auto, using(crate::proofs::Depths::depths))]
 fn put_record<O: Output>(
     buffer: &mut OutputBuffer,
     out: &mut O,
