@@ -125,3 +125,18 @@ module _ {D : Type 0} {written : D → Option (List ℕ)} {failures : D → ℕ}
     pub puts_through_cut :
         {d0 d1 : D} {held bytes : List ℕ} {e : E} → Cut written failures d0 d1 bytes → Puts written failures d0 d1 [] held (Err e) bytes
     puts_through_cut {d0} {d1} {held} {bytes} cut = record { follow = λ start text under. goes_out_in_part d1 (holds_more bytes bytes refl under) cut }
+
+    -- a text that was put into an empty buffer, which was then flushed, went out whole
+    pub sent_alone :
+        {d0 d1 d2 : D} {h text : List ℕ} → Puts {E = E} written failures d0 d1 [] h (Ok tt) text
+        → Puts {E = E} written failures d1 d2 h [] (Ok tt) [] → Sent written failures d0 d2 text
+    sent_alone {d0} {d1} {d2} {h} {text} put flush =
+        let under = (puts_then put flush).follow d0 [] (at_start written failures d0) in
+        under_way_sent (rw append-nil at under)
+
+    -- or a beginning of it, where the device failed
+    pub cut_alone :
+        {d0 d1 : D} {h text : List ℕ} {e : E} → Puts written failures d0 d1 [] h (Err e) text → (r : Result Unit E) → IsErr r
+        → MatchResult r (λ _. Sent written failures d0 d1 text) (λ _. Cut written failures d0 d1 text)
+    cut_alone {d0} {d1} {h} {text} {e} put (Ok u) is_err = absurd (cc)
+    cut_alone {d0} {d1} {h} {text} {e} put (Err f) is_err = put.follow d0 [] (at_start written failures d0)

@@ -1,11 +1,11 @@
 //! The listing of records that no schema says anything of.
 
-ghost use Rattle.std.specs.Prelude.{◌≡◌, ◌+◌, ◌*◌, ◌≤◌, ◌++◌, codes, decimal, length};
+ghost use Rattle.std.specs.Prelude.{◌≡◌, ◌+◌, ◌*◌, ◌≤◌, ◌++◌, codes, decimal, length, MatchResult};
 ghost use Rattle.hex.specs.Hex.{encode_lower};
 ghost use Rattle.pb_wire.specs.Record.{depth, group_depth, group_of};
 ghost use Rattle.pb_wire.specs.Unknown.{payload_of, records_of};
-ghost use Rattle.pbtool.specs.RawListing.{indent, line, record_lines, group_lines, shown_bytes};
-ghost use Rattle.pbtool.specs.Sending.{Puts};
+ghost use Rattle.pbtool.specs.RawListing.{indent, line, record_lines, group_lines, line_feed, raw_listing, shown_bytes};
+ghost use Rattle.pbtool.specs.Sending.{Cut, Puts, Sent};
 
 use crate::buffer::OutputBuffer;
 use pb_wire::{DeviceFault, Output, Unknown};
@@ -16,10 +16,37 @@ const INDENT: [u8; 200] = [b' '; 200];
 /// No line is longer, but for the bytes of a payload: the indentation, two numbers of at most twenty digits and a word.
 const LINE: usize = 256;
 
+/// Writes a line for each record.
+pub fn write_listing<O: Output>(
+    out: &mut O,
+    records: &[(u32, Unknown)],
+) -> Result<(), DeviceFault>
+    requires { group_depth (group_of (records_of records.now)) ≤ 100 }
+    ensures { MatchResult result (λ _. Sent O.written O.failures out.old out.new (raw_listing (records_of records.now)))
+        (λ _. Cut O.written O.failures out.old out.new (raw_listing (records_of records.now))) }
+{
+    let mut buffer = OutputBuffer::new();
+    put_records(&mut buffer, out, 0, records)?;
+    buffer.flush(out)?;
+    Ok(())
+}
+
+/// Writes a line of the bytes in hexadecimal.
+pub fn write_hex_line<O: Output>(out: &mut O, bytes: &[u8]) -> Result<(), DeviceFault>
+    ensures { MatchResult result (λ _. Sent O.written O.failures out.old out.new (encode_lower bytes.now ++ line_feed))
+        (λ _. Cut O.written O.failures out.old out.new (encode_lower bytes.now ++ line_feed)) }
+{
+    let mut buffer = OutputBuffer::new();
+    buffer.put_hex(out, bytes)?;
+    buffer.put(out, b"\n")?;
+    buffer.flush(out)?;
+    Ok(())
+}
+
 /// A line for each record, at a level of groups.
 #[cycle(listing)]
 #[tactic(auto, using(crate::proofs::Depths::depths))]
-pub fn put_records<O: Output>(
+fn put_records<O: Output>(
     buffer: &mut OutputBuffer,
     out: &mut O,
     level: usize,

@@ -7,5 +7,7 @@ mod files;
 mod host;
 mod listing;
 mod memory;
+mod raw;
+mod report;
 
 fn main() {}
