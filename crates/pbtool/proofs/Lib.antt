@@ -4,3 +4,4 @@ pub mod Depths
 pub mod Lines
 pub mod Paths
 pub mod Judged
+pub mod RawSteps

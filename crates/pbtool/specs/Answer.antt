@@ -1,5 +1,5 @@
 -- What a command comes to, and what a run of it leaves.
-use Rattle.std.specs.Prelude.{◌≡◌, ◌⊎◌, ℕ, suc, List, [], ◌++◌, Bool, true, false, Option, None, Some, Result, Ok, Err, option_map, take}
+use Rattle.std.specs.Prelude.{◌≡◌, ◌⊎◌, ℕ, ◌-◌, ◌^◌, List, [], ◌++◌, Bool, true, false, Option, None, Some, Result, Ok, Err, option_map, take}
 use Rattle.hex.specs.Hex.{encode_lower}
 use Rattle.pb_wire.specs.Record.{Record}
 use Rattle.pb_wire.specs.Spell.{shortest_records}
@@ -42,6 +42,10 @@ pub data RawAnswer (limits : Bounds) (short : Bool) (path : List ℕ) (content :
   faulty :
       {text : List ℕ} {f : Fault} → content ≡ Some text → HasFault blank tt limits text f → answer ≡ refused (fault_line f)
       → RawAnswer limits short path content answer
+
+-- the limits of every command
+abbrev pub full : Bounds
+full = record { bytes = 2 ^ 31 - 1; depth = 100 }
 
 -- what a command comes to over these files
 abbrev pub Answers : Bounds → FileMap → Command → Answer → Type 0

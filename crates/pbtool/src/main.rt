@@ -3,6 +3,7 @@
 
 mod buffer;
 mod command;
+mod execute;
 mod files;
 mod host;
 mod listing;
