@@ -1,7 +1,7 @@
 -- What is known of records that were read.
-use Rattle.std.proofs.Common.{◌≡◌, ℕ, zero, suc, ◌+◌, ◌<◌, ◌≤◌, List, [], ◌∷◌, length, take, max, Option, None, Some, refl, sym, ap, ◌∙◌, subst, arith}
+use Rattle.std.proofs.Common.{◌≡◌, ℕ, zero, suc, ◌+◌, ◌<◌, ◌≤◌, List, [], ◌∷◌, length, take, max, Bool, Option, None, Some, refl, sym, ap, ◌∙◌, subst, arith}
 use Rattle.std.specs.Prelude.{option_map}
-use Rattle.std.proofs.lemmas.List.{length-take, take-take}
+use Rattle.std.proofs.lemmas.List.{length-take, take-take, take_all}
 use Rattle.pb_wire.specs.Record.{Payload, varint, fixed64, len, group, fixed32, Group, no_more, more, Record, group_of, wire_type, depth, group_depth}
 use Rattle.pb_wire.specs.Spell.{Body, Spells, SpellsGroup, AreRecords, Tagged}
 use Rattle.pb_wire.specs.Fault.{Fault}
@@ -10,7 +10,8 @@ use Rattle.pb_wire.specs.Sound.{Sound, AllSound, is_varint, is_fixed64, is_fixed
 use Rattle.pb_wire.specs.Grammar.{IsText, HasFault, bad, bad_front, too_large}
 use Rattle.pb_wire.specs.Limits.{Bounds}
 use Rattle.pb_wire.specs.Writable.{IsNumber, IsWritable, IsWritableGroup, AreWritable}
-use Rattle.pbtool.specs.Answer.{Answer, RawAnswer, missing, shown, faulty}
+use Rattle.pbtool.specs.Answer.{Answer, RawAnswer, missing, shown, faulty, done, refused, shown_as}
+use Rattle.pbtool.specs.Report.{fault_line}
 
 mutual
   sound_depth : {room k : ℕ} {p : Payload} → Sound blank tt room k p → depth p ≤ room
@@ -49,3 +50,55 @@ spelled_writable (r ∷ rs) b h =
 -- records within a limit are no deeper
 pub text_depth : {limits : Bounds} {b : List ℕ} {rs : List Record} → IsText blank tt limits b rs → group_depth (group_of rs) ≤ limits.depth
 text_depth is_text = all_depth is_text.sound
+
+-- the first bytes of a text within the limit are all of it
+front_whole : (m : ℕ) (b : List ℕ) → length (take (m + 1) b) ≤ m → take (m + 1) b ≡ b
+front_whole m b small =
+    let size = length-take (m + 1) b in
+    take_all (m + 1) b (omega (arith, size, small))
+
+front_long : (m : ℕ) (b : List ℕ) → m < length (take (m + 1) b) → m < length b
+front_long m b long = let size = length-take (m + 1) b in omega (arith, size, long)
+
+text_whole : (limits : Bounds) (b : List ℕ) (rs : List Record) → IsText blank tt limits (take (limits.bytes + 1) b) rs → IsText blank tt limits b rs
+text_whole limits b rs is_text = subst (λ (t : List ℕ). IsText blank tt limits t rs) (front_whole limits.bytes b is_text.size) is_text
+
+fault_whole : (limits : Bounds) (b : List ℕ) (f : Fault) → HasFault blank tt limits (take (limits.bytes + 1) b) f → HasFault blank tt limits b f
+fault_whole limits b f (bad small h) =
+    subst (λ (t : List ℕ). HasFault blank tt limits t f) (front_whole limits.bytes b small) (bad small h)
+fault_whole limits b f (bad_front long h e) =
+    let front = take-take limits.bytes (limits.bytes + 1) b (omega arith) in
+    bad_front (front_long limits.bytes b long) (rw front at h) e
+fault_whole limits b f (too_large long h e) =
+    let front = take-take limits.bytes (limits.bytes + 1) b (omega arith) in
+    too_large (front_long limits.bytes b long) (rw front at h) e
+
+shown_whole :
+    (limits : Bounds) (short : Bool) (path : List ℕ) (a : Answer) (o : Option (List ℕ)) (t : List ℕ) (rs : List Record)
+    → option_map (take (limits.bytes + 1)) o ≡ Some t → IsText blank tt limits t rs → a ≡ done (shown_as short rs)
+    → RawAnswer limits short path o a
+shown_whole limits short path a None t rs there is_text e = absurd (cc)
+shown_whole limits short path a (Some b) t rs there is_text e =
+    let front : t ≡ take (limits.bytes + 1) b = cc in
+    shown refl (text_whole limits b rs (subst (λ (u : List ℕ). IsText blank tt limits u rs) front is_text)) e
+
+faulty_whole :
+    (limits : Bounds) (short : Bool) (path : List ℕ) (a : Answer) (o : Option (List ℕ)) (t : List ℕ) (f : Fault)
+    → option_map (take (limits.bytes + 1)) o ≡ Some t → HasFault blank tt limits t f → a ≡ refused (fault_line f)
+    → RawAnswer limits short path o a
+faulty_whole limits short path a None t f there has_fault e = absurd (cc)
+faulty_whole limits short path a (Some b) t f there has_fault e =
+    let front : t ≡ take (limits.bytes + 1) b = cc in
+    faulty refl (fault_whole limits b f (subst (λ (u : List ℕ). HasFault blank tt limits u f) front has_fault)) e
+
+none_whole : (n : ℕ) (o : Option (List ℕ)) → option_map (take n) o ≡ None → o ≡ None
+none_whole n None nothing = refl
+none_whole n (Some b) nothing = absurd (cc)
+
+-- the answer over the first bytes, one more than the limit, is the answer over all of them
+pub answer_whole :
+    (limits : Bounds) (short : Bool) (path : List ℕ) (o : Option (List ℕ)) (a : Answer)
+    → RawAnswer limits short path (option_map (take (limits.bytes + 1)) o) a → RawAnswer limits short path o a
+answer_whole limits short path o a (missing nothing e) = missing (none_whole (limits.bytes + 1) o nothing) e
+answer_whole limits short path o a (shown {text} {records} there is_text e) = shown_whole limits short path a o text records there is_text e
+answer_whole limits short path o a (faulty {text} {f} there has_fault e) = faulty_whole limits short path a o text f there has_fault e

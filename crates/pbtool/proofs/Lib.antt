@@ -5,3 +5,6 @@ pub mod Lines
 pub mod Paths
 pub mod Judged
 pub mod RawSteps
+pub mod Endings
+pub mod Matches
+pub mod Refusals

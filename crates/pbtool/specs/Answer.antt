@@ -65,3 +65,8 @@ module _ (Out OutCut Told : List ℕ → Type 0) (status : ℕ) where
   -- an answer that P describes is delivered, unless memory runs out
   abbrev pub Ends : (Answer → Type 0) → Type 0
   Ends P = ((a : Answer) × P a × Delivers a) ⊎ RunsOut
+
+  -- The command is done: over files of which IsMap tells what they hold the answer is the one of their bytes, and over any
+  -- files it is the answer of some bytes.
+  abbrev pub Does : (FileMap → Type 0) → Command → Type 0
+  Does IsMap command = ((map : FileMap) → IsMap map → Ends (Answers full map command)) × Ends (λ a. (map : FileMap) × Answers full map command a)

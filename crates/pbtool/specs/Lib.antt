@@ -6,3 +6,4 @@ pub mod Report
 pub mod Refusal
 pub mod Answer
 pub mod Steps
+pub mod Words
