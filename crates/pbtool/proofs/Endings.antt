@@ -1,10 +1,15 @@
 -- How a run ends, from what its command came to and what was told.
-use Rattle.std.proofs.Common.{◌≡◌, ◌≤◌, ℕ, List, [], inl, inr, ap, subst}
+use Rattle.std.proofs.Common.{◌≡◌, ◌+◌, ℕ, List, [], Bool, Option, inl, inr, ap, subst}
+use Rattle.std.specs.Borrow.{Bor}
 use Rattle.std.specs.Prelude.{Result, Ok, Err, MatchResult}
-use Rattle.pbtool.specs.Answer.{Answer, done, refused, device_failed, Delivers, RunsOut, Ends}
-use Rattle.pbtool.specs.Report.{fault_line, device_line, output_name}
+use Rattle.pbtool.specs.Answer.{Answer, done, refused, device_failed, Ends, Does, RawAnswer, full}
+use Rattle.pbtool.specs.FileMap.{FileMap, IsHonest}
+use Rattle.pbtool.specs.Report.{fault_line, device_line}
 use Rattle.pbtool.specs.Refusal.{refusal_line, refusal_status}
-use Rattle.pbtool.specs.Steps.{Comes}
+use Rattle.pbtool.specs.Steps.{Comes, IsReadOf}
+use Rattle.pbtool.specs.declared.command.Command.TheVariants.{Raw}
+use Rattle.pbtool.proofs.Judged.{answer_whole}
+use Rattle.pbtool.proofs.RawSteps.{IsRight}
 use Rattle.pbtool.specs.declared.report.Refusal.{Refusal}
 use Rattle.pbtool.specs.declared.report.Refusal.TheVariants.{Fault, Device, Memory}
 use Rattle.pb_wire.specs.Fault.{fault}
@@ -29,3 +34,19 @@ module _ (Out OutCut Told : List ℕ → Type 0) (status : ℕ) where
   pub ends_weaker : (P Q : Answer → Type 0) → ((a : Answer) → P a → Q a) → Ends Out OutCut Told status P → Ends Out OutCut Told status Q
   ends_weaker P Q more (inl e) = inl (e.0, more e.0 e.1, e.2)
   ends_weaker P Q more (inr out) = inr out
+
+  -- `raw` was done
+  pub does_raw :
+      {F : Type 0} (contents : F → Option FileMap) (is_steady : F → Bool) (files : F) (short : Bool) (file : Bor (List ℕ)) (Quiet : Type 0)
+      (r : Result Unit Refusal) → (Quiet → Told [])
+      → Comes Out OutCut (IsRight full short file.now (IsReadOf contents is_steady files (full.bytes + 1) file.now)) r
+      → MatchResult r (λ _. (status ≡ 0) × Quiet) (λ e. (status ≡ refusal_status e) × Told (refusal_line e))
+      → Does Out OutCut Told status (IsHonest contents is_steady files) (Raw short file)
+  does_raw contents is_steady files short file Quiet r quiet comes told =
+      let right = IsRight full short file.now (IsReadOf contents is_steady files (full.bytes + 1) file.now) in
+      let ends = ends_from Quiet right r quiet comes told in (
+        λ map honest. ends_weaker right (RawAnswer full short file.now (map file.now))
+            (λ a h. answer_whole full short file.now (map file.now) a
+            (subst (λ (o : Option (List ℕ)). RawAnswer full short file.now o a) (h.1 map honest) h.2)) ends,
+        ends_weaker right (λ a. (map : FileMap) × RawAnswer full short file.now (map file.now) a) (λ a h. (λ _. h.0, h.2)) ends,
+      )

@@ -1,15 +1,15 @@
 -- What is known of records that were read.
-use Rattle.std.proofs.Common.{◌≡◌, ℕ, zero, suc, ◌+◌, ◌<◌, ◌≤◌, List, [], ◌∷◌, length, take, max, Bool, Option, None, Some, refl, sym, ap, ◌∙◌, subst, arith}
+use Rattle.std.proofs.Common.{◌≡◌, ℕ, ◌+◌, ◌<◌, ◌≤◌, List, [], ◌∷◌, length, take, Bool, Option, None, Some, refl, subst, arith}
 use Rattle.std.specs.Prelude.{option_map}
 use Rattle.std.proofs.lemmas.List.{length-take, take-take, take_all}
-use Rattle.pb_wire.specs.Record.{Payload, varint, fixed64, len, group, fixed32, Group, no_more, more, Record, group_of, wire_type, depth, group_depth}
-use Rattle.pb_wire.specs.Spell.{Body, Spells, SpellsGroup, AreRecords, Tagged}
+use Rattle.pb_wire.specs.Record.{Payload, varint, fixed64, len, group, fixed32, Group, no_more, more, Record, group_of, depth, group_depth}
+use Rattle.pb_wire.specs.Spell.{Body, SpellsGroup, AreRecords}
 use Rattle.pb_wire.specs.Fault.{Fault}
-use Rattle.pb_wire.specs.Schema.{blank, message, same_level, unread, text as a_text_reading, packed}
+use Rattle.pb_wire.specs.Schema.{blank}
 use Rattle.pb_wire.specs.Sound.{Sound, AllSound, is_varint, is_fixed64, is_fixed32, some_bytes, a_text, a_list, a_message, a_value, a_group, none, one}
 use Rattle.pb_wire.specs.Grammar.{IsText, HasFault, bad, bad_front, too_large}
 use Rattle.pb_wire.specs.Limits.{Bounds}
-use Rattle.pb_wire.specs.Writable.{IsNumber, IsWritable, IsWritableGroup, AreWritable}
+use Rattle.pb_wire.specs.Writable.{IsWritable, IsWritableGroup, AreWritable}
 use Rattle.pbtool.specs.Answer.{Answer, RawAnswer, missing, shown, faulty, done, refused, shown_as}
 use Rattle.pbtool.specs.Report.{fault_line}
 

@@ -8,3 +8,4 @@ pub mod RawSteps
 pub mod Endings
 pub mod Matches
 pub mod Refusals
+pub mod Commands

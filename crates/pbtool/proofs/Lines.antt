@@ -1,10 +1,10 @@
 -- The parts of a listing.
-use Rattle.std.proofs.Common.{◌≡◌, ℕ, zero, suc, ◌+◌, ◌*◌, ◌<◌, ◌≤◌, List, [], ◌∷◌, ◌++◌, length, get_or, take, drop, Bool, true, false, refl, sym, ap, ◌∙◌, append_assoc, append-nil, add-one, arith, codes, decimal, replicate}
+use Rattle.std.proofs.Common.{◌≡◌, ℕ, ◌+◌, ◌<◌, List, [], ◌∷◌, ◌++◌, length, get_or, take, drop, false, refl, sym, ap, ◌∙◌, append_assoc, append-nil, add-one, codes, decimal}
 use Rattle.std.specs.Prelude.{Vec, ◌==◌}
 use Rattle.std.specs.declared.alloc.Global.{Global}
 use Rattle.std.proofs.lemmas.List.{take_more, take-append-drop}
 use Rattle.hex.specs.Hex.{encode_lower}
-use Rattle.pb_wire.specs.Record.{group, group_of}
+use Rattle.pb_wire.specs.Record.{group_of}
 use Rattle.pb_wire.specs.Unknown.{payload_of, records_of}
 use Rattle.pb_wire.specs.declared.unknown.Unknown.{Unknown}
 use Rattle.pb_wire.specs.declared.unknown.Unknown.TheVariants as of

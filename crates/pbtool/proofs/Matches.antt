@@ -1,6 +1,6 @@
 -- What clap's matches name.
-use Rattle.std.proofs.Common.{◌≡◌, List, Option, Some, None, ℕ, option_map, sym, subst, ap, ◌∙◌}
-use Rattle.clap.specs.Words.{Row, Text, subcommand_name_of, subcommand_rows_of, rows_of, found_of}
+use Rattle.std.proofs.Common.{◌≡◌, List, Option, Some, None, option_map, subst}
+use Rattle.clap.specs.Words.{Row, Text, subcommand_name_of, subcommand_rows_of}
 use Rattle.clap.specs.declared.parser.matches.ArgMatches.{ArgMatches}
 use Rattle.clap.specs.declared.parser.matches.ArgMatches.TheViews.{out-ArgMatches, out-SubCommand}
 use Rattle.clap.specs.declared.parser.matches.SubCommand.{SubCommand}

@@ -1,5 +1,5 @@
 -- What `raw` comes to, from what its steps leave.
-use Rattle.std.proofs.Common.{◌≡◌, ℕ, List, [], Bool, Option, None, Some, refl, ap, inl, inr}
+use Rattle.std.proofs.Common.{ℕ, List, [], Bool, Option, None, Some, refl, ap, inl, inr}
 use Rattle.std.specs.Prelude.{Result, Ok, Err}
 use Rattle.pb_wire.specs.Record.{Record}
 use Rattle.pb_wire.specs.Schema.{blank}
@@ -11,15 +11,15 @@ use Rattle.pbtool.specs.Steps.{Comes, ReadsRecords, Shows}
 use Rattle.pbtool.specs.declared.report.Refusal.{Refusal}
 use Rattle.pbtool.specs.declared.report.Refusal.TheVariants.{Fault, Device, Memory}
 
+-- the answer is right over what was read
+abbrev pub IsRight : Bounds → Bool → List ℕ → (Option (List ℕ) → Type 0) → Answer → Type 0
+IsRight limits short path IsRead a = (read : Option (List ℕ)) × IsRead read × RawAnswer limits short path read a
+
 module _
     {D : Type 0} (limits : Bounds) (short : Bool) (path : List ℕ) (IsRead : Option (List ℕ) → Type 0) (written : D → Option (List ℕ))
     (failures : D → ℕ) (old new : D) where
-  -- an answer over what was read
-  abbrev pub IsRight : Answer → Type 0
-  IsRight a = (read : Option (List ℕ)) × IsRead read × RawAnswer limits short path read a
-
   abbrev pub RawComes : Result Unit Refusal → Type 0
-  RawComes r = Comes (Sent written failures old new) (Cut written failures old new) IsRight r
+  RawComes r = Comes (Sent written failures old new) (Cut written failures old new) (IsRight limits short path IsRead) r
 
   -- the file was not read, or its bytes are refused
   pub refused_comes : (e : Refusal) → Sent written failures old new [] → ReadsRecords limits path IsRead (Err e) → RawComes (Err e)

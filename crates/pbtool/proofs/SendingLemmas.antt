@@ -1,5 +1,5 @@
 -- Bytes that go out through a buffer, part by part.
-use Rattle.std.proofs.Common.{◌≡◌, ◌≢◌, ℕ, zero, suc, ◌+◌, List, [], ◌∷◌, ◌++◌, take, length, Option, Some, None, refl, sym, ap, ◌∙◌, append_assoc, append-nil, subst, arith}
+use Rattle.std.proofs.Common.{◌≡◌, ℕ, zero, suc, ◌+◌, List, [], ◌∷◌, ◌++◌, take, length, Option, refl, sym, ap, ◌∙◌, append_assoc, append-nil, subst}
 use Rattle.std.specs.Prelude.{Result, Ok, Err, MatchResult, IsErr}
 use Rattle.std.specs.Io.KnownBytes.{Appends}
 use Rattle.std.proofs.KnownBytes.{Appends-nil, Appends-trans}
@@ -49,9 +49,10 @@ module _ {D : Type 0} {written : D → Option (List ℕ)} {failures : D → ℕ}
   pub goes_out :
       {start old : D} {held text : List ℕ} (new : D) → IsUnderWay written failures start old held text
       → Sent written failures old new held → Sent written failures start new text
-  goes_out {start} {old} {held} {text} new under sent =
-      (sent.0 ∙ under.went_out.0,
-      subst (Appends (written start) (written new)) (sym under.whole) (Appends-trans (written start) (written old) (written new) under.sent held under.went_out.1 sent.1))
+  goes_out {start} {old} {held} {text} new under sent = (
+    sent.0 ∙ under.went_out.0,
+    subst (Appends (written start) (written new)) (sym under.whole) (Appends-trans (written start) (written old) (written new) under.sent held under.went_out.1 sent.1),
+  )
 
   -- a beginning of what is held goes out
   pub goes_out_in_part :
@@ -60,10 +61,13 @@ module _ {D : Type 0} {written : D → Option (List ℕ)} {failures : D → ℕ}
   goes_out_in_part {start} {old} {held} {text} new under cut =
       let n = cut.1.0 in
       let part : take (length under.sent + n) text ≡ under.sent ++ take n held =
-      ap (take (length under.sent + n)) under.whole ∙ take-append-add under.sent held n in
-      (λ same. cut.0 (same ∙ sym under.went_out.0),
-      (length under.sent + n,
-      subst (Appends (written start) (written new)) (sym part) (Appends-trans (written start) (written old) (written new) under.sent (take n held) under.went_out.1 cut.1.1)))
+      ap (take (length under.sent + n)) under.whole ∙ take-append-add under.sent held n in (
+        λ same. cut.0 (same ∙ sym under.went_out.0),
+        (
+          length under.sent + n,
+          subst (Appends (written start) (written new)) (sym part) (Appends-trans (written start) (written old) (written new) under.sent (take n held) under.went_out.1 cut.1.1),
+        ),
+      )
 
   module _ {E : Type 0} where
     -- one text after another

@@ -1,9 +1,9 @@
 -- What a command comes to, and what a run of it leaves.
-use Rattle.std.specs.Prelude.{◌≡◌, ◌⊎◌, ℕ, ◌-◌, ◌^◌, List, [], ◌++◌, Bool, true, false, Option, None, Some, Result, Ok, Err, option_map, take}
+use Rattle.std.specs.Prelude.{◌≡◌, ◌⊎◌, ℕ, ◌-◌, ◌^◌, List, [], ◌++◌, Bool, true, false, Option, None, Some}
 use Rattle.hex.specs.Hex.{encode_lower}
 use Rattle.pb_wire.specs.Record.{Record}
 use Rattle.pb_wire.specs.Spell.{shortest_records}
-use Rattle.pb_wire.specs.Fault.{Fault, fault}
+use Rattle.pb_wire.specs.Fault.{Fault}
 use Rattle.pb_wire.specs.Schema.{blank}
 use Rattle.pb_wire.specs.Grammar.{IsText, HasFault}
 use Rattle.pb_wire.specs.Limits.{Bounds}

@@ -1,5 +1,5 @@
 -- Files in memory, as a map.
-use Rattle.std.specs.Prelude.{ℕ, List, Option, find, option_map, string_bytes}
+use Rattle.std.specs.Prelude.{ℕ, List, find, option_map, string_bytes}
 use Rattle.std.specs.Str.{bytes_eq}
 use Rattle.std.specs.Borrow.{Bor}
 use Rattle.std.specs.declared.string.String.{String}

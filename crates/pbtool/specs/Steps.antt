@@ -1,5 +1,5 @@
 -- What the steps of a command leave.
-use Rattle.std.specs.Prelude.{◌≡◌, ◌⊎◌, ℕ, List, [], Bool, true, Option, None, Some, Result, Ok, Err, Vec, option_map, take}
+use Rattle.std.specs.Prelude.{◌≡◌, ◌⊎◌, ℕ, List, [], Bool, Option, None, Some, Result, Ok, Err, Vec, option_map, take}
 use Rattle.std.specs.declared.alloc.Global.{Global}
 use Rattle.pb_wire.specs.Fault.{fault}
 use Rattle.pb_wire.specs.Schema.{blank}

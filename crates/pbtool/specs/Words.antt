@@ -1,5 +1,5 @@
 -- The command line, and the commands that its words name.
-use Rattle.std.specs.Prelude.{◌≡◌, ◌==◌, ℕ, List, [], ◌∷◌, Bool, true, false, Option, Some, None, codes, unwrap_or, string_bytes, map, IfSome}
+use Rattle.std.specs.Prelude.{◌≡◌, List, [], ◌∷◌, Bool, true, false, Option, Some, codes, unwrap_or, string_bytes, map, IfSome}
 use Rattle.std.specs.Str.{bytes_eq}
 use Rattle.std.specs.Option.{option_map_or}
 use Rattle.std.specs.declared.string.String.{String}

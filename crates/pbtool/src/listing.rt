@@ -17,10 +17,7 @@ const INDENT: [u8; 200] = [b' '; 200];
 const LINE: usize = 256;
 
 /// Writes a line for each record.
-pub fn write_listing<O: Output>(
-    out: &mut O,
-    records: &[(u32, Unknown)],
-) -> Result<(), DeviceFault>
+pub fn write_listing<O: Output>(out: &mut O, records: &[(u32, Unknown)]) -> Result<(), DeviceFault>
     requires { group_depth (group_of (records_of records.now)) ≤ 100 }
     ensures { MatchResult result (λ _. Sent O.written O.failures out.old out.new (raw_listing (records_of records.now)))
         (λ _. Cut O.written O.failures out.old out.new (raw_listing (records_of records.now))) }

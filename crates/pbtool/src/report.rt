@@ -102,11 +102,7 @@ fn put_fault<O: Output>(
     Ok(())
 }
 
-fn put_byte<O: Output>(
-    buffer: &mut OutputBuffer,
-    out: &mut O,
-    byte: u64,
-) -> Result<(), DeviceFault>
+fn put_byte<O: Output>(buffer: &mut OutputBuffer, out: &mut O, byte: u64) -> Result<(), DeviceFault>
     ensures { Puts O.written O.failures out.old out.new buffer.old buffer.new result
         (codes "byte " ++ decimal byte ++ codes " path ") }
 {

@@ -1,4 +1,4 @@
-use Rattle.std.proofs.Common.{◌≡◌, ◌≤◌, ◌*◌, ◌++◌, ◌∙◌, ap, append_assoc, arith, decimal, ℕ, List, replicate, take}
+use Rattle.std.proofs.Common.{◌≡◌, ◌≤◌, ◌*◌, ◌++◌, ◌∙◌, ap, append_assoc, arith, ℕ, List}
 use Rattle.pbtool.specs.RawListing.{indent}
 use Rattle.std.proofs.lemmas.List.{take-replicate}
 use Rattle.pbtool.proofs.listing.push_start.Goals as goal

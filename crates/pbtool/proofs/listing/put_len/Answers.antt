@@ -1,5 +1,5 @@
 use Rattle.std.proofs.Common.{◌≡◌, ◌++◌, append_assoc, codes, decimal, length}
-use Rattle.pbtool.specs.RawListing.{indent, line_feed, shown_bytes}
+use Rattle.pbtool.specs.RawListing.{indent, shown_bytes}
 use Rattle.pbtool.proofs.Lines.{line-parts}
 use Rattle.pbtool.proofs.SendingLemmas.{puts_cut, puts_exit, puts_held, puts_then}
 use Rattle.pbtool.proofs.listing.put_len.Goals as goal

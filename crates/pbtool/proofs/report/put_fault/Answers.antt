@@ -1,4 +1,4 @@
-use Rattle.std.proofs.Common.{codes, ◌∙◌}
+use Rattle.std.proofs.Common.{codes}
 use Rattle.pb_wire.specs.CauseName.{name_of}
 use Rattle.pbtool.specs.Report.{path_text}
 use Rattle.pbtool.proofs.SendingLemmas.{puts_cut, puts_exit, puts_then}

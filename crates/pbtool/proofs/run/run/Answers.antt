@@ -1,6 +1,6 @@
-use Rattle.std.proofs.Common.{◌≡◌, refl, inl, inr, ap, ◌∙◌, subst, true, arith, Option, List}
+use Rattle.std.proofs.Common.{◌≡◌, refl, inl, inr, ap, ◌∙◌, subst, arith, Option, List}
 use Rattle.std.proofs.KnownBytes.{Appends-nil}
-use Rattle.clap.specs.Words.{App, HasKind, Row, Text, is_simple, is_simple_and_free, fault_of, kind_of, subcommand_of, takes}
+use Rattle.clap.specs.Words.{App, Row, Text, is_simple, is_simple_and_free, fault_of, kind_of, subcommand_of, takes}
 use Rattle.clap.specs.declared.error.kind.ErrorKind.TheVariants.{OutOfMemory}
 use Rattle.pbtool.specs.Words.{IsMatched, tool, words_of}
 use Rattle.pbtool.proofs.Refusals.{no_kind, not_true}

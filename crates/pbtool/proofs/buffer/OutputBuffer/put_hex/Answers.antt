@@ -1,4 +1,4 @@
-use Rattle.std.proofs.Common.{rules, drop, ◌≤◌, length, arith, sym, take}
+use Rattle.std.proofs.Common.{rules, drop, ◌≤◌, arith}
 use Rattle.hex.specs.Hex.{encode_lower}
 use Rattle.pbtool.proofs.HexParts.{encode_lower-nil, encode_lower-parts, encode_lower-take}
 use Rattle.pbtool.proofs.SendingLemmas.{puts_cut, puts_exit, puts_none, puts_then}

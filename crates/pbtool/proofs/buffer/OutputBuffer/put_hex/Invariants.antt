@@ -1,4 +1,4 @@
-use Rattle.std.proofs.Common.{◌≡◌, ◌≤◌, ◌-◌, length, take, Ok}
+use Rattle.std.proofs.Common.{◌≤◌, ◌-◌, length, take, Ok}
 use Rattle.hex.specs.Hex.{encode_lower}
 use Rattle.pb_wire.specs.declared.device.DeviceFault.{DeviceFault}
 use Rattle.pbtool.specs.Sending.{Puts}
