@@ -11,5 +11,14 @@ pub mod OneFault
 pub mod Total
 pub mod ExactLemmas
 pub mod Longer
-pub mod CutAtEnd
+pub mod FaultBounds
 pub mod Transfers
+pub mod Nesting
+pub mod RecordIterLemmas
+pub mod RecordIterSteps
+pub mod RecordIterStart
+pub mod RecordIterRuns
+pub mod ShortestLemmas
+pub mod DepthLemmas
+pub mod RangeLemmas
+mod Rows

@@ -1,5 +1,6 @@
 pub mod Varint
 pub mod Record
+pub mod Ranges
 pub mod Spell
 pub mod Fault
 pub mod Schema
@@ -13,3 +14,5 @@ pub mod Limits
 pub mod Writable
 pub mod CauseName
 pub mod Zigzag
+pub mod Rest
+pub mod RecordIter

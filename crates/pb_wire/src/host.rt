@@ -1,6 +1,6 @@
 //! Devices over the readers and writers of std. Each counts its failures in a number that wraps.
 
-ghost use Rattle.std.specs.Prelude.{false};
+ghost use Rattle.std.specs.Prelude.{◌≡◌, false};
 
 use crate::device::{DeviceFault, Input, Output};
 use std::io::{Read, Write};
@@ -13,7 +13,9 @@ pub struct ReadInput<R: Drop> {
 }
 
 impl<R: Read + Drop> ReadInput<R> {
-    pub fn new(reader: R) -> ReadInput<R> {
+    pub fn new(reader: R) -> ReadInput<R>
+        ensures { ⟦<ReadInput<R> as Input>⟧.left result ≡ R.remaining reader }
+    {
         ReadInput {
             reader,
             failures: 0,
@@ -47,7 +49,9 @@ pub struct WriteOutput<W: Drop> {
 }
 
 impl<W: Write + Drop> WriteOutput<W> {
-    pub fn new(writer: W) -> WriteOutput<W> {
+    pub fn new(writer: W) -> WriteOutput<W>
+        ensures { ⟦<WriteOutput<W> as Output>⟧.written result ≡ W.contents writer }
+    {
         WriteOutput {
             writer,
             failures: 0,

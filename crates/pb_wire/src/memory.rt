@@ -49,7 +49,7 @@ impl<'a> MemInput<'a> {
     pub fn new(bytes: &'a [u8], most: usize, plan: FailurePlan) -> MemInput<'a>
         requires { 0 < most }
         ensures left { ⟦<MemInput<'static> as Input>⟧.left result ≡ Some bytes.entry.now }
-        ensures steady { plan.fails_after ≡ None → ⟦<MemInput<'static> as Input>⟧.is_steady result ≡ true }
+        ensures steady { ⟦<MemInput<'static> as Input>⟧.is_steady result ≡ is_none plan.fails_after }
     {
         MemInput {
             left: bytes,

@@ -1,0 +1,49 @@
+#!/usr/bin/env python3
+"""Writes a message file of about so many megabytes, the same each time: make_file.py MEGABYTES FILE.
+
+Its records are like those of a log: a length-delimited entry with numbers, a fixed value, a name and a body, some
+of them in groups."""
+import sys
+
+
+def varint(n):
+    out = bytearray()
+    while n >= 0x80:
+        out.append(n & 0x7F | 0x80)
+        n >>= 7
+    out.append(n)
+    return bytes(out)
+
+
+def tag(number, wire_type):
+    return varint(number * 8 + wire_type)
+
+
+def length_delimited(number, payload):
+    return tag(number, 2) + varint(len(payload)) + payload
+
+
+def entry(i):
+    state = (i * 6364136223846793005 + 1442695040888963407) % 2**64
+    fields = tag(1, 0) + varint(i) + tag(2, 0) + varint(state)
+    fields += tag(3, 1) + state.to_bytes(8, "little") + tag(4, 5) + (state % 2**32).to_bytes(4, "little")
+    name = ("worker-%d" % (state % 97)).encode()
+    fields += length_delimited(5, name)
+    if i % 3 == 0:
+        return tag(16, 3) + fields + length_delimited(6, b"x" * (state % 200)) + tag(16, 4)
+    return fields + length_delimited(7, b"x" * (state % 200))
+
+
+def main():
+    size = int(sys.argv[1]) * 1_000_000
+    written = 0
+    with open(sys.argv[2], "wb") as out:
+        i = 0
+        while written < size:
+            chunk = b"".join(entry(k) for k in range(i, i + 1000))
+            out.write(chunk)
+            written += len(chunk)
+            i += 1000
+
+
+main()
