@@ -2,7 +2,8 @@
 use Rattle.std.proofs.Common.{◌≡◌, ◌+◌, ℕ, List, [], Bool, Option, inl, inr, ap, subst}
 use Rattle.std.specs.Borrow.{Bor}
 use Rattle.std.specs.Prelude.{Result, Ok, Err, MatchResult}
-use Rattle.pbtool.specs.Answer.{Answer, done, refused, device_failed, Ends, Does, RawAnswer, full}
+use Rattle.pb_wire.specs.Limits.{full}
+use Rattle.pbtool.specs.Answer.{Answer, done, refused, device_failed, Ends, Does, RawAnswer}
 use Rattle.pbtool.specs.FileMap.{FileMap, IsHonest}
 use Rattle.pbtool.specs.Report.{fault_line, device_line}
 use Rattle.pbtool.specs.Refusal.{refusal_line, refusal_status}

@@ -6,7 +6,7 @@ use Rattle.pb_wire.specs.Spell.{shortest_records}
 use Rattle.pb_wire.specs.Fault.{Fault}
 use Rattle.pb_wire.specs.Schema.{blank}
 use Rattle.pb_wire.specs.Grammar.{IsText, HasFault}
-use Rattle.pb_wire.specs.Limits.{Bounds}
+use Rattle.pb_wire.specs.Limits.{Bounds, full}
 use Rattle.pbtool.specs.FileMap.{FileMap}
 use Rattle.pbtool.specs.RawListing.{line_feed, raw_listing}
 use Rattle.pbtool.specs.Report.{fault_line, device_line, memory_line, output_name}
@@ -42,10 +42,6 @@ pub data RawAnswer (limits : Bounds) (short : Bool) (path : List ℕ) (content :
   faulty :
       {text : List ℕ} {f : Fault} → content ≡ Some text → HasFault blank tt limits text f → answer ≡ refused (fault_line f)
       → RawAnswer limits short path content answer
-
--- the limits of every command
-abbrev pub full : Bounds
-full = record { bytes = 2 ^ 31 - 1; depth = 100 }
 
 -- what a command comes to over these files
 abbrev pub Answers : Bounds → FileMap → Command → Answer → Type 0

@@ -1,7 +1,8 @@
 //! What each command does.
 
 ghost use Rattle.std.specs.Prelude.{◌≡◌, ◌≢◌, MatchResult, []};
-ghost use Rattle.pbtool.specs.Answer.{Answers, Ends, full};
+ghost use Rattle.pb_wire.specs.Limits.{full};
+ghost use Rattle.pbtool.specs.Answer.{Answers, Ends};
 ghost use Rattle.pbtool.specs.FileMap.{FileMap, IsHonest, KeepsMap};
 ghost use Rattle.pbtool.specs.Refusal.{refusal_line, refusal_status};
 ghost use Rattle.pbtool.specs.Sending.{Cut, Sent, SentOrCut};

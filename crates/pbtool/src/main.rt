@@ -46,3 +46,6 @@ fn tell_unread<E: Output>(error: &io::Error, err: &mut E) -> u8 {
     let _ = write_all(err, b"error: a word of the command line is not UTF-8\n");
     2
 }
+
+#[cfg(test)]
+mod tests;
