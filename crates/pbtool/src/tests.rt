@@ -123,12 +123,7 @@ impl Run {
 }
 
 /// Runs the words behind the program's name over a file `f`. Each call of a device moves one byte.
-fn run_over(
-    alloc: Global,
-    words: &[&str],
-    file: &[u8],
-    failures: Failures,
-) -> Result<Run, Fail> {
+fn run_over(alloc: Global, words: &[&str], file: &[u8], failures: Failures) -> Result<Run, Fail> {
     let mut args = vec![in alloc; String::from_str(alloc, "pbtool")?]?;
     for word in words {
         args.push(String::from_str(alloc, word)?)?;
@@ -265,10 +260,7 @@ fn input_fails(rt: HostRuntime) -> Result<(), Fail> {
 fn output_fails(rt: HostRuntime) -> Result<(), Fail> {
     let alloc = rt.alloc();
     let answers: [(&[&str], &[u8]); 2] = [
-        (
-            &["raw", "f"],
-            b"1 varint 150\n2 len 1 7a\n5 i32 00000001\n",
-        ),
+        (&["raw", "f"], b"1 varint 150\n2 len 1 7a\n5 i32 00000001\n"),
         (&["raw", "--short", "f"], b"08960112017a2d01000000\n"),
     ];
     for (words, answer) in answers {
@@ -318,6 +310,9 @@ fn written_files(rt: HostRuntime) -> Result<(), Fail> {
     assert!(rt; files.bytes_at("b").is_none());
     assert_eq!(rt; files.bytes_at("a").ok_or("no file")?, b"again".as_slice());
     let mut input = files.open("a")?.ok_or("no file")?;
-    assert_eq!(rt; read_up_to(alloc, &mut input, 9)?.as_slice(), b"again".as_slice());
+    assert_eq!(rt;
+        read_up_to(alloc, &mut input, 9)?.as_slice(),
+        b"again".as_slice()
+    );
     Ok(())
 }
