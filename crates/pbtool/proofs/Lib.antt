@@ -1,0 +1,11 @@
+pub mod SendingLemmas
+pub mod HexParts
+pub mod Depths
+pub mod Lines
+pub mod Paths
+pub mod Judged
+pub mod RawSteps
+pub mod Endings
+pub mod Matches
+pub mod Refusals
+pub mod Commands

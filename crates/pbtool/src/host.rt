@@ -1,0 +1,55 @@
+//! The files of the system.
+
+ghost use Rattle.std.specs.Prelude.{None, false};
+
+use crate::files::Files;
+use pb_wire::{DeviceFault, ReadInput};
+use std::io::ErrorKind;
+use std::{fs, rt};
+
+/// The files of the system. No clause says what they hold. A failure is counted in a number that wraps.
+#[derive(Drop)]
+pub struct HostFiles<'a, R> {
+    rt: &'a R,
+    failures: u64,
+}
+
+impl<'a, R: rt::Files> HostFiles<'a, R> {
+    pub fn new(rt: &'a R) -> HostFiles<'a, R> {
+        HostFiles { rt, failures: 0 }
+    }
+}
+
+impl<R: rt::Files> Files for HostFiles<'_, R>
+where
+    R::File: Drop,
+{
+    type In = ReadInput<R::File>;
+
+    ghost contents = { λ _. None };
+
+    ghost failures = { λ s. s.failures };
+
+    ghost is_steady = { λ _. false };
+
+    fn open(&mut self, path: &str) -> Result<Option<ReadInput<R::File>>, DeviceFault> {
+        match fs::open(self.rt, path) {
+            Ok(file) => Ok(Some(ReadInput::new(file))),
+            Err(error) if error.kind() == ErrorKind::NotFound => Ok(None),
+            Err(_) => {
+                self.failures = self.failures.wrapping_add(1);
+                Err(DeviceFault)
+            }
+        }
+    }
+
+    fn write_whole(&mut self, path: &str, bytes: &[u8]) -> Result<(), DeviceFault> {
+        match fs::write(self.rt, path, bytes) {
+            Ok(()) => Ok(()),
+            Err(_) => {
+                self.failures = self.failures.wrapping_add(1);
+                Err(DeviceFault)
+            }
+        }
+    }
+}

@@ -1,0 +1,51 @@
+//! The program: shows messages of the Protocol Buffers wire format.
+#![tactic(auto)]
+
+mod buffer;
+mod command;
+mod execute;
+mod files;
+mod host;
+mod listing;
+mod memory;
+mod raw;
+mod report;
+mod run;
+mod words;
+
+use crate::host::HostFiles;
+use crate::report::Refusal;
+use pb_wire::{Output, WriteOutput, write_all};
+use std::io::ErrorKind;
+use std::process::ExitCode;
+use std::{env, io};
+
+fn main(rt: HostRuntime) -> ExitCode {
+    let mut err = WriteOutput::new(rt.stderr());
+    let args: Vec<String> = match command_line(&rt) {
+        Ok(args) => args,
+        Err(error) => return ExitCode::from(tell_unread(&error, &mut err)),
+    };
+    let mut files = HostFiles::new(&rt);
+    let mut out = WriteOutput::new(rt.stdout());
+    let status = run::run(rt.alloc(), args.as_slice(), &mut files, &mut out, &mut err);
+    ExitCode::from(status)
+}
+
+/// The words of the command line, the program's name first.
+fn command_line(rt: &HostRuntime) -> io::Result<Vec<String>> {
+    let args = env::args(rt)?.collect(rt.alloc())?;
+    Ok(args)
+}
+
+/// Tells why the words were not read, and answers the exit status.
+fn tell_unread<E: Output>(error: &io::Error, err: &mut E) -> u8 {
+    if error.kind() == ErrorKind::OutOfMemory {
+        return Refusal::Memory.tell(err);
+    }
+    let _ = write_all(err, b"error: a word of the command line is not UTF-8\n");
+    2
+}
+
+#[cfg(test)]
+mod tests;

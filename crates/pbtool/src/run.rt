@@ -1,0 +1,112 @@
+//! From the words of the command line to the exit status.
+
+ghost use Rattle.std.specs.Prelude.{◌≡◌, ◌≢◌, ◌⊎◌, [], false, Any, Some};
+ghost use Rattle.clap.specs.Words.{fault_of, found_of, kind_of, rows_of, subcommand_name_of, subcommand_of, subcommand_rows_of, takes};
+ghost use Rattle.pbtool.specs.Answer.{Does, RunsOut};
+ghost use Rattle.pbtool.specs.FileMap.{IsHonest, KeepsMap};
+ghost use Rattle.pbtool.specs.Report.{memory_line};
+ghost use Rattle.pbtool.specs.Sending.{Cut, Sent, SentOrCut};
+ghost use Rattle.pbtool.specs.Words.{IsMatched, flag_of, value_of, tool, tool_names, words_of};
+ghost use Rattle.pbtool.specs.declared.command.Command.{Command as Told};
+
+use crate::command::Command;
+use crate::execute::execute;
+use crate::files::Files;
+use crate::report::Refusal;
+use crate::words::definition;
+use clap::error::ErrorKind;
+use clap::{ArgMatches, Error};
+use pb_wire::{Output, write_all};
+use std::alloc::Global;
+
+/// Reads the words, the program's name first, does the command that they name and answers the exit status: 2 where
+/// the words are no command, with the usage on standard error.
+pub fn run<F: Files, O: Output, E: Output>(
+    alloc: Global,
+    args: &[String],
+    files: &mut F,
+    out: &mut O,
+    err: &mut E,
+) -> u8
+    // Where the words are taken, the command that they name is done, unless memory runs out before.
+    ensures taken { fault_of tool (words_of args.now) ≡ []
+        → RunsOut (Sent O.written O.failures out.old out.new) (Cut O.written O.failures out.old out.new)
+        (SentOrCut E.written E.failures err.old err.new) result
+        ⊎ ((command : Told) × IsMatched (subcommand_of tool (words_of args.now)) command
+        × Does (Sent O.written O.failures out.old out.new) (Cut O.written O.failures out.old out.new)
+        (SentOrCut E.written E.failures err.old err.new) result (IsHonest F.contents F.is_steady files.old) command) }
+
+    // Where they are not taken, nothing goes to standard output.
+    ensures refused { fault_of tool (words_of args.now) ≢ []
+        → ((result ≡ 2) × Sent O.written O.failures out.old out.new [])
+        ⊎ RunsOut (Sent O.written O.failures out.old out.new) (Cut O.written O.failures out.old out.new)
+        (SentOrCut E.written E.failures err.old err.new) result }
+    ensures usage { result ≡ 2 → (fault_of tool (words_of args.now) ≢ []) × (takes tool (words_of args.now) ≡ false) }
+    ensures files { KeepsMap (F.contents files.old) (F.contents files.new) }
+{
+    let Ok(definition) = definition(alloc) else {
+        return Refusal::Memory.tell(err);
+    };
+    match definition.try_get_matches_from(args) {
+        Ok(matches) => dispatch(alloc, &matches, files, out, err),
+        Err(error) => usage(alloc, &error, err),
+    }
+}
+
+/// Shows what is wrong with the words.
+fn usage<E: Output>(alloc: Global, error: &Error, err: &mut E) -> u8
+    ensures status { (result ≡ 2) ⊎ (result ≡ 3) }
+    ensures memory { result ≡ 3 → SentOrCut E.written E.failures err.old err.new memory_line }
+    ensures out_of_memory { kind_of error.now ≡ ErrorKind.OutOfMemory → result ≡ 3 }
+{
+    if error.kind() == ErrorKind::OutOfMemory {
+        return Refusal::Memory.tell(err);
+    }
+    let Ok(text) = error.to_string(alloc) else {
+        return Refusal::Memory.tell(err);
+    };
+    let _ = write_all(err, text.as_bytes());
+    2
+}
+
+/// Does the command that the words named.
+fn dispatch<F: Files, O: Output, E: Output>(
+    alloc: Global,
+    matches: &ArgMatches<'_>,
+    files: &mut F,
+    out: &mut O,
+    err: &mut E,
+) -> u8
+    requires { Any (λ name. subcommand_name_of matches.now ≡ Some name) tool_names }
+    ensures done { (command : Told) × IsMatched (subcommand_rows_of matches.now) command
+        × Does (Sent O.written O.failures out.old out.new) (Cut O.written O.failures out.old out.new)
+        (SentOrCut E.written E.failures err.old err.new) result (IsHonest F.contents F.is_steady files.old) command }
+    ensures status { result ≢ 2 }
+    ensures files { KeepsMap (F.contents files.old) (F.contents files.new) }
+{
+    if let Some(inner) = matches.subcommand_matches("raw") {
+        let short = flag(inner, "short");
+        let file = value(inner, "FILE");
+        return execute(alloc, &Command::Raw { short, file }, files, out, err);
+    }
+    unreachable!()
+}
+
+fn flag(matches: &ArgMatches<'_>, id: &str) -> bool
+    ensures { result ≡ flag_of id.now (rows_of (found_of matches.now)) }
+{
+    match matches.get_str(id) {
+        Some(text) => text == "true",
+        None => false,
+    }
+}
+
+// The value of an argument that `clap` requires.
+fn value<'a>(matches: &ArgMatches<'a>, id: &str) -> &'a str
+    ensures { result.now ≡ value_of id.now (rows_of (found_of matches.now)) }
+{
+    match matches.get_str(id) {
+        Some(text) => text,
+        None => "",
+    }
+}
