@@ -23,6 +23,7 @@ fn top<'a>(alloc: Global) -> Command<'a>
     ensures closed { (out-Command result).allow_external_subcommands ≡ false }
 {
     Command::new(alloc, "pbtool")
+        .about("Reads and shows Protocol Buffers messages")
         .subcommand_required(true)
         .disable_help_subcommand(true)
 }
@@ -33,9 +34,15 @@ fn raw<'a>(alloc: Global) -> Result<Command<'a>, AllocError>
 {
     let short = Arg::new(alloc, "short")
         .long("short")
-        .action(ArgAction::SetTrue);
-    let file = Arg::new(alloc, "FILE").required(true);
-    let with_short = Command::new(alloc, "raw").arg(short)?;
+        .action(ArgAction::SetTrue)
+        .help("Print the shortest spelling as one line of hexadecimal instead");
+    let file = Arg::new(alloc, "FILE")
+        .required(true)
+        .help("The file with the bytes of one message");
+    let command = Command::new(alloc, "raw").about(
+        "Print the records of a message, without its schema",
+    );
+    let with_short = command.arg(short)?;
     let whole = with_short.arg(file)?;
     Ok(whole)
 }

@@ -7,4 +7,4 @@ use Rattle.pbtool.proofs.words.top.Goals as goal
 pub returns-clause-app : goal.returns-clause-app
 returns-clause-app c =
     ap app_of_fields (c.disable_help_subcommand.ensures ∙ ap (λ (f : Command-F Command). record f { disable_help_subcommand = true }) c.subcommand_required.ensures)
-    ∙ ap (on_top wants_subcommand) c.new.ensures.app
+    ∙ ap (on_top wants_subcommand) (ap app_of_fields c.about.ensures ∙ c.new.ensures.app)
