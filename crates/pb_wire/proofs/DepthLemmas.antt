@@ -1,5 +1,5 @@
 -- Records that nest no deeper than the levels left are sound where no field is known.
-use Rattle.std.proofs.Common.{◌≡◌, ℕ, zero, suc, ◌≤◌, max, List, [], ◌∷◌, refl, sym, ap, arith}
+use Rattle.std.proofs.Common.{◌≡◌, ℕ, zero, suc, ◌≤◌, List, [], ◌∷◌, refl, ap, arith}
 use Rattle.pb_wire.specs.Record.{Payload, varint, fixed64, len, group, fixed32, Group, no_more, more, Record, group_of, records_in, depth, group_depth, records_depth}
 use Rattle.pb_wire.specs.Schema.{blank}
 use Rattle.pb_wire.specs.Sound.{Sound, AllSound}

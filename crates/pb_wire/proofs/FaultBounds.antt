@@ -1,12 +1,12 @@
 -- Where a fault is told: between the place that is read from and the end of the input, and Truncated at that end. InputTooLarge is
 -- never told of bytes within the limit.
-use Rattle.std.proofs.Common.{◌≡◌, ◌≢◌, ℕ, zero, suc, ◌+◌, ◌-◌, ◌*◌, ◌<◌, ◌≤◌, List, [], ◌∷◌, ◌++◌, length, take, refl, sym, ap, ◌∙◌, arith, length-append, Option, Some, None}
+use Rattle.std.proofs.Common.{◌≡◌, ◌≢◌, ℕ, ◌+◌, ◌≤◌, List, [], take, sym, ap, ◌∙◌, arith, Option}
 use Rattle.std.proofs.lemmas.List.{length-take}
 use Rattle.std.proofs.lemmas.Str.{utf8_valid_len_le}
 use Rattle.std.specs.Str.Lossy.{utf8_valid_len}
-use Rattle.pb_wire.specs.Fault.{Fault, fault, inside, Place, input_end, Moves, Reads, HasTag, HasLength, TagFault, VarintFault, FixedFault, LengthFault, CutFault}
+use Rattle.pb_wire.specs.Fault.{Fault, fault, inside, Place, input_end, Moves, HasTag, HasLength, TagFault, VarintFault, FixedFault, LengthFault}
 use Rattle.pb_wire.specs.Schema.{Schema, Element, a_varint, four_bytes, eight_bytes, Open}
-use Rattle.pb_wire.specs.Grammar.{payload_at, Bad, RecordFault, BadElements, ElementFault}
+use Rattle.pb_wire.specs.Grammar.{payload_at, Bad, RecordFault, ElementFault}
 use Rattle.pb_wire.specs.Exact.{IsCut}
 use Rattle.pb_wire.specs.declared.fault.Cause.{Cause}
 use Rattle.pb_wire.specs.declared.fault.Cause.TheVariants.{Truncated, InputTooLarge}

@@ -1,14 +1,14 @@
 -- A fault other than Truncated is the fault of every longer text.
-use Rattle.std.proofs.Common.{◌≡◌, ◌≢◌, ℕ, zero, suc, ◌+◌, ◌-◌, ◌*◌, ◌%◌, ◌^◌, ◌<◌, ◌≤◌, List, [], ◌∷◌, ◌++◌, length, take, drop, refl, sym, ap, subst, ◌∙◌, arith, append_assoc, length-append, Option, Some, None, ◌⊎◌, inl, inr, ⊎_elim, All, IsUtf8}
+use Rattle.std.proofs.Common.{◌≡◌, ◌≢◌, ℕ, zero, suc, ◌+◌, ◌-◌, ◌*◌, ◌<◌, List, [], ◌∷◌, ◌++◌, length, take, refl, sym, ap, subst, ◌∙◌, arith, append_assoc, length-append, Option, Some, None, ◌⊎◌, inl, inr, All, IsUtf8}
 use Rattle.std.specs.Prelude.{option_map}
 use Rattle.std.specs.Str.Lossy.{utf8_valid_len}
 use Rattle.std.proofs.lemmas.List.{take-append-le, length-take}
 use Rattle.pb_wire.specs.Varint.{IsVarint}
-use Rattle.pb_wire.specs.Fault.{Fault, fault, inside, Place, window, Moves, Leads, Reads, IsHigh, IsWithin, HasTag, HasLength, TagFault, VarintFault, FixedFault, LengthFault, CutFault}
-use Rattle.pb_wire.specs.Schema.{Schema, Element, a_varint, four_bytes, eight_bytes, Open, records, in_group, context_of, open_group}
+use Rattle.pb_wire.specs.Fault.{Fault, fault, inside, Place, window, Moves, Leads, IsHigh, HasTag, HasLength, TagFault, VarintFault, FixedFault, LengthFault}
+use Rattle.pb_wire.specs.Schema.{Schema, Element, a_varint, four_bytes, eight_bytes, Open, records, in_group, open_group}
 use Rattle.pb_wire.specs.Grammar.{Begins, payload_at, Bad, RecordFault, BadElements, ElementFault}
-use Rattle.pb_wire.specs.Exact.{IsOver, IsRead, longer, IsCut}
-use Rattle.pb_wire.specs.declared.fault.Cause.TheVariants.{Truncated, BadText}
+use Rattle.pb_wire.specs.Exact.{IsRead, longer, IsCut}
+use Rattle.pb_wire.specs.declared.fault.Cause.TheVariants.{BadText}
 
 moves_longer : {p q : Place} (a more : List ℕ) → Moves p a q → Moves (longer p more) a (longer q more)
 moves_longer {p} {q} a more m = record {

@@ -1,18 +1,17 @@
 -- Small texts, their records and their faults, worked out by the rules.
-use Rattle.std.proofs.Common.{◌≡◌, ◌≢◌, ℕ, suc, ◌+◌, ◌*◌, ◌^◌, ◌<◌, ◌≤◌, List, [], ◌∷◌, ◌++◌, length, refl, arith, Option, Some, None, inl, lit<, lit≤, All}
+use Rattle.std.proofs.Common.{◌≡◌, ◌≢◌, ℕ, ◌+◌, ◌*◌, ◌<◌, ◌≤◌, List, [], ◌∷◌, length, refl, arith, Some, None, lit<, lit≤}
 use Rattle.std.proofs.lemmas.List.Elements.{All-nil, All-cons}
 use Rattle.pb_wire.specs.Varint.{IsVarint, shortest, shortest_within}
 use Rattle.pb_wire.specs.Zigzag.{zigzag, unzigzag}
 use Rattle.std.specs.Prelude.{pos, negsuc}
-use Rattle.pb_wire.specs.Record.{varint, len, group, no_more, more}
+use Rattle.pb_wire.specs.Record.{varint, group, no_more, more}
 use Rattle.pb_wire.specs.Ranges.{IsNumber}
-use Rattle.pb_wire.specs.Spell.{AreRecords, shortest_records, shortest_group, shortest_record}
-use Rattle.pb_wire.specs.Fault.{Fault, fault, Place, Moves, Reads, HasTag, HasLength, IsHigh, VarintFault, FixedFault, LengthFault, CutFault, TagFault}
-use Rattle.pb_wire.specs.Schema.{blank, records, in_group, Open}
-use Rattle.pb_wire.specs.Limits.{Bounds}
+use Rattle.pb_wire.specs.Spell.{shortest_records}
+use Rattle.pb_wire.specs.Fault.{Fault, fault, HasTag, IsHigh, VarintFault, FixedFault, LengthFault, TagFault}
+use Rattle.pb_wire.specs.Schema.{blank, records}
 use Rattle.pb_wire.specs.Sound.{Sound, AllSound}
-use Rattle.pb_wire.specs.Grammar.{Bad, RecordFault, Begins, Whole, IsText, HasFault}
-use Rattle.pb_wire.specs.declared.fault.Cause.TheVariants.{Truncated, PastEnd, VarintTooLong, TagTooLarge, NumberZero, BadType, StrayEnd, WrongEnd, LengthTooLarge, TooDeep, InputTooLarge}
+use Rattle.pb_wire.specs.Grammar.{Bad, RecordFault, IsText, HasFault}
+use Rattle.pb_wire.specs.declared.fault.Cause.TheVariants.{Truncated, PastEnd, TagTooLarge, NumberZero, BadType, StrayEnd, WrongEnd, LengthTooLarge, TooDeep, InputTooLarge}
 use Rattle.pb_wire.proofs.Places.{moves_nothing}
 
 -- a tag of one byte

@@ -1,5 +1,5 @@
 -- Signed numbers in turn: 0, -1, 1, -2 are 0, 1, 2, 3 (encoding guide, "Signed Integers").
-use Rattle.std.specs.Prelude.{ℕ, ℤ, pos, negsuc, suc, ◌+◌, ◌*◌, ◌/◌, ◌%◌, ◌==◌, if◌then◌else◌}
+use Rattle.std.specs.Prelude.{ℕ, ℤ, pos, negsuc, ◌+◌, ◌*◌, ◌/◌, ◌%◌, ◌==◌, if◌then◌else◌}
 
 -- `negsuc n` is the number -(n + 1)
 abbrev pub zigzag : ℤ → ℕ

@@ -1,5 +1,4 @@
-use Rattle.std.proofs.Common.{◌≡◌, ◌++◌, ℕ, List, arith, ap, ◌∙◌, subst, sym}
-use Rattle.pb_wire.specs.Record.{Record}
+use Rattle.std.proofs.Common.{◌++◌, ℕ, List, arith, ap, ◌∙◌, subst, sym}
 use Rattle.pb_wire.specs.Spell.{AreRecords, shortest_records}
 use Rattle.pb_wire.specs.Unknown.{records_of}
 use Rattle.pb_wire.proofs.ShortestLemmas.{shortest_records-spells}
