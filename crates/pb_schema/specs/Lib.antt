@@ -5,3 +5,5 @@ pub mod Kinds
 pub mod Packed
 pub mod Fits
 pub mod Context
+pub mod ReadBack
+pub mod PayloadView
