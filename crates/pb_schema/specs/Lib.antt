@@ -7,3 +7,7 @@ pub mod Fits
 pub mod Context
 pub mod ReadBack
 pub mod PayloadView
+pub mod Names
+pub mod Imports
+pub mod Nesting
+pub mod Rules

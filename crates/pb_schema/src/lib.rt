@@ -1,6 +1,7 @@
 //! Types as data: pools of messages and enums that meet their rules, and what their kinds read and write.
 #![tactic(auto)]
 
+mod rules;
 pub mod scalars;
 mod types;
 

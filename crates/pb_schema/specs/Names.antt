@@ -1,0 +1,126 @@
+-- Names: words, packages, and the full names of what files declare (language specification, "Identifiers", "Package"; descriptor.proto).
+use Rattle.std.specs.Prelude.{◌≡◌, ◌≢◌, ℕ, zero, suc, ◌-◌, List, [], ◌∷◌, ◌++◌, length, map, flat_map, filter, codes, Bool, true, false, ◌&&◌, ◌||◌, ◌==◌, if◌then◌else◌, Option, Some, None, slice_get}
+use Rattle.std.specs.List.{AllByRecursion, list_all}
+use Rattle.std.specs.Char.{is_ascii_alphabetic, is_ascii_digit, is_ascii_lowercase}
+use Rattle.pb_schema.specs.declared.types.Shape.{Shape}
+use Rattle.pb_schema.specs.declared.types.Shape.TheVariants as shape
+use Rattle.pb_schema.specs.Nesting.{parent_of}
+use Rattle.pb_schema.specs.Types.{FieldView, MessageView, EnumView, FileView, Types}
+
+-- a letter or `_`
+abbrev pub begins_word : ℕ → Bool
+begins_word c = is_ascii_alphabetic c || (c == 95)
+
+abbrev pub continues_word : ℕ → Bool
+continues_word c = begins_word c || is_ascii_digit c
+
+-- a letter or `_`, and then letters, digits and `_`
+abbrev pub is_word : List ℕ → Bool
+is_word [] = false
+is_word (c ∷ cs) = begins_word c && list_all continues_word cs
+
+-- the parts between dots
+abbrev pub parts_of : List ℕ → List (List ℕ)
+parts_of [] = [] ∷ []
+parts_of (c ∷ cs) = if c == 46 then [] ∷ parts_of cs else onto_first (parts_of cs)
+  where
+    onto_first : List (List ℕ) → List (List ℕ)
+    onto_first [] = (c ∷ []) ∷ []
+    onto_first (s ∷ ss) = (c ∷ s) ∷ ss
+
+-- empty, or words joined by dots
+abbrev pub is_package : List ℕ → Bool
+is_package [] = true
+is_package (c ∷ cs) = list_all is_word (parts_of (c ∷ cs))
+
+-- the fronts of a name that end before a dot
+abbrev pub fronts_of : List ℕ → List (List ℕ)
+fronts_of [] = []
+fronts_of (c ∷ cs) = (if c == 46 then [] ∷ [] else []) ++ map (λ s. c ∷ s) (fronts_of cs)
+
+-- the packages that a package's name makes: `a.b` makes `a` and `a.b`
+abbrev pub packages_of : List ℕ → List (List ℕ)
+packages_of [] = []
+packages_of (c ∷ cs) = (c ∷ cs) ∷ fronts_of (c ∷ cs)
+
+-- a name in a scope
+abbrev pub in_scope : List ℕ → List ℕ → List ℕ
+in_scope [] name = name
+in_scope (c ∷ cs) name = (c ∷ cs) ++ 46 ∷ name
+
+-- the name without `_`, with each small letter that is first or behind a `_` made great
+abbrev pub camel_case : Bool → List ℕ → List ℕ
+camel_case raise [] = []
+camel_case raise (c ∷ cs) = if c == 95 then camel_case true cs else (if raise && is_ascii_lowercase c then c - 32 else c) ∷ camel_case false cs
+
+-- the name of a map field's entry message
+abbrev pub entry_name : List ℕ → List ℕ
+entry_name name = camel_case true name ++ codes "Entry"
+
+abbrev pub is_map : Shape → Bool
+is_map (shape.Map key) = true
+is_map _ = false
+
+abbrev pub entry_names : List FieldView → List (List ℕ)
+entry_names fs = map (λ f. entry_name f.name) (filter (λ f. is_map f.shape) fs)
+
+abbrev pub package_of : List FileView → ℕ → List ℕ
+package_of files i = of_file (slice_get files i)
+  where
+    of_file : Option FileView → List ℕ
+    of_file None = []
+    of_file (Some f) = f.package_name
+
+-- the full name of what is there
+abbrev pub name_in : List ℕ → Option MessageView → List ℕ
+name_in scope None = []
+name_in scope (Some t) = in_scope scope t.name
+
+abbrev pub file_at : List MessageView → ℕ → ℕ
+file_at ms m = of_message (slice_get ms m)
+  where
+    of_message : Option MessageView → ℕ
+    of_message None = 0
+    of_message (Some t) = t.file
+
+-- The scope of what is declared outside messages, its file's package, or in a message, the message's full name. Messages nest at most so
+-- many levels; what nests in itself has no name.
+abbrev pub scope_within : ℕ → List FileView → List MessageView → ℕ → Option ℕ → List ℕ
+scope_within levels files ms file None = package_of files file
+scope_within zero files ms file (Some p) = []
+scope_within (suc levels) files ms file (Some p) = name_in (scope_within levels files ms (file_at ms p) (parent_of ms p)) (slice_get ms p)
+
+abbrev pub scope_of : Types → ℕ → Option ℕ → List ℕ
+scope_of ts file parent = scope_within (length ts.messages) ts.files ts.messages file parent
+
+-- full names, without a leading dot
+abbrev pub message_name : Types → MessageView → List ℕ
+message_name ts t = in_scope (scope_of ts t.file t.parent) t.name
+
+abbrev pub enum_name : Types → EnumView → List ℕ
+enum_name ts e = in_scope (scope_of ts e.file e.parent) e.name
+
+abbrev pub message_names : Types → List (List ℕ)
+message_names ts = map (message_name ts) ts.messages
+
+abbrev pub enum_names : Types → List (List ℕ)
+enum_names ts = map (enum_name ts) ts.enums
+
+-- the simple names of what a message declares directly, its types aside: fields, oneofs, and the entry messages of map fields
+abbrev pub names_in_message : MessageView → List (List ℕ)
+names_in_message t = map (λ f. f.name) t.fields ++ t.oneofs ++ entry_names t.fields
+
+-- the values of an enum stand in the scope around it
+abbrev pub names_of_enum : EnumView → List (List ℕ)
+names_of_enum e = e.name ∷ map (λ v. v.0) e.values
+
+-- the full names of all that is declared
+abbrev pub declared_names : Types → List (List ℕ)
+declared_names ts =
+    flat_map (λ t. message_name ts t ∷ map (in_scope (message_name ts t)) (names_in_message t)) ts.messages
+    ++ flat_map (λ e. map (in_scope (scope_of ts e.file e.parent)) (names_of_enum e)) ts.enums
+
+-- no name stands twice
+abbrev pub AllDiffer : {X : Type 0} → List X → Type 0
+AllDiffer [] = Unit {0}
+AllDiffer (x ∷ xs) = AllByRecursion (λ y. x ≢ y) xs × AllDiffer xs
