@@ -1,5 +1,5 @@
 -- Names: words, packages, and the full names of what files declare (language specification, "Identifiers", "Package"; descriptor.proto).
-use Rattle.std.specs.Prelude.{◌≡◌, ◌≢◌, ℕ, zero, suc, ◌-◌, List, [], ◌∷◌, ◌++◌, length, map, flat_map, filter, codes, Bool, true, false, ◌&&◌, ◌||◌, ◌==◌, if◌then◌else◌, Option, Some, None, slice_get}
+use Rattle.std.specs.Prelude.{◌≡◌, ◌≢◌, ℕ, zero, suc, ◌-◌, List, [], ◌∷◌, ◌++◌, length, map, flat_map, filter, codes, Bool, true, false, not, ◌&&◌, ◌||◌, ◌==◌, if◌then◌else◌, Option, Some, None, slice_get}
 use Rattle.std.specs.List.{AllByRecursion, list_all}
 use Rattle.std.specs.Char.{is_ascii_alphabetic, is_ascii_digit, is_ascii_lowercase}
 use Rattle.pb_schema.specs.declared.types.Shape.{Shape}
@@ -19,19 +19,23 @@ abbrev pub is_word : List ℕ → Bool
 is_word [] = false
 is_word (c ∷ cs) = begins_word c && list_all continues_word cs
 
+abbrev pub onto_first : ℕ → List (List ℕ) → List (List ℕ)
+onto_first c [] = (c ∷ []) ∷ []
+onto_first c (s ∷ ss) = (c ∷ s) ∷ ss
+
 -- the parts between dots
 abbrev pub parts_of : List ℕ → List (List ℕ)
 parts_of [] = [] ∷ []
-parts_of (c ∷ cs) = if c == 46 then [] ∷ parts_of cs else onto_first (parts_of cs)
-  where
-    onto_first : List (List ℕ) → List (List ℕ)
-    onto_first [] = (c ∷ []) ∷ []
-    onto_first (s ∷ ss) = (c ∷ s) ∷ ss
+parts_of (c ∷ cs) = if c == 46 then [] ∷ parts_of cs else onto_first c (parts_of cs)
 
 -- empty, or words joined by dots
 abbrev pub is_package : List ℕ → Bool
 is_package [] = true
 is_package (c ∷ cs) = list_all is_word (parts_of (c ∷ cs))
+
+-- the byte may stand at the start of a word of a package's name, or behind it
+abbrev pub may_stand : Bool → ℕ → Bool
+may_stand at_start c = if c == 46 then not at_start else (if at_start then begins_word c else continues_word c)
 
 -- the fronts of a name that end before a dot
 abbrev pub fronts_of : List ℕ → List (List ℕ)

@@ -1,7 +1,7 @@
 use Rattle.std.proofs.Common.{◌↔◌, map, drop}
 use Rattle.pb_schema.specs.View.{message_view}
 use Rattle.pb_schema.specs.Rules.{EachField}
-use Rattle.pb_schema.proofs.rules.each_field.Given as goal
+use Rattle.pb_schema.proofs.each_field.each_field.Given as goal
 
 abbrev pub invariant-loop-message : goal.invariant-loop-message
 invariant-loop-message g l =

@@ -1,7 +1,7 @@
 use Rattle.std.proofs.Common.{◌↔◌, map, drop}
 use Rattle.std.specs.List.{AllByRecursion}
 use Rattle.pb_schema.specs.View.{message_view, field_view}
-use Rattle.pb_schema.proofs.rules.in_each_field.Given as goal
+use Rattle.pb_schema.proofs.each_field.in_each_field.Given as goal
 
 abbrev pub invariant-loop-field : goal.invariant-loop-field
 invariant-loop-field g l =

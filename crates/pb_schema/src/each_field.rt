@@ -1,10 +1,10 @@
-//! The rules of a pool, each with the test of it.
+//! Rules of each field.
 
-ghost use Rattle.std.specs.Prelude.{◌≡◌, ◌↔◌, IsTrue, map, ℕ, length};
+ghost use Rattle.std.specs.Prelude.{◌↔◌, IsTrue, map};
 ghost use Rattle.std.specs.List.{AllByRecursion};
 ghost use Rattle.pb_schema.specs.View.{message_view, field_view};
 ghost use Rattle.pb_schema.specs.Types.{FieldView, MessageView};
-ghost use Rattle.pb_schema.specs.Rules.{EachField, NumbersAreFieldNumbers, IsFieldNumber};
+ghost use Rattle.pb_schema.specs.Rules.{EachField};
 
 use crate::types::{Field, MessageType};
 
@@ -36,20 +36,4 @@ pub(crate) fn each_field<R: FieldRule>(rule: &R, messages: &[MessageType]) -> bo
         }
     }
     true
-}
-
-struct HasFieldNumber;
-
-impl FieldRule for HasFieldNumber {
-    ghost Holds = { λ _ t f. IsFieldNumber f.number };
-
-    fn holds(&self, _message: &MessageType, field: &Field) -> bool {
-        matches!(field.number, 1..=18_999 | 20_000..=0x1fff_ffff)
-    }
-}
-
-pub(crate) fn numbers_are_field_numbers(messages: &[MessageType]) -> bool
-    ensures { IsTrue result ↔ NumbersAreFieldNumbers (map message_view messages.now) }
-{
-    each_field(&HasFieldNumber, messages)
 }
