@@ -2,3 +2,4 @@ pub mod Tables
 pub mod Rows
 pub mod WordLemmas
 pub mod Loops
+pub mod ImportLemmas

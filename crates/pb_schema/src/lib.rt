@@ -3,6 +3,7 @@
 
 mod each_field;
 mod file_rules;
+mod imports;
 mod index_rules;
 pub mod scalars;
 mod shape_rules;
