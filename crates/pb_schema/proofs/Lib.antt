@@ -3,3 +3,4 @@ pub mod Rows
 pub mod WordLemmas
 pub mod Loops
 pub mod ImportLemmas
+pub mod OrderLemmas

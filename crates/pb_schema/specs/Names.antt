@@ -94,21 +94,21 @@ scope_within levels files ms file None = package_of files file
 scope_within zero files ms file (Some p) = []
 scope_within (suc levels) files ms file (Some p) = name_in (scope_within levels files ms (file_at ms p) (parent_of ms p)) (slice_get ms p)
 
-abbrev pub scope_of : Types → ℕ → Option ℕ → List ℕ
-scope_of ts file parent = scope_within (length ts.messages) ts.files ts.messages file parent
+abbrev pub scope_of : List FileView → List MessageView → ℕ → Option ℕ → List ℕ
+scope_of files ms file parent = scope_within (length ms) files ms file parent
 
 -- full names, without a leading dot
-abbrev pub message_name : Types → MessageView → List ℕ
-message_name ts t = in_scope (scope_of ts t.file t.parent) t.name
+abbrev pub message_name : List FileView → List MessageView → MessageView → List ℕ
+message_name files ms t = in_scope (scope_of files ms t.file t.parent) t.name
 
-abbrev pub enum_name : Types → EnumView → List ℕ
-enum_name ts e = in_scope (scope_of ts e.file e.parent) e.name
+abbrev pub enum_name : List FileView → List MessageView → EnumView → List ℕ
+enum_name files ms e = in_scope (scope_of files ms e.file e.parent) e.name
 
 abbrev pub message_names : Types → List (List ℕ)
-message_names ts = map (message_name ts) ts.messages
+message_names ts = map (message_name ts.files ts.messages) ts.messages
 
 abbrev pub enum_names : Types → List (List ℕ)
-enum_names ts = map (enum_name ts) ts.enums
+enum_names ts = map (enum_name ts.files ts.messages) ts.enums
 
 -- the simple names of what a message declares directly, its types aside: fields, oneofs, and the entry messages of map fields
 abbrev pub names_in_message : MessageView → List (List ℕ)
@@ -118,11 +118,17 @@ names_in_message t = map (λ f. f.name) t.fields ++ t.oneofs ++ entry_names t.fi
 abbrev pub names_of_enum : EnumView → List (List ℕ)
 names_of_enum e = e.name ∷ map (λ v. v.0) e.values
 
+-- the full names of what a message declares, itself first, and of what an enum declares
+abbrev pub declared_by_message : List FileView → List MessageView → MessageView → List (List ℕ)
+declared_by_message files ms t = message_name files ms t ∷ map (in_scope (message_name files ms t)) (names_in_message t)
+
+abbrev pub declared_by_enum : List FileView → List MessageView → EnumView → List (List ℕ)
+declared_by_enum files ms e = map (in_scope (scope_of files ms e.file e.parent)) (names_of_enum e)
+
 -- the full names of all that is declared
 abbrev pub declared_names : Types → List (List ℕ)
 declared_names ts =
-    flat_map (λ t. message_name ts t ∷ map (in_scope (message_name ts t)) (names_in_message t)) ts.messages
-    ++ flat_map (λ e. map (in_scope (scope_of ts e.file e.parent)) (names_of_enum e)) ts.enums
+    flat_map (declared_by_message ts.files ts.messages) ts.messages ++ flat_map (declared_by_enum ts.files ts.messages) ts.enums
 
 -- no name stands twice
 abbrev pub AllDiffer : {X : Type 0} → List X → Type 0

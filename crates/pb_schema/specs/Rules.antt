@@ -88,18 +88,21 @@ pub record IndexRules (ts : Types) : Type 0 where
 -- DECLARATION ORDER: by file; a message, then those in it, then the next one; the enums in a message behind those in the messages in it, and
 -- the enums outside messages last
 
--- each number is at least the one before
-abbrev pub Rises : List ℕ → Type 0
-Rises [] = Unit {0}
-Rises (m ∷ []) = Unit {0}
-Rises (m ∷ n ∷ ns) = (m ≤ n) × Rises (n ∷ ns)
+-- each element stands so to the next
+abbrev pub InOrder : {X : Type 0} → (X → X → Type 0) → List X → Type 0
+InOrder R [] = Unit {0}
+InOrder R (x ∷ []) = Unit {0}
+InOrder R (x ∷ y ∷ zs) = R x y × InOrder R (y ∷ zs)
+
+abbrev pub FilesRise : List MessageView → Type 0
+FilesRise ms = InOrder (λ s t. s.file ≤ t.file) ms
 
 -- the message before a nested one is its parent, or is in its parent
-abbrev pub NestedFollowParents : List MessageView → Type 0
-NestedFollowParents ms = (i p : ℕ) → parent_of ms i ≡ Some p → (j : ℕ) × (j + 1 ≡ i) × IsWithin ms p j
+abbrev pub FollowsParent : List MessageView → ℕ → Type 0
+FollowsParent ms i = (p : ℕ) → parent_of ms i ≡ Some p → (j : ℕ) × (j + 1 ≡ i) × IsWithin ms p j
 
 abbrev pub MessagesStandInOrder : List MessageView → Type 0
-MessagesStandInOrder ms = Rises (map (λ t. t.file) ms) × NestedFollowParents ms
+MessagesStandInOrder ms = FilesRise ms × ((i : ℕ) → FollowsParent ms i)
 
 -- The enums in message a stand before those in message b, or they are the same: b holds a, or is a later one that is not in a. Those outside
 -- messages stand last.
@@ -112,9 +115,7 @@ abbrev pub StandsBefore : List MessageView → EnumView → EnumView → Type 0
 StandsBefore ms d e = (d.file < e.file) ⊎ ((d.file ≡ e.file) × EndsNoLater ms d.parent e.parent)
 
 abbrev pub EnumsStandInOrder : List MessageView → List EnumView → Type 0
-EnumsStandInOrder ms [] = Unit {0}
-EnumsStandInOrder ms (d ∷ []) = Unit {0}
-EnumsStandInOrder ms (d ∷ e ∷ es) = StandsBefore ms d e × EnumsStandInOrder ms (e ∷ es)
+EnumsStandInOrder ms es = InOrder (StandsBefore ms) es
 
 -- NAMES
 
@@ -166,9 +167,12 @@ abbrev pub IsMemberOf : ℕ → Shape → Type 0
 IsMemberOf o (shape.OneofMember p) = o ≡ p
 IsMemberOf o _ = ⊥
 
+abbrev pub HasMember : ℕ → List FieldView → Type 0
+HasMember o [] = ⊥
+HasMember o (f ∷ fs) = IsMemberOf o f.shape ⊎ HasMember o fs
+
 abbrev pub OneofsHaveMembers : List MessageView → Type 0
-OneofsHaveMembers ms =
-    AllByRecursion (λ t. (o : ℕ) → o < length t.oneofs → (f : FieldView) × Contains t.fields f × IsMemberOf o f.shape) ms
+OneofsHaveMembers ms = AllByRecursion (λ t. (o : ℕ) → o < length t.oneofs → HasMember o t.fields) ms
 
 abbrev pub HasKeyKind : Shape → Type 0
 HasKeyKind (shape.Map key) = IsTrue (is_key_kind key)

@@ -5,6 +5,7 @@ mod each_field;
 mod file_rules;
 mod imports;
 mod index_rules;
+mod order_rules;
 pub mod scalars;
 mod shape_rules;
 mod types;
