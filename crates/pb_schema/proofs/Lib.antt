@@ -4,3 +4,5 @@ pub mod WordLemmas
 pub mod Loops
 pub mod ImportLemmas
 pub mod OrderLemmas
+pub mod NameSetLemmas
+pub mod NameLemmas

@@ -11,3 +11,4 @@ pub mod Names
 pub mod Imports
 pub mod Nesting
 pub mod Rules
+pub mod NameSet

@@ -23,10 +23,14 @@ abbrev pub onto_first : ℕ → List (List ℕ) → List (List ℕ)
 onto_first c [] = (c ∷ []) ∷ []
 onto_first c (s ∷ ss) = (c ∷ s) ∷ ss
 
+abbrev pub onto_parts : Bool → ℕ → List (List ℕ) → List (List ℕ)
+onto_parts true c ps = [] ∷ ps
+onto_parts false c ps = onto_first c ps
+
 -- the parts between dots
 abbrev pub parts_of : List ℕ → List (List ℕ)
 parts_of [] = [] ∷ []
-parts_of (c ∷ cs) = if c == 46 then [] ∷ parts_of cs else onto_first c (parts_of cs)
+parts_of (c ∷ cs) = onto_parts (c == 46) c (parts_of cs)
 
 -- empty, or words joined by dots
 abbrev pub is_package : List ℕ → Bool
@@ -37,25 +41,37 @@ is_package (c ∷ cs) = list_all is_word (parts_of (c ∷ cs))
 abbrev pub may_stand : Bool → ℕ → Bool
 may_stand at_start c = if c == 46 then not at_start else (if at_start then begins_word c else continues_word c)
 
--- the fronts of a name that end before a dot
-abbrev pub fronts_of : List ℕ → List (List ℕ)
-fronts_of [] = []
-fronts_of (c ∷ cs) = (if c == 46 then [] ∷ [] else []) ++ map (λ s. c ∷ s) (fronts_of cs)
+abbrev pub with_front : Bool → List ℕ → List (List ℕ) → List (List ℕ)
+with_front true front fronts = front ∷ fronts
+with_front false front fronts = fronts
+
+-- the fronts of a name that end before a dot, of which there is a front and the rest
+abbrev pub fronts_from : List ℕ → List ℕ → List (List ℕ)
+fronts_from front [] = []
+fronts_from front (c ∷ cs) = with_front (c == 46) front (fronts_from (front ++ c ∷ []) cs)
 
 -- the packages that a package's name makes: `a.b` makes `a` and `a.b`
 abbrev pub packages_of : List ℕ → List (List ℕ)
 packages_of [] = []
-packages_of (c ∷ cs) = (c ∷ cs) ∷ fronts_of (c ∷ cs)
+packages_of (c ∷ cs) = (c ∷ cs) ∷ fronts_from [] (c ∷ cs)
 
 -- a name in a scope
 abbrev pub in_scope : List ℕ → List ℕ → List ℕ
 in_scope [] name = name
 in_scope (c ∷ cs) name = (c ∷ cs) ++ 46 ∷ name
 
+-- the letter, made great where it is raised
+abbrev pub raised : Bool → ℕ → ℕ
+raised raise c = if raise && is_ascii_lowercase c then c - 32 else c
+
+abbrev pub unless_line : Bool → ℕ → List ℕ → List ℕ
+unless_line true c cs = cs
+unless_line false c cs = c ∷ cs
+
 -- the name without `_`, with each small letter that is first or behind a `_` made great
 abbrev pub camel_case : Bool → List ℕ → List ℕ
 camel_case raise [] = []
-camel_case raise (c ∷ cs) = if c == 95 then camel_case true cs else (if raise && is_ascii_lowercase c then c - 32 else c) ∷ camel_case false cs
+camel_case raise (c ∷ cs) = unless_line (c == 95) (raised raise c) (camel_case (c == 95) cs)
 
 -- the name of a map field's entry message
 abbrev pub entry_name : List ℕ → List ℕ
@@ -86,6 +102,19 @@ file_at ms m = of_message (slice_get ms m)
     of_message : Option MessageView → ℕ
     of_message None = 0
     of_message (Some t) = t.file
+
+-- the name at an index; an index out of range has none
+abbrev pub name_at : List (List ℕ) → ℕ → List ℕ
+name_at names i = of_name (slice_get names i)
+  where
+    of_name : Option (List ℕ) → List ℕ
+    of_name None = []
+    of_name (Some name) = name
+
+-- the scope of what is declared in a message, or outside messages, where the messages have these full names
+abbrev pub scope_by_names : List FileView → List (List ℕ) → ℕ → Option ℕ → List ℕ
+scope_by_names files names file None = package_of files file
+scope_by_names files names file (Some p) = name_at names p
 
 -- The scope of what is declared outside messages, its file's package, or in a message, the message's full name. Messages nest at most so
 -- many levels; what nests in itself has no name.

@@ -131,15 +131,16 @@ EnumNamesAreWords es = AllByRecursion (λ e. AreWords (names_of_enum e)) es
 abbrev pub FullNamesDiffer : Types → Type 0
 FullNamesDiffer ts = AllDiffer (declared_names ts)
 
-abbrev pub NoNameIsAPackage : Types → Type 0
-NoNameIsAPackage ts =
-    AllByRecursion (λ name. ¬ Contains (flat_map (λ f. packages_of f.package_name) ts.files) name) (declared_names ts)
+-- no package has the full name of a declaration
+abbrev pub PackagesAreFree : Types → Type 0
+PackagesAreFree ts =
+    AllByRecursion (λ f. AllByRecursion (λ name. ¬ Contains (declared_names ts) name) (packages_of f.package_name)) ts.files
 
 pub record NameRules (ts : Types) : Type 0 where
   pub message_words : MessageNamesAreWords ts.messages
   pub enum_words : EnumNamesAreWords ts.enums
   pub names_differ : FullNamesDiffer ts
-  pub no_package : NoNameIsAPackage ts
+  pub packages_free : PackagesAreFree ts
 
 -- FIELDS AND ONEOFS
 

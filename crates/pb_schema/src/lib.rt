@@ -5,6 +5,8 @@ mod each_field;
 mod file_rules;
 mod imports;
 mod index_rules;
+mod name_set;
+mod names;
 mod order_rules;
 pub mod scalars;
 mod shape_rules;

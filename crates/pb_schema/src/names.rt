@@ -1,0 +1,72 @@
+//! The full names of what files declare.
+
+ghost use Rattle.std.specs.Prelude.{◌≡◌, [], ◌++◌, ℕ, IfOk, OnOk, map, take, length};
+ghost use Rattle.pb_schema.specs.View.{file_view, message_view, enum_view, field_view, parent_view, bytes_of, types_of};
+ghost use Rattle.pb_schema.specs.Nesting.{ParentsStandBefore};
+ghost use Rattle.pb_schema.specs.Names.{raised, entry_name, entry_names, in_scope, scope_by_names, message_name, message_names, names_in_message, names_of_enum, declared_by_message, declared_by_enum, declared_names};
+ghost use Rattle.pb_schema.specs.NameSet.{IsSetOf, Adds};
+
+use crate::name_set::{NameSet, scoped};
+use crate::types::{EnumType, Field, FileInfo, MessageId, MessageType, Shape};
+use std::alloc::{AllocError, Global};
+
+fn raised(raise: bool, byte: u8) -> u8
+    ensures { result ≡ raised raise byte }
+{
+    if raise { byte.to_ascii_uppercase() } else { byte }
+}
+
+/// The name of the entry message of a map field.
+pub(crate) fn entry_name(alloc: Global, name: &[u8]) -> Result<Vec<u8>, AllocError>
+    ensures { IfOk result (λ v. v.items ≡ entry_name name.now) }
+{
+    let mut entry = Vec::new(alloc);
+    let mut raise = true;
+    for byte in name {
+        if *byte != b'_' {
+            entry.push(raised(raise, *byte))?;
+        }
+        raise = *byte == b'_';
+    }
+    entry.extend_from_slice(b"Entry")?;
+    Ok(entry)
+}
+
+/// The scope of what is declared in a message, or outside messages in a file.
+fn scope<'a>(
+    files: &'a [FileInfo],
+    names: &'a [Vec<u8>],
+    file: usize,
+    parent: Option<MessageId>,
+) -> &'a [u8]
+    ensures { result.now ≡ scope_by_names (map file_view files.now) (bytes_of names.now) file (parent_view parent) }
+{
+    match parent {
+        None => match files.get(file) {
+            Some(file) => file.package.as_str().as_bytes(),
+            None => &[],
+        },
+        Some(id) => match names.get(id.0) {
+            Some(name) => name.as_slice(),
+            None => &[],
+        },
+    }
+}
+
+/// The full name of each message.
+pub(crate) fn message_names(
+    alloc: Global,
+    files: &[FileInfo],
+    messages: &[MessageType],
+) -> Result<Vec<Vec<u8>>, AllocError>
+    requires { ParentsStandBefore (map message_view messages.now) (length messages.now) }
+    ensures { IfOk result (λ v. bytes_of v.items ≡ map (message_name (map file_view files.now) (map message_view messages.now)) (map message_view messages.now)) }
+{
+    let mut names: Vec<Vec<u8>> = Vec::new(alloc);
+    for message in messages {
+        let around = scope(files, &names, message.file, message.parent);
+        let name = scoped(alloc, around, message.name.as_str().as_bytes())?;
+        names.push(name)?;
+    }
+    Ok(names)
+}
