@@ -6,3 +6,4 @@ pub mod ImportLemmas
 pub mod OrderLemmas
 pub mod NameSetLemmas
 pub mod NameLemmas
+pub mod AddLemmas

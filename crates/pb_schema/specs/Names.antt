@@ -77,12 +77,13 @@ camel_case raise (c ∷ cs) = unless_line (c == 95) (raised raise c) (camel_case
 abbrev pub entry_name : List ℕ → List ℕ
 entry_name name = camel_case true name ++ codes "Entry"
 
-abbrev pub is_map : Shape → Bool
-is_map (shape.Map key) = true
-is_map _ = false
-
-abbrev pub entry_names : List FieldView → List (List ℕ)
-entry_names fs = map (λ f. entry_name f.name) (filter (λ f. is_map f.shape) fs)
+-- the simple names that a field declares: its own, and that of a map field's entry message
+abbrev pub names_of_field : FieldView → List (List ℕ)
+names_of_field f = by_shape f.shape f.name
+  where
+    by_shape : Shape → List ℕ → List (List ℕ)
+    by_shape (shape.Map key) name = name ∷ entry_name name ∷ []
+    by_shape _ name = name ∷ []
 
 abbrev pub package_of : List FileView → ℕ → List ℕ
 package_of files i = of_file (slice_get files i)
@@ -139,9 +140,9 @@ message_names ts = map (message_name ts.files ts.messages) ts.messages
 abbrev pub enum_names : Types → List (List ℕ)
 enum_names ts = map (enum_name ts.files ts.messages) ts.enums
 
--- the simple names of what a message declares directly, its types aside: fields, oneofs, and the entry messages of map fields
+-- the simple names of what a message declares directly, its types aside
 abbrev pub names_in_message : MessageView → List (List ℕ)
-names_in_message t = map (λ f. f.name) t.fields ++ t.oneofs ++ entry_names t.fields
+names_in_message t = flat_map names_of_field t.fields ++ t.oneofs
 
 -- the values of an enum stand in the scope around it
 abbrev pub names_of_enum : EnumView → List (List ℕ)

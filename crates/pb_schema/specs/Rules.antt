@@ -7,7 +7,7 @@ use Rattle.pb_schema.specs.declared.types.Shape.{Shape}
 use Rattle.pb_schema.specs.declared.types.Shape.TheVariants as shape
 use Rattle.pb_schema.specs.Types.{FieldView, MessageView, EnumView, FileView, Types}
 use Rattle.pb_schema.specs.Kinds.{is_key_kind, is_packable}
-use Rattle.pb_schema.specs.Names.{is_word, is_package, entry_names, names_in_message, names_of_enum, declared_names, packages_of, AllDiffer}
+use Rattle.pb_schema.specs.Names.{is_word, is_package, names_in_message, names_of_enum, declared_names, packages_of, AllDiffer}
 use Rattle.pb_schema.specs.Imports.{Reaches, IsSeen}
 use Rattle.pb_schema.specs.Nesting.{parent_of, IsWithin}
 
