@@ -7,3 +7,7 @@ pub mod OrderLemmas
 pub mod NameSetLemmas
 pub mod NameLemmas
 pub mod AddLemmas
+pub mod NumberLemmas
+pub mod RuleLemmas
+pub mod LookupLemmas
+pub mod PackedLemmas

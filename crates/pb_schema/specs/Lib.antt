@@ -12,3 +12,6 @@ pub mod Imports
 pub mod Nesting
 pub mod Rules
 pub mod NameSet
+pub mod Marks
+pub mod ErrorNumber
+pub mod Tables

@@ -32,6 +32,17 @@ impl NameSet {
         Ok(())
     }
 
+    /// The set of these names.
+    pub(crate) fn collect(alloc: Global, names: Vec<Vec<u8>>) -> Result<NameSet, AllocError>
+        ensures { IfOk result (IsSetOf (bytes_of names.items)) }
+    {
+        let mut set = NameSet::new(alloc);
+        for name in names {
+            set.add(name)?;
+        }
+        Ok(set)
+    }
+
     /// Adds a name of a scope.
     pub(crate) fn add_in_scope(
         &mut self,
@@ -45,7 +56,7 @@ impl NameSet {
     }
 
     pub(crate) fn contains(&self, name: &[u8]) -> bool
-        ensures { (names : List (List ℕ)) → IsSetOf names self.now → IsTrue result ↔ Contains names name.now }
+        ensures { IsTrue result ↔ Contains (bytes_of self.now.table.keys) name.now }
     {
         self.table.contains(name)
     }

@@ -66,6 +66,35 @@ fn message_name(
     scoped(alloc, around, message.name.as_str().as_bytes())
 }
 
+/// The full name of each enum, where the messages have these names.
+pub(crate) fn enum_names(
+    alloc: Global,
+    files: &[FileInfo],
+    names: &[Vec<u8>],
+    enums: &[EnumType],
+) -> Result<Vec<Vec<u8>>, AllocError>
+    ensures { IfOk result (λ v. bytes_of v.items ≡ map (λ e. in_scope (scope_by_names (map file_view files.now) (bytes_of names.now) e.file e.parent) e.name) (map enum_view enums.now)) }
+{
+    let mut enum_names: Vec<Vec<u8>> = Vec::new(alloc);
+    for entry in enums {
+        let name = enum_name(alloc, files, names, entry)?;
+        enum_names.push(name)?;
+    }
+    Ok(enum_names)
+}
+
+fn enum_name(
+    alloc: Global,
+    files: &[FileInfo],
+    names: &[Vec<u8>],
+    entry: &EnumType,
+) -> Result<Vec<u8>, AllocError>
+    ensures { IfOk result (λ v. v.items ≡ in_scope (scope_by_names (map file_view files.now) (bytes_of names.now) entry.now.file (parent_view entry.now.parent)) (string_bytes entry.now.name)) }
+{
+    let around = scope(files, names, entry.file, entry.parent);
+    scoped(alloc, around, entry.name.as_str().as_bytes())
+}
+
 /// The full name of each message.
 pub(crate) fn message_names(
     alloc: Global,

@@ -1,0 +1,10 @@
+use Rattle.std.proofs.Common.{◌↔◌, map, drop, string_bytes}
+use Rattle.std.specs.List.{AllByRecursion}
+use Rattle.pb_schema.specs.View.{file_view, message_view, enum_view, field_view, bytes_of}
+use Rattle.pb_schema.specs.Names.{names_of_field}
+use Rattle.pb_schema.specs.Rules.{AreWords, MessageNamesAreWords, EnumNamesAreWords, IsFree, NumbersDiffer, OneofsHaveMembers}
+use Rattle.pb_schema.proofs.name_rules.enum_names_are_words.Given as goal
+
+abbrev pub invariant-loop-entry : goal.invariant-loop-entry
+invariant-loop-entry l =
+    EnumNamesAreWords (map enum_view l.enums) ↔ EnumNamesAreWords (map enum_view (drop l.entry-index l.enums))
