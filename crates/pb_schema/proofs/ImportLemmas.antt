@@ -1,5 +1,5 @@
 -- The walk over imports.
-use Rattle.std.proofs.Common.{◌≡◌, ℕ, zero, suc, replicate, ◌+◌, ◌*◌, ◌<◌, ◌≤◌, List, [], ◌∷◌, ◌++◌, Bool, true, false, IsTrue, ◌↔◌, ◌⊎◌, inl, inr, ⊎_elim, map, length, get_or, set, refl, sym, ◌∙◌, ap, subst, arith, cond, sum_by, Contains, length-append}
+use Rattle.std.proofs.Common.{◌≡◌, ℕ, zero, suc, replicate, ◌+◌, ◌<◌, List, [], ◌∷◌, ◌++◌, Bool, true, false, IsTrue, ◌⊎◌, inl, inr, ⊎_elim, map, length, get_or, set, refl, sym, ◌∙◌, ap, subst, arith, cond, Contains, length-append}
 use Rattle.std.specs.List.{All, AllByRecursion}
 use Rattle.std.proofs.lemmas.List.{length-map, length-replicate, length-set, get_or-set_same, get_or-set_other}
 use Rattle.std.proofs.lemmas.List.Sums.{sum_by-set}
@@ -72,14 +72,14 @@ Marks-append {xs} {ys} {a} {b} {c} {k} {l} {m} first then = record {
   set = λ j at. ⊎_elim (λ here. then.kept j (first.set j here)) (λ there. then.set j there) (Contains-append_cases xs ys j at);
   kept = λ j was. then.kept j (first.kept j was);
   only = λ j now.
-    ⊎_elim
-    (λ before. ⊎_elim inl (λ two. inr (Contains-append_left xs ys j two.0, then.waiting j two.1)) (first.only j before))
-    (λ two. inr (Contains-append_right xs ys j two.0, two.1)) (then.only j now);
+      ⊎_elim
+      (λ before. ⊎_elim inl (λ two. inr (Contains-append_left xs ys j two.0, then.waiting j two.1)) (first.only j before))
+      (λ two. inr (Contains-append_right xs ys j two.0, two.1)) (then.only j now);
   waiting = λ j at. then.waiting j (first.waiting j at);
   added = λ j at.
-    ⊎_elim
-    (λ before. ⊎_elim inl (λ here. inr (Contains-append_left xs ys j here)) (first.added j before))
-    (λ there. inr (Contains-append_right xs ys j there)) (then.added j at);
+      ⊎_elim
+      (λ before. ⊎_elim inl (λ here. inr (Contains-append_left xs ys j here)) (first.added j before))
+      (λ there. inr (Contains-append_right xs ys j there)) (then.added j at);
   work = omega (arith, first.work, then.work);
 }
 
@@ -113,7 +113,7 @@ Walk-start files start h = record {
   visited = λ k at. inl (sym (Contains-one start k at));
   sound = λ j now. absurd (false≢true (sym (clear (length files) j) ∙ now));
   closed = λ k was.
-    ⊎_elim (λ e. inl (subst (Contains (start ∷ [])) (sym e) (Contains-push [] start))) (λ now. absurd (false≢true (sym (clear (length files) k) ∙ now))) was;
+      ⊎_elim (λ e. inl (subst (Contains (start ∷ [])) (sym e) (Contains-push [] start))) (λ now. absurd (false≢true (sym (clear (length files) k) ∙ now))) was;
 }
 
 step : {files : List FileView} {start k j : ℕ} → (k ≡ start) ⊎ Reaches files start k → Contains (imports_of files k) j → Reaches files start j

@@ -1,4 +1,4 @@
-pub mod Tables
+pub mod Samples
 pub mod Rows
 pub mod WordLemmas
 pub mod Loops

@@ -1,5 +1,5 @@
 -- What look-ups stand on.
-use Rattle.std.proofs.Common.{◌≡◌, ◌≢◌, ℕ, zero, suc, ◌+◌, ◌<◌, ◌≤◌, get_or, MatchOption, List, [], ◌∷◌, ◌++◌, Bool, true, false, cond, map, length, refl, sym, ◌∙◌, ap, subst, arith, eqb, Option, Some, None, option_map, IfSome, find, position, Vec, Global, Bor}
+use Rattle.std.proofs.Common.{◌≡◌, ◌≢◌, ℕ, zero, suc, ◌+◌, ◌<◌, ◌≤◌, get_or, MatchOption, List, [], ◌∷◌, Bool, true, false, cond, map, length, refl, sym, ◌∙◌, ap, subst, arith, eqb, Option, Some, None, option_map, IfSome, find, position, Vec, Global, Bor}
 use Rattle.std.specs.Prelude.{slice_get}
 use Rattle.std.specs.List.{AllByRecursion, flat_map, prefix_len, HoldsAt}
 use Rattle.std.specs.Str.{bytes_eq}
@@ -8,10 +8,15 @@ use Rattle.std.proofs.lemmas.List.{length-map}
 use Rattle.pb_schema.specs.declared.types.Field.{Field}
 use Rattle.pb_schema.specs.View.{field_view, bytes_of}
 use Rattle.pb_schema.specs.Types.{FieldView, MessageView, EnumView, Types, message_fields, fields_of_message, field_numbered}
-use Rattle.pb_schema.specs.Names.{AllDiffer}
-use Rattle.pb_schema.specs.Tables.{IsNumbered, place_of}
-use Rattle.pb_schema.specs.Rules.{EachField, IsPool, IsFieldOf, NamesOneof}
-use Rattle.pb_schema.proofs.NameSetLemmas.{all_back, AllDiffer-back}
+use Rattle.pb_schema.specs.declared.name_set.NameSet.{NameSet}
+use Rattle.pb_schema.specs.Nesting.{ParentsStandBefore}
+use Rattle.pb_schema.specs.Names.{AllDiffer, in_scope, scope_of, scope_by_names, message_name, enum_name, message_names, enum_names, names_in_message, declared_by_message, declared_by_enum}
+use Rattle.pb_schema.specs.NameSet.{IsSetOf}
+use Rattle.pb_schema.specs.Tables.{IsNumbered, AreNumberTables, HasTables, place_of}
+use Rattle.pb_schema.specs.Rules.{IsPool, IsFieldOf, NamesOneof}
+use Rattle.pb_schema.proofs.NameSetLemmas.{all_back, AllDiffer-front, AllDiffer-back}
+use Rattle.pb_schema.proofs.NameLemmas.{scope_of-names}
+use Rattle.pb_schema.proofs.OrderLemmas.{parents_before}
 
 some_same : {X : Type 0} {x y : X} {o : Option X} → o ≡ Some x → o ≡ Some y → x ≡ y
 some_same p q = cc
@@ -47,10 +52,13 @@ found_none n [] none = refl
 found_none n (g ∷ gs) none =
     ap (λ b. cond b (Some g) (field_numbered n gs)) (test_false (eqb g.number n) (λ t. none zero (ap Some ((Decides-eqb g.number n).0 t)))) ∙ found_none n gs (λ i h. none (suc i) h)
 
+pub get_viewed : {X Y : Type 0} (view : X → Y) (xs : List X) (i : ℕ) (x : X) → i < length xs → x ≡ get_or xs i x → slice_get (map view xs) i ≡ Some (view x)
+get_viewed view [] i x h is = absurd (omega (arith, h))
+get_viewed view (y ∷ ys) zero x h is = ap (λ z. Some (view z)) (sym is)
+get_viewed view (y ∷ ys) (suc i) x h is = get_viewed view ys i x (omega (arith, h)) is
+
 pub get_map : (fs : List Field) (i : ℕ) (f : Field) → i < length fs → f ≡ get_or fs i f → slice_get (map field_view fs) i ≡ Some (field_view f)
-get_map [] i f h is = absurd (omega (arith, h))
-get_map (g ∷ gs) zero f h is = ap (λ x. Some (field_view x)) (sym is)
-get_map (g ∷ gs) (suc i) f h is = get_map gs i f (omega (arith, h)) is
+get_map fs i f h is = get_viewed field_view fs i f h is
 
 get_past : (fs : List Field) (i : ℕ) → length fs ≤ i → slice_get (map field_view fs) i ≡ None
 get_past [] i h = refl
@@ -121,3 +129,33 @@ prefix_len-map t f (x ∷ xs) = ap (λ n. cond (t (f x)) (1 + n) 0) (prefix_len-
 
 pub place_of-bytes : (q : List ℕ) (ks : List (Vec ℕ Global)) → position (λ k. bytes_eq q k.items) ks ≡ place_of q (bytes_of ks)
 place_of-bytes q ks = simp (prefix_len-map, length-map)
+
+-- TABLES
+
+pub pool_message_names : (ts : Types) → IsPool ts → AllDiffer (message_names ts)
+pool_message_names ts ok =
+    AllDiffer-firsts (message_name ts.files ts.messages) (λ t. map (in_scope (message_name ts.files ts.messages t)) (names_in_message t)) ts.messages (AllDiffer-front (flat_map (declared_by_message ts.files ts.messages) ts.messages) (flat_map (declared_by_enum ts.files ts.messages) ts.enums) ok.names.names_differ)
+
+pub pool_enum_names : (ts : Types) → IsPool ts → AllDiffer (enum_names ts)
+pool_enum_names ts ok =
+    AllDiffer-firsts (enum_name ts.files ts.messages) (λ (e : EnumView). map (in_scope (scope_of ts.files ts.messages e.file e.parent)) (map (λ v. v.0) e.values)) ts.enums (AllDiffer-back (flat_map (declared_by_message ts.files ts.messages) ts.messages) (flat_map (declared_by_enum ts.files ts.messages) ts.enums) ok.names.names_differ)
+
+pub pool_parents : (ts : Types) (n : ℕ) → IsPool ts → ParentsStandBefore ts.messages n
+pool_parents ts n ok = parents_before ts.messages n (λ i _. ok.messages_in_order.1 i)
+
+pub enum_names_by : (ts : Types) (names : List (List ℕ)) → IsPool ts → names ≡ message_names ts → map (λ e. in_scope (scope_by_names ts.files names e.file e.parent) e.name) ts.enums ≡ enum_names ts
+enum_names_by ts names ok same = each ts.enums
+  where
+    one : (e : EnumView) → in_scope (scope_by_names ts.files names e.file e.parent) e.name ≡ enum_name ts.files ts.messages e
+    one e = ap (λ s. in_scope s e.name) (ap (λ l. scope_by_names ts.files l e.file e.parent) same ∙ sym (scope_of-names ts.files ts.messages e.file e.parent (pool_parents ts (length ts.messages) ok)))
+
+    each : (es : List EnumView) → map (λ e. in_scope (scope_by_names ts.files names e.file e.parent) e.name) es ≡ map (enum_name ts.files ts.messages) es
+    each [] = refl
+    each (e ∷ es) = ap (λ n. n ∷ map (λ d. in_scope (scope_by_names ts.files names d.file d.parent) d.name) es) (one e) ∙ ap (λ l. enum_name ts.files ts.messages e ∷ l) (each es)
+
+pub pool_tables : (ts : Types) (names others : List (List ℕ)) (messages enums : NameSet) (numbers : List (Vec (ℕ × ℕ) Global)) → IsPool ts → names ≡ message_names ts → IsSetOf names messages → others ≡ enum_names ts → IsSetOf others enums → AreNumberTables ts.messages numbers → HasTables ts messages.table.keys enums.table.keys numbers
+pool_tables ts names others messages enums numbers ok same is_messages same' is_enums are = record {
+  messages = is_messages.ordered (is_messages.differ.1 (subst AllDiffer (sym same) (pool_message_names ts ok))) ∙ same;
+  enums = is_enums.ordered (is_enums.differ.1 (subst AllDiffer (sym same') (pool_enum_names ts ok))) ∙ same';
+  numbers = are;
+}

@@ -1,5 +1,5 @@
 -- Full names.
-use Rattle.std.proofs.Common.{◌≡◌, ℕ, zero, suc, ◌+◌, ◌<◌, ◌≤◌, List, [], ◌∷◌, ◌++◌, Option, Some, None, option_map, map, length, get_or, take, ◌⊎◌, inl, inr, refl, sym, ◌∙◌, ap, subst, arith, string_bytes, Vec, Global}
+use Rattle.std.proofs.Common.{◌≡◌, ℕ, zero, suc, ◌+◌, ◌<◌, ◌≤◌, List, [], ◌∷◌, ◌++◌, Option, Some, None, map, length, get_or, take, ◌⊎◌, inl, inr, refl, sym, ◌∙◌, ap, subst, arith, string_bytes, Vec, Global}
 use Rattle.std.specs.Prelude.{slice_get}
 use Rattle.std.proofs.lemmas.List.{length-map, take_more}
 use Rattle.std.proofs.lemmas.Bool.{cases_lt}
@@ -7,7 +7,7 @@ use Rattle.pb_schema.specs.declared.types.MessageType.{MessageType}
 use Rattle.pb_schema.specs.View.{message_view, parent_view, bytes_of}
 use Rattle.pb_schema.specs.Types.{FileView, MessageView}
 use Rattle.pb_schema.specs.Nesting.{parent_of, ParentsStandBefore}
-use Rattle.pb_schema.specs.Names.{in_scope, name_in, name_at, file_at, package_of, scope_within, scope_of, scope_by_names, message_name}
+use Rattle.pb_schema.specs.Names.{in_scope, name_in, name_at, file_at, scope_within, scope_of, scope_by_names, message_name}
 use Rattle.pb_schema.proofs.NameSetLemmas.{bytes_of-append}
 
 map_push : {X Y : Type 0} (f : X → Y) (xs : List X) (x : X) → map f (xs ++ x ∷ []) ≡ map f xs ++ f x ∷ []

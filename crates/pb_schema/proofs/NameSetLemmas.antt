@@ -1,5 +1,5 @@
 -- Sets of names.
-use Rattle.std.proofs.Common.{◌≡◌, ◌≢◌, ℕ, List, [], ◌∷◌, ◌++◌, Bool, true, false, not, ◌&&◌, ◌||◌, IsTrue, ◌↔◌, ◌⊎◌, inl, inr, ⊎_elim, map, refl, sym, ◌∙◌, ap, subst, Contains, if◌then◌else◌, append_assoc, append-nil, Vec, Global}
+use Rattle.std.proofs.Common.{◌≡◌, ◌≢◌, ℕ, List, [], ◌∷◌, ◌++◌, Bool, true, false, not, ◌&&◌, ◌||◌, IsTrue, ◌↔◌, ◌⊎◌, inl, inr, ⊎_elim, refl, sym, ◌∙◌, ap, subst, Contains, if◌then◌else◌, append_assoc, append-nil, Vec, Global}
 use Rattle.std.specs.List.{AllByRecursion, list_any}
 use Rattle.std.specs.Str.{bytes_eq}
 use Rattle.std.proofs.lemmas.Slice.Eq.{bytes_eq-Decides}
@@ -86,11 +86,10 @@ module _ (s t : NameSet) (name : Vec ℕ Global) (before : List (List ℕ)) (was
   old keys has differ =
       let known : Contains before name.items = (was.members name.items).0 ((has_name name.items s.table.keys).0 has) in
       record {
-        members = λ x.
-          (
-            λ h. Contains-append_left before (name.items ∷ []) x ((was.members x).0 (subst (λ l. Contains (bytes_of l) x) keys h)),
-            λ h. subst (λ l. Contains (bytes_of l) x) (sym keys) ((was.members x).1 (⊎_elim (λ b. b) (λ e. subst (Contains before) e known) (Contains-push_cases before name.items x h))),
-          );
+        members = λ x. (
+          λ h. Contains-append_left before (name.items ∷ []) x ((was.members x).0 (subst (λ l. Contains (bytes_of l) x) keys h)),
+          λ h. subst (λ l. Contains (bytes_of l) x) (sym keys) ((was.members x).1 (⊎_elim (λ b. b) (λ e. subst (Contains before) e known) (Contains-push_cases before name.items x h))),
+        );
         differ = (λ e. absurd (false≢true (sym differ ∙ e)), λ all. absurd (AllDiffer-new before name.items all known));
         ordered = λ e. absurd (false≢true (sym differ ∙ e));
       }
@@ -100,17 +99,16 @@ module _ (s t : NameSet) (name : Vec ℕ Global) (before : List (List ℕ)) (was
       let all_keys : bytes_of t.table.keys ≡ bytes_of s.table.keys ++ name.items ∷ [] = ap bytes_of keys ∙ bytes_of-append s.table.keys (name ∷ []) in
       let unknown : ¬ Contains before name.items = λ h. hasnt ((has_name name.items s.table.keys).1 ((was.members name.items).1 h)) in
       record {
-        members = λ x.
-          (
-            λ h.
+        members = λ x. (
+          λ h.
               ⊎_elim (λ b. Contains-append_left before (name.items ∷ []) x ((was.members x).0 b)) (λ e. subst (Contains (before ++ name.items ∷ [])) e (Contains-push before name.items))
               (Contains-push_cases (bytes_of s.table.keys) name.items x (subst (λ l. Contains l x) all_keys h)),
-            λ h.
+          λ h.
               subst (λ l. Contains l x) (sym all_keys)
               (⊎_elim (λ b. Contains-append_left (bytes_of s.table.keys) (name.items ∷ []) x ((was.members x).1 b)) (λ e. subst (Contains (bytes_of s.table.keys ++ name.items ∷ [])) e (Contains-push (bytes_of s.table.keys) name.items)) (Contains-push_cases before name.items x h)),
-          );
+        );
         differ =
-          (λ e. AllDiffer-push before name.items (was.differ.0 (sym differ ∙ e)) unknown, λ all. differ ∙ was.differ.1 (AllDiffer-front before (name.items ∷ []) all));
+            (λ e. AllDiffer-push before name.items (was.differ.0 (sym differ ∙ e)) unknown, λ all. differ ∙ was.differ.1 (AllDiffer-front before (name.items ∷ []) all));
         ordered = λ e. all_keys ∙ ap (λ l. l ++ name.items ∷ []) (was.ordered (sym differ ∙ e));
       }
 

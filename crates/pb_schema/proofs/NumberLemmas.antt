@@ -1,6 +1,5 @@
 -- Fields by their numbers.
-use Rattle.std.proofs.Common.{◌≡◌, ◌≢◌, ℕ, Bool, true, false, not, ◌||◌, IsTrue, ◌↔◌, if◌then◌else◌, eqb, Vec, Global, take, zero, suc, ◌+◌, ◌<◌, ◌≤◌, List, [], ◌∷◌, ◌++◌, map, length, get_or, refl, sym, ◌∙◌, ap, subst, arith, Option, Some, None, option_map, Contains, ◌⊎◌, inl, inr, ⊎_elim}
-use Rattle.std.specs.Prelude.{slice_get}
+use Rattle.std.proofs.Common.{◌≡◌, ◌≢◌, ℕ, Bool, true, false, not, ◌||◌, IsTrue, ◌↔◌, if◌then◌else◌, eqb, Vec, Global, take, zero, suc, ◌+◌, ◌<◌, ◌≤◌, List, [], ◌∷◌, ◌++◌, map, length, get_or, refl, sym, ◌∙◌, ap, subst, arith, Option, Some, None, Contains, ◌⊎◌, inl, inr, ⊎_elim}
 use Rattle.std.specs.List.{AllByRecursion, list_any}
 use Rattle.std.specs.List.Sorted.{IsPermutation, IsNonDecreasingBy, IsPartitionPoint}
 use Rattle.std.proofs.lemmas.List.{length-take, take_more, map-append}
@@ -57,14 +56,13 @@ field_has i (f ∷ fs) n (suc j) h =
     subst (λ (p : ℕ × ℕ). Contains ((f.number, i) ∷ entries_from (suc i) fs) p) e (Contains-later (n, suc i + j) (f.number, i) (entries_from (suc i) fs) (field_has (suc i) fs n j h))
 
 pub table_exact : (fs : List Field) (table : List (ℕ × ℕ)) → IsPermutation (entries_from 0 fs) table → (n i : ℕ) → Contains table (n, i) ↔ IsNumbered (map field_view fs) n i
-table_exact fs table moved n i =
-    (
-      λ h. let r = entry_of 0 fs n i (Contains-permutation table (entries_from 0 fs) (n, i) (IsPermutation-sym (entries_from 0 fs) table moved) h) in
-        let place : r.0 ≡ i = omega (arith, r.1) in
-        subst (IsNumbered (map field_view fs) n) place r.2,
-      λ h. let e : ◌≡◌ {A = ℕ × ℕ} (n, 0 + i) (n, i) = ap (λ k. (n, k)) (omega arith) in
-        Contains-permutation (entries_from 0 fs) table (n, i) moved (subst (λ (p : ℕ × ℕ). Contains (entries_from 0 fs) p) e (field_has 0 fs n i h)),
-    )
+table_exact fs table moved n i = (
+  λ h. let r = entry_of 0 fs n i (Contains-permutation table (entries_from 0 fs) (n, i) (IsPermutation-sym (entries_from 0 fs) table moved) h) in
+      let place : r.0 ≡ i = omega (arith, r.1) in
+      subst (IsNumbered (map field_view fs) n) place r.2,
+  λ h. let e : ◌≡◌ {A = ℕ × ℕ} (n, 0 + i) (n, i) = ap (λ k. (n, k)) (omega arith) in
+      Contains-permutation (entries_from 0 fs) table (n, i) moved (subst (λ (p : ℕ × ℕ). Contains (entries_from 0 fs) p) e (field_has 0 fs n i h)),
+)
 
 pub entries-more : (fs : List Field) (i : ℕ) (d : Field) → i < length fs → entries_from 0 (take (i + 1) fs) ≡ entries_from 0 (take i fs) ++ ((get_or fs i d).number, i) ∷ []
 entries-more fs i d h =
@@ -150,8 +148,7 @@ number_again fs i x ks is_new h is keys added old =
 pub number_new : (fs : List Field) (i : ℕ) (x : Field) (ks ks' : List ℕ) (is_new : Bool) → i < length fs → x ≡ get_or fs i x → ks ≡ numbers_of (take i fs) → AllDiffer ks → is_new ≡ not (list_any (eqb x.number) ks) → is_new ≡ true → ks' ≡ (if list_any (eqb x.number) ks then ks else ks ++ x.number ∷ []) → (ks' ≡ numbers_of (take (i + 1) fs)) × AllDiffer ks'
 number_new fs i x ks ks' is_new h is keys differ added new next =
     let unknown : list_any (eqb x.number) ks ≡ false = not_true (list_any (eqb x.number) ks) (sym added ∙ new) in
-    let next_is : ks' ≡ ks ++ x.number ∷ [] = next ∙ ap (λ b. if b then ks else ks ++ x.number ∷ []) unknown in
-    (
+    let next_is : ks' ≡ ks ++ x.number ∷ [] = next ∙ ap (λ b. if b then ks else ks ++ x.number ∷ []) unknown in (
       next_is ∙ ap (λ l. l ++ x.number ∷ []) keys ∙ sym (numbers-more fs i x h is),
       subst AllDiffer (sym next_is) (AllDiffer-push ks x.number differ (λ h. false≢true (sym unknown ∙ here x.number ks h))),
     )

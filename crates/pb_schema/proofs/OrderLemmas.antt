@@ -1,7 +1,6 @@
 -- Declaration order, and messages in messages.
 use Rattle.std.proofs.Common.{◌≡◌, ℕ, zero, suc, ◌+◌, ◌-◌, ◌<◌, ◌≤◌, List, [], ◌∷◌, Bool, true, false, IsTrue, ◌↔◌, ◌⊎◌, inl, inr, map, length, get_or, drop, refl, sym, ◌∙◌, ap, subst, arith, eqb, Option, Some, None}
-use Rattle.std.specs.Prelude.{slice_get}
-use Rattle.std.proofs.lemmas.List.{length-map, length-drop, drop_more}
+use Rattle.std.proofs.lemmas.List.{length-drop, drop_more}
 use Rattle.std.proofs.lemmas.Bool.{false≢true, cases_lt}
 use Rattle.std.proofs.lemmas.Bool.Decides.{Decides-eqb}
 use Rattle.pb_schema.specs.Types.{MessageView}

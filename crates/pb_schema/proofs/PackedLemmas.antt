@@ -1,14 +1,19 @@
 -- The numbers of a packed payload.
-use Rattle.std.proofs.Common.{◌≡◌, ℕ, ◌+◌, ◌*◌, ◌%◌, ◌^◌, ◌<◌, ◌≤◌, zero, suc, List, [], ◌∷◌, ◌++◌, Bool, true, false, ◌⊎◌, inl, inr, map, length, get_or, refl, sym, ◌∙◌, ap, subst, arith, ltb}
+use Rattle.std.proofs.Common.{◌≡◌, ℕ, ◌%◌, ◌^◌, ◌<◌, ◌≤◌, zero, suc, List, [], ◌∷◌, ◌++◌, true, false, IsTrue, map, length, get_or, refl, sym, ◌∙◌, ap, subst, arith, ltb}
 use Rattle.std.specs.List.{AllByRecursion}
 use Rattle.std.specs.Int.{w32, w64, to_le_bytes, from_le_bytes}
 use Rattle.std.proofs.lemmas.Nat.{le_bytes_4, le_bytes_8, from_le_bytes-to_le_bytes_4, from_le_bytes-to_le_bytes_8}
 use Rattle.std.proofs.lemmas.Bool.Decides.{nat_tests}
-use Rattle.pb_wire.specs.Varint.{IsVarint, EndsOnce, groups_value}
-use Rattle.pb_wire.specs.Record.{Payload, varint, fixed64, len, group, fixed32, wire_type}
+use Rattle.pb_wire.specs.Varint.{EndsOnce, groups_value}
+use Rattle.pb_wire.specs.Record.{Payload, varint, fixed64, len, group, fixed32}
 use Rattle.pb_wire.specs.Exact.{IsByte}
 use Rattle.pb_wire.specs.Schema.{a_varint, four_bytes, eight_bytes}
-use Rattle.pb_wire.specs.Sound.{IsElement, varint_element, four_element, eight_element, AreElements, no_elements, element}
+use Rattle.pb_wire.specs.Sound.{varint_element, four_element, eight_element, AreElements, no_elements, element}
+use Rattle.std.proofs.lemmas.Bool.{false≢true}
+use Rattle.pb_schema.specs.declared.types.Kind.{Kind}
+use Rattle.pb_schema.specs.declared.types.Kind.TheVariants as kind
+use Rattle.pb_schema.specs.Kinds.{wire_type_of, is_packable}
+use Rattle.pb_schema.specs.Context.{element_of}
 use Rattle.pb_schema.specs.Packed.{AreNumbers, onto_varints, varints_of, fours_of, eights_of, numbers_of}
 
 below_128 : (b : ℕ) → b < 128 → ltb b 128 ≡ true
@@ -101,3 +106,41 @@ fours_whole s bytes (element {first} {others} (four_element size) rest joined) =
     let all = subst (AllByRecursion IsByte) joined bytes in
     let small = byte_at first (front_bytes first others all) in
     subst (λ ps. AreNumbers 5 ps s) (sym (ap (numbers_of 5) joined ∙ ap (map (λ b. fixed32 (from_le_bytes w32 b))) (fours_front first others size))) (refl, first, others, (below_4 first small, sym (le_bytes_4 first (from_le_bytes w32 first) size small refl)), fours_whole others (back_bytes first others all) rest, joined)
+
+pub numbers_back : (k : Kind) (ps : List Payload) (s : List ℕ) → IsTrue (is_packable k) → AreNumbers (wire_type_of k) ps s → numbers_of (wire_type_of k) s ≡ ps
+numbers_back kind.Int32 ps s can are = varints_back ps s are
+numbers_back kind.Int64 ps s can are = varints_back ps s are
+numbers_back kind.Uint32 ps s can are = varints_back ps s are
+numbers_back kind.Uint64 ps s can are = varints_back ps s are
+numbers_back kind.Sint32 ps s can are = varints_back ps s are
+numbers_back kind.Sint64 ps s can are = varints_back ps s are
+numbers_back kind.Bool ps s can are = varints_back ps s are
+numbers_back (kind.Enum e) ps s can are = varints_back ps s are
+numbers_back kind.Fixed64 ps s can are = eights_back ps s are
+numbers_back kind.Sfixed64 ps s can are = eights_back ps s are
+numbers_back kind.Double ps s can are = eights_back ps s are
+numbers_back kind.Fixed32 ps s can are = fours_back ps s are
+numbers_back kind.Sfixed32 ps s can are = fours_back ps s are
+numbers_back kind.Float ps s can are = fours_back ps s are
+numbers_back kind.Text ps s can are = absurd (false≢true can)
+numbers_back kind.Bytes ps s can are = absurd (false≢true can)
+numbers_back (kind.Message m) ps s can are = absurd (false≢true can)
+
+pub numbers_whole : (k : Kind) (s : List ℕ) → IsTrue (is_packable k) → AllByRecursion IsByte s → AreElements (element_of k) s → AreNumbers (wire_type_of k) (numbers_of (wire_type_of k) s) s
+numbers_whole kind.Int32 s can bytes are = varints_whole s are
+numbers_whole kind.Int64 s can bytes are = varints_whole s are
+numbers_whole kind.Uint32 s can bytes are = varints_whole s are
+numbers_whole kind.Uint64 s can bytes are = varints_whole s are
+numbers_whole kind.Sint32 s can bytes are = varints_whole s are
+numbers_whole kind.Sint64 s can bytes are = varints_whole s are
+numbers_whole kind.Bool s can bytes are = varints_whole s are
+numbers_whole (kind.Enum e) s can bytes are = varints_whole s are
+numbers_whole kind.Fixed64 s can bytes are = eights_whole s bytes are
+numbers_whole kind.Sfixed64 s can bytes are = eights_whole s bytes are
+numbers_whole kind.Double s can bytes are = eights_whole s bytes are
+numbers_whole kind.Fixed32 s can bytes are = fours_whole s bytes are
+numbers_whole kind.Sfixed32 s can bytes are = fours_whole s bytes are
+numbers_whole kind.Float s can bytes are = fours_whole s bytes are
+numbers_whole kind.Text s can bytes are = absurd (false≢true can)
+numbers_whole kind.Bytes s can bytes are = absurd (false≢true can)
+numbers_whole (kind.Message m) s can bytes are = absurd (false≢true can)

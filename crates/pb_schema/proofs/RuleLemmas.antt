@@ -1,5 +1,5 @@
 -- What the tests of names, oneofs and types stand on.
-use Rattle.std.proofs.Common.{◌≡◌, ◌≢◌, ℕ, zero, suc, ◌+◌, ◌<◌, ◌≤◌, List, [], ◌∷◌, ◌++◌, Bool, true, false, ◌&&◌, IsTrue, ◌↔◌, ◌⊎◌, inl, inr, ⊎_elim, map, length, get_or, set, take, drop, replicate, refl, sym, ◌∙◌, ap, subst, arith, eqb, ◌==◌, Option, Some, None, IfSome, Contains}
+use Rattle.std.proofs.Common.{◌≡◌, ◌≢◌, ℕ, zero, suc, ◌+◌, ◌<◌, ◌≤◌, List, [], ◌∷◌, ◌++◌, Bool, true, false, ◌&&◌, IsTrue, ◌↔◌, ◌⊎◌, inl, inr, ⊎_elim, map, length, get_or, set, take, drop, replicate, refl, sym, ◌∙◌, ap, subst, arith, ◌==◌, Option, Some, None, IfSome, Contains}
 use Rattle.std.specs.Prelude.{slice_get}
 use Rattle.std.specs.List.{AllByRecursion}
 use Rattle.std.proofs.lemmas.Bool.{false≢true, cases_eq}
@@ -15,8 +15,7 @@ use Rattle.pb_schema.specs.Types.{FieldView, MessageView, EnumView, FileView, Ty
 use Rattle.pb_schema.specs.Names.{with_front, fronts_from, packages_of}
 use Rattle.pb_schema.specs.Imports.{AreReached, IsSeen}
 use Rattle.pb_schema.specs.Marks.{NotesMember, AreMembers, BitsSee, KindIsMarked}
-use Rattle.pb_schema.specs.Rules.{IsMemberOf, HasMember, EachOneofHasMember, TypeIsSeen, IsFree}
-use Rattle.pb_schema.proofs.OrderLemmas.{iff_trans, iff_sym}
+use Rattle.pb_schema.specs.Rules.{IsMemberOf, HasMember, TypeIsSeen, IsFree}
 
 -- a test of a first part
 pub part_stops : {Whole A B : Type 0} {b : Bool} → Whole ↔ (A × B) → (IsTrue b ↔ A) → b ≡ false → IsTrue false ↔ Whole
@@ -64,21 +63,19 @@ defaults (x ∷ xs) (suc i) d e h = defaults xs i d e (omega (arith, h))
 
 member_push : (o : ℕ) (fs : List FieldView) (f : FieldView) → HasMember o (fs ++ f ∷ []) ↔ (HasMember o fs ⊎ IsMemberOf o f.shape)
 member_push o [] f = (λ h. ⊎_elim (λ m. inr m) (λ e. absurd e) h, λ h. ⊎_elim (λ e. absurd e) (λ m. inl m) h)
-member_push o (g ∷ gs) f =
-    (
-      λ h. ⊎_elim (λ m. inl (inl m)) (λ later. ⊎_elim (λ m. inl (inr m)) (λ m. inr m) ((member_push o gs f).0 later)) h,
-      λ h. ⊎_elim (λ m. ⊎_elim (λ here. inl here) (λ later. inr ((member_push o gs f).1 (inl later))) m) (λ m. inr ((member_push o gs f).1 (inr m))) h,
-    )
+member_push o (g ∷ gs) f = (
+  λ h. ⊎_elim (λ m. inl (inl m)) (λ later. ⊎_elim (λ m. inl (inr m)) (λ m. inr m) ((member_push o gs f).0 later)) h,
+  λ h. ⊎_elim (λ m. ⊎_elim (λ here. inl here) (λ later. inr ((member_push o gs f).1 (inl later))) m) (λ m. inr ((member_push o gs f).1 (inr m))) h,
+)
 
 pub AreMembers-push : (n : ℕ) (fs : List FieldView) (f : FieldView) (a b : List Bool) → AreMembers n fs a → NotesMember f.shape a b → AreMembers n (fs ++ f ∷ []) b
 AreMembers-push n fs f a b was note = record {
   size = note.size ∙ was.size;
   exact = λ o h.
-    let within : o < length a = omega (arith, h, was.size) in
-    (
-      λ e. (member_push o fs f).1 (⊎_elim (λ old. inl ((was.exact o h).0 old)) inr ((note.exact o within).0 e)),
-      λ m. (note.exact o within).1 (⊎_elim (λ old. inl ((was.exact o h).1 old)) inr ((member_push o fs f).0 m)),
-    );
+      let within : o < length a = omega (arith, h, was.size) in (
+        λ e. (member_push o fs f).1 (⊎_elim (λ old. inl ((was.exact o h).0 old)) inr ((note.exact o within).0 e)),
+        λ m. (note.exact o within).1 (⊎_elim (λ old. inl ((was.exact o h).1 old)) inr ((member_push o fs f).0 m)),
+      );
 }
 
 clear : (n j : ℕ) → get_or (replicate n false) j false ≡ false
@@ -98,22 +95,20 @@ notes_other s bits none = record { size = refl; exact = λ o h. (inl, λ m. ⊎_
 pub notes_member : (i : ℕ) (bits : List Bool) → i < length bits → NotesMember (shape.OneofMember i) bits (set bits i true)
 notes_member i bits h = record {
   size = length-set bits i true;
-  exact = λ o k.
-    (
-      λ now. ⊎_elim (λ e. inr e) (λ ne. inl (sym (get_or-set_other bits i o true false ne) ∙ now)) (cases_eq o i),
-      λ m.
+  exact = λ o k. (
+    λ now. ⊎_elim (λ e. inr e) (λ ne. inl (sym (get_or-set_other bits i o true false ne) ∙ now)) (cases_eq o i),
+    λ m.
         ⊎_elim
         (λ e. subst (λ j. get_or (set bits i true) j false ≡ true) (sym e) (get_or-set_same bits i true false h))
         (λ ne. get_or-set_other bits i o true false ne ∙ ⊎_elim (λ old. old) (λ e. absurd (ne e)) m) (cases_eq o i),
-    );
+  );
 }
 
 pub members_all : (n : ℕ) (fs : List FieldView) (bits : List Bool) → AreMembers n fs bits → AllByRecursion IsTrue bits ↔ ((o : ℕ) → o < n → HasMember o fs)
-members_all n fs bits are =
-    (
-      λ all o h. (are.exact o h).0 (All-from_recursion IsTrue bits all o false (omega (arith, h, are.size))),
-      λ each. recursion_from_All IsTrue bits (λ k d h. at k d h (each k (omega (arith, h, are.size)))),
-    )
+members_all n fs bits are = (
+  λ all o h. (are.exact o h).0 (All-from_recursion IsTrue bits all o false (omega (arith, h, are.size))),
+  λ each. recursion_from_All IsTrue bits (λ k d h. at k d h (each k (omega (arith, h, are.size)))),
+)
   where
     at : (k : ℕ) (d : Bool) → k < length bits → HasMember k fs → get_or bits k d ≡ true
     at k d h m = defaults bits k d false h ∙ (are.exact k (omega (arith, h, are.size))).1 m

@@ -1,5 +1,5 @@
 -- Which messages are declared in which.
-use Rattle.std.specs.Prelude.{◌≡◌, ◌<◌, ℕ, List, Option, Some, None, slice_get, option_and_then}
+use Rattle.std.specs.Prelude.{◌≡◌, ◌<◌, ℕ, List, Option, Some, slice_get, option_and_then}
 use Rattle.pb_schema.specs.Types.{MessageView}
 
 -- the message that one is declared in directly

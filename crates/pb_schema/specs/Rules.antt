@@ -1,5 +1,5 @@
 -- The rules of a pool (language specification, proto3; descriptor.proto).
-use Rattle.std.specs.Prelude.{◌≡◌, ◌≢◌, ℕ, ◌+◌, ◌^◌, ◌<◌, ◌≤◌, ◌⊎◌, ℤ, pos, List, [], ◌∷◌, length, map, flat_map, Bool, true, false, Option, Some, None, IsTrue, IfSome, IsSomeAnd, Contains, slice_get}
+use Rattle.std.specs.Prelude.{◌≡◌, ◌≢◌, ℕ, ◌+◌, ◌^◌, ◌<◌, ◌≤◌, ◌⊎◌, ℤ, pos, List, [], ◌∷◌, length, map, true, Option, Some, None, IsTrue, IfSome, IsSomeAnd, Contains, slice_get}
 use Rattle.std.specs.List.{AllByRecursion}
 use Rattle.pb_schema.specs.declared.types.Kind.{Kind}
 use Rattle.pb_schema.specs.declared.types.Kind.TheVariants as kind

@@ -13,7 +13,11 @@ use std::alloc::{AllocError, Global};
 fn raised(raise: bool, byte: u8) -> u8
     ensures { result ≡ raised raise byte }
 {
-    if raise { byte.to_ascii_uppercase() } else { byte }
+    if raise {
+        byte.to_ascii_uppercase()
+    } else {
+        byte
+    }
 }
 
 /// The name of the entry message of a map field.
@@ -226,7 +230,12 @@ fn add_enums(
     ensures { OnOk result (Adds (flat_map (λ e. map (in_scope (scope_by_names (map file_view files.now) (bytes_of names.now) e.file e.parent)) (names_of_enum e)) (map enum_view enums.now)) set.old set.new) }
 {
     for entry in enums {
-        add_enum(set, alloc, scope(files, names, entry.file, entry.parent), entry)?;
+        add_enum(
+            set,
+            alloc,
+            scope(files, names, entry.file, entry.parent),
+            entry,
+        )?;
     }
     Ok(())
 }

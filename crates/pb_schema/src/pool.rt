@@ -1,12 +1,9 @@
 //! Pools: types that meet their rules.
 
 use crate::error::PoolError;
-use crate::name_set::NameSet;
-use crate::names::{enum_names, message_names};
-use crate::number_table::{NumberTable, field_at, number_tables};
-use crate::rules::meet_rules;
+use crate::number_table::field_at;
+use crate::tables::{Tables, checked};
 use crate::types::{EnumId, EnumType, Field, FileInfo, MessageId, MessageType};
-use indexmap::IndexSet;
 use std::alloc::Global;
 use std::marker::Model;
 
@@ -16,9 +13,7 @@ pub struct Pool {
     files: Vec<FileInfo>,
     messages: Vec<MessageType>,
     enums: Vec<EnumType>,
-    message_table: IndexSet<Vec<u8>>,
-    enum_table: IndexSet<Vec<u8>>,
-    number_tables: Vec<NumberTable>,
+    tables: Tables,
 }
 
 impl Model for Pool {
@@ -32,7 +27,7 @@ impl Model for Pool {
 
     ghost view = { λ p. types_of p.files.items p.messages.items p.enums.items };
 
-    ghost invariant = { λ p. IsPool (types_of p.files.items p.messages.items p.enums.items) × HasTables (types_of p.files.items p.messages.items p.enums.items) p.message_table.keys p.enum_table.keys p.number_tables.items };
+    ghost invariant = { λ p. IsPool (types_of p.files.items p.messages.items p.enums.items) × HasTables (types_of p.files.items p.messages.items p.enums.items) p.tables.messages.keys p.tables.enums.keys p.tables.numbers.items };
 }
 
 impl Pool {
@@ -58,22 +53,15 @@ impl Pool {
         ensures rules { IfOk result (λ p. IsPool p) }
         ensures refused { IfErr result (λ e. e ≡ BadParts → ¬ IsPool (types_of files.items messages.items enums.items)) }
     {
-        let holds = meet_rules(alloc, &files, &messages, &enums)?;
-        if !holds {
-            return Err(PoolError::BadParts);
+        match checked(alloc, &files, &messages, &enums)? {
+            Some(tables) => Ok(Pool {
+                files,
+                messages,
+                enums,
+                tables,
+            }),
+            None => Err(PoolError::BadParts),
         }
-        let names = message_names(alloc, &files, &messages)?;
-        let enum_table = NameSet::collect(alloc, enum_names(alloc, &files, &names, &enums)?)?;
-        let message_table = NameSet::collect(alloc, names)?;
-        let number_tables = number_tables(alloc, &messages)?;
-        Ok(Pool {
-            files,
-            messages,
-            enums,
-            message_table: message_table.table,
-            enum_table: enum_table.table,
-            number_tables,
-        })
     }
 
     /// The files, in their order.
@@ -105,7 +93,7 @@ impl Pool {
         ensures found { option_map (λ m. m.0) result ≡ place_of name.now (message_names_of self.now) }
         ensures within { IfSome result (λ m. m.0 < length self.now.messages) }
     {
-        match self.message_table.get_index_of(name.as_bytes()) {
+        match self.tables.messages.get_index_of(name.as_bytes()) {
             Some(index) => Some(MessageId(index)),
             None => None,
         }
@@ -116,7 +104,7 @@ impl Pool {
         ensures found { option_map (λ e. e.0) result ≡ place_of name.now (enum_names_of self.now) }
         ensures within { IfSome result (λ e. e.0 < length self.now.enums) }
     {
-        match self.enum_table.get_index_of(name.as_bytes()) {
+        match self.tables.enums.get_index_of(name.as_bytes()) {
             Some(index) => Some(EnumId(index)),
             None => None,
         }
@@ -130,7 +118,7 @@ impl Pool {
     {
         field_at(
             &self.messages[message.0].fields,
-            &self.number_tables[message.0],
+            &self.tables.numbers[message.0],
             number,
         )
     }

@@ -70,37 +70,16 @@ fn schema_t(alloc: Global) -> Result<Parts, AllocError> {
     t.fields.push(field(alloc, "b", 2, Kind::Text, one)?)?;
     t.fields.push(field(alloc, "c", 3, this, Shape::Explicit)?)?;
     t.fields.push(field(alloc, "d", 4, Kind::Double, one)?)?;
-    t.fields.push(field(
-        alloc,
-        "e",
-        6,
-        Kind::Int32,
-        Shape::List { packed: true },
-    )?)?;
-    t.fields.push(field(
-        alloc,
-        "x",
-        7,
-        Kind::Uint32,
-        Shape::OneofMember(0),
-    )?)?;
-    t.fields.push(field(alloc, "y", 8, this, Shape::OneofMember(0))?)?;
-    t.fields.push(field(
-        alloc,
-        "m",
-        9,
-        Kind::Int32,
-        Shape::Map { key: Kind::Text },
-    )?)?;
-    t.fields.push(field(alloc, "p", 10, Kind::Bool, Shape::Explicit)?)?;
+    t.fields.push(field(alloc, "e", 6, Kind::Int32, Shape::List { packed: true })?)?;
+    t.fields
+        .push(field(alloc, "x", 7, Kind::Uint32, Shape::OneofMember(0))?)?;
+    t.fields
+        .push(field(alloc, "y", 8, this, Shape::OneofMember(0))?)?;
+    t.fields.push(field(alloc, "m", 9, Kind::Int32, Shape::Map { key: Kind::Text })?)?;
+    t.fields
+        .push(field(alloc, "p", 10, Kind::Bool, Shape::Explicit)?)?;
     t.fields.push(field(alloc, "s", 11, Kind::Sint32, one)?)?;
-    t.fields.push(field(
-        alloc,
-        "n",
-        12,
-        this,
-        Shape::Map { key: Kind::Uint32 },
-    )?)?;
+    t.fields.push(field(alloc, "n", 12, this, Shape::Map { key: Kind::Uint32 })?)?;
     t.oneofs.push(String::from_str(alloc, "o")?)?;
     let files = vec![in alloc; file(alloc, "t.proto", "")?]?;
     Ok((files, vec![in alloc; t]?, Vec::new(alloc)))
@@ -117,14 +96,18 @@ fn schema_f(alloc: Global) -> Result<Parts, AllocError> {
     f.fields.push(field(alloc, "b", 2, Kind::Text, one)?)?;
     f.fields.push(field(alloc, "d", 4, Kind::Double, one)?)?;
     f.fields.push(field(alloc, "e", 6, Kind::Int32, packed)?)?;
-    f.fields.push(field(alloc, "p", 10, Kind::Bool, Shape::Explicit)?)?;
+    f.fields
+        .push(field(alloc, "p", 10, Kind::Bool, Shape::Explicit)?)?;
     f.fields.push(field(alloc, "s", 11, Kind::Sint32, one)?)?;
     f.fields.push(field(alloc, "u", 13, Kind::Text, unpacked)?)?;
-    f.fields.push(field(alloc, "v", 14, Kind::Sint32, unpacked)?)?;
+    f.fields
+        .push(field(alloc, "v", 14, Kind::Sint32, unpacked)?)?;
     f.fields.push(field(alloc, "w", 15, Kind::Bytes, one)?)?;
     f.fields.push(field(alloc, "g", 16, Kind::Float, one)?)?;
-    f.fields.push(field(alloc, "k", 17, Kind::Enum(EnumId(0)), one)?)?;
-    f.fields.push(field(alloc, "h", 18, Kind::Fixed32, packed)?)?;
+    f.fields
+        .push(field(alloc, "k", 17, Kind::Enum(EnumId(0)), one)?)?;
+    f.fields
+        .push(field(alloc, "h", 18, Kind::Fixed32, packed)?)?;
     let mut e = enumeration(alloc, "E", 0, None, "Z", 0)?;
     e.values.push((String::from_str(alloc, "NEG")?, -1))?;
     let files = vec![in alloc; file(alloc, "f.proto", "")?]?;
@@ -298,7 +281,8 @@ fn parts(alloc: Global, change: u32) -> Result<Parts, AllocError> {
         parent,
     )?;
     let m_kind = Kind::Message(MessageId(0));
-    p.fields.push(field(alloc, "q", 1, m_kind, Shape::Explicit)?)?;
+    p.fields
+        .push(field(alloc, "q", 1, m_kind, Shape::Explicit)?)?;
     let mut messages = vec![in alloc; m, n, p]?;
     match change {
         31 => messages.push(message(alloc, "R", 0, None)?)?,

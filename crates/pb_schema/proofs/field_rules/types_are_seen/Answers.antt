@@ -28,8 +28,7 @@ returns-then-not-in_each_field c =
 pub loop-message-preserved : goal.loop-message-preserved
 loop-message-preserved c =
     let ts = types_of c.args.files.now c.args.messages.now c.args.enums.now in
-    let x = c.message-item.result in
-    (
+    let x = c.message-item.result in (
       goes_on (λ (t : MessageView). AllByRecursion (λ f. TypeIsSeen ts t.file f.kind) t.fields) message_view _ c.args.messages.now c.loop-message.message-index x c.in_each_field.result (iff_trans c.in_each_field.ensures (seen_iff ts c.in_ok-reach.reach.file x.file c.in_ok-reach.reach.reached.items (map field_view x.fields.items) c.in_ok-reach.ensures.file c.in_ok-reach.ensures.reached)) c.loop-message.invariant.0 (omega arith) c.message-item.is c.if-not-in_each_field.false,
       λ _. subst (λ k. AreReached (map file_view c.args.files.now) k c.in_ok-reach.reach.reached.items) (sym c.in_ok-reach.ensures.file) c.in_ok-reach.ensures.reached,
     )

@@ -1,4 +1,4 @@
-use Rattle.std.proofs.Common.{◌+◌, ◌*◌, length, map, vec_len}
+use Rattle.std.proofs.Common.{◌+◌, ◌*◌, map, vec_len}
 use Rattle.pb_schema.specs.View.{file_view}
 use Rattle.pb_schema.specs.Imports.{clear_count}
 use Rattle.pb_schema.proofs.ImportLemmas.{Walk}

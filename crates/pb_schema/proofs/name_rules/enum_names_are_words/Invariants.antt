@@ -1,8 +1,6 @@
-use Rattle.std.proofs.Common.{◌↔◌, map, drop, string_bytes}
-use Rattle.std.specs.List.{AllByRecursion}
-use Rattle.pb_schema.specs.View.{file_view, message_view, enum_view, field_view, bytes_of}
-use Rattle.pb_schema.specs.Names.{names_of_field}
-use Rattle.pb_schema.specs.Rules.{AreWords, MessageNamesAreWords, EnumNamesAreWords, IsFree, NumbersDiffer, OneofsHaveMembers}
+use Rattle.std.proofs.Common.{◌↔◌, map, drop}
+use Rattle.pb_schema.specs.View.{enum_view}
+use Rattle.pb_schema.specs.Rules.{EnumNamesAreWords}
 use Rattle.pb_schema.proofs.name_rules.enum_names_are_words.Given as goal
 
 abbrev pub invariant-loop-entry : goal.invariant-loop-entry

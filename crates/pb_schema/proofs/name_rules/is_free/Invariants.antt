@@ -1,8 +1,6 @@
-use Rattle.std.proofs.Common.{◌↔◌, map, drop, string_bytes}
+use Rattle.std.proofs.Common.{◌↔◌, drop}
 use Rattle.std.specs.List.{AllByRecursion}
-use Rattle.pb_schema.specs.View.{file_view, message_view, enum_view, field_view, bytes_of}
-use Rattle.pb_schema.specs.Names.{names_of_field}
-use Rattle.pb_schema.specs.Rules.{AreWords, MessageNamesAreWords, EnumNamesAreWords, IsFree, NumbersDiffer, OneofsHaveMembers}
+use Rattle.pb_schema.specs.View.{bytes_of}
 use Rattle.std.proofs.Common.{[], take, Contains}
 use Rattle.pb_schema.specs.Names.{fronts_from}
 use Rattle.pb_schema.proofs.name_rules.is_free.Given as goal

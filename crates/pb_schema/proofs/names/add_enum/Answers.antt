@@ -1,4 +1,4 @@
-use Rattle.std.proofs.Common.{ℤ, List, [], ◌∷◌, ◌++◌, String, Global, ◌∙◌, map, ap, sym, subst, string_bytes}
+use Rattle.std.proofs.Common.{ℤ, List, [], ◌∷◌, String, Global, ◌∙◌, map, sym, subst, string_bytes}
 use Rattle.pb_schema.specs.Names.{in_scope}
 use Rattle.pb_schema.specs.NameSet.{Adds}
 use Rattle.pb_schema.proofs.NameSetLemmas.{Adds-append}

@@ -1,4 +1,4 @@
-use Rattle.std.proofs.Common.{ℤ, String, Global, [], ◌∷◌, map, take, string_bytes}
+use Rattle.std.proofs.Common.{map, take}
 use Rattle.std.specs.List.{flat_map}
 use Rattle.pb_schema.specs.View.{field_view}
 use Rattle.pb_schema.specs.Names.{in_scope, names_of_field}

@@ -1,10 +1,10 @@
-use Rattle.std.proofs.Common.{◌≡◌, ℕ, Vec, Global, ◌∷◌, ◌∙◌, sym, map, ap, subst, arith, length}
+use Rattle.std.proofs.Common.{◌≡◌, ℕ, Vec, Global, ◌∷◌, ◌∙◌, sym, map, ap, subst, arith}
 use Rattle.std.proofs.lemmas.List.{length-map}
 use Rattle.pb_schema.specs.declared.types.MessageType.{MessageType}
 use Rattle.pb_schema.specs.View.{file_view, message_view}
 use Rattle.pb_schema.specs.Names.{in_scope, message_name, names_in_message, declared_by_message}
 use Rattle.pb_schema.specs.NameSet.{Adds}
-use Rattle.pb_schema.proofs.AddLemmas.{adds_more, added_all, name_is, get_or-map, same_length}
+use Rattle.pb_schema.proofs.AddLemmas.{adds_more, added_all, name_is, get_or-map}
 use Rattle.pb_schema.proofs.names.add_messages.Goals as goal
 
 pub loop-index-preserved : goal.loop-index-preserved

@@ -1,7 +1,6 @@
-use Rattle.std.proofs.Common.{ℤ, String, Global, [], ◌∷◌, map, take, string_bytes}
+use Rattle.std.proofs.Common.{[], ◌∷◌, take, string_bytes}
 use Rattle.std.specs.List.{flat_map}
-use Rattle.pb_schema.specs.View.{field_view}
-use Rattle.pb_schema.specs.Names.{in_scope, names_of_field}
+use Rattle.pb_schema.specs.Names.{in_scope}
 use Rattle.pb_schema.specs.NameSet.{Adds}
 use Rattle.pb_schema.proofs.names.add_values.Given as goal
 

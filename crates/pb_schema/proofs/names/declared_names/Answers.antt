@@ -1,4 +1,4 @@
-use Rattle.std.proofs.Common.{[], map, length, subst, sym}
+use Rattle.std.proofs.Common.{[], map, subst, sym}
 use Rattle.std.proofs.lemmas.List.{length-map}
 use Rattle.pb_schema.specs.View.{file_view, message_view, enum_view, bytes_of}
 use Rattle.pb_schema.specs.Nesting.{ParentsStandBefore}

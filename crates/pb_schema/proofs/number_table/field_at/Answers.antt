@@ -1,5 +1,4 @@
-use Rattle.std.proofs.Common.{◌≡◌, ◌∙◌, sym, map, ap, arith, Some}
-use Rattle.std.specs.Prelude.{slice_get}
+use Rattle.std.proofs.Common.{sym, map}
 use Rattle.pb_schema.specs.View.{field_view}
 use Rattle.pb_schema.proofs.LookupLemmas.{get_map, found_at, found_none, found_place, place_read}
 use Rattle.pb_schema.proofs.number_table.field_at.Goals as goal

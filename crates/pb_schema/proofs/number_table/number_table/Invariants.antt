@@ -1,5 +1,4 @@
-use Rattle.std.proofs.Common.{◌≡◌, ℕ, ◌<◌, length, get_or, take}
-use Rattle.pb_schema.specs.View.{field_view}
+use Rattle.std.proofs.Common.{◌≡◌, take}
 use Rattle.pb_schema.proofs.NumberLemmas.{entries_from}
 use Rattle.pb_schema.proofs.number_table.number_table.Given as goal
 

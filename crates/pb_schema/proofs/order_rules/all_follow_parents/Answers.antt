@@ -1,4 +1,4 @@
-use Rattle.std.proofs.Common.{map, length, ◌≤◌, refl, arith}
+use Rattle.std.proofs.Common.{map, refl, arith}
 use Rattle.std.proofs.lemmas.List.{length-map}
 use Rattle.pb_schema.specs.View.{message_view}
 use Rattle.pb_schema.proofs.OrderLemmas.{parents_before, follow_all}

@@ -1,7 +1,7 @@
 use Rattle.std.proofs.Common.{map, arith}
 use Rattle.pb_schema.specs.View.{message_view, enum_view}
 use Rattle.pb_schema.specs.Rules.{StandsBefore}
-use Rattle.pb_schema.proofs.OrderLemmas.{pair_stops, pair_goes_on, pairs_end}
+use Rattle.pb_schema.proofs.OrderLemmas.{pair_goes_on, pairs_end}
 use Rattle.pb_schema.proofs.order_rules.enums_stand_in_order.Goals as goal
 
 pub loop-next-preserved : goal.loop-next-preserved

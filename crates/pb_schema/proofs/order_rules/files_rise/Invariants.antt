@@ -1,5 +1,5 @@
 use Rattle.std.proofs.Common.{◌↔◌, ◌-◌, map, drop}
-use Rattle.pb_schema.specs.View.{message_view, enum_view}
+use Rattle.pb_schema.specs.View.{message_view}
 use Rattle.pb_schema.specs.Rules.{FilesRise}
 use Rattle.pb_schema.proofs.order_rules.files_rise.Given as goal
 
