@@ -1,0 +1,98 @@
+-- Worked rows of the definitions.
+use Rattle.std.proofs.Common.{◌≡◌, ℕ, [], ◌∷◌, pos, negsuc, true, false, Some, None, refl, map}
+use Rattle.pb_wire.specs.Schema as wire
+use Rattle.pb_wire.specs.Record.{varint, len, group, no_more, fixed32}
+use Rattle.pb_schema.specs.declared.types.Kind.TheVariants as kind
+use Rattle.pb_schema.specs.Scalar.{int32, uint32, boolean, enum, text}
+use Rattle.pb_schema.specs.Kinds.{read, written}
+use Rattle.pb_schema.specs.Packed.{elements}
+use Rattle.pb_schema.specs.Fits.{fits, unfitting}
+use Rattle.pb_schema.specs.Context.{Context, a_message, an_entry, unknown_group, schema_of}
+use Rattle.pb_schema.specs.Types.{message_fields}
+use Rattle.pb_schema.proofs.Samples.{pool_t, e_field, v_field, the_message}
+
+-- fe ff ff ff 0f is the int32 -2, which is written as 2 ^ 64 - 2, in ten bytes
+minus_two-read : read kind.Int32 (varint 0xfffffffe) ≡ Some (int32 (negsuc 1))
+minus_two-read = refl
+
+minus_two-written : written kind.Int32 (int32 (negsuc 1)) ≡ varint 18446744073709551614
+minus_two-written = refl
+
+-- the low 32 bits of ff ff ff ff 1f, and then ZigZag undone
+sint32-read : read kind.Sint32 (varint 0x1ffffffff) ≡ Some (int32 (negsuc 2147483647))
+sint32-read = refl
+
+sint32-written : written kind.Sint32 (int32 (negsuc 2147483647)) ≡ varint 0xffffffff
+sint32-written = refl
+
+-- true for every number but 0
+bool-read : read kind.Bool (varint 0x100000000) ≡ Some (boolean true)
+bool-read = refl
+
+enum-read : read (kind.Enum (record { 0 = 0 })) (varint 0xffffffff) ≡ Some (enum (negsuc 0))
+enum-read = refl
+
+-- a wire type that is not the kind's
+fixed32-of-int32 : read kind.Int32 (fixed32 5) ≡ None
+fixed32-of-int32 = refl
+
+-- 03 8e 02 9e a7 05 in a packed list, and 01 as a record of its own
+e-packed : elements kind.Int32 (len (0x03 ∷ 0x8e ∷ 0x02 ∷ 0x9e ∷ 0xa7 ∷ 0x05 ∷ [])) ≡ int32 (pos 3) ∷ int32 (pos 270) ∷ int32 (pos 86942) ∷ []
+e-packed = refl
+
+e-unpacked : elements kind.Int32 (varint 1) ≡ int32 (pos 1) ∷ []
+e-unpacked = refl
+
+v-packed : elements kind.Sint32 (len (0x01 ∷ 0x02 ∷ [])) ≡ int32 (negsuc 0) ∷ int32 (pos 1) ∷ []
+v-packed = refl
+
+h-packed : elements kind.Fixed32 (len (0x01 ∷ 0x00 ∷ 0x00 ∷ 0x80 ∷ 0x02 ∷ 0x00 ∷ 0x00 ∷ 0x00 ∷ [])) ≡ uint32 0x80000001 ∷ uint32 2 ∷ []
+h-packed = refl
+
+-- a text is one element
+u-element : elements kind.Text (len (0x78 ∷ [])) ≡ text (0x78 ∷ []) ∷ []
+u-element = refl
+
+-- packed and unpacked records fit a list, also one that is written unpacked; four bytes do not
+e-fits : map (fits e_field) (record { number = 6; payload = varint 1 } ∷ record { number = 6; payload = len [] } ∷ record { number = 6; payload = fixed32 1 } ∷ []) ≡ true ∷ true ∷ false ∷ []
+e-fits = refl
+
+v-fits : fits v_field (record { number = 14; payload = len [] }) ≡ true
+v-fits = refl
+
+-- 0a 01 41: a known number of a wire type that does not fit is unknown, and so is a group
+unknown-records : unfitting (message_fields pool_t 0) (record { number = 1; payload = len (0x41 ∷ []) } ∷ record { number = 1; payload = varint 5 } ∷ record { number = 20; payload = group no_more } ∷ record { number = 9; payload = varint 1 } ∷ []) ≡ record { number = 1; payload = len (0x41 ∷ []) } ∷ record { number = 20; payload = group no_more } ∷ record { number = 9; payload = varint 1 } ∷ []
+unknown-records = refl
+
+abbrev reading : Context → ℕ → wire.Reading Context
+reading = (schema_of pool_t).reading
+
+-- an L record that does not fit is not looked into
+a-reading : reading (a_message 0) 1 ≡ wire.unread
+a-reading = refl
+
+b-reading : reading (a_message 0) 2 ≡ wire.text
+b-reading = refl
+
+c-reading : reading (a_message 0) 3 ≡ wire.message (a_message 0)
+c-reading = refl
+
+e-reading : reading (a_message 0) 6 ≡ wire.packed wire.a_varint
+e-reading = refl
+
+-- an entry is one level down, and its message value at the entry's level
+n-reading : reading (a_message 0) 12 ≡ wire.message (an_entry kind.Uint32 the_message)
+n-reading = refl
+
+n-value-reading : reading (an_entry kind.Uint32 the_message) 2 ≡ wire.same_level (a_message 0)
+n-value-reading = refl
+
+m-key-reading : reading (an_entry kind.Text kind.Int32) 1 ≡ wire.text
+m-key-reading = refl
+
+-- no number 3 in an entry, and nothing known in a group
+entry-unknown : reading (an_entry kind.Text kind.Int32) 3 ≡ wire.unread
+entry-unknown = refl
+
+group-unknown : reading unknown_group 2 ≡ wire.unread
+group-unknown = refl

@@ -1,0 +1,68 @@
+-- What a pool says of records inside messages, map entries and unknown groups: the instance for the rules of soundness and of faults.
+use Rattle.std.specs.Prelude.{ℕ, List, [], ◌∷◌, Option, Some, None, ◌==◌, if◌then◌else◌}
+use Rattle.pb_wire.specs.Schema as wire
+use Rattle.pb_wire.specs.Schema.{Schema, Element, a_varint, four_bytes, eight_bytes, Reading}
+use Rattle.pb_schema.specs.declared.types.Kind.{Kind}
+use Rattle.pb_schema.specs.declared.types.Kind.TheVariants as kind
+use Rattle.pb_schema.specs.declared.types.Shape.{Shape}
+use Rattle.pb_schema.specs.declared.types.Shape.TheVariants as shape
+use Rattle.pb_schema.specs.Types.{FieldView, Types, message_fields, field_numbered}
+use Rattle.pb_schema.specs.Kinds.{wire_type_of}
+
+-- what records stand in: a message of a type, a map entry with these kinds of key and value, or a group that no schema knows
+pub data Context : Type 0 where
+  a_message : ℕ → Context
+  an_entry : Kind → Kind → Context
+  unknown_group : Context
+
+-- the fields of a map entry
+abbrev pub entry_field : ℕ → Kind → FieldView
+entry_field n k = record { name = []; number = n; kind = k; shape = shape.Explicit }
+
+abbrev pub key_field : Kind → FieldView
+key_field k = entry_field 1 k
+
+abbrev pub value_field : Kind → FieldView
+value_field k = entry_field 2 k
+
+abbrev pub fields_in : Types → Context → List FieldView
+fields_in pool (a_message m) = message_fields pool m
+fields_in pool (an_entry key value) = key_field key ∷ value_field value ∷ []
+fields_in pool unknown_group = []
+
+-- one element of a packed list of a kind
+abbrev pub element_of : Kind → Element
+element_of k = of_wire_type (wire_type_of k)
+  where
+    of_wire_type : ℕ → Element
+    of_wire_type w = if w == 0 then a_varint else (if w == 1 then eight_bytes else four_bytes)
+
+-- a message value of a map entry is at the entry's level
+abbrev pub message_in : Context → ℕ → Reading Context
+message_in (an_entry key value) m = wire.same_level (a_message m)
+message_in c m = wire.message (a_message m)
+
+-- how an L record of a field is read: one that doesn't fit isn't looked into
+abbrev pub read_singular : Context → Kind → Reading Context
+read_singular c kind.Text = wire.text
+read_singular c (kind.Message m) = message_in c m.0
+read_singular c _ = wire.unread
+
+abbrev pub read_listed : Context → Kind → Reading Context
+read_listed c kind.Text = wire.text
+read_listed c kind.Bytes = wire.unread
+read_listed c (kind.Message m) = message_in c m.0
+read_listed c k = wire.packed (element_of k)
+
+abbrev pub read_shaped : Context → Shape → Kind → Reading Context
+read_shaped c (shape.Map key) k = wire.message (an_entry key k)
+read_shaped c (shape.List _) k = read_listed c k
+read_shaped c _ k = read_singular c k
+
+abbrev pub read_field : Context → Option FieldView → Reading Context
+read_field c None = wire.unread
+read_field c (Some f) = read_shaped c f.shape f.kind
+
+-- the rules of a pool
+abbrev pub schema_of : Types → Schema
+schema_of pool = record { Context = Context; reading = λ c n. read_field c (field_numbered n (fields_in pool c)); group_context = λ c n. unknown_group }

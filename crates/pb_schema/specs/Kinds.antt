@@ -1,0 +1,123 @@
+-- The table of kinds: how each is sent, read and written (encoding guide, "Scalar Value Types", "Signed Integers", "Bools and Enums").
+use Rattle.std.specs.Prelude.{ℕ, pos, ◌<◌, ◌%◌, ◌^◌, [], Bool, true, false, not, cond, ◌==◌, Option, Some, None, IsUtf8, FitsSigned}
+use Rattle.std.specs.List.{AllByRecursion}
+use Rattle.std.specs.Int.{cast_signed, cast_unsigned, w32, w64}
+use Rattle.pb_wire.specs.Record.{Payload, varint, fixed64, len, fixed32}
+use Rattle.pb_wire.specs.Ranges.{IsByte}
+use Rattle.pb_wire.specs.Zigzag.{zigzag, unzigzag}
+use Rattle.pb_schema.specs.declared.types.Kind.{Kind}
+use Rattle.pb_schema.specs.declared.types.Kind.TheVariants as kind
+use Rattle.pb_schema.specs.Scalar.{Scalar, int32, int64, uint32, uint64, boolean, float, double, enum, text, bytes}
+
+-- the wire type of a kind: 0 for a varint, 1 for eight bytes, 2 for a length and bytes, 5 for four bytes
+abbrev pub wire_type_of : Kind → ℕ
+wire_type_of kind.Double = 1
+wire_type_of kind.Float = 5
+wire_type_of kind.Fixed64 = 1
+wire_type_of kind.Fixed32 = 5
+wire_type_of kind.Text = 2
+wire_type_of kind.Bytes = 2
+wire_type_of kind.Sfixed32 = 5
+wire_type_of kind.Sfixed64 = 1
+wire_type_of (kind.Message _) = 2
+wire_type_of _ = 0
+
+-- every kind but text, bytes and messages may stand in a packed list
+abbrev pub is_packable : Kind → Bool
+is_packable k = not (wire_type_of k == 2)
+
+-- an integer, a bool or a text may be a map's key
+abbrev pub is_key_kind : Kind → Bool
+is_key_kind kind.Double = false
+is_key_kind kind.Float = false
+is_key_kind kind.Bytes = false
+is_key_kind (kind.Enum _) = false
+is_key_kind (kind.Message _) = false
+is_key_kind _ = true
+
+-- the message type of a kind
+abbrev pub message_of_kind : Kind → Option ℕ
+message_of_kind (kind.Message m) = Some m.0
+message_of_kind _ = None
+
+-- The value that a payload of a kind stands for. An int32, uint32, sint32 or enum has the low 32 bits of the number, and ZigZag is
+-- undone after that; a bool is true for every other number than 0; a float or double stays its bits.
+abbrev pub read : Kind → Payload → Option Scalar
+read kind.Int32 (varint n) = Some (int32 (cast_signed w32 (n % 2 ^ 32)))
+read kind.Int64 (varint n) = Some (int64 (cast_signed w64 n))
+read kind.Uint32 (varint n) = Some (uint32 (n % 2 ^ 32))
+read kind.Uint64 (varint n) = Some (uint64 n)
+read kind.Sint32 (varint n) = Some (int32 (unzigzag (n % 2 ^ 32)))
+read kind.Sint64 (varint n) = Some (int64 (unzigzag n))
+read kind.Bool (varint n) = Some (boolean (not (n == 0)))
+read (kind.Enum _) (varint n) = Some (enum (cast_signed w32 (n % 2 ^ 32)))
+read kind.Fixed64 (fixed64 n) = Some (uint64 n)
+read kind.Sfixed64 (fixed64 n) = Some (int64 (cast_signed w64 n))
+read kind.Double (fixed64 n) = Some (double n)
+read kind.Fixed32 (fixed32 n) = Some (uint32 n)
+read kind.Sfixed32 (fixed32 n) = Some (int32 (cast_signed w32 n))
+read kind.Float (fixed32 n) = Some (float n)
+read kind.Text (len s) = Some (text s)
+read kind.Bytes (len s) = Some (bytes s)
+read _ _ = None
+
+-- The payload that a value is written as; a negative int32 or enum as all 64 bits of its two's complement. What is no value of the kind has none,
+-- and the number 0 stands in its place.
+abbrev pub written : Kind → Scalar → Payload
+written kind.Int32 (int32 z) = varint (cast_unsigned w64 z)
+written kind.Int64 (int64 z) = varint (cast_unsigned w64 z)
+written kind.Uint32 (uint32 n) = varint n
+written kind.Uint64 (uint64 n) = varint n
+written kind.Sint32 (int32 z) = varint (zigzag z)
+written kind.Sint64 (int64 z) = varint (zigzag z)
+written kind.Bool (boolean b) = varint (cond b 1 0)
+written (kind.Enum _) (enum z) = varint (cast_unsigned w64 z)
+written kind.Fixed64 (uint64 n) = fixed64 n
+written kind.Sfixed64 (int64 z) = fixed64 (cast_unsigned w64 z)
+written kind.Double (double n) = fixed64 n
+written kind.Fixed32 (uint32 n) = fixed32 n
+written kind.Sfixed32 (int32 z) = fixed32 (cast_unsigned w32 z)
+written kind.Float (float n) = fixed32 n
+written kind.Text (text s) = len s
+written kind.Bytes (bytes s) = len s
+written _ _ = varint 0
+
+-- the value is of the kind, and in the kind's range
+abbrev pub IsOfKind : Kind → Scalar → Type 0
+IsOfKind kind.Int32 (int32 z) = FitsSigned w32 z
+IsOfKind kind.Int64 (int64 z) = FitsSigned w64 z
+IsOfKind kind.Uint32 (uint32 n) = n < 2 ^ 32
+IsOfKind kind.Uint64 (uint64 n) = n < 2 ^ 64
+IsOfKind kind.Sint32 (int32 z) = FitsSigned w32 z
+IsOfKind kind.Sint64 (int64 z) = FitsSigned w64 z
+IsOfKind kind.Bool (boolean b) = Unit {0}
+IsOfKind (kind.Enum _) (enum z) = FitsSigned w32 z
+IsOfKind kind.Fixed64 (uint64 n) = n < 2 ^ 64
+IsOfKind kind.Sfixed64 (int64 z) = FitsSigned w64 z
+IsOfKind kind.Double (double n) = n < 2 ^ 64
+IsOfKind kind.Fixed32 (uint32 n) = n < 2 ^ 32
+IsOfKind kind.Sfixed32 (int32 z) = FitsSigned w32 z
+IsOfKind kind.Float (float n) = n < 2 ^ 32
+IsOfKind kind.Text (text s) = IsUtf8 s
+IsOfKind kind.Bytes (bytes s) = AllByRecursion IsByte s
+IsOfKind _ _ = ⊥
+
+-- the default of a kind; a message has none, and no bytes stand in its place
+abbrev pub default_of : Kind → Scalar
+default_of kind.Double = double 0
+default_of kind.Float = float 0
+default_of kind.Int64 = int64 (pos 0)
+default_of kind.Uint64 = uint64 0
+default_of kind.Int32 = int32 (pos 0)
+default_of kind.Fixed64 = uint64 0
+default_of kind.Fixed32 = uint32 0
+default_of kind.Bool = boolean false
+default_of kind.Text = text []
+default_of kind.Bytes = bytes []
+default_of kind.Uint32 = uint32 0
+default_of kind.Sfixed32 = int32 (pos 0)
+default_of kind.Sfixed64 = int64 (pos 0)
+default_of kind.Sint32 = int32 (pos 0)
+default_of kind.Sint64 = int64 (pos 0)
+default_of (kind.Enum _) = enum (pos 0)
+default_of (kind.Message _) = bytes []

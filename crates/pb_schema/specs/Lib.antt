@@ -1,0 +1,17 @@
+pub mod Types
+pub mod View
+pub mod Scalar
+pub mod Kinds
+pub mod Packed
+pub mod Fits
+pub mod Context
+pub mod ReadBack
+pub mod PayloadView
+pub mod Names
+pub mod Imports
+pub mod Nesting
+pub mod Rules
+pub mod NameSet
+pub mod Marks
+pub mod ErrorNumber
+pub mod Tables
