@@ -1,6 +1,6 @@
 -- Each place, frame and text is read whole, or has one fault.
 use Rattle.pb_wire.specs.Record.{Record}
-use Rattle.std.specs.Prelude.{Result, Ok, Err, IfOk, IfErr, MatchResult}
+use Rattle.std.specs.Prelude.{Result, Ok, Err, IfOk, IfErr, MatchResult, IsErrAnd}
 use Rattle.pb_wire.specs.Reading.{IfRawFault}
 use Rattle.pb_wire.specs.declared.fault.RawError.{RawError}
 use Rattle.pb_wire.specs.declared.fault.RawError.TheVariants as raw
@@ -14,7 +14,10 @@ use Rattle.pb_wire.specs.Schema.{Schema, Open, records}
 use Rattle.pb_wire.specs.Limits.{Bounds}
 use Rattle.pb_wire.specs.Grammar.{Whole, Bad, IsText, HasFault, beyond}
 use Rattle.pb_wire.specs.declared.fault.Cause.TheVariants.{InputTooLarge}
-use Rattle.pb_wire.specs.Exact.{IsByte, IsOver, IsRead, Exactly, ending_at, IsFrame, IsSomeText}
+use Rattle.pb_wire.specs.Ranges.{IsByte, AreBytes, AreInRange}
+use Rattle.pb_wire.specs.Writable.{AreWritable}
+use Rattle.pb_wire.proofs.RangeLemmas.{spelled_in_range, spelled_writable}
+use Rattle.pb_wire.specs.Exact.{IsOver, IsRead, Exactly, ending_at, IsFrame, IsSomeText}
 use Rattle.pb_wire.proofs.Places.{after, moves_after}
 use Rattle.pb_wire.proofs.OneFault.{not_both, one_fault}
 use Rattle.pb_wire.proofs.Total.{read_or_fault}
@@ -131,16 +134,30 @@ exactly S c limits b bytes = record {
 pub text_answered :
     {V : Type 0} (S : Schema) (c : S.Context) (limits : Bounds) (b : List ℕ) (of : V → List Record) (r : Result V RawError)
     → IfOk r (λ v. IsText S c limits b (of v)) → IfErr r (λ e. IfRawFault e (HasFault S c limits b)) → (rs : List Record) → IsText S c limits b rs
-    → MatchResult r (λ v. of v ≡ rs) (λ e. IfRawFault e (λ f. ⊥))
+    → MatchResult r (λ v. of v ≡ rs) (λ e. e ≡ raw.Memory)
 text_answered S c limits b of (Ok v) ok fault rs t = same_records (of v) rs b ok.spelled t.spelled
-text_answered S c limits b of (Err raw.Memory) ok fault rs t = tt
-text_answered S c limits b of (Err (raw.Fault byte path cause)) ok fault rs t = text_not_both fault (rs, t)
+text_answered S c limits b of (Err raw.Memory) ok fault rs t = refl
+text_answered S c limits b of (Err (raw.Fault byte path cause)) ok fault rs t = absurd (text_not_both fault (rs, t))
 
 -- a fault is answered
 pub fault_answered :
     {V : Type 0} (S : Schema) (c : S.Context) (limits : Bounds) (b : List ℕ) (of : V → List Record) (r : Result V RawError)
     → IfOk r (λ v. IsText S c limits b (of v)) → IfErr r (λ e. IfRawFault e (HasFault S c limits b)) → (f : Fault) → HasFault S c limits b f
-    → MatchResult r (λ v. ⊥) (λ e. IfRawFault e (λ g. g ≡ f))
+    → IsErrAnd r (λ e. IfRawFault e (λ g. g ≡ f))
 fault_answered S c limits b of (Ok v) ok fault f t = text_not_both t (of v, ok)
 fault_answered S c limits b of (Err raw.Memory) ok fault f t = tt
 fault_answered S c limits b of (Err (raw.Fault byte path cause)) ok fault f t = one_text_fault fault t
+
+-- what is read is in range
+pub text_in_range :
+    {V : Type 0} (S : Schema) (c : S.Context) (limits : Bounds) (b : List ℕ) (of : V → List Record) (r : Result V RawError) → AreBytes b
+    → IfOk r (λ v. IsText S c limits b (of v)) → IfOk r (λ v. AreInRange (of v))
+text_in_range S c limits b of (Ok v) bytes ok = spelled_in_range (of v) b ok.spelled bytes
+text_in_range S c limits b of (Err e) bytes ok = tt
+
+-- what is read can be written
+pub text_writable :
+    {V : Type 0} (S : Schema) (c : S.Context) (limits : Bounds) (b : List ℕ) (of : V → List Record) (r : Result V RawError)
+    → IfOk r (λ v. IsText S c limits b (of v)) → IfOk r (λ v. AreWritable (of v))
+text_writable S c limits b of (Ok v) ok = spelled_writable (of v) b ok.spelled
+text_writable S c limits b of (Err e) ok = tt

@@ -11,5 +11,9 @@ pub mod OneFault
 pub mod Total
 pub mod ExactLemmas
 pub mod Longer
-pub mod CutAtEnd
+pub mod FaultBounds
 pub mod Transfers
+pub mod ShortestLemmas
+pub mod DepthLemmas
+pub mod RangeLemmas
+mod Rows

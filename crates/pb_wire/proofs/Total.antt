@@ -15,7 +15,8 @@ use Rattle.pb_wire.specs.Fault.{Fault, fault, inside, Place, input_end, Moves, R
 use Rattle.pb_wire.specs.Schema.{Schema, Element, Reading, unread, text, message, same_level, packed, Open, records, in_group, context_of, open_group}
 use Rattle.pb_wire.specs.Sound.{Sound, AllSound}
 use Rattle.pb_wire.specs.Grammar.{Whole, Begins, payload_at, Bad, RecordFault, BadElements, IsAllowed}
-use Rattle.pb_wire.specs.Exact.{IsByte, IsOver, IsRead}
+use Rattle.pb_wire.specs.Ranges.{IsByte}
+use Rattle.pb_wire.specs.Exact.{IsOver, IsRead}
 use Rattle.pb_wire.specs.declared.fault.Cause.TheVariants.{Truncated, PastEnd, TooDeep, BadText}
 use Rattle.pb_wire.proofs.ReadingLemmas.{moves_both, SpellsGroup-from_records}
 use Rattle.pb_wire.proofs.Places.{after, moves_after, moves_nothing, fewer}

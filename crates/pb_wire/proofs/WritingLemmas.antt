@@ -4,7 +4,8 @@ use Rattle.std.proofs.lemmas.List.{take_more, drop_more}
 use Rattle.pb_wire.specs.declared.unknown.Unknown.{Unknown}
 use Rattle.pb_wire.specs.Record.{Record}
 use Rattle.pb_wire.specs.Spell.{shortest_record, shortest_records}
-use Rattle.pb_wire.specs.Writable.{IsNumber, IsWritable, AreWritable, IsWritableGroup}
+use Rattle.pb_wire.specs.Ranges.{IsNumber, IsInRange, IsInRangeGroup, AreInRange}
+use Rattle.pb_wire.specs.Writable.{IsWritable, AreWritable, IsWritableGroup}
 use Rattle.pb_wire.specs.Record.{group_of}
 use Rattle.pb_wire.specs.Unknown.{payload_of, records_of}
 use Rattle.pb_wire.proofs.UnknownLemmas.{records_of-push}
@@ -25,6 +26,16 @@ pub writable_more :
     → IsNumber (get_or xs i d).0 × IsWritable (payload_of (get_or xs i d).1) → AreWritable (records_of (take (i + 1) xs))
 writable_more xs i d h w one =
     rw (take_more xs i d h, records_of-push (take i xs) (get_or xs i d)) (AreWritable-push (records_of (take i xs)) _ w one.0 one.1)
+
+AreInRange-push : (rs : List Record) (r : Record) → AreInRange rs → IsInRange r.payload → AreInRange (rs ++ r ∷ [])
+AreInRange-push [] r h one = (one, tt)
+AreInRange-push (q ∷ rs) r h one = (h.0, AreInRange-push rs r h.1 one)
+
+pub in_range_more :
+    (xs : List (ℕ × Unknown)) (i : ℕ) (d : ℕ × Unknown) → i < length xs → AreInRange (records_of (take i xs))
+    → IsInRange (payload_of (get_or xs i d).1) → AreInRange (records_of (take (i + 1) xs))
+in_range_more xs i d h ranges one =
+    rw (take_more xs i d h, records_of-push (take i xs) (get_or xs i d)) (AreInRange-push (records_of (take i xs)) _ ranges one)
 
 pub written_more :
     (xs : List (ℕ × Unknown)) (i : ℕ) (d : ℕ × Unknown) (old mid new : List ℕ) → i < length xs
@@ -48,3 +59,7 @@ pub wrote_three :
 wrote_three a b c d p q r e f g =
     ap (λ (z : List ℕ). z ++ d) (append_assoc a b c) ∙ append_assoc a (b ++ c) d
     ∙ ap (λ (z : List ℕ). a ++ ((z ++ c) ++ d)) e ∙ ap (λ (z : List ℕ). a ++ ((p ++ z) ++ d)) f ∙ ap (λ (z : List ℕ). a ++ ((p ++ q) ++ z)) g
+
+pub in_range_group : (rs : List Record) → AreInRange rs → IsInRangeGroup (group_of rs)
+in_range_group [] h = tt
+in_range_group (r ∷ rs) h = (h.0, in_range_group rs h.1)

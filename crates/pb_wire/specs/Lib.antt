@@ -1,5 +1,6 @@
 pub mod Varint
 pub mod Record
+pub mod Ranges
 pub mod Spell
 pub mod Fault
 pub mod Schema

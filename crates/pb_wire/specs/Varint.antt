@@ -21,7 +21,7 @@ pub record IsVarint (n : ℕ) (b : List ℕ) : Type 0 where
 -- the shortest spelling, of at most this many bytes and one
 unfoldable pub shortest_within : ℕ → ℕ → List ℕ
 shortest_within zero n = n ∷ []
-shortest_within (suc k) n = if nat_lt n 128 then n ∷ [] else (n % 128 + 128) ∷ shortest_within k (n / 128)
+shortest_within (suc k) n = let longer = (n % 128 + 128) ∷ shortest_within k (n / 128) in if nat_lt n 128 then n ∷ [] else longer
 
 -- the shortest spelling
 unfoldable pub shortest : ℕ → List ℕ

@@ -1,19 +1,21 @@
 //! Laws of the spellings.
 
-ghost use Rattle.std.specs.Prelude.{◌≡◌, ◌++◌, ◌≢◌, ◌⊎◌, ℕ, List, All, None};
-ghost use Rattle.pb_wire.specs.Exact.{IsByte, IsRead, Exactly, IsFrame, ending_at, IsSomeText, schema, longer, IsCut};
+ghost use Rattle.std.specs.Prelude.{◌≡◌, ◌++◌, ◌≢◌, ◌≤◌, ◌⊎◌, ℕ, List, length, All, None};
+ghost use Rattle.pb_wire.specs.Ranges.{IsByte, AreInRange};
+ghost use Rattle.pb_wire.specs.Exact.{IsRead, Exactly, IsFrame, ending_at, IsSomeText, schema, longer, IsCut};
 ghost use Rattle.pb_wire.specs.Fault.{Fault, Place, input_end};
 ghost use Rattle.pb_wire.specs.Grammar.{Bad, HasFault};
 ghost use Rattle.pb_wire.specs.declared.fault.Cause.TheVariants.{InputTooLarge};
 ghost use Rattle.pb_wire.specs.Limits.{Bounds};
 ghost use Rattle.pb_wire.specs.Schema.{Reading, Open, records, open_group};
 ghost use Rattle.pb_wire.specs.Record.{Record};
-ghost use Rattle.pb_wire.specs.Spell.{Spells, AreRecords};
+ghost use Rattle.pb_wire.specs.Spell.{AreRecords, shortest_records};
+ghost use Rattle.pb_wire.specs.Writable.{AreWritable};
 
-/// No spelling begins another, so a text has at most one list of records.
-pub fn one_reading()
-    ensures front { (r s : Record) (a b x y : List ℕ) → Spells r a → Spells s b → a ++ x ≡ b ++ y → (r ≡ s) × (a ≡ b) }
-    ensures whole { (rs ss : List Record) (b : List ℕ) → AreRecords rs b → AreRecords ss b → rs ≡ ss }
+/// The shortest spelling of records that can be written is a spelling of them, and no other spelling is shorter.
+pub fn shortest_spelling()
+    ensures spells { (rs : List Record) → AreInRange rs → AreWritable rs → AreRecords rs (shortest_records rs) }
+    ensures least { (rs : List Record) (b : List ℕ) → AreRecords rs b → length (shortest_records rs) ≤ length b }
 {}
 
 /// Every place is read whole, or has exactly one fault; so has every frame, and every text within its limits.
@@ -23,9 +25,17 @@ pub fn one_fault<C>()
     ensures text { (reading : C → ℕ → Reading C) (group : C → ℕ → C) (c : C) (limits : Bounds) (b : List ℕ) → All IsByte b → Exactly (IsSomeText (schema reading group) c limits b) (HasFault (schema reading group) c limits b) }
 {}
 
-/// A fault other than the end of the input is the fault of every longer text.
+/// A fault other than the end of the input is the fault of every longer text, and what is read whole up to a known end
+/// or the end of a group stays so.
 pub fn longer_text<C>()
     ensures fault { (reading : C → ℕ → Reading C) (group : C → ℕ → C) (o : Open C) (room : ℕ) (p : Place) (f : Fault) (more : List ℕ) → (IsCut f → ⊥) → Bad (schema reading group) o room p f → Bad (schema reading group) o room (longer p more) f }
     ensures read { (reading : C → ℕ → Reading C) (group : C → ℕ → C) (o : Open C) (room : ℕ) (p : Place) (more : List ℕ) → (open_group o ≢ None) ⊎ (p.known ≢ None) → IsRead (schema reading group) o room p → IsRead (schema reading group) o room (longer p more) }
-    ensures cut { (reading : C → ℕ → Reading C) (group : C → ℕ → C) (o : Open C) (room : ℕ) (p : Place) (f : Fault) → Bad (schema reading group) o room p f → (IsCut f → f.byte ≡ input_end p) × (f.cause ≢ InputTooLarge) }
+{}
+
+/// A fault is told at a byte from the place that is read from up to the end of the input, and the end of the input is
+/// where it is told that the input ends. That the input is too large is told of longer texts alone.
+pub fn fault_bounds<C>()
+    ensures bounds { (reading : C → ℕ → Reading C) (group : C → ℕ → C) (o : Open C) (room : ℕ) (p : Place) (f : Fault) → Bad (schema reading group) o room p f → (p.at ≤ f.byte) × (f.byte ≤ input_end p) }
+    ensures cut { (reading : C → ℕ → Reading C) (group : C → ℕ → C) (o : Open C) (room : ℕ) (p : Place) (f : Fault) → Bad (schema reading group) o room p f → IsCut f → f.byte ≡ input_end p }
+    ensures within { (reading : C → ℕ → Reading C) (group : C → ℕ → C) (o : Open C) (room : ℕ) (p : Place) (f : Fault) → Bad (schema reading group) o room p f → f.cause ≢ InputTooLarge }
 {}

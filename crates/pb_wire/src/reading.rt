@@ -1,27 +1,24 @@
 //! Bytes as records.
 
-ghost use Rattle.std.specs.Prelude.{List, MatchResult};
-ghost use Rattle.pb_wire.specs.Record.{Record};
-ghost use Rattle.pb_wire.specs.Fault.{Fault};
-ghost use Rattle.pb_wire.specs.Exact.{Exactly, IsSomeText};
-ghost use Rattle.std.specs.Prelude.{◌≡◌, ◌≢◌, ◌+◌, ◌≤◌, ◌<◌, ℕ, [], Ok, Some, None, true, false, length, option_map, IfOk, IfErr, OnOk};
-ghost use Rattle.pb_wire.specs.declared.reading.WireType.{WireType};
-ghost use Rattle.pb_wire.specs.Fault.{VarintFault, FixedFault, LengthFault, CutFault, TagFault, fault, place, Leads, Reads, HasTag};
-ghost use Rattle.std.specs.Prelude.{◌⊎◌};
+ghost use Rattle.std.specs.Prelude.{◌≡◌, ◌≢◌, ◌+◌, ◌≤◌, ◌<◌, ◌⊎◌, ℕ, List, [], Ok, Some, None, true, false, length, option_map, IfOk, IfErr, OnOk, MatchResult, IsErrAnd};
 ghost use Rattle.std.specs.Int.{w32, w64, to_le_bytes};
-ghost use Rattle.pb_wire.specs.Record.{len};
+ghost use Rattle.pb_wire.specs.Record.{Record, len};
+ghost use Rattle.pb_wire.specs.Ranges.{AreInRange};
+ghost use Rattle.pb_wire.specs.Writable.{AreWritable};
 ghost use Rattle.pb_wire.specs.Spell.{Body};
-ghost use Rattle.pb_wire.specs.WireType.{code_of};
-ghost use Rattle.pb_wire.specs.Unknown.{payload_of, records_of};
-ghost use Rattle.pb_wire.specs.Reading.{ReadsAll, ReadsValue, IfFault, IfRawFault, BadValue, BadFrom};
-ghost use Rattle.pb_wire.specs.Grammar.{IsText, HasFault, beyond};
+ghost use Rattle.pb_wire.specs.Fault.{Fault, VarintFault, FixedFault, LengthFault, CutFault, TagFault, fault, place, Leads, Reads, HasTag};
 ghost use Rattle.pb_wire.specs.Fault.{fault as fault_with};
 ghost use Rattle.pb_wire.specs.Schema.{blank};
+ghost use Rattle.pb_wire.specs.Grammar.{IsText, HasFault, beyond};
+ghost use Rattle.pb_wire.specs.WireType.{code_of};
+ghost use Rattle.pb_wire.specs.declared.reading.WireType.{WireType};
+ghost use Rattle.pb_wire.specs.Unknown.{payload_of, records_of};
+ghost use Rattle.pb_wire.specs.Reading.{ReadsAll, ReadsValue, IfFault, IfRawFault, BadValue, BadFrom};
 
 use crate::fault::{Cause, RawError, ReadError, WireFault};
 use crate::limits::Limits;
 use crate::unknown::Unknown;
-use crate::varint::read_varint;
+use crate::varint::varint_at_front;
 use std::alloc::Global;
 
 /// What follows a tag.
@@ -42,7 +39,7 @@ fn varint_at(bytes: &[u8], at: usize) -> Result<(u64, usize), WireFault>
     ensures ok { IfOk result (λ r. Reads (place bytes.now at) r.0 (place bytes.now r.1)) }
     ensures fault { IfErr result (λ e. VarintFault (place bytes.now at) (fault e.byte [] e.cause)) }
 {
-    match read_varint(&bytes[at..]) {
+    match varint_at_front(&bytes[at..]) {
         Ok((number, size)) => Ok((number, at + size)),
         Err(fault) => Err(WireFault {
             byte: at as u64 + fault.byte,
@@ -269,12 +266,32 @@ fn is_at_end(bytes: &[u8], at: usize, innermost: Option<u32>) -> bool
     }
 }
 
-/// The records that the bytes spell, all of the bytes.
+/// Reads the records that bytes spell, all of the bytes, groups nested (encoding guide, "Message Structure"). A
+/// length-delimited payload is not looked into.
+///
+/// Fails with the first fault of the text, if it is no list of records within the limits, or for want of memory.
 pub fn read_raw(
     alloc: Global,
     bytes: &[u8],
     limits: Limits,
 ) -> Result<Vec<(u32, Unknown)>, RawError>
+    ensures records { IfOk result (λ v. IsText blank tt limits bytes.now (records_of v.items)) }
+    ensures fault { IfErr result (λ e. IfRawFault e (HasFault blank tt limits bytes.now)) }
+
+    // Each text is accepted and each fault is told, unless memory runs out.
+    ensures accepted { (rs : List Record) → IsText blank tt limits bytes.now rs
+        → MatchResult result (λ v. records_of v.items ≡ rs) (λ e. e ≡ RawError.Memory) }
+    ensures refused { (f : Fault) → HasFault blank tt limits bytes.now f → IsErrAnd result (λ e. IfRawFault e (λ g. g ≡ f)) }
+
+    // What is read can be written.
+    ensures ranges { IfOk result (λ v. AreInRange (records_of v.items)) }
+    ensures writable { IfOk result (λ v. AreWritable (records_of v.items)) }
+{
+    read_text(alloc, bytes, limits)
+}
+
+/// As `read_raw`, said of what was answered.
+fn read_text(alloc: Global, bytes: &[u8], limits: Limits) -> Result<Vec<(u32, Unknown)>, RawError>
     ensures ok { IfOk result (λ v. IsText blank tt limits bytes.now (records_of v.items)) }
     ensures fault { IfErr result (λ e. IfRawFault e (HasFault blank tt limits bytes.now)) }
 {
@@ -325,17 +342,4 @@ fn of_longer(alloc: Global, max_bytes: usize, fault: WireFault, path: Vec<u32>) 
             cause,
         },
     }
-}
-
-/// The records exactly where the bytes are a text, and its fault exactly where they are none, if memory is there.
-pub fn read_exactly(
-    alloc: Global,
-    bytes: &[u8],
-    limits: Limits,
-) -> Result<Vec<(u32, Unknown)>, RawError>
-    ensures text { (rs : List Record) → IsText blank tt limits bytes.now rs → MatchResult result (λ v. records_of v.items ≡ rs) (λ e. IfRawFault e (λ f. ⊥)) }
-    ensures fault { (f : Fault) → HasFault blank tt limits bytes.now f → MatchResult result (λ v. ⊥) (λ e. IfRawFault e (λ g. g ≡ f)) }
-    ensures told { Exactly (IsSomeText blank tt limits bytes.now) (HasFault blank tt limits bytes.now) }
-{
-    read_raw(alloc, bytes, limits)
 }

@@ -1,8 +1,8 @@
-//! Numbers as varints.
+//! Numbers as varints (encoding guide, "Base 128 Varints").
 
-ghost use Rattle.std.specs.Prelude.{◌≡◌, ◌+◌, ◌≤◌, ℕ, [], Ok, length, take, IfOk, IfErr};
+ghost use Rattle.std.specs.Prelude.{◌≡◌, ◌≤◌, ℕ, [], Ok, length, take, IfOk, IfErr, IsErrAnd};
 ghost use Rattle.pb_wire.specs.Varint.{IsVarint, shortest};
-ghost use Rattle.pb_wire.specs.Fault.{VarintFault, fault, text_at};
+ghost use Rattle.pb_wire.specs.Fault.{Fault, VarintFault, fault, text_at};
 
 use crate::fault::{Cause, WireFault};
 use std::marker::Model;
@@ -10,8 +10,36 @@ use std::marker::Model;
 /// The most bytes that a varint has.
 const MAX_LEN: usize = 10;
 
-/// Reads the varint at the front: its number, and how many bytes it takes. Bytes may follow it.
+/// Reads the varint at the front of some bytes, and tells its number and how many bytes it takes. Other bytes may
+/// follow it. Overlong spellings are read, and bits above the sixty-fourth are dropped.
+///
+/// Fails with `VarintTooLong` where ten bytes all have the high bit, and with `Truncated` where the bytes end before.
 pub fn read_varint(bytes: &[u8]) -> Result<(u64, usize), WireFault>
+    ensures within { IfOk result (λ found. found.1 ≤ length bytes.now) }
+    ensures found { IfOk result (λ found. IsVarint found.0 (take found.1 bytes.now)) }
+    ensures only { (n size : ℕ) → size ≤ length bytes.now → IsVarint n (take size bytes.now) → result ≡ Ok (n, size) }
+    ensures fault { IfErr result (λ e. VarintFault (text_at bytes.now) (fault e.byte [] e.cause)) }
+    ensures refused { (f : Fault) → VarintFault (text_at bytes.now) f → IsErrAnd result (λ e. fault e.byte [] e.cause ≡ f) }
+{
+    varint_at_front(bytes)
+}
+
+/// As `read_varint`. Most varints are one byte.
+pub(crate) fn varint_at_front(bytes: &[u8]) -> Result<(u64, usize), WireFault>
+    ensures within { IfOk result (λ found. found.1 ≤ length bytes.now) }
+    ensures found { IfOk result (λ found. IsVarint found.0 (take found.1 bytes.now)) }
+    ensures only { (n size : ℕ) → size ≤ length bytes.now → IsVarint n (take size bytes.now) → result ≡ Ok (n, size) }
+    ensures fault { IfErr result (λ e. VarintFault (text_at bytes.now) (fault e.byte [] e.cause)) }
+{
+    if !bytes.is_empty() && bytes[0] < 0x80 {
+        Ok((u64::from(bytes[0]), 1))
+    } else {
+        long_varint(bytes)
+    }
+}
+
+/// As `read_varint`, byte by byte.
+fn long_varint(bytes: &[u8]) -> Result<(u64, usize), WireFault>
     ensures within { IfOk result (λ found. found.1 ≤ length bytes.now) }
     ensures found { IfOk result (λ found. IsVarint found.0 (take found.1 bytes.now)) }
     ensures only { (n size : ℕ) → size ≤ length bytes.now → IsVarint n (take size bytes.now) → result ≡ Ok (n, size) }
@@ -37,7 +65,7 @@ pub fn read_varint(bytes: &[u8]) -> Result<(u64, usize), WireFault>
     })
 }
 
-/// The bytes of a varint.
+/// The bytes of a varint, 1 to 10.
 #[derive(Debug, Drop)]
 pub struct VarintBytes {
     bytes: [u8; MAX_LEN],
@@ -55,6 +83,7 @@ impl Model for VarintBytes {
 }
 
 impl VarintBytes {
+    /// The bytes.
     pub fn as_slice(&self) -> &[u8]
         ensures { result.now ≡ self.now }
     {
@@ -64,7 +93,8 @@ impl VarintBytes {
 
 /// The shortest varint of a number.
 pub fn put_varint(number: u64) -> VarintBytes
-    ensures { result ≡ shortest number }
+    ensures shortest { result ≡ shortest number }
+    ensures spelled { IsVarint number result }
 {
     let mut bytes = [0u8; MAX_LEN];
     let mut len = 0;

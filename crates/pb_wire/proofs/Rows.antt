@@ -1,0 +1,161 @@
+-- Small texts, their records and their faults, worked out by the rules.
+use Rattle.std.proofs.Common.{◌≡◌, ◌≢◌, ℕ, suc, ◌+◌, ◌*◌, ◌^◌, ◌<◌, ◌≤◌, List, [], ◌∷◌, ◌++◌, length, refl, arith, Option, Some, None, inl, lit<, lit≤, All}
+use Rattle.std.proofs.lemmas.List.Elements.{All-nil, All-cons}
+use Rattle.pb_wire.specs.Varint.{IsVarint, shortest, shortest_within}
+use Rattle.pb_wire.specs.Zigzag.{zigzag, unzigzag}
+use Rattle.std.specs.Prelude.{pos, negsuc}
+use Rattle.pb_wire.specs.Record.{varint, len, group, no_more, more}
+use Rattle.pb_wire.specs.Ranges.{IsNumber}
+use Rattle.pb_wire.specs.Spell.{AreRecords, shortest_records, shortest_group, shortest_record}
+use Rattle.pb_wire.specs.Fault.{Fault, fault, Place, Moves, Reads, HasTag, HasLength, IsHigh, VarintFault, FixedFault, LengthFault, CutFault, TagFault}
+use Rattle.pb_wire.specs.Schema.{blank, records, in_group, Open}
+use Rattle.pb_wire.specs.Limits.{Bounds}
+use Rattle.pb_wire.specs.Sound.{Sound, AllSound}
+use Rattle.pb_wire.specs.Grammar.{Bad, RecordFault, Begins, Whole, IsText, HasFault}
+use Rattle.pb_wire.specs.declared.fault.Cause.TheVariants.{Truncated, PastEnd, VarintTooLong, TagTooLarge, NumberZero, BadType, StrayEnd, WrongEnd, LengthTooLarge, TooDeep, InputTooLarge}
+use Rattle.pb_wire.proofs.Places.{moves_nothing}
+
+-- a tag of one byte
+tag_here : (k w at : ℕ) (rest : List ℕ) → IsNumber k → w < 6 → 8 * k + w < 128 → HasTag (record { at = at; known = None; rest = (8 * k + w) ∷ rest }) k w (record { at = at + 1; known = None; rest = rest })
+tag_here k w at rest is type small = record {
+  tag = ((8 * k + w) ∷ [], record { size = lit≤ tt; ends = small; value = omega arith }, record { given = refl; within = tt; at = refl; known = refl });
+  number = is;
+  type = type;
+}
+
+-- a fault of the record that stands first
+first : {b : List ℕ} {f : Fault} {bytes depth : ℕ} → length b ≤ bytes → b ≢ [] → RecordFault blank (records tt) depth (record { at = 0; known = None; rest = b }) f → HasFault blank tt (record { bytes = bytes; depth = depth }) b f
+first {b} fits some bad = HasFault.bad fits (Bad.at_record ([], refl, AllSound.none) (moves_nothing (record { at = 0; known = None; rest = b })) (λ h. cc, λ h. some) bad)
+
+-- ---- numbers
+
+shortest_of_minus_two : shortest 18446744073709551614 ≡ 0xfe ∷ 0xff ∷ 0xff ∷ 0xff ∷ 0xff ∷ 0xff ∷ 0xff ∷ 0xff ∷ 0xff ∷ 0x01 ∷ []
+unfolding shortest shortest_within
+shortest_of_minus_two = refl
+
+an_overlong_varint : IsVarint 150 (0x96 ∷ 0x81 ∷ 0x00 ∷ [])
+an_overlong_varint = record { size = lit≤ tt; ends = (lit≤ tt, (lit≤ tt, lit< tt)); value = refl }
+
+-- the bits of a tenth byte above its lowest are dropped
+the_greatest_varint : IsVarint 18446744073709551615 (0xff ∷ 0xff ∷ 0xff ∷ 0xff ∷ 0xff ∷ 0xff ∷ 0xff ∷ 0xff ∷ 0xff ∷ 0x7f ∷ [])
+the_greatest_varint = record {
+  size = lit≤ tt;
+  ends = (lit≤ tt, (lit≤ tt, (lit≤ tt, (lit≤ tt, (lit≤ tt, (lit≤ tt, (lit≤ tt, (lit≤ tt, (lit≤ tt, lit< tt)))))))));
+  value = refl;
+}
+
+zigzag_of_minus_two : zigzag (negsuc 1) ≡ 3
+zigzag_of_minus_two = refl
+
+unzigzag_of_four : unzigzag 4 ≡ pos 2
+unzigzag_of_four = refl
+
+-- ---- accepted
+
+overlong_is_read : IsText blank tt (record { bytes = 9; depth = 0 }) (0x08 ∷ 0x96 ∷ 0x81 ∷ 0x00 ∷ []) (record { number = 1; payload = varint 150 } ∷ [])
+overlong_is_read = record {
+  size = lit≤ tt;
+  spelled = (
+    0x08 ∷ 0x96 ∷ 0x81 ∷ 0x00 ∷ [],
+    [],
+    record {
+      number = (lit< tt, lit< tt);
+      tag = 0x08 ∷ [];
+      tagged = record { size = lit≤ tt; ends = lit< tt; value = refl };
+      body = 0x96 ∷ 0x81 ∷ 0x00 ∷ [];
+      follows = (lit< tt, an_overlong_varint);
+      joined = refl;
+    },
+    refl,
+    refl,
+  );
+  sound = AllSound.one Sound.is_varint AllSound.none;
+}
+
+a_group_in_short : shortest_records (record { number = 20; payload = group (more 1 (varint 1) no_more) } ∷ []) ≡ 0xa3 ∷ 0x01 ∷ 0x08 ∷ 0x01 ∷ 0xa4 ∷ 0x01 ∷ []
+unfolding shortest shortest_within
+a_group_in_short = refl
+
+-- ---- faults
+
+cut_in_a_tag : HasFault blank tt (record { bytes = 9; depth = 9 }) (0x80 ∷ []) (fault 1 [] Truncated)
+cut_in_a_tag = first (lit≤ tt) (λ h. cc) (RecordFault.tag (TagFault.token (VarintFault.cut_short (lit< tt) (All-cons IsHigh _ [] (lit≤ tt) (All-nil IsHigh)) (λ h. cc) refl)))
+
+cut_in_a_value : HasFault blank tt (record { bytes = 9; depth = 9 }) (0x08 ∷ 0x96 ∷ []) (fault 2 (1 ∷ []) Truncated)
+cut_in_a_value =
+    first (lit≤ tt) (λ h. cc)
+    (RecordFault.varint (tag_here 1 0 0 (0x96 ∷ []) (lit< tt, lit< tt) (lit< tt) (lit< tt))
+    (VarintFault.cut_short (lit< tt) (All-cons IsHigh _ [] (lit≤ tt) (All-nil IsHigh)) (λ h. cc) refl) refl)
+
+a_number_of_zero : HasFault blank tt (record { bytes = 9; depth = 9 }) (0x07 ∷ []) (fault 0 [] NumberZero)
+a_number_of_zero =
+    first (lit≤ tt) (λ h. cc)
+    (RecordFault.tag (TagFault.number_zero {n = 7} {q = record { at = 1; known = None; rest = [] }}
+    (0x07 ∷ [], record { size = lit≤ tt; ends = lit< tt; value = refl }, record { given = refl; within = tt; at = refl; known = refl }) (lit< tt) refl))
+
+a_wire_type_of_seven : HasFault blank tt (record { bytes = 9; depth = 9 }) (0x0f ∷ []) (fault 0 [] BadType)
+a_wire_type_of_seven =
+    first (lit≤ tt) (λ h. cc)
+    (RecordFault.tag (TagFault.bad_type {n = 15} {q = record { at = 1; known = None; rest = [] }}
+    (0x0f ∷ [], record { size = lit≤ tt; ends = lit< tt; value = refl }, record { given = refl; within = tt; at = refl; known = refl })
+    (lit≤ tt) (lit< tt) (lit≤ tt) refl))
+
+an_end_alone : HasFault blank tt (record { bytes = 9; depth = 9 }) (0x0c ∷ []) (fault 0 [] StrayEnd)
+an_end_alone = first (lit≤ tt) (λ h. cc) (RecordFault.tag (TagFault.stray_end (tag_here 1 4 0 [] (lit< tt, lit< tt) (lit< tt) (lit< tt)) refl refl))
+
+a_large_tag : HasFault blank tt (record { bytes = 9; depth = 9 }) (0x80 ∷ 0x80 ∷ 0x80 ∷ 0x80 ∷ 0x10 ∷ []) (fault 0 [] TagTooLarge)
+a_large_tag =
+    first (lit≤ tt) (λ h. cc)
+    (RecordFault.tag (TagFault.too_large {n = 4294967296} {q = record { at = 5; known = None; rest = [] }} (
+      0x80 ∷ 0x80 ∷ 0x80 ∷ 0x80 ∷ 0x10 ∷ [],
+      record { size = lit≤ tt; ends = (lit≤ tt, (lit≤ tt, (lit≤ tt, (lit≤ tt, lit< tt)))); value = refl },
+      record { given = refl; within = tt; at = refl; known = refl },
+    ) (lit≤ tt) refl))
+
+-- an end of another number, two groups down
+a_wrong_end : HasFault blank tt (record { bytes = 9; depth = 9 }) (0x0b ∷ 0x13 ∷ 0x0c ∷ []) (fault 2 (1 ∷ 2 ∷ []) WrongEnd)
+a_wrong_end =
+    first (lit≤ tt) (λ h. cc)
+    (RecordFault.in_a_group (tag_here 1 3 0 (0x13 ∷ 0x0c ∷ []) (lit< tt, lit< tt) (lit< tt) (lit< tt))
+    (Bad.at_record ([], refl, AllSound.none) (moves_nothing (record { at = 1; known = None; rest = 0x13 ∷ 0x0c ∷ [] })) (λ h. cc)
+    (RecordFault.in_a_group (tag_here 2 3 1 (0x0c ∷ []) (lit< tt, lit< tt) (lit< tt) (lit< tt))
+    (Bad.at_record ([], refl, AllSound.none) (moves_nothing (record { at = 2; known = None; rest = 0x0c ∷ [] })) (λ h. cc)
+    (RecordFault.tag (TagFault.wrong_end {m = 2} (tag_here 1 4 2 [] (lit< tt, lit< tt) (lit< tt) (lit< tt)) refl (λ h. omega (arith, h)) refl)))
+    refl)) refl)
+
+a_group_too_deep : HasFault blank tt (record { bytes = 9; depth = 0 }) (0x0b ∷ []) (fault 0 (1 ∷ []) TooDeep)
+a_group_too_deep = first (lit≤ tt) (λ h. cc) (RecordFault.group_too_deep (tag_here 1 3 0 [] (lit< tt, lit< tt) (lit< tt) (lit< tt)) refl refl)
+
+a_large_length : HasFault blank tt (record { bytes = 9; depth = 9 }) (0x12 ∷ 0xff ∷ 0xff ∷ 0xff ∷ 0xff ∷ 0x0f ∷ []) (fault 1 (2 ∷ []) LengthTooLarge)
+a_large_length =
+    first (lit≤ tt) (λ h. cc)
+    (RecordFault.length_of (tag_here 2 2 0 (0xff ∷ 0xff ∷ 0xff ∷ 0xff ∷ 0x0f ∷ []) (lit< tt, lit< tt) (lit< tt) (lit< tt)) tt
+    (LengthFault.too_large {n = 4294967295} {q = record { at = 6; known = None; rest = [] }} (
+      0xff ∷ 0xff ∷ 0xff ∷ 0xff ∷ 0x0f ∷ [],
+      record { size = lit≤ tt; ends = (lit≤ tt, (lit≤ tt, (lit≤ tt, (lit≤ tt, lit< tt)))); value = refl },
+      record { given = refl; within = tt; at = refl; known = refl },
+    ) (lit≤ tt) refl) refl)
+
+cut_in_four_bytes : HasFault blank tt (record { bytes = 9; depth = 9 }) (0x0d ∷ 0x01 ∷ 0x02 ∷ 0x03 ∷ []) (fault 4 (1 ∷ []) Truncated)
+cut_in_four_bytes =
+    first (lit≤ tt) (λ h. cc)
+    (RecordFault.fixed32 (tag_here 1 5 0 (0x01 ∷ 0x02 ∷ 0x03 ∷ []) (lit< tt, lit< tt) (lit< tt) (lit< tt)) (FixedFault.cut_short tt (lit< tt) refl) refl)
+
+-- a value that would pass the end of its frame, which is one byte further on
+past_the_frame : Bad blank (records tt) 9 (record { at = 2; known = Some 2; rest = 0x08 ∷ 0x96 ∷ 0x01 ∷ [] }) (fault 3 (1 ∷ []) PastEnd)
+past_the_frame =
+    Bad.at_record ([], refl, AllSound.none) (moves_nothing (record { at = 2; known = Some 2; rest = 0x08 ∷ 0x96 ∷ 0x01 ∷ [] })) (λ h. cc, λ h. cc)
+    (RecordFault.varint {k = 1} {q = record { at = 3; known = Some 1; rest = 0x96 ∷ 0x01 ∷ [] }} (record {
+      tag = (0x08 ∷ [], record { size = lit≤ tt; ends = lit< tt; value = refl }, record { given = refl; within = lit≤ tt; at = refl; known = refl });
+      number = (lit< tt, lit< tt);
+      type = lit< tt;
+    })
+    (VarintFault.past_end (lit< tt) (All-cons IsHigh _ [] (lit≤ tt) (All-nil IsHigh)) refl refl) refl)
+
+-- what is cut at the limit is too large
+too_large_in_a_value : HasFault blank tt (record { bytes = 2; depth = 9 }) (0x08 ∷ 0x96 ∷ 0x01 ∷ []) (fault 2 [] InputTooLarge)
+too_large_in_a_value =
+    HasFault.bad_front (lit< tt)
+    (Bad.at_record ([], refl, AllSound.none) (moves_nothing (record { at = 0; known = None; rest = 0x08 ∷ 0x96 ∷ [] })) (λ h. cc, λ h g. cc)
+    (RecordFault.varint (tag_here 1 0 0 (0x96 ∷ []) (lit< tt, lit< tt) (lit< tt) (lit< tt))
+    (VarintFault.cut_short (lit< tt) (All-cons IsHigh _ [] (lit≤ tt) (All-nil IsHigh)) (λ h. cc) refl) refl)) refl
