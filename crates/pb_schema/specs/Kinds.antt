@@ -3,7 +3,7 @@ use Rattle.std.specs.Prelude.{ℕ, pos, ◌<◌, ◌%◌, ◌^◌, [], Bool, tru
 use Rattle.std.specs.List.{AllByRecursion}
 use Rattle.std.specs.Int.{cast_signed, cast_unsigned, w32, w64}
 use Rattle.pb_wire.specs.Record.{Payload, varint, fixed64, len, fixed32}
-use Rattle.pb_wire.specs.Exact.{IsByte}
+use Rattle.pb_wire.specs.Ranges.{IsByte}
 use Rattle.pb_wire.specs.Zigzag.{zigzag, unzigzag}
 use Rattle.pb_schema.specs.declared.types.Kind.{Kind}
 use Rattle.pb_schema.specs.declared.types.Kind.TheVariants as kind

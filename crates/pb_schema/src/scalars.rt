@@ -5,7 +5,7 @@
 ghost use Rattle.std.specs.Prelude.{◌≡◌, ◌%◌, ◌^◌, Some, None, IfOk, IfSome, IfNone, string_bytes};
 ghost use Rattle.std.specs.List.{AllByRecursion};
 ghost use Rattle.pb_wire.specs.Record.{wire_type};
-ghost use Rattle.pb_wire.specs.Exact.{IsByte};
+ghost use Rattle.pb_wire.specs.Ranges.{IsByte};
 ghost use Rattle.pb_schema.specs.declared.types.Kind.{Kind as TheKind};
 ghost use Rattle.pb_schema.specs.declared.types.Kind.TheVariants as kind;
 ghost use Rattle.pb_schema.specs.Scalar.{Scalar as ScalarValue, int32, int64, uint32, uint64, boolean, float, double, enum, text, bytes};

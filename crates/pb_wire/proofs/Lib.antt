@@ -16,4 +16,5 @@ pub mod Transfers
 pub mod ShortestLemmas
 pub mod DepthLemmas
 pub mod RangeLemmas
+pub mod InsideLemmas
 mod Rows
