@@ -22,7 +22,7 @@ use Rattle.pb_schema.specs.Packed.{number_bytes, element_bytes}
 use Rattle.pb_schema.specs.Rules.{IsPool, IsFieldNumber}
 use Rattle.pb_value.specs.Data.{Datum, scalar, message, Datums, no_datums, datum, Entries, no_entries, entry, Holding, one, list, map, Fields, no_fields, field, Message, body}
 use Rattle.pb_value.specs.Canon.{payload_of, packed_bytes, is_packed, canon, canon_each, canon_entries, canon_holding, canon_fields, by_field, sealed, message_type, key_kind, record_of, canon_bytes}
-use Rattle.pb_value.specs.WellFormed.{IsUnknown, AreUnknown, IsDatum, AreDatums, AreEntries, IsHeld, AreFields, IsBody, IsOfShape, IsKeyOf}
+use Rattle.pb_value.specs.WellFormed.{IsUnknown, AreUnknown, IsDatum, AreDatums, AreEntries, IsHeld, AreFields, IsBody, IsOfShape, KeysRise, key_of}
 use Rattle.pb_value.proofs.BytesLemmas.{AreBytes-append, AreBytes-IsUtf8, AreBytes-shortest, AreBytes-four, AreBytes-eight, AreBytes-shortest_records}
 
 -- short enough in all is short enough in each part
@@ -135,9 +135,9 @@ some_of : {A : Type 0} (o : Option A) (P : A → Type 0) → IsSomeAnd o P → (
 some_of None P h = absurd h
 some_of (Some a) P h = (a, refl, h)
 
-key_of : (s : Shape) (k : Kind) (x : Scalar) → IsKeyOf s x → IsOfKind (key_kind s k) x
-key_of (shape.Map key) k x h = h
-key_of s k x h = absurd h
+key_kind-Map : (s : Shape) (k key : Kind) → key_of s ≡ Some key → key_kind s k ≡ key
+key_kind-Map (shape.Map l) k key e = cc
+key_kind-Map s k key e = absurd (cc)
 
 module _ (pool : Types) (numbers : (m : ℕ) → AllByRecursion (λ f. IsNumber f.number) (message_fields pool m)) where
   number_found : (fs : List FieldView) → AllByRecursion (λ f. IsNumber f.number) fs → (n : ℕ) (f : FieldView) → field_numbered n fs ≡ Some f → IsNumber f.number
@@ -165,26 +165,28 @@ module _ (pool : Types) (numbers : (m : ℕ) → AllByRecursion (λ f. IsNumber 
         let p = good_payload f.kind d h.0 in
         AreGood-cons f.number (payload_of pool f.kind d) (canon_each pool f ds) n p.0 p.1 (good_each f ds n h.1)
 
-    good_entries : (f : FieldView) (es : Entries) → IsNumber f.number → AreEntries pool f es → AreGood (canon_entries pool f es)
-    good_entries f no_entries n h = AreGood-none
-    good_entries f (entry x d es) n h =
+    good_entries : (f : FieldView) (key : Kind) (es : Entries) → key_kind f.shape f.kind ≡ key → IsNumber f.number → AreEntries pool key f.kind es → AreGood (canon_entries pool f es)
+    good_entries f key no_entries e n h = AreGood-none
+    good_entries f key (entry x d es) e n h =
         let value = good_payload f.kind d h.1 in
         let inside =
         AreGood-cons 1 (written (key_kind f.shape f.kind) x) (record_of 2 (payload_of pool f.kind d) ∷ []) (omega arith, omega arith)
-        (IsNumbered-written (key_kind f.shape f.kind) x) (IsInRange-written (key_kind f.shape f.kind) x (key_of f.shape f.kind x h.0))
+        (IsNumbered-written (key_kind f.shape f.kind) x) (IsInRange-written (key_kind f.shape f.kind) x (subst (λ (l : Kind). IsOfKind l x) (sym e) h.0))
         (AreGood-cons 2 (payload_of pool f.kind d) [] (omega arith, omega arith) value.0 value.1 AreGood-none) in
         AreGood-cons f.number (sealed (record_of 1 (written (key_kind f.shape f.kind) x) ∷ record_of 2 (payload_of pool f.kind d) ∷ []))
-        (canon_entries pool f es) n tt (IsInRange-sealed _ inside) (good_entries f es n h.3)
+        (canon_entries pool f es) n tt (IsInRange-sealed _ inside) (good_entries f key es e n h.2)
 
-    good_holding : (f : FieldView) (h : Holding) → IsNumber f.number → IsHeld pool f h → AreGood (canon_holding pool f h)
+    good_holding : (f : FieldView) (h : Holding) → IsNumber f.number → IsHeld pool f.shape f.kind h → AreGood (canon_holding pool f h)
     good_holding f (one d) n w = let p = good_payload f.kind d w in AreGood-cons f.number (payload_of pool f.kind d) [] n p.0 p.1 AreGood-none
     good_holding f (list ds) n w = packed_or_each f ds n (good_each f ds n w) (is_packed f.shape)
-    good_holding f (map es) n w = good_entries f es n w
+    good_holding f (map es) n w =
+        let key = some_of (key_of f.shape) (λ (key : Kind). AreEntries pool key f.kind es × KeysRise es) w in
+        good_entries f key.0 es (key_kind-Map f.shape f.kind key.0 key.1) n key.2.0
 
     good_fields : (all : List FieldView) (fs : Fields) → AllByRecursion (λ f. IsNumber f.number) all → AreFields pool all fs → AreGood (canon_fields pool all fs)
     good_fields all no_fields n w = AreGood-none
     good_fields all (field k h fs) n w =
-        let f = some_of (field_numbered k all) (λ (f : FieldView). IsOfShape f.shape h × IsHeld pool f h) w.0 in
+        let f = some_of (field_numbered k all) (λ (f : FieldView). IsOfShape f.shape h × IsHeld pool f.shape f.kind h) w.0 in
         rw (f.1) (AreGood-append (canon_holding pool f.0 h) (canon_fields pool all fs) (good_holding f.0 h (number_found all n k f.0 f.1) f.2.1) (good_fields all fs n w.1))
 
     pub good : (m : ℕ) (v : Message) → IsBody pool m v → AreGood (canon pool m v)

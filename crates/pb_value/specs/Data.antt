@@ -50,6 +50,11 @@ abbrev pub put_field : ℕ → Holding → Fields → Fields
 put_field n h no_fields = field n h no_fields
 put_field n h (field k g fs) = match_ordering (nat_cmp n k) (field n h (field k g fs)) (field k h fs) (field k g (put_field n h fs))
 
+-- the fields without n
+abbrev pub drop_field : ℕ → Fields → Fields
+drop_field n no_fields = no_fields
+drop_field n (field k g fs) = match_ordering (nat_cmp n k) (field k g (drop_field n fs)) fs (field k g (drop_field n fs))
+
 -- the fields with h at n, if there is one
 abbrev pub put_some : ℕ → Option Holding → Fields → Fields
 put_some n None fs = fs

@@ -9,9 +9,10 @@ use Rattle.pb_schema.specs.declared.types.Kind.{Kind}
 use Rattle.pb_schema.specs.declared.types.Shape.{Shape}
 use Rattle.pb_schema.specs.declared.types.Shape.TheVariants as shape
 use Rattle.pb_schema.specs.Types.{FieldView, Types, message_fields, field_numbered}
-use Rattle.pb_schema.specs.Scalar.{Scalar, is_default, key_cmp}
+use Rattle.pb_schema.specs.Scalar.{Scalar, key_cmp}
 use Rattle.pb_schema.specs.Kinds.{message_of_kind, IsOfKind}
 use Rattle.pb_schema.specs.Fits.{fits_any}
+use Rattle.pb_value.specs.Judge.{is_default_datum}
 use Rattle.pb_value.specs.Data.{Datum, scalar, message, Datums, no_datums, datum, Entries, no_entries, entry, Holding, one, list, map, Fields, no_fields, field, Message, body, message_depth}
 
 -- an unknown record of a type with these fields: its numbers and payloads can be written, and it fits no field
@@ -31,9 +32,14 @@ abbrev pub IsBelow : Scalar → Entries → Type 0
 IsBelow x no_entries = Unit {0}
 IsBelow x (entry y d es) = key_cmp x y ≡ Less
 
+-- the keys of a map rise
+abbrev pub KeysRise : Entries → Type 0
+KeysRise no_entries = Unit {0}
+KeysRise (entry x d es) = IsBelow x es × KeysRise es
+
 -- a content is of the shape, and no implicit default and no empty list or map
 abbrev pub IsOfShape : Shape → Holding → Type 0
-IsOfShape shape.Implicit (one (scalar x)) = is_default x ≡ false
+IsOfShape shape.Implicit (one d) = is_default_datum d ≡ false
 IsOfShape shape.Explicit (one d) = Unit {0}
 IsOfShape (shape.OneofMember _) (one d) = Unit {0}
 IsOfShape (shape.List _) (list (datum d ds)) = Unit {0}
@@ -58,10 +64,10 @@ abbrev pub HasOneMemberEach : List FieldView → Fields → Type 0
 HasOneMemberEach all no_fields = Unit {0}
 HasOneMemberEach all (field n h fs) = IfSome (oneof_at all n) (λ o. HasNoMember all o fs) × HasOneMemberEach all fs
 
--- the key of a map is of its kind
-abbrev pub IsKeyOf : Shape → Scalar → Type 0
-IsKeyOf (shape.Map key) x = IsOfKind key x
-IsKeyOf _ x = ⊥
+-- the kind of a map's keys
+abbrev pub key_of : Shape → Option Kind
+key_of (shape.Map key) = Some key
+key_of _ = None
 
 module _ (pool : Types) where
   abbrev mutual
@@ -74,20 +80,20 @@ module _ (pool : Types) where
     AreDatums k no_datums = Unit {0}
     AreDatums k (datum d ds) = IsDatum k d × AreDatums k ds
 
-    -- the keys rise
-    pub AreEntries : FieldView → Entries → Type 0
-    AreEntries f no_entries = Unit {0}
-    AreEntries f (entry x d es) = IsKeyOf f.shape x × IsDatum f.kind d × IsBelow x es × AreEntries f es
+    -- with keys of the first kind and values of the second
+    pub AreEntries : Kind → Kind → Entries → Type 0
+    AreEntries key k no_entries = Unit {0}
+    AreEntries key k (entry x d es) = IsOfKind key x × IsDatum k d × AreEntries key k es
 
     -- what a field may hold
-    pub IsHeld : FieldView → Holding → Type 0
-    IsHeld f (one d) = IsDatum f.kind d
-    IsHeld f (list ds) = AreDatums f.kind ds
-    IsHeld f (map es) = AreEntries f es
+    pub IsHeld : Shape → Kind → Holding → Type 0
+    IsHeld s k (one d) = IsDatum k d
+    IsHeld s k (list ds) = AreDatums k ds
+    IsHeld s k (map es) = IsSomeAnd (key_of s) (λ key. AreEntries key k es × KeysRise es)
 
     pub AreFields : List FieldView → Fields → Type 0
     AreFields all no_fields = Unit {0}
-    AreFields all (field n h fs) = IsSomeAnd (field_numbered n all) (λ f. IsOfShape f.shape h × IsHeld f h) × AreFields all fs
+    AreFields all (field n h fs) = IsSomeAnd (field_numbered n all) (λ f. IsOfShape f.shape h × IsHeld f.shape f.kind h) × AreFields all fs
 
     -- the parts of a message of a type are well formed
     pub IsBody : ℕ → Message → Type 0

@@ -2,7 +2,19 @@
 #![tactic(auto)]
 
 mod body;
+mod check;
+mod depth;
+mod dynamic;
+mod error;
+mod judge;
 mod laws;
+mod lookup;
+mod oneof;
+mod pool_stub;
+mod unknown;
 
+pub use dynamic::{DynamicMessage, default_value};
+pub use error::ValueError;
+pub use pool_stub::Pool;
 pub use body::{Body, Content, MapKey, Value};
-pub use laws::{canonical_spelling, one_value};
+pub use laws::{canonical_spelling, key_order, no_cause, one_value};
