@@ -1,11 +1,14 @@
 //! Messages that are well formed by a pool.
 
 use crate::body::{Body, Content, Value};
-use crate::check::check_message;
+use crate::change::{clear_field, store};
+use crate::check::{check_content, check_message, check_parts};
+use crate::depth::{MAX_LEVELS, content_within};
 use crate::error::ValueError;
+use crate::lookup::field_at;
 use crate::oneof::set_member;
 use crate::pool_stub::Pool;
-use pb_schema::{Kind, MessageId};
+use pb_schema::{Kind, MessageId, Shape};
 use std::alloc::Global;
 use std::collections::BTreeMap;
 use std::marker::Model;
@@ -38,9 +41,10 @@ impl<'p> Model for DynamicMessage<'p> {
 }
 
 impl<'p> DynamicMessage<'p> {
-    ghost use Rattle.std.specs.Prelude.{◌≡◌, ◌<◌, length, [], option_map, is_some, IfOk, IfErr};
+    ghost use Rattle.std.specs.Prelude.{◌≡◌, ◌<◌, length, [], option_map, is_some, IfOk, IfErr, OnOk, OnErr, MatchResult, None};
     ghost use Rattle.pb_schema.specs.Types.{message_fields};
-    ghost use Rattle.pb_value.specs.Data.{body, empty, fields_of, unknown_of, get_field, drop_field};
+    ghost use Rattle.pb_value.specs.Data.{empty, fields_of, get_field, drop_field};
+    ghost use Rattle.pb_value.specs.Change.{with_fields, set_at, set_cause, Allowed};
     ghost use Rattle.pb_value.specs.Oneof.{member_set};
     ghost use Rattle.pb_value.specs.declared.error.ValueError.TheVariants.{Memory};
     ghost use Rattle.pb_value.specs.View.{body_view, content_view};
@@ -125,9 +129,39 @@ impl<'p> DynamicMessage<'p> {
         set_member(self.pool, self.kind, &self.body.fields, oneof)
     }
 
+    /// Sets the field of a number. A default of implicit presence, an empty list and an empty map clear the field, and a member
+    /// of a oneof takes the place of the one that is set. Nothing else changes, and nothing at all where the call fails.
+    ///
+    /// The content alone is judged: at the field the least cause is told, then what is wrong inside its messages, and the
+    /// depth last.
+    pub fn set(&mut self, number: u32, content: Content) -> Result<(), ValueError>
+        ensures ok { OnOk result (self.new ≡ record self.old { body = with_fields self.old.body (set_at (message_fields self.old.pool self.old.kind) number (content_view content) (fields_of self.old.body)) }) }
+        ensures err { OnErr result (self.new ≡ self.old) }
+        ensures judged { MatchResult result (λ _. set_cause self.old.pool self.old.kind number (content_view content) ≡ None) (FailsWith (set_cause self.old.pool self.old.kind number (content_view content))) }
+    {
+        let shape = self.allows(number, &content)?;
+        store(self.pool, self.kind, &mut self.body, shape, number, content)
+    }
+
+    /// The shape of the field of a number, where a content can be set there.
+    fn allows(&self, number: u32, content: &Content) -> Result<Shape, ValueError>
+        ensures judged { MatchResult result (λ _. set_cause self.now.pool self.now.kind number (content_view content.now) ≡ None) (FailsWith (set_cause self.now.pool self.now.kind number (content_view content.now))) }
+        ensures fits { IfOk result (λ s. Allowed self.now.pool self.now.kind number s (content_view content.now)) }
+    {
+        let Some(field) = field_at(self.pool, self.kind, number) else {
+            return Err(ValueError::NoSuchField);
+        };
+        check_content(field.shape, field.kind, content)?;
+        check_parts(self.alloc, self.pool, field.shape, field.kind, content)?;
+        if !content_within(content, MAX_LEVELS) {
+            return Err(ValueError::TooDeep);
+        }
+        Ok(field.shape)
+    }
+
     /// Clears the field of a number. Nothing else changes, and nothing at all where the type has no such field.
     pub fn clear(&mut self, number: u32)
-        ensures { self.new ≡ record self.old { body = body (drop_field number (fields_of self.old.body)) (unknown_of self.old.body) } }
+        ensures { self.new ≡ record self.old { body = with_fields self.old.body (drop_field number (fields_of self.old.body)) } }
     {
         clear_field(&mut self.body, number);
     }
@@ -141,14 +175,8 @@ impl<'p> DynamicMessage<'p> {
 }
 
 ghost use Rattle.std.specs.Prelude.{◌≡◌};
-ghost use Rattle.pb_value.specs.Data.{body, empty, drop_field, fields_of, unknown_of};
+ghost use Rattle.pb_value.specs.Data.{empty};
 ghost use Rattle.pb_value.specs.View.{body_view};
-
-fn clear_field(message: &mut Body, number: u32)
-    ensures { body_view message.new ≡ body (drop_field number (fields_of (body_view message.old))) (unknown_of (body_view message.old)) }
-{
-    drop(message.fields.remove(&number));
-}
 
 fn empty_body(alloc: Global) -> Body
     ensures { body_view result ≡ empty }

@@ -2,6 +2,7 @@
 #![tactic(auto)]
 
 mod body;
+mod change;
 mod check;
 mod depth;
 mod dynamic;
