@@ -1,4 +1,13 @@
-pub mod Tables
+pub mod Samples
 pub mod Rows
 pub mod WordLemmas
 pub mod Loops
+pub mod ImportLemmas
+pub mod OrderLemmas
+pub mod NameSetLemmas
+pub mod NameLemmas
+pub mod AddLemmas
+pub mod NumberLemmas
+pub mod RuleLemmas
+pub mod LookupLemmas
+pub mod PackedLemmas

@@ -9,7 +9,7 @@ use Rattle.pb_schema.specs.Packed.{elements}
 use Rattle.pb_schema.specs.Fits.{fits, unfitting}
 use Rattle.pb_schema.specs.Context.{Context, a_message, an_entry, unknown_group, schema_of}
 use Rattle.pb_schema.specs.Types.{message_fields}
-use Rattle.pb_schema.proofs.Tables.{pool_t, e_field, v_field, the_message}
+use Rattle.pb_schema.proofs.Samples.{pool_t, e_field, v_field, the_message}
 
 -- fe ff ff ff 0f is the int32 -2, which is written as 2 ^ 64 - 2, in ten bytes
 minus_two-read : read kind.Int32 (varint 0xfffffffe) ≡ Some (int32 (negsuc 1))

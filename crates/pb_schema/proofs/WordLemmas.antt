@@ -1,8 +1,8 @@
 -- A package's name, read from some byte on.
-use Rattle.std.proofs.Common.{◌≡◌, ℕ, ◌+◌, ◌<◌, List, [], ◌∷◌, Bool, true, false, not, ◌&&◌, ◌==◌, if◌then◌else◌, refl, length, get_or, drop, sym, ◌∙◌, ap}
+use Rattle.std.proofs.Common.{◌≡◌, ℕ, ◌+◌, ◌<◌, List, [], ◌∷◌, Bool, true, false, not, ◌&&◌, ◌==◌, if◌then◌else◌, refl, length, get_or, drop, ◌∙◌}
 use Rattle.std.specs.List.{list_all}
 use Rattle.std.proofs.lemmas.List.{at_drop_more}
-use Rattle.pb_schema.specs.Names.{begins_word, continues_word, is_word, onto_first, parts_of, may_stand}
+use Rattle.pb_schema.specs.Names.{begins_word, continues_word, is_word, onto_first, onto_parts, parts_of, may_stand}
 
 -- the first part goes on with a word, and the others are words
 abbrev continued : List (List ℕ) → Bool
@@ -30,7 +30,7 @@ gone_on : (c : ℕ) (ps : List (List ℕ)) → continued (onto_first c ps) ≡ (
 gone_on c [] = and_assoc (continues_word c) true true
 gone_on c (s ∷ ss) = and_assoc (continues_word c) (list_all continues_word s) (list_all is_word ss)
 
-by_dot : (dot at_start : Bool) (c : ℕ) (ps : List (List ℕ)) → parts_pass at_start (if dot then [] ∷ ps else onto_first c ps) ≡ ((if dot then not at_start else (if at_start then begins_word c else continues_word c)) && parts_pass dot ps)
+by_dot : (dot at_start : Bool) (c : ℕ) (ps : List (List ℕ)) → parts_pass at_start (onto_parts dot c ps) ≡ ((if dot then not at_start else (if at_start then begins_word c else continues_word c)) && parts_pass dot ps)
 by_dot true true c ps = refl
 by_dot true false c ps = refl
 by_dot false true c ps = begun c ps

@@ -11,3 +11,7 @@ pub mod Names
 pub mod Imports
 pub mod Nesting
 pub mod Rules
+pub mod NameSet
+pub mod Marks
+pub mod ErrorNumber
+pub mod Tables

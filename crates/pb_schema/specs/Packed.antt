@@ -16,14 +16,15 @@ AreNumbers w [] s = s ≡ []
 AreNumbers w (p ∷ ps) s =
     (wire_type p ≡ w) × (first : List ℕ) × (others : List ℕ) × Body 0 p first × AreNumbers w ps others × (s ≡ first ++ others)
 
+abbrev pub onto_varints : Bool → ℕ → List (List ℕ) → List (List ℕ)
+onto_varints true b ss = (b ∷ []) ∷ ss
+onto_varints false b [] = (b ∷ []) ∷ []
+onto_varints false b (s ∷ ss) = (b ∷ s) ∷ ss
+
 -- the bytes, cut behind each one below 128
 abbrev pub varints_of : List ℕ → List (List ℕ)
 varints_of [] = []
-varints_of (b ∷ bs) = if nat_lt b 128 then (b ∷ []) ∷ varints_of bs else onto_first b (varints_of bs)
-  where
-    onto_first : ℕ → List (List ℕ) → List (List ℕ)
-    onto_first b [] = (b ∷ []) ∷ []
-    onto_first b (s ∷ ss) = (b ∷ s) ∷ ss
+varints_of (b ∷ bs) = onto_varints (nat_lt b 128) b (varints_of bs)
 
 abbrev pub fours_of : List ℕ → List (List ℕ)
 fours_of (a ∷ b ∷ c ∷ d ∷ s) = (a ∷ b ∷ c ∷ d ∷ []) ∷ fours_of s

@@ -1,5 +1,5 @@
 -- The rules of a pool (language specification, proto3; descriptor.proto).
-use Rattle.std.specs.Prelude.{◌≡◌, ◌≢◌, ℕ, ◌+◌, ◌^◌, ◌<◌, ◌≤◌, ◌⊎◌, ℤ, pos, List, [], ◌∷◌, length, map, flat_map, Bool, true, false, Option, Some, None, IsTrue, IfSome, IsSomeAnd, Contains, slice_get}
+use Rattle.std.specs.Prelude.{◌≡◌, ◌≢◌, ℕ, ◌+◌, ◌^◌, ◌<◌, ◌≤◌, ◌⊎◌, ℤ, pos, List, [], ◌∷◌, length, map, true, Option, Some, None, IsTrue, IfSome, IsSomeAnd, Contains, slice_get}
 use Rattle.std.specs.List.{AllByRecursion}
 use Rattle.pb_schema.specs.declared.types.Kind.{Kind}
 use Rattle.pb_schema.specs.declared.types.Kind.TheVariants as kind
@@ -7,7 +7,7 @@ use Rattle.pb_schema.specs.declared.types.Shape.{Shape}
 use Rattle.pb_schema.specs.declared.types.Shape.TheVariants as shape
 use Rattle.pb_schema.specs.Types.{FieldView, MessageView, EnumView, FileView, Types}
 use Rattle.pb_schema.specs.Kinds.{is_key_kind, is_packable}
-use Rattle.pb_schema.specs.Names.{is_word, is_package, entry_names, names_in_message, names_of_enum, declared_names, packages_of, AllDiffer}
+use Rattle.pb_schema.specs.Names.{is_word, is_package, names_of_field, names_of_enum, declared_names, packages_of, AllDiffer}
 use Rattle.pb_schema.specs.Imports.{Reaches, IsSeen}
 use Rattle.pb_schema.specs.Nesting.{parent_of, IsWithin}
 
@@ -88,18 +88,21 @@ pub record IndexRules (ts : Types) : Type 0 where
 -- DECLARATION ORDER: by file; a message, then those in it, then the next one; the enums in a message behind those in the messages in it, and
 -- the enums outside messages last
 
--- each number is at least the one before
-abbrev pub Rises : List ℕ → Type 0
-Rises [] = Unit {0}
-Rises (m ∷ []) = Unit {0}
-Rises (m ∷ n ∷ ns) = (m ≤ n) × Rises (n ∷ ns)
+-- each element stands so to the next
+abbrev pub InOrder : {X : Type 0} → (X → X → Type 0) → List X → Type 0
+InOrder R [] = Unit {0}
+InOrder R (x ∷ []) = Unit {0}
+InOrder R (x ∷ y ∷ zs) = R x y × InOrder R (y ∷ zs)
+
+abbrev pub FilesRise : List MessageView → Type 0
+FilesRise ms = InOrder (λ s t. s.file ≤ t.file) ms
 
 -- the message before a nested one is its parent, or is in its parent
-abbrev pub NestedFollowParents : List MessageView → Type 0
-NestedFollowParents ms = (i p : ℕ) → parent_of ms i ≡ Some p → (j : ℕ) × (j + 1 ≡ i) × IsWithin ms p j
+abbrev pub FollowsParent : List MessageView → ℕ → Type 0
+FollowsParent ms i = (p : ℕ) → parent_of ms i ≡ Some p → (j : ℕ) × (j + 1 ≡ i) × IsWithin ms p j
 
 abbrev pub MessagesStandInOrder : List MessageView → Type 0
-MessagesStandInOrder ms = Rises (map (λ t. t.file) ms) × NestedFollowParents ms
+MessagesStandInOrder ms = FilesRise ms × ((i : ℕ) → FollowsParent ms i)
 
 -- The enums in message a stand before those in message b, or they are the same: b holds a, or is a later one that is not in a. Those outside
 -- messages stand last.
@@ -112,33 +115,42 @@ abbrev pub StandsBefore : List MessageView → EnumView → EnumView → Type 0
 StandsBefore ms d e = (d.file < e.file) ⊎ ((d.file ≡ e.file) × EndsNoLater ms d.parent e.parent)
 
 abbrev pub EnumsStandInOrder : List MessageView → List EnumView → Type 0
-EnumsStandInOrder ms [] = Unit {0}
-EnumsStandInOrder ms (d ∷ []) = Unit {0}
-EnumsStandInOrder ms (d ∷ e ∷ es) = StandsBefore ms d e × EnumsStandInOrder ms (e ∷ es)
+EnumsStandInOrder ms es = InOrder (StandsBefore ms) es
 
 -- NAMES
 
 abbrev pub AreWords : List (List ℕ) → Type 0
 AreWords names = AllByRecursion (λ name. IsTrue (is_word name)) names
 
+-- the names of a message, its fields, the entry messages of its map fields, and its oneofs
+abbrev pub MessageIsOfWords : MessageView → Type 0
+MessageIsOfWords t = IsTrue (is_word t.name) × AllByRecursion (λ f. AreWords (names_of_field f)) t.fields × AreWords t.oneofs
+
 abbrev pub MessageNamesAreWords : List MessageView → Type 0
-MessageNamesAreWords ms = AllByRecursion (λ t. IsTrue (is_word t.name) × AreWords (names_in_message t)) ms
+MessageNamesAreWords ms = AllByRecursion MessageIsOfWords ms
+
+abbrev pub EnumIsOfWords : EnumView → Type 0
+EnumIsOfWords e = AreWords (names_of_enum e)
 
 abbrev pub EnumNamesAreWords : List EnumView → Type 0
-EnumNamesAreWords es = AllByRecursion (λ e. AreWords (names_of_enum e)) es
+EnumNamesAreWords es = AllByRecursion EnumIsOfWords es
 
 abbrev pub FullNamesDiffer : Types → Type 0
 FullNamesDiffer ts = AllDiffer (declared_names ts)
 
-abbrev pub NoNameIsAPackage : Types → Type 0
-NoNameIsAPackage ts =
-    AllByRecursion (λ name. ¬ Contains (flat_map (λ f. packages_of f.package_name) ts.files) name) (declared_names ts)
+-- no package that this one makes is among the names
+abbrev pub IsFree : List (List ℕ) → List ℕ → Type 0
+IsFree names package_name = AllByRecursion (λ p. ¬ Contains names p) (packages_of package_name)
+
+-- no package has the full name of a declaration
+abbrev pub PackagesAreFree : Types → Type 0
+PackagesAreFree ts = AllByRecursion (λ f. IsFree (declared_names ts) f.package_name) ts.files
 
 pub record NameRules (ts : Types) : Type 0 where
   pub message_words : MessageNamesAreWords ts.messages
   pub enum_words : EnumNamesAreWords ts.enums
   pub names_differ : FullNamesDiffer ts
-  pub no_package : NoNameIsAPackage ts
+  pub packages_free : PackagesAreFree ts
 
 -- FIELDS AND ONEOFS
 
@@ -150,8 +162,11 @@ abbrev pub NumbersAreFieldNumbers : List MessageView → Type 0
 NumbersAreFieldNumbers ms = EachField (λ t f. IsFieldNumber f.number) ms
 
 -- in one message
+abbrev pub FieldNumbersDiffer : MessageView → Type 0
+FieldNumbersDiffer t = AllDiffer (map (λ f. f.number) t.fields)
+
 abbrev pub NumbersDiffer : List MessageView → Type 0
-NumbersDiffer ms = AllByRecursion (λ t. AllDiffer (map (λ f. f.number) t.fields)) ms
+NumbersDiffer ms = AllByRecursion FieldNumbersDiffer ms
 
 -- a type that a kind names stands in the file, or in one that the file reaches by imports
 abbrev pub TypeIsSeen : Types → ℕ → Kind → Type 0
@@ -166,9 +181,15 @@ abbrev pub IsMemberOf : ℕ → Shape → Type 0
 IsMemberOf o (shape.OneofMember p) = o ≡ p
 IsMemberOf o _ = ⊥
 
+abbrev pub HasMember : ℕ → List FieldView → Type 0
+HasMember o [] = ⊥
+HasMember o (f ∷ fs) = IsMemberOf o f.shape ⊎ HasMember o fs
+
+abbrev pub EachOneofHasMember : MessageView → Type 0
+EachOneofHasMember t = (o : ℕ) → o < length t.oneofs → HasMember o t.fields
+
 abbrev pub OneofsHaveMembers : List MessageView → Type 0
-OneofsHaveMembers ms =
-    AllByRecursion (λ t. (o : ℕ) → o < length t.oneofs → (f : FieldView) × Contains t.fields f × IsMemberOf o f.shape) ms
+OneofsHaveMembers ms = AllByRecursion EachOneofHasMember ms
 
 abbrev pub HasKeyKind : Shape → Type 0
 HasKeyKind (shape.Map key) = IsTrue (is_key_kind key)
@@ -192,14 +213,17 @@ MayBeImplicit _ k = Unit {0}
 abbrev pub ImplicitAreScalars : List MessageView → Type 0
 ImplicitAreScalars ms = EachField (λ t f. MayBeImplicit f.shape f.kind) ms
 
+pub record ShapeRules (ms : List MessageView) : Type 0 where
+  pub numbers : NumbersAreFieldNumbers ms
+  pub keys : KeysAreKeyKinds ms
+  pub packed : PackedArePackable ms
+  pub implicit : ImplicitAreScalars ms
+
 pub record FieldRules (ts : Types) : Type 0 where
-  pub numbers : NumbersAreFieldNumbers ts.messages
   pub numbers_differ : NumbersDiffer ts.messages
   pub types_seen : TypesAreSeen ts
   pub oneofs : OneofsHaveMembers ts.messages
-  pub keys : KeysAreKeyKinds ts.messages
-  pub packed : PackedArePackable ts.messages
-  pub implicit : ImplicitAreScalars ts.messages
+  pub shapes : ShapeRules ts.messages
 
 -- ENUMS
 
@@ -219,3 +243,12 @@ pub record IsPool (ts : Types) : Type 0 where
   pub names : NameRules ts
   pub fields : FieldRules ts
   pub enums_begin_at_zero : EnumsBeginAtZero ts.enums
+
+-- what the rules say of a field of a message: its number, its kind and its key name what they should, and its shape goes with its kind
+pub record IsFieldOf (ts : Types) (m : ℕ) (f : FieldView) : Type 0 where
+  pub number : IsFieldNumber f.number
+  pub kind : NamesType (length ts.messages) (length ts.enums) f.kind
+  pub oneof : IfSome (slice_get ts.messages m) (λ t. NamesOneof (length t.oneofs) f.shape)
+  pub key : HasKeyKind f.shape
+  pub packed : MayBePacked f.shape f.kind
+  pub implicit : MayBeImplicit f.shape f.kind

@@ -32,13 +32,13 @@ pub record Types : Type 0 where
   pub messages : List MessageView
   pub enums : List EnumView
 
+abbrev pub fields_of_message : Option MessageView → List FieldView
+fields_of_message None = []
+fields_of_message (Some t) = t.fields
+
 -- the fields of a message type; an index out of range has none
 abbrev pub message_fields : Types → ℕ → List FieldView
-message_fields pool m = fields_of (slice_get pool.messages m)
-  where
-    fields_of : Option MessageView → List FieldView
-    fields_of None = []
-    fields_of (Some t) = t.fields
+message_fields pool m = fields_of_message (slice_get pool.messages m)
 
 -- the field of a number among some
 abbrev pub field_numbered : ℕ → List FieldView → Option FieldView

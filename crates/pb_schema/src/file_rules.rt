@@ -3,10 +3,12 @@
 ghost use Rattle.std.specs.Prelude.{◌≡◌, ◌↔◌, ◌<◌, ℕ, IsTrue, IfOk, map, length};
 ghost use Rattle.std.specs.List.{AllByRecursion};
 ghost use Rattle.pb_schema.specs.View.{file_view};
-ghost use Rattle.pb_schema.specs.Rules.{FilesAreNamed, PackagesAreWords, ImportsAreFew, ImportsNameFiles};
+ghost use Rattle.pb_schema.specs.Rules.{FilesAreNamed, FileNamesDiffer, PackagesAreWords, ImportsAreFew, ImportsNameFiles};
 
+use crate::name_set::NameSet;
 use crate::types::FileInfo;
 use crate::words::is_package;
+use std::alloc::{AllocError, Global};
 
 /// The most imports that a file has.
 const MAX_IMPORTS: usize = 0x7fff_ffff;
@@ -20,6 +22,16 @@ pub(crate) fn files_are_named(files: &[FileInfo]) -> bool
         }
     }
     true
+}
+
+pub(crate) fn file_names_differ(alloc: Global, files: &[FileInfo]) -> Result<bool, AllocError>
+    ensures { IfOk result (λ holds. IsTrue holds ↔ FileNamesDiffer (map file_view files.now)) }
+{
+    let mut names = NameSet::new(alloc);
+    for file in files {
+        names.add(file.name.as_str().as_bytes().to_vec(alloc)?)?;
+    }
+    Ok(names.differ)
 }
 
 pub(crate) fn packages_are_words(files: &[FileInfo]) -> bool

@@ -2,12 +2,32 @@
 #![tactic(auto)]
 
 mod each_field;
+mod error;
+mod field_rules;
 mod file_rules;
+mod fitting;
+mod imports;
 mod index_rules;
+mod laws;
+mod name_rules;
+mod name_set;
+mod names;
+mod number_table;
+mod order_rules;
+mod pool;
+mod rules;
 pub mod scalars;
 mod shape_rules;
+mod tables;
 mod types;
 mod words;
 
+pub use error::PoolError;
+pub use fitting::fits;
+pub use laws::{packed_numbers, reads_back};
+pub use pool::Pool;
 pub use scalars::{Scalar, ScalarPayload};
 pub use types::{EnumId, EnumType, Field, FileInfo, Kind, MessageId, MessageType, Shape};
+
+#[cfg(test)]
+mod tests;

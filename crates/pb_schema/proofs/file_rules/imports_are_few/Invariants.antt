@@ -1,5 +1,5 @@
 use Rattle.std.proofs.Common.{◌↔◌, map, drop}
-use Rattle.pb_schema.specs.View.{file_view, message_view, enum_view}
+use Rattle.pb_schema.specs.View.{file_view}
 use Rattle.pb_schema.specs.Rules.{ImportsAreFew}
 use Rattle.pb_schema.proofs.file_rules.imports_are_few.Given as goal
 

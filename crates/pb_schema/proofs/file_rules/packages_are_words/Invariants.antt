@@ -1,5 +1,5 @@
 use Rattle.std.proofs.Common.{◌↔◌, map, drop}
-use Rattle.pb_schema.specs.View.{file_view, message_view, enum_view}
+use Rattle.pb_schema.specs.View.{file_view}
 use Rattle.pb_schema.specs.Rules.{PackagesAreWords}
 use Rattle.pb_schema.proofs.file_rules.packages_are_words.Given as goal
 

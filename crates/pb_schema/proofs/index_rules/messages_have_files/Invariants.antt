@@ -1,5 +1,5 @@
 use Rattle.std.proofs.Common.{◌↔◌, map, drop}
-use Rattle.pb_schema.specs.View.{file_view, message_view, enum_view}
+use Rattle.pb_schema.specs.View.{file_view, message_view}
 use Rattle.pb_schema.specs.Rules.{MessagesHaveFiles}
 use Rattle.pb_schema.proofs.index_rules.messages_have_files.Given as goal
 

@@ -1,6 +1,6 @@
-use Rattle.std.proofs.Common.{◌↔◌, ◌<◌, length, map, drop}
+use Rattle.std.proofs.Common.{◌↔◌, map, drop}
 use Rattle.std.specs.List.{AllByRecursion}
-use Rattle.pb_schema.specs.View.{file_view, message_view, enum_view}
+use Rattle.pb_schema.specs.View.{message_view}
 use Rattle.pb_schema.specs.Rules.{IsInFileOfParent}
 use Rattle.pb_schema.proofs.index_rules.messages_share_file_with_parent.Given as goal
 

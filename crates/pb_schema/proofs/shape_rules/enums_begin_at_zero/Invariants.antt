@@ -1,5 +1,5 @@
 use Rattle.std.proofs.Common.{◌↔◌, map, drop}
-use Rattle.pb_schema.specs.View.{file_view, message_view, enum_view}
+use Rattle.pb_schema.specs.View.{enum_view}
 use Rattle.pb_schema.specs.Rules.{EnumsBeginAtZero}
 use Rattle.pb_schema.proofs.shape_rules.enums_begin_at_zero.Given as goal
 

@@ -1,0 +1,167 @@
+-- What the tests of names, oneofs and types stand on.
+use Rattle.std.proofs.Common.{◌≡◌, ◌≢◌, ℕ, zero, suc, ◌+◌, ◌<◌, ◌≤◌, List, [], ◌∷◌, ◌++◌, Bool, true, false, ◌&&◌, IsTrue, ◌↔◌, ◌⊎◌, inl, inr, ⊎_elim, map, length, get_or, set, take, drop, replicate, refl, sym, ◌∙◌, ap, subst, arith, ◌==◌, Option, Some, None, IfSome, Contains}
+use Rattle.std.specs.Prelude.{slice_get}
+use Rattle.std.specs.List.{AllByRecursion}
+use Rattle.std.proofs.lemmas.Bool.{false≢true, cases_eq}
+use Rattle.std.proofs.lemmas.List.{length-set, length-replicate, get_or-set_same, get_or-set_other, drop_more, take_more, map-append}
+use Rattle.std.proofs.lemmas.List.Elements.{All-from_recursion, recursion_from_All}
+use Rattle.pb_schema.specs.declared.types.Kind.{Kind}
+use Rattle.pb_schema.specs.declared.types.Kind.TheVariants as kind
+use Rattle.pb_schema.specs.declared.types.Shape.{Shape}
+use Rattle.pb_schema.specs.declared.types.Shape.TheVariants as shape
+use Rattle.pb_schema.specs.declared.types.Field.{Field}
+use Rattle.pb_schema.specs.View.{field_view}
+use Rattle.pb_schema.specs.Types.{FieldView, MessageView, EnumView, FileView, Types}
+use Rattle.pb_schema.specs.Names.{with_front, fronts_from, packages_of}
+use Rattle.pb_schema.specs.Imports.{AreReached, IsSeen}
+use Rattle.pb_schema.specs.Marks.{NotesMember, AreMembers, BitsSee, KindIsMarked}
+use Rattle.pb_schema.specs.Rules.{IsMemberOf, HasMember, TypeIsSeen, IsFree}
+
+-- a test of a first part
+pub part_stops : {Whole A B : Type 0} {b : Bool} → Whole ↔ (A × B) → (IsTrue b ↔ A) → b ≡ false → IsTrue false ↔ Whole
+part_stops both test fails = (λ e. absurd (false≢true e), λ w. absurd (false≢true (sym fails ∙ test.1 (both.0 w).0)))
+
+pub part_goes_on : {Whole A B : Type 0} {b : Bool} → Whole ↔ (A × B) → (IsTrue b ↔ A) → b ≡ true → Whole ↔ B
+part_goes_on both test passes = (λ w. (both.0 w).1, λ rest. both.1 (test.0 passes, rest))
+
+pub all_iff : {X : Type 0} (P Q : X → Type 0) → ((x : X) → P x ↔ Q x) → (xs : List X) → AllByRecursion P xs ↔ AllByRecursion Q xs
+all_iff P Q same [] = (λ _. tt, λ _. tt)
+all_iff P Q same (x ∷ xs) =
+    (λ all. ((same x).0 all.0, (all_iff P Q same xs).0 all.1), λ all. ((same x).1 all.0, (all_iff P Q same xs).1 all.1))
+
+-- PACKAGES
+
+front_split : (P : List ℕ → Type 0) (dot : Bool) (front : List ℕ) (fronts : List (List ℕ)) → AllByRecursion P (with_front dot front fronts) ↔ (AllByRecursion P (with_front dot front []) × AllByRecursion P fronts)
+front_split P true front fronts = (λ all. ((all.0, tt), all.1), λ all. (all.0.0, all.1))
+front_split P false front fronts = (λ all. (tt, all), λ all. all.1)
+
+pub fronts_more : (P : List ℕ → Type 0) (name : List ℕ) (i : ℕ) → i < length name → AllByRecursion P (fronts_from (take i name) (drop i name)) ↔ (AllByRecursion P (with_front (get_or name i 0 == 46) (take i name) []) × AllByRecursion P (fronts_from (take (i + 1) name) (drop (i + 1) name)))
+fronts_more P name i h =
+    let c = get_or name i 0 in
+    let same : AllByRecursion P (fronts_from (take i name) (drop i name)) ≡ AllByRecursion P (with_front (c == 46) (take i name) (fronts_from (take (i + 1) name) (drop (i + 1) name))) = ap (λ l. AllByRecursion P (fronts_from (take i name) l)) (drop_more name i 0 h) ∙ ap (λ f. AllByRecursion P (with_front (c == 46) (take i name) (fronts_from f (drop (i + 1) name)))) (sym (take_more name i 0 h)) in
+    subst (λ T. T ↔ (AllByRecursion P (with_front (c == 46) (take i name) []) × AllByRecursion P (fronts_from (take (i + 1) name) (drop (i + 1) name)))) (sym same) (front_split P (c == 46) (take i name) (fronts_from (take (i + 1) name) (drop (i + 1) name)))
+
+pub fronts_end : (P : List ℕ → Type 0) (name : List ℕ) (i : ℕ) → length name ≤ i → AllByRecursion P (fronts_from (take i name) (drop i name))
+fronts_end P name i h = subst (λ l. AllByRecursion P (fronts_from (take i name) l)) (sym (nothing name i h)) tt
+  where
+    nothing : (xs : List ℕ) (k : ℕ) → length xs ≤ k → drop k xs ≡ []
+    nothing [] zero h = refl
+    nothing [] (suc k) h = refl
+    nothing (x ∷ xs) zero h = absurd (omega (arith, h))
+    nothing (x ∷ xs) (suc k) h = nothing xs k (omega (arith, h))
+
+pub packages_of-some : (P : List ℕ → Type 0) (name : List ℕ) → name ≢ [] → AllByRecursion P (packages_of name) ↔ (P name × AllByRecursion P (fronts_from [] name))
+packages_of-some P [] some = absurd (some refl)
+packages_of-some P (c ∷ cs) some = (λ all. all, λ all. all)
+
+defaults : {X : Type 0} (xs : List X) (i : ℕ) (d e : X) → i < length xs → get_or xs i d ≡ get_or xs i e
+defaults [] i d e h = absurd (omega (arith, h))
+defaults (x ∷ xs) zero d e h = refl
+defaults (x ∷ xs) (suc i) d e h = defaults xs i d e (omega (arith, h))
+
+-- ONEOFS
+
+member_push : (o : ℕ) (fs : List FieldView) (f : FieldView) → HasMember o (fs ++ f ∷ []) ↔ (HasMember o fs ⊎ IsMemberOf o f.shape)
+member_push o [] f = (λ h. ⊎_elim (λ m. inr m) (λ e. absurd e) h, λ h. ⊎_elim (λ e. absurd e) (λ m. inl m) h)
+member_push o (g ∷ gs) f = (
+  λ h. ⊎_elim (λ m. inl (inl m)) (λ later. ⊎_elim (λ m. inl (inr m)) (λ m. inr m) ((member_push o gs f).0 later)) h,
+  λ h. ⊎_elim (λ m. ⊎_elim (λ here. inl here) (λ later. inr ((member_push o gs f).1 (inl later))) m) (λ m. inr ((member_push o gs f).1 (inr m))) h,
+)
+
+pub AreMembers-push : (n : ℕ) (fs : List FieldView) (f : FieldView) (a b : List Bool) → AreMembers n fs a → NotesMember f.shape a b → AreMembers n (fs ++ f ∷ []) b
+AreMembers-push n fs f a b was note = record {
+  size = note.size ∙ was.size;
+  exact = λ o h.
+      let within : o < length a = omega (arith, h, was.size) in (
+        λ e. (member_push o fs f).1 (⊎_elim (λ old. inl ((was.exact o h).0 old)) inr ((note.exact o within).0 e)),
+        λ m. (note.exact o within).1 (⊎_elim (λ old. inl ((was.exact o h).1 old)) inr ((member_push o fs f).0 m)),
+      );
+}
+
+clear : (n j : ℕ) → get_or (replicate n false) j false ≡ false
+clear zero j = refl
+clear (suc n) zero = refl
+clear (suc n) (suc j) = clear n j
+
+pub AreMembers-none : (n : ℕ) → AreMembers n [] (replicate n false)
+AreMembers-none n = record {
+  size = length-replicate n false;
+  exact = λ o h. (λ e. absurd (false≢true (sym (clear n o) ∙ e)), λ m. absurd m);
+}
+
+pub notes_other : (s : Shape) (bits : List Bool) → ((o : ℕ) → o < length bits → ¬ IsMemberOf o s) → NotesMember s bits bits
+notes_other s bits none = record { size = refl; exact = λ o h. (inl, λ m. ⊎_elim (λ e. e) (λ is. absurd (none o h is)) m) }
+
+pub notes_member : (i : ℕ) (bits : List Bool) → i < length bits → NotesMember (shape.OneofMember i) bits (set bits i true)
+notes_member i bits h = record {
+  size = length-set bits i true;
+  exact = λ o k. (
+    λ now. ⊎_elim (λ e. inr e) (λ ne. inl (sym (get_or-set_other bits i o true false ne) ∙ now)) (cases_eq o i),
+    λ m.
+        ⊎_elim
+        (λ e. subst (λ j. get_or (set bits i true) j false ≡ true) (sym e) (get_or-set_same bits i true false h))
+        (λ ne. get_or-set_other bits i o true false ne ∙ ⊎_elim (λ old. old) (λ e. absurd (ne e)) m) (cases_eq o i),
+  );
+}
+
+pub members_all : (n : ℕ) (fs : List FieldView) (bits : List Bool) → AreMembers n fs bits → AllByRecursion IsTrue bits ↔ ((o : ℕ) → o < n → HasMember o fs)
+members_all n fs bits are = (
+  λ all o h. (are.exact o h).0 (All-from_recursion IsTrue bits all o false (omega (arith, h, are.size))),
+  λ each. recursion_from_All IsTrue bits (λ k d h. at k d h (each k (omega (arith, h, are.size)))),
+)
+  where
+    at : (k : ℕ) (d : Bool) → k < length bits → HasMember k fs → get_or bits k d ≡ true
+    at k d h m = defaults bits k d false h ∙ (are.exact k (omega (arith, h, are.size))).1 m
+
+-- TYPES
+
+sees_iff : (ts : Types) (start : ℕ) (bits : List Bool) (file : ℕ) → AreReached ts.files start bits → BitsSee start bits file ↔ IsSeen ts.files start file
+sees_iff ts start bits file are =
+    (λ s. ⊎_elim inl (λ e. inr ((are.exact file).0 e)) s, λ s. ⊎_elim inl (λ r. inr ((are.exact file).1 r)) s)
+
+some_iff : {X : Type 0} (P Q : X → Type 0) (o : Option X) → ((x : X) → P x ↔ Q x) → IfSome o P ↔ IfSome o Q
+some_iff P Q None same = (λ _. tt, λ _. tt)
+some_iff P Q (Some x) same = same x
+
+pub marked_iff : (ts : Types) (start : ℕ) (bits : List Bool) (k : Kind) → AreReached ts.files start bits → KindIsMarked ts.messages ts.enums start bits k ↔ TypeIsSeen ts start k
+marked_iff ts start bits (kind.Enum e) are = some_iff (λ (t : EnumView). BitsSee start bits t.file) (λ t. IsSeen ts.files start t.file) (slice_get ts.enums e.0) (λ t. sees_iff ts start bits t.file are)
+marked_iff ts start bits (kind.Message m) are = some_iff (λ (t : MessageView). BitsSee start bits t.file) (λ t. IsSeen ts.files start t.file) (slice_get ts.messages m.0) (λ t. sees_iff ts start bits t.file are)
+marked_iff ts start bits kind.Double are = (λ u. u, λ u. u)
+marked_iff ts start bits kind.Float are = (λ u. u, λ u. u)
+marked_iff ts start bits kind.Int64 are = (λ u. u, λ u. u)
+marked_iff ts start bits kind.Uint64 are = (λ u. u, λ u. u)
+marked_iff ts start bits kind.Int32 are = (λ u. u, λ u. u)
+marked_iff ts start bits kind.Fixed64 are = (λ u. u, λ u. u)
+marked_iff ts start bits kind.Fixed32 are = (λ u. u, λ u. u)
+marked_iff ts start bits kind.Bool are = (λ u. u, λ u. u)
+marked_iff ts start bits kind.Text are = (λ u. u, λ u. u)
+marked_iff ts start bits kind.Bytes are = (λ u. u, λ u. u)
+marked_iff ts start bits kind.Uint32 are = (λ u. u, λ u. u)
+marked_iff ts start bits kind.Sfixed32 are = (λ u. u, λ u. u)
+marked_iff ts start bits kind.Sfixed64 are = (λ u. u, λ u. u)
+marked_iff ts start bits kind.Sint32 are = (λ u. u, λ u. u)
+marked_iff ts start bits kind.Sint64 are = (λ u. u, λ u. u)
+
+pub AreMembers-more : (n : ℕ) (xs : List Field) (i : ℕ) (x : Field) (a b : List Bool) → i < length xs → x ≡ get_or xs i x → AreMembers n (map field_view (take i xs)) a → NotesMember x.shape a b → AreMembers n (map field_view (take (i + 1) xs)) b
+AreMembers-more n xs i x a b h is was note =
+    let one_more : take (i + 1) xs ≡ take i xs ++ x ∷ [] = take_more xs i x h ∙ ap (λ y. take i xs ++ y ∷ []) (sym is) in
+    let e : map field_view (take (i + 1) xs) ≡ map field_view (take i xs) ++ field_view x ∷ [] = ap (map field_view) one_more ∙ map-append field_view (take i xs) (x ∷ []) in
+    subst (λ l. AreMembers n l b) (sym e) (AreMembers-push n (map field_view (take i xs)) (field_view x) a b was note)
+
+pub all_at : {X Y : Type 0} (P : Y → Type 0) (f : X → Y) (xs : List X) (i : ℕ) (x : X) → AllByRecursion P (map f xs) → i < length xs → x ≡ get_or xs i x → P (f x)
+all_at P f [] i x all h is = absurd (omega (arith, h))
+all_at P f (y ∷ ys) zero x all h is = subst (λ z. P (f z)) (sym is) all.0
+all_at P f (y ∷ ys) (suc i) x all h is = all_at P f ys i x all.1 (omega (arith, h)) is
+
+pub and_iff : {A B : Type 0} (a b : Bool) → (IsTrue a ↔ A) → (IsTrue b ↔ B) → IsTrue (a && b) ↔ (A × B)
+and_iff true b f g = (λ e. (f.0 refl, g.0 e), λ p. g.1 p.1)
+and_iff false b f g = (λ e. absurd (false≢true e), λ p. f.1 p.0)
+
+-- a free package, by two lists with the same names
+pub free_iff : (keys names : List (List ℕ)) → ((x : List ℕ) → Contains keys x ↔ Contains names x) → (files : List FileView) → AllByRecursion (λ f. IsFree keys f.package_name) files ↔ AllByRecursion (λ f. IsFree names f.package_name) files
+free_iff keys names same files =
+    all_iff (λ (f : FileView). IsFree keys f.package_name) (λ f. IsFree names f.package_name) (λ f. all_iff (λ p. ¬ Contains keys p) (λ p. ¬ Contains names p) (λ p. (λ no h. no ((same p).1 h), λ no h. no ((same p).0 h))) (packages_of f.package_name)) files
+
+pub seen_iff : (ts : Types) (start file : ℕ) (bits : List Bool) (fs : List FieldView) → start ≡ file → AreReached ts.files file bits → AllByRecursion (λ f. KindIsMarked ts.messages ts.enums start bits f.kind) fs ↔ AllByRecursion (λ f. TypeIsSeen ts file f.kind) fs
+seen_iff ts start file bits fs e are =
+    subst (λ k. AllByRecursion (λ (f : FieldView). KindIsMarked ts.messages ts.enums k bits f.kind) fs ↔ AllByRecursion (λ f. TypeIsSeen ts file f.kind) fs) (sym e) (all_iff (λ (f : FieldView). KindIsMarked ts.messages ts.enums file bits f.kind) (λ f. TypeIsSeen ts file f.kind) (λ f. marked_iff ts file bits f.kind are) fs)

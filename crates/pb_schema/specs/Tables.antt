@@ -1,0 +1,38 @@
+-- Tables for look-ups.
+use Rattle.std.specs.Prelude.{◌≡◌, ◌↔◌, ℕ, List, [], ◌∷◌, Option, Some, option_map, Contains, slice_get, position, find, Vec}
+use Rattle.std.specs.List.Sorted.{IsNonDecreasingBy}
+use Rattle.std.specs.Str.{bytes_eq}
+use Rattle.std.specs.declared.alloc.Global.{Global}
+use Rattle.pb_schema.specs.View.{bytes_of}
+use Rattle.pb_schema.specs.Types.{FieldView, MessageView, Types}
+use Rattle.pb_schema.specs.Names.{message_names, enum_names}
+
+-- the field at the index has the number
+abbrev pub IsNumbered : List FieldView → ℕ → ℕ → Type 0
+IsNumbered fs n i = option_map (λ f. f.number) (slice_get fs i) ≡ Some n
+
+-- the numbers of the fields in rising order, each with the index of its field
+pub record IsNumberTable (fs : List FieldView) (table : List (ℕ × ℕ)) : Type 0 where
+  pub rising : IsNonDecreasingBy (λ e. e.0) table
+  pub exact : (n i : ℕ) → Contains table (n, i) ↔ IsNumbered fs n i
+
+-- a table for each message
+abbrev pub AreNumberTables : List MessageView → List (Vec (ℕ × ℕ) Global) → Type 0
+AreNumberTables [] [] = Unit {0}
+AreNumberTables [] (n ∷ ns) = ⊥
+AreNumberTables (t ∷ ts) [] = ⊥
+AreNumberTables (t ∷ ts) (n ∷ ns) = IsNumberTable t.fields n.items × AreNumberTables ts ns
+
+-- the first place of a name among names
+abbrev pub place_of : List ℕ → List (List ℕ) → Option ℕ
+place_of name names = position (λ x. bytes_eq name x) names
+
+-- the field of a simple name among some
+abbrev pub field_named : List ℕ → List FieldView → Option FieldView
+field_named name fs = find (λ f. bytes_eq f.name name) fs
+
+-- the tables of a pool: the full names of messages and enums in their order, and the numbers of each message
+pub record HasTables (ts : Types) (message_keys enum_keys : List (Vec ℕ Global)) (number_tables : List (Vec (ℕ × ℕ) Global)) : Type 0 where
+  pub messages : bytes_of message_keys ≡ message_names ts
+  pub enums : bytes_of enum_keys ≡ enum_names ts
+  pub numbers : AreNumberTables ts.messages number_tables

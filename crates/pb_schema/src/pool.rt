@@ -1,0 +1,149 @@
+//! Pools: types that meet their rules.
+
+use crate::error::PoolError;
+use crate::number_table::field_at;
+use crate::tables::{Tables, checked};
+use crate::types::{EnumId, EnumType, Field, FileInfo, MessageId, MessageType};
+use std::alloc::Global;
+use std::marker::Model;
+
+/// Message types and enums with their files. Every rule of docs/SCHEMAS.md holds of them.
+#[derive(Debug, Drop)]
+pub struct Pool {
+    files: Vec<FileInfo>,
+    messages: Vec<MessageType>,
+    enums: Vec<EnumType>,
+    tables: Tables,
+}
+
+impl Model for Pool {
+    ghost use Rattle.pb_schema.specs.Types.{Types};
+
+    ghost Value = { Types };
+
+    ghost use Rattle.pb_schema.specs.View.{types_of};
+    ghost use Rattle.pb_schema.specs.Rules.{IsPool};
+    ghost use Rattle.pb_schema.specs.Tables.{HasTables};
+
+    ghost view = { λ p. types_of p.files.items p.messages.items p.enums.items };
+
+    ghost invariant = { λ p. IsPool (types_of p.files.items p.messages.items p.enums.items) × HasTables (types_of p.files.items p.messages.items p.enums.items) p.tables.messages.keys p.tables.enums.keys p.tables.numbers.items };
+}
+
+impl Pool {
+    ghost use Rattle.std.specs.Prelude.{◌≡◌, ◌<◌, length, map, option_map, IfOk, IfErr, IfSome};
+    ghost use Rattle.pb_schema.specs.declared.error.PoolError.TheVariants.{BadParts};
+    ghost use Rattle.pb_schema.specs.Types.{message_fields, field_numbered};
+    ghost use Rattle.pb_schema.specs.View.{field_view, file_view, message_view, enum_view, types_of};
+    ghost use Rattle.pb_schema.specs.Names.{message_names as message_names_of, enum_names as enum_names_of};
+    ghost use Rattle.pb_schema.specs.Tables.{place_of, field_named};
+    ghost use Rattle.pb_schema.specs.Rules.{IsPool, IsFieldOf};
+
+    /// The pool of its parts, where they meet every rule.
+    ///
+    /// Takes memory for tables of names and numbers, and time in proportion to the parts; imports take at most the number of files
+    /// times the number of imports.
+    pub fn from_parts(
+        alloc: Global,
+        files: Vec<FileInfo>,
+        messages: Vec<MessageType>,
+        enums: Vec<EnumType>,
+    ) -> Result<Pool, PoolError>
+        ensures made { IfOk result (λ p. p ≡ types_of files.items messages.items enums.items) }
+        ensures rules { IfOk result (λ p. IsPool p) }
+        ensures refused { IfErr result (λ e. e ≡ BadParts → ¬ IsPool (types_of files.items messages.items enums.items)) }
+    {
+        match checked(alloc, &files, &messages, &enums)? {
+            Some(tables) => Ok(Pool {
+                files,
+                messages,
+                enums,
+                tables,
+            }),
+            None => Err(PoolError::BadParts),
+        }
+    }
+
+    /// The files, in their order.
+    pub fn files(&self) -> &[FileInfo]
+        ensures listed { map file_view result.now ≡ self.now.files }
+        ensures rules { IsPool self.now }
+    {
+        self.files.as_slice()
+    }
+
+    /// The message types, in declaration order. A `MessageId` is an index here.
+    pub fn messages(&self) -> &[MessageType]
+        ensures listed { map message_view result.now ≡ self.now.messages }
+        ensures rules { IsPool self.now }
+    {
+        self.messages.as_slice()
+    }
+
+    /// The enums, in declaration order. An `EnumId` is an index here.
+    pub fn enums(&self) -> &[EnumType]
+        ensures listed { map enum_view result.now ≡ self.now.enums }
+        ensures rules { IsPool self.now }
+    {
+        self.enums.as_slice()
+    }
+
+    /// The message type of a full name, which has no leading dot.
+    pub fn message_by_name(&self, name: &str) -> Option<MessageId>
+        ensures found { option_map (λ m. m.0) result ≡ place_of name.now (message_names_of self.now) }
+        ensures within { IfSome result (λ m. m.0 < length self.now.messages) }
+    {
+        match self.tables.messages.get_index_of(name.as_bytes()) {
+            Some(index) => Some(MessageId(index)),
+            None => None,
+        }
+    }
+
+    /// The enum of a full name, which has no leading dot.
+    pub fn enum_by_name(&self, name: &str) -> Option<EnumId>
+        ensures found { option_map (λ e. e.0) result ≡ place_of name.now (enum_names_of self.now) }
+        ensures within { IfSome result (λ e. e.0 < length self.now.enums) }
+    {
+        match self.tables.enums.get_index_of(name.as_bytes()) {
+            Some(index) => Some(EnumId(index)),
+            None => None,
+        }
+    }
+
+    /// The field of a number in a message type.
+    pub fn field_by_number(&self, message: MessageId, number: u32) -> Option<&Field>
+        requires { message.0 < length self.now.messages }
+        ensures found { option_map (λ f. field_view f.now) result ≡ field_numbered number (message_fields self.now message.0) }
+        ensures rules { IfSome result (λ f. IsFieldOf self.now message.0 (field_view f.now)) }
+    {
+        field_at(
+            &self.messages[message.0].fields,
+            &self.tables.numbers[message.0],
+            number,
+        )
+    }
+
+    /// The field of a simple name in a message type.
+    pub fn field_by_name(&self, message: MessageId, name: &str) -> Option<&Field>
+        requires { message.0 < length self.now.messages }
+        ensures found { option_map (λ f. field_view f.now) result ≡ field_named name.now (message_fields self.now message.0) }
+        ensures rules { IfSome result (λ f. IsFieldOf self.now message.0 (field_view f.now)) }
+    {
+        find_name(&self.messages[message.0].fields, name)
+    }
+}
+
+ghost use Rattle.std.specs.Prelude.{◌≡◌, map, option_map};
+ghost use Rattle.pb_schema.specs.View.{field_view as view_of_field};
+ghost use Rattle.pb_schema.specs.Tables.{field_named as named_field};
+
+fn find_name<'a>(fields: &'a [Field], name: &str) -> Option<&'a Field>
+    ensures { option_map (λ f. view_of_field f.now) result ≡ named_field name.now (map view_of_field fields.now) }
+{
+    for field in fields {
+        if field.name.as_str() == name {
+            return Some(field);
+        }
+    }
+    None
+}

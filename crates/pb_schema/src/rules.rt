@@ -1,0 +1,130 @@
+//! All rules of a pool.
+
+ghost use Rattle.std.specs.Prelude.{◌≡◌, ◌↔◌, ℕ, IsTrue, IfOk, map, length};
+ghost use Rattle.pb_schema.specs.View.{file_view, message_view, enum_view, types_of};
+ghost use Rattle.pb_schema.specs.Nesting.{ParentsStandBefore};
+ghost use Rattle.pb_schema.specs.Rules.{ImportsNameFiles, MessagesHaveFiles, FileRules, IndexRules, NameRules, ShapeRules, FieldRules, FullNamesDiffer, PackagesAreFree, IsPool};
+
+use crate::field_rules::{numbers_differ, oneofs_have_members, types_are_seen};
+use crate::file_rules::{
+    file_names_differ, files_are_named, imports_are_few, imports_name_files, packages_are_words,
+};
+use crate::imports::no_file_reaches_itself;
+use crate::index_rules::{
+    enums_have_files, enums_share_file_with_parent, kinds_name_types, members_name_oneofs,
+    messages_have_files, messages_share_file_with_parent,
+};
+use crate::name_rules::{enum_names_are_words, message_names_are_words, packages_are_free};
+use crate::names::{declared_names, message_names};
+use crate::order_rules::{enums_stand_in_order, messages_stand_in_order};
+use crate::shape_rules::{
+    enums_begin_at_zero, implicit_are_scalars, keys_are_key_kinds, numbers_are_field_numbers,
+    packed_are_packable,
+};
+use crate::types::{EnumType, FileInfo, MessageType};
+use std::alloc::{AllocError, Global};
+
+fn files_meet_rules(alloc: Global, files: &[FileInfo]) -> Result<bool, AllocError>
+    ensures { IfOk result (λ holds. IsTrue holds ↔ FileRules (map file_view files.now)) }
+{
+    let listed = files_are_named(files)
+        && packages_are_words(files)
+        && imports_are_few(files)
+        && imports_name_files(files);
+    if !listed {
+        return Ok(false);
+    }
+    let differ = file_names_differ(alloc, files)?;
+    let free_of_cycles = no_file_reaches_itself(alloc, files)?;
+    Ok(differ && free_of_cycles)
+}
+
+fn indexes_meet_rules(files: &[FileInfo], messages: &[MessageType], enums: &[EnumType]) -> bool
+    ensures { IsTrue result ↔ IndexRules (types_of files.now messages.now enums.now) }
+{
+    messages_have_files(files, messages)
+        && enums_have_files(files, enums)
+        && messages_share_file_with_parent(messages)
+        && enums_share_file_with_parent(messages, enums)
+        && kinds_name_types(messages, enums)
+        && members_name_oneofs(messages)
+}
+
+fn shapes_meet_rules(messages: &[MessageType]) -> bool
+    ensures { IsTrue result ↔ ShapeRules (map message_view messages.now) }
+{
+    numbers_are_field_numbers(messages)
+        && keys_are_key_kinds(messages)
+        && packed_are_packable(messages)
+        && implicit_are_scalars(messages)
+}
+
+fn fields_meet_rules(
+    alloc: Global,
+    files: &[FileInfo],
+    messages: &[MessageType],
+    enums: &[EnumType],
+) -> Result<bool, AllocError>
+    requires imports { ImportsNameFiles (map file_view files.now) }
+    requires within { MessagesHaveFiles (map file_view files.now) (map message_view messages.now) }
+    ensures { IfOk result (λ holds. IsTrue holds ↔ FieldRules (types_of files.now messages.now enums.now)) }
+{
+    let differ = numbers_differ(alloc, messages)?;
+    let seen = types_are_seen(alloc, files, messages, enums)?;
+    let oneofs = oneofs_have_members(alloc, messages)?;
+    Ok(differ && seen && oneofs && shapes_meet_rules(messages))
+}
+
+fn full_names_meet_rules(
+    alloc: Global,
+    files: &[FileInfo],
+    messages: &[MessageType],
+    enums: &[EnumType],
+) -> Result<bool, AllocError>
+    requires { ParentsStandBefore (map message_view messages.now) (length messages.now) }
+    ensures { IfOk result (λ holds. IsTrue holds ↔ (FullNamesDiffer (types_of files.now messages.now enums.now) × PackagesAreFree (types_of files.now messages.now enums.now))) }
+{
+    let names = message_names(alloc, files, messages)?;
+    let declared = declared_names(alloc, files, messages, enums, &names)?;
+    let free = packages_are_free(&declared, files);
+    Ok(declared.differ & free)
+}
+
+fn names_meet_rules(
+    alloc: Global,
+    files: &[FileInfo],
+    messages: &[MessageType],
+    enums: &[EnumType],
+) -> Result<bool, AllocError>
+    requires { ParentsStandBefore (map message_view messages.now) (length messages.now) }
+    ensures { IfOk result (λ holds. IsTrue holds ↔ NameRules (types_of files.now messages.now enums.now)) }
+{
+    let words = message_names_are_words(alloc, messages)?;
+    let full = full_names_meet_rules(alloc, files, messages, enums)?;
+    Ok(words && full && enum_names_are_words(enums))
+}
+
+/// Whether parts meet every rule of a pool.
+pub(crate) fn meet_rules(
+    alloc: Global,
+    files: &[FileInfo],
+    messages: &[MessageType],
+    enums: &[EnumType],
+) -> Result<bool, AllocError>
+    ensures { IfOk result (λ holds. IsTrue holds ↔ IsPool (types_of files.now messages.now enums.now)) }
+{
+    let files_hold = files_meet_rules(alloc, files)?;
+    if !files_hold || !indexes_meet_rules(files, messages, enums) {
+        return Ok(false);
+    }
+    let in_order = messages_stand_in_order(messages);
+    if !in_order {
+        return Ok(false);
+    }
+    if !enums_stand_in_order(messages, enums) {
+        return Ok(false);
+    }
+    let fields_hold = fields_meet_rules(alloc, files, messages, enums)?;
+    let names_hold = names_meet_rules(alloc, files, messages, enums)?;
+    Ok(fields_hold && names_hold && enums_begin_at_zero(enums))
+}

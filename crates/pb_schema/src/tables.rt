@@ -1,0 +1,49 @@
+//! What a pool keeps beside its parts.
+
+ghost use Rattle.std.specs.Prelude.{◌≡◌, IfOk, IfSome, IfNone};
+ghost use Rattle.pb_schema.specs.View.{types_of};
+ghost use Rattle.pb_schema.specs.Rules.{IsPool};
+ghost use Rattle.pb_schema.specs.Tables.{HasTables};
+
+use crate::name_set::NameSet;
+use crate::names::{enum_names, message_names};
+use crate::number_table::{NumberTable, number_tables};
+use crate::rules::meet_rules;
+use crate::types::{EnumType, FileInfo, MessageType};
+use indexmap::IndexSet;
+use std::alloc::{AllocError, Global};
+
+/// The full names of messages and enums in their order, and the numbers of each message's fields.
+#[derive(Debug, Drop)]
+pub(crate) struct Tables {
+    pub(crate) messages: IndexSet<Vec<u8>>,
+    pub(crate) enums: IndexSet<Vec<u8>>,
+    pub(crate) numbers: Vec<NumberTable>,
+}
+
+/// The tables of parts that meet every rule; None where they do not.
+pub(crate) fn checked(
+    alloc: Global,
+    files: &[FileInfo],
+    messages: &[MessageType],
+    enums: &[EnumType],
+) -> Result<Option<Tables>, AllocError>
+    ensures meets { IfOk result (λ o. IfSome o (λ t. IsPool (types_of files.now messages.now enums.now))) }
+    ensures tables { IfOk result (λ o. IfSome o (λ t. HasTables (types_of files.now messages.now enums.now) t.messages.keys t.enums.keys t.numbers.items)) }
+    ensures none { IfOk result (λ o. IfNone o (¬ IsPool (types_of files.now messages.now enums.now))) }
+{
+    let holds = meet_rules(alloc, files, messages, enums)?;
+    if !holds {
+        return Ok(None);
+    }
+    let names = message_names(alloc, files, messages)?;
+    let names_of_enums = enum_names(alloc, files, &names, enums)?;
+    let enum_set = NameSet::collect(alloc, names_of_enums)?;
+    let message_set = NameSet::collect(alloc, names)?;
+    let numbers = number_tables(alloc, messages)?;
+    Ok(Some(Tables {
+        messages: message_set.table,
+        enums: enum_set.table,
+        numbers,
+    }))
+}
