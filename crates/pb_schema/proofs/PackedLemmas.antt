@@ -6,7 +6,7 @@ use Rattle.std.proofs.lemmas.Nat.{le_bytes_4, le_bytes_8, from_le_bytes-to_le_by
 use Rattle.std.proofs.lemmas.Bool.Decides.{nat_tests}
 use Rattle.pb_wire.specs.Varint.{EndsOnce, groups_value}
 use Rattle.pb_wire.specs.Record.{Payload, varint, fixed64, len, group, fixed32}
-use Rattle.pb_wire.specs.Exact.{IsByte}
+use Rattle.pb_wire.specs.Ranges.{IsByte}
 use Rattle.pb_wire.specs.Schema.{a_varint, four_bytes, eight_bytes}
 use Rattle.pb_wire.specs.Sound.{varint_element, four_element, eight_element, AreElements, no_elements, element}
 use Rattle.std.proofs.lemmas.Bool.{false≢true}

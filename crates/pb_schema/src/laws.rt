@@ -3,7 +3,7 @@
 ghost use Rattle.std.specs.Prelude.{◌≡◌, ℕ, List, Some, IsTrue};
 ghost use Rattle.std.specs.List.{AllByRecursion};
 ghost use Rattle.pb_wire.specs.Record.{Payload};
-ghost use Rattle.pb_wire.specs.Exact.{IsByte};
+ghost use Rattle.pb_wire.specs.Ranges.{IsByte};
 ghost use Rattle.pb_wire.specs.Sound.{AreElements};
 ghost use Rattle.pb_schema.specs.declared.types.Kind.{Kind as TheKind};
 ghost use Rattle.pb_schema.specs.Scalar.{Scalar as ScalarValue};

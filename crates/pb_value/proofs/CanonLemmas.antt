@@ -211,5 +211,5 @@ pub canon-spelled :
     (pool : Types) (m : ℕ) (v : Message) → IsPool pool → IsBody pool m v → length (canon_bytes pool m v) < 2 ^ 31
     → AreRecords (canon pool m v) (canon_bytes pool m v)
 canon-spelled pool m v rules w small =
-    let g = good pool (λ n. numbers_at pool pool.messages n rules.fields.numbers) m v w in
+    let g = good pool (λ n. numbers_at pool pool.messages n rules.fields.shapes.numbers) m v w in
     shortest_records-spells (canon pool m v) g.in_range (writable_records (canon pool m v) g.numbered small)

@@ -12,8 +12,7 @@ use crate::body::{Body, Content};
 use crate::error::ValueError;
 use crate::judge::is_absence;
 use crate::oneof::set_member;
-use crate::pool_stub::Pool;
-use pb_schema::{MessageId, Shape};
+use pb_schema::{MessageId, Pool, Shape};
 use std::collections::BTreeMap;
 
 /// Clears the field of a number.

@@ -16,9 +16,8 @@ use crate::depth::{MAX_LEVELS, message_within};
 use crate::error::ValueError;
 use crate::judge::{has_shape, holds_kind, is_absence, is_key_of, is_value_of};
 use crate::lookup::field_at;
-use crate::pool_stub::Pool;
 use crate::unknown::check_unknown;
-use pb_schema::{Kind, MessageId, Shape};
+use pb_schema::{Kind, MessageId, Pool, Shape};
 use std::alloc::Global;
 use std::collections::{BTreeMap, BTreeSet};
 

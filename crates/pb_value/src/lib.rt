@@ -11,11 +11,9 @@ mod judge;
 mod laws;
 mod lookup;
 mod oneof;
-mod pool_stub;
 mod unknown;
 
 pub use dynamic::{DynamicMessage, default_value};
 pub use error::ValueError;
-pub use pool_stub::Pool;
 pub use body::{Body, Content, MapKey, Value};
 pub use laws::{canonical_spelling, key_order, no_cause, one_value};

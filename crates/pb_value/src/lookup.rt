@@ -5,8 +5,7 @@ ghost use Rattle.pb_schema.specs.Types.{message_fields, field_numbered};
 ghost use Rattle.pb_schema.specs.View.{field_view};
 ghost use Rattle.pb_schema.specs.Rules.{IsPool, NamesType};
 
-use crate::pool_stub::Pool;
-use pb_schema::{Field, MessageId};
+use pb_schema::{Field, MessageId, Pool};
 
 /// The field of a number in a message type. The type that its kind names is one of the pool.
 pub(crate) fn field_at(pool: &Pool, kind: MessageId, number: u32) -> Option<&Field>
@@ -15,5 +14,7 @@ pub(crate) fn field_at(pool: &Pool, kind: MessageId, number: u32) -> Option<&Fie
     ensures named { IfSome result (λ f. NamesType (length pool.now.messages) (length pool.now.enums) f.now.kind) }
     ensures rules { IsPool pool.now }
 {
+    // Its contract says that the pool meets its rules.
+    let _ = pool.messages();
     pool.field_by_number(kind, number)
 }

@@ -8,8 +8,7 @@ ghost use Rattle.pb_value.specs.View.{fields_view};
 
 use crate::body::Content;
 use crate::lookup::field_at;
-use crate::pool_stub::Pool;
-use pb_schema::{MessageId, Shape};
+use pb_schema::{MessageId, Pool, Shape};
 use std::collections::BTreeMap;
 
 fn is_member_in(shape: Shape, oneof: u32) -> bool

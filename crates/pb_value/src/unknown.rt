@@ -11,8 +11,7 @@ ghost use Rattle.pb_value.specs.Canon.{record_of};
 
 use crate::error::ValueError;
 use crate::lookup::field_at;
-use crate::pool_stub::{Pool, fits};
-use pb_schema::MessageId;
+use pb_schema::{MessageId, Pool, fits};
 use pb_wire::Unknown;
 
 /// The least number above those that a record may have.
