@@ -1,6 +1,6 @@
 -- Bytes are below 256: those of texts, of numbers and of shortest spellings.
-use Rattle.std.proofs.Common.{◌≡◌, ℕ, zero, suc, ◌+◌, ◌*◌, ◌/◌, ◌%◌, ◌^◌, ◌<◌, ◌≤◌, List, [], ◌∷◌, ◌++◌, length, arith, inl, inr, sym, subst, length-append, ⊎_elim}
-use Rattle.std.specs.Prelude.{◌⊎◌, Bool, true, false, IsUtf8, ◌&&◌, encode_utf8_all, nat_lt, cond}
+use Rattle.std.proofs.Common.{◌≡◌, ℕ, zero, suc, ◌+◌, ◌*◌, ◌/◌, ◌<◌, ◌≤◌, List, [], ◌∷◌, ◌++◌, length, arith, subst, ⊎_elim}
+use Rattle.std.specs.Prelude.{Bool, true, false, IsUtf8, ◌&&◌, encode_utf8_all}
 use Rattle.std.specs.Char.{IsScalar, encode_utf8}
 use Rattle.std.specs.Str.{all_scalars}
 use Rattle.std.specs.Int.{w32, w64, to_le_bytes}

@@ -1,13 +1,12 @@
 -- The canonical records of a well-formed message are in range, and can be written where their bytes are few enough.
-use Rattle.std.proofs.Common.{◌≡◌, ℕ, zero, suc, ◌+◌, ◌*◌, ◌/◌, ◌%◌, ◌^◌, ◌<◌, ◌≤◌, List, [], ◌∷◌, ◌++◌, length, arith, inl, inr, refl, sym, ap, ◌∙◌, subst, length-append, Option, Some, None}
+use Rattle.std.proofs.Common.{◌≡◌, ℕ, zero, suc, ◌+◌, ◌*◌, ◌^◌, ◌<◌, List, [], ◌∷◌, ◌++◌, length, arith, refl, sym, subst, length-append, Option, Some, None}
 use Rattle.std.proofs.lemmas.Int.{ints}
-use Rattle.std.specs.Prelude.{Bool, true, false, pos, negsuc, if◌then◌else◌, IsSomeAnd, find, ◌==◌, slice_get}
+use Rattle.std.specs.Prelude.{Bool, true, false, pos, negsuc, if◌then◌else◌, IsSomeAnd, ◌==◌}
 use Rattle.std.specs.List.{AllByRecursion}
-use Rattle.std.specs.Int.{w32, w64, to_le_bytes}
 use Rattle.pb_wire.specs.Varint.{shortest}
-use Rattle.pb_wire.specs.Record.{Payload, varint, fixed64, len, group, fixed32, Group, no_more, more, Record, group_of}
+use Rattle.pb_wire.specs.Record.{Payload, varint, fixed64, len, group, fixed32, Group, no_more, more, Record}
 use Rattle.pb_wire.specs.Spell.{AreRecords, shortest_record, shortest_group, shortest_records}
-use Rattle.pb_wire.specs.Ranges.{IsNumber, AreBytes, IsInRange, IsInRangeGroup, AreInRange}
+use Rattle.pb_wire.specs.Ranges.{IsNumber, AreBytes, IsInRange, AreInRange}
 use Rattle.pb_wire.specs.Inside.{IsNumbered, IsNumberedGroup, AreNumbered}
 use Rattle.pb_wire.specs.Writable.{IsWritable, IsWritableGroup, AreWritable}
 use Rattle.pb_wire.proofs.ShortestLemmas.{shortest_records-spells}
@@ -21,8 +20,8 @@ use Rattle.pb_schema.specs.Kinds.{message_of_kind, written, IsOfKind}
 use Rattle.pb_schema.specs.Packed.{number_bytes, element_bytes}
 use Rattle.pb_schema.specs.Rules.{IsPool, IsFieldNumber}
 use Rattle.pb_value.specs.Data.{Datum, scalar, message, Datums, no_datums, datum, Entries, no_entries, entry, Holding, one, list, map, Fields, no_fields, field, Message, body}
-use Rattle.pb_value.specs.Canon.{payload_of, packed_bytes, is_packed, canon, canon_each, canon_entries, canon_holding, canon_fields, by_field, sealed, message_type, key_kind, record_of, canon_bytes}
-use Rattle.pb_value.specs.WellFormed.{IsUnknown, AreUnknown, IsDatum, AreDatums, AreEntries, IsHeld, AreFields, IsBody, IsOfShape, KeysRise, key_of}
+use Rattle.pb_value.specs.Canon.{payload_of, packed_bytes, is_packed, canon, canon_each, canon_entries, canon_holding, canon_fields, sealed, key_kind, record_of, canon_bytes}
+use Rattle.pb_value.specs.WellFormed.{AreUnknown, IsDatum, AreDatums, AreEntries, IsHeld, AreFields, IsBody, IsOfShape, KeysRise, key_of}
 use Rattle.pb_value.proofs.BytesLemmas.{AreBytes-append, AreBytes-IsUtf8, AreBytes-shortest, AreBytes-four, AreBytes-eight, AreBytes-shortest_records}
 
 -- short enough in all is short enough in each part

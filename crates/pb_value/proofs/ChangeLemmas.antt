@@ -119,7 +119,7 @@ HasOneMemberEach-put_field all n low h (field k g fs) other rises w =
     (λ _. w)
     (λ a. (
       if_some (oneof_at all k) (λ (o : ℕ). HasNoMember all o (put_field n h fs))
-      (λ o e. HasNoMember-put_field all o n h fs (λ q. other.0 (λ z. absurd (omega (arith, z))) o q e) (at_some (oneof_at all k) (λ (p : ℕ). HasNoMember all p fs) o w.0 e)),
+          (λ o e. HasNoMember-put_field all o n h fs (λ q. other.0 (λ z. absurd (omega (arith, z))) o q e) (at_some (oneof_at all k) (λ (p : ℕ). HasNoMember all p fs) o w.0 e)),
       HasOneMemberEach-put_field all n (k + 1) h fs other.1 rises.1 w.1,
     ))
 
@@ -142,6 +142,7 @@ oneof_at-member all o n e = told (field_numbered n all) e
     own shape.Explicit e = λ q. cc
     own (shape.List p) e = λ q. cc
     own (shape.Map k) e = λ q. cc
+
     told : (f : Option FieldView) → is_member_at o f ≡ false → option_and_then (λ (g : FieldView). oneof_of g.shape) f ≢ Some o
     told None e = λ q. cc
     told (Some f) e = own f.shape e
@@ -151,12 +152,14 @@ member-oneof_at all o n e = told (field_numbered n all) e
   where
     same : (a b : ℕ) → (a == b) ≡ true → b ≡ a
     same a b q = grind (arith, nat_tests)
+
     own : (s : Shape) → is_member o s ≡ true → oneof_of s ≡ Some o
     own (shape.OneofMember p) e = ap (λ (q : ℕ). Some q) (same o p e)
     own shape.Implicit e = absurd (cc)
     own shape.Explicit e = absurd (cc)
     own (shape.List p) e = absurd (cc)
     own (shape.Map k) e = absurd (cc)
+
     told : (f : Option FieldView) → is_member_at o f ≡ true → option_and_then (λ (g : FieldView). oneof_of g.shape) f ≡ Some o
     told None e = absurd (cc)
     told (Some f) e = own f.shape e
@@ -178,18 +181,24 @@ member_says all o (field n g fs) w = by_test (is_member_at o (field_numbered n a
   where
     self : nat_cmp n n ≡ Equal
     self = equal_of n (nat_cmp n n) (ranks n n)
+
     later : (k : Option ℕ) → oneof_at all n ≢ Some o → MemberSays all o fs k → MemberSays all o (field n g fs) k
     later None apart h = (apart, h)
-    later (Some k) apart h =
-        (h.0, by_order (HasNoMember all o) k n (field n g (drop_field k fs)) fs (field n g (drop_field k fs)) (λ _. (apart, h.1))
-        (λ e. absurd (apart (ap (λ (i : ℕ). oneof_at all i) (sym e) ∙ h.0))) (λ _. (apart, h.1)))
+    later (Some k) apart h = (
+      h.0,
+      by_order (HasNoMember all o) k n (field n g (drop_field k fs)) fs (field n g (drop_field k fs)) (λ _. (apart, h.1))
+          (λ e. absurd (apart (ap (λ (i : ℕ). oneof_at all i) (sym e) ∙ h.0))) (λ _. (apart, h.1)),
+    )
+
     by_test :
         (b : Bool) → is_member_at o (field_numbered n all) ≡ b → MemberSays all o fs (member_set all o fs)
         → MemberSays all o (field n g fs) (if b then Some n else member_set all o fs)
     by_test true e h =
-        let own = member-oneof_at all o n e in
-        (own, subst (λ (z : Ordering). HasNoMember all o (match_ordering z (field n g (drop_field n fs)) fs (field n g (drop_field n fs)))) (sym self)
-        (at_some (oneof_at all n) (λ (p : ℕ). HasNoMember all p fs) o w.0 own))
+        let own = member-oneof_at all o n e in (
+          own,
+          subst (λ (z : Ordering). HasNoMember all o (match_ordering z (field n g (drop_field n fs)) fs (field n g (drop_field n fs)))) (sym self)
+              (at_some (oneof_at all n) (λ (p : ℕ). HasNoMember all p fs) o w.0 own),
+        )
     by_test false e h = later (member_set all o fs) (oneof_at-member all o n e) h
 
 none_is_no_other : (all : List FieldView) (o n : ℕ) (fs : Fields) → oneof_at all n ≡ Some o → HasNoMember all o fs → NoOther all n fs
@@ -205,6 +214,7 @@ no_other all o n (field k g fs) own h = by_cases (nat_cmp n k) (ranks n k) (λ w
   where
     head : oneof_at all k ≢ Some o → k ≢ n → (p : ℕ) → oneof_at all n ≡ Some p → oneof_at all k ≢ Some p
     head apart _ p e = let same : o ≡ p = cc in subst (λ (q : ℕ). oneof_at all k ≢ Some q) same apart
+
     by_cases :
         (z : Ordering) → MatchOrdering z (n < k) (n ≡ k) (k < n) → (HasNoMember all o (drop_field n fs) → NoOther all n fs)
         → HasNoMember all o (match_ordering z (field k g (drop_field n fs)) fs (field k g (drop_field n fs))) → NoOther all n (field k g fs)
@@ -229,6 +239,7 @@ way_given all o n fs (Some k) own h = by_test (k == n) refl
   where
     same : (k == n) ≡ true → k ≡ n
     same e = grind (arith, nat_tests)
+
     by_test : (b : Bool) → (k == n) ≡ b → NoOther all n (drop_some (if b then None else Some k) fs)
     by_test true e = no_other all o n fs own (subst (λ (i : ℕ). HasNoMember all o (drop_field i fs)) (same e) h.1)
     by_test false e = none_is_no_other all o n (drop_field k fs) own h.1
@@ -336,6 +347,7 @@ drop_field-put_field n k low h (field j g fs) d w = by_place (ranks_of n j) (eqb
         told Less r = inl r
         told Equal r = inr (inl r)
         told Greater r = inr (inr r)
+
     by_place :
         (n < j) ⊎ ((n ≡ j) ⊎ (j < n)) → ((k == j ≡ true) × (k ≡ j)) ⊎ ((k == j ≡ false) × (k ≢ j))
         → drop_field k (put_field n h fs) ≡ put_field n h (drop_field k fs)
@@ -365,6 +377,7 @@ other_apart n (Some j) k e = by_test (j == n) refl e
   where
     apart : (j == n) ≡ false → j ≢ n
     apart q = grind (arith, nat_tests)
+
     by_test : (b : Bool) → (j == n) ≡ b → (if b then None else Some j) ≡ Some k → k ≢ n
     by_test true q e = absurd (cc)
     by_test false q e = let same : j ≡ k = cc in subst (λ (i : ℕ). i ≢ n) same (apart q)

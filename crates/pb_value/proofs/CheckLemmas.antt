@@ -1,5 +1,5 @@
 -- How the loops that judge bodies begin, go on and end.
-use Rattle.std.proofs.Common.{◌≡◌, ℕ, ◌<◌, List, [], ◌∷◌, arith, refl, sym, ap, ◌∙◌, subst, Option, Some, None, nat_cmp}
+use Rattle.std.proofs.Common.{◌≡◌, ℕ, ◌<◌, List, [], ◌∷◌, arith, refl, sym, ap, ◌∙◌, subst, Some, None, nat_cmp}
 use Rattle.std.proofs.lemmas.Bool.Decides.{nat_tests}
 use Rattle.std.specs.Prelude.{Bool, true, false, not, ◌&&◌, nat_lt, ◌^◌}
 use Rattle.std.specs.List.{list_any}
@@ -14,7 +14,6 @@ use Rattle.pb_schema.specs.declared.types.Kind.{Kind}
 use Rattle.pb_schema.specs.Types.{FieldView, Types, message_fields, field_numbered}
 use Rattle.pb_schema.specs.Fits.{fits_any, fits_type}
 use Rattle.pb_schema.specs.Rules.{IsPool}
-use Rattle.pb_value.specs.Data.{no_entries, no_fields}
 use Rattle.pb_value.specs.Canon.{record_of}
 use Rattle.pb_value.specs.Cause.{or_else, unless, is_number, is_numbered, is_numbered_group, record_cause, stored_cause, with_member, is_second, parts_cause, entries_cause, fields_cause}
 use Rattle.pb_value.specs.WellFormed.{IsUnknown, IsOfShape, IsHeld, AreEntries, KeysRise, AreFields, RisesFrom, HasOneMemberEach}
@@ -24,7 +23,7 @@ use Rattle.pb_value.specs.declared.body.MapKey.{MapKey}
 use Rattle.pb_value.specs.declared.body.Value.{Value}
 use Rattle.pb_value.specs.declared.body.Content.{Content}
 use Rattle.pb_value.specs.declared.error.ValueError.TheVariants.{KnownAsUnknown, NoSuchField}
-use Rattle.pb_value.proofs.JudgeLemmas.{GoodFrom, GoodFrom-none, OneFrom, OneFrom-each, one_more, fits_any-found, fits_any-none}
+use Rattle.pb_value.proofs.JudgeLemmas.{GoodFrom, GoodFrom-none, OneFrom-each, one_more, fits_any-found, fits_any-none}
 use Rattle.pb_value.proofs.OrderLemmas.{KeysRise-sorted, RisesFrom-sorted}
 
 both : (a b : Bool) → (a && b) ≡ true → (a ≡ true) × (b ≡ true)
@@ -36,6 +35,7 @@ IsNumber-tested k e = let p = both (nat_lt 0 k) (nat_lt k (2 ^ 29)) e in (low k 
   where
     low : (n : ℕ) → nat_lt 0 n ≡ true → 0 < n
     low n f = grind (arith, nat_tests)
+
     high : (n : ℕ) → nat_lt n (2 ^ 29) ≡ true → n < 2 ^ 29
     high n f = grind (arith, nat_tests)
 
@@ -100,12 +100,13 @@ pub fields_begin :
     → (fields_cause pool all (λ o. false) (fields_view whole) ≡ fields_cause pool all (λ o. contains nat_cmp s o) (fields_view rest))
     × (GoodFrom pool all (λ o. contains nat_cmp s o) (fields_view rest) → GoodFrom pool all (λ o. false) (fields_view whole))
 fields_begin pool all s whole rest none same =
-    let seen : (λ (o : ℕ). contains nat_cmp s o) ≡ (λ (o : ℕ). false) = λ i o. list_any (is_at (nat_cmp o)) (none i) in
-    (ap (λ (x : ℕ → Bool). fields_cause pool all x (fields_view whole)) (sym seen)
-    ∙ ap (λ (x : List (ℕ × Content)). fields_cause pool all (λ o. contains nat_cmp s o) (fields_view x)) (sym same),
-    λ (g : GoodFrom pool all (λ o. contains nat_cmp s o) (fields_view rest)).
-    subst (λ (x : ℕ → Bool). GoodFrom pool all x (fields_view whole)) seen
-    (subst (λ (x : List (ℕ × Content)). GoodFrom pool all (λ o. contains nat_cmp s o) (fields_view x)) same g))
+    let seen : (λ (o : ℕ). contains nat_cmp s o) ≡ (λ (o : ℕ). false) = λ i o. list_any (is_at (nat_cmp o)) (none i) in (
+      ap (λ (x : ℕ → Bool). fields_cause pool all x (fields_view whole)) (sym seen)
+          ∙ ap (λ (x : List (ℕ × Content)). fields_cause pool all (λ o. contains nat_cmp s o) (fields_view x)) (sym same),
+      λ (g : GoodFrom pool all (λ o. contains nat_cmp s o) (fields_view rest)).
+          subst (λ (x : ℕ → Bool). GoodFrom pool all x (fields_view whole)) seen
+          (subst (λ (x : List (ℕ × Content)). GoodFrom pool all (λ o. contains nat_cmp s o) (fields_view x)) same g),
+    )
 
 pub fields_go_on :
     (pool : Types) (all : List FieldView) (s t : BTreeSet ℕ) (whole before after : List (ℕ × Content)) (n : ℕ) (c : Content) (f : FieldView)
@@ -118,10 +119,11 @@ pub fields_go_on :
     → (fields_cause pool all (λ o. false) (fields_view whole) ≡ fields_cause pool all (λ o. contains nat_cmp t o) (fields_view after))
     × (GoodFrom pool all (λ o. contains nat_cmp t o) (fields_view after) → GoodFrom pool all (λ o. false) (fields_view whole))
 fields_go_on pool all s t whole before after n c f split found stored parts added cause good =
-    let one = one_more pool all (λ o. contains nat_cmp s o) (λ o. contains nat_cmp t o) n (content_view c) (fields_view after) f found stored.0 stored.1.0 stored.1.1 parts.0 parts.1 added in
-    (cause ∙ ap (λ (x : List (ℕ × Content)). fields_cause pool all (λ o. contains nat_cmp s o) (fields_view x)) split ∙ one.0,
-    λ (g : GoodFrom pool all (λ o. contains nat_cmp t o) (fields_view after)).
-    good (subst (λ (x : List (ℕ × Content)). GoodFrom pool all (λ o. contains nat_cmp s o) (fields_view x)) (sym split) (one.1 g)))
+    let one = one_more pool all (λ o. contains nat_cmp s o) (λ o. contains nat_cmp t o) n (content_view c) (fields_view after) f found stored.0 stored.1.0 stored.1.1 parts.0 parts.1 added in (
+      cause ∙ ap (λ (x : List (ℕ × Content)). fields_cause pool all (λ o. contains nat_cmp s o) (fields_view x)) split ∙ one.0,
+      λ (g : GoodFrom pool all (λ o. contains nat_cmp t o) (fields_view after)).
+          good (subst (λ (x : List (ℕ × Content)). GoodFrom pool all (λ o. contains nat_cmp s o) (fields_view x)) (sym split) (one.1 g)),
+    )
 
 pub fields_done :
     (pool : Types) (all : List FieldView) (s : BTreeSet ℕ) (whole rest : List (ℕ × Content)) → rest ≡ []
@@ -131,6 +133,7 @@ pub fields_done :
     → (fields_cause pool all (λ o. false) (fields_view whole) ≡ None)
     × (AreFields pool all (fields_view whole) × RisesFrom 0 (fields_view whole) × HasOneMemberEach all (fields_view whole))
 fields_done pool all s whole rest e cause good sorted =
-    let g = good (subst (λ (x : List (ℕ × Content)). GoodFrom pool all (λ o. contains nat_cmp s o) (fields_view x)) (sym e) (GoodFrom-none pool all (λ o. contains nat_cmp s o))) in
-    (cause ∙ ap (λ (x : List (ℕ × Content)). fields_cause pool all (λ o. contains nat_cmp s o) (fields_view x)) e,
-    (g.fields, RisesFrom-sorted whole sorted, OneFrom-each all (λ o. false) (fields_view whole) g.members))
+    let g = good (subst (λ (x : List (ℕ × Content)). GoodFrom pool all (λ o. contains nat_cmp s o) (fields_view x)) (sym e) (GoodFrom-none pool all (λ o. contains nat_cmp s o))) in (
+      cause ∙ ap (λ (x : List (ℕ × Content)). fields_cause pool all (λ o. contains nat_cmp s o) (fields_view x)) e,
+      (g.fields, RisesFrom-sorted whole sorted, OneFrom-each all (λ o. false) (fields_view whole) g.members),
+    )

@@ -7,7 +7,7 @@ use Rattle.pb_value.specs.Data.{no_datums, entry, no_entries, no_fields, field, 
 use Rattle.pb_value.specs.WellFormed.{IsWellFormed}
 use Rattle.pb_value.proofs.Table.{pool}
 
-nested : IsWellFormed pool 0 (body (field 3 (one (message (body (field 1 (one (scalar (int32 (pos 1)))) no_fields) []))) no_fields) (record { number = 1; payload = varint 5 } ∷ []) ) → ⊥
+nested : IsWellFormed pool 0 (body (field 3 (one (message (body (field 1 (one (scalar (int32 (pos 1)))) no_fields) []))) no_fields) (record { number = 1; payload = varint 5 } ∷ [])) → ⊥
 nested h = let fits = h.parts.3.0.2 in cc
 
 a_map : IsWellFormed pool 0 (body (field 9 (map (entry (text []) (scalar (int32 (pos 7))) no_entries)) no_fields) (record { number = 20; payload = varint 5 } ∷ []))

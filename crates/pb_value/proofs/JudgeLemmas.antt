@@ -1,23 +1,22 @@
 -- What the causes of refusals say when there is none, and how the loops of judging go on.
-use Rattle.std.proofs.Common.{◌≡◌, ◌≢◌, ℕ, zero, suc, ◌+◌, ◌<◌, ◌≤◌, List, [], ◌∷◌, length, arith, refl, sym, ap, ◌∙◌, subst, Option, Some, None, Bor, option_map}
+use Rattle.std.proofs.Common.{◌≡◌, ◌≢◌, ℕ, zero, suc, List, [], ◌∷◌, length, arith, refl, sym, ap, ◌∙◌, subst, Option, Some, None, Bor, option_map}
 use Rattle.std.proofs.lemmas.Bool.Decides.{nat_tests, eqb_tells}
-use Rattle.std.specs.Prelude.{Bool, true, false, not, ◌&&◌, ◌||◌, ◌==◌, ◌⊎◌, if◌then◌else◌, IsSomeAnd, IfSome, find, slice_get, option_and_then, map}
+use Rattle.std.specs.Prelude.{Bool, true, false, ◌||◌, ◌==◌, ◌⊎◌, if◌then◌else◌, IfSome, option_and_then, map}
 use Rattle.std.proofs.Common.{inl, inr}
-use Rattle.std.specs.List.{AllByRecursion, list_any}
+use Rattle.std.specs.List.{AllByRecursion}
 use Rattle.pb_wire.specs.Record.{Record, wire_type}
-use Rattle.pb_schema.specs.declared.types.Kind.{Kind}
 use Rattle.pb_schema.specs.declared.types.Shape.{Shape}
 use Rattle.pb_schema.specs.declared.types.Shape.TheVariants as shape
-use Rattle.pb_schema.specs.Types.{FieldView, MessageView, EnumView, Types, message_fields, field_numbered}
+use Rattle.pb_schema.specs.Types.{FieldView, MessageView, Types, message_fields, field_numbered}
 use Rattle.pb_schema.specs.declared.types.Field.{Field}
 use Rattle.pb_schema.specs.View.{field_view}
 use Rattle.pb_schema.specs.Names.{AllDiffer}
 use Rattle.pb_schema.specs.Rules.{IsPool, NamesType}
-use Rattle.pb_schema.specs.Fits.{fits, fits_any, fits_type}
-use Rattle.pb_value.specs.Data.{Datum, Datums, no_datums, datum, Entries, no_entries, entry, Holding, one, list, map as map_of, Fields, no_fields, field, Message, body}
-use Rattle.pb_value.specs.Judge.{has_shape, holds_kind, is_absence, is_default_datum}
-use Rattle.pb_value.specs.Cause.{or_else, unless, at_field, shape_at, content_cause, stored_cause, with_member, is_second, parts_cause, fields_cause, record_cause, unknown_cause}
-use Rattle.pb_value.specs.WellFormed.{IsOfShape, IsHeld, AreFields, RisesFrom, HasNoMember, HasOneMemberEach, oneof_of, oneof_at}
+use Rattle.pb_schema.specs.Fits.{fits_any, fits_type}
+use Rattle.pb_value.specs.Data.{no_datums, datum, no_entries, entry, Holding, one, list, map as map_of, Fields, no_fields, field}
+use Rattle.pb_value.specs.Judge.{has_shape, is_absence}
+use Rattle.pb_value.specs.Cause.{or_else, at_field, shape_at, stored_cause, with_member, is_second, parts_cause, fields_cause}
+use Rattle.pb_value.specs.WellFormed.{IsOfShape, IsHeld, AreFields, HasNoMember, HasOneMemberEach, oneof_of, oneof_at}
 use Rattle.pb_value.specs.declared.error.ValueError.{ValueError}
 use Rattle.pb_value.specs.declared.error.ValueError.TheVariants.{NoSuchField}
 
@@ -77,11 +76,13 @@ oneof_at-shape (Some f) = refl
 OneFrom-none : (all : List FieldView) (seen : ℕ → Bool) (fs : Fields) (o : ℕ) → OneFrom all seen fs → seen o ≡ true → HasNoMember all o fs
 unfolding OneFrom
 OneFrom-none all seen no_fields o h e = tt
-OneFrom-none all seen (field n g fs) o h e =
-    (λ (q : oneof_at all n ≡ Some o).
-    let own : oneof_of (shape_at (field_numbered n all)) ≡ Some o = sym (oneof_at-shape (field_numbered n all)) ∙ q in
-    let no : seen o ≡ false = sym (second_of (shape_at (field_numbered n all)) seen o own) ∙ h.0 in
-    cc, OneFrom-none all (with_member (shape_at (field_numbered n all)) seen) fs o h.1 (with_seen (shape_at (field_numbered n all)) seen o e))
+OneFrom-none all seen (field n g fs) o h e = (
+  λ (q : oneof_at all n ≡ Some o).
+      let own : oneof_of (shape_at (field_numbered n all)) ≡ Some o = sym (oneof_at-shape (field_numbered n all)) ∙ q in
+      let no : seen o ≡ false = sym (second_of (shape_at (field_numbered n all)) seen o own) ∙ h.0 in
+      cc,
+  OneFrom-none all (with_member (shape_at (field_numbered n all)) seen) fs o h.1 (with_seen (shape_at (field_numbered n all)) seen o e),
+)
 
 if_some : {A : Type 0} (o : Option A) (P : A → Type 0) → ((a : A) → o ≡ Some a → P a) → IfSome o P
 if_some None P f = tt
@@ -90,11 +91,12 @@ if_some (Some a) P f = f a refl
 pub OneFrom-each : (all : List FieldView) (seen : ℕ → Bool) (fs : Fields) → OneFrom all seen fs → HasOneMemberEach all fs
 unfolding OneFrom
 OneFrom-each all seen no_fields h = tt
-OneFrom-each all seen (field n g fs) h =
-    (if_some (oneof_at all n) (λ (o : ℕ). HasNoMember all o fs)
-    (λ o q. OneFrom-none all (with_member (shape_at (field_numbered n all)) seen) fs o h.1
-    (with_own (shape_at (field_numbered n all)) seen o (sym (oneof_at-shape (field_numbered n all)) ∙ q))),
-    OneFrom-each all (with_member (shape_at (field_numbered n all)) seen) fs h.1)
+OneFrom-each all seen (field n g fs) h = (
+  if_some (oneof_at all n) (λ (o : ℕ). HasNoMember all o fs)
+      (λ o q. OneFrom-none all (with_member (shape_at (field_numbered n all)) seen) fs o h.1
+      (with_own (shape_at (field_numbered n all)) seen o (sym (oneof_at-shape (field_numbered n all)) ∙ q))),
+  OneFrom-each all (with_member (shape_at (field_numbered n all)) seen) fs h.1,
+)
 
 -- the fields from here on are good, where these oneofs have members
 pub record GoodFrom (pool : Types) (all : List FieldView) (seen : ℕ → Bool) (fs : Fields) : Type 0 where
@@ -114,16 +116,17 @@ pub one_more :
 unfolding OneFrom
 one_more pool all seen later n h fs f found stored shaped first parts held more =
     let same : later ≡ with_member f.shape seen = λ i o. more o i in
-    let there : with_member (shape_at (field_numbered n all)) seen ≡ later = ap (λ (x : Option FieldView). with_member (shape_at x) seen) found ∙ sym same in
-    (ap (λ (x : Option FieldView). or_else (at_field x (λ g. or_else (stored_cause seen g.shape g.kind h) (parts_cause pool g.shape g.kind h))) (fields_cause pool all (with_member (shape_at x) seen) fs)) found
-    ∙ ap (λ (x : Option ValueError). or_else (or_else x (parts_cause pool f.shape f.kind h)) (fields_cause pool all (with_member f.shape seen) fs)) stored
-    ∙ ap (λ (x : Option ValueError). or_else x (fields_cause pool all (with_member f.shape seen) fs)) parts
-    ∙ ap (λ (x : ℕ → Bool). fields_cause pool all x fs) (sym same),
-    λ (g : GoodFrom pool all later fs).
-    record {
-      fields = (rw found (shaped, held), g.fields);
-      members = (ap (λ (x : Option FieldView). is_second (shape_at x) seen) found ∙ first, subst (λ (x : ℕ → Bool). OneFrom all x fs) (sym there) g.members);
-    })
+    let there : with_member (shape_at (field_numbered n all)) seen ≡ later = ap (λ (x : Option FieldView). with_member (shape_at x) seen) found ∙ sym same in (
+      ap (λ (x : Option FieldView). or_else (at_field x (λ g. or_else (stored_cause seen g.shape g.kind h) (parts_cause pool g.shape g.kind h))) (fields_cause pool all (with_member (shape_at x) seen) fs)) found
+          ∙ ap (λ (x : Option ValueError). or_else (or_else x (parts_cause pool f.shape f.kind h)) (fields_cause pool all (with_member f.shape seen) fs)) stored
+          ∙ ap (λ (x : Option ValueError). or_else x (fields_cause pool all (with_member f.shape seen) fs)) parts
+          ∙ ap (λ (x : ℕ → Bool). fields_cause pool all x fs) (sym same),
+      λ (g : GoodFrom pool all later fs).
+          record {
+            fields = (rw found (shaped, held), g.fields);
+            members = (ap (λ (x : Option FieldView). is_second (shape_at x) seen) found ∙ first, subst (λ (x : ℕ → Bool). OneFrom all x fs) (sym there) g.members);
+          },
+    )
 
 -- one more field, and its cause
 pub refused_at :

@@ -1,6 +1,6 @@
 -- A well-formed message has no cause to be refused.
 use Rattle.std.proofs.Common.{◌≡◌, ◌≢◌, ℕ, ◌<◌, ◌≤◌, List, [], ◌∷◌, arith, inl, inr, refl, sym, ap, ◌∙◌, subst, Option, Some, None}
-use Rattle.std.proofs.lemmas.Bool.Decides.{nat_tests, eqb_tells}
+use Rattle.std.proofs.lemmas.Bool.Decides.{nat_tests}
 use Rattle.std.specs.Prelude.{◌⊎◌, Bool, true, false, not, ◌&&◌, ◌||◌, ◌==◌, nat_lt, nat_le, ◌^◌, IsSomeAnd, IfSome, option_and_then}
 use Rattle.pb_wire.specs.Record.{Payload, varint, fixed64, len, group, fixed32, Group, no_more, more, Record}
 use Rattle.pb_wire.specs.Ranges.{IsNumber}
@@ -15,8 +15,8 @@ use Rattle.pb_schema.specs.Kinds.{message_of_kind, IsOfKind}
 use Rattle.pb_schema.specs.Fits.{fits_any}
 use Rattle.pb_value.specs.Data.{Datum, scalar, message, Datums, no_datums, datum, Entries, no_entries, entry, Holding, one, list, map, Fields, no_fields, field, Message, body, message_depth}
 use Rattle.pb_value.specs.Judge.{is_scalar_of, is_message_kind, is_value_of, are_values_of, is_key_of, are_entries_of, holds_kind, has_shape, is_absence}
-use Rattle.pb_value.specs.Cause.{or_else, unless, at_field, shape_at, in_message, in_map, is_number, is_numbered, is_numbered_group, record_cause, unknown_cause, stored_cause, with_member, is_second, datum_cause, datums_cause, entries_cause, parts_cause, fields_cause, body_cause, message_cause, FailsWith}
-use Rattle.pb_value.specs.WellFormed.{IsUnknown, AreUnknown, IsOfShape, KeysRise, HasNoMember, HasOneMemberEach, oneof_of, oneof_at, key_of, IsDatum, AreDatums, AreEntries, IsHeld, AreFields, IsBody, IsWellFormed}
+use Rattle.pb_value.specs.Cause.{or_else, unless, at_field, shape_at, in_message, in_map, is_number, is_numbered, is_numbered_group, unknown_cause, stored_cause, with_member, is_second, datum_cause, datums_cause, entries_cause, parts_cause, fields_cause, body_cause, message_cause, FailsWith}
+use Rattle.pb_value.specs.WellFormed.{AreUnknown, IsOfShape, KeysRise, HasNoMember, HasOneMemberEach, oneof_of, oneof_at, key_of, IsDatum, AreDatums, AreEntries, IsHeld, AreFields, IsBody, IsWellFormed}
 use Rattle.pb_value.specs.declared.error.ValueError.{ValueError}
 use Rattle.pb_value.specs.declared.error.ValueError.TheVariants.{WrongKind, NoSuchField, KnownAsUnknown, TooDeep, Memory}
 use Rattle.pb_value.proofs.JudgeLemmas.{OneFrom}
@@ -68,6 +68,7 @@ is_number-IsNumber k h = and_true (nat_lt 0 k) (nat_lt k (2 ^ 29)) (low k h.0) (
   where
     low : (n : ℕ) → 0 < n → nat_lt 0 n ≡ true
     low n f = grind (arith, nat_tests)
+
     high : (n : ℕ) → n < 2 ^ 29 → nat_lt n (2 ^ 29) ≡ true
     high n f = grind (arith, nat_tests)
 
@@ -132,10 +133,11 @@ was_seen (shape.Map k) seen o e = inr e
 OneFrom-from_each : (all : List FieldView) (seen : ℕ → Bool) (fs : Fields) → HasOneMemberEach all fs → ((o : ℕ) → seen o ≡ true → HasNoMember all o fs) → OneFrom all seen fs
 unfolding OneFrom
 OneFrom-from_each all seen no_fields h none = tt
-OneFrom-from_each all seen (field n g fs) h none =
-    (not_second (shape_at (field_numbered n all)) seen (λ o e q. (none o e).0 (oneof_at-shape (field_numbered n all) ∙ q)),
-    OneFrom-from_each all (with_member (shape_at (field_numbered n all)) seen) fs h.1
-    (λ o e. later o (was_seen (shape_at (field_numbered n all)) seen o e)))
+OneFrom-from_each all seen (field n g fs) h none = (
+  not_second (shape_at (field_numbered n all)) seen (λ o e q. (none o e).0 (oneof_at-shape (field_numbered n all) ∙ q)),
+  OneFrom-from_each all (with_member (shape_at (field_numbered n all)) seen) fs h.1
+      (λ o e. later o (was_seen (shape_at (field_numbered n all)) seen o e)),
+)
   where
     later : (o : ℕ) → (oneof_of (shape_at (field_numbered n all)) ≡ Some o) ⊎ (seen o ≡ true) → HasNoMember all o fs
     later o (inl a) = at_some (oneof_at all n) (λ (p : ℕ). HasNoMember all p fs) o h.0 (oneof_at-shape (field_numbered n all) ∙ a)

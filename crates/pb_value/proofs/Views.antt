@@ -1,5 +1,5 @@
 -- What values, contents and bodies stand for, variant by variant.
-use Rattle.std.proofs.Common.{◌≡◌, ◌↔◌, length, arith, ℕ, List, [], ◌∷◌, ◌++◌, rules, refl, ap, ◌∙◌, Vec, Global, BTreeMap}
+use Rattle.std.proofs.Common.{◌≡◌, ◌↔◌, length, arith, ℕ, List, [], ◌∷◌, rules, refl, ap, ◌∙◌, Vec, Global, BTreeMap}
 use Rattle.std.proofs.lemmas.Bool.Decides.{nat_tests}
 use Rattle.std.specs.Prelude.{◌==◌, suc, max, String, string_bytes, Bool, true, false, IsTrue}
 use Rattle.pb_schema.specs.declared.types.Shape.{Shape}
@@ -7,9 +7,9 @@ use Rattle.pb_value.specs.Judge.{is_absence}
 use Rattle.pb_wire.specs.declared.unknown.Unknown.{Unknown}
 use Rattle.pb_wire.specs.Record.{Record, group_of, depth, group_depth, records_depth}
 use Rattle.pb_wire.specs.Unknown.{records_of}
-use Rattle.pb_schema.specs.Scalar.{int32, int64, uint32, uint64, boolean, float, double, enum, text, bytes}
-use Rattle.pb_value.specs.Data.{Datum, scalar, message, Datums, datum, no_datums, Holding, one, list, map, Message, body}
-use Rattle.pb_value.specs.View.{key_view, value_view, content_view, body_view, values_view, entries_view, fields_view}
+use Rattle.pb_schema.specs.Scalar.{text, bytes}
+use Rattle.pb_value.specs.Data.{scalar, message, one, list, map, body}
+use Rattle.pb_value.specs.View.{value_view, content_view, body_view, values_view, entries_view, fields_view}
 use Rattle.pb_value.specs.declared.body.MapKey.{MapKey}
 use Rattle.pb_value.specs.declared.body.Value.{Value, the_lemmas as value_lemmas}
 use Rattle.pb_value.specs.declared.body.Value.TheVariants as value

@@ -1,11 +1,10 @@
 -- What changes make of a message's fields, and when they are refused. A change judges the new content alone: the field first, then what the
 -- content's messages hold, and the depth last.
-use Rattle.std.specs.Prelude.{◌≡◌, ◌≤◌, ℕ, suc, List, Bool, true, false, ◌&&◌, ◌==◌, nat_le, Option, Some, None, IsSomeAnd, if◌then◌else◌}
-use Rattle.pb_schema.specs.declared.types.Kind.{Kind}
+use Rattle.std.specs.Prelude.{◌≡◌, ◌≤◌, ℕ, List, true, ◌==◌, nat_le, Option, Some, None, IsSomeAnd, if◌then◌else◌}
 use Rattle.pb_schema.specs.declared.types.Shape.{Shape}
 use Rattle.pb_schema.specs.declared.types.Shape.TheVariants as shape
 use Rattle.pb_schema.specs.Types.{FieldView, Types, message_fields, field_numbered}
-use Rattle.pb_value.specs.Data.{Datum, Holding, Fields, Message, body, fields_of, unknown_of, put_field, drop_field, holding_depth}
+use Rattle.pb_value.specs.Data.{Holding, Fields, Message, body, unknown_of, put_field, drop_field, holding_depth}
 use Rattle.pb_value.specs.Judge.{is_absence, has_shape}
 use Rattle.pb_value.specs.WellFormed.{IsHeld}
 use Rattle.pb_value.specs.Oneof.{member_set}

@@ -1,5 +1,5 @@
 -- Which messages are well formed by a pool: what a decoder of its types can give (encoding guide, "Optional and Repeated", "Oneofs", "Maps").
-use Rattle.std.specs.Prelude.{◌≡◌, ◌≢◌, ◌<◌, ◌≤◌, ◌+◌, ℕ, false, List, Option, Some, None, IfSome, IsSomeAnd, option_and_then}
+use Rattle.std.specs.Prelude.{◌≡◌, ◌≢◌, ◌≤◌, ◌+◌, ℕ, false, List, Option, Some, None, IfSome, IsSomeAnd, option_and_then}
 use Rattle.std.specs.List.{AllByRecursion}
 use Rattle.std.specs.declared.cmp.Ordering.TheVariants.{Less}
 use Rattle.pb_wire.specs.Record.{Record}

@@ -34,7 +34,13 @@ fn put_field(message: &mut Body, number: u32, content: Content) -> Result<(), Va
 }
 
 /// The member that gives way to the field of a number: the one of its oneof that is set.
-fn gives_way(pool: &Pool, kind: MessageId, fields: &BTreeMap<u32, Content>, shape: Shape, number: u32) -> Option<u32>
+fn gives_way(
+    pool: &Pool,
+    kind: MessageId,
+    fields: &BTreeMap<u32, Content>,
+    shape: Shape,
+    number: u32,
+) -> Option<u32>
     requires { kind.0 < length pool.now.messages }
     ensures { result ≡ gives_way (message_fields pool.now kind.0) shape number (fields_view fields.now.entries) }
 {
@@ -46,7 +52,14 @@ fn gives_way(pool: &Pool, kind: MessageId, fields: &BTreeMap<u32, Content>, shap
 }
 
 /// Stores a content at a field, or clears the field where an absent one is the same.
-pub(crate) fn store(pool: &Pool, kind: MessageId, message: &mut Body, shape: Shape, number: u32, content: Content) -> Result<(), ValueError>
+pub(crate) fn store(
+    pool: &Pool,
+    kind: MessageId,
+    message: &mut Body,
+    shape: Shape,
+    number: u32,
+    content: Content,
+) -> Result<(), ValueError>
     requires { kind.0 < length pool.now.messages }
     ensures ok { OnOk result (body_view message.new ≡ with_fields (body_view message.old) (stored_at (message_fields pool.now kind.0) shape number (content_view content) (fields_of (body_view message.old)))) }
     ensures err { OnErr result (body_view message.new ≡ body_view message.old) }

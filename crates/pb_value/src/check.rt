@@ -48,7 +48,12 @@ fn add_member(shape: Shape, members: &mut BTreeSet<u32>) -> Result<(), ValueErro
 }
 
 /// Whether a content can be stored at a field beside the members of oneofs that stand before it.
-fn check_stored(shape: Shape, kind: Kind, content: &Content, members: &mut BTreeSet<u32>) -> Result<(), ValueError>
+fn check_stored(
+    shape: Shape,
+    kind: Kind,
+    content: &Content,
+    members: &mut BTreeSet<u32>,
+) -> Result<(), ValueError>
     ensures judged { JudgesOrFails result (stored_cause (λ o. contains nat_cmp members.old o) shape kind (content_view content.now)) (IsOfShape shape (content_view content.now) × (is_second shape (λ o. contains nat_cmp members.old o) ≡ false)) }
     ensures added { OnOk result ((o : ℕ) → contains nat_cmp members.new o ≡ with_member shape (λ q. contains nat_cmp members.old q) o) }
 {
@@ -77,7 +82,12 @@ fn check_value(alloc: Global, pool: &Pool, kind: Kind, value: &Value) -> Result<
 }
 
 #[cycle(check)]
-fn check_values(alloc: Global, pool: &Pool, kind: Kind, values: &Vec<Value>) -> Result<(), ValueError>
+fn check_values(
+    alloc: Global,
+    pool: &Pool,
+    kind: Kind,
+    values: &Vec<Value>,
+) -> Result<(), ValueError>
     requires { NamesType (length pool.now.messages) (length pool.now.enums) kind }
     ensures { JudgesOrFails result (datums_cause pool.now kind (values_view values.now.items)) (AreDatums pool.now kind (values_view values.now.items)) }
 {
@@ -88,7 +98,13 @@ fn check_values(alloc: Global, pool: &Pool, kind: Kind, values: &Vec<Value>) -> 
 }
 
 #[cycle(check)]
-fn check_entries(alloc: Global, pool: &Pool, key_kind: Kind, kind: Kind, entries: &BTreeMap<MapKey, Value>) -> Result<(), ValueError>
+fn check_entries(
+    alloc: Global,
+    pool: &Pool,
+    key_kind: Kind,
+    kind: Kind,
+    entries: &BTreeMap<MapKey, Value>,
+) -> Result<(), ValueError>
     requires { NamesType (length pool.now.messages) (length pool.now.enums) kind }
     ensures { JudgesOrFails result (entries_cause pool.now key_kind kind (entries_view entries.now.entries)) (AreEntries pool.now key_kind kind (entries_view entries.now.entries) × KeysRise (entries_view entries.now.entries)) }
 {
@@ -103,7 +119,13 @@ fn check_entries(alloc: Global, pool: &Pool, key_kind: Kind, kind: Kind, entries
 
 /// Whether what a content holds is well formed.
 #[cycle(check)]
-pub(crate) fn check_parts(alloc: Global, pool: &Pool, shape: Shape, kind: Kind, content: &Content) -> Result<(), ValueError>
+pub(crate) fn check_parts(
+    alloc: Global,
+    pool: &Pool,
+    shape: Shape,
+    kind: Kind,
+    content: &Content,
+) -> Result<(), ValueError>
     requires { NamesType (length pool.now.messages) (length pool.now.enums) kind }
     ensures { JudgesOrFails result (parts_cause pool.now shape kind (content_view content.now)) (IsHeld pool.now shape kind (content_view content.now)) }
 {
@@ -120,7 +142,12 @@ pub(crate) fn check_parts(alloc: Global, pool: &Pool, shape: Shape, kind: Kind, 
 }
 
 #[cycle(check)]
-fn check_fields(alloc: Global, pool: &Pool, kind: MessageId, fields: &BTreeMap<u32, Content>) -> Result<(), ValueError>
+fn check_fields(
+    alloc: Global,
+    pool: &Pool,
+    kind: MessageId,
+    fields: &BTreeMap<u32, Content>,
+) -> Result<(), ValueError>
     requires { kind.0 < length pool.now.messages }
     ensures { let all = message_fields pool.now kind.0 in let fs = fields_view fields.now.entries in JudgesOrFails result (fields_cause pool.now all (λ o. false) fs) (AreFields pool.now all fs × RisesFrom 0 fs × HasOneMemberEach all fs) }
 {
@@ -146,7 +173,12 @@ fn check_body(alloc: Global, pool: &Pool, kind: MessageId, body: &Body) -> Resul
 }
 
 /// Whether a body is a well-formed message of a type, and if not why.
-pub(crate) fn check_message(alloc: Global, pool: &Pool, kind: MessageId, body: &Body) -> Result<(), ValueError>
+pub(crate) fn check_message(
+    alloc: Global,
+    pool: &Pool,
+    kind: MessageId,
+    body: &Body,
+) -> Result<(), ValueError>
     requires { kind.0 < length pool.now.messages }
     ensures { JudgesOrFails result (message_cause pool.now kind.0 (body_view body.now)) (IsWellFormed pool.now kind.0 (body_view body.now)) }
 {

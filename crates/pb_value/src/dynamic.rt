@@ -68,7 +68,12 @@ impl<'p> DynamicMessage<'p> {
     ///
     /// Fields are judged by rising number and then the unknown records; at one field the least cause is told, then what is
     /// wrong inside its messages. A second member of a oneof is told at that member, and the depth last.
-    pub fn from_body(alloc: Global, pool: &'p Pool, kind: MessageId, body: Body) -> Result<DynamicMessage<'p>, ValueError>
+    pub fn from_body(
+        alloc: Global,
+        pool: &'p Pool,
+        kind: MessageId,
+        body: Body,
+    ) -> Result<DynamicMessage<'p>, ValueError>
         requires { kind.0 < length pool.now.messages }
         ensures made { IfOk result (λ m. m ≡ record { pool = pool.now; kind = kind.0; body = body_view body }) }
         ensures well_formed { IfOk result (λ m. IsWellFormed pool.now kind.0 (body_view body)) }

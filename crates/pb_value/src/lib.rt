@@ -13,7 +13,7 @@ mod lookup;
 mod oneof;
 mod unknown;
 
+pub use body::{Body, Content, MapKey, Value};
 pub use dynamic::{DynamicMessage, default_value};
 pub use error::ValueError;
-pub use body::{Body, Content, MapKey, Value};
 pub use laws::{canonical_spelling, key_order, no_cause, one_value};

@@ -21,7 +21,12 @@ fn is_member_in(shape: Shape, oneof: u32) -> bool
 }
 
 /// The number of the member that is set, of the oneof with an index.
-pub(crate) fn set_member(pool: &Pool, kind: MessageId, fields: &BTreeMap<u32, Content>, oneof: u32) -> Option<u32>
+pub(crate) fn set_member(
+    pool: &Pool,
+    kind: MessageId,
+    fields: &BTreeMap<u32, Content>,
+    oneof: u32,
+) -> Option<u32>
     requires { kind.0 < length pool.now.messages }
     ensures { result ≡ member_set (message_fields pool.now kind.0) oneof (fields_view fields.now.entries) }
 {

@@ -77,7 +77,12 @@ fn wire_type(payload: &Unknown) -> u8
     }
 }
 
-fn check_record(pool: &Pool, kind: MessageId, number: u32, payload: &Unknown) -> Result<(), ValueError>
+fn check_record(
+    pool: &Pool,
+    kind: MessageId,
+    number: u32,
+    payload: &Unknown,
+) -> Result<(), ValueError>
     requires { kind.0 < length pool.now.messages }
     ensures { let fs = message_fields pool.now kind.0 in let r = record_of number (payload_of payload.now) in Judges result (record_cause fs r) (IsUnknown fs r) }
 {
@@ -93,7 +98,11 @@ fn check_record(pool: &Pool, kind: MessageId, number: u32, payload: &Unknown) ->
 }
 
 /// Whether records can be the unknown ones of a message of a type, and if not why, at the first that cannot.
-pub(crate) fn check_unknown(pool: &Pool, kind: MessageId, records: &[(u32, Unknown)]) -> Result<(), ValueError>
+pub(crate) fn check_unknown(
+    pool: &Pool,
+    kind: MessageId,
+    records: &[(u32, Unknown)],
+) -> Result<(), ValueError>
     requires { kind.0 < length pool.now.messages }
     ensures { let fs = message_fields pool.now kind.0 in Judges result (unknown_cause fs (records_of records.now)) (AreUnknown fs (records_of records.now)) }
 {

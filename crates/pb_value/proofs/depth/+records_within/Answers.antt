@@ -1,4 +1,4 @@
-use Rattle.std.proofs.Common.{rules, arith}
+use Rattle.std.proofs.Common.{arith}
 use Rattle.pb_wire.proofs.UnknownLemmas.{payload_of-Group}
 use Rattle.pb_value.proofs.Views.{group_depth-group_of}
 use Rattle.pb_value.proofs.depth.+records_within.Goals as goal

@@ -1,4 +1,3 @@
-use Rattle.std.proofs.Common.{◌∙◌}
 use Rattle.pb_wire.proofs.UnknownLemmas.{payload_of-Group}
 use Rattle.pb_wire.proofs.WritingLemmas.{in_range_group}
 use Rattle.pb_value.proofs.unknown.+numbered.Goals as goal

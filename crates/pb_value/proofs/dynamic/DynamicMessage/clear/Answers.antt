@@ -9,5 +9,5 @@ pub invariant_of-self : goal.invariant_of-self
 invariant_of-self c = (
   c.self.invariant.0,
   subst (λ (v : Message). IsWellFormed c.self.inside.pool.now c.self.inside.kind.0 v) (sym c.clear_field.ensures)
-  (IsWellFormed-drop_field c.self.inside.pool.now c.self.inside.kind.0 c.args.number (body_view c.self.inside.body) c.self.invariant.1),
+      (IsWellFormed-drop_field c.self.inside.pool.now c.self.inside.kind.0 c.args.number (body_view c.self.inside.body) c.self.invariant.1),
 )

@@ -15,5 +15,5 @@ invariant_of-self c =
     subst (λ (d : Dynamic). Allowed d.pool d.kind c.args.number c.in_ok-shape.shape (content_view c.args.content)) (sym c.self.view_is) c.in_ok-shape.ensures.fits in (
       c.self.invariant.0,
       either_way c.store.result (λ (v : Message). IsWellFormed pool m v) _ _ _ c.store.ensures.ok c.store.ensures.err
-      (IsWellFormed-set pool m c.args.number c.in_ok-shape.shape (content_view c.args.content) (body_view c.self.inside.body) allowed c.self.invariant.1) c.self.invariant.1,
+          (IsWellFormed-set pool m c.args.number c.in_ok-shape.shape (content_view c.args.content) (body_view c.self.inside.body) allowed c.self.invariant.1) c.self.invariant.1,
     )
