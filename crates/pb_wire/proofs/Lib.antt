@@ -21,4 +21,5 @@ pub mod RecordIterRuns
 pub mod ShortestLemmas
 pub mod DepthLemmas
 pub mod RangeLemmas
+pub mod InsideLemmas
 mod Rows

@@ -2,6 +2,7 @@ pub mod Varint
 pub mod Record
 pub mod Ranges
 pub mod Spell
+pub mod Inside
 pub mod Fault
 pub mod Schema
 pub mod Sound

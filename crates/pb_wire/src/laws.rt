@@ -1,6 +1,6 @@
 //! Laws of the spellings.
 
-ghost use Rattle.std.specs.Prelude.{◌≡◌, ◌++◌, ◌≢◌, ◌≤◌, ◌⊎◌, ℕ, List, length, All, None};
+ghost use Rattle.std.specs.Prelude.{◌≡◌, ◌++◌, ◌≢◌, ◌<◌, ◌≤◌, ◌^◌, ◌⊎◌, ℕ, List, length, All, None};
 ghost use Rattle.pb_wire.specs.Ranges.{IsByte, AreInRange};
 ghost use Rattle.pb_wire.specs.Exact.{IsRead, Exactly, IsFrame, ending_at, IsSomeText, schema, longer, IsCut};
 ghost use Rattle.pb_wire.specs.Fault.{Fault, Place, input_end};
@@ -8,6 +8,7 @@ ghost use Rattle.pb_wire.specs.Grammar.{Bad, HasFault};
 ghost use Rattle.pb_wire.specs.declared.fault.Cause.TheVariants.{InputTooLarge};
 ghost use Rattle.pb_wire.specs.Limits.{Bounds};
 ghost use Rattle.pb_wire.specs.Schema.{Reading, Open, records, open_group};
+ghost use Rattle.pb_wire.specs.Inside.{records_spelled, AreNumbered};
 ghost use Rattle.pb_wire.specs.Record.{Record};
 ghost use Rattle.pb_wire.specs.Spell.{AreRecords, shortest_records};
 ghost use Rattle.pb_wire.specs.Writable.{AreWritable};
@@ -38,4 +39,11 @@ pub fn fault_bounds<C>()
     ensures bounds { (reading : C → ℕ → Reading C) (group : C → ℕ → C) (o : Open C) (room : ℕ) (p : Place) (f : Fault) → Bad (schema reading group) o room p f → (p.at ≤ f.byte) × (f.byte ≤ input_end p) }
     ensures cut { (reading : C → ℕ → Reading C) (group : C → ℕ → C) (o : Open C) (room : ℕ) (p : Place) (f : Fault) → Bad (schema reading group) o room p f → IsCut f → f.byte ≡ input_end p }
     ensures within { (reading : C → ℕ → Reading C) (group : C → ℕ → C) (o : Open C) (room : ℕ) (p : Place) (f : Fault) → Bad (schema reading group) o room p f → f.cause ≢ InputTooLarge }
+{}
+
+/// Records are read back from every spelling of them, whatever the lengths in it, and from their shortest spelling also
+/// where a payload is too long for the wire.
+pub fn read_back()
+    ensures spelled { (rs : List Record) (b : List ℕ) → length b < 2 ^ 64 → AreRecords rs b → records_spelled b ≡ rs }
+    ensures shortest { (rs : List Record) → AreInRange rs → AreNumbered rs → records_spelled (shortest_records rs) ≡ rs }
 {}

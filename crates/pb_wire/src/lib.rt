@@ -20,7 +20,7 @@ pub use device::{DeviceFault, Input, Output};
 pub use fault::{Cause, RawError, WireFault};
 pub use host::{ReadInput, WriteOutput};
 pub use iter::{Payload, RecordIter};
-pub use laws::{fault_bounds, longer_text, one_fault, shortest_spelling};
+pub use laws::{fault_bounds, longer_text, one_fault, read_back, shortest_spelling};
 pub use limits::{Limits, MAX_BYTES, MAX_DEPTH};
 pub use memory::{FailurePlan, MemInput, MemOutput};
 pub use reading::read_raw;

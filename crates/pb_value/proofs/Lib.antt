@@ -1,0 +1,13 @@
+pub mod BytesLemmas
+pub mod CanonLemmas
+pub mod Views
+pub mod JudgeLemmas
+pub mod OrderLemmas
+pub mod CheckLemmas
+pub mod NoCause
+pub mod ChangeLemmas
+pub mod FieldViews
+mod Table
+mod Rows
+mod Texts
+mod Forms

@@ -1,0 +1,6 @@
+use Rattle.pb_value.proofs.JudgeLemmas.{found_named}
+use Rattle.pb_value.proofs.lookup.field_at.Goals as goal
+
+pub returns-clause-named : goal.returns-clause-named
+returns-clause-named c =
+    found_named c.field_by_number.result c.args.pool.now c.args.kind.0 c.args.number c.messages.ensures.rules c.field_by_number.ensures.found

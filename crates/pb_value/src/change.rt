@@ -1,0 +1,78 @@
+//! Changes of what a body holds.
+
+ghost use Rattle.std.specs.Prelude.{◌≡◌, ◌<◌, length, OnOk, OnErr, IfErr, Some};
+ghost use Rattle.pb_schema.specs.Types.{message_fields};
+ghost use Rattle.pb_value.specs.Data.{body, put_field, drop_field, fields_of, unknown_of};
+ghost use Rattle.pb_value.specs.Change.{gives_way, stored_at, with_fields};
+ghost use Rattle.pb_value.specs.WellFormed.{RisesFrom};
+ghost use Rattle.pb_value.specs.View.{body_view, content_view, fields_view};
+ghost use Rattle.pb_value.specs.declared.error.ValueError.TheVariants.{Memory};
+
+use crate::body::{Body, Content};
+use crate::error::ValueError;
+use crate::judge::is_absence;
+use crate::oneof::set_member;
+use pb_schema::{MessageId, Pool, Shape};
+use std::collections::BTreeMap;
+
+/// Clears the field of a number.
+pub(crate) fn clear_field(message: &mut Body, number: u32)
+    ensures { body_view message.new ≡ with_fields (body_view message.old) (drop_field number (fields_of (body_view message.old))) }
+{
+    drop(message.fields.remove(&number));
+}
+
+/// Puts a content at a number.
+fn put_field(message: &mut Body, number: u32, content: Content) -> Result<(), ValueError>
+    ensures ok { OnOk result (body_view message.new ≡ with_fields (body_view message.old) (put_field number (content_view content) (fields_of (body_view message.old)))) }
+    ensures err { OnErr result (body_view message.new ≡ body_view message.old) }
+    ensures memory { IfErr result (λ e. e ≡ Memory) }
+    ensures rises { RisesFrom 0 (fields_of (body_view message.old)) }
+{
+    drop(message.fields.insert(number, content)?);
+    Ok(())
+}
+
+/// The member that gives way to the field of a number: the one of its oneof that is set.
+fn gives_way(
+    pool: &Pool,
+    kind: MessageId,
+    fields: &BTreeMap<u32, Content>,
+    shape: Shape,
+    number: u32,
+) -> Option<u32>
+    requires { kind.0 < length pool.now.messages }
+    ensures { result ≡ gives_way (message_fields pool.now kind.0) shape number (fields_view fields.now.entries) }
+{
+    let Shape::OneofMember(oneof) = shape else {
+        return None;
+    };
+    let member = set_member(pool, kind, fields, oneof)?;
+    if member == number { None } else { Some(member) }
+}
+
+/// Stores a content at a field, or clears the field where an absent one is the same.
+pub(crate) fn store(
+    pool: &Pool,
+    kind: MessageId,
+    message: &mut Body,
+    shape: Shape,
+    number: u32,
+    content: Content,
+) -> Result<(), ValueError>
+    requires { kind.0 < length pool.now.messages }
+    ensures ok { OnOk result (body_view message.new ≡ with_fields (body_view message.old) (stored_at (message_fields pool.now kind.0) shape number (content_view content) (fields_of (body_view message.old)))) }
+    ensures err { OnErr result (body_view message.new ≡ body_view message.old) }
+    ensures memory { IfErr result (λ e. e ≡ Memory) }
+{
+    if is_absence(shape, &content) {
+        clear_field(message, number);
+        return Ok(());
+    }
+    let other = gives_way(pool, kind, &message.fields, shape, number);
+    put_field(message, number, content)?;
+    if let Some(other) = other {
+        clear_field(message, other);
+    }
+    Ok(())
+}

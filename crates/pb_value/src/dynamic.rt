@@ -1,0 +1,215 @@
+//! Messages that are well formed by a pool.
+
+use crate::body::{Body, Content, Value};
+use crate::change::{clear_field, store};
+use crate::check::{check_content, check_message, check_parts};
+use crate::depth::{MAX_LEVELS, content_within};
+use crate::error::ValueError;
+use crate::lookup::field_at;
+use crate::oneof::set_member;
+use pb_schema::{Kind, MessageId, Pool, Shape};
+use std::alloc::Global;
+use std::collections::BTreeMap;
+use std::marker::Model;
+
+/// A well-formed message of a type of a pool.
+#[derive(Drop)]
+pub struct DynamicMessage<'p> {
+    alloc: Global,
+    pool: &'p Pool,
+    kind: MessageId,
+    body: Body,
+}
+
+impl<'p> Model for DynamicMessage<'p> {
+    ghost use Rattle.pb_value.specs.Dynamic.{Dynamic};
+    ghost use Rattle.std.specs.Coded.{codes};
+    ghost use Rattle.pb_value.specs.Code.{message_code};
+
+    ghost Value = { Dynamic };
+
+    ghost coded = { Prim.hlevel (codes, message_code) };
+
+    ghost use Rattle.pb_value.specs.View.{body_view};
+    ghost use Rattle.pb_value.specs.WellFormed.{IsWellFormed};
+    ghost use Rattle.std.specs.Prelude.{length, ◌<◌};
+
+    ghost view = { λ d. record { pool = d.pool.now; kind = d.kind.0; body = body_view d.body } };
+
+    ghost invariant = { λ d. (d.kind.0 < length d.pool.now.messages) × IsWellFormed d.pool.now d.kind.0 (body_view d.body) };
+}
+
+impl<'p> DynamicMessage<'p> {
+    ghost use Rattle.std.specs.Prelude.{◌≡◌, ◌<◌, length, [], option_map, is_some, IfOk, IfErr, OnOk, OnErr, MatchResult, None};
+    ghost use Rattle.pb_schema.specs.Types.{message_fields};
+    ghost use Rattle.pb_value.specs.Data.{empty, fields_of, get_field, drop_field};
+    ghost use Rattle.pb_value.specs.Change.{with_fields, set_at, set_cause, Allowed};
+    ghost use Rattle.pb_value.specs.Oneof.{member_set};
+    ghost use Rattle.pb_value.specs.declared.error.ValueError.TheVariants.{Memory};
+    ghost use Rattle.pb_value.specs.View.{body_view, content_view};
+    ghost use Rattle.pb_value.specs.Dynamic.{Dynamic};
+    ghost use Rattle.pb_value.specs.Cause.{message_cause, FailsWith};
+    ghost use Rattle.pb_value.specs.WellFormed.{IsWellFormed};
+
+    /// The empty message of a type.
+    pub fn new(alloc: Global, pool: &'p Pool, kind: MessageId) -> DynamicMessage<'p>
+        requires { kind.0 < length pool.now.messages }
+        ensures { result ≡ record { pool = pool.now; kind = kind.0; body = empty } }
+    {
+        DynamicMessage {
+            alloc,
+            pool,
+            kind,
+            body: empty_body(alloc),
+        }
+    }
+
+    /// The message of a body, where the body is a well-formed message of the type.
+    ///
+    /// Fields are judged by rising number and then the unknown records; at one field the least cause is told, then what is
+    /// wrong inside its messages. A second member of a oneof is told at that member, and the depth last.
+    pub fn from_body(
+        alloc: Global,
+        pool: &'p Pool,
+        kind: MessageId,
+        body: Body,
+    ) -> Result<DynamicMessage<'p>, ValueError>
+        requires { kind.0 < length pool.now.messages }
+        ensures made { IfOk result (λ m. m ≡ record { pool = pool.now; kind = kind.0; body = body_view body }) }
+        ensures well_formed { IfOk result (λ m. IsWellFormed pool.now kind.0 (body_view body)) }
+        ensures refused { IfErr result (FailsWith (message_cause pool.now kind.0 (body_view body))) }
+        ensures accepts { IsWellFormed pool.now kind.0 (body_view body) → IfErr result (λ e. e ≡ Memory) }
+    {
+        check_message(alloc, pool, kind, &body)?;
+        Ok(DynamicMessage {
+            alloc,
+            pool,
+            kind,
+            body,
+        })
+    }
+
+    /// The message's body.
+    pub fn into_body(self) -> Body
+        ensures { body_view result ≡ self.entry.body }
+    {
+        self.body
+    }
+
+    /// What the message holds.
+    pub fn body(&self) -> &Body
+        ensures held { body_view result.now ≡ self.now.body }
+        ensures well_formed { IsWellFormed self.now.pool self.now.kind self.now.body }
+    {
+        &self.body
+    }
+
+    /// The message's type, an index in its pool.
+    pub fn message_type(&self) -> MessageId
+        ensures named { result.0 ≡ self.now.kind }
+        ensures within { result.0 < length self.now.pool.messages }
+    {
+        self.kind
+    }
+
+    /// The pool of the message's type.
+    pub fn pool(&self) -> &'p Pool
+        ensures { result.now ≡ self.now.pool }
+    {
+        self.pool
+    }
+
+    /// What the field of a number holds.
+    pub fn get(&self, number: u32) -> Option<&Content>
+        ensures { option_map (λ c. content_view c.now) result ≡ get_field number (fields_of self.now.body) }
+    {
+        self.body.fields.get(&number)
+    }
+
+    /// The number of the member of a oneof that is set. There is none where the type has no such oneof.
+    pub fn which_oneof(&self, oneof: u32) -> Option<u32>
+        ensures { result ≡ member_set (message_fields self.now.pool self.now.kind) oneof (fields_of self.now.body) }
+    {
+        set_member(self.pool, self.kind, &self.body.fields, oneof)
+    }
+
+    /// Sets the field of a number. A default of implicit presence, an empty list and an empty map clear the field, and a member
+    /// of a oneof takes the place of the one that is set. Nothing else changes, and nothing at all where the call fails.
+    ///
+    /// The content alone is judged: at the field the least cause is told, then what is wrong inside its messages, and the
+    /// depth last.
+    pub fn set(&mut self, number: u32, content: Content) -> Result<(), ValueError>
+        ensures ok { OnOk result (self.new ≡ record self.old { body = with_fields self.old.body (set_at (message_fields self.old.pool self.old.kind) number (content_view content) (fields_of self.old.body)) }) }
+        ensures err { OnErr result (self.new ≡ self.old) }
+        ensures judged { MatchResult result (λ _. set_cause self.old.pool self.old.kind number (content_view content) ≡ None) (FailsWith (set_cause self.old.pool self.old.kind number (content_view content))) }
+    {
+        let shape = self.allows(number, &content)?;
+        store(self.pool, self.kind, &mut self.body, shape, number, content)
+    }
+
+    /// The shape of the field of a number, where a content can be set there.
+    fn allows(&self, number: u32, content: &Content) -> Result<Shape, ValueError>
+        ensures judged { MatchResult result (λ _. set_cause self.now.pool self.now.kind number (content_view content.now) ≡ None) (FailsWith (set_cause self.now.pool self.now.kind number (content_view content.now))) }
+        ensures fits { IfOk result (λ s. Allowed self.now.pool self.now.kind number s (content_view content.now)) }
+    {
+        let Some(field) = field_at(self.pool, self.kind, number) else {
+            return Err(ValueError::NoSuchField);
+        };
+        check_content(field.shape, field.kind, content)?;
+        check_parts(self.alloc, self.pool, field.shape, field.kind, content)?;
+        if !content_within(content, MAX_LEVELS) {
+            return Err(ValueError::TooDeep);
+        }
+        Ok(field.shape)
+    }
+
+    /// Clears the field of a number. Nothing else changes, and nothing at all where the type has no such field.
+    pub fn clear(&mut self, number: u32)
+        ensures { self.new ≡ record self.old { body = with_fields self.old.body (drop_field number (fields_of self.old.body)) } }
+    {
+        clear_field(&mut self.body, number);
+    }
+
+    /// Whether the field of a number is set.
+    pub fn has(&self, number: u32) -> bool
+        ensures { result ≡ is_some (get_field number (fields_of self.now.body)) }
+    {
+        self.body.fields.contains_key(&number)
+    }
+}
+
+ghost use Rattle.std.specs.Prelude.{◌≡◌};
+ghost use Rattle.pb_value.specs.Data.{empty};
+ghost use Rattle.pb_value.specs.View.{body_view};
+
+fn empty_body(alloc: Global) -> Body
+    ensures { body_view result ≡ empty }
+{
+    Body {
+        fields: BTreeMap::new(alloc),
+        unknown: Vec::new(alloc),
+    }
+}
+
+ghost use Rattle.std.specs.Prelude.{option_map};
+ghost use Rattle.pb_value.specs.Oneof.{default_value};
+ghost use Rattle.pb_value.specs.View.{value_view};
+
+/// The default of a kind. A message has none.
+pub fn default_value(alloc: Global, kind: Kind) -> Option<Value>
+    ensures { option_map value_view result ≡ default_value kind }
+{
+    Some(match kind {
+        Kind::Int32 | Kind::Sint32 | Kind::Sfixed32 => Value::I32(0),
+        Kind::Int64 | Kind::Sint64 | Kind::Sfixed64 => Value::I64(0),
+        Kind::Uint32 | Kind::Fixed32 => Value::U32(0),
+        Kind::Uint64 | Kind::Fixed64 => Value::U64(0),
+        Kind::Bool => Value::Bool(false),
+        Kind::Float => Value::F32(0),
+        Kind::Double => Value::F64(0),
+        Kind::Enum(_) => Value::Enum(0),
+        Kind::Text => Value::Text(String::new(alloc)),
+        Kind::Bytes => Value::Bytes(Vec::new(alloc)),
+        Kind::Message(_) => return None,
+    })
+}

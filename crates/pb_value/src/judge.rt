@@ -1,0 +1,163 @@
+//! Which values are of which kind, and which contents of which shape.
+
+ghost use Rattle.std.specs.Prelude.{◌≡◌, IsTrue};
+ghost use Rattle.pb_value.specs.Judge.{is_value_of, are_values_of, is_key_of, are_entries_of, holds_kind, has_shape, is_absence, is_scalar_of, is_default_datum, IsWithin, IsKeyWithin};
+ghost use Rattle.pb_schema.specs.Scalar.{bytes as scalar_bytes};
+ghost use Rattle.pb_schema.specs.Kinds.{IsOfKind};
+ghost use Rattle.pb_value.specs.View.{key_view, value_view, content_view, values_view, entries_view};
+
+use crate::body::{Content, MapKey, Value};
+use pb_schema::{Kind, Shape};
+use std::collections::BTreeMap;
+
+/// Whether a value is of a kind. What a message holds is not looked into.
+pub(crate) fn is_value_of(kind: Kind, value: &Value) -> bool
+    ensures test { result ≡ is_value_of kind (value_view value.now) }
+    ensures in_range { IsTrue result → IsWithin kind (value_view value.now) }
+{
+    match value {
+        Value::I32(number) => {
+            let _number = *number;
+            matches!(kind, Kind::Int32 | Kind::Sint32 | Kind::Sfixed32)
+        }
+        Value::I64(number) => {
+            let _number = *number;
+            matches!(kind, Kind::Int64 | Kind::Sint64 | Kind::Sfixed64)
+        }
+        Value::U32(number) => {
+            let _number = *number;
+            matches!(kind, Kind::Uint32 | Kind::Fixed32)
+        }
+        Value::U64(number) => {
+            let _number = *number;
+            matches!(kind, Kind::Uint64 | Kind::Fixed64)
+        }
+        Value::Bool(_) => matches!(kind, Kind::Bool),
+        Value::F32(bits) => {
+            let _bits = *bits;
+            matches!(kind, Kind::Float)
+        }
+        Value::F64(bits) => {
+            let _bits = *bits;
+            matches!(kind, Kind::Double)
+        }
+        Value::Enum(number) => {
+            let _number = *number;
+            matches!(kind, Kind::Enum(_))
+        }
+        Value::Text(_) => matches!(kind, Kind::Text),
+        Value::Bytes(bytes) => is_bytes(kind, bytes),
+        Value::Message(_) => matches!(kind, Kind::Message(_)),
+    }
+}
+
+fn is_bytes(kind: Kind, bytes: &[u8]) -> bool
+    ensures test { result ≡ is_scalar_of kind (scalar_bytes bytes.now) }
+    ensures in_range { IsTrue result → IsOfKind kind (scalar_bytes bytes.now) }
+{
+    matches!(kind, Kind::Bytes)
+}
+
+fn are_values_of(kind: Kind, values: &Vec<Value>) -> bool
+    ensures { result ≡ are_values_of kind (values_view values.now.items) }
+{
+    for value in values {
+        if !is_value_of(kind, value) {
+            return false;
+        }
+    }
+    true
+}
+
+/// Whether a key is of the kind of a map's keys. Where the field is no map, no key is judged.
+pub(crate) fn is_key_of(shape: Shape, key: &MapKey) -> bool
+    ensures test { result ≡ is_key_of shape (key_view key.now) }
+    ensures in_range { IsTrue result → IsKeyWithin shape (key_view key.now) }
+{
+    let Shape::Map { key: kind } = shape else {
+        return true;
+    };
+    match key {
+        MapKey::I32(number) => {
+            let _number = *number;
+            matches!(kind, Kind::Int32 | Kind::Sint32 | Kind::Sfixed32)
+        }
+        MapKey::I64(number) => {
+            let _number = *number;
+            matches!(kind, Kind::Int64 | Kind::Sint64 | Kind::Sfixed64)
+        }
+        MapKey::U32(number) => {
+            let _number = *number;
+            matches!(kind, Kind::Uint32 | Kind::Fixed32)
+        }
+        MapKey::U64(number) => {
+            let _number = *number;
+            matches!(kind, Kind::Uint64 | Kind::Fixed64)
+        }
+        MapKey::Bool(_) => matches!(kind, Kind::Bool),
+        MapKey::Text(_) => matches!(kind, Kind::Text),
+    }
+}
+
+fn are_entries_of(shape: Shape, kind: Kind, entries: &BTreeMap<MapKey, Value>) -> bool
+    ensures { result ≡ are_entries_of shape kind (entries_view entries.now.entries) }
+{
+    for (key, value) in entries {
+        if !is_key_of(shape, key) || !is_value_of(kind, value) {
+            return false;
+        }
+    }
+    true
+}
+
+/// Whether each value of a content is of a kind, and each key of the shape's.
+pub(crate) fn holds_kind(shape: Shape, kind: Kind, content: &Content) -> bool
+    ensures { result ≡ holds_kind shape kind (content_view content.now) }
+{
+    match content {
+        Content::One(value) => is_value_of(kind, value),
+        Content::List(values) => are_values_of(kind, values),
+        Content::Map(entries) => are_entries_of(shape, kind, entries),
+    }
+}
+
+/// Whether a content is one value, a list or a map, as a field's shape says.
+pub(crate) fn has_shape(shape: Shape, content: &Content) -> bool
+    ensures { result ≡ has_shape shape (content_view content.now) }
+{
+    match shape {
+        Shape::Implicit | Shape::Explicit | Shape::OneofMember(_) => matches!(
+            content,
+            Content::One(_)
+        ),
+        Shape::List { packed: _ } => matches!(content, Content::List(_)),
+        Shape::Map { key: _ } => matches!(content, Content::Map(_)),
+    }
+}
+
+/// Whether a scalar is the default of its kind; of a float or double +0 alone.
+fn is_default(value: &Value) -> bool
+    ensures { result ≡ is_default_datum (value_view value.now) }
+{
+    match value {
+        Value::I32(number) | Value::Enum(number) => *number == 0,
+        Value::I64(number) => *number == 0,
+        Value::U32(number) | Value::F32(number) => *number == 0,
+        Value::U64(number) | Value::F64(number) => *number == 0,
+        Value::Bool(truth) => !*truth,
+        Value::Text(text) => text.is_empty(),
+        Value::Bytes(bytes) => bytes.is_empty(),
+        Value::Message(_) => false,
+    }
+}
+
+/// Whether a field without the content is the same: an implicit field's default, an empty list or an empty map.
+pub(crate) fn is_absence(shape: Shape, content: &Content) -> bool
+    ensures { result ≡ is_absence shape (content_view content.now) }
+{
+    match content {
+        Content::One(value) => matches!(shape, Shape::Implicit) && is_default(value),
+        Content::List(values) => values.is_empty(),
+        Content::Map(entries) => entries.is_empty(),
+    }
+}

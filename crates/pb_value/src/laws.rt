@@ -1,0 +1,37 @@
+//! Laws of what records mean.
+
+ghost use Rattle.std.specs.Prelude.{◌≡◌, ◌<◌, ◌^◌, ℕ, List, length, None};
+ghost use Rattle.pb_wire.specs.Spell.{AreRecords};
+ghost use Rattle.pb_schema.specs.Types.{Types};
+ghost use Rattle.pb_schema.specs.Rules.{IsPool};
+ghost use Rattle.pb_schema.specs.declared.types.Kind.{Kind};
+ghost use Rattle.pb_schema.specs.Kinds.{IsOfKind};
+ghost use Rattle.pb_schema.specs.Scalar.{key_cmp};
+ghost use Rattle.pb_value.specs.Data.{Message};
+ghost use Rattle.pb_value.specs.View.{key_view};
+ghost use Rattle.pb_value.specs.KeyOrder.{map_key_cmp};
+ghost use Rattle.pb_value.specs.declared.body.MapKey.{MapKey};
+ghost use Rattle.pb_value.specs.Derives.{Derives};
+ghost use Rattle.pb_value.specs.Canon.{canon, canon_bytes};
+ghost use Rattle.pb_value.specs.WellFormed.{IsWellFormed};
+ghost use Rattle.pb_value.specs.Cause.{message_cause};
+
+/// Bytes are the text of one value, whatever the depth allowed.
+pub fn one_value()
+    ensures { (pool : Types) (m d e : ℕ) (b : List ℕ) (v w : Message) → Derives pool m d b v → Derives pool m e b w → v ≡ w }
+{}
+
+/// The canonical bytes of a well-formed message spell its canonical records, where the wire can hold them.
+pub fn canonical_spelling()
+    ensures { (pool : Types) (m : ℕ) (v : Message) → IsPool pool → IsWellFormed pool m v → length (canon_bytes pool m v) < 2 ^ 31 → AreRecords (canon pool m v) (canon_bytes pool m v) }
+{}
+
+/// Keys of one map stand in the order of the definitions: numbers by value, false before true, texts by their bytes.
+pub fn key_order()
+    ensures { (kind : Kind) (a b : MapKey) → IsOfKind kind (key_view a) → IsOfKind kind (key_view b) → map_key_cmp a b ≡ key_cmp (key_view a) (key_view b) }
+{}
+
+/// Nothing refuses a well-formed message.
+pub fn no_cause()
+    ensures { (pool : Types) (m : ℕ) (v : Message) → IsWellFormed pool m v → message_cause pool m v ≡ None }
+{}

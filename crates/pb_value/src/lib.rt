@@ -1,0 +1,19 @@
+//! Dynamic messages: what a message is, what its records mean, and every change exact.
+#![tactic(auto)]
+
+mod body;
+mod change;
+mod check;
+mod depth;
+mod dynamic;
+mod error;
+mod judge;
+mod laws;
+mod lookup;
+mod oneof;
+mod unknown;
+
+pub use body::{Body, Content, MapKey, Value};
+pub use dynamic::{DynamicMessage, default_value};
+pub use error::ValueError;
+pub use laws::{canonical_spelling, key_order, no_cause, one_value};
