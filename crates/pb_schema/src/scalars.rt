@@ -4,6 +4,7 @@
 
 ghost use Rattle.std.specs.Prelude.{◌≡◌, ◌%◌, ◌^◌, Some, None, IfOk, IfSome, IfNone, string_bytes};
 ghost use Rattle.std.specs.List.{AllByRecursion};
+ghost use Rattle.std.specs.Int.{cast_unsigned, w64};
 ghost use Rattle.pb_wire.specs.Record.{wire_type};
 ghost use Rattle.pb_wire.specs.Exact.{IsByte};
 ghost use Rattle.pb_schema.specs.declared.types.Kind.{Kind as TheKind};
@@ -67,6 +68,13 @@ fn low_half(number: u64) -> u32
     ensures { result ≡ number % 2 ^ 32 }
 {
     (number % 0x1_0000_0000) as u32
+}
+
+/// All 64 bits of the two's complement.
+fn all_bits(number: i32) -> u64
+    ensures { result ≡ cast_unsigned w64 number }
+{
+    i64::from(number).cast_unsigned()
 }
 
 fn copy_of(alloc: Global, bytes: &[u8]) -> Result<Vec<u8>, AllocError>
@@ -181,7 +189,7 @@ impl Scalar for Int32 {
     ghost reads_back = { read-written kind.Int32 };
 
     fn write(item: &i32) -> ScalarPayload<'_> {
-        ScalarPayload::Varint(i64::from(*item).cast_unsigned())
+        ScalarPayload::Varint(all_bits(*item))
     }
 
     fn read(_alloc: Global, payload: ScalarPayload<'_>) -> Result<Option<i32>, AllocError> {
@@ -438,7 +446,7 @@ impl Scalar for EnumNumber {
     ghost reads_back = { read-written (kind.Enum (record { 0 = 0 })) };
 
     fn write(item: &i32) -> ScalarPayload<'_> {
-        ScalarPayload::Varint(i64::from(*item).cast_unsigned())
+        ScalarPayload::Varint(all_bits(*item))
     }
 
     fn read(_alloc: Global, payload: ScalarPayload<'_>) -> Result<Option<i32>, AllocError> {
