@@ -7,6 +7,8 @@ pub mod OrderLemmas
 pub mod NameSetLemmas
 pub mod NameLemmas
 pub mod AddLemmas
+pub mod TableLemmas
+pub mod MemberLemmas
 pub mod NumberLemmas
 pub mod RuleLemmas
 pub mod LookupLemmas

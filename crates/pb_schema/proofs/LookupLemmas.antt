@@ -12,7 +12,7 @@ use Rattle.pb_schema.specs.declared.name_set.NameSet.{NameSet}
 use Rattle.pb_schema.specs.Nesting.{ParentsStandBefore}
 use Rattle.pb_schema.specs.Names.{AllDiffer, in_scope, scope_of, scope_by_names, message_name, enum_name, message_names, enum_names, names_in_message, declared_by_message, declared_by_enum}
 use Rattle.pb_schema.specs.NameSet.{IsSetOf}
-use Rattle.pb_schema.specs.Tables.{IsNumbered, AreNumberTables, HasTables, place_of}
+use Rattle.pb_schema.specs.Tables.{IsNumbered, AreNumberTables, AreMemberTables, HasTables, place_of}
 use Rattle.pb_schema.specs.Rules.{IsPool, IsFieldOf, NamesOneof}
 use Rattle.pb_schema.proofs.NameSetLemmas.{all_back, AllDiffer-front, AllDiffer-back}
 use Rattle.pb_schema.proofs.NameLemmas.{scope_of-names}
@@ -87,7 +87,7 @@ all_found P test (g ∷ gs) f all e = by_test (test g) (all_found P test gs f al
     by_test true later e = subst P (some_same refl e) all.0
     by_test false later e = later e
 
-at_message : (P : MessageView → Type 0) (ms : List MessageView) (m : ℕ) (t : MessageView) → AllByRecursion P ms → slice_get ms m ≡ Some t → P t
+pub at_message : (P : MessageView → Type 0) (ms : List MessageView) (m : ℕ) (t : MessageView) → AllByRecursion P ms → slice_get ms m ≡ Some t → P t
 at_message P [] m t all e = absurd (none_some e)
 at_message P (s ∷ ss) zero t all e = subst P (some_same refl e) all.0
 at_message P (s ∷ ss) (suc m) t all e = at_message P ss m t all.1 e
@@ -153,9 +153,10 @@ enum_names_by ts names ok same = each ts.enums
     each [] = refl
     each (e ∷ es) = ap (λ n. n ∷ map (λ d. in_scope (scope_by_names ts.files names d.file d.parent) d.name) es) (one e) ∙ ap (λ l. enum_name ts.files ts.messages e ∷ l) (each es)
 
-pub pool_tables : (ts : Types) (names others : List (List ℕ)) (messages enums : NameSet) (numbers : List (Vec (ℕ × ℕ) Global)) → IsPool ts → names ≡ message_names ts → IsSetOf names messages → others ≡ enum_names ts → IsSetOf others enums → AreNumberTables ts.messages numbers → HasTables ts messages.table.keys enums.table.keys numbers
-pool_tables ts names others messages enums numbers ok same is_messages same' is_enums are = record {
+pub pool_tables : (ts : Types) (names others : List (List ℕ)) (messages enums : NameSet) (numbers : List (Vec (ℕ × ℕ) Global)) (members : List (Vec (Vec ℕ Global) Global)) → IsPool ts → names ≡ message_names ts → IsSetOf names messages → others ≡ enum_names ts → IsSetOf others enums → AreNumberTables ts.messages numbers → AreMemberTables ts.messages members → HasTables ts messages.table.keys enums.table.keys numbers members
+pool_tables ts names others messages enums numbers members ok same is_messages same' is_enums are are' = record {
   messages = is_messages.ordered (is_messages.differ.1 (subst AllDiffer (sym same) (pool_message_names ts ok))) ∙ same;
   enums = is_enums.ordered (is_enums.differ.1 (subst AllDiffer (sym same') (pool_enum_names ts ok))) ∙ same';
   numbers = are;
+  members = are';
 }

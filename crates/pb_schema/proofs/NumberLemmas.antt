@@ -1,5 +1,5 @@
 -- Fields by their numbers.
-use Rattle.std.proofs.Common.{◌≡◌, ◌≢◌, ℕ, Bool, true, false, not, ◌||◌, IsTrue, ◌↔◌, if◌then◌else◌, eqb, Vec, Global, take, zero, suc, ◌+◌, ◌<◌, ◌≤◌, List, [], ◌∷◌, ◌++◌, map, length, get_or, refl, sym, ◌∙◌, ap, subst, arith, Option, Some, None, Contains, ◌⊎◌, inl, inr, ⊎_elim}
+use Rattle.std.proofs.Common.{◌≡◌, ◌≢◌, ℕ, Bool, true, false, not, ◌||◌, IsTrue, ◌↔◌, if◌then◌else◌, eqb, take, zero, suc, ◌+◌, ◌<◌, ◌≤◌, List, [], ◌∷◌, ◌++◌, map, length, get_or, refl, sym, ◌∙◌, ap, subst, arith, Option, Some, None, Contains, ◌⊎◌, inl, inr, ⊎_elim}
 use Rattle.std.specs.List.{AllByRecursion, list_any}
 use Rattle.std.specs.List.Sorted.{IsPermutation, IsNonDecreasingBy, IsPartitionPoint}
 use Rattle.std.proofs.lemmas.List.{length-take, take_more, map-append}
@@ -10,12 +10,11 @@ use Rattle.std.proofs.lemmas.List.Elements.{Contains-get_or}
 use Rattle.std.specs.Ordering.{nat_cmp, ordering_index}
 use Rattle.std.specs.declared.cmp.Ordering.TheVariants.{Less, Equal, Greater}
 use Rattle.std.proofs.lemmas.Map.Views.{Contains-from_any}
-use Rattle.pb_schema.specs.declared.types.MessageType.{MessageType}
 use Rattle.pb_schema.specs.Names.{AllDiffer}
 use Rattle.pb_schema.specs.declared.types.Field.{Field}
-use Rattle.pb_schema.specs.View.{field_view, message_view}
-use Rattle.pb_schema.specs.Types.{FieldView, MessageView}
-use Rattle.pb_schema.specs.Tables.{IsNumbered, IsNumberTable, AreNumberTables}
+use Rattle.pb_schema.specs.View.{field_view}
+use Rattle.pb_schema.specs.Types.{FieldView}
+use Rattle.pb_schema.specs.Tables.{IsNumbered}
 use Rattle.pb_schema.proofs.ImportLemmas.{Contains-none}
 use Rattle.pb_schema.proofs.NameSetLemmas.{Contains-first, Contains-later, Contains-cases, AllDiffer-push, AllDiffer-new}
 
@@ -74,31 +73,6 @@ all_taken [] zero h = refl
 all_taken [] (suc i) h = refl
 all_taken (f ∷ fs) zero h = absurd (omega (arith, h))
 all_taken (f ∷ fs) (suc i) h = ap (λ l. f ∷ l) (all_taken fs i (omega (arith, h)))
-
-tables_push : (ts : List MessageView) (ns : List (Vec (ℕ × ℕ) Global)) (t : MessageView) (n : Vec (ℕ × ℕ) Global) → AreNumberTables ts ns → IsNumberTable t.fields n.items → AreNumberTables (ts ++ t ∷ []) (ns ++ n ∷ [])
-tables_push [] [] t n are is = (is, tt)
-tables_push [] (m ∷ ms) t n are is = absurd are
-tables_push (s ∷ ss) [] t n are is = absurd are
-tables_push (s ∷ ss) (m ∷ ms) t n are is = (are.0, tables_push ss ms t n are.1 is)
-
-pub tables-more : (xs : List MessageType) (i : ℕ) (x : MessageType) (ns : List (Vec (ℕ × ℕ) Global)) (n : Vec (ℕ × ℕ) Global) → i < length xs → x ≡ get_or xs i x → AreNumberTables (map message_view (take i xs)) ns → IsNumberTable (map field_view x.fields.items) n.items → AreNumberTables (map message_view (take (i + 1) xs)) (ns ++ n ∷ [])
-tables-more xs i x ns n h is were this =
-    let one_more : take (i + 1) xs ≡ take i xs ++ x ∷ [] = take_more xs i x h ∙ ap (λ y. take i xs ++ y ∷ []) (sym is) in
-    let e : map message_view (take (i + 1) xs) ≡ map message_view (take i xs) ++ message_view x ∷ [] = ap (map message_view) one_more ∙ map-append message_view (take i xs) (x ∷ []) in
-    subst (λ l. AreNumberTables l (ns ++ n ∷ [])) (sym e) (tables_push (map message_view (take i xs)) ns (message_view x) n were this)
-
--- the table of a message
-pub table_at : (ts : List MessageView) (ns : List (Vec (ℕ × ℕ) Global)) (i : ℕ) (t : MessageView) (n : Vec (ℕ × ℕ) Global) → AreNumberTables ts ns → i < length ts → t ≡ get_or ts i t → n ≡ get_or ns i n → IsNumberTable t.fields n.items
-table_at [] ns i t n are h a b = absurd (omega (arith, h))
-table_at (s ∷ ss) [] i t n are h a b = absurd are
-table_at (s ∷ ss) (m ∷ ms) zero t n are h a b = subst (λ (x : MessageView). IsNumberTable x.fields n.items) (sym a) (subst (λ (y : Vec (ℕ × ℕ) Global). IsNumberTable s.fields y.items) (sym b) are.0)
-table_at (s ∷ ss) (m ∷ ms) (suc i) t n are h a b = table_at ss ms i t n are.1 (omega (arith, h)) a b
-
-pub tables_length : (ts : List MessageView) (ns : List (Vec (ℕ × ℕ) Global)) → AreNumberTables ts ns → length ns ≡ length ts
-tables_length [] [] are = refl
-tables_length [] (m ∷ ms) are = absurd are
-tables_length (s ∷ ss) [] are = absurd are
-tables_length (s ∷ ss) (m ∷ ms) are = ap suc (tables_length ss ms are.1)
 
 -- NUMBERS THAT DIFFER
 

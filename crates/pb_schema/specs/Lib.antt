@@ -14,4 +14,5 @@ pub mod Rules
 pub mod NameSet
 pub mod Marks
 pub mod ErrorNumber
+pub mod Oneofs
 pub mod Tables

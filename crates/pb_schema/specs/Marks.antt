@@ -1,5 +1,7 @@
--- Bits that tell which oneofs have members, and which files are reached.
-use Rattle.std.specs.Prelude.{◌≡◌, ◌<◌, ◌↔◌, ◌⊎◌, ℕ, List, length, Bool, false, IsTrue, IfSome, slice_get}
+-- Bits that tell which oneofs have members, and which files are reached; lists of the oneofs' members.
+use Rattle.std.specs.Prelude.{◌≡◌, ◌<◌, ◌↔◌, ◌⊎◌, ℕ, List, [], ◌∷◌, ◌++◌, length, Bool, false, IsTrue, if◌then◌else◌, Some, option_map, Vec, IfSome, slice_get}
+use Rattle.std.specs.declared.alloc.Global.{Global}
+use Rattle.pb_schema.specs.Oneofs.{is_member}
 use Rattle.std.specs.List.{slice_index_or}
 use Rattle.pb_schema.specs.declared.types.Kind.{Kind}
 use Rattle.pb_schema.specs.declared.types.Kind.TheVariants as kind
@@ -26,3 +28,8 @@ abbrev pub KindIsMarked : List MessageView → List EnumView → ℕ → List Bo
 KindIsMarked ms es start bits (kind.Enum e) = IfSome (slice_get es e.0) (λ t. BitsSee start bits t.file)
 KindIsMarked ms es start bits (kind.Message m) = IfSome (slice_get ms m.0) (λ t. BitsSee start bits t.file)
 KindIsMarked ms es start bits _ = Unit {0}
+
+-- the number of the field is appended to the members of its oneof, where there is such a oneof
+pub record AddsMember (f : FieldView) (old new : List (Vec ℕ Global)) : Type 0 where
+  pub size : length new ≡ length old
+  pub exact : (o : ℕ) (ns : List ℕ) → option_map (λ v. v.items) (slice_get old o) ≡ Some ns → option_map (λ v. v.items) (slice_get new o) ≡ Some (if is_member o f.shape then ns ++ f.number ∷ [] else ns)

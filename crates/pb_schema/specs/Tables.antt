@@ -1,11 +1,12 @@
 -- Tables for look-ups.
-use Rattle.std.specs.Prelude.{◌≡◌, ◌↔◌, ℕ, List, [], ◌∷◌, Option, Some, option_map, Contains, slice_get, position, find, Vec}
+use Rattle.std.specs.Prelude.{◌≡◌, ◌↔◌, ◌<◌, ℕ, length, List, [], ◌∷◌, Option, Some, option_map, Contains, slice_get, position, find, Vec}
 use Rattle.std.specs.List.Sorted.{IsNonDecreasingBy}
 use Rattle.std.specs.Str.{bytes_eq}
 use Rattle.std.specs.declared.alloc.Global.{Global}
 use Rattle.pb_schema.specs.View.{bytes_of}
 use Rattle.pb_schema.specs.Types.{FieldView, MessageView, Types}
 use Rattle.pb_schema.specs.Names.{message_names, enum_names}
+use Rattle.pb_schema.specs.Oneofs.{member_numbers}
 
 -- the field at the index has the number
 abbrev pub IsNumbered : List FieldView → ℕ → ℕ → Type 0
@@ -16,12 +17,23 @@ pub record IsNumberTable (fs : List FieldView) (table : List (ℕ × ℕ)) : Typ
   pub rising : IsNonDecreasingBy (λ e. e.0) table
   pub exact : (n i : ℕ) → Contains table (n, i) ↔ IsNumbered fs n i
 
+-- the numbers of the members of each of so many oneofs, as the fields declare them
+pub record IsMemberTable (oneofs : ℕ) (fs : List FieldView) (table : List (Vec ℕ Global)) : Type 0 where
+  pub size : length table ≡ oneofs
+  pub exact : (o : ℕ) → o < oneofs → option_map (λ v. v.items) (slice_get table o) ≡ Some (member_numbers o fs)
+
 -- a table for each message
+abbrev pub HaveTables : {X : Type 0} → (MessageView → X → Type 0) → List MessageView → List X → Type 0
+HaveTables P [] [] = Unit {0}
+HaveTables P [] (x ∷ xs) = ⊥
+HaveTables P (t ∷ ts) [] = ⊥
+HaveTables P (t ∷ ts) (x ∷ xs) = P t x × HaveTables P ts xs
+
 abbrev pub AreNumberTables : List MessageView → List (Vec (ℕ × ℕ) Global) → Type 0
-AreNumberTables [] [] = Unit {0}
-AreNumberTables [] (n ∷ ns) = ⊥
-AreNumberTables (t ∷ ts) [] = ⊥
-AreNumberTables (t ∷ ts) (n ∷ ns) = IsNumberTable t.fields n.items × AreNumberTables ts ns
+AreNumberTables ts tables = HaveTables (λ t n. IsNumberTable t.fields n.items) ts tables
+
+abbrev pub AreMemberTables : List MessageView → List (Vec (Vec ℕ Global) Global) → Type 0
+AreMemberTables ts tables = HaveTables (λ t v. IsMemberTable (length t.oneofs) t.fields v.items) ts tables
 
 -- the first place of a name among names
 abbrev pub place_of : List ℕ → List (List ℕ) → Option ℕ
@@ -31,8 +43,9 @@ place_of name names = position (λ x. bytes_eq name x) names
 abbrev pub field_named : List ℕ → List FieldView → Option FieldView
 field_named name fs = find (λ f. bytes_eq f.name name) fs
 
--- the tables of a pool: the full names of messages and enums in their order, and the numbers of each message
-pub record HasTables (ts : Types) (message_keys enum_keys : List (Vec ℕ Global)) (number_tables : List (Vec (ℕ × ℕ) Global)) : Type 0 where
+-- the tables of a pool: the full names of messages and enums in their order, and the numbers and the oneofs' members of each message
+pub record HasTables (ts : Types) (message_keys enum_keys : List (Vec ℕ Global)) (number_tables : List (Vec (ℕ × ℕ) Global)) (member_tables : List (Vec (Vec ℕ Global) Global)) : Type 0 where
   pub messages : bytes_of message_keys ≡ message_names ts
   pub enums : bytes_of enum_keys ≡ enum_names ts
   pub numbers : AreNumberTables ts.messages number_tables
+  pub members : AreMemberTables ts.messages member_tables

@@ -9,6 +9,7 @@ mod fitting;
 mod imports;
 mod index_rules;
 mod laws;
+mod member_table;
 mod name_rules;
 mod name_set;
 mod names;

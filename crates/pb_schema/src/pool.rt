@@ -27,7 +27,7 @@ impl Model for Pool {
 
     ghost view = { λ p. types_of p.files.items p.messages.items p.enums.items };
 
-    ghost invariant = { λ p. IsPool (types_of p.files.items p.messages.items p.enums.items) × HasTables (types_of p.files.items p.messages.items p.enums.items) p.tables.messages.keys p.tables.enums.keys p.tables.numbers.items };
+    ghost invariant = { λ p. IsPool (types_of p.files.items p.messages.items p.enums.items) × HasTables (types_of p.files.items p.messages.items p.enums.items) p.tables.messages.keys p.tables.enums.keys p.tables.numbers.items p.tables.members.items };
 }
 
 impl Pool {
@@ -38,6 +38,7 @@ impl Pool {
     ghost use Rattle.pb_schema.specs.Names.{message_names as message_names_of, enum_names as enum_names_of};
     ghost use Rattle.pb_schema.specs.Tables.{place_of, field_named};
     ghost use Rattle.pb_schema.specs.Rules.{IsPool, IsFieldOf};
+    ghost use Rattle.pb_schema.specs.Oneofs.{member_numbers};
 
     /// The pool of its parts, where they meet every rule.
     ///
@@ -130,6 +131,19 @@ impl Pool {
         ensures rules { IfSome result (λ f. IsFieldOf self.now message.0 (field_view f.now)) }
     {
         find_name(&self.messages[message.0].fields, name)
+    }
+
+    /// The numbers of the members of a oneof in the order of their declaration. There are none where the message type has no such
+    /// oneof.
+    pub fn oneof_members(&self, message: MessageId, oneof: u32) -> &[u32]
+        requires { message.0 < length self.now.messages }
+        ensures found { result.now ≡ member_numbers oneof (message_fields self.now message.0) }
+        ensures rules { IsPool self.now }
+    {
+        match self.tables.members[message.0].get(oneof as usize) {
+            Some(members) => members.as_slice(),
+            None => &[],
+        }
     }
 }
 

@@ -6,6 +6,7 @@ pub mod OrderLemmas
 pub mod CheckLemmas
 pub mod NoCause
 pub mod ChangeLemmas
+pub mod OneofLemmas
 pub mod FieldViews
 mod Table
 mod Rows

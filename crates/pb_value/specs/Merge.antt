@@ -5,8 +5,8 @@ use Rattle.pb_schema.specs.declared.types.Kind.{Kind}
 use Rattle.pb_schema.specs.declared.types.Shape.{Shape}
 use Rattle.pb_schema.specs.declared.types.Shape.TheVariants as shape
 use Rattle.pb_schema.specs.Types.{FieldView, Types, message_fields}
+use Rattle.pb_schema.specs.Oneofs.{members}
 use Rattle.pb_value.specs.Data.{message, joined_datums, put_entries, Holding, one, list, map, Fields, no_fields, get_field, put_some, Message, body, fields_of, unknown_of, empty}
-use Rattle.pb_value.specs.Value.{members}
 use Rattle.pb_value.specs.Canon.{message_type}
 
 -- a member of the oneof is set

@@ -3,8 +3,8 @@ use Rattle.std.specs.Prelude.{ℕ, List, Bool, false, Option, Some, None, if◌t
 use Rattle.pb_schema.specs.declared.types.Kind.{Kind}
 use Rattle.pb_schema.specs.Types.{FieldView, field_numbered}
 use Rattle.pb_schema.specs.Kinds.{message_of_kind, default_of}
+use Rattle.pb_schema.specs.Oneofs.{is_member}
 use Rattle.pb_value.specs.Data.{Datum, scalar, Fields, no_fields, field}
-use Rattle.pb_value.specs.Value.{is_member}
 
 abbrev pub is_member_at : ℕ → Option FieldView → Bool
 is_member_at o None = false

@@ -11,6 +11,7 @@ use Rattle.pb_schema.specs.Types.{FieldView, Types, message_fields}
 use Rattle.pb_schema.specs.Scalar.{Scalar, is_default}
 use Rattle.pb_schema.specs.Kinds.{message_of_kind, default_of}
 use Rattle.pb_schema.specs.Packed.{elements}
+use Rattle.pb_schema.specs.Oneofs.{members}
 use Rattle.pb_schema.specs.Fits.{fits, fits_any, fitting, unfitting}
 use Rattle.pb_schema.specs.Context.{key_field, value_field}
 use Rattle.pb_value.specs.Data.{Datum, scalar, message, datums_of, no_entries, put_entry, Holding, one, list, map, Fields, no_fields, put_some, Message, body, empty}
@@ -46,14 +47,6 @@ unless_no_elements (d ∷ ds) = Some (list (datums_of (d ∷ ds)))
 abbrev pub unless_no_entries : List (Scalar × Datum) → Option Holding
 unless_no_entries [] = None
 unless_no_entries (e ∷ es) = Some (map (fold (λ ds d. put_entry d.0 d.1 ds) no_entries (e ∷ es)))
-
--- the fields that are members of a oneof
-abbrev pub is_member : ℕ → Shape → Bool
-is_member o (shape.OneofMember p) = o == p
-is_member o _ = false
-
-abbrev pub members : ℕ → List FieldView → List FieldView
-members o fs = filter (λ f. is_member o f.shape) fs
 
 -- Where a message of a type is the value of records by `value`.
 module _ (value : ℕ → List Record → Message) where

@@ -4,7 +4,7 @@ ghost use Rattle.std.specs.Prelude.{◌≡◌, ◌<◌, length, OnOk, OnErr, IfE
 ghost use Rattle.pb_schema.specs.Types.{message_fields};
 ghost use Rattle.pb_value.specs.Data.{body, put_field, drop_field, fields_of, unknown_of};
 ghost use Rattle.pb_value.specs.Change.{gives_way, stored_at, with_fields};
-ghost use Rattle.pb_value.specs.WellFormed.{RisesFrom};
+ghost use Rattle.pb_value.specs.WellFormed.{RisesFrom, HasOneMemberEach};
 ghost use Rattle.pb_value.specs.View.{body_view, content_view, fields_view};
 ghost use Rattle.pb_value.specs.declared.error.ValueError.TheVariants.{Memory};
 
@@ -41,7 +41,8 @@ fn gives_way(
     shape: Shape,
     number: u32,
 ) -> Option<u32>
-    requires { kind.0 < length pool.now.messages }
+    requires within { kind.0 < length pool.now.messages }
+    requires one_each { HasOneMemberEach (message_fields pool.now kind.0) (fields_view fields.now.entries) }
     ensures { result ≡ gives_way (message_fields pool.now kind.0) shape number (fields_view fields.now.entries) }
 {
     let Shape::OneofMember(oneof) = shape else {
@@ -60,7 +61,8 @@ pub(crate) fn store(
     number: u32,
     content: Content,
 ) -> Result<(), ValueError>
-    requires { kind.0 < length pool.now.messages }
+    requires within { kind.0 < length pool.now.messages }
+    requires one_each { HasOneMemberEach (message_fields pool.now kind.0) (fields_of (body_view message.old)) }
     ensures ok { OnOk result (body_view message.new ≡ with_fields (body_view message.old) (stored_at (message_fields pool.now kind.0) shape number (content_view content) (fields_of (body_view message.old)))) }
     ensures err { OnErr result (body_view message.new ≡ body_view message.old) }
     ensures memory { IfErr result (λ e. e ≡ Memory) }

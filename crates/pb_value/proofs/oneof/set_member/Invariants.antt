@@ -1,9 +1,7 @@
-use Rattle.std.proofs.Common.{◌≡◌}
-use Rattle.pb_schema.specs.Types.{message_fields}
-use Rattle.pb_value.specs.Oneof.{member_set}
+use Rattle.std.proofs.Common.{take}
 use Rattle.pb_value.specs.View.{fields_view}
+use Rattle.pb_value.proofs.OneofLemmas.{NoneSet}
 use Rattle.pb_value.proofs.oneof.set_member.Given as goal
 
 abbrev pub invariant-loop-number : goal.invariant-loop-number
-invariant-loop-number l =
-    member_set (message_fields l.pool l.kind.0) l.oneof (fields_view l.fields.entries) ≡ member_set (message_fields l.pool l.kind.0) l.oneof (fields_view l.number-iterator)
+invariant-loop-number l = NoneSet (fields_view l.fields.entries) (take l.number-index l.oneof_members.result.now)
