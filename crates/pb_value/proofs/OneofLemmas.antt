@@ -1,5 +1,5 @@
 -- The member of a oneof that is set, found among the numbers of its members.
-use Rattle.std.proofs.Common.{◌≡◌, ◌≢◌, ℕ, zero, suc, ◌+◌, ◌<◌, ◌≤◌, List, [], ◌∷◌, ◌++◌, map, length, take, get_or, Option, Some, None, IfSome, Ordering, Less, Equal, Greater, nat_cmp, refl, sym, ◌∙◌, ap, subst, arith, ◌⊎◌, inl, inr, ⊎_elim}
+use Rattle.std.proofs.Common.{◌≡◌, ◌≢◌, ℕ, zero, suc, ◌+◌, ◌<◌, ◌≤◌, List, [], ◌∷◌, ◌++◌, map, length, take, get_or, Option, Some, None, Ordering, Less, Equal, Greater, nat_cmp, refl, sym, ◌∙◌, ap, subst, arith}
 use Rattle.std.specs.Prelude.{Bool, true, false, ◌==◌, if◌then◌else◌, is_some, slice_get}
 use Rattle.std.specs.List.{AllByRecursion}
 use Rattle.std.specs.Ordering.{match_ordering, MatchOrdering}
@@ -14,7 +14,7 @@ use Rattle.pb_schema.specs.Oneofs.{is_member, members, member_numbers}
 use Rattle.pb_value.specs.Data.{Holding, Fields, no_fields, field, get_field}
 use Rattle.pb_value.specs.WellFormed.{HasNoMember, HasOneMemberEach, oneof_at}
 use Rattle.pb_value.specs.Oneof.{is_member_at, member_set}
-use Rattle.pb_value.proofs.ChangeLemmas.{by_order, at_some, member-oneof_at, oneof_at-member}
+use Rattle.pb_value.proofs.ChangeLemmas.{by_order, at_some, member-oneof_at}
 
 -- no field of these numbers is set
 abbrev pub NoneSet : Fields → List ℕ → Type 0
@@ -24,9 +24,14 @@ NoneSet-push : (fs : Fields) (ns : List ℕ) (n : ℕ) → NoneSet fs ns → is_
 NoneSet-push fs [] n none e = (e, tt)
 NoneSet-push fs (k ∷ ks) n none e = (none.0, NoneSet-push fs ks n none.1 e)
 
-pub NoneSet-more : (fs : Fields) (ns : List ℕ) (i n : ℕ) → i < length ns → n ≡ get_or ns i n → NoneSet fs (take i ns) → is_some (get_field n fs) ≡ false → NoneSet fs (take (i + 1) ns)
-NoneSet-more fs ns i n h is none e =
-    subst (NoneSet fs) (sym (take_more ns i n h ∙ ap (λ k. take i ns ++ k ∷ []) (sym is))) (NoneSet-push fs (take i ns) n none e)
+pub NoneSet-more : (fs : Fields) (ns : List ℕ) (i : ℕ) → i < length ns → NoneSet fs (take i ns) → is_some (get_field (get_or ns i 0) fs) ≡ false → NoneSet fs (take (i + 1) ns)
+NoneSet-more fs ns i h none e =
+    subst (NoneSet fs) (sym (take_more ns i 0 h)) (NoneSet-push fs (take i ns) (get_or ns i 0) none e)
+
+pub NoneSet-all : (fs : Fields) (ns : List ℕ) (i : ℕ) → length ns ≤ i → NoneSet fs (take i ns) → NoneSet fs ns
+NoneSet-all fs [] i h none = tt
+NoneSet-all fs (n ∷ ns) zero h none = absurd (omega (arith, h))
+NoneSet-all fs (n ∷ ns) (suc i) h none = (none.0, NoneSet-all fs ns i (omega (arith, h)) none.1)
 
 -- a set field of another number
 no_member_get : (all : List FieldView) (o n : ℕ) (fs : Fields) → HasNoMember all o fs → is_some (get_field n fs) ≡ true → oneof_at all n ≢ Some o
@@ -64,15 +69,15 @@ member_found all o n (field k h fs) one is e =
 number_is : (n k : ℕ) → (k == n) ≡ true → k ≡ n
 number_is n k e = grind (arith, nat_tests)
 
-numbered_member : (all : List FieldView) (o n : ℕ) → is_member_at o (field_numbered n all) ≡ true → (P : ℕ → Type 0) → AllByRecursion P (member_numbers o all) → P n
-numbered_member [] o n is P each = absurd (false≢true is)
-numbered_member (f ∷ fs) o n is P each = by_tests (f.number == n) refl (is_member o f.shape) refl is each
+numbered_member : (all : List FieldView) (o n : ℕ) (P : ℕ → Type 0) → is_member_at o (field_numbered n all) ≡ true → AllByRecursion P (member_numbers o all) → P n
+numbered_member [] o n P is each = absurd (false≢true is)
+numbered_member (f ∷ fs) o n P is each = by_tests (f.number == n) refl (is_member o f.shape) refl (numbered_member fs o n P) is each
   where
-    by_tests : (a : Bool) → (f.number == n) ≡ a → (b : Bool) → is_member o f.shape ≡ b → is_member_at o (if a then Some f else field_numbered n fs) ≡ true → AllByRecursion P (map (λ (g : FieldView). g.number) (if b then f ∷ members o fs else members o fs)) → P n
-    by_tests true p true q is each = subst P (number_is n f.number p) each.0
-    by_tests true p false q is each = absurd (false≢true (sym q ∙ is))
-    by_tests false p true q is each = numbered_member fs o n is P each.1
-    by_tests false p false q is each = numbered_member fs o n is P each
+    by_tests : (a : Bool) → (f.number == n) ≡ a → (b : Bool) → is_member o f.shape ≡ b → (is_member_at o (field_numbered n fs) ≡ true → AllByRecursion P (member_numbers o fs) → P n) → is_member_at o (if a then Some f else field_numbered n fs) ≡ true → AllByRecursion P (map (λ (g : FieldView). g.number) (if b then f ∷ members o fs else members o fs)) → P n
+    by_tests true p true q later is each = subst P (number_is n f.number p) each.0
+    by_tests true p false q later is each = absurd (false≢true (sym q ∙ is))
+    by_tests false p true q later is each = later is each.1
+    by_tests false p false q later is each = later is each
 
 set_later : (n k : ℕ) (h : Holding) (fs : Fields) → is_some (get_field n (field k h fs)) ≡ false → is_some (get_field n fs) ≡ false
 set_later n k h fs e = by_place (nat_cmp n k) e
@@ -94,7 +99,7 @@ member_missing all o no_fields none = refl
 member_missing all o (field k h fs) none = by_member (is_member_at o (field_numbered k all)) refl (member_missing all o fs (none_later k h fs (member_numbers o all) none))
   where
     by_member : (b : Bool) → is_member_at o (field_numbered k all) ≡ b → None ≡ member_set all o fs → None ≡ (if b then Some k else member_set all o fs)
-    by_member true q later = absurd (false≢true (sym (numbered_member all o k q (λ n. is_some (get_field n (field k h fs)) ≡ false) none) ∙ set_here k h fs))
+    by_member true q later = absurd (false≢true (sym (numbered_member all o k (λ n. is_some (get_field n (field k h fs)) ≡ false) q none) ∙ set_here k h fs))
     by_member false q later = later
 
 -- each number of a member is that of a field that is a member
@@ -126,13 +131,13 @@ members_among all o (f ∷ fs) each = by_member (is_member o f.shape) refl (memb
     by_member true is later = (ap (is_member_at o) each.0 ∙ is, later)
     by_member false is later = later
 
-at_place : (P : ℕ → Type 0) (ns : List ℕ) (i n : ℕ) → AllByRecursion P ns → i < length ns → n ≡ get_or ns i n → P n
-at_place P [] i n each h is = absurd (omega (arith, h))
-at_place P (k ∷ ks) zero n each h is = subst P (sym is) each.0
-at_place P (k ∷ ks) (suc i) n each h is = at_place P ks i n each.1 (omega (arith, h)) is
+at_place : (P : ℕ → Type 0) (ns : List ℕ) (i : ℕ) → AllByRecursion P ns → i < length ns → P (get_or ns i 0)
+at_place P [] i each h = absurd (omega (arith, h))
+at_place P (k ∷ ks) zero each h = each.0
+at_place P (k ∷ ks) (suc i) each h = at_place P ks i each.1 (omega (arith, h))
 
-pub named_member : (all : List FieldView) (o i n : ℕ) → AllDiffer (map (λ (f : FieldView). f.number) all) → i < length (member_numbers o all) → n ≡ get_or (member_numbers o all) i n → is_member_at o (field_numbered n all) ≡ true
-named_member all o i n differ h is = at_place (λ k. is_member_at o (field_numbered k all) ≡ true) (member_numbers o all) i n (members_among all o all (found_itself all differ)) h is
+pub named_member : (all : List FieldView) (o i : ℕ) → AllDiffer (map (λ (f : FieldView). f.number) all) → i < length (member_numbers o all) → is_member_at o (field_numbered (get_or (member_numbers o all) i 0) all) ≡ true
+named_member all o i differ h = at_place (λ k. is_member_at o (field_numbered k all) ≡ true) (member_numbers o all) i (members_among all o all (found_itself all differ)) h
 
 -- the fields of a message of a pool have numbers that differ
 pub pool_differ : (pool : Types) (m : ℕ) → IsPool pool → m < length pool.messages → AllDiffer (map (λ (f : FieldView). f.number) (message_fields pool m))

@@ -4,4 +4,4 @@ use Rattle.pb_value.proofs.OneofLemmas.{NoneSet}
 use Rattle.pb_value.proofs.oneof.set_member.Given as goal
 
 abbrev pub invariant-loop-number : goal.invariant-loop-number
-invariant-loop-number l = NoneSet (fields_view l.fields.entries) (take l.number-index l.oneof_members.result.now)
+invariant-loop-number l = NoneSet (fields_view l.fields.entries) (take l.number-index l.number-items)
