@@ -21,7 +21,7 @@ by_ordering P n k x y z Equal h a b c = b h
 by_ordering P n k x y z Greater h a b c = c h
 
 -- a fact of a choice by the order of two numbers
-by_order : {A : Type 0} (P : A → Type 0) (n k : ℕ) (x y z : A) → (n < k → P x) → (n ≡ k → P y) → (k < n → P z) → P (match_ordering (nat_cmp n k) x y z)
+pub by_order : {A : Type 0} (P : A → Type 0) (n k : ℕ) (x y z : A) → (n < k → P x) → (n ≡ k → P y) → (k < n → P z) → P (match_ordering (nat_cmp n k) x y z)
 by_order P n k x y z = by_ordering P n k x y z (nat_cmp n k) (ranks n k)
 
 AreFields-drop_field : (pool : Types) (all : List FieldView) (n : ℕ) (fs : Fields) → AreFields pool all fs → AreFields pool all (drop_field n fs)
