@@ -6,11 +6,12 @@ use crate::check::{check_content, check_message, check_parts};
 use crate::depth::{MAX_LEVELS, content_within};
 use crate::error::ValueError;
 use crate::lookup::field_at;
-use crate::message_ref::MessageRef;
+use crate::message_ref::{MessageRef, print};
 use crate::oneof::set_member;
 use pb_schema::{Kind, MessageId, Pool, Shape};
 use std::alloc::Global;
 use std::collections::BTreeMap;
+use std::fmt;
 use std::marker::Model;
 
 /// A well-formed message of a type of a pool.
@@ -205,6 +206,12 @@ impl<'p> DynamicMessage<'p> {
         ensures { result ≡ is_some (get_field number (fields_of self.now.body)) }
     {
         self.body.fields.contains_key(&number)
+    }
+}
+
+impl fmt::Debug for DynamicMessage<'_> {
+    fn fmt<W: fmt::Write>(&self, f: &mut fmt::Formatter<W>) -> fmt::Result {
+        print(f, "DynamicMessage", &self.view())
     }
 }
 
