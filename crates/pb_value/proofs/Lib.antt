@@ -11,3 +11,5 @@ mod Table
 mod Rows
 mod Texts
 mod Forms
+pub mod ElementLemmas
+pub mod SoundLemmas
