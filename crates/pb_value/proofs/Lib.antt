@@ -13,3 +13,6 @@ mod Texts
 mod Forms
 pub mod ElementLemmas
 pub mod SoundLemmas
+pub mod FittingLemmas
+pub mod EntryLemmas
+pub mod HeldLemmas
