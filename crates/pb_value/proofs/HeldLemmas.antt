@@ -137,3 +137,84 @@ module _ (pool : Types) (value : ℕ → List Record → Message) (levels : ℕ)
   list_values-message t room s k rs l none h =
       all_mapped (IsOfKind k) (IsValue pool k room) scalar (λ x w. scalar_value pool k room x w) (all_elements k rs)
       (all_elements-AreOfKind pool (a_message t) room s k rs none h)
+
+  -- MAPS
+
+  -- a value of an entry that nests this deep
+  record IsEntryValue (k : Kind) (top : ℕ) (d : Datum) : Type 0 where
+    datum : IsDatum pool k d
+    depth : levels_in_entry d ≤ top
+
+  joined-good_entry :
+      (key value_kind : Kind) (room : ℕ) (s : Shape) (m : MessageId) (rs : List Record) → key_of s ≡ None → AllCount pool (an_entry key value_kind) room s (kind.Message m) rs
+      → AllGood pool (a_message m.0) room (joined rs)
+  joined-good_entry key value_kind room s m [] none h = tt
+  joined-good_entry key value_kind room s m (r ∷ rs) none h =
+      all_append (IsGood pool (a_message m.0) room) (records_inside r.payload) (joined rs) (inside_entry pool key value_kind room s m r none h.0)
+      (joined-good_entry key value_kind room s m rs none h.1)
+
+  one_value-entry :
+      (key value_kind : Kind) (room : ℕ) (s : Shape) (k : Kind) (rs : List Record) → room < levels → key_of s ≡ None → AllCount pool (an_entry key value_kind) room s k rs
+      → IfSome (one_value value k rs) (IsEntryValue k room)
+  one_value-entry key value_kind room s (kind.Message m) [] l none h = tt
+  one_value-entry key value_kind room s (kind.Message m) (r ∷ rs) l none h =
+      let w = inside m.0 room (joined (r ∷ rs)) l (joined-good_entry key value_kind room s m (r ∷ rs) none h) in record { datum = w.0; depth = w.1 }
+  one_value-entry key value_kind room s k rs l none h =
+      some_mapped (IsOfKind k) (IsEntryValue k room) scalar (λ x w. record { datum = w; depth = omega arith }) (last_of (all_elements k rs))
+      (last_of-all (IsOfKind k) (all_elements k rs) (all_elements-AreOfKind pool (an_entry key value_kind) room s k rs none h))
+
+  missing-good : (k : Kind) (room : ℕ) → IsEntryValue k room (missing value k)
+  missing-good (kind.Message m) room = record { datum = (tt, tt, tt, tt); depth = omega arith }
+  missing-good k room = record { datum = IsOfKind-default_of k refl; depth = omega arith }
+
+  key_is_scalar : (key : Kind) → IsTrue (is_key_kind key) → message_of_kind key ≡ None
+  key_is_scalar (kind.Message m) h = absurd (cc)
+  key_is_scalar key h = refl
+
+  entry-good : (key k : Kind) (below : ℕ) (rs : List Record) → below < levels → IsTrue (is_key_kind key) → AllGood pool (an_entry key k) below rs
+      → IsEntry pool key k (suc below) (entry_key value key rs, entry_value value k rs)
+  entry-good key k below rs l can h =
+      let keys : AllCount pool (an_entry key k) below shape.Explicit key (fitting (key_field key) rs) =
+      all_count pool (an_entry key k) below (key_field key) refl (fitting (key_field key) rs) (all_filter (IsGood pool (an_entry key k) below) (fits (key_field key)) rs h) in
+      let values : AllCount pool (an_entry key k) below shape.Explicit k (fitting (value_field k) rs) =
+      all_count pool (an_entry key k) below (value_field k) refl (fitting (value_field k) rs) (all_filter (IsGood pool (an_entry key k) below) (fits (value_field k)) rs h) in
+      let second : IsEntryValue k below (entry_value value k rs) =
+      or_default (IsEntryValue k below) (one_value value k (fitting (value_field k) rs)) (missing value k) (one_value-entry key k below shape.Explicit k (fitting (value_field k) rs) l refl values)
+      (missing-good k below) in
+      record {
+        first = or_default (IsOfKind key) (last_of (all_elements key (fitting (key_field key) rs))) (default_of key)
+            (last_of-all (IsOfKind key) (all_elements key (fitting (key_field key) rs)) (all_elements-AreOfKind pool (an_entry key k) below shape.Explicit key (fitting (key_field key) rs) refl keys))
+            (IsOfKind-default_of key (key_is_scalar key can));
+        second = second.datum;
+        depth = omega (arith, second.depth);
+      }
+
+  entries-good :
+      (t room : ℕ) (key k : Kind) (rs : List Record) → room ≤ levels → IsTrue (is_key_kind key) → AllCount pool (a_message t) room (shape.Map key) k rs
+      → AllByRecursion (IsEntry pool key k room) (map (entry_of value key k) rs)
+  entries-good t room key k rs l can h =
+      all_mapped (CountsFor pool (a_message t) room (shape.Map key) k) (IsEntry pool key k room) (entry_of value key k)
+      (λ r w. let here = inside_map pool t room key k r w in
+          subst (λ (n : ℕ). IsEntry pool key k n (entry_of value key k r)) (sym here.1) (entry-good key k here.0 (records_inside r.payload) (omega (arith, l, here.1)) can here.2)) rs h
+
+  -- ALL SHAPES
+
+  one-stored : (s : Shape) (k : Kind) (top : ℕ) → ((d : Datum) → IsOfShape s (one d)) → (o : Option Datum) → IfSome o (IsValue pool k top) → IfSome (option_map one o) (IsStored pool s k top)
+  one-stored s k top shaped o h = some_mapped (IsValue pool k top) (IsStored pool s k top) one (λ d w. record { shaped = shaped d; held = w.datum; depth = w.depth }) o h
+
+  kept : (k : Kind) (top : ℕ) (o : Option Datum) → IfSome o (IsValue pool k top) → IfSome (option_and_then unless_default o) (IsStored pool shape.Implicit k top)
+  kept k top None h = tt
+  kept k top (Some d) h = kept_unless_default pool k top d h
+
+  -- what a field holds
+  pub held-stored :
+      (t room : ℕ) (s : Shape) (k : Kind) (rs : List Record) → room ≤ levels → HasKeyKind s → AllCount pool (a_message t) room s k rs
+      → IfSome (held_as value s k rs) (IsStored pool s k room)
+  held-stored t room shape.Implicit k rs l can h = kept k room (one_value value k rs) (one_value-message t room shape.Implicit k rs l refl h)
+  held-stored t room shape.Explicit k rs l can h = one-stored shape.Explicit k room (λ d. tt) (one_value value k rs) (one_value-message t room shape.Explicit k rs l refl h)
+  held-stored t room (shape.OneofMember o) k rs l can h =
+      one-stored (shape.OneofMember o) k room (λ d. tt) (one_value value k rs) (one_value-message t room (shape.OneofMember o) k rs l refl h)
+  held-stored t room (shape.List p) k rs l can h =
+      kept_unless_empty pool p k room (list_values value k rs) (list_values-message t room (shape.List p) k rs l refl h)
+  held-stored t room (shape.Map key) k rs l can h =
+      kept_unless_no_entries pool key k room (map (entry_of value key k) rs) (entries-good t room key k rs l can h)

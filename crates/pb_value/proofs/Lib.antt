@@ -16,3 +16,4 @@ pub mod SoundLemmas
 pub mod FittingLemmas
 pub mod EntryLemmas
 pub mod HeldLemmas
+pub mod ValueLemmas
