@@ -98,7 +98,7 @@ pub if_some : {A : Type 0} (o : Option A) (P : A → Type 0) → ((a : A) → o 
 if_some None P f = tt
 if_some (Some a) P f = f a refl
 
-at_some : {A : Type 0} (o : Option A) (P : A → Type 0) (a : A) → IfSome o P → o ≡ Some a → P a
+pub at_some : {A : Type 0} (o : Option A) (P : A → Type 0) (a : A) → IfSome o P → o ≡ Some a → P a
 at_some None P a h e = absurd (cc)
 at_some (Some b) P a h e = let same : b ≡ a = cc in subst P same h
 
