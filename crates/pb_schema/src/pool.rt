@@ -116,6 +116,7 @@ impl Pool {
         requires { message.0 < length self.now.messages }
         ensures found { option_map (λ f. field_view f.now) result ≡ field_numbered number (message_fields self.now message.0) }
         ensures rules { IfSome result (λ f. IsFieldOf self.now message.0 (field_view f.now)) }
+        ensures pool { IsPool self.now }
     {
         field_at(
             &self.messages[message.0].fields,
@@ -129,6 +130,7 @@ impl Pool {
         requires { message.0 < length self.now.messages }
         ensures found { option_map (λ f. field_view f.now) result ≡ field_named name.now (message_fields self.now message.0) }
         ensures rules { IfSome result (λ f. IsFieldOf self.now message.0 (field_view f.now)) }
+        ensures pool { IsPool self.now }
     {
         find_name(&self.messages[message.0].fields, name)
     }

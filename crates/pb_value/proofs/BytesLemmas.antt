@@ -28,7 +28,7 @@ AreBytes-encode c h =
     rw (le-ltb c 128 a, le-ltb c 2048 b, le-ltb c 65536 d) (omega arith, (omega arith, (omega arith, (omega arith, tt)))))
     (cases_lt c 65536)) (cases_lt c 2048)) (cases_lt c 128)
 
-both : (x y : Bool) → (x && y) ≡ true → (x ≡ true) × (y ≡ true)
+pub both : (x y : Bool) → (x && y) ≡ true → (x ≡ true) × (y ≡ true)
 both true y e = (cc, e)
 both false y e = absurd (cc)
 

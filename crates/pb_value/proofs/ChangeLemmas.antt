@@ -79,7 +79,7 @@ AreFields-put_field pool all n h no_fields ok w = (ok, tt)
 AreFields-put_field pool all n h (field k g fs) ok w =
     by_order (AreFields pool all) n k _ _ _ (λ _. (ok, w)) (λ e. (subst (λ (i : ℕ). CanStand pool all i h) e ok, w.1)) (λ _. (w.0, AreFields-put_field pool all n h fs ok w.1))
 
-RisesFrom-put_field : (low n : ℕ) (h : Holding) (fs : Fields) → low ≤ n → RisesFrom low fs → RisesFrom low (put_field n h fs)
+pub RisesFrom-put_field : (low n : ℕ) (h : Holding) (fs : Fields) → low ≤ n → RisesFrom low fs → RisesFrom low (put_field n h fs)
 RisesFrom-put_field low n h no_fields l w = (l, tt)
 RisesFrom-put_field low n h (field k g fs) l w =
     by_order (RisesFrom low) n k _ _ _ (λ b. (l, (omega arith, w.1))) (λ _. w) (λ a. (w.0, RisesFrom-put_field (k + 1) n h fs (omega arith) w.1))
@@ -94,7 +94,7 @@ NoOther : List FieldView → ℕ → Fields → Type 0
 NoOther all n no_fields = Unit {0}
 NoOther all n (field k g fs) = (k ≢ n → (o : ℕ) → oneof_at all n ≡ Some o → oneof_at all k ≢ Some o) × NoOther all n fs
 
-if_some : {A : Type 0} (o : Option A) (P : A → Type 0) → ((a : A) → o ≡ Some a → P a) → IfSome o P
+pub if_some : {A : Type 0} (o : Option A) (P : A → Type 0) → ((a : A) → o ≡ Some a → P a) → IfSome o P
 if_some None P f = tt
 if_some (Some a) P f = f a refl
 
@@ -229,7 +229,7 @@ unfolding NoOther
 oneof_at-None all n no_fields e = tt
 oneof_at-None all n (field k g fs) e = ((λ _ o q. absurd (cc)), oneof_at-None all n fs e)
 
-oneof_at-shape : (all : List FieldView) (n : ℕ) (f : FieldView) → field_numbered n all ≡ Some f → oneof_at all n ≡ oneof_of f.shape
+pub oneof_at-shape : (all : List FieldView) (n : ℕ) (f : FieldView) → field_numbered n all ≡ Some f → oneof_at all n ≡ oneof_of f.shape
 oneof_at-shape all n f e = ap (λ (x : Option FieldView). option_and_then (λ (g : FieldView). oneof_of g.shape) x) e
 
 way_given : (all : List FieldView) (o n : ℕ) (fs : Fields) (k : Option ℕ) → oneof_at all n ≡ Some o → MemberSays all o fs k → NoOther all n (drop_some (other_than n k) fs)

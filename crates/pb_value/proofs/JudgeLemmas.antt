@@ -152,7 +152,7 @@ found_in P n (g ∷ fs) f h e = by_test (g.number == n) (λ d. found_in P n fs f
     by_test true later d = let same : g ≡ f = cc in subst P same h.0
     by_test false later d = later d
 
-fields_all : (P : MessageView → FieldView → Type 0) (pool : Types) (ms : List MessageView) (m : ℕ) → AllByRecursion (λ t. AllByRecursion (P t) t.fields) ms
+pub fields_all : (P : MessageView → FieldView → Type 0) (pool : Types) (ms : List MessageView) (m : ℕ) → AllByRecursion (λ t. AllByRecursion (P t) t.fields) ms
     → AllByRecursion (λ f. (t : MessageView) × P t f) (message_fields (record pool { messages = ms }) m)
 fields_all P pool [] zero h = tt
 fields_all P pool [] (suc m) h = tt
@@ -168,7 +168,7 @@ kind_named pool m n f rules e =
     (found_in (λ (g : FieldView). (t : MessageView) × NamesType (length pool.messages) (length pool.enums) g.kind) n (message_fields pool m) f
     (fields_all (λ t g. NamesType (length pool.messages) (length pool.enums) g.kind) pool pool.messages m rules.indexes.kinds) e).1
 
-differ_at : (pool : Types) (ms : List MessageView) (m : ℕ) → AllByRecursion (λ t. AllDiffer (map (λ f. f.number) t.fields)) ms → AllDiffer (map (λ f. f.number) (message_fields (record pool { messages = ms }) m))
+pub differ_at : (pool : Types) (ms : List MessageView) (m : ℕ) → AllByRecursion (λ t. AllDiffer (map (λ f. f.number) t.fields)) ms → AllDiffer (map (λ f. f.number) (message_fields (record pool { messages = ms }) m))
 differ_at pool [] zero h = tt
 differ_at pool [] (suc m) h = tt
 differ_at pool (t ∷ ms) zero h = h.0

@@ -8,7 +8,14 @@ pub mod NoCause
 pub mod ChangeLemmas
 pub mod OneofLemmas
 pub mod FieldViews
+pub mod InnerLemmas
 mod Table
 mod Rows
 mod Texts
 mod Forms
+pub mod ElementLemmas
+pub mod SoundLemmas
+pub mod FittingLemmas
+pub mod EntryLemmas
+pub mod HeldLemmas
+pub mod ValueLemmas

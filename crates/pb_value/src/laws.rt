@@ -14,11 +14,18 @@ ghost use Rattle.pb_value.specs.declared.body.MapKey.{MapKey};
 ghost use Rattle.pb_value.specs.Derives.{Derives};
 ghost use Rattle.pb_value.specs.Canon.{canon, canon_bytes};
 ghost use Rattle.pb_value.specs.WellFormed.{IsWellFormed};
+ghost use Rattle.pb_value.specs.Meaning.{ValueIsWellFormed, DerivedIsWellFormed};
 ghost use Rattle.pb_value.specs.Cause.{message_cause};
 
 /// Bytes are the text of one value, whatever the depth allowed.
 pub fn one_value()
     ensures { (pool : Types) (m d e : ℕ) (b : List ℕ) (v w : Message) → Derives pool m d b v → Derives pool m e b w → v ≡ w }
+{}
+
+/// The value of records in range is well formed where it nests at most 100 deep, and so is every value that derives from bytes within that depth.
+pub fn well_formed_values()
+    ensures records { (pool : Types) → IsPool pool → ValueIsWellFormed pool }
+    ensures bytes { (pool : Types) → IsPool pool → DerivedIsWellFormed pool }
 {}
 
 /// The canonical bytes of a well-formed message spell its canonical records, where the wire can hold them.

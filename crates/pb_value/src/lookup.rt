@@ -14,7 +14,5 @@ pub(crate) fn field_at(pool: &Pool, kind: MessageId, number: u32) -> Option<&Fie
     ensures named { IfSome result (λ f. NamesType (length pool.now.messages) (length pool.now.enums) f.now.kind) }
     ensures rules { IsPool pool.now }
 {
-    // Its contract says that the pool meets its rules.
-    let _ = pool.messages();
     pool.field_by_number(kind, number)
 }

@@ -40,7 +40,9 @@ returns c =
     let within : m < length ms = omega (arith, c.requires, ap (λ (ts : Types). length ts.messages) c.self.view_is, length-map ms message_view) in
     let fields : map field_view c.index.result.now.fields.items ≡ message_fields c.args.self.now m = ap fields_of_message (sym (get_viewed message_view ms m c.index.result.now within c.index.ensures)) ∙ ap (λ (ts : Types). message_fields ts m) c.self.view_is in
     let found = c.field_at.ensures ∙ ap (λ (l : List Field). field_numbered c.args.number (map field_view l)) c.deref.ensures.value ∙ ap (field_numbered c.args.number) fields in
+    let ok = subst IsPool c.self.view_is c.self.invariant.0 in
     record {
       found = found;
-      rules = found_rules c.args.self.now m (λ f. f.number == c.args.number) c.field_at.result (subst IsPool c.self.view_is c.self.invariant.0) found;
+      rules = found_rules c.args.self.now m (λ f. f.number == c.args.number) c.field_at.result ok found;
+      pool = ok;
     }

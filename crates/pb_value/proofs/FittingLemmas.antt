@@ -1,0 +1,168 @@
+-- What is known of the records that count for a field of a message or of a map entry.
+use Rattle.std.proofs.Common.{◌≡◌, ℕ, suc, ◌+◌, ◌^◌, ◌<◌, ◌≤◌, List, [], ◌∷◌, ◌++◌, length, arith, refl, sym, ap, ◌∙◌, subst, Option, Some, None}
+use Rattle.std.proofs.lemmas.Bool.Decides.{nat_tests}
+use Rattle.std.specs.Prelude.{Bool, true, false, ◌==◌, filter, flat_map, if◌then◌else◌, IsUtf8}
+use Rattle.std.specs.List.{AllByRecursion}
+use Rattle.pb_wire.specs.Record.{Payload, varint, fixed64, len, group, fixed32, Record, wire_type}
+use Rattle.pb_wire.specs.Ranges.{IsNumber, AreBytes, IsInRange, AreInRange}
+use Rattle.pb_wire.specs.Writable.{IsWritable, AreWritable}
+use Rattle.pb_wire.specs.Schema as wire
+use Rattle.pb_wire.specs.Schema.{Reading}
+use Rattle.pb_wire.specs.Sound.{Sound, AllSound}
+use Rattle.pb_wire.specs.Inside.{records_spelled, records_inside}
+use Rattle.pb_wire.proofs.RangeLemmas.{spelled_in_range, spelled_writable}
+use Rattle.pb_wire.proofs.InsideLemmas.{records_spelled-AreRecords}
+use Rattle.pb_schema.specs.declared.types.Kind.{Kind}
+use Rattle.pb_schema.specs.declared.types.Kind.TheVariants as kind
+use Rattle.pb_schema.specs.declared.types.MessageId.{MessageId}
+use Rattle.pb_schema.specs.declared.types.Shape.{Shape}
+use Rattle.pb_schema.specs.declared.types.Shape.TheVariants as shape
+use Rattle.pb_schema.specs.Types.{FieldView, Types, field_numbered}
+use Rattle.pb_schema.specs.Kinds.{IsOfKind}
+use Rattle.pb_schema.specs.Fits.{fits, fits_shape}
+use Rattle.pb_schema.specs.Context.{Context, a_message, an_entry, fields_in, message_in, read_shaped, read_field, schema_of}
+use Rattle.pb_schema.specs.Packed.{elements}
+use Rattle.pb_value.specs.Value.{last_run, all_elements, joined}
+use Rattle.pb_value.specs.WellFormed.{key_of}
+use Rattle.pb_value.proofs.BytesLemmas.{both}
+use Rattle.pb_value.proofs.ElementLemmas.{IsTextFor, elements-AreOfKind}
+use Rattle.pb_value.proofs.SoundLemmas.{SpellsSound, sound_text, sound_message, sound_value}
+
+-- a record in range that can be written, sound in its context
+pub record IsGood (pool : Types) (c : Context) (room : ℕ) (r : Record) : Type 0 where
+  pub number : IsNumber r.number
+  pub in_range : IsInRange r.payload
+  pub writable : IsWritable r.payload
+  pub sound : Sound (schema_of pool) c room r.number r.payload
+
+abbrev pub AllGood : Types → Context → ℕ → List Record → Type 0
+AllGood pool c room rs = AllByRecursion (IsGood pool c room) rs
+
+pub all_good : (pool : Types) (c : Context) (room : ℕ) (rs : List Record) → AreInRange rs → AreWritable rs → AllSound (schema_of pool) c room rs → AllGood pool c room rs
+all_good pool c room [] h w AllSound.none = tt
+all_good pool c room (r ∷ rs) h w (AllSound.one s ss) = (record { number = w.0; in_range = h.0; writable = w.1; sound = s }, all_good pool c room rs h.1 w.2 ss)
+
+-- a good record that fits a field of this shape and kind, and is read as one of it
+pub record CountsFor (pool : Types) (c : Context) (room : ℕ) (s : Shape) (k : Kind) (r : Record) : Type 0 where
+  pub good : IsGood pool c room r
+  pub fitting : fits_shape s k (wire_type r.payload) ≡ true
+  pub reading : read_field c (field_numbered r.number (fields_in pool c)) ≡ read_shaped c s k
+
+abbrev pub AllCount : Types → Context → ℕ → Shape → Kind → List Record → Type 0
+AllCount pool c room s k rs = AllByRecursion (CountsFor pool c room s k) rs
+
+-- LISTS
+
+pub all_append : {X : Type 0} (P : X → Type 0) (xs ys : List X) → AllByRecursion P xs → AllByRecursion P ys → AllByRecursion P (xs ++ ys)
+all_append P [] ys h g = g
+all_append P (x ∷ xs) ys h g = (h.0, all_append P xs ys h.1 g)
+
+-- of elements that have P, those that a test lets through have P and pass
+pub all_filter : {X : Type 0} (P : X → Type 0) (t : X → Bool) (xs : List X) → AllByRecursion P xs → AllByRecursion (λ x. P x × (t x ≡ true)) (filter t xs)
+all_filter P t [] h = tt
+all_filter {X} P t (x ∷ xs) h = by_test (t x) refl (all_filter P t xs h.1)
+  where
+    by_test : (b : Bool) → t x ≡ b → AllByRecursion (λ (y : X). P y × (t y ≡ true)) (filter t xs) → AllByRecursion (λ (y : X). P y × (t y ≡ true)) (if b then x ∷ filter t xs else filter t xs)
+    by_test true e more = ((h.0, e), more)
+    by_test false e more = more
+
+pub all_weaker : {X : Type 0} (P Q : X → Type 0) → ((x : X) → P x → Q x) → (xs : List X) → AllByRecursion P xs → AllByRecursion Q xs
+all_weaker P Q f [] h = tt
+all_weaker P Q f (x ∷ xs) h = (f x h.0, all_weaker P Q f xs h.1)
+
+-- READING
+
+counted : (pool : Types) (c : Context) (room : ℕ) (f : FieldView) → field_numbered f.number (fields_in pool c) ≡ Some f → (r : Record) → IsGood pool c room r → fits f r ≡ true → CountsFor pool c room f.shape f.kind r
+counted pool c room f found r good e =
+    let parts = both (r.number == f.number) (fits_shape f.shape f.kind (wire_type r.payload)) e in
+    record {
+      good = good;
+      fitting = parts.1;
+      reading = ap (λ (n : ℕ). read_field c (field_numbered n (fields_in pool c))) (same r.number f.number parts.0) ∙ ap (read_field c) found;
+    }
+  where
+    same : (a b : ℕ) → (a == b) ≡ true → a ≡ b
+    same a b q = grind (arith, nat_tests)
+
+-- the good records that fit a field count for it
+pub all_count :
+    (pool : Types) (c : Context) (room : ℕ) (f : FieldView) → field_numbered f.number (fields_in pool c) ≡ Some f → (rs : List Record)
+    → AllByRecursion (λ r. IsGood pool c room r × (fits f r ≡ true)) rs → AllCount pool c room f.shape f.kind rs
+all_count pool c room f found rs h = all_weaker _ (CountsFor pool c room f.shape f.kind) (λ r w. counted pool c room f found r w.0 w.1) rs h
+
+reads_text : (c : Context) (s : Shape) → key_of s ≡ None → read_shaped c s kind.Text ≡ wire.text
+reads_text c shape.Implicit e = refl
+reads_text c shape.Explicit e = refl
+reads_text c (shape.OneofMember o) e = refl
+reads_text c (shape.List p) e = refl
+reads_text c (shape.Map k) e = absurd (cc)
+
+reads_message : (c : Context) (s : Shape) (m : MessageId) → key_of s ≡ None → read_shaped c s (kind.Message m) ≡ message_in c m.0
+reads_message c shape.Implicit m e = refl
+reads_message c shape.Explicit m e = refl
+reads_message c (shape.OneofMember o) m e = refl
+reads_message c (shape.List p) m e = refl
+reads_message c (shape.Map k) m e = absurd (cc)
+
+text_for : (pool : Types) (c : Context) (room : ℕ) (s : Shape) (k : Kind) (n : ℕ) (p : Payload) → key_of s ≡ None → read_field c (field_numbered n (fields_in pool c)) ≡ read_shaped c s k → Sound (schema_of pool) c room n p → IsTextFor k p
+text_for pool c room s kind.Text n (len b) none reading sound = sound_text sound (reading ∙ reads_text c s none)
+text_for pool c room s k n p none reading sound = tt
+
+-- the elements of the records that count for a field are of its kind
+pub all_elements-AreOfKind : (pool : Types) (c : Context) (room : ℕ) (s : Shape) (k : Kind) (rs : List Record) → key_of s ≡ None → AllCount pool c room s k rs → AllByRecursion (IsOfKind k) (all_elements k rs)
+all_elements-AreOfKind pool c room s k [] none h = tt
+all_elements-AreOfKind pool c room s k (r ∷ rs) none h =
+    all_append (IsOfKind k) (elements k r.payload) (all_elements k rs)
+    (elements-AreOfKind k r.payload h.0.good.in_range (text_for pool c room s k r.number r.payload none h.0.reading h.0.good.sound))
+    (all_elements-AreOfKind pool c room s k rs none h.1)
+
+-- WHAT STANDS INSIDE
+
+len_of : (s : Shape) (m : MessageId) (p : Payload) → fits_shape s (kind.Message m) (wire_type p) ≡ true → (b : List ℕ) × (p ≡ len b)
+len_of s m (len b) e = (b, refl)
+len_of shape.Implicit m p e = absurd (cc)
+len_of s m p e = absurd (cc)
+
+len_of_map : (key k : Kind) (p : Payload) → fits_shape (shape.Map key) k (wire_type p) ≡ true → (b : List ℕ) × (p ≡ len b)
+len_of_map key k (len b) e = (b, refl)
+len_of_map key k p e = absurd (cc)
+
+-- the records that sound bytes spell are good
+good_inside :
+    (pool : Types) (d : Context) (room : ℕ) (b : List ℕ) → AreBytes b → length b < 2 ^ 31 → SpellsSound (schema_of pool) d room b → AllGood pool d room (records_spelled b)
+good_inside pool d room b bytes short h =
+    let read : records_spelled b ≡ h.records = records_spelled-AreRecords h.records b h.spelled (omega (arith, short)) in
+    subst (AllGood pool d room) (sym read) (all_good pool d room h.records (spelled_in_range h.records b h.spelled bytes) (spelled_writable h.records b h.spelled) h.sound)
+
+-- of a field of messages in a message: its record is one level down
+pub inside_message :
+    (pool : Types) (t room : ℕ) (s : Shape) (m : MessageId) (r : Record) → key_of s ≡ None → CountsFor pool (a_message t) room s (kind.Message m) r
+    → (below : ℕ) × (room ≡ suc below) × AllGood pool (a_message m.0) below (records_inside r.payload)
+inside_message pool t room s m r none h =
+    let b = len_of s m r.payload h.fitting in
+    let sound : Sound (schema_of pool) (a_message t) room r.number (len b.0) = subst (λ (p : Payload). Sound (schema_of pool) (a_message t) room r.number p) b.1 h.good.sound in
+    let whole = sound_message sound (a_message m.0) (h.reading ∙ reads_message (a_message t) s m none) in
+    (whole.0, whole.1, subst (λ (p : Payload). AllGood pool (a_message m.0) whole.0 (records_inside p)) (sym b.1)
+      (good_inside pool (a_message m.0) whole.0 b.0 (subst IsInRange b.1 h.good.in_range) (subst IsWritable b.1 h.good.writable) whole.2))
+
+-- of a message in a map entry: its records are at the entry's level
+pub inside_entry :
+    (pool : Types) (key value : Kind) (room : ℕ) (s : Shape) (m : MessageId) (r : Record) → key_of s ≡ None → CountsFor pool (an_entry key value) room s (kind.Message m) r
+    → AllGood pool (a_message m.0) room (records_inside r.payload)
+inside_entry pool key value room s m r none h =
+    let b = len_of s m r.payload h.fitting in
+    let sound : Sound (schema_of pool) (an_entry key value) room r.number (len b.0) = subst (λ (p : Payload). Sound (schema_of pool) (an_entry key value) room r.number p) b.1 h.good.sound in
+    let whole = sound_value sound (a_message m.0) (h.reading ∙ reads_message (an_entry key value) s m none) in
+    subst (λ (p : Payload). AllGood pool (a_message m.0) room (records_inside p)) (sym b.1)
+      (good_inside pool (a_message m.0) room b.0 (subst IsInRange b.1 h.good.in_range) (subst IsWritable b.1 h.good.writable) whole)
+
+-- of a map: its record holds an entry, one level down
+pub inside_map :
+    (pool : Types) (t room : ℕ) (key k : Kind) (r : Record) → CountsFor pool (a_message t) room (shape.Map key) k r
+    → (below : ℕ) × (room ≡ suc below) × AllGood pool (an_entry key k) below (records_inside r.payload)
+inside_map pool t room key k r h =
+    let b = len_of_map key k r.payload h.fitting in
+    let sound : Sound (schema_of pool) (a_message t) room r.number (len b.0) = subst (λ (p : Payload). Sound (schema_of pool) (a_message t) room r.number p) b.1 h.good.sound in
+    let whole = sound_message sound (an_entry key k) h.reading in
+    (whole.0, whole.1, subst (λ (p : Payload). AllGood pool (an_entry key k) whole.0 (records_inside p)) (sym b.1)
+      (good_inside pool (an_entry key k) whole.0 b.0 (subst IsInRange b.1 h.good.in_range) (subst IsWritable b.1 h.good.writable) whole.2))

@@ -1,0 +1,220 @@
+-- What a field holds of the records that count for it is of its shape and kind, and nests no deeper than soundness lets them.
+use Rattle.std.proofs.Common.{◌≡◌, ℕ, zero, suc, ◌<◌, ◌≤◌, max, List, [], ◌∷◌, ◌++◌, map, arith, refl, sym, ap, ◌∙◌, subst, Option, Some, None, IfSome, IsSomeAnd, option_map}
+use Rattle.std.specs.Prelude.{Bool, true, false, IsTrue, filter, flat_map, unwrap_or, option_and_then, if◌then◌else◌}
+use Rattle.std.specs.List.{AllByRecursion}
+use Rattle.pb_wire.specs.Record.{Record}
+use Rattle.pb_wire.specs.Inside.{records_inside}
+use Rattle.pb_schema.specs.declared.types.Kind.{Kind}
+use Rattle.pb_schema.specs.declared.types.Kind.TheVariants as kind
+use Rattle.pb_schema.specs.declared.types.MessageId.{MessageId}
+use Rattle.pb_schema.specs.declared.types.Shape.{Shape}
+use Rattle.pb_schema.specs.declared.types.Shape.TheVariants as shape
+use Rattle.pb_schema.specs.Types.{FieldView, Types}
+use Rattle.pb_schema.specs.Scalar.{Scalar, is_default}
+use Rattle.pb_schema.specs.Kinds.{IsOfKind, is_key_kind, message_of_kind, default_of}
+use Rattle.pb_schema.specs.Fits.{fits, fitting}
+use Rattle.pb_schema.specs.Rules.{HasKeyKind}
+use Rattle.pb_schema.specs.Context.{a_message, an_entry, key_field, value_field}
+use Rattle.pb_value.specs.Data.{Datum, scalar, message, Datums, no_datums, datum, datums_of, Entries, no_entries, entry, Holding, one, list, map as map_of, Message, empty, levels_of, levels_in_entry, datums_depth, holding_depth, message_depth}
+use Rattle.pb_value.specs.Value.{last_of, all_elements, joined, unless_default, unless_no_elements, unless_no_entries, one_value, list_values, missing, entry_key, entry_value, entry_of, held_as}
+use Rattle.pb_value.specs.Judge.{is_default_datum}
+use Rattle.pb_value.specs.WellFormed.{IsOfShape, key_of, IsDatum, AreDatums, IsHeld, IsBody}
+use Rattle.pb_value.proofs.ElementLemmas.{IsOfKind-default_of}
+use Rattle.pb_value.proofs.FittingLemmas.{IsGood, AllGood, CountsFor, AllCount, all_append, all_filter, all_count, all_elements-AreOfKind, inside_message, inside_entry, inside_map}
+use Rattle.pb_value.proofs.EntryLemmas.{IsEntry, IsMap, IsMap-fold, HasEntry, HasEntry-fold}
+
+last_of-all : {X : Type 0} (P : X → Type 0) (xs : List X) → AllByRecursion P xs → IfSome (last_of xs) P
+last_of-all P [] h = tt
+last_of-all P (x ∷ []) h = h.0
+last_of-all P (x ∷ y ∷ ys) h = last_of-all P (y ∷ ys) h.1
+
+some_mapped : {X Y : Type 0} (P : X → Type 0) (Q : Y → Type 0) (f : X → Y) → ((x : X) → P x → Q (f x)) → (o : Option X) → IfSome o P → IfSome (option_map f o) Q
+some_mapped P Q f g None h = tt
+some_mapped P Q f g (Some x) h = g x h
+
+or_default : {X : Type 0} (P : X → Type 0) (o : Option X) (d : X) → IfSome o P → P d → P (unwrap_or o d)
+or_default P None d h g = g
+or_default P (Some x) d h g = h
+
+-- a value of a kind that nests this deep
+pub record IsValue (pool : Types) (k : Kind) (top : ℕ) (d : Datum) : Type 0 where
+  pub datum : IsDatum pool k d
+  pub depth : levels_of d ≤ top
+
+-- what a field may hold, this deep
+pub record IsStored (pool : Types) (s : Shape) (k : Kind) (top : ℕ) (h : Holding) : Type 0 where
+  pub shaped : IsOfShape s h
+  pub held : IsHeld pool s k h
+  pub depth : holding_depth h ≤ top
+
+module _ (pool : Types) where
+  scalar_value : (k : Kind) (top : ℕ) (x : Scalar) → IsOfKind k x → IsValue pool k top (scalar x)
+  scalar_value k top x h = record { datum = h; depth = omega arith }
+
+  AreDatums-datums_of : (k : Kind) (top : ℕ) (ds : List Datum) → AllByRecursion (IsValue pool k top) ds → AreDatums pool k (datums_of ds)
+  AreDatums-datums_of k top [] h = tt
+  AreDatums-datums_of k top (d ∷ ds) h = (h.0.datum, AreDatums-datums_of k top ds h.1)
+
+  datums_depth-datums_of : (k : Kind) (top : ℕ) (ds : List Datum) → AllByRecursion (IsValue pool k top) ds → datums_depth (datums_of ds) ≤ top
+  datums_depth-datums_of k top [] h = omega arith
+  datums_depth-datums_of k top (d ∷ ds) h = let here = h.0.depth in let more = datums_depth-datums_of k top ds h.1 in omega (arith, here, more)
+
+  -- WHAT IS NOT KEPT
+
+  kept_unless_default : (k : Kind) (top : ℕ) (d : Datum) → IsValue pool k top d → IfSome (unless_default d) (IsStored pool shape.Implicit k top)
+  kept_unless_default k top (message m) h = record { shaped = refl; held = h.datum; depth = h.depth }
+  kept_unless_default k top (scalar x) h = by_test (is_default x) refl
+    where
+      by_test : (b : Bool) → is_default x ≡ b → IfSome (if b then None else Some (one (scalar x))) (IsStored pool shape.Implicit k top)
+      by_test true e = tt
+      by_test false e = record { shaped = e; held = h.datum; depth = h.depth }
+
+  kept_unless_empty : (packed : Bool) (k : Kind) (top : ℕ) (ds : List Datum) → AllByRecursion (IsValue pool k top) ds → IfSome (unless_no_elements ds) (IsStored pool (shape.List packed) k top)
+  kept_unless_empty packed k top [] h = tt
+  kept_unless_empty packed k top (d ∷ ds) h = record { shaped = tt; held = AreDatums-datums_of k top (d ∷ ds) h; depth = datums_depth-datums_of k top (d ∷ ds) h }
+
+  map_shaped : (key : Kind) (es : Entries) → HasEntry es → IsOfShape (shape.Map key) (map_of es)
+  map_shaped key no_entries h = absurd h
+  map_shaped key (entry x d es) h = tt
+
+  kept_unless_no_entries : (key k : Kind) (top : ℕ) (xs : List (Scalar × Datum)) → AllByRecursion (IsEntry pool key k top) xs → IfSome (unless_no_entries xs) (IsStored pool (shape.Map key) k top)
+  kept_unless_no_entries key k top [] h = tt
+  kept_unless_no_entries key k top (x ∷ xs) h =
+      let whole = IsMap-fold pool key k top (x ∷ xs) no_entries h (record { entries = tt; rises = tt; depth = omega arith }) in
+      record {
+        shaped = map_shaped key _ (HasEntry-fold xs (entry x.0 x.1 no_entries) tt);
+        held = (whole.entries, whole.rises);
+        depth = whole.depth;
+      }
+
+-- The values of records, where the values of records inside are well formed and as deep as soundness lets them be.
+module _ (pool : Types) (value : ℕ → List Record → Message) (levels : ℕ)
+    (inside : (m room : ℕ) (rs : List Record) → room < levels → AllGood pool (a_message m) room rs → IsBody pool m (value m rs) × (message_depth (value m rs) ≤ room)) where
+  -- ONE VALUE
+
+  joined-good : (t below : ℕ) (s : Shape) (m : MessageId) (rs : List Record) → key_of s ≡ None → AllCount pool (a_message t) (suc below) s (kind.Message m) rs → AllGood pool (a_message m.0) below (joined rs)
+  joined-good t below s m [] none h = tt
+  joined-good t below s m (r ∷ rs) none h =
+      let here = inside_message pool t (suc below) s m r none h.0 in
+      let same : here.0 ≡ below = cc in
+      all_append (IsGood pool (a_message m.0) below) (records_inside r.payload) (joined rs)
+      (subst (λ (n : ℕ). AllGood pool (a_message m.0) n (records_inside r.payload)) same here.2) (joined-good t below s m rs none h.1)
+
+  message_value : (m : MessageId) (below : ℕ) (rs : List Record) → below < levels → AllGood pool (a_message m.0) below rs → IsValue pool (kind.Message m) (suc below) (message (value m.0 rs))
+  message_value m below rs l h = let w = inside m.0 below rs l h in record { datum = w.0; depth = omega (arith, w.1) }
+
+  one_value-message :
+      (t room : ℕ) (s : Shape) (k : Kind) (rs : List Record) → room ≤ levels → key_of s ≡ None → AllCount pool (a_message t) room s k rs
+      → IfSome (one_value value k rs) (IsValue pool k room)
+  one_value-message t room s (kind.Message m) [] l none h = tt
+  one_value-message t zero s (kind.Message m) (r ∷ rs) l none h = absurd (let e = (inside_message pool t zero s m r none h.0).1 in omega (arith, e))
+  one_value-message t (suc below) s (kind.Message m) (r ∷ rs) l none h =
+      message_value m below (joined (r ∷ rs)) (omega (arith, l)) (joined-good t below s m (r ∷ rs) none h)
+  one_value-message t room s k rs l none h =
+      some_mapped (IsOfKind k) (IsValue pool k room) scalar (λ x w. scalar_value pool k room x w) (last_of (all_elements k rs))
+      (last_of-all (IsOfKind k) (all_elements k rs) (all_elements-AreOfKind pool (a_message t) room s k rs none h))
+
+  -- LISTS
+
+  all_mapped : {X Y : Type 0} (P : X → Type 0) (Q : Y → Type 0) (f : X → Y) → ((x : X) → P x → Q (f x)) → (xs : List X) → AllByRecursion P xs → AllByRecursion Q (map f xs)
+  all_mapped P Q f g [] h = tt
+  all_mapped P Q f g (x ∷ xs) h = (g x h.0, all_mapped P Q f g xs h.1)
+
+  listed_message :
+      (t room : ℕ) (s : Shape) (m : MessageId) (r : Record) → room ≤ levels → key_of s ≡ None → CountsFor pool (a_message t) room s (kind.Message m) r
+      → IsValue pool (kind.Message m) room (message (value m.0 (records_inside r.payload)))
+  listed_message t room s m r l none h =
+      let here = inside_message pool t room s m r none h in
+      subst (λ (n : ℕ). IsValue pool (kind.Message m) n (message (value m.0 (records_inside r.payload)))) (sym here.1)
+      (message_value m here.0 (records_inside r.payload) (omega (arith, l, here.1)) here.2)
+
+  list_values-message :
+      (t room : ℕ) (s : Shape) (k : Kind) (rs : List Record) → room ≤ levels → key_of s ≡ None → AllCount pool (a_message t) room s k rs
+      → AllByRecursion (IsValue pool k room) (list_values value k rs)
+  list_values-message t room s (kind.Message m) rs l none h =
+      all_mapped (CountsFor pool (a_message t) room s (kind.Message m)) (IsValue pool (kind.Message m) room) (λ r. message (value m.0 (records_inside r.payload)))
+      (λ r w. listed_message t room s m r l none w) rs h
+  list_values-message t room s k rs l none h =
+      all_mapped (IsOfKind k) (IsValue pool k room) scalar (λ x w. scalar_value pool k room x w) (all_elements k rs)
+      (all_elements-AreOfKind pool (a_message t) room s k rs none h)
+
+  -- MAPS
+
+  -- a value of an entry that nests this deep
+  record IsEntryValue (k : Kind) (top : ℕ) (d : Datum) : Type 0 where
+    datum : IsDatum pool k d
+    depth : levels_in_entry d ≤ top
+
+  joined-good_entry :
+      (key value_kind : Kind) (room : ℕ) (s : Shape) (m : MessageId) (rs : List Record) → key_of s ≡ None → AllCount pool (an_entry key value_kind) room s (kind.Message m) rs
+      → AllGood pool (a_message m.0) room (joined rs)
+  joined-good_entry key value_kind room s m [] none h = tt
+  joined-good_entry key value_kind room s m (r ∷ rs) none h =
+      all_append (IsGood pool (a_message m.0) room) (records_inside r.payload) (joined rs) (inside_entry pool key value_kind room s m r none h.0)
+      (joined-good_entry key value_kind room s m rs none h.1)
+
+  one_value-entry :
+      (key value_kind : Kind) (room : ℕ) (s : Shape) (k : Kind) (rs : List Record) → room < levels → key_of s ≡ None → AllCount pool (an_entry key value_kind) room s k rs
+      → IfSome (one_value value k rs) (IsEntryValue k room)
+  one_value-entry key value_kind room s (kind.Message m) [] l none h = tt
+  one_value-entry key value_kind room s (kind.Message m) (r ∷ rs) l none h =
+      let w = inside m.0 room (joined (r ∷ rs)) l (joined-good_entry key value_kind room s m (r ∷ rs) none h) in record { datum = w.0; depth = w.1 }
+  one_value-entry key value_kind room s k rs l none h =
+      some_mapped (IsOfKind k) (IsEntryValue k room) scalar (λ x w. record { datum = w; depth = omega arith }) (last_of (all_elements k rs))
+      (last_of-all (IsOfKind k) (all_elements k rs) (all_elements-AreOfKind pool (an_entry key value_kind) room s k rs none h))
+
+  missing-good : (k : Kind) (room : ℕ) → IsEntryValue k room (missing value k)
+  missing-good (kind.Message m) room = record { datum = (tt, tt, tt, tt); depth = omega arith }
+  missing-good k room = record { datum = IsOfKind-default_of k refl; depth = omega arith }
+
+  key_is_scalar : (key : Kind) → IsTrue (is_key_kind key) → message_of_kind key ≡ None
+  key_is_scalar (kind.Message m) h = absurd (cc)
+  key_is_scalar key h = refl
+
+  entry-good : (key k : Kind) (below : ℕ) (rs : List Record) → below < levels → IsTrue (is_key_kind key) → AllGood pool (an_entry key k) below rs
+      → IsEntry pool key k (suc below) (entry_key value key rs, entry_value value k rs)
+  entry-good key k below rs l can h =
+      let keys : AllCount pool (an_entry key k) below shape.Explicit key (fitting (key_field key) rs) =
+      all_count pool (an_entry key k) below (key_field key) refl (fitting (key_field key) rs) (all_filter (IsGood pool (an_entry key k) below) (fits (key_field key)) rs h) in
+      let values : AllCount pool (an_entry key k) below shape.Explicit k (fitting (value_field k) rs) =
+      all_count pool (an_entry key k) below (value_field k) refl (fitting (value_field k) rs) (all_filter (IsGood pool (an_entry key k) below) (fits (value_field k)) rs h) in
+      let second : IsEntryValue k below (entry_value value k rs) =
+      or_default (IsEntryValue k below) (one_value value k (fitting (value_field k) rs)) (missing value k) (one_value-entry key k below shape.Explicit k (fitting (value_field k) rs) l refl values)
+      (missing-good k below) in
+      record {
+        first = or_default (IsOfKind key) (last_of (all_elements key (fitting (key_field key) rs))) (default_of key)
+            (last_of-all (IsOfKind key) (all_elements key (fitting (key_field key) rs)) (all_elements-AreOfKind pool (an_entry key k) below shape.Explicit key (fitting (key_field key) rs) refl keys))
+            (IsOfKind-default_of key (key_is_scalar key can));
+        second = second.datum;
+        depth = omega (arith, second.depth);
+      }
+
+  entries-good :
+      (t room : ℕ) (key k : Kind) (rs : List Record) → room ≤ levels → IsTrue (is_key_kind key) → AllCount pool (a_message t) room (shape.Map key) k rs
+      → AllByRecursion (IsEntry pool key k room) (map (entry_of value key k) rs)
+  entries-good t room key k rs l can h =
+      all_mapped (CountsFor pool (a_message t) room (shape.Map key) k) (IsEntry pool key k room) (entry_of value key k)
+      (λ r w. let here = inside_map pool t room key k r w in
+          subst (λ (n : ℕ). IsEntry pool key k n (entry_of value key k r)) (sym here.1) (entry-good key k here.0 (records_inside r.payload) (omega (arith, l, here.1)) can here.2)) rs h
+
+  -- ALL SHAPES
+
+  one-stored : (s : Shape) (k : Kind) (top : ℕ) → ((d : Datum) → IsOfShape s (one d)) → (o : Option Datum) → IfSome o (IsValue pool k top) → IfSome (option_map one o) (IsStored pool s k top)
+  one-stored s k top shaped o h = some_mapped (IsValue pool k top) (IsStored pool s k top) one (λ d w. record { shaped = shaped d; held = w.datum; depth = w.depth }) o h
+
+  kept : (k : Kind) (top : ℕ) (o : Option Datum) → IfSome o (IsValue pool k top) → IfSome (option_and_then unless_default o) (IsStored pool shape.Implicit k top)
+  kept k top None h = tt
+  kept k top (Some d) h = kept_unless_default pool k top d h
+
+  -- what a field holds
+  pub held-stored :
+      (t room : ℕ) (s : Shape) (k : Kind) (rs : List Record) → room ≤ levels → HasKeyKind s → AllCount pool (a_message t) room s k rs
+      → IfSome (held_as value s k rs) (IsStored pool s k room)
+  held-stored t room shape.Implicit k rs l can h = kept k room (one_value value k rs) (one_value-message t room shape.Implicit k rs l refl h)
+  held-stored t room shape.Explicit k rs l can h = one-stored shape.Explicit k room (λ d. tt) (one_value value k rs) (one_value-message t room shape.Explicit k rs l refl h)
+  held-stored t room (shape.OneofMember o) k rs l can h =
+      one-stored (shape.OneofMember o) k room (λ d. tt) (one_value value k rs) (one_value-message t room (shape.OneofMember o) k rs l refl h)
+  held-stored t room (shape.List p) k rs l can h =
+      kept_unless_empty pool p k room (list_values value k rs) (list_values-message t room (shape.List p) k rs l refl h)
+  held-stored t room (shape.Map key) k rs l can h =
+      kept_unless_no_entries pool key k room (map (entry_of value key k) rs) (entries-good t room key k rs l can h)

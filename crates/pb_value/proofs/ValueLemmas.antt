@@ -1,0 +1,288 @@
+-- The value of sound records in range is well formed, level by level.
+use Rattle.std.proofs.Common.{◌≡◌, ◌≢◌, ℕ, zero, suc, ◌+◌, ◌<◌, ◌≤◌, max, List, [], ◌∷◌, map, arith, inl, inr, refl, sym, ap, ◌∙◌, subst, Option, Some, None, IfSome, IsSomeAnd, option_map}
+use Rattle.std.proofs.lemmas.Bool.Decides.{nat_tests}
+use Rattle.std.specs.Prelude.{◌⊎◌, Bool, true, false, not, ◌==◌, filter, if◌then◌else◌}
+use Rattle.std.specs.List.{AllByRecursion, list_all}
+use Rattle.pb_wire.specs.Record.{Payload, varint, fixed64, len, group, fixed32, Group, no_more, more, Record, wire_type, records_depth}
+use Rattle.pb_wire.specs.Ranges.{AreBytes, AreInRange}
+use Rattle.pb_wire.specs.Inside.{IsNumbered, IsNumberedGroup}
+use Rattle.pb_wire.specs.Writable.{IsWritable, IsWritableGroup, AreWritable}
+use Rattle.pb_wire.specs.Sound.{AllSound}
+use Rattle.pb_wire.proofs.RangeLemmas.{spelled_in_range, spelled_writable}
+use Rattle.pb_schema.specs.declared.types.Kind.{Kind}
+use Rattle.pb_schema.specs.declared.types.Kind.TheVariants as kind
+use Rattle.pb_schema.specs.declared.types.Shape.{Shape}
+use Rattle.pb_schema.specs.declared.types.Shape.TheVariants as shape
+use Rattle.pb_schema.specs.Types.{FieldView, MessageView, Types, message_fields, field_numbered}
+use Rattle.pb_schema.specs.Names.{AllDiffer}
+use Rattle.pb_schema.specs.Rules.{IsPool, HasKeyKind}
+use Rattle.pb_schema.specs.Fits.{fits, fits_type, fits_any, unfitting}
+use Rattle.pb_schema.specs.Context.{a_message, schema_of}
+use Rattle.pb_value.specs.Data.{Holding, Fields, no_fields, field, Message, body, put_field, put_some, holding_depth, fields_depth, message_depth}
+use Rattle.pb_value.specs.Value.{last_of, last_run, members, counting, counting_as, held, held_as, fields_held, body_of, value_within, value}
+use Rattle.pb_value.specs.WellFormed.{AreUnknown, RisesFrom, oneof_of, oneof_at, HasNoMember, HasOneMemberEach, IsOfShape, IsHeld, AreFields, IsBody, IsWellFormed}
+use Rattle.pb_value.specs.Meaning.{ValueIsWellFormed, DerivedIsWellFormed}
+use Rattle.pb_value.proofs.BytesLemmas.{both}
+use Rattle.pb_value.proofs.ChangeLemmas.{by_order, if_some, at_some, oneof_at-shape, RisesFrom-put_field, CanStand}
+use Rattle.pb_value.proofs.JudgeLemmas.{fields_all, differ_at}
+use Rattle.pb_value.proofs.SoundLemmas.{sound_depth}
+use Rattle.pb_value.proofs.FittingLemmas.{IsGood, AllGood, AllCount, all_good, all_filter, all_count}
+use Rattle.pb_value.proofs.HeldLemmas.{IsStored, held-stored}
+
+-- RECORDS THAT COUNT
+
+all_pass : {X : Type 0} (P : X → Type 0) (p : X → Bool) (xs : List X) → AllByRecursion P xs → list_all p xs ≡ true → AllByRecursion (λ x. P x × (p x ≡ true)) xs
+all_pass P p [] h e = tt
+all_pass P p (x ∷ xs) h e = let parts = both (p x) (list_all p xs) e in ((h.0, parts.0), all_pass P p xs h.1 parts.1)
+
+-- of the longest end whose elements pass, each passes
+all_last_run : {X : Type 0} (P : X → Type 0) (p : X → Bool) (xs : List X) → AllByRecursion P xs → AllByRecursion (λ x. P x × (p x ≡ true)) (last_run p xs)
+all_last_run P p [] h = tt
+all_last_run {X} P p (x ∷ xs) h = by_test (list_all p (x ∷ xs)) refl (all_last_run P p xs h.1)
+  where
+    by_test : (b : Bool) → list_all p (x ∷ xs) ≡ b → AllByRecursion (λ (y : X). P y × (p y ≡ true)) (last_run p xs) → AllByRecursion (λ (y : X). P y × (p y ≡ true)) (if b then x ∷ xs else last_run p xs)
+    by_test true e later = all_pass P p (x ∷ xs) h e
+    by_test false e later = later
+
+-- that a list has a last element, and it passes
+LastPasses : {X : Type 0} → (X → Bool) → List X → Type 0
+LastPasses {X} p xs = (x : X) × (last_of xs ≡ Some x) × (p x ≡ true)
+
+last_passes : {X : Type 0} (p : X → Bool) (x : X) (xs : List X) → list_all p (x ∷ xs) ≡ true → LastPasses p (x ∷ xs)
+unfolding LastPasses
+last_passes p x [] e = (x, refl, (both (p x) true e).0)
+last_passes p x (y ∷ ys) e = last_passes p y ys (both (p x) (list_all p (y ∷ ys)) e).1
+
+-- where some end passes, the last element does
+last_run-last : {X : Type 0} (p : X → Bool) (xs : List X) → (last_run p xs ≡ []) ⊎ LastPasses p xs
+unfolding LastPasses
+last_run-last p [] = inl refl
+last_run-last {X} p (x ∷ xs) = by_test (list_all p (x ∷ xs)) refl (last_run-last p xs)
+  where
+    more : (ys : List X) → LastPasses p ys → LastPasses p (x ∷ ys)
+    more [] h = let none = h.1 in absurd (cc)
+    more (y ∷ ys) h = h
+
+    by_test : (b : Bool) → list_all p (x ∷ xs) ≡ b → (last_run p xs ≡ []) ⊎ LastPasses p xs → ((if b then x ∷ xs else last_run p xs) ≡ []) ⊎ LastPasses p (x ∷ xs)
+    by_test true e later = inr (last_passes p x xs e)
+    by_test false e (inl none) = inl none
+    by_test false e (inr some) = inr (more xs some)
+
+module _ (pool : Types) (inner : ℕ → List Record → Message) where
+  -- the records that count for a field are good and fit it
+  counting_as-good :
+      (t room : ℕ) (s : Shape) (all : List FieldView) (f : FieldView) (rs : List Record) → AllGood pool (a_message t) room rs
+      → AllByRecursion (λ r. IsGood pool (a_message t) room r × (fits f r ≡ true)) (counting_as inner s all f rs)
+  counting_as-good t room (shape.OneofMember o) all f rs h =
+      all_last_run (IsGood pool (a_message t) room) (fits f) (filter (fits_any (members o all)) rs) (good_filter (fits_any (members o all)) rs h)
+    where
+      good_filter : (p : Record → Bool) (rs : List Record) → AllGood pool (a_message t) room rs → AllGood pool (a_message t) room (filter p rs)
+      good_filter p [] h = tt
+      good_filter p (r ∷ rs) h = by_test (p r) (good_filter p rs h.1)
+        where
+          by_test : (b : Bool) → AllGood pool (a_message t) room (filter p rs) → AllGood pool (a_message t) room (if b then r ∷ filter p rs else filter p rs)
+          by_test true later = (h.0, later)
+          by_test false later = later
+  counting_as-good t room shape.Implicit all f rs h = all_filter (IsGood pool (a_message t) room) (fits f) rs h
+  counting_as-good t room shape.Explicit all f rs h = all_filter (IsGood pool (a_message t) room) (fits f) rs h
+  counting_as-good t room (shape.List p) all f rs h = all_filter (IsGood pool (a_message t) room) (fits f) rs h
+  counting_as-good t room (shape.Map k) all f rs h = all_filter (IsGood pool (a_message t) room) (fits f) rs h
+
+-- no records, no value of a member
+nothing_held : (inner : ℕ → List Record → Message) (o : ℕ) (k : Kind) → held_as inner (shape.OneofMember o) k [] ≡ None
+nothing_held inner o (kind.Message m) = refl
+nothing_held inner o k = refl
+
+-- FIELDS
+
+-- a fact of each field
+abbrev EachField : (ℕ → Holding → Type 0) → Fields → Type 0
+EachField P no_fields = Unit {0}
+EachField P (field n h fs) = P n h × EachField P fs
+
+EachField-put_field : (P : ℕ → Holding → Type 0) (n : ℕ) (h : Holding) (fs : Fields) → P n h → EachField P fs → EachField P (put_field n h fs)
+EachField-put_field P n h no_fields a w = (a, tt)
+EachField-put_field P n h (field k g fs) a w =
+    by_order (EachField P) n k _ _ _ (λ _. (a, w)) (λ e. (subst (λ (i : ℕ). P i h) e a, w.1)) (λ _. (w.0, EachField-put_field P n h fs a w.1))
+
+EachField-put_some : (P : ℕ → Holding → Type 0) (n : ℕ) (o : Option Holding) (fs : Fields) → IfSome o (P n) → EachField P fs → EachField P (put_some n o fs)
+EachField-put_some P n None fs a w = w
+EachField-put_some P n (Some h) fs a w = EachField-put_field P n h fs a w
+
+RisesFrom-put_some : (n : ℕ) (o : Option Holding) (fs : Fields) → RisesFrom 0 fs → RisesFrom 0 (put_some n o fs)
+RisesFrom-put_some n None fs w = w
+RisesFrom-put_some n (Some h) fs w = RisesFrom-put_field 0 n h fs (omega arith) w
+
+-- The number of the last record that fits a member of a oneof.
+last_number : List FieldView → List Record → ℕ → Option ℕ
+last_number all rs o = option_map (λ r. r.number) (last_of (filter (fits_any (members o all)) rs))
+
+-- A content that can stand at a number, this deep at most. Of a oneof it stands at the last number.
+record Stands (pool : Types) (all : List FieldView) (top : ℕ) (last : ℕ → Option ℕ) (n : ℕ) (h : Holding) : Type 0 where
+  allowed : CanStand pool all n h
+  depth : holding_depth h ≤ top
+  last_of_oneof : (o : ℕ) → oneof_at all n ≡ Some o → last o ≡ Some n
+
+module _ (pool : Types) (all : List FieldView) (top : ℕ) (last : ℕ → Option ℕ) where
+  AreFields-each : (fs : Fields) → EachField (Stands pool all top last) fs → AreFields pool all fs
+  AreFields-each no_fields w = tt
+  AreFields-each (field n h fs) w = (w.0.allowed, AreFields-each fs w.1)
+
+  fields_depth-each : (fs : Fields) → EachField (Stands pool all top last) fs → fields_depth fs ≤ top
+  fields_depth-each no_fields w = omega arith
+  fields_depth-each (field n h fs) w = let here = w.0.depth in let more = fields_depth-each fs w.1 in omega (arith, here, more)
+
+  no_other_member : (o n low : ℕ) (fs : Fields) → last o ≡ Some n → n < low → RisesFrom low fs → EachField (Stands pool all top last) fs → HasNoMember all o fs
+  no_other_member o n low no_fields e l rises w = tt
+  no_other_member o n low (field k g fs) e l rises w =
+      let here = rises.0 in (
+        λ q. let again = w.0.last_of_oneof o q in let same : n ≡ k = cc in omega (arith, same, here, l),
+        no_other_member o n (k + 1) fs e (omega (arith, here, l)) rises.1 w.1,
+      )
+
+  HasOneMemberEach-each : (low : ℕ) (fs : Fields) → RisesFrom low fs → EachField (Stands pool all top last) fs → HasOneMemberEach all fs
+  HasOneMemberEach-each low no_fields rises w = tt
+  HasOneMemberEach-each low (field n h fs) rises w = (
+    if_some (oneof_at all n) (λ (o : ℕ). HasNoMember all o fs) (λ o e. no_other_member o n (n + 1) fs (w.0.last_of_oneof o e) (omega arith) rises.1 w.1),
+    HasOneMemberEach-each (n + 1) fs rises.1 w.1,
+  )
+
+-- THE FIELDS THAT RECORDS GIVE
+
+same_number : (f : FieldView) (r : Record) → fits f r ≡ true → r.number ≡ f.number
+same_number f r e = same r.number f.number (both (r.number == f.number) (fits_type f (wire_type r.payload)) e).0
+  where
+    same : (a b : ℕ) → (a == b) ≡ true → a ≡ b
+    same a b q = grind (arith, nat_tests)
+
+member_last :
+    (inner : ℕ → List Record → Message) (s : Shape) (k : Kind) (all : List FieldView) (f : FieldView) (rs : List Record) (h : Holding) (o : ℕ) → oneof_of s ≡ Some o
+    → held_as inner s k (counting_as inner s all f rs) ≡ Some h → last_number all rs o ≡ Some f.number
+unfolding last_number LastPasses
+member_last inner (shape.OneofMember p) k all f rs h o own e =
+    let same : p ≡ o = cc in subst (λ (q : ℕ). last_number all rs q ≡ Some f.number) same (by_cases (last_run-last (fits f) (filter (fits_any (members p all)) rs)))
+  where
+    by_cases : (last_run (fits f) (filter (fits_any (members p all)) rs) ≡ []) ⊎ LastPasses (fits f) (filter (fits_any (members p all)) rs) → last_number all rs p ≡ Some f.number
+    by_cases (inl none) =
+        let nothing : held_as inner (shape.OneofMember p) k (last_run (fits f) (filter (fits_any (members p all)) rs)) ≡ None =
+        ap (held_as inner (shape.OneofMember p) k) none ∙ nothing_held inner p k in
+        absurd (cc)
+    by_cases (inr some) = ap (option_map (λ (r : Record). r.number)) some.1 ∙ ap (λ (n : ℕ). Some n) (same_number f some.0 some.2)
+member_last inner shape.Implicit k all f rs h o own e = absurd (cc)
+member_last inner shape.Explicit k all f rs h o own e = absurd (cc)
+member_last inner (shape.List p) k all f rs h o own e = absurd (cc)
+member_last inner (shape.Map key) k all f rs h o own e = absurd (cc)
+
+-- a field of those with these numbers is found by its number
+found_each : (fs : List FieldView) → AllDiffer (map (λ f. f.number) fs) → AllByRecursion (λ f. field_numbered f.number fs ≡ Some f) fs
+found_each [] h = tt
+found_each (f ∷ fs) h = (ap (λ (b : Bool). if b then Some f else field_numbered f.number fs) (self f.number), later fs h.0 (found_each fs h.1))
+  where
+    self : (n : ℕ) → (n == n) ≡ true
+    self n = grind (arith, nat_tests)
+
+    apart : (a b : ℕ) → a ≢ b → (a == b) ≡ false
+    apart a b d = grind (arith, nat_tests)
+
+    later : (gs : List FieldView) → AllByRecursion (λ k. f.number ≢ k) (map (λ g. g.number) gs) → AllByRecursion (λ g. field_numbered g.number fs ≡ Some g) gs → AllByRecursion (λ g. field_numbered g.number (f ∷ fs) ≡ Some g) gs
+    later [] d w = tt
+    later (g ∷ gs) d w = (ap (λ (b : Bool). if b then Some f else field_numbered g.number fs) (apart f.number g.number d.0) ∙ w.0, later gs d.1 w.1)
+
+-- UNKNOWN RECORDS
+
+mutual
+  IsNumbered-IsWritable : (p : Payload) → IsWritable p → IsNumbered p
+  IsNumbered-IsWritable (varint n) w = tt
+  IsNumbered-IsWritable (fixed64 n) w = tt
+  IsNumbered-IsWritable (len s) w = tt
+  IsNumbered-IsWritable (group g) w = IsNumberedGroup-IsWritableGroup g w
+  IsNumbered-IsWritable (fixed32 n) w = tt
+
+  IsNumberedGroup-IsWritableGroup : (g : Group) → IsWritableGroup g → IsNumberedGroup g
+  IsNumberedGroup-IsWritableGroup no_more w = tt
+  IsNumberedGroup-IsWritableGroup (more k p g) w = (w.0, IsNumbered-IsWritable p w.1, IsNumberedGroup-IsWritableGroup g w.2)
+
+unfitting-good : (pool : Types) (t room : ℕ) (fs : List FieldView) (rs : List Record) → AllGood pool (a_message t) room rs → AreUnknown fs (unfitting fs rs) × (records_depth (unfitting fs rs) ≤ room)
+unfitting-good pool t room fs rs h = each (unfitting fs rs) (all_filter (IsGood pool (a_message t) room) (λ r. not (fits_any fs r)) rs h)
+  where
+    fails : (b : Bool) → not b ≡ true → b ≡ false
+    fails true e = absurd (cc)
+    fails false e = refl
+
+    each : (us : List Record) → AllByRecursion (λ r. IsGood pool (a_message t) room r × (not (fits_any fs r) ≡ true)) us → AreUnknown fs us × (records_depth us ≤ room)
+    each [] w = (tt, omega arith)
+    each (u ∷ us) w =
+        let good = w.0.0 in
+        let here = sound_depth good.sound in
+        let more = each us w.1 in
+        (((good.number, good.in_range, IsNumbered-IsWritable u.payload good.writable, fails (fits_any fs u) w.0.1), more.0), omega (arith, here, more.1))
+
+-- ONE LEVEL
+
+module _ (pool : Types) (rules : IsPool pool) (inner : ℕ → List Record → Message) (levels : ℕ)
+    (inside : (m room : ℕ) (rs : List Record) → room < levels → AllGood pool (a_message m) room rs → IsBody pool m (inner m rs) × (message_depth (inner m rs) ≤ room)) where
+  held-stands :
+      (t room : ℕ) (f : FieldView) (rs : List Record) → room ≤ levels → field_numbered f.number (message_fields pool t) ≡ Some f → HasKeyKind f.shape → AllGood pool (a_message t) room rs
+      → IfSome (held inner f (counting inner (message_fields pool t) f rs)) (Stands pool (message_fields pool t) room (last_number (message_fields pool t) rs) f.number)
+  held-stands t room f rs l found key h =
+      let all = message_fields pool t in
+      let cs = counting inner all f rs in
+      let count : AllCount pool (a_message t) room f.shape f.kind cs = all_count pool (a_message t) room f found cs (counting_as-good pool inner t room f.shape all f rs h) in
+      let stored : IfSome (held inner f cs) (IsStored pool f.shape f.kind room) = held-stored pool inner levels inside t room f.shape f.kind cs l key count in
+      if_some (held inner f cs) (Stands pool all room (last_number all rs) f.number)
+      (λ g e.
+        let w : IsStored pool f.shape f.kind room g = at_some (held inner f cs) (IsStored pool f.shape f.kind room) g stored e in
+        record {
+          allowed = subst (λ (o : Option FieldView). IsSomeAnd o (λ x. IsOfShape x.shape g × IsHeld pool x.shape x.kind g)) (sym found) (w.shaped, w.held);
+          depth = w.depth;
+          last_of_oneof = λ o q. member_last inner f.shape f.kind all f rs g o (sym (oneof_at-shape all f.number f found) ∙ q) e;
+        })
+
+  fields_held-stand :
+      (t room : ℕ) (fs : List FieldView) (rs : List Record) → room ≤ levels → AllByRecursion (λ f. field_numbered f.number (message_fields pool t) ≡ Some f) fs
+      → AllByRecursion (λ f. (s : MessageView) × HasKeyKind f.shape) fs → AllGood pool (a_message t) room rs
+      → EachField (Stands pool (message_fields pool t) room (last_number (message_fields pool t) rs)) (fields_held inner (message_fields pool t) fs rs)
+      × RisesFrom 0 (fields_held inner (message_fields pool t) fs rs)
+  fields_held-stand t room [] rs l found keys h = (tt, tt)
+  fields_held-stand t room (f ∷ fs) rs l found keys h =
+      let all = message_fields pool t in
+      let more = fields_held-stand t room fs rs l found.1 keys.1 h in (
+        EachField-put_some (Stands pool all room (last_number all rs)) f.number (held inner f (counting inner all f rs)) (fields_held inner all fs rs) (held-stands t room f rs l found.0 keys.0.1 h) more.0,
+        RisesFrom-put_some f.number (held inner f (counting inner all f rs)) (fields_held inner all fs rs) more.1,
+      )
+
+  body-good :
+      (t room : ℕ) (rs : List Record) → room ≤ levels → AllGood pool (a_message t) room rs
+      → IsBody pool t (body_of inner (message_fields pool t) rs) × (message_depth (body_of inner (message_fields pool t) rs) ≤ room)
+  body-good t room rs l h =
+      let all = message_fields pool t in
+      let last = last_number all rs in
+      let fs = fields_held inner all all rs in
+      let w = fields_held-stand t room all rs l (found_each all (differ_at pool pool.messages t rules.fields.numbers_differ)) (fields_all (λ s f. HasKeyKind f.shape) pool pool.messages t rules.fields.shapes.keys) h in
+      let us = unfitting-good pool t room all rs h in
+      let deep = fields_depth-each pool all room last fs w.0 in (
+        (AreFields-each pool all room last fs w.0, w.1, HasOneMemberEach-each pool all room last 0 fs w.1 w.0, us.0),
+        omega (arith, deep, us.1),
+      )
+
+-- ALL LEVELS
+
+within-good :
+    (pool : Types) → IsPool pool → (levels m room : ℕ) (rs : List Record) → room < levels → AllGood pool (a_message m) room rs
+    → IsBody pool m (value_within pool levels m rs) × (message_depth (value_within pool levels m rs) ≤ room)
+unfolding value_within
+within-good pool rules zero m room rs l h = absurd (omega (arith, l))
+within-good pool rules (suc levels) m room rs l h =
+    body-good pool rules (value_within pool levels) levels (λ n r ss. within-good pool rules levels n r ss) m room rs (omega (arith, l)) h
+
+pub value_is_well_formed : (pool : Types) → IsPool pool → ValueIsWellFormed pool
+unfolding value
+value_is_well_formed pool rules m depth rs l h =
+    let good = within-good pool rules 101 m depth rs (omega (arith, l)) (all_good pool (a_message m) depth rs h.in_range h.writable h.sound) in
+    record { parts = good.0; depth = omega (arith, l, good.1) }
+
+pub derived_is_well_formed : (pool : Types) → IsPool pool → DerivedIsWellFormed pool
+derived_is_well_formed pool rules m depth b v l bytes h =
+    subst (IsWellFormed pool m) (sym h.valued)
+    (value_is_well_formed pool rules m depth h.records l
+    (record { in_range = spelled_in_range h.records b h.spelled bytes; writable = spelled_writable h.records b h.spelled; sound = h.sound }))
