@@ -13,13 +13,14 @@ use Rattle.pb_schema.specs.declared.types.Kind.{Kind}
 use Rattle.pb_schema.specs.declared.types.Kind.TheVariants as kind
 use Rattle.pb_schema.specs.declared.types.Shape.{Shape}
 use Rattle.pb_schema.specs.declared.types.Shape.TheVariants as shape
+use Rattle.pb_schema.specs.Oneofs.{members, is_member}
 use Rattle.pb_schema.specs.Types.{FieldView, MessageView, Types, message_fields, field_numbered}
 use Rattle.pb_schema.specs.Names.{AllDiffer}
 use Rattle.pb_schema.specs.Rules.{IsPool, HasKeyKind}
 use Rattle.pb_schema.specs.Fits.{fits, fits_type, fits_any, unfitting}
 use Rattle.pb_schema.specs.Context.{a_message, schema_of}
 use Rattle.pb_value.specs.Data.{Holding, Fields, no_fields, field, Message, body, put_field, put_some, holding_depth, fields_depth, message_depth}
-use Rattle.pb_value.specs.Value.{last_of, last_run, members, counting, counting_as, held, held_as, fields_held, body_of, value_within, value}
+use Rattle.pb_value.specs.Value.{last_of, last_run, counting, counting_as, held, held_as, fields_held, body_of, value_within, value}
 use Rattle.pb_value.specs.WellFormed.{AreUnknown, RisesFrom, oneof_of, oneof_at, HasNoMember, HasOneMemberEach, IsOfShape, IsHeld, AreFields, IsBody, IsWellFormed}
 use Rattle.pb_value.specs.Meaning.{ValueIsWellFormed, DerivedIsWellFormed}
 use Rattle.pb_value.proofs.BytesLemmas.{both}
