@@ -1,10 +1,9 @@
 -- What is read from payloads in range is of the kind that it is read as.
-use Rattle.std.proofs.Common.{◌≡◌, ℕ, ◌+◌, ◌*◌, ◌/◌, ◌%◌, ◌^◌, ◌<◌, ◌≤◌, List, [], ◌∷◌, ◌++◌, map, arith, refl, subst, Option, Some, None, IfSome}
+use Rattle.std.proofs.Common.{◌≡◌, ℕ, ◌%◌, ◌^◌, ◌<◌, List, [], ◌∷◌, map, arith, refl, None, IfSome}
 use Rattle.std.proofs.lemmas.Int.{ints}
 use Rattle.std.proofs.lemmas.Bool.Decides.{nat_tests}
-use Rattle.std.specs.Prelude.{Bool, true, false, ◌==◌, IsTrue, IsUtf8, pos, negsuc, FitsSigned, if◌then◌else◌}
-use Rattle.std.specs.List.{AllByRecursion, filter_map, cons_option}
-use Rattle.std.specs.Option.{option_to_list}
+use Rattle.std.specs.Prelude.{true, IsUtf8, FitsSigned}
+use Rattle.std.specs.List.{AllByRecursion}
 use Rattle.std.specs.Int.{w32, w64, cast_signed, from_le_bytes}
 use Rattle.pb_wire.specs.Zigzag.{unzigzag}
 use Rattle.pb_wire.specs.Varint.{groups_value}
@@ -12,8 +11,8 @@ use Rattle.pb_wire.specs.Record.{Payload, varint, fixed64, len, group, fixed32}
 use Rattle.pb_wire.specs.Ranges.{AreBytes, IsInRange}
 use Rattle.pb_schema.specs.declared.types.Kind.{Kind}
 use Rattle.pb_schema.specs.declared.types.Kind.TheVariants as kind
-use Rattle.pb_schema.specs.Scalar.{Scalar, int32, int64, uint32, uint64, boolean, float, double, enum, text, bytes}
-use Rattle.pb_schema.specs.Kinds.{wire_type_of, is_packable, is_key_kind, message_of_kind, read, default_of, IsOfKind}
+use Rattle.pb_schema.specs.Kinds.{wire_type_of, is_packable, message_of_kind, read, default_of, IsOfKind}
+use Rattle.pb_value.proofs.ListLemmas.{all_map, all_found, listed}
 use Rattle.pb_schema.specs.Packed.{numbers_of, varints_of, fours_of, eights_of, elements}
 
 -- a text's payload is UTF-8
@@ -78,14 +77,6 @@ IsOfKind-default_of (kind.Enum e) none = grind (arith, ints)
 
 -- PACKED PAYLOADS
 
-all_map : {X Y : Type 0} (P : X → Type 0) (Q : Y → Type 0) (f : X → Y) → ((x : X) → P x → Q (f x)) → (xs : List X) → AllByRecursion P xs → AllByRecursion Q (map f xs)
-all_map P Q f g [] h = tt
-all_map P Q f g (x ∷ xs) h = (g x h.0, all_map P Q f g xs h.1)
-
-every : {X : Type 0} (P : X → Type 0) → ((x : X) → P x) → (xs : List X) → AllByRecursion P xs
-every P f [] = tt
-every P f (x ∷ xs) = (f x, every P f xs)
-
 -- the eight bytes, or four, of a number
 EightBytes : List ℕ → Type 0
 EightBytes b = from_le_bytes w64 b < 2 ^ 64
@@ -105,8 +96,11 @@ fours_in_range (a ∷ b ∷ c ∷ d ∷ s) w = (omega (arith, w.0, w.1.0, w.1.1.
 fours_in_range s w = tt
 
 varints_in_range : (s : List ℕ) → AllByRecursion IsInRange (numbers_of 0 s)
-varints_in_range s =
-    all_map (λ (b : List ℕ). Unit {0}) IsInRange (λ b. varint (groups_value b % 2 ^ 64)) (λ b _. omega arith) (varints_of s) (every (λ (b : List ℕ). Unit {0}) (λ b. tt) (varints_of s))
+varints_in_range s = each (varints_of s)
+  where
+    each : (bs : List (List ℕ)) → AllByRecursion IsInRange (map (λ b. varint (groups_value b % 2 ^ 64)) bs)
+    each [] = tt
+    each (b ∷ bs) = (omega arith, each bs)
 
 eight_bytes_in_range : (s : List ℕ) → AreBytes s → AllByRecursion IsInRange (numbers_of 1 s)
 unfolding EightBytes
@@ -127,19 +121,6 @@ numbers_in_range kind.Fixed32 s can w = four_bytes_in_range s w
 numbers_in_range kind.Sfixed32 s can w = four_bytes_in_range s w
 numbers_in_range kind.Float s can w = four_bytes_in_range s w
 numbers_in_range k s can w = varints_in_range s
-
--- what a function finds of elements of which P holds
-all_found : {X Y : Type 0} (P : X → Type 0) (Q : Y → Type 0) (f : X → Option Y) → ((x : X) → P x → IfSome (f x) Q) → (xs : List X) → AllByRecursion P xs → AllByRecursion Q (filter_map f xs)
-all_found P Q f g [] h = tt
-all_found {X} {Y} P Q f g (x ∷ xs) h = one_more (f x) (filter_map f xs) (g x h.0) (all_found P Q f g xs h.1)
-  where
-    one_more : (o : Option Y) (ys : List Y) → IfSome o Q → AllByRecursion Q ys → AllByRecursion Q (cons_option o ys)
-    one_more None ys a b = b
-    one_more (Some y) ys a b = (a, b)
-
-listed : {X : Type 0} (P : X → Type 0) (o : Option X) → IfSome o P → AllByRecursion P (option_to_list o)
-listed P None h = tt
-listed P (Some x) h = (h, tt)
 
 not_text : (k : Kind) (p : Payload) → is_packable k ≡ true → IsTextFor k p
 not_text kind.Text p can = absurd (cc)

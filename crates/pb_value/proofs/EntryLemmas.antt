@@ -1,13 +1,12 @@
 -- Putting entries under keys keeps them entries of their kinds, with keys that rise.
-use Rattle.std.proofs.Common.{◌≡◌, ℕ, suc, ◌<◌, ◌≤◌, max, List, [], ◌∷◌, arith, refl, sym, ap, ◌∙◌, nat_cmp, Ordering, Less, Equal, Greater}
-use Rattle.std.proofs.lemmas.Bool.Decides.{nat_tests}
+use Rattle.std.proofs.Common.{◌≡◌, ℕ, ◌<◌, ◌≤◌, List, [], ◌∷◌, arith, refl, sym, ap, ◌∙◌, nat_cmp, Ordering, Less, Equal, Greater}
 use Rattle.std.proofs.lemmas.Int.{ints}
 use Rattle.std.specs.Prelude.{ℤ, Bool, true, false, fold}
 use Rattle.std.specs.List.{AllByRecursion}
 use Rattle.std.specs.Ordering.{int_cmp, bool_cmp, match_ordering, MatchOrdering}
 use Rattle.std.specs.Cmp.{ranks}
 use Rattle.pb_schema.specs.declared.types.Kind.{Kind}
-use Rattle.pb_schema.specs.Scalar.{Scalar, int32, int64, uint32, uint64, boolean, float, double, enum, text, bytes, bytes_cmp, key_cmp}
+use Rattle.pb_schema.specs.Scalar.{Scalar, int32, int64, uint32, uint64, boolean, text, bytes_cmp, key_cmp}
 use Rattle.pb_schema.specs.Kinds.{IsOfKind}
 use Rattle.pb_schema.specs.Types.{Types}
 use Rattle.pb_value.specs.Data.{Datum, Entries, no_entries, entry, put_entry, levels_in_entry, entries_depth}

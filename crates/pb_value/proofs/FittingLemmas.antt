@@ -1,9 +1,9 @@
 -- What is known of the records that count for a field of a message or of a map entry.
-use Rattle.std.proofs.Common.{◌≡◌, ℕ, suc, ◌+◌, ◌^◌, ◌<◌, ◌≤◌, List, [], ◌∷◌, ◌++◌, length, arith, refl, sym, ap, ◌∙◌, subst, Option, Some, None}
+use Rattle.std.proofs.Common.{◌≡◌, ℕ, suc, ◌^◌, ◌<◌, List, [], ◌∷◌, length, arith, refl, sym, ap, ◌∙◌, subst, Some, None}
 use Rattle.std.proofs.lemmas.Bool.Decides.{nat_tests}
-use Rattle.std.specs.Prelude.{Bool, true, false, ◌==◌, filter, flat_map, if◌then◌else◌, IsUtf8}
+use Rattle.std.specs.Prelude.{true, ◌==◌}
 use Rattle.std.specs.List.{AllByRecursion}
-use Rattle.pb_wire.specs.Record.{Payload, varint, fixed64, len, group, fixed32, Record, wire_type}
+use Rattle.pb_wire.specs.Record.{Payload, len, Record, wire_type}
 use Rattle.pb_wire.specs.Ranges.{IsNumber, AreBytes, IsInRange, AreInRange}
 use Rattle.pb_wire.specs.Writable.{IsWritable, AreWritable}
 use Rattle.pb_wire.specs.Schema as wire
@@ -22,9 +22,10 @@ use Rattle.pb_schema.specs.Kinds.{IsOfKind}
 use Rattle.pb_schema.specs.Fits.{fits, fits_shape}
 use Rattle.pb_schema.specs.Context.{Context, a_message, an_entry, fields_in, message_in, read_shaped, read_field, schema_of}
 use Rattle.pb_schema.specs.Packed.{elements}
-use Rattle.pb_value.specs.Value.{last_run, all_elements, joined}
+use Rattle.pb_value.specs.Value.{all_elements}
 use Rattle.pb_value.specs.WellFormed.{key_of}
 use Rattle.pb_value.proofs.BytesLemmas.{both}
+use Rattle.pb_value.proofs.ListLemmas.{all_append, all_weaker}
 use Rattle.pb_value.proofs.ElementLemmas.{IsTextFor, elements-AreOfKind}
 use Rattle.pb_value.proofs.SoundLemmas.{SpellsSound, sound_text, sound_message, sound_value}
 
@@ -51,38 +52,21 @@ pub record CountsFor (pool : Types) (c : Context) (room : ℕ) (s : Shape) (k : 
 abbrev pub AllCount : Types → Context → ℕ → Shape → Kind → List Record → Type 0
 AllCount pool c room s k rs = AllByRecursion (CountsFor pool c room s k) rs
 
--- LISTS
-
-pub all_append : {X : Type 0} (P : X → Type 0) (xs ys : List X) → AllByRecursion P xs → AllByRecursion P ys → AllByRecursion P (xs ++ ys)
-all_append P [] ys h g = g
-all_append P (x ∷ xs) ys h g = (h.0, all_append P xs ys h.1 g)
-
--- of elements that have P, those that a test lets through have P and pass
-pub all_filter : {X : Type 0} (P : X → Type 0) (t : X → Bool) (xs : List X) → AllByRecursion P xs → AllByRecursion (λ x. P x × (t x ≡ true)) (filter t xs)
-all_filter P t [] h = tt
-all_filter {X} P t (x ∷ xs) h = by_test (t x) refl (all_filter P t xs h.1)
-  where
-    by_test : (b : Bool) → t x ≡ b → AllByRecursion (λ (y : X). P y × (t y ≡ true)) (filter t xs) → AllByRecursion (λ (y : X). P y × (t y ≡ true)) (if b then x ∷ filter t xs else filter t xs)
-    by_test true e more = ((h.0, e), more)
-    by_test false e more = more
-
-pub all_weaker : {X : Type 0} (P Q : X → Type 0) → ((x : X) → P x → Q x) → (xs : List X) → AllByRecursion P xs → AllByRecursion Q xs
-all_weaker P Q f [] h = tt
-all_weaker P Q f (x ∷ xs) h = (f x h.0, all_weaker P Q f xs h.1)
-
 -- READING
 
-counted : (pool : Types) (c : Context) (room : ℕ) (f : FieldView) → field_numbered f.number (fields_in pool c) ≡ Some f → (r : Record) → IsGood pool c room r → fits f r ≡ true → CountsFor pool c room f.shape f.kind r
-counted pool c room f found r good e =
-    let parts = both (r.number == f.number) (fits_shape f.shape f.kind (wire_type r.payload)) e in
-    record {
-      good = good;
-      fitting = parts.1;
-      reading = ap (λ (n : ℕ). read_field c (field_numbered n (fields_in pool c))) (same r.number f.number parts.0) ∙ ap (read_field c) found;
-    }
+-- a record that fits a field has its number
+pub same_number : (f : FieldView) (r : Record) → fits f r ≡ true → r.number ≡ f.number
+same_number f r e = same r.number f.number (both (r.number == f.number) (fits_shape f.shape f.kind (wire_type r.payload)) e).0
   where
     same : (a b : ℕ) → (a == b) ≡ true → a ≡ b
     same a b q = grind (arith, nat_tests)
+
+counted : (pool : Types) (c : Context) (room : ℕ) (f : FieldView) → field_numbered f.number (fields_in pool c) ≡ Some f → (r : Record) → IsGood pool c room r → fits f r ≡ true → CountsFor pool c room f.shape f.kind r
+counted pool c room f found r good e = record {
+  good = good;
+  fitting = (both (r.number == f.number) (fits_shape f.shape f.kind (wire_type r.payload)) e).1;
+  reading = ap (λ (n : ℕ). read_field c (field_numbered n (fields_in pool c))) (same_number f r e) ∙ ap (read_field c) found;
+}
 
 -- the good records that fit a field count for it
 pub all_count :
@@ -141,9 +125,12 @@ pub inside_message :
 inside_message pool t room s m r none h =
     let b = len_of s m r.payload h.fitting in
     let sound : Sound (schema_of pool) (a_message t) room r.number (len b.0) = subst (λ (p : Payload). Sound (schema_of pool) (a_message t) room r.number p) b.1 h.good.sound in
-    let whole = sound_message sound (a_message m.0) (h.reading ∙ reads_message (a_message t) s m none) in
-    (whole.0, whole.1, subst (λ (p : Payload). AllGood pool (a_message m.0) whole.0 (records_inside p)) (sym b.1)
-      (good_inside pool (a_message m.0) whole.0 b.0 (subst IsInRange b.1 h.good.in_range) (subst IsWritable b.1 h.good.writable) whole.2))
+    let whole = sound_message sound (a_message m.0) (h.reading ∙ reads_message (a_message t) s m none) in (
+      whole.0,
+      whole.1,
+      subst (λ (p : Payload). AllGood pool (a_message m.0) whole.0 (records_inside p)) (sym b.1)
+          (good_inside pool (a_message m.0) whole.0 b.0 (subst IsInRange b.1 h.good.in_range) (subst IsWritable b.1 h.good.writable) whole.2),
+    )
 
 -- of a message in a map entry: its records are at the entry's level
 pub inside_entry :
@@ -154,7 +141,7 @@ inside_entry pool key value room s m r none h =
     let sound : Sound (schema_of pool) (an_entry key value) room r.number (len b.0) = subst (λ (p : Payload). Sound (schema_of pool) (an_entry key value) room r.number p) b.1 h.good.sound in
     let whole = sound_value sound (a_message m.0) (h.reading ∙ reads_message (an_entry key value) s m none) in
     subst (λ (p : Payload). AllGood pool (a_message m.0) room (records_inside p)) (sym b.1)
-      (good_inside pool (a_message m.0) room b.0 (subst IsInRange b.1 h.good.in_range) (subst IsWritable b.1 h.good.writable) whole)
+    (good_inside pool (a_message m.0) room b.0 (subst IsInRange b.1 h.good.in_range) (subst IsWritable b.1 h.good.writable) whole)
 
 -- of a map: its record holds an entry, one level down
 pub inside_map :
@@ -163,6 +150,9 @@ pub inside_map :
 inside_map pool t room key k r h =
     let b = len_of_map key k r.payload h.fitting in
     let sound : Sound (schema_of pool) (a_message t) room r.number (len b.0) = subst (λ (p : Payload). Sound (schema_of pool) (a_message t) room r.number p) b.1 h.good.sound in
-    let whole = sound_message sound (an_entry key k) h.reading in
-    (whole.0, whole.1, subst (λ (p : Payload). AllGood pool (an_entry key k) whole.0 (records_inside p)) (sym b.1)
-      (good_inside pool (an_entry key k) whole.0 b.0 (subst IsInRange b.1 h.good.in_range) (subst IsWritable b.1 h.good.writable) whole.2))
+    let whole = sound_message sound (an_entry key k) h.reading in (
+      whole.0,
+      whole.1,
+      subst (λ (p : Payload). AllGood pool (an_entry key k) whole.0 (records_inside p)) (sym b.1)
+          (good_inside pool (an_entry key k) whole.0 b.0 (subst IsInRange b.1 h.good.in_range) (subst IsWritable b.1 h.good.writable) whole.2),
+    )

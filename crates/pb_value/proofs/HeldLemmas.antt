@@ -1,6 +1,6 @@
 -- What a field holds of the records that count for it is of its shape and kind, and nests no deeper than soundness lets them.
-use Rattle.std.proofs.Common.{◌≡◌, ℕ, zero, suc, ◌<◌, ◌≤◌, max, List, [], ◌∷◌, ◌++◌, map, arith, refl, sym, ap, ◌∙◌, subst, Option, Some, None, IfSome, IsSomeAnd, option_map}
-use Rattle.std.specs.Prelude.{Bool, true, false, IsTrue, filter, flat_map, unwrap_or, option_and_then, if◌then◌else◌}
+use Rattle.std.proofs.Common.{◌≡◌, ℕ, zero, suc, ◌<◌, ◌≤◌, List, [], ◌∷◌, map, arith, refl, sym, subst, Option, Some, None, IfSome, option_map}
+use Rattle.std.specs.Prelude.{Bool, true, false, IsTrue, option_and_then, if◌then◌else◌}
 use Rattle.std.specs.List.{AllByRecursion}
 use Rattle.pb_wire.specs.Record.{Record}
 use Rattle.pb_wire.specs.Inside.{records_inside}
@@ -9,32 +9,19 @@ use Rattle.pb_schema.specs.declared.types.Kind.TheVariants as kind
 use Rattle.pb_schema.specs.declared.types.MessageId.{MessageId}
 use Rattle.pb_schema.specs.declared.types.Shape.{Shape}
 use Rattle.pb_schema.specs.declared.types.Shape.TheVariants as shape
-use Rattle.pb_schema.specs.Types.{FieldView, Types}
+use Rattle.pb_schema.specs.Types.{Types}
 use Rattle.pb_schema.specs.Scalar.{Scalar, is_default}
 use Rattle.pb_schema.specs.Kinds.{IsOfKind, is_key_kind, message_of_kind, default_of}
 use Rattle.pb_schema.specs.Fits.{fits, fitting}
 use Rattle.pb_schema.specs.Rules.{HasKeyKind}
 use Rattle.pb_schema.specs.Context.{a_message, an_entry, key_field, value_field}
-use Rattle.pb_value.specs.Data.{Datum, scalar, message, Datums, no_datums, datum, datums_of, Entries, no_entries, entry, Holding, one, list, map as map_of, Message, empty, levels_of, levels_in_entry, datums_depth, holding_depth, message_depth}
+use Rattle.pb_value.specs.Data.{Datum, scalar, message, datums_of, Entries, no_entries, entry, Holding, one, map as map_of, Message, levels_of, levels_in_entry, datums_depth, holding_depth, message_depth}
 use Rattle.pb_value.specs.Value.{last_of, all_elements, joined, unless_default, unless_no_elements, unless_no_entries, one_value, list_values, missing, entry_key, entry_value, entry_of, held_as}
-use Rattle.pb_value.specs.Judge.{is_default_datum}
 use Rattle.pb_value.specs.WellFormed.{IsOfShape, key_of, IsDatum, AreDatums, IsHeld, IsBody}
+use Rattle.pb_value.proofs.ListLemmas.{all_append, all_filter, all_map, last_of-all, some_mapped, or_default}
 use Rattle.pb_value.proofs.ElementLemmas.{IsOfKind-default_of}
-use Rattle.pb_value.proofs.FittingLemmas.{IsGood, AllGood, CountsFor, AllCount, all_append, all_filter, all_count, all_elements-AreOfKind, inside_message, inside_entry, inside_map}
-use Rattle.pb_value.proofs.EntryLemmas.{IsEntry, IsMap, IsMap-fold, HasEntry, HasEntry-fold}
-
-last_of-all : {X : Type 0} (P : X → Type 0) (xs : List X) → AllByRecursion P xs → IfSome (last_of xs) P
-last_of-all P [] h = tt
-last_of-all P (x ∷ []) h = h.0
-last_of-all P (x ∷ y ∷ ys) h = last_of-all P (y ∷ ys) h.1
-
-some_mapped : {X Y : Type 0} (P : X → Type 0) (Q : Y → Type 0) (f : X → Y) → ((x : X) → P x → Q (f x)) → (o : Option X) → IfSome o P → IfSome (option_map f o) Q
-some_mapped P Q f g None h = tt
-some_mapped P Q f g (Some x) h = g x h
-
-or_default : {X : Type 0} (P : X → Type 0) (o : Option X) (d : X) → IfSome o P → P d → P (unwrap_or o d)
-or_default P None d h g = g
-or_default P (Some x) d h g = h
+use Rattle.pb_value.proofs.FittingLemmas.{IsGood, AllGood, CountsFor, AllCount, all_count, all_elements-AreOfKind, inside_message, inside_entry, inside_map}
+use Rattle.pb_value.proofs.EntryLemmas.{IsEntry, IsMap-fold, HasEntry, HasEntry-fold}
 
 -- a value of a kind that nests this deep
 pub record IsValue (pool : Types) (k : Kind) (top : ℕ) (d : Datum) : Type 0 where
@@ -116,10 +103,6 @@ module _ (pool : Types) (value : ℕ → List Record → Message) (levels : ℕ)
 
   -- LISTS
 
-  all_mapped : {X Y : Type 0} (P : X → Type 0) (Q : Y → Type 0) (f : X → Y) → ((x : X) → P x → Q (f x)) → (xs : List X) → AllByRecursion P xs → AllByRecursion Q (map f xs)
-  all_mapped P Q f g [] h = tt
-  all_mapped P Q f g (x ∷ xs) h = (g x h.0, all_mapped P Q f g xs h.1)
-
   listed_message :
       (t room : ℕ) (s : Shape) (m : MessageId) (r : Record) → room ≤ levels → key_of s ≡ None → CountsFor pool (a_message t) room s (kind.Message m) r
       → IsValue pool (kind.Message m) room (message (value m.0 (records_inside r.payload)))
@@ -132,10 +115,10 @@ module _ (pool : Types) (value : ℕ → List Record → Message) (levels : ℕ)
       (t room : ℕ) (s : Shape) (k : Kind) (rs : List Record) → room ≤ levels → key_of s ≡ None → AllCount pool (a_message t) room s k rs
       → AllByRecursion (IsValue pool k room) (list_values value k rs)
   list_values-message t room s (kind.Message m) rs l none h =
-      all_mapped (CountsFor pool (a_message t) room s (kind.Message m)) (IsValue pool (kind.Message m) room) (λ r. message (value m.0 (records_inside r.payload)))
+      all_map (CountsFor pool (a_message t) room s (kind.Message m)) (IsValue pool (kind.Message m) room) (λ r. message (value m.0 (records_inside r.payload)))
       (λ r w. listed_message t room s m r l none w) rs h
   list_values-message t room s k rs l none h =
-      all_mapped (IsOfKind k) (IsValue pool k room) scalar (λ x w. scalar_value pool k room x w) (all_elements k rs)
+      all_map (IsOfKind k) (IsValue pool k room) scalar (λ x w. scalar_value pool k room x w) (all_elements k rs)
       (all_elements-AreOfKind pool (a_message t) room s k rs none h)
 
   -- MAPS
@@ -193,9 +176,9 @@ module _ (pool : Types) (value : ℕ → List Record → Message) (levels : ℕ)
       (t room : ℕ) (key k : Kind) (rs : List Record) → room ≤ levels → IsTrue (is_key_kind key) → AllCount pool (a_message t) room (shape.Map key) k rs
       → AllByRecursion (IsEntry pool key k room) (map (entry_of value key k) rs)
   entries-good t room key k rs l can h =
-      all_mapped (CountsFor pool (a_message t) room (shape.Map key) k) (IsEntry pool key k room) (entry_of value key k)
+      all_map (CountsFor pool (a_message t) room (shape.Map key) k) (IsEntry pool key k room) (entry_of value key k)
       (λ r w. let here = inside_map pool t room key k r w in
-          subst (λ (n : ℕ). IsEntry pool key k n (entry_of value key k r)) (sym here.1) (entry-good key k here.0 (records_inside r.payload) (omega (arith, l, here.1)) can here.2)) rs h
+      subst (λ (n : ℕ). IsEntry pool key k n (entry_of value key k r)) (sym here.1) (entry-good key k here.0 (records_inside r.payload) (omega (arith, l, here.1)) can here.2)) rs h
 
   -- ALL SHAPES
 

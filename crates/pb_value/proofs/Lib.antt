@@ -13,6 +13,7 @@ mod Table
 mod Rows
 mod Texts
 mod Forms
+pub mod ListLemmas
 pub mod ElementLemmas
 pub mod SoundLemmas
 pub mod FittingLemmas

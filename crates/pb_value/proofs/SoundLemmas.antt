@@ -1,10 +1,11 @@
 -- What soundness says of a payload by how it is read, and how deep sound records nest.
-use Rattle.std.proofs.Common.{◌≡◌, ℕ, suc, ◌≤◌, max, List, [], ◌∷◌, arith, refl, sym, ap, ◌∙◌, subst}
+use Rattle.std.proofs.Common.{◌≡◌, ℕ, suc, ◌≤◌, List, arith, refl, ap, ◌∙◌, subst}
 use Rattle.std.specs.Prelude.{IsUtf8}
-use Rattle.pb_wire.specs.Record.{Payload, varint, fixed64, len, group, fixed32, Group, group_of, Record, depth, group_depth, records_depth}
+use Rattle.pb_wire.specs.Record.{Payload, len, Record, depth, group_depth, records_depth}
 use Rattle.pb_wire.specs.Spell.{AreRecords}
 use Rattle.pb_wire.specs.Schema.{Schema, text, message, same_level}
 use Rattle.pb_wire.specs.Sound.{Sound, AllSound}
+use Rattle.pb_value.proofs.Views.{group_depth-group_of}
 
 -- bytes spell records that are sound in a context
 pub record SpellsSound (S : Schema) (d : S.Context) (room : ℕ) (s : List ℕ) : Type 0 where
@@ -37,10 +38,6 @@ sound_value (Sound.a_list r h) d e = absurd (cc)
 sound_value (Sound.a_message r h g) d e = absurd (cc)
 sound_value {S} (Sound.a_value {d = b} {room = room} {rs = rs} r h g) d e =
     let same : b ≡ d = cc in record { records = rs; spelled = h; sound = subst (λ (x : S.Context). AllSound S x room rs) same g }
-
-group_depth-group_of : (rs : List Record) → group_depth (group_of rs) ≡ records_depth rs
-group_depth-group_of [] = refl
-group_depth-group_of (r ∷ rs) = ap (λ (n : ℕ). max (depth r.payload) n) (group_depth-group_of rs)
 
 mutual
   pub sound_depth : {S : Schema} {c : S.Context} {room k : ℕ} {p : Payload} → Sound S c room k p → depth p ≤ room

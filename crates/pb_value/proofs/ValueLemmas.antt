@@ -1,73 +1,34 @@
 -- The value of sound records in range is well formed, level by level.
-use Rattle.std.proofs.Common.{◌≡◌, ◌≢◌, ℕ, zero, suc, ◌+◌, ◌<◌, ◌≤◌, max, List, [], ◌∷◌, map, arith, inl, inr, refl, sym, ap, ◌∙◌, subst, Option, Some, None, IfSome, IsSomeAnd, option_map}
+use Rattle.std.proofs.Common.{◌≡◌, ◌≢◌, ℕ, zero, suc, ◌+◌, ◌<◌, ◌≤◌, List, [], ◌∷◌, map, arith, inl, inr, refl, sym, ap, ◌∙◌, subst, Option, Some, None, IfSome, IsSomeAnd, option_map}
 use Rattle.std.proofs.lemmas.Bool.Decides.{nat_tests}
 use Rattle.std.specs.Prelude.{◌⊎◌, Bool, true, false, not, ◌==◌, filter, if◌then◌else◌}
-use Rattle.std.specs.List.{AllByRecursion, list_all}
-use Rattle.pb_wire.specs.Record.{Payload, varint, fixed64, len, group, fixed32, Group, no_more, more, Record, wire_type, records_depth}
-use Rattle.pb_wire.specs.Ranges.{AreBytes, AreInRange}
+use Rattle.std.specs.List.{AllByRecursion}
+use Rattle.pb_wire.specs.Record.{Payload, varint, fixed64, len, group, fixed32, Group, no_more, more, Record, records_depth}
 use Rattle.pb_wire.specs.Inside.{IsNumbered, IsNumberedGroup}
-use Rattle.pb_wire.specs.Writable.{IsWritable, IsWritableGroup, AreWritable}
-use Rattle.pb_wire.specs.Sound.{AllSound}
+use Rattle.pb_wire.specs.Writable.{IsWritable, IsWritableGroup}
 use Rattle.pb_wire.proofs.RangeLemmas.{spelled_in_range, spelled_writable}
 use Rattle.pb_schema.specs.declared.types.Kind.{Kind}
 use Rattle.pb_schema.specs.declared.types.Kind.TheVariants as kind
 use Rattle.pb_schema.specs.declared.types.Shape.{Shape}
 use Rattle.pb_schema.specs.declared.types.Shape.TheVariants as shape
-use Rattle.pb_schema.specs.Oneofs.{members, is_member}
+use Rattle.pb_schema.specs.Oneofs.{members}
 use Rattle.pb_schema.specs.Types.{FieldView, MessageView, Types, message_fields, field_numbered}
 use Rattle.pb_schema.specs.Names.{AllDiffer}
 use Rattle.pb_schema.specs.Rules.{IsPool, HasKeyKind}
-use Rattle.pb_schema.specs.Fits.{fits, fits_type, fits_any, unfitting}
-use Rattle.pb_schema.specs.Context.{a_message, schema_of}
-use Rattle.pb_value.specs.Data.{Holding, Fields, no_fields, field, Message, body, put_field, put_some, holding_depth, fields_depth, message_depth}
+use Rattle.pb_schema.specs.Fits.{fits, fits_any, unfitting}
+use Rattle.pb_schema.specs.Context.{a_message}
+use Rattle.pb_value.specs.Data.{Holding, Fields, no_fields, field, Message, put_field, put_some, holding_depth, fields_depth, message_depth}
 use Rattle.pb_value.specs.Value.{last_of, last_run, counting, counting_as, held, held_as, fields_held, body_of, value_within, value}
 use Rattle.pb_value.specs.WellFormed.{AreUnknown, RisesFrom, oneof_of, oneof_at, HasNoMember, HasOneMemberEach, IsOfShape, IsHeld, AreFields, IsBody, IsWellFormed}
 use Rattle.pb_value.specs.Meaning.{ValueIsWellFormed, DerivedIsWellFormed}
-use Rattle.pb_value.proofs.BytesLemmas.{both}
+use Rattle.pb_value.proofs.ListLemmas.{all_weaker, all_filter, all_last_run, LastPasses, last_run-last}
 use Rattle.pb_value.proofs.ChangeLemmas.{by_order, if_some, at_some, oneof_at-shape, RisesFrom-put_field, CanStand}
 use Rattle.pb_value.proofs.JudgeLemmas.{fields_all, differ_at}
 use Rattle.pb_value.proofs.SoundLemmas.{sound_depth}
-use Rattle.pb_value.proofs.FittingLemmas.{IsGood, AllGood, AllCount, all_good, all_filter, all_count}
+use Rattle.pb_value.proofs.FittingLemmas.{IsGood, AllGood, AllCount, all_good, all_count, same_number}
 use Rattle.pb_value.proofs.HeldLemmas.{IsStored, held-stored}
 
 -- RECORDS THAT COUNT
-
-all_pass : {X : Type 0} (P : X → Type 0) (p : X → Bool) (xs : List X) → AllByRecursion P xs → list_all p xs ≡ true → AllByRecursion (λ x. P x × (p x ≡ true)) xs
-all_pass P p [] h e = tt
-all_pass P p (x ∷ xs) h e = let parts = both (p x) (list_all p xs) e in ((h.0, parts.0), all_pass P p xs h.1 parts.1)
-
--- of the longest end whose elements pass, each passes
-all_last_run : {X : Type 0} (P : X → Type 0) (p : X → Bool) (xs : List X) → AllByRecursion P xs → AllByRecursion (λ x. P x × (p x ≡ true)) (last_run p xs)
-all_last_run P p [] h = tt
-all_last_run {X} P p (x ∷ xs) h = by_test (list_all p (x ∷ xs)) refl (all_last_run P p xs h.1)
-  where
-    by_test : (b : Bool) → list_all p (x ∷ xs) ≡ b → AllByRecursion (λ (y : X). P y × (p y ≡ true)) (last_run p xs) → AllByRecursion (λ (y : X). P y × (p y ≡ true)) (if b then x ∷ xs else last_run p xs)
-    by_test true e later = all_pass P p (x ∷ xs) h e
-    by_test false e later = later
-
--- that a list has a last element, and it passes
-LastPasses : {X : Type 0} → (X → Bool) → List X → Type 0
-LastPasses {X} p xs = (x : X) × (last_of xs ≡ Some x) × (p x ≡ true)
-
-last_passes : {X : Type 0} (p : X → Bool) (x : X) (xs : List X) → list_all p (x ∷ xs) ≡ true → LastPasses p (x ∷ xs)
-unfolding LastPasses
-last_passes p x [] e = (x, refl, (both (p x) true e).0)
-last_passes p x (y ∷ ys) e = last_passes p y ys (both (p x) (list_all p (y ∷ ys)) e).1
-
--- where some end passes, the last element does
-last_run-last : {X : Type 0} (p : X → Bool) (xs : List X) → (last_run p xs ≡ []) ⊎ LastPasses p xs
-unfolding LastPasses
-last_run-last p [] = inl refl
-last_run-last {X} p (x ∷ xs) = by_test (list_all p (x ∷ xs)) refl (last_run-last p xs)
-  where
-    more : (ys : List X) → LastPasses p ys → LastPasses p (x ∷ ys)
-    more [] h = let none = h.1 in absurd (cc)
-    more (y ∷ ys) h = h
-
-    by_test : (b : Bool) → list_all p (x ∷ xs) ≡ b → (last_run p xs ≡ []) ⊎ LastPasses p xs → ((if b then x ∷ xs else last_run p xs) ≡ []) ⊎ LastPasses p (x ∷ xs)
-    by_test true e later = inr (last_passes p x xs e)
-    by_test false e (inl none) = inl none
-    by_test false e (inr some) = inr (more xs some)
 
 module _ (pool : Types) (inner : ℕ → List Record → Message) where
   -- the records that count for a field are good and fit it
@@ -75,15 +36,8 @@ module _ (pool : Types) (inner : ℕ → List Record → Message) where
       (t room : ℕ) (s : Shape) (all : List FieldView) (f : FieldView) (rs : List Record) → AllGood pool (a_message t) room rs
       → AllByRecursion (λ r. IsGood pool (a_message t) room r × (fits f r ≡ true)) (counting_as inner s all f rs)
   counting_as-good t room (shape.OneofMember o) all f rs h =
-      all_last_run (IsGood pool (a_message t) room) (fits f) (filter (fits_any (members o all)) rs) (good_filter (fits_any (members o all)) rs h)
-    where
-      good_filter : (p : Record → Bool) (rs : List Record) → AllGood pool (a_message t) room rs → AllGood pool (a_message t) room (filter p rs)
-      good_filter p [] h = tt
-      good_filter p (r ∷ rs) h = by_test (p r) (good_filter p rs h.1)
-        where
-          by_test : (b : Bool) → AllGood pool (a_message t) room (filter p rs) → AllGood pool (a_message t) room (if b then r ∷ filter p rs else filter p rs)
-          by_test true later = (h.0, later)
-          by_test false later = later
+      all_last_run (IsGood pool (a_message t) room) (fits f) (filter (fits_any (members o all)) rs)
+      (all_weaker _ (IsGood pool (a_message t) room) (λ r w. w.0) (filter (fits_any (members o all)) rs) (all_filter (IsGood pool (a_message t) room) (fits_any (members o all)) rs h))
   counting_as-good t room shape.Implicit all f rs h = all_filter (IsGood pool (a_message t) room) (fits f) rs h
   counting_as-good t room shape.Explicit all f rs h = all_filter (IsGood pool (a_message t) room) (fits f) rs h
   counting_as-good t room (shape.List p) all f rs h = all_filter (IsGood pool (a_message t) room) (fits f) rs h
@@ -149,12 +103,6 @@ module _ (pool : Types) (all : List FieldView) (top : ℕ) (last : ℕ → Optio
   )
 
 -- THE FIELDS THAT RECORDS GIVE
-
-same_number : (f : FieldView) (r : Record) → fits f r ≡ true → r.number ≡ f.number
-same_number f r e = same r.number f.number (both (r.number == f.number) (fits_type f (wire_type r.payload)) e).0
-  where
-    same : (a b : ℕ) → (a == b) ≡ true → a ≡ b
-    same a b q = grind (arith, nat_tests)
 
 member_last :
     (inner : ℕ → List Record → Message) (s : Shape) (k : Kind) (all : List FieldView) (f : FieldView) (rs : List Record) (h : Holding) (o : ℕ) → oneof_of s ≡ Some o
@@ -232,12 +180,12 @@ module _ (pool : Types) (rules : IsPool pool) (inner : ℕ → List Record → M
       let stored : IfSome (held inner f cs) (IsStored pool f.shape f.kind room) = held-stored pool inner levels inside t room f.shape f.kind cs l key count in
       if_some (held inner f cs) (Stands pool all room (last_number all rs) f.number)
       (λ g e.
-        let w : IsStored pool f.shape f.kind room g = at_some (held inner f cs) (IsStored pool f.shape f.kind room) g stored e in
-        record {
-          allowed = subst (λ (o : Option FieldView). IsSomeAnd o (λ x. IsOfShape x.shape g × IsHeld pool x.shape x.kind g)) (sym found) (w.shaped, w.held);
-          depth = w.depth;
-          last_of_oneof = λ o q. member_last inner f.shape f.kind all f rs g o (sym (oneof_at-shape all f.number f found) ∙ q) e;
-        })
+      let w : IsStored pool f.shape f.kind room g = at_some (held inner f cs) (IsStored pool f.shape f.kind room) g stored e in
+      record {
+        allowed = subst (λ (o : Option FieldView). IsSomeAnd o (λ x. IsOfShape x.shape g × IsHeld pool x.shape x.kind g)) (sym found) (w.shaped, w.held);
+        depth = w.depth;
+        last_of_oneof = λ o q. member_last inner f.shape f.kind all f rs g o (sym (oneof_at-shape all f.number f found) ∙ q) e;
+      })
 
   fields_held-stand :
       (t room : ℕ) (fs : List FieldView) (rs : List Record) → room ≤ levels → AllByRecursion (λ f. field_numbered f.number (message_fields pool t) ≡ Some f) fs

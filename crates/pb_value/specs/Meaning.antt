@@ -13,14 +13,14 @@ use Rattle.pb_value.specs.WellFormed.{IsWellFormed}
 
 -- records that can stand in a text of a message type, within a depth: their numbers, payloads and lengths are in range, and they are sound for
 -- the type
-pub record StandIn (pool : Types) (m depth : ℕ) (rs : List Record) : Type 0 where
+pub record AreSoundInRange (pool : Types) (m depth : ℕ) (rs : List Record) : Type 0 where
   pub in_range : AreInRange rs
   pub writable : AreWritable rs
   pub sound : AllSound (schema_of pool) (a_message m) depth rs
 
 -- the value of such records is well formed, where the depth is at most 100
 abbrev pub ValueIsWellFormed : Types → Type 0
-ValueIsWellFormed pool = (m depth : ℕ) (rs : List Record) → depth ≤ 100 → StandIn pool m depth rs → IsWellFormed pool m (value pool m rs)
+ValueIsWellFormed pool = (m depth : ℕ) (rs : List Record) → depth ≤ 100 → AreSoundInRange pool m depth rs → IsWellFormed pool m (value pool m rs)
 
 -- so is every value that derives from bytes
 abbrev pub DerivedIsWellFormed : Types → Type 0
