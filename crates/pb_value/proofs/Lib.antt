@@ -8,7 +8,9 @@ pub mod NoCause
 pub mod ChangeLemmas
 pub mod FieldViews
 pub mod InnerLemmas
+pub mod NameOrder
 mod Table
 mod Rows
+mod InnerRows
 mod Texts
 mod Forms
