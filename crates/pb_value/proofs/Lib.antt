@@ -9,8 +9,10 @@ pub mod ChangeLemmas
 pub mod OneofLemmas
 pub mod FieldViews
 pub mod InnerLemmas
+pub mod NameOrder
 mod Table
 mod Rows
+mod InnerRows
 mod Texts
 mod Forms
 pub mod ListLemmas
