@@ -11,6 +11,8 @@ mod judge;
 mod laws;
 mod lookup;
 mod oneof;
+#[cfg(test)]
+mod tests;
 mod unknown;
 
 pub use body::{Body, Content, MapKey, Value};
