@@ -21,7 +21,7 @@ by_ordering P n k x y z Equal h a b c = b h
 by_ordering P n k x y z Greater h a b c = c h
 
 -- a fact of a choice by the order of two numbers
-by_order : {A : Type 0} (P : A → Type 0) (n k : ℕ) (x y z : A) → (n < k → P x) → (n ≡ k → P y) → (k < n → P z) → P (match_ordering (nat_cmp n k) x y z)
+pub by_order : {A : Type 0} (P : A → Type 0) (n k : ℕ) (x y z : A) → (n < k → P x) → (n ≡ k → P y) → (k < n → P z) → P (match_ordering (nat_cmp n k) x y z)
 by_order P n k x y z = by_ordering P n k x y z (nat_cmp n k) (ranks n k)
 
 AreFields-drop_field : (pool : Types) (all : List FieldView) (n : ℕ) (fs : Fields) → AreFields pool all fs → AreFields pool all (drop_field n fs)
@@ -98,7 +98,7 @@ if_some : {A : Type 0} (o : Option A) (P : A → Type 0) → ((a : A) → o ≡ 
 if_some None P f = tt
 if_some (Some a) P f = f a refl
 
-at_some : {A : Type 0} (o : Option A) (P : A → Type 0) (a : A) → IfSome o P → o ≡ Some a → P a
+pub at_some : {A : Type 0} (o : Option A) (P : A → Type 0) (a : A) → IfSome o P → o ≡ Some a → P a
 at_some None P a h e = absurd (cc)
 at_some (Some b) P a h e = let same : b ≡ a = cc in subst P same h
 
@@ -130,7 +130,7 @@ fields_depth-put_field n h (field k g fs) top a b =
     (λ _. let more = fields_depth-put_field n h fs top a (omega arith) in omega arith)
 
 -- what `member_set` says
-oneof_at-member : (all : List FieldView) (o n : ℕ) → is_member_at o (field_numbered n all) ≡ false → oneof_at all n ≢ Some o
+pub oneof_at-member : (all : List FieldView) (o n : ℕ) → is_member_at o (field_numbered n all) ≡ false → oneof_at all n ≢ Some o
 oneof_at-member all o n e = told (field_numbered n all) e
   where
     own : (s : Shape) → is_member o s ≡ false → oneof_of s ≢ Some o
@@ -147,7 +147,7 @@ oneof_at-member all o n e = told (field_numbered n all) e
     told None e = λ q. cc
     told (Some f) e = own f.shape e
 
-member-oneof_at : (all : List FieldView) (o n : ℕ) → is_member_at o (field_numbered n all) ≡ true → oneof_at all n ≡ Some o
+pub member-oneof_at : (all : List FieldView) (o n : ℕ) → is_member_at o (field_numbered n all) ≡ true → oneof_at all n ≡ Some o
 member-oneof_at all o n e = told (field_numbered n all) e
   where
     same : (a b : ℕ) → (a == b) ≡ true → b ≡ a
@@ -229,7 +229,7 @@ unfolding NoOther
 oneof_at-None all n no_fields e = tt
 oneof_at-None all n (field k g fs) e = ((λ _ o q. absurd (cc)), oneof_at-None all n fs e)
 
-oneof_at-shape : (all : List FieldView) (n : ℕ) (f : FieldView) → field_numbered n all ≡ Some f → oneof_at all n ≡ oneof_of f.shape
+pub oneof_at-shape : (all : List FieldView) (n : ℕ) (f : FieldView) → field_numbered n all ≡ Some f → oneof_at all n ≡ oneof_of f.shape
 oneof_at-shape all n f e = ap (λ (x : Option FieldView). option_and_then (λ (g : FieldView). oneof_of g.shape) x) e
 
 way_given : (all : List FieldView) (o n : ℕ) (fs : Fields) (k : Option ℕ) → oneof_at all n ≡ Some o → MemberSays all o fs k → NoOther all n (drop_some (other_than n k) fs)

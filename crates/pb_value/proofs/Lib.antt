@@ -11,3 +11,4 @@ mod Table
 mod Rows
 mod Texts
 mod Forms
+mod Choice

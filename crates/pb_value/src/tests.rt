@@ -2,6 +2,7 @@
 //! the encoding guide or were worked out by hand.
 
 mod changes;
+mod choice;
 mod data;
 mod refusals;
 mod sample;
