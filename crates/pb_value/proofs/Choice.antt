@@ -48,39 +48,41 @@ get_field-other_member :
     (all : List FieldView) (o n k : ℕ) (h : Holding) (fs : Fields) → HasOneMemberEach all fs → get_field n fs ≡ Some h → oneof_at all n ≡ Some o → oneof_at all k ≡ Some o
     → k ≢ n → get_field k fs ≡ None
 get_field-other_member all o n k h no_fields w there own e d = refl
-get_field-other_member all o n k h (field j g fs) w there own e d = by_place (eqb_tells j n) (eqb_tells k j)
+get_field-other_member all o n k h (field j g fs) w there own e d =
+    by_place (eqb_tells j n) (eqb_tells k j) (λ t. get_field-other_member all o n k h fs w.1 t own e d)
   where
     alone : oneof_at all j ≡ Some o → HasNoMember all o fs
     alone q = at_some (oneof_at all j) (λ (p : ℕ). HasNoMember all p fs) o w.0 q
 
-    by_place : ((j == n ≡ true) × (j ≡ n)) ⊎ ((j == n ≡ false) × (j ≢ n)) → ((k == j ≡ true) × (k ≡ j)) ⊎ ((k == j ≡ false) × (k ≢ j)) → get_field k (field j g fs) ≡ None
-    by_place (inl a) b =
+    by_place :
+        ((j == n ≡ true) × (j ≡ n)) ⊎ ((j == n ≡ false) × (j ≢ n)) → ((k == j ≡ true) × (k ≡ j)) ⊎ ((k == j ≡ false) × (k ≢ j))
+        → (get_field n fs ≡ Some h → get_field k fs ≡ None) → get_field k (field j g fs) ≡ None
+    by_place (inl a) b later =
         get_field-later k j g fs (λ q. d (q ∙ a.1)) ∙ get_field-no_member all o k fs (alone (ap (λ (i : ℕ). oneof_at all i) a.1 ∙ own)) e
-    by_place (inr a) (inl b) =
+    by_place (inr a) (inl b) later =
         absurd (not_both h (get_field n fs) (sym (get_field-later n j g fs (λ q. a.1 (sym q))) ∙ there)
         (get_field-no_member all o n fs (alone (ap (λ (i : ℕ). oneof_at all i) (sym b.1) ∙ e)) own))
-    by_place (inr a) (inr b) =
-        get_field-later k j g fs b.1
-        ∙ get_field-other_member all o n k h fs w.1 (sym (get_field-later n j g fs (λ q. a.1 (sym q))) ∙ there) own e d
+    by_place (inr a) (inr b) later = get_field-later k j g fs b.1 ∙ later (sym (get_field-later n j g fs (λ q. a.1 (sym q))) ∙ there)
 
 -- a member that is there is the one that is set
 member_set-there :
     (all : List FieldView) (o n : ℕ) (h : Holding) (fs : Fields) → HasOneMemberEach all fs → get_field n fs ≡ Some h → oneof_at all n ≡ Some o → member_set all o fs ≡ Some n
 member_set-there all o n h no_fields w there own = absurd (not_both h None there refl)
-member_set-there all o n h (field j g fs) w there own = by_test (is_member_at o (field_numbered j all)) refl (eqb_tells j n)
+member_set-there all o n h (field j g fs) w there own =
+    by_test (is_member_at o (field_numbered j all)) refl (eqb_tells j n) (λ t. member_set-there all o n h fs w.1 t own)
   where
     later : j ≢ n → get_field n fs ≡ Some h
     later d = sym (get_field-later n j g fs (λ q. d (sym q))) ∙ there
 
     by_test :
         (b : Bool) → is_member_at o (field_numbered j all) ≡ b → ((j == n ≡ true) × (j ≡ n)) ⊎ ((j == n ≡ false) × (j ≢ n))
-        → (if b then Some j else member_set all o fs) ≡ Some n
-    by_test true t (inl a) = ap (λ (i : ℕ). Some i) a.1
-    by_test true t (inr a) =
+        → (get_field n fs ≡ Some h → member_set all o fs ≡ Some n) → (if b then Some j else member_set all o fs) ≡ Some n
+    by_test true t (inl a) rest = ap (λ (i : ℕ). Some i) a.1
+    by_test true t (inr a) rest =
         absurd (not_both h (get_field n fs) (later a.1)
         (get_field-no_member all o n fs (at_some (oneof_at all j) (λ (p : ℕ). HasNoMember all p fs) o w.0 (member-oneof_at all o j t)) own))
-    by_test false t (inl a) = absurd (oneof_at-member all o j t (ap (λ (i : ℕ). oneof_at all i) a.1 ∙ own))
-    by_test false t (inr a) = member_set-there all o n h fs w.1 (later a.1) own
+    by_test false t (inl a) rest = absurd (oneof_at-member all o j t (ap (λ (i : ℕ). oneof_at all i) a.1 ∙ own))
+    by_test false t (inr a) rest = rest (later a.1)
 
 -- WHAT IS SET
 
@@ -104,8 +106,8 @@ get_field-set_at :
     → set_cause pool m n h ≡ None → get_field n (set_at (message_fields pool m) n h fs) ≡ Some h
 get_field-set_at pool m n o h fs f found own allowed =
     let judged =
-        subst (λ (x : Option FieldView). at_field x (λ (g : FieldView). or_else (content_cause g.shape g.kind h) (or_else (parts_cause pool g.shape g.kind h) (unless (nat_le (holding_depth h) 100) TooDeep))) ≡ None)
-        found allowed in
+    subst (λ (x : Option FieldView). at_field x (λ (g : FieldView). or_else (content_cause g.shape g.kind h) (or_else (parts_cause pool g.shape g.kind h) (unless (nat_le (holding_depth h) 100) TooDeep))) ≡ None)
+    found allowed in
     rw found (rw (kept f.shape o f.kind h _ own judged) (get_field-put_field n h (drop_some (gives_way (message_fields pool m) f.shape n fs) fs)))
 
 -- A MEMBER THAT WAS SET, IN A MESSAGE

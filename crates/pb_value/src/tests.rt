@@ -1,6 +1,14 @@
 //! Messages of a sample schema: which bodies and changes are refused, and each call once. Expected values are those of
 //! the encoding guide or were worked out by hand.
 
+/// At most three things, each there or not.
+macro_rules! rows {
+    () => { [None, None, None] };
+    ($first:expr) => { [Some($first), None, None] };
+    ($first:expr, $second:expr) => { [Some($first), Some($second), None] };
+    ($first:expr, $second:expr, $third:expr) => { [Some($first), Some($second), Some($third)] };
+}
+
 mod changes;
 mod choice;
 mod data;
@@ -8,7 +16,7 @@ mod refusals;
 mod sample;
 
 use super::*;
-use data::{Held, Key, Part, body_of, key_of, nest, none, two, value_of};
+use data::{Held, Key, Part, body_of, key_of, nest, value_of};
 use pb_schema::{EnumId, Kind, MessageId};
 use sample::sample;
 use std::test::Fail;
@@ -29,8 +37,8 @@ fn empty_message(rt: HostRuntime) -> Result<(), Fail> {
 fn what_a_message_holds(rt: HostRuntime) -> Result<(), Fail> {
     let alloc = rt.alloc();
     let schema = sample(alloc)?;
-    let fields = two((1, Held::One(Part::I32(5))), (8, Held::One(Part::Nest(0))));
-    let message = schema.made(alloc, body_of(alloc, fields, none())?)?;
+    let fields = rows!((1, Held::One(Part::I32(5))), (8, Held::One(Part::Nest(0))));
+    let message = schema.made(alloc, body_of(alloc, fields, rows![])?)?;
     let number = Content::One(Value::I32(5));
     assert!(rt; message.get(1).ok_or("a")? == &number);
     assert!(rt; message.get(7).is_none() && message.get(99).is_none());
@@ -38,7 +46,7 @@ fn what_a_message_holds(rt: HostRuntime) -> Result<(), Fail> {
     assert_eq!(rt; message.which_oneof(0), Some(8));
     assert_eq!(rt; message.which_oneof(1), None);
     assert_eq!(rt; message.which_oneof(2), None);
-    assert!(rt; message.body() == &body_of(alloc, fields, none())?);
+    assert!(rt; message.body() == &body_of(alloc, fields, rows![])?);
     Ok(())
 }
 

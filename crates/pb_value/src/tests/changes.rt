@@ -1,6 +1,6 @@
 //! What changes leave, and which are refused.
 
-use super::data::{Fields, Held, Key, Part, Record, body_of, content_of, none, one, three, two};
+use super::data::{Fields, Held, Key, Part, Record, body_of, content_of};
 use super::sample::{Schema, sample};
 use crate::{DynamicMessage, ValueError};
 use std::alloc::Global;
@@ -13,28 +13,37 @@ enum Change {
     Clear(u32),
 }
 
-/// The fields of a message before a change, the change, and the fields after it, or why it is refused.
+/// The fields of a message before a change, the change, the fields after it, and why it is refused, if it is.
 #[derive(Clone, Copy)]
 struct ChangeRow {
     before: Fields,
     change: Change,
-    after: Result<Fields, ValueError>,
+    after: Fields,
+    cause: Option<ValueError>,
 }
 
-fn done(before: Fields, change: Change, after: Fields) -> ChangeRow {
-    ChangeRow {
-        before,
-        change,
-        after: Ok(after),
-    }
+/// Fields, a change, and the fields after it.
+macro_rules! done {
+    ([$($before:expr),*], $change:expr, [$($after:expr),*]) => {
+        ChangeRow {
+            before: rows![$($before),*],
+            change: $change,
+            after: rows![$($after),*],
+            cause: None,
+        }
+    };
 }
 
-fn refused(before: Fields, change: Change, cause: ValueError) -> ChangeRow {
-    ChangeRow {
-        before,
-        change,
-        after: Err(cause),
-    }
+/// Fields, a change, and why it is refused.
+macro_rules! refused {
+    ([$($before:expr),*], $change:expr, $cause:ident) => {
+        ChangeRow {
+            before: rows![$($before),*],
+            change: $change,
+            after: rows![$($before),*],
+            cause: Some(ValueError::$cause),
+        }
+    };
 }
 
 /// Why the change is refused, if it is.
@@ -55,15 +64,20 @@ fn apply(
 /// A record that no change touches.
 const UNKNOWN: (u32, Record) = (99, Record::Varint(7));
 
+/// Whether a change does what its row says. Where there is no memory the message must be as before, and the test ends.
 fn is_done(alloc: Global, schema: &Schema, row: ChangeRow) -> Result<bool, Fail> {
-    let mut message = schema.made(alloc, body_of(alloc, row.before, one(UNKNOWN))?)?;
+    let mut message = schema.made(alloc, body_of(alloc, row.before, rows![UNKNOWN])?)?;
     let told = apply(alloc, &mut message, row.change)?;
-    let (fields, cause) = match row.after {
-        Ok(fields) => (fields, None),
-        Err(cause) => (row.before, Some(cause)),
+    let fields = if told.is_none() {
+        row.after
+    } else {
+        row.before
     };
-    let body = body_of(alloc, fields, one(UNKNOWN))?;
-    Ok(told == cause && message.into_body() == body)
+    let is_left = message.into_body() == body_of(alloc, fields, rows![UNKNOWN])?;
+    if is_left && told == Some(ValueError::Memory) {
+        return Ok(None.ok_or("no memory")?);
+    }
+    Ok(is_left && told == row.cause)
 }
 
 /// The first row whose change does something else.
@@ -77,167 +91,169 @@ fn first_other(alloc: Global, rows: &[ChangeRow]) -> Result<Option<usize>, Fail>
     Ok(None)
 }
 
-const NUMBER: (u32, Held) = (1, Held::One(Part::I32(5)));
+const FIVE: Held = Held::One(Part::I32(5));
 
-const X: (u32, Held) = (7, Held::One(Part::U32(5)));
+const U32_FIVE: Held = Held::One(Part::U32(5));
 
-const Y: (u32, Held) = (8, Held::One(Part::Nest(0)));
+const U32_ZERO: Held = Held::One(Part::U32(0));
 
-const OTHER: (u32, Held) = (18, Held::One(Part::U64(5)));
+const U64_FIVE: Held = Held::One(Part::U64(5));
+
+const EMPTY: Held = Held::One(Part::Nest(0));
+
+const SOME_TEXT: Held = Held::One(Part::Text("x"));
+
+const LIST: Held = Held::Pair(Part::I32(1), Part::I32(0));
+
+const MAP: Held = Held::Entry(Key::Text("k"), Part::I32(0));
+
+const NUMBER: (u32, Held) = (1, FIVE);
+
+const TEXT: (u32, Held) = (2, SOME_TEXT);
+
+const X: (u32, Held) = (7, U32_FIVE);
+
+const X_ZERO: (u32, Held) = (7, U32_ZERO);
+
+const Y: (u32, Held) = (8, EMPTY);
+
+const OTHER: (u32, Held) = (18, U64_FIVE);
+
+const SETS: [ChangeRow; 13] = [
+    done!([], Change::Set(1, FIVE), [NUMBER]),
+    done!([NUMBER], Change::Set(2, SOME_TEXT), [NUMBER, TEXT]),
+    done!([TEXT], Change::Set(1, FIVE), [NUMBER, TEXT]),
+    done!(
+        [NUMBER],
+        Change::Set(1, Held::One(Part::I32(6))),
+        [(1, Held::One(Part::I32(6)))]
+    ),
+    done!([], Change::Set(6, LIST), [(6, LIST)]),
+    done!([], Change::Set(9, MAP), [(9, MAP)]),
+    // what an absent field has too clears the field
+    done!([], Change::Set(1, Held::One(Part::I32(0))), []),
+    done!(
+        [NUMBER, TEXT],
+        Change::Set(1, Held::One(Part::I32(0))),
+        [TEXT]
+    ),
+    done!(
+        [NUMBER, (6, LIST)],
+        Change::Set(6, Held::NoValues),
+        [NUMBER]
+    ),
+    done!(
+        [NUMBER, (9, MAP)],
+        Change::Set(9, Held::NoEntries),
+        [NUMBER]
+    ),
+    // and no more than that
+    done!(
+        [],
+        Change::Set(10, Held::One(Part::Bool(false))),
+        [(10, Held::One(Part::Bool(false)))]
+    ),
+    done!(
+        [],
+        Change::Set(4, Held::One(Part::F64(0x8000_0000_0000_0000))),
+        [(4, Held::One(Part::F64(0x8000_0000_0000_0000)))]
+    ),
+    done!(
+        [],
+        Change::Set(3, Held::One(Part::Nest(99))),
+        [(3, Held::One(Part::Nest(99)))]
+    ),
+];
 
 #[test]
 fn sets(rt: HostRuntime) -> Result<(), Fail> {
-    let text = (2, Held::One(Part::Text("x")));
-    let list = (6, Held::Pair(Part::I32(1), Part::I32(0)));
-    let map = (9, Held::Entry(Key::Text("k"), Part::I32(0)));
-    let rows = [
-        done(none(), Change::Set(1, NUMBER.1), one(NUMBER)),
-        done(one(NUMBER), Change::Set(2, text.1), two(NUMBER, text)),
-        done(one(text), Change::Set(1, NUMBER.1), two(NUMBER, text)),
-        done(
-            one(NUMBER),
-            Change::Set(1, Held::One(Part::I32(6))),
-            one((1, Held::One(Part::I32(6)))),
-        ),
-        done(none(), Change::Set(6, list.1), one(list)),
-        done(none(), Change::Set(9, map.1), one(map)),
-        // what an absent field has too clears the field
-        done(none(), Change::Set(1, Held::One(Part::I32(0))), none()),
-        done(
-            two(NUMBER, text),
-            Change::Set(1, Held::One(Part::I32(0))),
-            one(text),
-        ),
-        done(
-            two(NUMBER, list),
-            Change::Set(6, Held::NoValues),
-            one(NUMBER),
-        ),
-        done(
-            two(NUMBER, map),
-            Change::Set(9, Held::NoEntries),
-            one(NUMBER),
-        ),
-        // and no more than that
-        done(
-            none(),
-            Change::Set(10, Held::One(Part::Bool(false))),
-            one((10, Held::One(Part::Bool(false)))),
-        ),
-        done(
-            none(),
-            Change::Set(4, Held::One(Part::F64(1 << 63))),
-            one((4, Held::One(Part::F64(1 << 63)))),
-        ),
-        done(
-            none(),
-            Change::Set(3, Held::One(Part::Nest(99))),
-            one((3, Held::One(Part::Nest(99)))),
-        ),
-    ];
-    assert_eq!(rt; first_other(rt.alloc(), &rows)?, None);
+    assert_eq!(rt; first_other(rt.alloc(), &SETS)?, None);
     Ok(())
 }
+
+const MEMBERS: [ChangeRow; 8] = [
+    done!([X], Change::Set(8, EMPTY), [Y]),
+    done!(
+        [NUMBER, Y, OTHER],
+        Change::Set(7, U32_FIVE),
+        [NUMBER, X, OTHER]
+    ),
+    done!([X], Change::Set(7, U32_ZERO), [X_ZERO]),
+    done!([Y], Change::Set(7, U32_ZERO), [X_ZERO]),
+    done!([X], Change::Set(18, U64_FIVE), [X, OTHER]),
+    done!([X, OTHER], Change::Set(1, FIVE), [NUMBER, X, OTHER]),
+    refused!(
+        [X],
+        Change::Set(8, Held::One(Part::Holder(0))),
+        DefaultStored
+    ),
+    refused!([Y], Change::Set(7, EMPTY), WrongKind),
+];
 
 #[test]
 fn members(rt: HostRuntime) -> Result<(), Fail> {
-    let zero = (7, Held::One(Part::U32(0)));
-    let rows = [
-        done(one(X), Change::Set(8, Y.1), one(Y)),
-        done(
-            three(NUMBER, Y, OTHER),
-            Change::Set(7, X.1),
-            three(NUMBER, X, OTHER),
-        ),
-        done(one(X), Change::Set(7, zero.1), one(zero)),
-        done(one(Y), Change::Set(7, zero.1), one(zero)),
-        done(one(X), Change::Set(18, OTHER.1), two(X, OTHER)),
-        done(
-            two(X, OTHER),
-            Change::Set(1, NUMBER.1),
-            three(NUMBER, X, OTHER),
-        ),
-        refused(
-            one(X),
-            Change::Set(8, Held::One(Part::Holder(0))),
-            ValueError::DefaultStored,
-        ),
-        refused(one(Y), Change::Set(7, Y.1), ValueError::WrongKind),
-    ];
-    assert_eq!(rt; first_other(rt.alloc(), &rows)?, None);
+    assert_eq!(rt; first_other(rt.alloc(), &MEMBERS)?, None);
     Ok(())
 }
+
+const CLEARS: [ChangeRow; 5] = [
+    done!([NUMBER, X, OTHER], Change::Clear(7), [NUMBER, OTHER]),
+    done!([NUMBER, X], Change::Clear(1), [X]),
+    done!([NUMBER, X], Change::Clear(8), [NUMBER, X]),
+    done!([NUMBER], Change::Clear(99), [NUMBER]),
+    done!([], Change::Clear(1), []),
+];
 
 #[test]
 fn clears(rt: HostRuntime) -> Result<(), Fail> {
-    let rows = [
-        done(
-            three(NUMBER, X, OTHER),
-            Change::Clear(7),
-            two(NUMBER, OTHER),
-        ),
-        done(two(NUMBER, X), Change::Clear(1), one(X)),
-        done(two(NUMBER, X), Change::Clear(8), two(NUMBER, X)),
-        done(one(NUMBER), Change::Clear(99), one(NUMBER)),
-        done(none(), Change::Clear(1), none()),
-    ];
-    assert_eq!(rt; first_other(rt.alloc(), &rows)?, None);
+    assert_eq!(rt; first_other(rt.alloc(), &CLEARS)?, None);
     Ok(())
 }
 
+const REFUSED_SETS: [ChangeRow; 11] = [
+    refused!([NUMBER], Change::Set(99, FIVE), NoSuchField),
+    refused!([NUMBER], Change::Set(0, FIVE), NoSuchField),
+    refused!(
+        [NUMBER],
+        Change::Set(1, Held::One(Part::Text("x"))),
+        WrongKind
+    ),
+    refused!(
+        [NUMBER],
+        Change::Set(6, Held::Pair(Part::I32(1), Part::Text("x"))),
+        WrongKind
+    ),
+    refused!([NUMBER], Change::Set(6, FIVE), WrongShape),
+    refused!([NUMBER], Change::Set(1, Held::NoValues), WrongShape),
+    refused!(
+        [],
+        Change::Set(9, Held::Entry(Key::I32(1), Part::I32(1))),
+        WrongKind
+    ),
+    refused!(
+        [],
+        Change::Set(3, Held::One(Part::Holder(0))),
+        DefaultStored
+    ),
+    refused!(
+        [],
+        Change::Set(19, Held::Pair(Part::Holder(1), Part::Holder(0))),
+        DefaultStored
+    ),
+    refused!(
+        [NUMBER],
+        Change::Set(3, Held::One(Part::Nest(100))),
+        TooDeep
+    ),
+    refused!(
+        [NUMBER],
+        Change::Set(12, Held::Entry(Key::U32(1), Part::Nest(100))),
+        TooDeep
+    ),
+];
+
 #[test]
 fn refused_sets(rt: HostRuntime) -> Result<(), Fail> {
-    let zeros = Held::Pair(Part::Holder(1), Part::Holder(0));
-    let wrong = Held::Pair(Part::I32(1), Part::Text("x"));
-    let rows = [
-        refused(
-            one(NUMBER),
-            Change::Set(99, NUMBER.1),
-            ValueError::NoSuchField,
-        ),
-        refused(
-            one(NUMBER),
-            Change::Set(0, NUMBER.1),
-            ValueError::NoSuchField,
-        ),
-        refused(
-            one(NUMBER),
-            Change::Set(1, Held::One(Part::Text("x"))),
-            ValueError::WrongKind,
-        ),
-        refused(one(NUMBER), Change::Set(6, wrong), ValueError::WrongKind),
-        refused(
-            one(NUMBER),
-            Change::Set(6, NUMBER.1),
-            ValueError::WrongShape,
-        ),
-        refused(
-            one(NUMBER),
-            Change::Set(1, Held::NoValues),
-            ValueError::WrongShape,
-        ),
-        refused(
-            none(),
-            Change::Set(9, Held::Entry(Key::I32(1), Part::I32(1))),
-            ValueError::WrongKind,
-        ),
-        refused(
-            none(),
-            Change::Set(3, Held::One(Part::Holder(0))),
-            ValueError::DefaultStored,
-        ),
-        refused(none(), Change::Set(19, zeros), ValueError::DefaultStored),
-        refused(
-            one(NUMBER),
-            Change::Set(3, Held::One(Part::Nest(100))),
-            ValueError::TooDeep,
-        ),
-        refused(
-            one(NUMBER),
-            Change::Set(12, Held::Entry(Key::U32(1), Part::Nest(100))),
-            ValueError::TooDeep,
-        ),
-    ];
-    assert_eq!(rt; first_other(rt.alloc(), &rows)?, None);
+    assert_eq!(rt; first_other(rt.alloc(), &REFUSED_SETS)?, None);
     Ok(())
 }

@@ -67,22 +67,6 @@ pub(super) type Fields = Rows<(u32, Held)>;
 /// Unknown records with their numbers.
 pub(super) type Records = Rows<(u32, Record)>;
 
-pub(super) fn none<T>() -> Rows<T> {
-    [None, None, None]
-}
-
-pub(super) fn one<T>(first: T) -> Rows<T> {
-    [Some(first), None, None]
-}
-
-pub(super) fn two<T>(first: T, second: T) -> Rows<T> {
-    [Some(first), Some(second), None]
-}
-
-pub(super) fn three<T>(first: T, second: T, third: T) -> Rows<T> {
-    [Some(first), Some(second), Some(third)]
-}
-
 pub(super) fn value_of(alloc: Global, part: Part) -> Result<Value, AllocError> {
     Ok(match part {
         Part::I32(number) => Value::I32(number),
