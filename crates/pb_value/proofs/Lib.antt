@@ -7,6 +7,7 @@ pub mod CheckLemmas
 pub mod NoCause
 pub mod ChangeLemmas
 pub mod FieldViews
+pub mod InnerLemmas
 mod Table
 mod Rows
 mod Texts

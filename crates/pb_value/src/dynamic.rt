@@ -1,15 +1,17 @@
 //! Messages that are well formed by a pool.
 
-use crate::body::{Body, Content, Value};
+use crate::body::{Body, Content, MapKey, Value};
 use crate::change::{clear_field, store};
 use crate::check::{check_content, check_message, check_parts};
 use crate::depth::{MAX_LEVELS, content_within};
 use crate::error::ValueError;
 use crate::lookup::field_at;
+use crate::message_ref::{MessageRef, print};
 use crate::oneof::set_member;
 use pb_schema::{Kind, MessageId, Pool, Shape};
 use std::alloc::Global;
 use std::collections::BTreeMap;
+use std::fmt;
 use std::marker::Model;
 
 /// A well-formed message of a type of a pool.
@@ -45,8 +47,9 @@ impl<'p> DynamicMessage<'p> {
     ghost use Rattle.pb_value.specs.Data.{empty, fields_of, get_field, drop_field};
     ghost use Rattle.pb_value.specs.Change.{with_fields, set_at, set_cause, Allowed};
     ghost use Rattle.pb_value.specs.Oneof.{member_set};
+    ghost use Rattle.pb_value.specs.Inner.{only_datum, datum_at, datum_under, inner_message};
     ghost use Rattle.pb_value.specs.declared.error.ValueError.TheVariants.{Memory};
-    ghost use Rattle.pb_value.specs.View.{body_view, content_view};
+    ghost use Rattle.pb_value.specs.View.{body_view, content_view, key_view};
     ghost use Rattle.pb_value.specs.Dynamic.{Dynamic};
     ghost use Rattle.pb_value.specs.Cause.{message_cause, FailsWith};
     ghost use Rattle.pb_value.specs.WellFormed.{IsWellFormed};
@@ -133,6 +136,34 @@ impl<'p> DynamicMessage<'p> {
         set_member(self.pool, self.kind, &self.body.fields, oneof)
     }
 
+    /// The message as a borrowed view.
+    pub fn view(&self) -> MessageRef<'_>
+        ensures { result ≡ self.now }
+    {
+        MessageRef::new(self.pool, self.kind, &self.body)
+    }
+
+    /// The message that the field of a number holds. There is none where the field is absent or holds something else.
+    pub fn message(&self, number: u32) -> Option<MessageRef<'_>>
+        ensures { result ≡ inner_message only_datum number self.now }
+    {
+        self.view().message(number)
+    }
+
+    /// The message at an index, counted from 0, of the list that the field of a number holds.
+    pub fn message_at(&self, number: u32, index: usize) -> Option<MessageRef<'_>>
+        ensures { result ≡ inner_message (datum_at index) number self.now }
+    {
+        self.view().message_at(number, index)
+    }
+
+    /// The message under a key of the map that the field of a number holds.
+    pub fn message_of(&self, number: u32, key: &MapKey) -> Option<MessageRef<'_>>
+        ensures { result ≡ inner_message (datum_under (key_view key.now)) number self.now }
+    {
+        self.view().message_of(number, key)
+    }
+
     /// Sets the field of a number. A default of implicit presence, an empty list and an empty map clear the field, and a member
     /// of a oneof takes the place of the one that is set. Nothing else changes, and nothing at all where the call fails.
     ///
@@ -175,6 +206,12 @@ impl<'p> DynamicMessage<'p> {
         ensures { result ≡ is_some (get_field number (fields_of self.now.body)) }
     {
         self.body.fields.contains_key(&number)
+    }
+}
+
+impl fmt::Debug for DynamicMessage<'_> {
+    fn fmt<W: fmt::Write>(&self, f: &mut fmt::Formatter<W>) -> fmt::Result {
+        print(f, "DynamicMessage", &self.view())
     }
 }
 

@@ -10,6 +10,7 @@ mod error;
 mod judge;
 mod laws;
 mod lookup;
+mod message_ref;
 mod oneof;
 #[cfg(test)]
 mod tests;
@@ -19,3 +20,4 @@ pub use body::{Body, Content, MapKey, Value};
 pub use dynamic::{DynamicMessage, default_value};
 pub use error::ValueError;
 pub use laws::{canonical_spelling, key_order, no_cause, one_value};
+pub use message_ref::MessageRef;
