@@ -14,6 +14,7 @@ mod choice;
 mod data;
 mod refusals;
 mod sample;
+mod views;
 
 use super::*;
 use data::{Held, Key, Part, body_of, key_of, nest, value_of};
