@@ -7,6 +7,8 @@ pub mod CheckLemmas
 pub mod NoCause
 pub mod ChangeLemmas
 pub mod FieldViews
+pub mod PartViews
+pub mod PartLemmas
 mod Table
 mod Rows
 mod Texts

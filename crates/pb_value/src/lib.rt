@@ -7,10 +7,12 @@ mod check;
 mod depth;
 mod dynamic;
 mod error;
+mod insert;
 mod judge;
 mod laws;
 mod lookup;
 mod oneof;
+mod push;
 mod unknown;
 
 pub use body::{Body, Content, MapKey, Value};
