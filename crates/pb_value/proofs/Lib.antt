@@ -8,6 +8,8 @@ pub mod NoCause
 pub mod ChangeLemmas
 pub mod FieldViews
 pub mod InnerLemmas
+pub mod PartViews
+pub mod PartLemmas
 mod Table
 mod Rows
 mod Texts

@@ -7,11 +7,13 @@ mod check;
 mod depth;
 mod dynamic;
 mod error;
+mod insert;
 mod judge;
 mod laws;
 mod lookup;
 mod message_ref;
 mod oneof;
+mod push;
 #[cfg(test)]
 mod tests;
 mod unknown;

@@ -4,9 +4,9 @@
 /// At most three things, each there or not.
 macro_rules! rows {
     () => { [None, None, None] };
-    ($first:expr) => { [Some($first), None, None] };
-    ($first:expr, $second:expr) => { [Some($first), Some($second), None] };
-    ($first:expr, $second:expr, $third:expr) => { [Some($first), Some($second), Some($third)] };
+    ($first:expr $(,)?) => { [Some($first), None, None] };
+    ($first:expr, $second:expr $(,)?) => { [Some($first), Some($second), None] };
+    ($first:expr, $second:expr, $third:expr $(,)?) => { [Some($first), Some($second), Some($third)] };
 }
 
 mod changes;

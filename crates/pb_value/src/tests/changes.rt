@@ -1,8 +1,8 @@
 //! What changes leave, and which are refused.
 
-use super::data::{Fields, Held, Key, Part, Record, body_of, content_of};
+use super::data::{Fields, Held, Key, Part, Record, body_of, content_of, key_of, value_of};
 use super::sample::{Schema, sample};
-use crate::{DynamicMessage, ValueError};
+use crate::{DynamicMessage, Value, ValueError};
 use std::alloc::Global;
 use std::test::Fail;
 
@@ -10,6 +10,8 @@ use std::test::Fail;
 #[derive(Clone, Copy)]
 enum Change {
     Set(u32, Held),
+    Push(u32, Part),
+    Insert(u32, Key, Part),
     Clear(u32),
 }
 
@@ -24,7 +26,7 @@ struct ChangeRow {
 
 /// Fields, a change, and the fields after it.
 macro_rules! done {
-    ([$($before:expr),*], $change:expr, [$($after:expr),*]) => {
+    ([$($before:expr),* $(,)?], $change:expr, [$($after:expr),* $(,)?] $(,)?) => {
         ChangeRow {
             before: rows![$($before),*],
             change: $change,
@@ -36,7 +38,7 @@ macro_rules! done {
 
 /// Fields, a change, and why it is refused.
 macro_rules! refused {
-    ([$($before:expr),*], $change:expr, $cause:ident) => {
+    ([$($before:expr),* $(,)?], $change:expr, $cause:ident $(,)?) => {
         ChangeRow {
             before: rows![$($before),*],
             change: $change,
@@ -54,6 +56,11 @@ fn apply(
 ) -> Result<Option<ValueError>, Fail> {
     Ok(match change {
         Change::Set(number, held) => message.set(number, content_of(alloc, held)?).err(),
+        Change::Push(number, part) => message.push(number, value_of(alloc, part)?).err(),
+        Change::Insert(number, key, part) => {
+            let key = key_of(alloc, key)?;
+            message.insert(number, key, value_of(alloc, part)?).err()
+        }
         Change::Clear(number) => {
             message.clear(number);
             None
@@ -255,5 +262,99 @@ const REFUSED_SETS: [ChangeRow; 11] = [
 #[test]
 fn refused_sets(rt: HostRuntime) -> Result<(), Fail> {
     assert_eq!(rt; first_other(rt.alloc(), &REFUSED_SETS)?, None);
+    Ok(())
+}
+
+const FOUR: Part = Part::I32(4);
+
+const TEXTS: (u32, Held) = (13, Held::Single(Part::Text("x")));
+
+const PUSHES: [ChangeRow; 12] = [
+    done!([], Change::Push(6, FOUR), [(6, Held::Single(FOUR))]),
+    done!(
+        [NUMBER, (6, Held::Single(FOUR))],
+        Change::Push(6, Part::I32(0)),
+        [NUMBER, (6, Held::Pair(FOUR, Part::I32(0)))]
+    ),
+    done!(
+        [TEXTS],
+        Change::Push(13, Part::Text("")),
+        [(13, Held::Pair(Part::Text("x"), Part::Text("")))]
+    ),
+    done!(
+        [],
+        Change::Push(19, Part::Nest(99)),
+        [(19, Held::Single(Part::Nest(99)))]
+    ),
+    refused!([NUMBER], Change::Push(99, FOUR), NoSuchField),
+    refused!([NUMBER], Change::Push(6, Part::Text("x")), WrongKind),
+    refused!([NUMBER], Change::Push(1, Part::Text("x")), WrongKind),
+    refused!([NUMBER], Change::Push(1, FOUR), WrongShape),
+    refused!([], Change::Push(9, FOUR), WrongShape),
+    refused!([], Change::Push(3, Part::Holder(0)), WrongShape),
+    refused!([TEXTS], Change::Push(19, Part::Holder(0)), DefaultStored),
+    refused!([TEXTS], Change::Push(19, Part::Nest(100)), TooDeep),
+];
+
+#[test]
+fn pushes(rt: HostRuntime) -> Result<(), Fail> {
+    assert_eq!(rt; first_other(rt.alloc(), &PUSHES)?, None);
+    Ok(())
+}
+
+const K: Key = Key::Text("k");
+
+const INSERTS: [ChangeRow; 13] = [
+    done!([], Change::Insert(9, K, FOUR), [(9, Held::Entry(K, FOUR))]),
+    done!(
+        [(9, Held::Entry(K, FOUR))],
+        Change::Insert(9, K, Part::I32(0)),
+        [(9, Held::Entry(K, Part::I32(0)))]
+    ),
+    done!(
+        [(9, Held::Entry(K, FOUR))],
+        Change::Insert(9, Key::Text("a"), Part::I32(8)),
+        [(9, Held::Entries((Key::Text("a"), Part::I32(8)), (K, FOUR)))]
+    ),
+    done!(
+        [NUMBER],
+        Change::Insert(12, Key::U32(1), Part::Nest(99)),
+        [NUMBER, (12, Held::Entry(Key::U32(1), Part::Nest(99)))]
+    ),
+    refused!([NUMBER], Change::Insert(99, K, FOUR), NoSuchField),
+    refused!([NUMBER], Change::Insert(9, K, Part::Text("v")), WrongKind),
+    refused!([NUMBER], Change::Insert(9, Key::I32(1), FOUR), WrongKind),
+    refused!([NUMBER], Change::Insert(6, K, Part::Text("v")), WrongKind),
+    refused!([NUMBER], Change::Insert(6, K, FOUR), WrongShape),
+    refused!([NUMBER], Change::Insert(1, K, FOUR), WrongShape),
+    refused!([NUMBER], Change::Insert(3, K, Part::Holder(0)), WrongShape),
+    refused!(
+        [NUMBER],
+        Change::Insert(12, Key::U32(1), Part::Holder(0)),
+        DefaultStored
+    ),
+    refused!(
+        [NUMBER],
+        Change::Insert(12, Key::U32(1), Part::Nest(100)),
+        TooDeep
+    ),
+];
+
+#[test]
+fn inserts(rt: HostRuntime) -> Result<(), Fail> {
+    assert_eq!(rt; first_other(rt.alloc(), &INSERTS)?, None);
+    Ok(())
+}
+
+/// What stood under the key is given back.
+#[test]
+fn insert_gives_back(rt: HostRuntime) -> Result<(), Fail> {
+    let alloc = rt.alloc();
+    let schema = sample(alloc)?;
+    let mut message = schema.empty(alloc);
+    for (number, stood) in [(7, None), (8, Some(Value::I32(7)))] {
+        let key = key_of(alloc, K)?;
+        assert!(rt; message.insert(9, key, Value::I32(number))? == stood);
+    }
     Ok(())
 }

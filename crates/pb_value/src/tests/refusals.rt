@@ -16,21 +16,21 @@ struct BodyRow {
 
 /// A body of these fields that is a message.
 macro_rules! good {
-    ($($field:expr),*) => {
+    ($($field:expr),* $(,)?) => {
         BodyRow { fields: rows![$($field),*], unknown: rows![], cause: None }
     };
 }
 
 /// A body of these fields that is refused.
 macro_rules! refused {
-    ($cause:ident: $($field:expr),*) => {
+    ($cause:ident: $($field:expr),* $(,)?) => {
         BodyRow { fields: rows![$($field),*], unknown: rows![], cause: Some(ValueError::$cause) }
     };
 }
 
 /// A body of these unknown records, and why it is refused, if it is.
 macro_rules! records {
-    ($cause:expr; $($record:expr),*) => {
+    ($cause:expr; $($record:expr),* $(,)?) => {
         BodyRow { fields: rows![], unknown: rows![$($record),*], cause: $cause }
     };
 }
