@@ -407,7 +407,7 @@ stored_done all s n h (body fs us) put new k kept first dropped way rises =
     ∙ ap (λ (gs : Fields). body gs us) (drop_some-put_field all s n 0 h fs k way rises
     ∙ sym (ap (λ (b : Bool). if b then drop_field n fs else put_field n h (drop_some (gives_way all s n fs) fs)) kept))
 
-some_of : {A : Type 0} (o : Option A) (P : A → Type 0) → IsSomeAnd o P → (a : A) × (o ≡ Some a) × P a
+pub some_of : {A : Type 0} (o : Option A) (P : A → Type 0) → IsSomeAnd o P → (a : A) × (o ≡ Some a) × P a
 some_of None P h = absurd h
 some_of (Some a) P h = (a, refl, h)
 
@@ -425,3 +425,7 @@ IsWellFormed-set pool m n s h v ok w =
 pub either_way : {T F : Type 0} (r : Result T F) (P : Message → Type 0) (new changed old : Message) → OnOk r (new ≡ changed) → OnErr r (new ≡ old) → P changed → P old → P new
 either_way (Ok x) P new changed old a b p q = subst P (sym a) p
 either_way (Err e) P new changed old a b p q = subst P (sym b) q
+
+pub on_err_always : {T F : Type 0} (r : Result T F) (P : Type 0) → P → OnErr r P
+on_err_always (Ok x) P p = tt
+on_err_always (Err e) P p = p

@@ -10,6 +10,8 @@ pub mod OneofLemmas
 pub mod FieldViews
 pub mod InnerLemmas
 pub mod NameOrder
+pub mod PartViews
+pub mod PartLemmas
 mod Table
 mod Rows
 mod InnerRows
@@ -22,3 +24,4 @@ pub mod FittingLemmas
 pub mod EntryLemmas
 pub mod HeldLemmas
 pub mod ValueLemmas
+mod Choice

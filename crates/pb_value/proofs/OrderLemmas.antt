@@ -77,7 +77,7 @@ then_by Less p q e = refl
 then_by Equal p q e = e
 then_by Greater p q e = refl
 
-slice_cmp-bytes_cmp : (xs ys : List ℕ) → slice_cmp nat_cmp xs ys ≡ bytes_cmp xs ys
+pub slice_cmp-bytes_cmp : (xs ys : List ℕ) → slice_cmp nat_cmp xs ys ≡ bytes_cmp xs ys
 slice_cmp-bytes_cmp [] [] = refl
 slice_cmp-bytes_cmp [] (y ∷ ys) = refl
 slice_cmp-bytes_cmp (x ∷ xs) [] = refl

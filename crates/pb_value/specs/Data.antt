@@ -65,6 +65,11 @@ abbrev pub put_entry : Scalar → Datum → Entries → Entries
 put_entry k d no_entries = entry k d no_entries
 put_entry k d (entry l e es) = match_ordering (key_cmp k l) (entry k d (entry l e es)) (entry l d es) (entry l e (put_entry k d es))
 
+-- what stands under a key
+abbrev pub get_entry : Scalar → Entries → Option Datum
+get_entry k no_entries = None
+get_entry k (entry l e es) = match_ordering (key_cmp k l) (get_entry k es) (Some e) (get_entry k es)
+
 -- entries over others
 abbrev pub put_entries : Entries → Entries → Entries
 put_entries no_entries es = es

@@ -23,7 +23,7 @@ pub(crate) fn clear_field(message: &mut Body, number: u32)
 }
 
 /// Puts a content at a number.
-fn put_field(message: &mut Body, number: u32, content: Content) -> Result<(), ValueError>
+pub(crate) fn put_field(message: &mut Body, number: u32, content: Content) -> Result<(), ValueError>
     ensures ok { OnOk result (body_view message.new ≡ with_fields (body_view message.old) (put_field number (content_view content) (fields_of (body_view message.old)))) }
     ensures err { OnErr result (body_view message.new ≡ body_view message.old) }
     ensures memory { IfErr result (λ e. e ≡ Memory) }

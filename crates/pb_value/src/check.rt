@@ -64,8 +64,14 @@ fn check_stored(
     add_member(shape, members)
 }
 
+/// Whether a value is a well-formed one of a kind.
 #[cycle(check)]
-fn check_value(alloc: Global, pool: &Pool, kind: Kind, value: &Value) -> Result<(), ValueError>
+pub(crate) fn check_value(
+    alloc: Global,
+    pool: &Pool,
+    kind: Kind,
+    value: &Value,
+) -> Result<(), ValueError>
     requires { NamesType (length pool.now.messages) (length pool.now.enums) kind }
     ensures { JudgesOrFails result (datum_cause pool.now kind (value_view value.now)) (IsDatum pool.now kind (value_view value.now)) }
 {

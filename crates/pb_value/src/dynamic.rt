@@ -5,9 +5,11 @@ use crate::change::{clear_field, store};
 use crate::check::{check_content, check_message, check_parts};
 use crate::depth::{MAX_LEVELS, content_within};
 use crate::error::ValueError;
+use crate::insert::{check_entry, insert_entry};
 use crate::lookup::field_at;
 use crate::message_ref::{MessageRef, print};
 use crate::oneof::set_member;
+use crate::push::{check_element, push_element};
 use pb_schema::{Kind, MessageId, Pool, Shape};
 use std::alloc::Global;
 use std::collections::BTreeMap;
@@ -45,11 +47,11 @@ impl<'p> DynamicMessage<'p> {
     ghost use Rattle.std.specs.Prelude.{◌≡◌, ◌<◌, length, [], option_map, is_some, IfOk, IfErr, OnOk, OnErr, MatchResult, None};
     ghost use Rattle.pb_schema.specs.Types.{message_fields};
     ghost use Rattle.pb_value.specs.Data.{empty, fields_of, get_field, drop_field};
-    ghost use Rattle.pb_value.specs.Change.{with_fields, set_at, set_cause, Allowed};
+    ghost use Rattle.pb_value.specs.Change.{with_fields, set_at, set_cause, Allowed, push_at, push_cause, insert_at, entry_at, insert_cause};
     ghost use Rattle.pb_value.specs.Oneof.{member_set};
     ghost use Rattle.pb_value.specs.Inner.{only_datum, datum_at, datum_under, inner_message};
     ghost use Rattle.pb_value.specs.declared.error.ValueError.TheVariants.{Memory};
-    ghost use Rattle.pb_value.specs.View.{body_view, content_view, key_view};
+    ghost use Rattle.pb_value.specs.View.{body_view, content_view, key_view, value_view};
     ghost use Rattle.pb_value.specs.Dynamic.{Dynamic};
     ghost use Rattle.pb_value.specs.Cause.{message_cause, FailsWith};
     ghost use Rattle.pb_value.specs.WellFormed.{IsWellFormed};
@@ -176,6 +178,38 @@ impl<'p> DynamicMessage<'p> {
     {
         let shape = self.allows(number, &content)?;
         store(self.pool, self.kind, &mut self.body, shape, number, content)
+    }
+
+    /// Puts a value at the end of the list of a number. Nothing else changes, and nothing at all where the call fails.
+    ///
+    /// The value alone is judged: at the field the least cause is told, then what is wrong inside its messages, and the depth
+    /// last. An element is stored also where it is its kind's default.
+    pub fn push(&mut self, number: u32, value: Value) -> Result<(), ValueError>
+        ensures ok { OnOk result (self.new ≡ record self.old { body = with_fields self.old.body (push_at number (value_view value) (fields_of self.old.body)) }) }
+        ensures err { OnErr result (self.new ≡ self.old) }
+        ensures judged { MatchResult result (λ _. push_cause self.old.pool self.old.kind number (value_view value) ≡ None) (FailsWith (push_cause self.old.pool self.old.kind number (value_view value))) }
+    {
+        check_element(self.alloc, self.pool, self.kind, number, &value)?;
+        push_element(self.alloc, &mut self.body, number, value)
+    }
+
+    /// Puts a value under a key of the map of a number, in place of the one that stood there, which is the answer. Nothing else
+    /// changes, and nothing at all where the call fails.
+    ///
+    /// The key and the value alone are judged, as by [`push`](DynamicMessage::push).
+    pub fn insert(
+        &mut self,
+        number: u32,
+        key: MapKey,
+        value: Value,
+    ) -> Result<Option<Value>, ValueError>
+        ensures ok { OnOk result (self.new ≡ record self.old { body = with_fields self.old.body (insert_at number (key_view key) (value_view value) (fields_of self.old.body)) }) }
+        ensures stood { IfOk result (λ v. option_map value_view v ≡ entry_at number (key_view key) (fields_of self.old.body)) }
+        ensures err { OnErr result (self.new ≡ self.old) }
+        ensures judged { MatchResult result (λ _. insert_cause self.old.pool self.old.kind number (key_view key) (value_view value) ≡ None) (FailsWith (insert_cause self.old.pool self.old.kind number (key_view key) (value_view value))) }
+    {
+        check_entry(self.alloc, self.pool, self.kind, number, &key, &value)?;
+        insert_entry(self.alloc, &mut self.body, number, key, value)
     }
 
     /// The shape of the field of a number, where a content can be set there.

@@ -8,15 +8,19 @@ mod depth;
 mod dynamic;
 mod error;
 mod full_name;
+mod insert;
 mod judge;
 mod laws;
 mod lookup;
 mod message_ref;
 mod oneof;
+mod push;
+#[cfg(test)]
+mod tests;
 mod unknown;
 
 pub use body::{Body, Content, MapKey, Value};
 pub use dynamic::{DynamicMessage, default_value};
 pub use error::ValueError;
-pub use laws::{canonical_spelling, key_order, no_cause, one_value};
+pub use laws::{canonical_spelling, key_order, no_cause, one_value, well_formed_values};
 pub use message_ref::MessageRef;
