@@ -1,6 +1,6 @@
 //! Which bodies are messages.
 
-use super::data::{Fields, Held, Key, Part, Record, Records, body_of, nest};
+use super::data::{Fields, Held, Key, Part, Record, Records, body_of};
 use super::sample::{Schema, sample};
 use crate::ValueError;
 use std::alloc::Global;
@@ -222,8 +222,5 @@ const LEVELS: [BodyRow; 8] = [
 #[test]
 fn levels(rt: HostRuntime) -> Result<(), Fail> {
     assert_eq!(rt; are_told(rt.alloc(), &LEVELS)?, None);
-    let schema = sample(rt.alloc())?;
-    assert!(rt; schema.made(rt.alloc(), nest(rt.alloc(), 100)?).is_ok());
-    assert!(rt; schema.made(rt.alloc(), nest(rt.alloc(), 101)?).is_err());
     Ok(())
 }
