@@ -10,8 +10,10 @@ pub mod FieldViews
 pub mod InnerLemmas
 pub mod PartViews
 pub mod PartLemmas
+pub mod NameOrder
 mod Table
 mod Rows
+mod InnerRows
 mod Texts
 mod Forms
 mod Choice

@@ -7,6 +7,7 @@ mod check;
 mod depth;
 mod dynamic;
 mod error;
+mod full_name;
 mod insert;
 mod judge;
 mod laws;

@@ -1,6 +1,7 @@
 //! Messages that are borrowed, whole or from inside others.
 
 use crate::body::{Body, Content, MapKey, Value};
+use crate::full_name::FullName;
 use crate::lookup::field_at;
 use crate::oneof::set_member;
 use pb_schema::{Kind, MessageId, Pool};
@@ -133,12 +134,12 @@ pub(crate) fn print<W: fmt::Write>(
     message: &MessageRef,
 ) -> fmt::Result {
     f.debug_struct(name)
-        .field("type", &type_name(message.pool, message.kind))
+        .field("type", &FullName::new(message.pool, message.kind))
         .field("body", message.body)
         .finish()
 }
 
-ghost use Rattle.std.specs.Prelude.{◌≡◌, ◌<◌, length, option_map, IfSome, slice_get};
+ghost use Rattle.std.specs.Prelude.{◌≡◌, ◌<◌, length, option_map, IfSome};
 ghost use Rattle.pb_value.specs.Inner.{type_named, as_message, IsPart};
 ghost use Rattle.pb_value.specs.Inner.{only_datum as only, datum_at as element, datum_under as under};
 ghost use Rattle.pb_value.specs.View.{value_view, content_view as view_of_content, key_view as view_of_key};
@@ -171,14 +172,6 @@ fn value_under<'a>(content: &'a Content, key: &MapKey) -> Option<&'a Value>
         Content::Map(entries) => entries.get(key),
         _ => None,
     }
-}
-
-/// The full name of a message type.
-fn type_name(pool: &Pool, kind: MessageId) -> &str
-    requires { kind.0 < length pool.now.messages }
-    ensures { option_map (λ t. t.name) (slice_get pool.now.messages kind.0) ≡ Some result.now }
-{
-    pool.messages()[kind.0].name.as_str()
 }
 
 /// The message type that the kind of the field of a number names.

@@ -1,0 +1,87 @@
+//! How the name of a message type is printed.
+
+ghost use Rattle.std.specs.Prelude.{◌≡◌, ◌<◌, length, option_map, slice_get, Some, IfSome};
+ghost use Rattle.pb_schema.specs.Nesting.{parent_of};
+ghost use Rattle.pb_schema.specs.Rules.{IsPool};
+
+use pb_schema::{MessageId, Pool};
+use std::fmt;
+
+/// A message type, which prints as its full name.
+#[derive(Drop)]
+pub(crate) struct FullName<'a> {
+    pool: &'a Pool,
+    kind: MessageId,
+    ghost within: { kind.0 < length pool.now.messages },
+}
+
+impl<'a> FullName<'a> {
+    pub(crate) fn new(pool: &'a Pool, kind: MessageId) -> FullName<'a>
+        requires { kind.0 < length pool.now.messages }
+    {
+        FullName { pool, kind }
+    }
+}
+
+impl fmt::Debug for FullName<'_> {
+    fn fmt<W: fmt::Write>(&self, f: &mut fmt::Formatter<W>) -> fmt::Result {
+        write_name(f, self.pool, self.kind)
+    }
+}
+
+/// Writes the full name of a message type: the names of its package and of the messages that it is declared in, and its own.
+fn write_name<W: fmt::Write>(f: &mut fmt::Formatter<W>, pool: &Pool, kind: MessageId) -> fmt::Result
+    requires { kind.0 < length pool.now.messages }
+{
+    match type_around(pool, kind) {
+        Some(parent) => {
+            write_name(f, pool, parent)?;
+            f.write_str(".")?;
+        }
+        None => write_package(f, pool, kind)?,
+    }
+    f.write_str(name_of(pool, kind))
+}
+
+/// Writes the package of a message type and a dot, if there is one.
+fn write_package<W: fmt::Write>(
+    f: &mut fmt::Formatter<W>,
+    pool: &Pool,
+    kind: MessageId,
+) -> fmt::Result
+    requires { kind.0 < length pool.now.messages }
+{
+    let Some(file) = pool.files().get(pool.messages()[kind.0].file) else {
+        return Ok(());
+    };
+    if file.package.is_empty() {
+        return Ok(());
+    }
+    f.write_str(file.package.as_str())?;
+    f.write_str(".")
+}
+
+/// The simple name of a message type.
+fn name_of(pool: &Pool, kind: MessageId) -> &str
+    requires { kind.0 < length pool.now.messages }
+    ensures { option_map (λ t. t.name) (slice_get pool.now.messages kind.0) ≡ Some result.now }
+{
+    pool.messages()[kind.0].name.as_str()
+}
+
+/// The message that a message type is declared in.
+fn declared_in(pool: &Pool, kind: MessageId) -> Option<MessageId>
+    requires { kind.0 < length pool.now.messages }
+    ensures parent { option_map (λ p. p.0) result ≡ parent_of pool.now.messages kind.0 }
+    ensures rules { IsPool pool.now }
+{
+    pool.messages()[kind.0].parent
+}
+
+/// The same, which stands before the type.
+fn type_around(pool: &Pool, kind: MessageId) -> Option<MessageId>
+    requires { kind.0 < length pool.now.messages }
+    ensures { IfSome result (λ p. p.0 < kind.0) }
+{
+    declared_in(pool, kind)
+}
