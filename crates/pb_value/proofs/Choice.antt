@@ -1,6 +1,6 @@
 -- After a member of a oneof was set, it is the member that is set, and no other one is there.
 use Rattle.std.proofs.Common.{◌≡◌, ◌≢◌, ℕ, List, Option, Some, None, refl, sym, ap, ◌∙◌, subst, arith, inl, inr}
-use Rattle.std.specs.Prelude.{◌⊎◌, Bool, true, false, ◌==◌, if◌then◌else◌, nat_le, option_map}
+use Rattle.std.specs.Prelude.{◌⊎◌, Bool, true, false, ◌==◌, if◌then◌else◌, nat_le}
 use Rattle.std.proofs.lemmas.Bool.Decides.{eqb_tells}
 use Rattle.pb_schema.specs.declared.types.Kind.{Kind}
 use Rattle.pb_schema.specs.declared.types.Shape.{Shape}
@@ -8,9 +8,9 @@ use Rattle.pb_schema.specs.declared.types.Shape.TheVariants as shape
 use Rattle.pb_schema.specs.Types.{FieldView, Types, message_fields, field_numbered}
 use Rattle.pb_value.specs.declared.error.ValueError.{ValueError}
 use Rattle.pb_value.specs.declared.error.ValueError.TheVariants.{WrongKind, WrongShape, TooDeep}
-use Rattle.pb_value.specs.Data.{Holding, one, list, map, Datums, no_datums, datum, Entries, no_entries, entry, Fields, no_fields, field, Message, body, fields_of, get_field, put_field, holding_depth}
+use Rattle.pb_value.specs.Data.{Holding, one, list, map, Fields, no_fields, field, Message, body, fields_of, get_field, put_field, holding_depth}
 use Rattle.pb_value.specs.Dynamic.{Dynamic}
-use Rattle.pb_value.specs.WellFormed.{RisesFrom, HasNoMember, HasOneMemberEach, oneof_of, oneof_at, IsWellFormed}
+use Rattle.pb_value.specs.WellFormed.{HasNoMember, HasOneMemberEach, oneof_of, oneof_at, IsWellFormed}
 use Rattle.pb_value.specs.Judge.{holds_kind, is_absence}
 use Rattle.pb_value.specs.Cause.{or_else, unless, at_field, content_cause, parts_cause}
 use Rattle.pb_value.specs.Oneof.{is_member_at, member_set}

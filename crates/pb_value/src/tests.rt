@@ -29,7 +29,7 @@ fn empty_message(rt: HostRuntime) -> Result<(), Fail> {
     assert!(rt; message.body().fields.is_empty());
     assert!(rt; message.body().unknown.is_empty());
     assert_eq!(rt; message.message_type(), schema.kind);
-    assert_eq!(rt; message.pool().messages().len(), 1);
+    assert_eq!(rt; message.pool().messages().len(), 2);
     assert!(rt; message.which_oneof(0).is_none());
     Ok(())
 }

@@ -1,6 +1,6 @@
 //! Which bodies are messages.
 
-use super::data::{Fields, Held, Key, Part, Record, Records, body_of, nest};
+use super::data::{Fields, Held, Key, Part, Record, Records, body_of};
 use super::sample::{Schema, sample};
 use crate::ValueError;
 use std::alloc::Global;
@@ -70,7 +70,7 @@ const KNOWN: Option<ValueError> = Some(ValueError::KnownAsUnknown);
 
 const NONE: Option<ValueError> = Some(ValueError::NoSuchField);
 
-const KINDS_AND_SHAPES: [BodyRow; 20] = [
+const KINDS_AND_SHAPES: [BodyRow; 23] = [
     good![],
     good![(1, NUMBER), (2, TEXT), (4, Held::One(Part::F64(1)))],
     good![(6, Held::Pair(Part::I32(0), Part::I32(-1)))],
@@ -91,6 +91,10 @@ const KINDS_AND_SHAPES: [BodyRow; 20] = [
     refused![WrongShape: (1, Held::Single(Part::I32(5)))],
     refused![WrongShape: (1, Held::NoValues)],
     refused![WrongShape: (1, Held::NoEntries)],
+    // what a part holds is judged by its own type
+    good![(20, Held::One(Part::Nest(0)))],
+    refused![WrongKind: (20, Held::One(Part::Holder(5)))],
+    refused![NoSuchField: (20, Held::One(Part::Nest(1)))],
 ];
 
 #[test]
@@ -222,8 +226,5 @@ const LEVELS: [BodyRow; 8] = [
 #[test]
 fn levels(rt: HostRuntime) -> Result<(), Fail> {
     assert_eq!(rt; are_told(rt.alloc(), &LEVELS)?, None);
-    let schema = sample(rt.alloc())?;
-    assert!(rt; schema.made(rt.alloc(), nest(rt.alloc(), 100)?).is_ok());
-    assert!(rt; schema.made(rt.alloc(), nest(rt.alloc(), 101)?).is_err());
     Ok(())
 }

@@ -25,13 +25,13 @@ impl Schema {
     }
 }
 
-/// enum E { Z = 0; NEG = -1; } message T { int32 a = 1; string b = 2; T c = 3; double d = 4; repeated int32 e = 6;
+/// package a.b; enum E { Z = 0; NEG = -1; } message T { int32 a = 1; string b = 2; T c = 3; double d = 4; repeated int32 e = 6;
 /// oneof o { uint32 x = 7; T y = 8; } map<string, int32> m = 9; optional bool p = 10; sint32 s = 11; map<uint32, T> n = 12;
 /// repeated string u = 13; repeated sint32 v = 14 [packed = false]; bytes w = 15; float g = 16; E k = 17;
-/// oneof q { fixed64 f = 18; } repeated T r = 19; }
+/// oneof q { fixed64 f = 18; } repeated T r = 19; message N { string z = 1; } N l = 20; }
 pub(super) fn sample(alloc: Global) -> Result<Schema, Fail> {
     let pool = Pool::from_parts(alloc, files(alloc)?, messages(alloc)?, enums(alloc)?)?;
-    let kind = pool.message_by_name("T").ok_or("T")?;
+    let kind = pool.message_by_name("a.b.T").ok_or("T")?;
     Ok(Schema { pool, kind })
 }
 
@@ -39,25 +39,49 @@ fn files(alloc: Global) -> Result<Vec<FileInfo>, AllocError> {
     let mut files = Vec::new(alloc);
     files.push(FileInfo {
         name: String::from_str(alloc, "t.proto")?,
-        package: String::new(alloc),
+        package: String::from_str(alloc, "a.b")?,
         imports: Vec::new(alloc),
     })?;
     Ok(files)
 }
 
 fn messages(alloc: Global) -> Result<Vec<MessageType>, AllocError> {
-    let mut oneofs = Vec::new(alloc);
-    oneofs.push(String::from_str(alloc, "o")?)?;
-    oneofs.push(String::from_str(alloc, "q")?)?;
     let mut messages = Vec::new(alloc);
     messages.push(MessageType {
         name: String::from_str(alloc, "T")?,
         file: 0,
         parent: None,
         fields: fields(alloc)?,
-        oneofs,
+        oneofs: oneofs(alloc)?,
     })?;
+    messages.push(inner(alloc)?)?;
     Ok(messages)
+}
+
+/// The message N in T.
+fn inner(alloc: Global) -> Result<MessageType, AllocError> {
+    let mut fields = Vec::new(alloc);
+    fields.push(Field {
+        name: String::from_str(alloc, "z")?,
+        number: 1,
+        kind: Kind::Text,
+        shape: Shape::Implicit,
+    })?;
+    Ok(MessageType {
+        name: String::from_str(alloc, "N")?,
+        file: 0,
+        parent: Some(MessageId(0)),
+        fields,
+        oneofs: Vec::new(alloc),
+    })
+}
+
+fn oneofs(alloc: Global) -> Result<Vec<String>, AllocError> {
+    let mut oneofs = Vec::new(alloc);
+    for name in ["o", "q"] {
+        oneofs.push(String::from_str(alloc, name)?)?;
+    }
+    Ok(oneofs)
 }
 
 fn fields(alloc: Global) -> Result<Vec<Field>, AllocError> {
@@ -81,6 +105,7 @@ fn fields(alloc: Global) -> Result<Vec<Field>, AllocError> {
         ("k", 17, Kind::Enum(EnumId(0)), Shape::Implicit),
         ("f", 18, Kind::Fixed64, Shape::OneofMember(1)),
         ("r", 19, this, Shape::List { packed: false }),
+        ("l", 20, Kind::Message(MessageId(1)), Shape::Explicit),
     ];
     let mut fields = Vec::new(alloc);
     for (name, number, kind, shape) in rows {

@@ -53,7 +53,7 @@ fn whole_view(rt: HostRuntime) -> Result<(), Fail> {
     let view = message.view();
     assert!(rt; view.body() == message.body());
     assert_eq!(rt; view.message_type(), schema.kind);
-    assert_eq!(rt; view.pool().messages().len(), 1);
+    assert_eq!(rt; view.pool().messages().len(), 2);
     assert!(rt; view.has(2) && view.has(8) && !view.has(7));
     assert_eq!(rt; view.which_oneof(0), Some(8));
     let inner = view.message(8).ok_or("y")?;
@@ -63,20 +63,23 @@ fn whole_view(rt: HostRuntime) -> Result<(), Fail> {
     Ok(())
 }
 
+/// A message prints the full name of its type, and its body.
 #[test]
 fn printed(rt: HostRuntime) -> Result<(), Fail> {
     let alloc = rt.alloc();
     let schema = sample(alloc)?;
-    let fields = rows![(1, Held::One(Part::I32(5)))];
+    let fields = rows![(1, Held::One(Part::I32(5))), (20, Held::One(Part::Nest(0)))];
     let message = schema.made(
         alloc,
         body_of(alloc, fields, rows![(99, Record::Varint(7))])?,
     )?;
+    let shown = format!(in alloc; "{message:?}")?;
     let told =
-        "{ type: \"T\", body: Body { fields: {1: One(I32(5))}, unknown: [(99, Varint(7))] } }";
-    let whole = format!(in alloc; "{message:?}")?;
-    assert!(rt; whole.as_str() == format!(in alloc; "DynamicMessage {told}")?.as_str());
-    let view = format!(in alloc; "{:?}", message.view())?;
-    assert!(rt; view.as_str() == format!(in alloc; "MessageRef {told}")?.as_str());
+        "DynamicMessage { type: a.b.T, body: Body { fields: {1: One(I32(5)), 20: One(Message(Body { fields: {}, unknown: [] }))}, unknown: [(99, Varint(7))] } }";
+    assert_eq!(rt; shown.as_str(), told);
+    let inner = message.message(20).ok_or("l")?;
+    let shown = format!(in alloc; "{inner:?}")?;
+    let told = "MessageRef { type: a.b.T.N, body: Body { fields: {}, unknown: [] } }";
+    assert_eq!(rt; shown.as_str(), told);
     Ok(())
 }
