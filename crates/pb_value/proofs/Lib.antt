@@ -11,5 +11,6 @@ pub mod PartViews
 pub mod PartLemmas
 mod Table
 mod Rows
+mod ChangeRows
 mod Texts
 mod Forms
