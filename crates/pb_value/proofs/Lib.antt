@@ -15,6 +15,7 @@ pub mod PartLemmas
 mod Table
 mod Rows
 mod InnerRows
+mod ChangeRows
 mod Texts
 mod Forms
 pub mod ListLemmas
