@@ -14,9 +14,9 @@ use Rattle.pb_schema.specs.declared.types.Shape.{Shape}
 use Rattle.pb_schema.specs.Types.{FieldView, Types, message_fields, field_numbered}
 use Rattle.pb_schema.specs.Scalar.{Scalar}
 use Rattle.pb_schema.specs.Kinds.{message_of_kind}
-use Rattle.pb_value.specs.Data.{Datum, scalar, message, Datums, no_datums, datum, Entries, no_entries, entry, Holding, one, list, map, Fields, no_fields, field, Message, body, fields_of, get_field, levels_of, levels_in_entry, datums_depth, entries_depth, holding_depth, fields_depth}
+use Rattle.pb_value.specs.Data.{Datum, scalar, message, Datums, no_datums, datum, Entries, no_entries, entry, Holding, one, list, map, Fields, no_fields, field, Message, body, fields_of, get_field, is_same_key, get_entry, levels_of, levels_in_entry, datums_depth, entries_depth, holding_depth, fields_depth}
 use Rattle.pb_value.specs.WellFormed.{IsDatum, AreDatums, AreEntries, IsHeld, AreFields, IsBody, IsWellFormed, key_of, IsOfShape, KeysRise}
-use Rattle.pb_value.specs.Inner.{only_datum, nth_datum, datum_at, is_same_key, entry_datum, datum_under, type_named, IsPart}
+use Rattle.pb_value.specs.Inner.{only_datum, nth_datum, datum_at, datum_under, type_named, IsPart}
 use Rattle.pb_value.specs.View.{key_view, value_view, values_view, entries_view}
 use Rattle.pb_value.specs.KeyOrder.{map_key_cmp}
 use Rattle.pb_value.specs.declared.body.MapKey.{MapKey}
@@ -46,14 +46,14 @@ nth_part pool k (datum e es) zero d w l q =
 nth_part pool k (datum e es) (suc i) d w l q = nth_part pool k es i d w.1 (omega arith) q
 
 entry_part :
-    (pool : Types) (key k : Kind) (x : Scalar) (es : Entries) (d : Datum) → AreEntries pool key k es → entries_depth es ≤ 100 → entry_datum x es ≡ Some d
+    (pool : Types) (key k : Kind) (x : Scalar) (es : Entries) (d : Datum) → AreEntries pool key k es → entries_depth es ≤ 100 → get_entry x es ≡ Some d
     → IsPart pool (message_of_kind k) d
 entry_part pool key k x no_entries d w l q = absurd (cc)
 entry_part pool key k x (entry y e es) d w l q =
     by_test (is_same_key x y) (λ r. entry_part pool key k x es d w.2 (omega arith) r) q
   where
     by_test :
-        (b : Bool) → (entry_datum x es ≡ Some d → IsPart pool (message_of_kind k) d) → (if b then Some e else entry_datum x es) ≡ Some d
+        (b : Bool) → (get_entry x es ≡ Some d → IsPart pool (message_of_kind k) d) → (if b then Some e else get_entry x es) ≡ Some d
         → IsPart pool (message_of_kind k) d
     by_test true later r =
         let same : e ≡ d = cc in
@@ -145,13 +145,13 @@ same_key (map_key.Bool x) (map_key.Bool y) = refl
 same_key (map_key.Text x) (map_key.Text y) = is_eq-slice_cmp (string_bytes x) (string_bytes y)
 same_key a b = refl
 
-pub entry_datum-entries : (k : MapKey) (es : List (MapKey × Value)) → entry_datum (key_view k) (entries_view es) ≡ option_map value_view (lookup (is_at (map_key_cmp k)) es)
-entry_datum-entries k [] = refl
-entry_datum-entries k (e ∷ es) = by_test (is_eq (map_key_cmp k e.0)) (is_same_key (key_view k) (key_view e.0)) (same_key k e.0) (entry_datum-entries k es)
+pub get_entry-entries : (k : MapKey) (es : List (MapKey × Value)) → get_entry (key_view k) (entries_view es) ≡ option_map value_view (lookup (is_at (map_key_cmp k)) es)
+get_entry-entries k [] = refl
+get_entry-entries k (e ∷ es) = by_test (is_eq (map_key_cmp k e.0)) (is_same_key (key_view k) (key_view e.0)) (same_key k e.0) (get_entry-entries k es)
   where
     by_test :
-        (a b : Bool) → a ≡ b → entry_datum (key_view k) (entries_view es) ≡ option_map value_view (lookup (is_at (map_key_cmp k)) es)
-        → (if b then Some (value_view e.1) else entry_datum (key_view k) (entries_view es)) ≡ option_map value_view (if a then Some e.1 else lookup (is_at (map_key_cmp k)) es)
+        (a b : Bool) → a ≡ b → get_entry (key_view k) (entries_view es) ≡ option_map value_view (lookup (is_at (map_key_cmp k)) es)
+        → (if b then Some (value_view e.1) else get_entry (key_view k) (entries_view es)) ≡ option_map value_view (if a then Some e.1 else lookup (is_at (map_key_cmp k)) es)
     by_test true true q later = refl
     by_test false false q later = later
     by_test true false q later = absurd (cc)
@@ -169,7 +169,7 @@ pub nth_datum-found :
     (r : Option (Bor Value)) (i : ℕ) (vs : List Value) → IsItemAt vs i r → option_map (λ x. value_view x.now) r ≡ nth_datum (values_view vs) i
 nth_datum-found r i vs found = value_of_ref r ∙ ap (option_map value_view) (got r i vs found) ∙ sym (nth_datum-values vs i)
 
-pub entry_datum-found :
+pub get_entry-found :
     (r : Option (Bor Value)) (k : MapKey) (es : List (MapKey × Value)) → option_map (λ x. x.now) r ≡ lookup (is_at (map_key_cmp k)) es
-    → option_map (λ x. value_view x.now) r ≡ entry_datum (key_view k) (entries_view es)
-entry_datum-found r k es found = value_of_ref r ∙ ap (option_map value_view) found ∙ sym (entry_datum-entries k es)
+    → option_map (λ x. value_view x.now) r ≡ get_entry (key_view k) (entries_view es)
+get_entry-found r k es found = value_of_ref r ∙ ap (option_map value_view) found ∙ sym (get_entry-entries k es)

@@ -34,19 +34,3 @@ entries_view-insert_entry k x v (e ∷ es) a b =
     told Less later = refl
     told Equal later = refl
     told Greater later = ap (entry (key_view e.0) (value_view e.1)) later
-
-pub entries_view-lookup :
-    (k : Kind) (x : MapKey) (es : List (MapKey × Value)) → IsOfKind k (key_view x) → AreKeys k (entries_view es)
-    → option_map value_view (lookup (is_at (map_key_cmp x)) es) ≡ get_entry (key_view x) (entries_view es)
-entries_view-lookup k x [] a b = refl
-entries_view-lookup k x (e ∷ es) a b =
-    told (map_key_cmp x e.0) (entries_view-lookup k x es a b.1)
-    ∙ ap (λ (o : Ordering). match_ordering o (get_entry (key_view x) (entries_view es)) (Some (value_view e.1)) (get_entry (key_view x) (entries_view es))) (map_key_cmp-key_cmp k x e.0 a b.0)
-  where
-    told :
-        (o : Ordering) → option_map value_view (lookup (is_at (map_key_cmp x)) es) ≡ get_entry (key_view x) (entries_view es)
-        → option_map value_view (cond (is_eq o) (Some e.1) (lookup (is_at (map_key_cmp x)) es))
-        ≡ match_ordering o (get_entry (key_view x) (entries_view es)) (Some (value_view e.1)) (get_entry (key_view x) (entries_view es))
-    told Less later = later
-    told Equal later = refl
-    told Greater later = later

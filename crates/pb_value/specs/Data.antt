@@ -1,8 +1,9 @@
 -- Messages as plain trees: scalars and messages, singly, in lists or under keys. Fields stand by rising number, and the entries of a map by rising key.
-use Rattle.std.specs.Prelude.{ℕ, suc, max, List, [], ◌∷◌, Option, Some, None}
-use Rattle.std.specs.Ordering.{nat_cmp, match_ordering}
+use Rattle.std.specs.Prelude.{ℕ, suc, max, List, [], ◌∷◌, Bool, false, ◌==◌, Option, Some, None, if◌then◌else◌}
+use Rattle.std.specs.Ordering.{nat_cmp, int_eq, is_eq, bool_cmp, match_ordering}
+use Rattle.std.specs.Str.{bytes_eq}
 use Rattle.pb_wire.specs.Record.{Record, records_depth}
-use Rattle.pb_schema.specs.Scalar.{Scalar, key_cmp}
+use Rattle.pb_schema.specs.Scalar.{Scalar, int32, int64, uint32, uint64, boolean, text, key_cmp}
 
 mutual
   pub data Datum : Type 0 where
@@ -65,10 +66,20 @@ abbrev pub put_entry : Scalar → Datum → Entries → Entries
 put_entry k d no_entries = entry k d no_entries
 put_entry k d (entry l e es) = match_ordering (key_cmp k l) (entry k d (entry l e es)) (entry l d es) (entry l e (put_entry k d es))
 
+-- two keys are of one form, and equal
+abbrev pub is_same_key : Scalar → Scalar → Bool
+is_same_key (int32 x) (int32 y) = int_eq x y
+is_same_key (int64 x) (int64 y) = int_eq x y
+is_same_key (uint32 x) (uint32 y) = x == y
+is_same_key (uint64 x) (uint64 y) = x == y
+is_same_key (boolean x) (boolean y) = is_eq (bool_cmp x y)
+is_same_key (text x) (text y) = bytes_eq x y
+is_same_key _ _ = false
+
 -- what stands under a key
 abbrev pub get_entry : Scalar → Entries → Option Datum
-get_entry k no_entries = None
-get_entry k (entry l e es) = match_ordering (key_cmp k l) (get_entry k es) (Some e) (get_entry k es)
+get_entry x no_entries = None
+get_entry x (entry y d es) = if is_same_key x y then Some d else get_entry x es
 
 -- entries over others
 abbrev pub put_entries : Entries → Entries → Entries

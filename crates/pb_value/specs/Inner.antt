@@ -1,11 +1,9 @@
 -- The messages inside a message: which one the number of a field names, or a number with an index in a list or a key of a map.
-use Rattle.std.specs.Prelude.{ℕ, zero, suc, Bool, false, ◌==◌, Option, Some, None, IsSomeAnd, option_and_then, if◌then◌else◌}
-use Rattle.std.specs.Ordering.{int_eq, is_eq, bool_cmp}
-use Rattle.std.specs.Str.{bytes_eq}
+use Rattle.std.specs.Prelude.{ℕ, zero, suc, Option, Some, None, IsSomeAnd, option_and_then}
 use Rattle.pb_schema.specs.Types.{Types, message_fields, field_numbered}
-use Rattle.pb_schema.specs.Scalar.{Scalar, int32, int64, uint32, uint64, boolean, text}
+use Rattle.pb_schema.specs.Scalar.{Scalar}
 use Rattle.pb_schema.specs.Kinds.{message_of_kind}
-use Rattle.pb_value.specs.Data.{Datum, scalar, message, Datums, no_datums, datum, Entries, no_entries, entry, Holding, one, list, map, fields_of, get_field}
+use Rattle.pb_value.specs.Data.{Datum, scalar, message, Datums, no_datums, datum, Holding, one, list, map, fields_of, get_field, get_entry}
 use Rattle.pb_value.specs.WellFormed.{IsWellFormed}
 use Rattle.pb_value.specs.Dynamic.{Dynamic}
 
@@ -26,25 +24,11 @@ datum_at i (one d) = None
 datum_at i (list ds) = nth_datum ds i
 datum_at i (map es) = None
 
--- two keys are of one form, and equal
-abbrev pub is_same_key : Scalar → Scalar → Bool
-is_same_key (int32 x) (int32 y) = int_eq x y
-is_same_key (int64 x) (int64 y) = int_eq x y
-is_same_key (uint32 x) (uint32 y) = x == y
-is_same_key (uint64 x) (uint64 y) = x == y
-is_same_key (boolean x) (boolean y) = is_eq (bool_cmp x y)
-is_same_key (text x) (text y) = bytes_eq x y
-is_same_key _ _ = false
-
-abbrev pub entry_datum : Scalar → Entries → Option Datum
-entry_datum x no_entries = None
-entry_datum x (entry y d es) = if is_same_key x y then Some d else entry_datum x es
-
 -- the value under a key of a content that is a map
 abbrev pub datum_under : Scalar → Holding → Option Datum
 datum_under x (one d) = None
 datum_under x (list ds) = None
-datum_under x (map es) = entry_datum x es
+datum_under x (map es) = get_entry x es
 
 -- the message type that the kind of the field of number n names
 abbrev pub type_named : Types → ℕ → ℕ → Option ℕ

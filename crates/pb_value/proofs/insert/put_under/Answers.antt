@@ -1,7 +1,8 @@
-use Rattle.std.proofs.Common.{rules}
+use Rattle.std.proofs.Common.{rules, sym}
 use Rattle.pb_value.specs.declared.body.Content.{the_lemmas}
 use Rattle.pb_value.proofs.Views.{content_view-Map}
-use Rattle.pb_value.proofs.PartViews.{entries_view-insert_entry, entries_view-lookup}
+use Rattle.pb_value.proofs.PartViews.{entries_view-insert_entry}
+use Rattle.pb_value.proofs.InnerLemmas.{get_entry-entries}
 use Rattle.pb_value.proofs.insert.put_under.Goals as goal
 
 pub returns-in_ok-insert-in-Map-clause-ok : goal.returns-in_ok-insert-in-Map-clause-ok
@@ -12,6 +13,5 @@ returns-in_ok-insert-in-Map-clause-ok c =
 
 pub returns-in_ok-insert-in-Map-clause-stood : goal.returns-in_ok-insert-in-Map-clause-stood
 returns-in_ok-insert-in-Map-clause-stood c =
-    let fit = rw (c.in-Map.is, content_view-Map) at c.requires in
-    let stood = entries_view-lookup fit.0 c.args.key c.in-Map.entries.entries fit.1 fit.2 in
+    let stood = sym (get_entry-entries c.args.key c.in-Map.entries.entries) in
     search (rules, the_lemmas, content_view-Map, c.in_ok-insert-in-Map.ensures.old, stood, c.in-Map.is)
