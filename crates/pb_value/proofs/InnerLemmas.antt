@@ -1,5 +1,5 @@
 -- The messages that a well-formed message holds are well formed.
-use Rattle.std.proofs.Common.{◌≡◌, ◌<◌, Ordering, Less, Equal, Greater, nat_cmp, ℕ, zero, suc, ◌≤◌, max, Option, Some, None, IsSomeAnd, option_and_then, option_map, arith, refl, sym, ap, ◌∙◌, subst, List, [], ◌∷◌, Bor}
+use Rattle.std.proofs.Common.{◌≡◌, ◌<◌, Ordering, Less, Equal, Greater, nat_cmp, ℕ, zero, suc, ◌≤◌, Option, Some, None, IsSomeAnd, option_and_then, option_map, arith, refl, sym, ap, ◌∙◌, subst, List, [], ◌∷◌, Bor}
 use Rattle.std.specs.Prelude.{Bool, true, false, ◌==◌, if◌then◌else◌, string_bytes, length, slice_get}
 use Rattle.std.specs.Map.{lookup}
 use Rattle.std.specs.BTreeMap.{is_at}

@@ -1,5 +1,5 @@
 -- Worked rows, computed: the messages inside a message.
-use Rattle.std.proofs.Common.{◌≡◌, ℕ, [], ◌∷◌, Some, None, refl}
+use Rattle.std.proofs.Common.{◌≡◌, ℕ, [], Some, None, refl}
 use Rattle.std.specs.Prelude.{pos}
 use Rattle.pb_schema.specs.Scalar.{int32, uint32, text}
 use Rattle.pb_value.specs.Data.{Datum, scalar, message, no_datums, datum, no_entries, entry, one, list, map, no_fields, field, Message, body}
