@@ -64,10 +64,7 @@ fn first_eight(bytes: &[u8]) -> FirstNumber<'_>
     let front = [
         bytes[0], bytes[1], bytes[2], bytes[3], bytes[4], bytes[5], bytes[6], bytes[7],
     ];
-    Some((
-        ScalarPayload::I64(u64::from_le_bytes(front)),
-        &bytes[8..],
-    ))
+    Some((ScalarPayload::I64(u64::from_le_bytes(front)), &bytes[8..]))
 }
 
 fn first_four(bytes: &[u8]) -> FirstNumber<'_>
@@ -78,10 +75,7 @@ fn first_four(bytes: &[u8]) -> FirstNumber<'_>
         return None;
     }
     let front = [bytes[0], bytes[1], bytes[2], bytes[3]];
-    Some((
-        ScalarPayload::I32(u32::from_le_bytes(front)),
-        &bytes[4..],
-    ))
+    Some((ScalarPayload::I32(u32::from_le_bytes(front)), &bytes[4..]))
 }
 
 fn first_number(kind: Kind, bytes: &[u8]) -> FirstNumber<'_>

@@ -19,7 +19,7 @@ fn is_of_row(found: Option<&Field>, row: FieldRow) -> bool {
 }
 
 /// Each row is found by its number and by its name.
-fn are_found(pool: &Pool, name: &str, rows: &[FieldRow]) -> bool {
+pub(super) fn are_found(pool: &Pool, name: &str, rows: &[FieldRow]) -> bool {
     let Some(id) = pool.message_by_name(name) else {
         return false;
     };

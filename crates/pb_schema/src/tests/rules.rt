@@ -11,13 +11,13 @@ use std::test::Fail;
 
 /// Two files, of which the second imports the first. M, with N in it, stands in the first, and P, R and S in the second. P uses M.
 #[derive(Clone, Copy)]
-struct Rows {
-    files: [FileRow; 2],
-    messages: [MessageRow; 5],
-    fields: [FieldRow; 6],
-    oneofs: [&'static str; 2],
-    oneof_count: usize,
-    enums: [EnumRow; 3],
+pub(super) struct Rows {
+    pub(super) files: [FileRow; 2],
+    pub(super) messages: [MessageRow; 5],
+    pub(super) fields: [FieldRow; 6],
+    pub(super) oneofs: [&'static str; 2],
+    pub(super) oneof_count: usize,
+    pub(super) enums: [EnumRow; 3],
 }
 
 const IN_M: Option<MessageId> = Some(MessageId(0));
@@ -54,7 +54,7 @@ fn enumeration(name: &'static str, file: usize, parent: Option<MessageId>) -> En
     }
 }
 
-fn usual() -> Rows {
+pub(super) fn usual() -> Rows {
     Rows {
         files: [file("a.proto", "a.b", None), file("b.proto", "", Some(0))],
         messages: [
@@ -101,7 +101,7 @@ fn message_at(alloc: Global, rows: &Rows, index: usize) -> Result<MessageType, A
     Ok(message)
 }
 
-fn made(alloc: Global, rows: &Rows) -> Result<Pool, PoolError> {
+pub(super) fn made(alloc: Global, rows: &Rows) -> Result<Pool, PoolError> {
     let mut messages = Vec::new(alloc);
     for index in 0..5 {
         let message = message_at(alloc, rows, index)?;
