@@ -13,3 +13,4 @@ pub mod NumberLemmas
 pub mod RuleLemmas
 pub mod LookupLemmas
 pub mod PackedLemmas
+pub mod PackedReads

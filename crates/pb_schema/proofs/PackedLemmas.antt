@@ -22,7 +22,7 @@ below_128 b h = grind (arith, nat_tests)
 from_128 : (b : ℕ) → 128 ≤ b → ltb b 128 ≡ false
 from_128 b h = grind (arith, nat_tests)
 
-varint_front : (first others : List ℕ) → EndsOnce first → varints_of (first ++ others) ≡ first ∷ varints_of others
+pub varint_front : (first others : List ℕ) → EndsOnce first → varints_of (first ++ others) ≡ first ∷ varints_of others
 varint_front [] others ends = absurd ends
 varint_front (b ∷ []) others ends = ap (λ t. onto_varints t b (varints_of others)) (below_128 b ends)
 varint_front (b ∷ c ∷ bs) others ends =

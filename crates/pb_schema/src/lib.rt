@@ -29,3 +29,6 @@ pub use laws::{packed_numbers, reads_back};
 pub use pool::Pool;
 pub use scalars::{Scalar, ScalarPayload};
 pub use types::{EnumId, EnumType, Field, FileInfo, Kind, MessageId, MessageType, Shape};
+
+#[cfg(test)]
+mod tests;
