@@ -14,6 +14,7 @@ pub mod NameOrder
 mod Table
 mod Rows
 mod InnerRows
+mod ChangeRows
 mod Texts
 mod Forms
 mod Choice
