@@ -40,14 +40,14 @@ fn what_a_message_holds(rt: HostRuntime) -> Result<(), Fail> {
     let schema = sample(alloc)?;
     let fields = rows!((1, Held::One(Part::I32(5))), (8, Held::One(Part::Nest(0))));
     let message = schema.made(alloc, body_of(alloc, fields, rows![])?)?;
-    let number = Content::One(Value::I32(5));
-    assert!(rt; message.get(1).ok_or("a")? == &number);
-    assert!(rt; message.get(7).is_none() && message.get(99).is_none());
-    assert!(rt; message.has(1) && message.has(8) && !message.has(7) && !message.has(99));
-    assert_eq!(rt; message.which_oneof(0), Some(8));
-    assert_eq!(rt; message.which_oneof(1), None);
-    assert_eq!(rt; message.which_oneof(2), None);
-    assert!(rt; message.body() == &body_of(alloc, fields, rows![])?);
+    for (number, is_there) in [(1, true), (7, false), (8, true), (99, false)] {
+        assert_eq!(rt; message.has(number), is_there, "field {number}");
+        assert_eq!(rt; message.get(number).is_some(), is_there, "field {number}");
+    }
+    for (oneof, member) in [(0, Some(8)), (1, None), (2, None)] {
+        assert_eq!(rt; message.which_oneof(oneof), member);
+    }
+    assert!(rt; message.get(1).ok_or("a")? == &Content::One(Value::I32(5)));
     Ok(())
 }
 
