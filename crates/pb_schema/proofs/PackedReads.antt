@@ -1,5 +1,5 @@
 -- Packed payloads, number by number.
-use Rattle.std.proofs.Common.{◌≡◌, ◌↔◌, ℕ, zero, suc, ◌+◌, ◌-◌, ◌*◌, ◌%◌, ◌^◌, ◌<◌, ◌≤◌, List, [], ◌∷◌, ◌++◌, IsTrue, map, length, get_or, take, drop, refl, sym, ◌∙◌, ap, subst, arith, Option, Some, None}
+use Rattle.std.proofs.Common.{◌≡◌, ℕ, zero, suc, ◌+◌, ◌-◌, ◌*◌, ◌%◌, ◌^◌, ◌<◌, ◌≤◌, List, [], ◌∷◌, ◌++◌, IsTrue, map, length, get_or, take, drop, refl, sym, ◌∙◌, ap, subst, arith, Some}
 use Rattle.std.specs.Int.{w32, w64, cast_signed, from_le_bytes}
 use Rattle.std.proofs.Math.Seq.{take-append_seam, drop-append_seam}
 use Rattle.std.proofs.lemmas.List.{length-append, length-drop, length-take-le, take-append-drop, take_all}
@@ -8,7 +8,7 @@ use Rattle.std.proofs.lemmas.Int.{ints}
 use Rattle.std.proofs.lemmas.Bool.Decides.{nat_tests}
 use Rattle.pb_wire.specs.Varint.{IsVarint, EndsOnce, groups_value}
 use Rattle.pb_wire.specs.Zigzag.{unzigzag}
-use Rattle.pb_wire.specs.Record.{Payload, varint, fixed64, len, group, fixed32, wire_type}
+use Rattle.pb_wire.specs.Record.{Payload, varint, fixed64, fixed32, wire_type}
 use Rattle.pb_wire.specs.Ranges.{IsInRange}
 use Rattle.pb_wire.specs.Schema.{Element, a_varint, four_bytes, eight_bytes}
 use Rattle.pb_wire.specs.Sound.{IsElement, varint_element, four_element, eight_element, AreElements, no_elements, element}

@@ -1,5 +1,4 @@
-use Rattle.std.proofs.Common.{◌≡◌, ℕ, ◌≤◌, List, length, take, Result, Ok, Err, sym, ◌∙◌, ap}
-use Rattle.pb_wire.specs.Varint.{IsVarint}
+use Rattle.std.proofs.Common.{◌≡◌, ℕ, Result, Ok, Err, sym, ◌∙◌, ap}
 use Rattle.pb_schema.proofs.PackedReads.{varint_cuts, no_varint}
 use Rattle.pb_schema.proofs.tests.packed.first_varint.Goals as goal
 

@@ -1,4 +1,4 @@
-use Rattle.std.proofs.Common.{◌≡◌, Some, length, subst, rules, arith}
+use Rattle.std.proofs.Common.{◌≡◌, Some, subst, rules}
 use Rattle.pb_schema.specs.Kinds.{read, IsOfKind}
 use Rattle.pb_schema.specs.Context.{element_of}
 use Rattle.pb_schema.specs.PayloadView.{payload_view}

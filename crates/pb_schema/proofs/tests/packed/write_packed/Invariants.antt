@@ -1,4 +1,4 @@
-use Rattle.std.proofs.Common.{◌≡◌, ◌++◌, take}
+use Rattle.std.proofs.Common.{◌≡◌, take}
 use Rattle.std.specs.List.{flat_map}
 use Rattle.pb_schema.specs.Packed.{element_bytes}
 use Rattle.pb_schema.proofs.tests.packed.write_packed.Given as goal
