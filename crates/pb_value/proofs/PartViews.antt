@@ -1,11 +1,10 @@
 -- A list of values and a map of entries beside what they stand for.
-use Rattle.std.proofs.Common.{◌≡◌, cond, List, [], ◌∷◌, ◌++◌, Some, option_map, Ordering, Less, Equal, Greater, is_eq, refl, ap, ◌∙◌}
-use Rattle.std.specs.Map.{lookup}
+use Rattle.std.proofs.Common.{◌≡◌, List, [], ◌∷◌, ◌++◌, Ordering, Less, Equal, Greater, refl, ap, ◌∙◌}
 use Rattle.std.specs.Ordering.{match_ordering}
-use Rattle.std.specs.BTreeMap.{insert_entry, is_at}
+use Rattle.std.specs.BTreeMap.{insert_entry}
 use Rattle.pb_schema.specs.declared.types.Kind.{Kind}
 use Rattle.pb_schema.specs.Kinds.{IsOfKind}
-use Rattle.pb_value.specs.Data.{datum, no_datums, joined_datums, entry, get_entry, put_entry}
+use Rattle.pb_value.specs.Data.{datum, no_datums, joined_datums, entry, put_entry}
 use Rattle.pb_value.specs.Change.{AreKeys}
 use Rattle.pb_value.specs.View.{key_view, value_view, values_view, entries_view}
 use Rattle.pb_value.specs.KeyOrder.{map_key_cmp}
