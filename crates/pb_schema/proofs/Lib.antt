@@ -13,4 +13,3 @@ pub mod NumberLemmas
 pub mod RuleLemmas
 pub mod LookupLemmas
 pub mod PackedLemmas
-pub mod PackedReads

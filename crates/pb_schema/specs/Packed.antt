@@ -1,14 +1,11 @@
 -- The elements that a payload holds: one, or those of a packed list (encoding guide, "Packed Repeated Fields").
-use Rattle.std.specs.Prelude.{◌≡◌, ◌↔◌, ◌<◌, length, ℕ, ◌%◌, ◌^◌, List, [], ◌∷◌, ◌++◌, map, Bool, true, false, ◌==◌, nat_lt, if◌then◌else◌}
+use Rattle.std.specs.Prelude.{◌≡◌, ℕ, ◌%◌, ◌^◌, List, [], ◌∷◌, ◌++◌, map, Bool, true, false, ◌==◌, nat_lt, if◌then◌else◌}
 use Rattle.std.specs.List.{filter_map}
 use Rattle.std.specs.Option.{option_to_list}
 use Rattle.std.specs.Int.{w32, w64, to_le_bytes, from_le_bytes}
 use Rattle.pb_wire.specs.Varint.{groups_value, shortest}
 use Rattle.pb_wire.specs.Record.{Payload, varint, fixed64, len, fixed32, wire_type}
 use Rattle.pb_wire.specs.Spell.{Body}
-use Rattle.pb_wire.specs.Ranges.{IsInRange}
-use Rattle.pb_wire.specs.Schema.{Element}
-use Rattle.pb_wire.specs.Sound.{AreElements}
 use Rattle.pb_schema.specs.declared.types.Kind.{Kind}
 use Rattle.pb_schema.specs.Scalar.{Scalar}
 use Rattle.pb_schema.specs.Kinds.{wire_type_of, is_packable, read, written}
@@ -41,14 +38,6 @@ eights_of _ = []
 abbrev pub numbers_of : ℕ → List ℕ → List Payload
 numbers_of w s =
     if w == 0 then map (λ b. varint (groups_value b % 2 ^ 64)) (varints_of s) else (if w == 1 then map (λ b. fixed64 (from_le_bytes w64 b)) (eights_of s) else map (λ b. fixed32 (from_le_bytes w32 b)) (fours_of s))
-
--- s is whole elements behind which rest stands: the first is this number, of this wire type
-pub record Cuts (e : Element) (w : ℕ) (p : Payload) (s rest : List ℕ) : Type 0 where
-  pub type : wire_type p ≡ w
-  pub range : IsInRange p
-  pub numbers : numbers_of w s ≡ p ∷ numbers_of w rest
-  pub elements : AreElements e s ↔ AreElements e rest
-  pub shorter : length rest < length s
 
 -- the elements that the payload of a fitting record gives, in order
 abbrev pub elements : Kind → Payload → List Scalar

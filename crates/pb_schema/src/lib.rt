@@ -29,6 +29,3 @@ pub use laws::{packed_numbers, reads_back};
 pub use pool::Pool;
 pub use scalars::{Scalar, ScalarPayload};
 pub use types::{EnumId, EnumType, Field, FileInfo, Kind, MessageId, MessageType, Shape};
-
-#[cfg(test)]
-mod tests;

@@ -25,4 +25,3 @@ pub mod FittingLemmas
 pub mod EntryLemmas
 pub mod HeldLemmas
 pub mod ValueLemmas
-mod Choice

@@ -15,8 +15,6 @@ mod lookup;
 mod message_ref;
 mod oneof;
 mod push;
-#[cfg(test)]
-mod tests;
 mod unknown;
 
 pub use body::{Body, Content, MapKey, Value};

@@ -222,6 +222,3 @@ fn value_end(bytes: &[u8], at: usize, wire_type: WireType) -> Result<usize, Wire
         WireType::StartGroup | WireType::EndGroup => unreachable!(),
     }
 }
-
-#[cfg(test)]
-mod tests;

@@ -29,6 +29,3 @@ pub use unknown::Unknown;
 pub use varint::{VarintBytes, put_varint, read_varint};
 pub use writing::{can_write, write_raw};
 pub use zigzag::{unzigzag32, unzigzag64, zigzag32, zigzag64};
-
-#[cfg(test)]
-mod tests;

@@ -1,0 +1,146 @@
+//! Look-ups in the samples.
+
+use super::parts::{is_found, pool_of};
+use super::samples::{KINDS, SHAPES};
+use pb_schema::{EnumId, MessageId, Pool, fits};
+use std::test::Fail;
+
+pub(crate) fn has_number(pool: &Pool, name: &str, number: u32) -> bool {
+    match pool.message_by_name(name) {
+        Some(id) => pool.field_by_number(id, number).is_some(),
+        None => false,
+    }
+}
+
+pub(crate) fn has_name(pool: &Pool, name: &str, field: &str) -> bool {
+    match pool.message_by_name(name) {
+        Some(id) => pool.field_by_name(id, field).is_some(),
+        None => false,
+    }
+}
+
+const NO_NUMBERS: &[u32] = &[0, 5, 13, 536_870_911, u32::MAX];
+
+const NO_FIELDS: &[&str] = &["", "A", "o", "MEntry", "aa", "k2"];
+
+#[test]
+fn fields_by_number_and_name(rt: HostRuntime) -> Result<(), Fail> {
+    let alloc = rt.alloc();
+    let shapes = pool_of(alloc, SHAPES)?;
+    for row in SHAPES.lines() {
+        assert!(rt; is_found(alloc, &shapes, "T", row)?, "{row}");
+    }
+    for number in NO_NUMBERS {
+        assert!(rt; !has_number(&shapes, "T", *number), "field {number}");
+    }
+    for name in NO_FIELDS {
+        assert!(rt; !has_name(&shapes, "T", name), "field {name}");
+    }
+    let kinds = pool_of(alloc, KINDS)?;
+    for row in KINDS.lines() {
+        assert!(rt; is_found(alloc, &kinds, "F", row)?, "{row}");
+    }
+    assert!(rt;
+        !has_number(&kinds, "F", 3) && !has_number(&kinds, "F", 12) && !has_number(&kinds, "F", 19)
+    );
+    Ok(())
+}
+
+const NO_MESSAGES: &[&str] = &["t", ".T", "T.m", "T.MEntry", ""];
+
+#[test]
+fn types_by_name(rt: HostRuntime) -> Result<(), Fail> {
+    let shapes = pool_of(rt.alloc(), SHAPES)?;
+    for name in NO_MESSAGES {
+        assert!(rt; shapes.message_by_name(name).is_none(), "message {name}");
+    }
+    let kinds = pool_of(rt.alloc(), KINDS)?;
+    assert!(rt;
+        shapes.message_by_name("T") == Some(MessageId(0))
+            && shapes.enum_by_name("T").is_none()
+            && kinds.enum_by_name("E") == Some(EnumId(0))
+            && kinds.message_by_name("E").is_none()
+            && kinds.enum_by_name("Z").is_none()
+    );
+    Ok(())
+}
+
+#[test]
+fn parts_in_order(rt: HostRuntime) -> Result<(), Fail> {
+    let pool = pool_of(rt.alloc(), KINDS)?;
+    let file = pool.files().first().ok_or("no file")?;
+    let message = pool.messages().first().ok_or("no message")?;
+    let entry = pool.enums().first().ok_or("no enum")?;
+    assert!(rt;
+        pool.files().len() == 1
+            && file.name.as_str() == "f.proto"
+            && file.package.is_empty()
+            && file.imports.is_empty()
+    );
+    assert!(rt;
+        pool.messages().len() == 1
+            && message.name.as_str() == "F"
+            && message.fields.len() == 12
+            && pool.enums().len() == 1
+            && entry.name.as_str() == "E"
+            && entry.values.len() == 2
+    );
+    Ok(())
+}
+
+/// Whether of the wire types 0 to 7 exactly these two fit the field, which may be the same.
+fn only_fit(pool: &Pool, name: &str, number: u32, wire_types: (u8, u8)) -> bool {
+    let Some(id) = pool.message_by_name(name) else {
+        return false;
+    };
+    let Some(field) = pool.field_by_number(id, number) else {
+        return false;
+    };
+    for wire_type in 0..8 {
+        let is_one = wire_type == wire_types.0 || wire_type == wire_types.1;
+        if fits(field, wire_type) != is_one {
+            return false;
+        }
+    }
+    true
+}
+
+/// A field, and the wire types that fit it.
+const IN_SHAPES: &[(u32, (u8, u8))] = &[
+    (1, (0, 0)),
+    (2, (2, 2)),
+    (3, (2, 2)),
+    (4, (1, 1)),
+    (6, (0, 2)),
+    (7, (0, 0)),
+    (9, (2, 2)),
+    (12, (2, 2)),
+];
+
+const IN_KINDS: &[(u32, (u8, u8))] = &[
+    (13, (2, 2)),
+    (14, (0, 2)),
+    (15, (2, 2)),
+    (16, (5, 5)),
+    (17, (0, 0)),
+    (18, (5, 2)),
+];
+
+#[test]
+fn records_that_fit(rt: HostRuntime) -> Result<(), Fail> {
+    let shapes = pool_of(rt.alloc(), SHAPES)?;
+    for (number, wire_types) in IN_SHAPES {
+        assert!(rt;
+            only_fit(&shapes, "T", *number, *wire_types),
+            "field {number}"
+        );
+    }
+    let kinds = pool_of(rt.alloc(), KINDS)?;
+    for (number, wire_types) in IN_KINDS {
+        assert!(rt;
+            only_fit(&kinds, "F", *number, *wire_types),
+            "field {number}"
+        );
+    }
+    Ok(())
+}

@@ -1,0 +1,147 @@
+//! Parts that meet all rules, and for each rule the same parts with the least change that breaks it.
+
+use super::parts::{changed_pool, pool_of};
+use pb_schema::{EnumId, MessageId, PoolError};
+use std::alloc::Global;
+use std::test::Fail;
+
+/// Two files, of which the second imports the first. M, with N in it, stands in the first, and P, R and S in the second. P uses M.
+const USUAL: &str = "
+file a.proto a.b
+file b.proto - 0
+message M 0 -
+oneof o
+oneof z
+field x 1 int32 implicit
+field y 2 uint32 oneof:0
+field m_ap 3 int32 map:string
+field l 4 int32 packed
+field n 5 message:1 explicit
+field e 6 enum:0 implicit
+field w 7 uint32 oneof:1
+message N 0 0
+message P 1 -
+field q 1 message:0 explicit
+message R 1 -
+message S 1 -
+enum E 0 1
+value EZ 0
+enum G 0 0
+value GZ 0
+value GY 0
+enum H 0 -
+value HZ 0
+value HY -1
+";
+
+/// Whether the parts meet the rules, the line of the parts in whose place another stands, and that other, with what it is.
+const CASES: &str = "
+bad 1 file - a.b | no name
+bad 1 file b.proto a.b | the name of another
+bad 1 file a.proto a. | an empty part
+bad 1 file a.proto a.1b | no word
+bad 1 file a.proto a.b 2 | an import that is not there
+bad 1 file a.proto a.b 0 | itself imported
+bad 1 file a.proto a.b 1 | each imports the other
+bad 1 file a.proto P.b | a package inside one with the name of a message
+bad 1 file a.proto P | a package with the name of a message
+bad 2 file b.proto - | a type of a file that is not reached
+bad 3 message 1M 0 - | no word
+bad 17 message S 2 - | a file that is not there
+bad 13 message N 0 5 | a parent that is not there
+bad 14 message P 1 0 | a parent in another file
+bad 16 message R 1 4 | a parent that stands behind
+bad 16 message R 1 3 | itself as parent
+bad 17 message S 1 2 | behind another than its parent
+bad 17 message S 0 - | by falling file
+bad 17 message R 1 - | the name of another
+bad 13 message MApEntry 0 0 | the name of an entry message
+bad 17 message a 1 - | the name of a package
+bad 6 field x 0 int32 implicit | no number
+bad 6 field x 2 int32 implicit | the number of another
+good 6 field x 18999 int32 implicit | below the numbers kept for implementations
+bad 6 field x 19000 int32 implicit | the first of them
+bad 6 field x 19999 int32 implicit | the last of them
+good 6 field x 20000 int32 implicit | above them
+good 6 field x 536870911 int32 implicit | the greatest number
+bad 6 field x 536870912 int32 implicit | one more
+bad 6 field x 4294967295 int32 implicit | far more
+bad 6 field x. 1 int32 implicit | no word
+bad 6 field - 1 int32 implicit | no name
+bad 6 field y 1 int32 implicit | the name of another
+bad 6 field N 1 int32 implicit | the name of a message
+bad 6 field o 1 int32 implicit | the name of a oneof
+bad 6 field GZ 1 int32 implicit | the name of a value
+bad 6 field _1 1 int32 map:string | an entry name that is no word
+bad 6 field x 1 int32 oneof:2 | a oneof that is not there
+bad 6 field x 1 string packed | a packed text
+bad 6 field x 1 message:0 packed | a packed message
+bad 6 field x 1 message:0 implicit | an implicit message
+bad 6 field x 1 message:5 explicit | a message that is not there
+bad 6 field x 1 enum:3 implicit | an enum that is not there
+bad 6 field x 1 message:2 explicit | a message that is not seen
+bad 12 field w 7 uint32 implicit | a oneof without member
+bad 5 oneof z- | no word
+bad 5 oneof o | the name of another
+good 8 field m_ap 3 int32 map:bool | a key
+good 8 field m_ap 3 int32 map:sfixed64 | a key
+good 8 field m_ap 3 int32 map:sint32 | a key
+bad 8 field m_ap 3 int32 map:double | no key
+bad 8 field m_ap 3 int32 map:float | no key
+bad 8 field m_ap 3 int32 map:bytes | no key
+bad 8 field m_ap 3 int32 map:enum:0 | no key
+bad 8 field m_ap 3 int32 map:message:0 | no key
+bad 23 enum H- 0 - | no word
+bad 23 enum H 2 - | a file that is not there
+bad 20 enum G 0 5 | a parent that is not there
+bad 23 enum H 1 0 | a parent in another file
+bad 18 enum E 0 - | outside messages, and not last
+bad 18 enum E 1 - | by falling file
+bad 23 enum M 0 - | the name of a message
+bad 23 enum H 0 1 | behind the enum of the message around its own
+bad 19 | no value
+bad 24 value HZ 1 | a first value other than 0
+bad 25 value H-Y 1 | no word
+bad 25 value HZ 1 | the same name twice
+bad 25 value M 1 | the name of a message
+";
+
+fn is_told(alloc: Global, case: &str) -> Result<bool, Fail> {
+    let (change, _) = case.split_once('|').ok_or("no case")?;
+    let (answer, change) = change.split_once(' ').ok_or("no answer")?;
+    let (at, instead) = change.split_once(' ').ok_or("no line")?;
+    let pool = changed_pool(alloc, USUAL, at.parse::<usize>()?, instead)?;
+    Ok(pool.is_some() == (answer == "good"))
+}
+
+#[test]
+fn rules(rt: HostRuntime) -> Result<(), Fail> {
+    for case in CASES.lines() {
+        assert!(rt; case.is_empty() || is_told(rt.alloc(), case)?, "{case}");
+    }
+    Ok(())
+}
+
+const MESSAGES: &[&str] = &["a.b.M", "a.b.M.N", "P", "R", "S"];
+
+const ENUMS: &[&str] = &["a.b.M.N.E", "a.b.M.G", "a.b.H"];
+
+#[test]
+fn parts_that_meet_all_rules(rt: HostRuntime) -> Result<(), Fail> {
+    let pool = pool_of(rt.alloc(), USUAL)?;
+    for (index, name) in MESSAGES.iter().enumerate() {
+        assert!(rt;
+            pool.message_by_name(name) == Some(MessageId(index)),
+            "{name}"
+        );
+    }
+    for (index, name) in ENUMS.iter().enumerate() {
+        assert!(rt; pool.enum_by_name(name) == Some(EnumId(index)), "{name}");
+    }
+    Ok(())
+}
+
+#[test]
+fn refusals_by_number(rt: HostRuntime) {
+    assert!(rt; PoolError::BadParts.number() == 34 && PoolError::Memory.number() == 35);
+}

@@ -1,0 +1,155 @@
+//! Each call once.
+
+use super::reading::{body_of, key_of, nest, value_of};
+use super::sample::sample;
+use pb_schema::{EnumId, Kind, MessageId};
+use pb_value::{
+    Content, Value, ValueError, canonical_spelling, default_value, key_order, no_cause, one_value,
+    well_formed_values,
+};
+use std::test::Fail;
+
+#[test]
+fn empty_message(rt: HostRuntime) -> Result<(), Fail> {
+    let schema = sample(rt.alloc())?;
+    let message = schema.empty(rt.alloc());
+    assert!(rt;
+        message.body().fields.is_empty()
+            && message.body().unknown.is_empty()
+            && message.message_type() == schema.kind
+            && message.pool().messages().len() == 2
+            && message.which_oneof(0).is_none()
+    );
+    Ok(())
+}
+
+#[test]
+fn what_a_message_holds(rt: HostRuntime) -> Result<(), Fail> {
+    let alloc = rt.alloc();
+    let schema = sample(alloc)?;
+    let message = schema.made(alloc, body_of(alloc, "1:i5 8:n0")?)?;
+    assert!(rt;
+        message.has(1)
+            && !message.has(7)
+            && message.has(8)
+            && !message.has(99)
+            && message.get(1) == Some(&Content::One(Value::I32(5)))
+            && message.get(7).is_none()
+            && message.get(8).is_some()
+            && message.get(99).is_none()
+    );
+    assert!(rt;
+        message.which_oneof(0) == Some(8)
+            && message.which_oneof(1).is_none()
+            && message.which_oneof(2).is_none()
+    );
+    Ok(())
+}
+
+/// A kind and its default.
+const DEFAULTS: &[(Kind, Option<&str>)] = &[
+    (Kind::Int32, Some("i0")),
+    (Kind::Sint32, Some("i0")),
+    (Kind::Sfixed32, Some("i0")),
+    (Kind::Int64, Some("I0")),
+    (Kind::Sint64, Some("I0")),
+    (Kind::Sfixed64, Some("I0")),
+    (Kind::Uint32, Some("u0")),
+    (Kind::Fixed32, Some("u0")),
+    (Kind::Uint64, Some("U0")),
+    (Kind::Fixed64, Some("U0")),
+    (Kind::Bool, Some("b0")),
+    (Kind::Float, Some("f0")),
+    (Kind::Double, Some("F0")),
+    (Kind::Enum(EnumId(0)), Some("e0")),
+    (Kind::Text, Some("t")),
+    (Kind::Bytes, Some("x")),
+    (Kind::Message(MessageId(0)), None),
+];
+
+#[test]
+fn defaults(rt: HostRuntime) -> Result<(), Fail> {
+    for (kind, word) in DEFAULTS {
+        let wanted = match word {
+            Some(word) => Some(value_of(rt.alloc(), word)?),
+            None => None,
+        };
+        assert!(rt; default_value(rt.alloc(), *kind) == wanted, "{kind:?}");
+    }
+    Ok(())
+}
+
+/// A cause, its number and its name.
+const CAUSES: &[(ValueError, u8, &str)] = &[
+    (ValueError::NoSuchField, 21, "NoSuchField"),
+    (ValueError::WrongKind, 22, "WrongKind"),
+    (ValueError::WrongShape, 23, "WrongShape"),
+    (ValueError::DefaultStored, 24, "DefaultStored"),
+    (ValueError::TwoMembers, 25, "TwoMembers"),
+    (ValueError::KnownAsUnknown, 26, "KnownAsUnknown"),
+    (ValueError::TooDeep, 27, "TooDeep"),
+    (ValueError::Memory, 28, "Memory"),
+];
+
+#[test]
+fn causes(rt: HostRuntime) -> Result<(), Fail> {
+    for (cause, number, name) in CAUSES {
+        let shown = format!(in rt.alloc(); "{cause}")?;
+        assert!(rt;
+            cause.number() == *number && cause.name() == *name && shown.as_str() == *name,
+            "{name}"
+        );
+    }
+    Ok(())
+}
+
+/// Numbers by value, false before true, texts by their bytes.
+const KEYS: &[(&str, &str)] = &[
+    ("i-1", "i0"),
+    ("u9", "u10"),
+    ("b0", "b1"),
+    ("t", "ta"),
+    ("tZ", "ta"),
+    ("ta", "t\u{e9}"),
+];
+
+#[test]
+fn keys(rt: HostRuntime) -> Result<(), Fail> {
+    let alloc = rt.alloc();
+    for (low, high) in KEYS {
+        let (less, more) = (key_of(alloc, low)?, key_of(alloc, high)?);
+        assert!(rt; less < more && less != more && less == less, "{low} {high}");
+    }
+    let shown = format!(in alloc; "{:?}", key_of(alloc, "tk")?)?;
+    assert!(rt; shown.as_str() == "Text(\"k\")");
+    Ok(())
+}
+
+/// A value that nests as deep as one may, and a long list, are set and dropped.
+#[test]
+fn large_values(rt: HostRuntime) -> Result<(), Fail> {
+    let alloc = rt.alloc();
+    let schema = sample(alloc)?;
+    let mut message = schema.empty(alloc);
+    message.set(3, Content::One(Value::Message(nest(alloc, 99)?)))?;
+    let mut numbers = Vec::new(alloc);
+    for number in 0..1_000_000 {
+        numbers.push(Value::I32(number))?;
+    }
+    message.set(6, Content::List(numbers))?;
+    assert!(rt;
+        matches!(message.get(6), Some(Content::List(numbers)) if numbers.len() == 1_000_000)
+    );
+    message.clear(6);
+    assert!(rt; message.has(3) && !message.has(6));
+    Ok(())
+}
+
+#[test]
+fn laws_hold() {
+    one_value();
+    canonical_spelling();
+    key_order();
+    no_cause();
+    well_formed_values();
+}

@@ -1,0 +1,178 @@
+//! What changes leave, and which are refused.
+
+use super::reading::{body_of, content_of, key_of, value_of};
+use super::sample::{Schema, sample};
+use pb_value::{Body, DynamicMessage, Value, ValueError};
+use pb_wire::Unknown;
+use std::alloc::Global;
+use std::test::Fail;
+
+/// A row: the fields of a message, a change, and the fields after it or why it is refused.
+const SETS: &str = "
+| set 1 i5 | 1:i5
+1:i5 | set 2 tx | 1:i5 2:tx
+2:tx | set 1 i5 | 1:i5 2:tx
+1:i5 | set 1 i6 | 1:i6
+| set 6 [i1,i0] | 6:[i1,i0]
+| set 9 {tk=i0} | 9:{tk=i0}
+";
+
+/// What an absent field has too clears the field, and no more than that does.
+const ABSENCES: &str = "
+| set 1 i0 |
+1:i5 2:tx | set 1 i0 | 2:tx
+1:i5 6:[i1,i0] | set 6 [] | 1:i5
+1:i5 9:{tk=i0} | set 9 {} | 1:i5
+| set 10 b0 | 10:b0
+| set 4 F9223372036854775808 | 4:F9223372036854775808
+| set 3 n99 | 3:n99
+";
+
+const MEMBERS: &str = "
+7:u5 | set 8 n0 | 8:n0
+1:i5 8:n0 18:U5 | set 7 u5 | 1:i5 7:u5 18:U5
+7:u5 | set 7 u0 | 7:u0
+8:n0 | set 7 u0 | 7:u0
+7:u5 | set 18 U5 | 7:u5 18:U5
+7:u5 18:U5 | set 1 i5 | 1:i5 7:u5 18:U5
+7:u5 | set 8 h0 | !DefaultStored
+8:n0 | set 7 n0 | !WrongKind
+";
+
+const CLEARS: &str = "
+1:i5 7:u5 18:U5 | clear 7 | 1:i5 18:U5
+1:i5 7:u5 | clear 1 | 7:u5
+1:i5 7:u5 | clear 8 | 1:i5 7:u5
+1:i5 | clear 99 | 1:i5
+| clear 1 |
+";
+
+const REFUSED_SETS: &str = "
+1:i5 | set 99 i5 | !NoSuchField
+1:i5 | set 0 i5 | !NoSuchField
+1:i5 | set 1 tx | !WrongKind
+1:i5 | set 6 [i1,tx] | !WrongKind
+1:i5 | set 6 i5 | !WrongShape
+1:i5 | set 1 [] | !WrongShape
+| set 9 {i1=i1} | !WrongKind
+| set 3 h0 | !DefaultStored
+| set 19 [h1,h0] | !DefaultStored
+1:i5 | set 3 n100 | !TooDeep
+1:i5 | set 12 {u1=n100} | !TooDeep
+";
+
+const PUSHES: &str = "
+| push 6 i4 | 6:[i4]
+1:i5 6:[i4] | push 6 i0 | 1:i5 6:[i4,i0]
+13:[tx] | push 13 t | 13:[tx,t]
+| push 19 n99 | 19:[n99]
+1:i5 | push 99 i4 | !NoSuchField
+1:i5 | push 6 tx | !WrongKind
+1:i5 | push 1 tx | !WrongKind
+1:i5 | push 1 i4 | !WrongShape
+| push 9 i4 | !WrongShape
+| push 3 h0 | !WrongShape
+13:[tx] | push 19 h0 | !DefaultStored
+13:[tx] | push 19 n100 | !TooDeep
+";
+
+const INSERTS: &str = "
+| insert 9 tk=i4 | 9:{tk=i4}
+9:{tk=i4} | insert 9 tk=i0 | 9:{tk=i0}
+9:{tk=i4} | insert 9 ta=i8 | 9:{ta=i8,tk=i4}
+1:i5 | insert 12 u1=n99 | 1:i5 12:{u1=n99}
+1:i5 | insert 99 tk=i4 | !NoSuchField
+1:i5 | insert 9 tk=tv | !WrongKind
+1:i5 | insert 9 i1=i4 | !WrongKind
+1:i5 | insert 6 tk=tv | !WrongKind
+1:i5 | insert 6 tk=i4 | !WrongShape
+1:i5 | insert 1 tk=i4 | !WrongShape
+1:i5 | insert 3 tk=h0 | !WrongShape
+1:i5 | insert 12 u1=h0 | !DefaultStored
+1:i5 | insert 12 u1=n100 | !TooDeep
+";
+
+const TABLES: &[&str] = &[
+    SETS,
+    ABSENCES,
+    MEMBERS,
+    CLEARS,
+    REFUSED_SETS,
+    PUSHES,
+    INSERTS,
+];
+
+/// Why the change is refused, if it is.
+fn apply(
+    alloc: Global,
+    message: &mut DynamicMessage<'_>,
+    change: &str,
+) -> Result<Option<ValueError>, Fail> {
+    let mut words = change.split_whitespace();
+    let verb = words.next().ok_or("no verb")?;
+    let number = words.next().ok_or("no number")?.parse::<u32>()?;
+    let rest = words.next().unwrap_or("");
+    Ok(match verb {
+        "set" => message.set(number, content_of(alloc, rest)?).err(),
+        "push" => message.push(number, value_of(alloc, rest)?).err(),
+        "insert" => {
+            let (key, value) = rest.split_once('=').ok_or("no entry")?;
+            let key = key_of(alloc, key)?;
+            message.insert(number, key, value_of(alloc, value)?).err()
+        }
+        "clear" => {
+            message.clear(number);
+            None
+        }
+        _ => return Err(Fail::new("no change")),
+    })
+}
+
+/// These fields, and a record that no change touches.
+fn with_record(alloc: Global, words: &str) -> Result<Body, Fail> {
+    let mut body = body_of(alloc, words)?;
+    body.unknown.push((99, Unknown::Varint(7)))?;
+    Ok(body)
+}
+
+/// Whether a change does what its row says. Where there is no memory the message must be as before, and the test ends.
+fn is_done(alloc: Global, schema: &Schema, row: &str) -> Result<bool, Fail> {
+    let (before, row) = row.split_once('|').ok_or("no row")?;
+    let (change, after) = row.split_once('|').ok_or("no row")?;
+    let mut message = schema.made(alloc, with_record(alloc, before)?)?;
+    let told = apply(alloc, &mut message, change)?;
+    let fields = if told.is_some() { before } else { after };
+    if message.into_body() != with_record(alloc, fields)? {
+        return Ok(false);
+    }
+    if told == Some(ValueError::Memory) {
+        return Err(Fail::new("no memory"));
+    }
+    Ok(match after.trim().strip_prefix('!') {
+        Some(cause) => told.is_some_and(|it| it.name() == cause),
+        None => told.is_none(),
+    })
+}
+
+#[test]
+fn changes(rt: HostRuntime) -> Result<(), Fail> {
+    let schema = sample(rt.alloc())?;
+    for table in TABLES {
+        for row in table.lines() {
+            assert!(rt; row.is_empty() || is_done(rt.alloc(), &schema, row)?, "{row}");
+        }
+    }
+    Ok(())
+}
+
+/// What stood under the key is given back.
+#[test]
+fn insert_gives_back(rt: HostRuntime) -> Result<(), Fail> {
+    let alloc = rt.alloc();
+    let schema = sample(alloc)?;
+    let mut message = schema.empty(alloc);
+    let first = message.insert(9, key_of(alloc, "tk")?, Value::I32(7))?;
+    let second = message.insert(9, key_of(alloc, "tk")?, Value::I32(8))?;
+    assert!(rt; first.is_none() && second == Some(Value::I32(7)));
+    Ok(())
+}
