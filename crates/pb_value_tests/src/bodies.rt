@@ -143,7 +143,10 @@ fn bodies(rt: HostRuntime) -> Result<(), Fail> {
     let schema = sample(rt.alloc())?;
     for table in TABLES {
         for row in table.lines() {
-            assert!(rt; row.is_empty() || is_told(rt.alloc(), &schema, row)?, "{row}");
+            assert!(rt;
+                row.is_empty() || is_told(rt.alloc(), &schema, row)?,
+                "{row}"
+            );
         }
     }
     Ok(())

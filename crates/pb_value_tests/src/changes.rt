@@ -159,7 +159,10 @@ fn changes(rt: HostRuntime) -> Result<(), Fail> {
     let schema = sample(rt.alloc())?;
     for table in TABLES {
         for row in table.lines() {
-            assert!(rt; row.is_empty() || is_done(rt.alloc(), &schema, row)?, "{row}");
+            assert!(rt;
+                row.is_empty() || is_done(rt.alloc(), &schema, row)?,
+                "{row}"
+            );
         }
     }
     Ok(())

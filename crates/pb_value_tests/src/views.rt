@@ -30,7 +30,10 @@ fn inner_messages(rt: HostRuntime) -> Result<(), Fail> {
     let schema = sample(alloc)?;
     let message = schema.made(alloc, body_of(alloc, "3:h5 12:{u9=h6} 19:[h7,h8]")?)?;
     for (number, told) in FIELDS {
-        assert!(rt; number_in(message.message(*number)) == *told, "field {number}");
+        assert!(rt;
+            number_in(message.message(*number)) == *told,
+            "field {number}"
+        );
     }
     let view = message.view();
     assert!(rt;
@@ -82,7 +85,8 @@ fn printed(rt: HostRuntime) -> Result<(), Fail> {
     assert!(rt;
         whole.as_str()
             == "DynamicMessage { type: a.b.T, body: Body { fields: {1: One(I32(5)), 20: One(Message(Body { fields: {}, unknown: [] }))}, unknown: [] } }"
-            && inner.as_str() == "MessageRef { type: a.b.T.N, body: Body { fields: {}, unknown: [] } }"
+            && inner.as_str()
+                == "MessageRef { type: a.b.T.N, body: Body { fields: {}, unknown: [] } }"
     );
     Ok(())
 }
