@@ -3,6 +3,7 @@
 use super::parts::{is_found, pool_of};
 use super::samples::{KINDS, SHAPES};
 use pb_schema::{EnumId, MessageId, Pool, fits};
+use std::alloc::Global;
 use std::test::Fail;
 
 pub(crate) fn has_number(pool: &Pool, name: &str, number: u32) -> bool {
@@ -19,33 +20,48 @@ pub(crate) fn has_name(pool: &Pool, name: &str, field: &str) -> bool {
     }
 }
 
+fn are_found(alloc: Global, pool: &Pool, name: &str, rows: &str) -> Result<bool, Fail> {
+    for row in rows.lines() {
+        if !is_found(alloc, pool, name, row)? {
+            return Ok(false);
+        }
+    }
+    Ok(true)
+}
+
+fn has_one_of(pool: &Pool, name: &str, numbers: &[u32]) -> bool {
+    for number in numbers {
+        if has_number(pool, name, *number) {
+            return true;
+        }
+    }
+    false
+}
+
 const NO_NUMBERS: &[u32] = &[0, 5, 13, 536_870_911, u32::MAX];
 
 const NO_FIELDS: &[&str] = &["", "A", "o", "MEntry", "aa"];
 
-const NO_NUMBERS_OF_KINDS: &[u32] = &[0, 3, 12, 19, u32::MAX];
-
 #[test]
-fn fields_by_number_and_name(rt: HostRuntime) -> Result<(), Fail> {
-    let alloc = rt.alloc();
-    let shapes = pool_of(alloc, SHAPES)?;
-    for row in SHAPES.lines() {
-        assert!(rt; is_found(alloc, &shapes, "T", row)?, "{row}");
-    }
-    for number in NO_NUMBERS {
-        assert!(rt; !has_number(&shapes, "T", *number), "field {number}");
-    }
+fn fields_of_every_shape(rt: HostRuntime) -> Result<(), Fail> {
+    let shapes = pool_of(rt.alloc(), SHAPES)?;
+    let are_there = are_found(rt.alloc(), &shapes, "T", SHAPES)?;
+    assert!(rt; are_there && !has_one_of(&shapes, "T", NO_NUMBERS));
     for name in NO_FIELDS {
         assert!(rt; !has_name(&shapes, "T", name), "field {name}");
     }
-    let kinds = pool_of(alloc, KINDS)?;
-    for row in KINDS.lines() {
-        assert!(rt; is_found(alloc, &kinds, "F", row)?, "{row}");
-    }
-    for number in NO_NUMBERS_OF_KINDS {
-        assert!(rt; !has_number(&kinds, "F", *number), "field {number}");
-    }
-    assert!(rt; !has_name(&kinds, "F", "k2"));
+    Ok(())
+}
+
+#[test]
+fn fields_of_other_kinds(rt: HostRuntime) -> Result<(), Fail> {
+    let kinds = pool_of(rt.alloc(), KINDS)?;
+    let are_there = are_found(rt.alloc(), &kinds, "F", KINDS)?;
+    assert!(rt;
+        are_there
+            && !has_one_of(&kinds, "F", &[0, 3, 12, 19, u32::MAX])
+            && !has_name(&kinds, "F", "k2")
+    );
     Ok(())
 }
 
@@ -129,21 +145,19 @@ const IN_KINDS: &[(u32, (u8, u8))] = &[
     (18, (5, 2)),
 ];
 
+fn are_only_fit(pool: &Pool, name: &str, rows: &[(u32, (u8, u8))]) -> bool {
+    for (number, wire_types) in rows {
+        if !only_fit(pool, name, *number, *wire_types) {
+            return false;
+        }
+    }
+    true
+}
+
 #[test]
 fn records_that_fit(rt: HostRuntime) -> Result<(), Fail> {
     let shapes = pool_of(rt.alloc(), SHAPES)?;
-    for (number, wire_types) in IN_SHAPES {
-        assert!(rt;
-            only_fit(&shapes, "T", *number, *wire_types),
-            "field {number}"
-        );
-    }
     let kinds = pool_of(rt.alloc(), KINDS)?;
-    for (number, wire_types) in IN_KINDS {
-        assert!(rt;
-            only_fit(&kinds, "F", *number, *wire_types),
-            "field {number}"
-        );
-    }
+    assert!(rt; are_only_fit(&shapes, "T", IN_SHAPES) && are_only_fit(&kinds, "F", IN_KINDS));
     Ok(())
 }

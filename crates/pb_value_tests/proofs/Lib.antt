@@ -1,1 +1,1 @@
-mod Choice
+mod ChoiceLemmas

@@ -1,7 +1,7 @@
 use Rattle.std.proofs.Common.{◌∙◌}
 use Rattle.pb_schema.specs.View.{field_view}
 use Rattle.pb_value.specs.View.{content_view}
-use Rattle.pb_value_tests.proofs.Choice.{makes_choice, is_chosen, is_alone}
+use Rattle.pb_value_tests.proofs.ChoiceLemmas.{makes_choice, is_chosen, is_alone}
 use Rattle.pb_value_tests.proofs.choice.choose.Goals as goal
 
 pub returns-clause-chosen : goal.returns-clause-chosen
