@@ -2,7 +2,7 @@
 
 use super::parts::{is_found, pool_of};
 use super::samples::{KINDS, SHAPES};
-use pb_schema::{EnumId, MessageId, Pool, fits};
+use pb_schema::{EnumId, EnumType, FileInfo, MessageId, MessageType, Pool, fits};
 use std::alloc::Global;
 use std::test::Fail;
 
@@ -84,25 +84,39 @@ fn types_by_name(rt: HostRuntime) -> Result<(), Fail> {
     Ok(())
 }
 
+fn is_the_file(files: &[FileInfo]) -> bool {
+    match files.first() {
+        Some(file) => {
+            files.len() == 1
+                && file.name.as_str() == "f.proto"
+                && file.package.is_empty()
+                && file.imports.is_empty()
+        }
+        None => false,
+    }
+}
+
+fn is_the_message(messages: &[MessageType]) -> bool {
+    match messages.first() {
+        Some(message) => {
+            messages.len() == 1 && message.name.as_str() == "F" && message.fields.len() == 12
+        }
+        None => false,
+    }
+}
+
+fn is_the_enum(enums: &[EnumType]) -> bool {
+    match enums.first() {
+        Some(entry) => enums.len() == 1 && entry.name.as_str() == "E" && entry.values.len() == 2,
+        None => false,
+    }
+}
+
 #[test]
 fn parts_in_order(rt: HostRuntime) -> Result<(), Fail> {
     let pool = pool_of(rt.alloc(), KINDS)?;
-    let file = pool.files().first().ok_or("no file")?;
-    let message = pool.messages().first().ok_or("no message")?;
-    let entry = pool.enums().first().ok_or("no enum")?;
     assert!(rt;
-        pool.files().len() == 1
-            && file.name.as_str() == "f.proto"
-            && file.package.is_empty()
-            && file.imports.is_empty()
-    );
-    assert!(rt;
-        pool.messages().len() == 1
-            && message.name.as_str() == "F"
-            && message.fields.len() == 12
-            && pool.enums().len() == 1
-            && entry.name.as_str() == "E"
-            && entry.values.len() == 2
+        is_the_file(pool.files()) && is_the_message(pool.messages()) && is_the_enum(pool.enums())
     );
     Ok(())
 }

@@ -4,9 +4,10 @@ use super::reading::{body_of, key_of, nest, value_of};
 use super::sample::sample;
 use pb_schema::{EnumId, Kind, MessageId};
 use pb_value::{
-    Content, Value, ValueError, canonical_spelling, default_value, key_order, no_cause, one_value,
-    well_formed_values,
+    Content, DynamicMessage, Value, ValueError, canonical_spelling, default_value, key_order,
+    no_cause, one_value, well_formed_values,
 };
+use std::alloc::{AllocError, Global};
 use std::test::Fail;
 
 #[test]
@@ -23,23 +24,34 @@ fn empty_message(rt: HostRuntime) -> Result<(), Fail> {
     Ok(())
 }
 
+/// A field, and whether the message holds it.
+const HELD: &[(u32, bool)] = &[(1, true), (7, false), (8, true), (99, false)];
+
+fn are_held(message: &DynamicMessage<'_>, rows: &[(u32, bool)]) -> bool {
+    for (number, is_there) in rows {
+        if message.has(*number) != *is_there || message.get(*number).is_some() != *is_there {
+            return false;
+        }
+    }
+    true
+}
+
+fn is_number(content: Option<&Content>, wanted: i32) -> bool {
+    match content {
+        Some(Content::One(Value::I32(number))) => *number == wanted,
+        _ => false,
+    }
+}
+
 #[test]
 fn what_a_message_holds(rt: HostRuntime) -> Result<(), Fail> {
     let alloc = rt.alloc();
     let schema = sample(alloc)?;
     let message = schema.made(alloc, body_of(alloc, "1:i5 8:n0")?)?;
     assert!(rt;
-        message.has(1)
-            && !message.has(7)
-            && message.has(8)
-            && !message.has(99)
-            && message.get(1) == Some(&Content::One(Value::I32(5)))
-            && message.get(7).is_none()
-            && message.get(8).is_some()
-            && message.get(99).is_none()
-    );
-    assert!(rt;
-        message.which_oneof(0) == Some(8)
+        are_held(&message, HELD)
+            && is_number(message.get(1), 5)
+            && message.which_oneof(0) == Some(8)
             && message.which_oneof(1).is_none()
             && message.which_oneof(2).is_none()
     );
@@ -125,23 +137,42 @@ fn keys(rt: HostRuntime) -> Result<(), Fail> {
     Ok(())
 }
 
-/// A value that nests as deep as one may, and a long list, are set and dropped.
+/// A value that nests as deep as one may is set and dropped.
 #[test]
-fn large_values(rt: HostRuntime) -> Result<(), Fail> {
+fn deep_value(rt: HostRuntime) -> Result<(), Fail> {
     let alloc = rt.alloc();
     let schema = sample(alloc)?;
     let mut message = schema.empty(alloc);
     message.set(3, Content::One(Value::Message(nest(alloc, 99)?)))?;
+    assert!(rt; message.has(3));
+    Ok(())
+}
+
+fn long_list(alloc: Global, count: i32) -> Result<Content, AllocError> {
     let mut numbers = Vec::new(alloc);
-    for number in 0..1_000_000 {
+    for number in 0..count {
         numbers.push(Value::I32(number))?;
     }
-    message.set(6, Content::List(numbers))?;
-    assert!(rt;
-        matches!(message.get(6), Some(Content::List(numbers)) if numbers.len() == 1_000_000)
-    );
+    Ok(Content::List(numbers))
+}
+
+fn is_list_of(content: Option<&Content>, count: usize) -> bool {
+    match content {
+        Some(Content::List(values)) => values.len() == count,
+        _ => false,
+    }
+}
+
+/// A long list is set, cleared and dropped.
+#[test]
+fn long_value(rt: HostRuntime) -> Result<(), Fail> {
+    let alloc = rt.alloc();
+    let schema = sample(alloc)?;
+    let mut message = schema.empty(alloc);
+    message.set(6, long_list(alloc, 1_000_000)?)?;
+    let is_set = is_list_of(message.get(6), 1_000_000);
     message.clear(6);
-    assert!(rt; message.has(3) && !message.has(6));
+    assert!(rt; is_set && !message.has(6));
     Ok(())
 }
 

@@ -168,14 +168,22 @@ fn changes(rt: HostRuntime) -> Result<(), Fail> {
     Ok(())
 }
 
-/// What stood under the key is given back.
+/// The number that stood under the key `k` of the map 9 before this one was put there.
+fn put(alloc: Global, message: &mut DynamicMessage<'_>, number: i32) -> Result<Option<i32>, Fail> {
+    let key = key_of(alloc, "tk")?;
+    Ok(match message.insert(9, key, Value::I32(number))? {
+        Some(Value::I32(stood)) => Some(stood),
+        _ => None,
+    })
+}
+
 #[test]
 fn insert_gives_back(rt: HostRuntime) -> Result<(), Fail> {
     let alloc = rt.alloc();
     let schema = sample(alloc)?;
     let mut message = schema.empty(alloc);
-    let first = message.insert(9, key_of(alloc, "tk")?, Value::I32(7))?;
-    let second = message.insert(9, key_of(alloc, "tk")?, Value::I32(8))?;
-    assert!(rt; first.is_none() && second == Some(Value::I32(7)));
+    let first = put(alloc, &mut message, 7)?;
+    let second = put(alloc, &mut message, 8)?;
+    assert!(rt; first.is_none() && second == Some(7));
     Ok(())
 }

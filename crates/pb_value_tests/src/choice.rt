@@ -9,6 +9,7 @@ use super::reading::content_of;
 use super::sample::sample;
 use pb_schema::Shape;
 use pb_value::{Content, DynamicMessage, ValueError};
+use std::alloc::Global;
 use std::test::Fail;
 
 /// Sets a member of a oneof, and tells which member is set then: that one. Every other one is gone, whatever was there.
@@ -35,6 +36,20 @@ fn choose(
     Ok(message.which_oneof(oneof))
 }
 
+/// Whether this member was set.
+fn is_chosen(
+    alloc: Global,
+    message: &mut DynamicMessage<'_>,
+    number: u32,
+    word: &str,
+) -> Result<bool, Fail> {
+    match choose(message, number, content_of(alloc, word)?) {
+        Ok(member) => Ok(member == Some(number)),
+        Err(ValueError::Memory) => Err(Fail::new("no memory")),
+        Err(_) => Ok(false),
+    }
+}
+
 /// Members, and what each is set to in turn.
 const MEMBERS: &[(u32, &str)] = &[(7, "u5"), (8, "n0"), (18, "U5"), (7, "u0")];
 
@@ -44,13 +59,11 @@ fn members_in_turn(rt: HostRuntime) -> Result<(), Fail> {
     let schema = sample(alloc)?;
     let mut message = schema.empty(alloc);
     for (number, word) in MEMBERS {
-        let content = content_of(alloc, word)?;
-        let chosen = choose(&mut message, *number, content)?;
-        assert!(rt; chosen == Some(*number), "{number}");
+        assert!(rt; is_chosen(alloc, &mut message, *number, word)?, "{number}");
     }
-    assert!(rt; message.has(7) && !message.has(8) && message.has(18));
-    let content = content_of(alloc, "i5")?;
-    let other = choose(&mut message, 1, content);
-    assert!(rt; other.is_err() && !message.has(1));
+    let is_other_chosen = is_chosen(alloc, &mut message, 1, "i5")?;
+    assert!(rt;
+        message.has(7) && !message.has(8) && message.has(18) && !is_other_chosen && !message.has(1)
+    );
     Ok(())
 }

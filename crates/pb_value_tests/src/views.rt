@@ -2,7 +2,7 @@
 
 use super::reading::body_of;
 use super::sample::sample;
-use pb_value::{Content, MapKey, MessageRef, Value};
+use pb_value::{Content, DynamicMessage, MapKey, MessageRef, Value};
 use std::alloc::{AllocError, Global};
 use std::test::Fail;
 
@@ -12,6 +12,16 @@ fn number_in(message: Option<MessageRef<'_>>) -> Option<i32> {
         Content::One(Value::I32(number)) => Some(*number),
         _ => None,
     }
+}
+
+/// The number in the message at an index of the list 19.
+fn number_at(view: &MessageRef<'_>, index: usize) -> Option<i32> {
+    number_in(view.message_at(19, index))
+}
+
+/// The number in the message under a key of the map 12.
+fn number_under(view: &MessageRef<'_>, key: MapKey) -> Option<i32> {
+    number_in(view.message_of(12, &key))
 }
 
 /// A field, and the number in the message that it holds.
@@ -24,29 +34,44 @@ const FIELDS: &[(u32, Option<i32>)] = &[
     (99, None),
 ];
 
+fn are_told(view: &MessageRef<'_>, rows: &[(u32, Option<i32>)]) -> bool {
+    for (number, told) in rows {
+        if number_in(view.message(*number)) != *told {
+            return false;
+        }
+    }
+    true
+}
+
 #[test]
 fn inner_messages(rt: HostRuntime) -> Result<(), Fail> {
     let alloc = rt.alloc();
     let schema = sample(alloc)?;
     let message = schema.made(alloc, body_of(alloc, "3:h5 12:{u9=h6} 19:[h7,h8]")?)?;
-    for (number, told) in FIELDS {
-        assert!(rt;
-            number_in(message.message(*number)) == *told,
-            "field {number}"
-        );
-    }
     let view = message.view();
     assert!(rt;
-        number_in(view.message_at(19, 0)) == Some(7)
-            && number_in(view.message_at(19, 1)) == Some(8)
-            && view.message_at(19, 2).is_none()
-            && number_in(view.message_of(12, &MapKey::U32(9))) == Some(6)
-            && view.message_of(12, &MapKey::U32(8)).is_none()
-            && view.message_of(12, &MapKey::I32(9)).is_none()
+        are_told(&view, FIELDS)
+            && number_at(&view, 0) == Some(7)
+            && number_at(&view, 1) == Some(8)
+            && number_at(&view, 2).is_none()
+            && number_under(&view, MapKey::U32(9)) == Some(6)
+            && number_under(&view, MapKey::U32(8)).is_none()
+            && number_under(&view, MapKey::I32(9)).is_none()
     );
+    Ok(())
+}
+
+/// The same calls of the message itself.
+#[test]
+fn inner_messages_of_a_message(rt: HostRuntime) -> Result<(), Fail> {
+    let alloc = rt.alloc();
+    let schema = sample(alloc)?;
+    let message = schema.made(alloc, body_of(alloc, "3:h5 12:{u9=h6} 19:[h7,h8]")?)?;
+    let key = MapKey::U32(9);
     assert!(rt;
-        number_in(message.message_at(19, 1)) == Some(8)
-            && number_in(message.message_of(12, &MapKey::U32(9))) == Some(6)
+        number_in(message.message(3)) == Some(5)
+            && number_in(message.message_at(19, 1)) == Some(8)
+            && number_in(message.message_of(12, &key)) == Some(6)
     );
     Ok(())
 }
@@ -70,9 +95,34 @@ fn whole_view(rt: HostRuntime) -> Result<(), Fail> {
     Ok(())
 }
 
-fn shown(alloc: Global, message: &MessageRef<'_>) -> Result<String, AllocError> {
+fn shown(alloc: Global, message: &DynamicMessage<'_>) -> Result<String, AllocError> {
     format!(in alloc; "{message:?}")
 }
+
+fn shown_view(alloc: Global, message: &MessageRef<'_>) -> Result<String, AllocError> {
+    format!(in alloc; "{message:?}")
+}
+
+fn is_shown(alloc: Global, message: &DynamicMessage<'_>, wanted: &str) -> Result<bool, Fail> {
+    let told = shown(alloc, message)?;
+    Ok(told.as_str() == wanted)
+}
+
+fn is_shown_inside(
+    alloc: Global,
+    message: &DynamicMessage<'_>,
+    number: u32,
+    wanted: &str,
+) -> Result<bool, Fail> {
+    let inner = message.message(number).ok_or("no message")?;
+    let told = shown_view(alloc, &inner)?;
+    Ok(told.as_str() == wanted)
+}
+
+const OUTER: &str =
+    "DynamicMessage { type: a.b.T, body: Body { fields: {1: One(I32(5)), 20: One(Message(Body { fields: {}, unknown: [] }))}, unknown: [] } }";
+
+const INNER: &str = "MessageRef { type: a.b.T.N, body: Body { fields: {}, unknown: [] } }";
 
 /// A message prints the full name of its type, and its body.
 #[test]
@@ -80,13 +130,6 @@ fn printed(rt: HostRuntime) -> Result<(), Fail> {
     let alloc = rt.alloc();
     let schema = sample(alloc)?;
     let message = schema.made(alloc, body_of(alloc, "1:i5 20:n0")?)?;
-    let whole = format!(in alloc; "{message:?}")?;
-    let inner = shown(alloc, &message.message(20).ok_or("l")?)?;
-    assert!(rt;
-        whole.as_str()
-            == "DynamicMessage { type: a.b.T, body: Body { fields: {1: One(I32(5)), 20: One(Message(Body { fields: {}, unknown: [] }))}, unknown: [] } }"
-            && inner.as_str()
-                == "MessageRef { type: a.b.T.N, body: Body { fields: {}, unknown: [] } }"
-    );
+    assert!(rt; is_shown(alloc, &message, OUTER)? && is_shown_inside(alloc, &message, 20, INNER)?);
     Ok(())
 }
