@@ -1,13 +1,13 @@
 -- Records are read back from each of their spellings.
 use Rattle.std.proofs.Common.{◌≡◌, ℕ, zero, suc, ◌+◌, ◌*◌, ◌/◌, ◌%◌, ◌^◌, ◌<◌, ◌≤◌, List, [], ◌∷◌, ◌++◌, length, take, drop, refl, sym, ap, ◌∙◌, inl, inr, arith, append_assoc, append-nil, length-append}
-use Rattle.std.specs.Prelude.{nat_lt, nat_le, if◌then◌else◌, true, false, ◌⊎◌}
+use Rattle.std.specs.Prelude.{nat_le, if◌then◌else◌, true, false, ◌⊎◌}
 use Rattle.std.proofs.lemmas.Bool.Decides.{leb_tells}
 use Rattle.std.proofs.Math.Nat.{mod-eq_of_lt}
 use Rattle.std.specs.Int.{w32, w64, to_le_bytes, from_le_bytes}
 use Rattle.std.proofs.lemmas.Bool.{lt-ltb, le-ltb, le-leb}
 use Rattle.std.proofs.lemmas.List.{take_at, drop_at}
 use Rattle.std.proofs.lemmas.Nat.{from_le_bytes-to_le_bytes_4, from_le_bytes-to_le_bytes_8}
-use Rattle.pb_wire.specs.Varint.{IsVarint, EndsOnce, groups_value, shortest, shortest_within}
+use Rattle.pb_wire.specs.Varint.{IsVarint, EndsOnce, groups_value, shortest}
 use Rattle.pb_wire.specs.Record.{Payload, varint, fixed64, len, group, fixed32, Group, no_more, more, Record, wire_type, group_of, records_in}
 use Rattle.pb_wire.specs.Spell.{Body, Tagged, AreRecords, SpellsGroup, shortest_record, shortest_group, shortest_records}
 use Rattle.pb_wire.specs.Ranges.{IsNumber, IsInRange, IsInRangeGroup, AreInRange}
