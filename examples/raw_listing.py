@@ -5,6 +5,7 @@ It knows the wire rules alone (encoding guide, "Message Structure" and "Groups")
 input, which is all that the examples show.
 """
 import sys
+from collections import Counter
 
 
 class Truncated(Exception):
@@ -32,13 +33,14 @@ def take(data, at, size):
 def records(data, at, group, level, path, lines):
     """Adds the lines of the records from `at` on, and answers where they end."""
     indent = "  " * level
+    whole = Counter()
     while group is not None or at < len(data):
         tag, at = varint(data, at)
         number, wire_type = tag >> 3, tag & 7
         if wire_type == 4:
             assert number == group, "an end of another group"
             return at
-        path.append(number)
+        path.append(f"{number}[{whole[number]}]")
         if wire_type == 0:
             value, at = varint(data, at)
             lines.append(f"{indent}{number} varint {value}")
@@ -59,6 +61,7 @@ def records(data, at, group, level, path, lines):
         else:
             raise ValueError("a wire type that is not assigned")
         path.pop()
+        whole[number] += 1
     return at
 
 
@@ -68,7 +71,7 @@ def main():
     try:
         records(data, 0, None, 0, path, lines)
     except Truncated:
-        steps = ".".join(map(str, path)) or "-"
+        steps = ".".join(path) or "-"
         print(f"byte {len(data)} path {steps} cause Truncated")
         return
     print("".join(line + "\n" for line in lines), end="")

@@ -33,7 +33,7 @@ RisesFrom-lower : (low high : ℕ) (fs : Fields) → low ≤ high → RisesFrom 
 RisesFrom-lower low high no_fields l w = tt
 RisesFrom-lower low high (field k g fs) l w = let here = w.0 in (omega arith, w.1)
 
-RisesFrom-drop_field : (low n : ℕ) (fs : Fields) → RisesFrom low fs → RisesFrom low (drop_field n fs)
+pub RisesFrom-drop_field : (low n : ℕ) (fs : Fields) → RisesFrom low fs → RisesFrom low (drop_field n fs)
 RisesFrom-drop_field low n no_fields w = tt
 RisesFrom-drop_field low n (field k g fs) w =
     let here = w.0 in
@@ -48,7 +48,7 @@ IfSome-weaker : {A : Type 0} (x : Option A) (P Q : A → Type 0) → ((a : A) �
 IfSome-weaker None P Q f h = tt
 IfSome-weaker (Some a) P Q f h = f a h
 
-HasOneMemberEach-drop_field : (all : List FieldView) (n : ℕ) (fs : Fields) → HasOneMemberEach all fs → HasOneMemberEach all (drop_field n fs)
+pub HasOneMemberEach-drop_field : (all : List FieldView) (n : ℕ) (fs : Fields) → HasOneMemberEach all fs → HasOneMemberEach all (drop_field n fs)
 HasOneMemberEach-drop_field all n no_fields w = tt
 HasOneMemberEach-drop_field all n (field k g fs) w =
     let later : HasOneMemberEach all (field k g (drop_field n fs)) = (IfSome-weaker (oneof_at all k) _ _ (λ o a. HasNoMember-drop_field all o n fs a) w.0, HasOneMemberEach-drop_field all n fs w.1) in
@@ -74,7 +74,7 @@ IsWellFormed-drop_field pool m n (body fs us) w =
 abbrev pub CanStand : Types → List FieldView → ℕ → Holding → Type 0
 CanStand pool all n h = IsSomeAnd (field_numbered n all) (λ f. IsOfShape f.shape h × IsHeld pool f.shape f.kind h)
 
-AreFields-put_field : (pool : Types) (all : List FieldView) (n : ℕ) (h : Holding) (fs : Fields) → CanStand pool all n h → AreFields pool all fs → AreFields pool all (put_field n h fs)
+pub AreFields-put_field : (pool : Types) (all : List FieldView) (n : ℕ) (h : Holding) (fs : Fields) → CanStand pool all n h → AreFields pool all fs → AreFields pool all (put_field n h fs)
 AreFields-put_field pool all n h no_fields ok w = (ok, tt)
 AreFields-put_field pool all n h (field k g fs) ok w =
     by_order (AreFields pool all) n k _ _ _ (λ _. (ok, w)) (λ e. (subst (λ (i : ℕ). CanStand pool all i h) e ok, w.1)) (λ _. (w.0, AreFields-put_field pool all n h fs ok w.1))
@@ -170,11 +170,11 @@ equal_of n Equal h = refl
 equal_of n Greater h = absurd (omega (arith, h))
 
 -- what the member that is set says of the others
-MemberSays : List FieldView → ℕ → Fields → Option ℕ → Type 0
+unfoldable pub MemberSays : List FieldView → ℕ → Fields → Option ℕ → Type 0
 MemberSays all o fs None = HasNoMember all o fs
 MemberSays all o fs (Some k) = (oneof_at all k ≡ Some o) × HasNoMember all o (drop_field k fs)
 
-member_says : (all : List FieldView) (o : ℕ) (fs : Fields) → HasOneMemberEach all fs → MemberSays all o fs (member_set all o fs)
+pub member_says : (all : List FieldView) (o : ℕ) (fs : Fields) → HasOneMemberEach all fs → MemberSays all o fs (member_set all o fs)
 unfolding MemberSays
 member_says all o no_fields w = tt
 member_says all o (field n g fs) w = by_test (is_member_at o (field_numbered n all)) refl (member_says all o fs w.1)

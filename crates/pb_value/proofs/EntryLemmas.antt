@@ -128,7 +128,7 @@ abbrev pub HasEntry : Entries → Type 0
 HasEntry no_entries = ⊥
 HasEntry (entry x d es) = Unit {0}
 
-HasEntry-put_entry : (x : Scalar) (d : Datum) (es : Entries) → HasEntry (put_entry x d es)
+pub HasEntry-put_entry : (x : Scalar) (d : Datum) (es : Entries) → HasEntry (put_entry x d es)
 HasEntry-put_entry x d no_entries = tt
 HasEntry-put_entry x d (entry y e es) = by_cmp HasEntry (key_cmp x y) _ _ _ (λ _. tt) (λ _. tt) (λ _. tt)
 

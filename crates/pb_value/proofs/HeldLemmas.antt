@@ -79,7 +79,7 @@ module _ (pool : Types) (value : ℕ → List Record → Message) (levels : ℕ)
     (inside : (m room : ℕ) (rs : List Record) → room < levels → AllGood pool (a_message m) room rs → IsBody pool m (value m rs) × (message_depth (value m rs) ≤ room)) where
   -- ONE VALUE
 
-  joined-good : (t below : ℕ) (s : Shape) (m : MessageId) (rs : List Record) → key_of s ≡ None → AllCount pool (a_message t) (suc below) s (kind.Message m) rs → AllGood pool (a_message m.0) below (joined rs)
+  pub joined-good : (t below : ℕ) (s : Shape) (m : MessageId) (rs : List Record) → key_of s ≡ None → AllCount pool (a_message t) (suc below) s (kind.Message m) rs → AllGood pool (a_message m.0) below (joined rs)
   joined-good t below s m [] none h = tt
   joined-good t below s m (r ∷ rs) none h =
       let here = inside_message pool t (suc below) s m r none h.0 in
@@ -172,7 +172,7 @@ module _ (pool : Types) (value : ℕ → List Record → Message) (levels : ℕ)
         depth = omega (arith, second.depth);
       }
 
-  entries-good :
+  pub entries-good :
       (t room : ℕ) (key k : Kind) (rs : List Record) → room ≤ levels → IsTrue (is_key_kind key) → AllCount pool (a_message t) room (shape.Map key) k rs
       → AllByRecursion (IsEntry pool key k room) (map (entry_of value key k) rs)
   entries-good t room key k rs l can h =

@@ -32,7 +32,7 @@ use Rattle.pb_value.proofs.HeldLemmas.{IsStored, held-stored}
 
 module _ (pool : Types) (inner : ℕ → List Record → Message) where
   -- the records that count for a field are good and fit it
-  counting_as-good :
+  pub counting_as-good :
       (t room : ℕ) (s : Shape) (all : List FieldView) (f : FieldView) (rs : List Record) → AllGood pool (a_message t) room rs
       → AllByRecursion (λ r. IsGood pool (a_message t) room r × (fits f r ≡ true)) (counting_as inner s all f rs)
   counting_as-good t room (shape.OneofMember o) all f rs h =
@@ -151,7 +151,7 @@ mutual
   IsNumberedGroup-IsWritableGroup no_more w = tt
   IsNumberedGroup-IsWritableGroup (more k p g) w = (w.0, IsNumbered-IsWritable p w.1, IsNumberedGroup-IsWritableGroup g w.2)
 
-unfitting-good : (pool : Types) (t room : ℕ) (fs : List FieldView) (rs : List Record) → AllGood pool (a_message t) room rs → AreUnknown fs (unfitting fs rs) × (records_depth (unfitting fs rs) ≤ room)
+pub unfitting-good : (pool : Types) (t room : ℕ) (fs : List FieldView) (rs : List Record) → AllGood pool (a_message t) room rs → AreUnknown fs (unfitting fs rs) × (records_depth (unfitting fs rs) ≤ room)
 unfitting-good pool t room fs rs h = each (unfitting fs rs) (all_filter (IsGood pool (a_message t) room) (λ r. not (fits_any fs r)) rs h)
   where
     fails : (b : Bool) → not b ≡ true → b ≡ false
@@ -216,7 +216,7 @@ module _ (pool : Types) (rules : IsPool pool) (inner : ℕ → List Record → M
 
 -- ALL LEVELS
 
-within-good :
+pub within-good :
     (pool : Types) → IsPool pool → (levels m room : ℕ) (rs : List Record) → room < levels → AllGood pool (a_message m) room rs
     → IsBody pool m (value_within pool levels m rs) × (message_depth (value_within pool levels m rs) ≤ room)
 unfolding value_within

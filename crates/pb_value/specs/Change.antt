@@ -1,6 +1,6 @@
 -- What changes make of a message's fields, and when they are refused. A change judges what is new alone: the field first, then what its
 -- messages hold, and the depth last.
-use Rattle.std.specs.Prelude.{◌≡◌, ◌≤◌, ℕ, suc, List, Bool, true, false, ◌&&◌, ◌==◌, nat_le, Option, Some, None, IsSomeAnd, if◌then◌else◌}
+use Rattle.std.specs.Prelude.{◌≡◌, ◌≤◌, ℕ, suc, List, [], ◌∷◌, Bool, true, false, ◌&&◌, ◌==◌, nat_le, Option, Some, None, IsSomeAnd, if◌then◌else◌}
 use Rattle.pb_schema.specs.declared.types.Kind.{Kind}
 use Rattle.pb_schema.specs.declared.types.Shape.{Shape}
 use Rattle.pb_schema.specs.declared.types.Shape.TheVariants as shape
@@ -78,6 +78,11 @@ inserted x d h = map (put_entry x d (entries_of h))
 abbrev pub push_at : ℕ → Datum → Fields → Fields
 push_at n d fs = put_field n (pushed d (get_field n fs)) fs
 
+-- the fields with each of some at the end of the list of number n
+abbrev pub push_each : ℕ → List Datum → Fields → Fields
+push_each n [] fs = fs
+push_each n (d ∷ ds) fs = push_each n ds (push_at n d fs)
+
 -- the fields with d under the key x of the map of number n
 abbrev pub insert_at : ℕ → Scalar → Datum → Fields → Fields
 insert_at n x d fs = put_field n (inserted x d (get_field n fs)) fs
@@ -85,6 +90,12 @@ insert_at n x d fs = put_field n (inserted x d (get_field n fs)) fs
 -- what stands under the key x of the map of number n
 abbrev pub entry_at : ℕ → Scalar → Fields → Option Datum
 entry_at n x fs = get_entry x (entries_of (get_field n fs))
+
+-- a field of the shape holds one value
+abbrev pub IsSingle : Shape → Type 0
+IsSingle (shape.List p) = ⊥
+IsSingle (shape.Map k) = ⊥
+IsSingle _ = Unit {0}
 
 abbrev pub is_list : Shape → Bool
 is_list (shape.List _) = true

@@ -1,8 +1,8 @@
 //! Changes of what a body holds.
 
-ghost use Rattle.std.specs.Prelude.{◌≡◌, ◌<◌, length, OnOk, OnErr, IfErr, Some};
+ghost use Rattle.std.specs.Prelude.{◌≡◌, ◌<◌, length, OnOk, OnErr, IfErr, Some, option_map};
 ghost use Rattle.pb_schema.specs.Types.{message_fields};
-ghost use Rattle.pb_value.specs.Data.{body, put_field, drop_field, fields_of, unknown_of};
+ghost use Rattle.pb_value.specs.Data.{body, get_field, put_field, drop_field, fields_of, unknown_of};
 ghost use Rattle.pb_value.specs.Change.{gives_way, stored_at, with_fields};
 ghost use Rattle.pb_value.specs.WellFormed.{RisesFrom, HasOneMemberEach};
 ghost use Rattle.pb_value.specs.View.{body_view, content_view, fields_view};
@@ -23,7 +23,7 @@ pub(crate) fn clear_field(message: &mut Body, number: u32)
 }
 
 /// Puts a content at a number.
-pub(crate) fn put_field(message: &mut Body, number: u32, content: Content) -> Result<(), ValueError>
+pub fn put_field(message: &mut Body, number: u32, content: Content) -> Result<(), ValueError>
     ensures ok { OnOk result (body_view message.new ≡ with_fields (body_view message.old) (put_field number (content_view content) (fields_of (body_view message.old)))) }
     ensures err { OnErr result (body_view message.new ≡ body_view message.old) }
     ensures memory { IfErr result (λ e. e ≡ Memory) }
@@ -31,6 +31,14 @@ pub(crate) fn put_field(message: &mut Body, number: u32, content: Content) -> Re
 {
     drop(message.fields.insert(number, content)?);
     Ok(())
+}
+
+/// Takes the content of a number out of a body.
+pub fn take_field(message: &mut Body, number: u32) -> Option<Content>
+    ensures left { body_view message.new ≡ with_fields (body_view message.old) (drop_field number (fields_of (body_view message.old))) }
+    ensures taken { option_map content_view result ≡ get_field number (fields_of (body_view message.old)) }
+{
+    message.fields.remove(&number)
 }
 
 /// The member that gives way to the field of a number: the one of its oneof that is set.
@@ -53,7 +61,7 @@ fn gives_way(
 }
 
 /// Stores a content at a field, or clears the field where an absent one is the same.
-pub(crate) fn store(
+pub fn store(
     pool: &Pool,
     kind: MessageId,
     message: &mut Body,

@@ -212,6 +212,25 @@ impl<'p> DynamicMessage<'p> {
         insert_entry(self.alloc, &mut self.body, number, key, value)
     }
 
+    /// The message of a body that is known to be well formed. Nothing is judged.
+    pub fn from_well_formed(
+        alloc: Global,
+        pool: &'p Pool,
+        kind: MessageId,
+        body: Body,
+    ) -> DynamicMessage<'p>
+        requires within { kind.0 < length pool.now.messages }
+        requires well_formed { IsWellFormed pool.now kind.0 (body_view body) }
+        ensures { result ≡ record { pool = pool.now; kind = kind.0; body = body_view body } }
+    {
+        DynamicMessage {
+            alloc,
+            pool,
+            kind,
+            body,
+        }
+    }
+
     /// The shape of the field of a number, where a content can be set there.
     fn allows(&self, number: u32, content: &Content) -> Result<Shape, ValueError>
         ensures judged { MatchResult result (λ _. set_cause self.now.pool self.now.kind number (content_view content.now) ≡ None) (FailsWith (set_cause self.now.pool self.now.kind number (content_view content.now))) }

@@ -81,7 +81,7 @@ fn put_under(
 
 /// Puts a value under a key of the map of a number, and gives the one that stood there. Where there is no map, the field then
 /// holds a map of one entry.
-pub(crate) fn insert_entry(
+pub fn insert_entry(
     alloc: Global,
     message: &mut Body,
     number: u32,

@@ -16,6 +16,7 @@ ghost use Rattle.pb_value.specs.Canon.{canon, canon_bytes};
 ghost use Rattle.pb_value.specs.WellFormed.{IsWellFormed};
 ghost use Rattle.pb_value.specs.Meaning.{ValueIsWellFormed, DerivedIsWellFormed};
 ghost use Rattle.pb_value.specs.Cause.{message_cause};
+ghost use Rattle.pb_value.specs.Joining.{FirstValueDecides, OntoIsJoining, OntoDerives, OntoIsWellFormed, MergeIsJoining, MergeIsText, MergeIsWellFormed};
 
 /// Bytes are the text of one value, whatever the depth allowed.
 pub fn one_value()
@@ -41,4 +42,23 @@ pub fn key_order()
 /// Nothing refuses a well-formed message.
 pub fn no_cause()
     ensures { (pool : Types) (m : ℕ) (v : Message) → IsWellFormed pool m v → message_cause pool m v ≡ None }
+{}
+
+/// The value of joined records depends on the value of the first of them, and on nothing else of these.
+pub fn joined_records()
+    ensures { (pool : Types) → IsPool pool → FirstValueDecides pool }
+{}
+
+/// Reading onto a message is reading behind any records, or any bytes, that give the message; the message stays well formed.
+pub fn reading_onto()
+    ensures records { (pool : Types) → IsPool pool → OntoIsJoining pool }
+    ensures bytes { (pool : Types) → IsPool pool → OntoDerives pool }
+    ensures well_formed { (pool : Types) → IsPool pool → OntoIsWellFormed pool }
+{}
+
+/// A message over another is what the canonical forms of both, one behind the other, mean; it is well formed.
+pub fn merging()
+    ensures records { (pool : Types) → IsPool pool → MergeIsJoining pool }
+    ensures bytes { (pool : Types) → IsPool pool → MergeIsText pool }
+    ensures well_formed { (pool : Types) → IsPool pool → MergeIsWellFormed pool }
 {}

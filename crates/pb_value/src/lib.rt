@@ -18,7 +18,10 @@ mod push;
 mod unknown;
 
 pub use body::{Body, Content, MapKey, Value};
+pub use change::{put_field, store, take_field};
 pub use dynamic::{DynamicMessage, default_value};
 pub use error::ValueError;
+pub use insert::insert_entry;
 pub use laws::{canonical_spelling, key_order, no_cause, one_value, well_formed_values};
 pub use message_ref::MessageRef;
+pub use push::push_element;

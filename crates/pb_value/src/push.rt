@@ -74,7 +74,7 @@ fn append(alloc: Global, content: &mut Content, value: Value) -> Result<(), Valu
 }
 
 /// Puts a value at the end of the list of a number. Where there is no list, the field then holds a list of one.
-pub(crate) fn push_element(
+pub fn push_element(
     alloc: Global,
     message: &mut Body,
     number: u32,

@@ -1,8 +1,8 @@
--- Records that nest no deeper than the levels left are sound where no field is known.
+-- Where no field is known, records are sound exactly where they nest no deeper than the levels left.
 use Rattle.std.proofs.Common.{◌≡◌, ℕ, zero, suc, ◌≤◌, List, [], ◌∷◌, refl, ap, arith}
 use Rattle.pb_wire.specs.Record.{Payload, varint, fixed64, len, group, fixed32, Group, no_more, more, Record, group_of, records_in, depth, group_depth, records_depth}
 use Rattle.pb_wire.specs.Schema.{blank}
-use Rattle.pb_wire.specs.Sound.{Sound, AllSound}
+use Rattle.pb_wire.specs.Sound.{Sound, AllSound, is_varint, is_fixed64, is_fixed32, some_bytes, a_text, a_list, a_message, a_value, a_group, none, one}
 
 group_of-records_in : (g : Group) → g ≡ group_of (records_in g)
 group_of-records_in no_more = refl
@@ -24,3 +24,27 @@ mutual
 pub sound_records : (rs : List Record) (room : ℕ) → records_depth rs ≤ room → AllSound blank tt room rs
 sound_records [] room h = AllSound.none
 sound_records (r ∷ rs) room h = AllSound.one (sound_payload r.payload r.number room (omega arith)) (sound_records rs room (omega arith))
+
+mutual
+  pub sound_depth : {room k : ℕ} {p : Payload} → Sound blank tt room k p → depth p ≤ room
+  sound_depth is_varint = omega arith
+  sound_depth is_fixed64 = omega arith
+  sound_depth is_fixed32 = omega arith
+  sound_depth (some_bytes e) = omega arith
+  sound_depth (a_text e u) = omega arith
+  sound_depth (a_list e l) = omega arith
+  sound_depth (a_message e r s) = omega arith
+  sound_depth (a_value e r s) = omega arith
+  sound_depth (a_group e s) = let inner = group_sound_depth s in rw e (omega arith)
+
+  pub group_sound_depth : {room : ℕ} {rs : List Record} → AllSound blank tt room rs → group_depth (group_of rs) ≤ room
+  group_sound_depth none = omega arith
+  group_sound_depth (one s others) = let first = sound_depth s in let rest = group_sound_depth others in omega arith
+
+pub records_sound_depth : {room : ℕ} {rs : List Record} → AllSound blank tt room rs → records_depth rs ≤ room
+records_sound_depth none = omega arith
+records_sound_depth (one s others) = let first = sound_depth s in let rest = records_sound_depth others in omega arith
+
+-- what is sound stays so with more levels left
+pub sound_higher : {room : ℕ} {rs : List Record} (higher : ℕ) → room ≤ higher → AllSound blank tt room rs → AllSound blank tt higher rs
+sound_higher {rs = rs} higher h sound = let low = records_sound_depth sound in sound_records rs higher (omega arith)

@@ -104,12 +104,12 @@ text_or_fault S c limits b bytes = ⊎_elim (λ (h : limits.bytes < length b). l
         (λ (x : (f : Fault) × Bad S (records c) limits.depth (text_at (take limits.bytes b)) f). inr (beyond limits.bytes x.0, HasFault.bad_front h x.1 refl))
         (exactly_text S c limits.depth (take limits.bytes b) (All-take IsByte limits.bytes b bytes)).either
 
-text_not_both : {S : Schema} {c : S.Context} {limits : Bounds} {b : List ℕ} {f : Fault} → HasFault S c limits b f → IsSomeText S c limits b → ⊥
+pub text_not_both : {S : Schema} {c : S.Context} {limits : Bounds} {b : List ℕ} {f : Fault} → HasFault S c limits b f → IsSomeText S c limits b → ⊥
 text_not_both {S} {c} {limits} {b} (HasFault.bad h x) (rs, t) = not_both x (text_read S c limits.depth b (rs, t.spelled, t.sound))
 text_not_both (HasFault.bad_front h x e) (rs, t) = let s = t.size in omega (arith, s, h)
 text_not_both (HasFault.too_large h w e) (rs, t) = let s = t.size in omega (arith, s, h)
 
-one_text_fault : {S : Schema} {c : S.Context} {limits : Bounds} {b : List ℕ} {f g : Fault} → HasFault S c limits b f → HasFault S c limits b g → f ≡ g
+pub one_text_fault : {S : Schema} {c : S.Context} {limits : Bounds} {b : List ℕ} {f g : Fault} → HasFault S c limits b f → HasFault S c limits b g → f ≡ g
 one_text_fault (HasFault.bad h x) (HasFault.bad i y) = one_fault x y
 one_text_fault (HasFault.bad h x) (HasFault.bad_front i y e) = absurd (omega (arith, h, i))
 one_text_fault (HasFault.bad h x) (HasFault.too_large i w e) = absurd (omega (arith, h, i))

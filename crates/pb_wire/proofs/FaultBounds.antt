@@ -4,6 +4,8 @@ use Rattle.std.proofs.Common.{◌≡◌, ◌≢◌, ℕ, ◌+◌, ◌≤◌, Lis
 use Rattle.std.proofs.lemmas.List.{length-take}
 use Rattle.std.proofs.lemmas.Str.{utf8_valid_len_le}
 use Rattle.std.specs.Str.Lossy.{utf8_valid_len}
+use Rattle.pb_wire.specs.Record.{Record}
+use Rattle.pb_wire.specs.declared.fault.PathStep.{PathStep}
 use Rattle.pb_wire.specs.Fault.{Fault, fault, inside, Place, input_end, Moves, HasTag, HasLength, TagFault, VarintFault, FixedFault, LengthFault}
 use Rattle.pb_wire.specs.Schema.{Schema, Element, a_varint, four_bytes, eight_bytes, Open}
 use Rattle.pb_wire.specs.Grammar.{payload_at, Bad, RecordFault, ElementFault}
@@ -31,7 +33,7 @@ told_cut {p} {f} is =
 
 -- a fault of another cause, at this byte
 told_at :
-    {p : Place} {f : Fault} {byte : ℕ} {steps : List ℕ} {c : Cause} → p.at ≤ byte → byte ≤ input_end p → f ≡ fault byte steps c
+    {p : Place} {f : Fault} {byte : ℕ} {steps : List PathStep} {c : Cause} → p.at ≤ byte → byte ≤ input_end p → f ≡ fault byte steps c
     → c ≢ Truncated → c ≢ InputTooLarge → Told p f
 told_at {p} {f} {byte} {steps} {c} low high is ne nl =
     let at : f.byte ≡ byte = ap (λ (z : Fault). z.byte) is in
@@ -44,10 +46,10 @@ told_at {p} {f} {byte} {steps} {c} low high is ne nl =
     }
 
 -- a fault of another cause, where one stands
-told_here : {p : Place} {f : Fault} {steps : List ℕ} {c : Cause} → f ≡ fault p.at steps c → c ≢ Truncated → c ≢ InputTooLarge → Told p f
+told_here : {p : Place} {f : Fault} {steps : List PathStep} {c : Cause} → f ≡ fault p.at steps c → c ≢ Truncated → c ≢ InputTooLarge → Told p f
 told_here {p} is ne nl = told_at {p = p} (omega arith) (omega arith) is ne nl
 
-told_inside : {p : Place} {f g : Fault} {k : ℕ} → f ≡ inside k g → Told p g → Told p f
+told_inside : {p : Place} {f g : Fault} {s : PathStep} → f ≡ inside s g → Told p g → Told p f
 told_inside {p} {f} {g} is t =
     let e : f.cause ≡ g.cause = ap (λ (z : Fault). z.cause) is in
     let at : f.byte ≡ g.byte = ap (λ (z : Fault). z.byte) is in
@@ -107,7 +109,7 @@ in_payload : (r : Place) (n : ℕ) (f : Fault) → Told (payload_at r n) f → T
 in_payload r n f t = record { low = t.low; high = t.high; cut = t.cut; small = t.small }
 
 text_told :
-    (r : Place) (n : ℕ) (steps : List ℕ) (c : Cause) (f : Fault) → c ≢ Truncated → c ≢ InputTooLarge
+    (r : Place) (n : ℕ) (steps : List PathStep) (c : Cause) (f : Fault) → c ≢ Truncated → c ≢ InputTooLarge
     → f ≡ fault (r.at + utf8_valid_len (take n r.rest)) steps c → Told r f
 text_told r n steps c f ne nl is =
     let size = utf8_valid_len_le (take n r.rest) in
@@ -118,7 +120,7 @@ mutual
   told (Bad.at_record {front = front} w m goes bad) = told_from front m (record_told bad)
   told (Bad.at_end {front = front} is w m end e) = told_from front m (told_here e (λ h. cc) (λ h. cc))
 
-  pub record_told : {S : Schema} {o : Open S.Context} {room : ℕ} {p : Place} {f : Fault} → RecordFault S o room p f → Told p f
+  pub record_told : {S : Schema} {o : Open S.Context} {before : List Record} {room : ℕ} {p : Place} {f : Fault} → RecordFault S o before room p f → Told p f
   record_told (RecordFault.tag t) = tag_told t
   record_told (RecordFault.group_too_deep t z is) = told_here is (λ h. cc) (λ h. cc)
   record_told (RecordFault.message_too_deep t re z is) = told_here is (λ h. cc) (λ h. cc)

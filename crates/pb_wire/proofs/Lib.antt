@@ -1,4 +1,5 @@
 pub mod VarintLemmas
+pub mod TokenLemmas
 pub mod ReadingLemmas
 pub mod UnknownLemmas
 pub mod Unique
@@ -13,11 +14,13 @@ pub mod ExactLemmas
 pub mod Longer
 pub mod FaultBounds
 pub mod Transfers
+pub mod Behind
 pub mod Nesting
 pub mod RecordIterLemmas
 pub mod RecordIterSteps
 pub mod RecordIterStart
 pub mod RecordIterRuns
+pub mod JudgingLemmas
 pub mod ShortestLemmas
 pub mod DepthLemmas
 pub mod RangeLemmas

@@ -4,13 +4,15 @@ use Rattle.std.specs.Prelude.{option_map}
 use Rattle.std.specs.Str.Lossy.{utf8_valid_len}
 use Rattle.std.proofs.lemmas.List.{take-append-le, length-take}
 use Rattle.pb_wire.specs.Varint.{IsVarint}
-use Rattle.pb_wire.specs.Fault.{Fault, fault, inside, Place, window, Moves, Leads, IsHigh, HasTag, HasLength, TagFault, VarintFault, FixedFault, LengthFault}
+use Rattle.pb_wire.specs.Record.{Record}
+use Rattle.pb_wire.specs.declared.fault.PathStep.{PathStep}
+use Rattle.pb_wire.specs.Fault.{Fault, fault, step, inside, Place, window, Moves, Leads, IsHigh, HasTag, HasLength, TagFault, VarintFault, FixedFault, LengthFault}
 use Rattle.pb_wire.specs.Schema.{Schema, Element, a_varint, four_bytes, eight_bytes, Open, records, in_group, open_group}
 use Rattle.pb_wire.specs.Grammar.{Begins, payload_at, Bad, RecordFault, BadElements, ElementFault}
 use Rattle.pb_wire.specs.Exact.{IsRead, longer, IsCut}
 use Rattle.pb_wire.specs.declared.fault.Cause.TheVariants.{BadText}
 
-moves_longer : {p q : Place} (a more : List ℕ) → Moves p a q → Moves (longer p more) a (longer q more)
+pub moves_longer : {p q : Place} (a more : List ℕ) → Moves p a q → Moves (longer p more) a (longer q more)
 moves_longer {p} {q} a more m = record {
   given = ap (λ (z : List ℕ). z ++ more) m.given ∙ append_assoc a q.rest more;
   within = m.within;
@@ -18,13 +20,13 @@ moves_longer {p} {q} a more m = record {
   known = m.known;
 }
 
-leads_longer : (Body : List ℕ → Type 0) (p q : Place) (more : List ℕ) → Leads Body p q → Leads Body (longer p more) (longer q more)
+pub leads_longer : (Body : List ℕ → Type 0) (p q : Place) (more : List ℕ) → Leads Body p q → Leads Body (longer p more) (longer q more)
 leads_longer Body p q more h = (h.0, h.1, moves_longer h.0 more h.2)
 
-tag_longer : {p q : Place} {k w : ℕ} (more : List ℕ) → HasTag p k w q → HasTag (longer p more) k w (longer q more)
+pub tag_longer : {p q : Place} {k w : ℕ} (more : List ℕ) → HasTag p k w q → HasTag (longer p more) k w (longer q more)
 tag_longer {p} {q} {k} {w} more t = record { tag = leads_longer (IsVarint (8 * k + w)) p q more t.tag; number = t.number; type = t.type }
 
-length_longer : {p q : Place} {n : ℕ} (more : List ℕ) → HasLength p n q → HasLength (longer p more) n (longer q more)
+pub length_longer : {p q : Place} {n : ℕ} (more : List ℕ) → HasLength p n q → HasLength (longer p more) n (longer q more)
 length_longer {p} {q} {n} more l = record { length_is = leads_longer (IsVarint n) p q more l.length_is; small = l.small; within = l.within }
 
 -- the window grows at its end alone
@@ -47,7 +49,7 @@ closed (Some n) at rest more e =
     let size : n ≡ length (take n rest) = cc in
     take-append-le n rest more (omega (arith, size, length-take n rest))
 
-varint_longer : {p : Place} {f : Fault} (more : List ℕ) → VarintFault p f → (IsCut f → ⊥) → VarintFault (longer p more) f
+pub varint_longer : {p : Place} {f : Fault} (more : List ℕ) → VarintFault p f → (IsCut f → ⊥) → VarintFault (longer p more) f
 varint_longer {p} {f} more (VarintFault.too_long long high is) ne =
     let w = grown p.known p.at p.rest more in
     let size : length (window (longer p more)) ≡ length (window p) + length w.0 = ap length w.1 ∙ length-append (window p) w.0 in
@@ -59,16 +61,16 @@ varint_longer {p} {f} more (VarintFault.past_end short high known is) ne =
     (known ∙ ap (λ (z : List ℕ). Some (length z)) (sym same)) is
 varint_longer {p} {f} more (VarintFault.cut_short short high known is) ne = absurd (ne (ap (λ (z : Fault). z.cause) is))
 
-fixed_longer : {p : Place} {n : ℕ} {f : Fault} (more : List ℕ) → FixedFault n p f → (IsCut f → ⊥) → FixedFault n (longer p more) f
+pub fixed_longer : {p : Place} {n : ℕ} {f : Fault} (more : List ℕ) → FixedFault n p f → (IsCut f → ⊥) → FixedFault n (longer p more) f
 fixed_longer more (FixedFault.past_end past is) ne = FixedFault.past_end past is
 fixed_longer more (FixedFault.cut_short within cut is) ne = absurd (ne (ap (λ (z : Fault). z.cause) is))
 
-length_fault_longer : {p : Place} {f : Fault} (more : List ℕ) → LengthFault p f → (IsCut f → ⊥) → LengthFault (longer p more) f
+pub length_fault_longer : {p : Place} {f : Fault} (more : List ℕ) → LengthFault p f → (IsCut f → ⊥) → LengthFault (longer p more) f
 length_fault_longer more (LengthFault.token v) ne = LengthFault.token (varint_longer more v ne)
 length_fault_longer {p} more (LengthFault.too_large {n = n} {q = q} r large is) ne = LengthFault.too_large (leads_longer (IsVarint n) p q more r) large is
 length_fault_longer {p} more (LengthFault.past_end {n = n} {q = q} r small past is) ne = LengthFault.past_end (leads_longer (IsVarint n) p q more r) small past is
 
-tag_fault_longer : {o : Option ℕ} {p : Place} {f : Fault} (more : List ℕ) → TagFault o p f → (IsCut f → ⊥) → TagFault o (longer p more) f
+pub tag_fault_longer : {o : Option ℕ} {p : Place} {f : Fault} (more : List ℕ) → TagFault o p f → (IsCut f → ⊥) → TagFault o (longer p more) f
 tag_fault_longer more (TagFault.token v) ne = TagFault.token (varint_longer more v ne)
 tag_fault_longer {o} {p} more (TagFault.too_large {n = n} {q = q} r a is) ne = TagFault.too_large (leads_longer (IsVarint n) p q more r) a is
 tag_fault_longer {o} {p} more (TagFault.number_zero {n = n} {q = q} r a is) ne = TagFault.number_zero (leads_longer (IsVarint n) p q more r) a is
@@ -92,7 +94,7 @@ begins_longer : {C : Type 0} (o : Open C) (p : Place) (more : List ℕ) → Begi
 begins_longer (records c) p more b = (b.0, λ e. none_empty p.rest more (b.1 e))
 begins_longer (in_group k c) p more b = b
 
-not_cut : {f g : Fault} {k : ℕ} → f ≡ inside k g → (IsCut f → ⊥) → IsCut g → ⊥
+not_cut : {f g : Fault} {s : PathStep} → f ≡ inside s g → (IsCut f → ⊥) → IsCut g → ⊥
 not_cut is ne e = ne (ap (λ (z : Fault). z.cause) is ∙ e)
 
 mutual
@@ -102,8 +104,8 @@ mutual
   bad_longer more (Bad.at_end {front = front} is w m end e) ne = Bad.at_end is w (moves_longer front more m) end e
 
   pub record_longer :
-      {S : Schema} {o : Open S.Context} {room : ℕ} {p : Place} {f : Fault} (more : List ℕ) → RecordFault S o room p f → (IsCut f → ⊥)
-      → RecordFault S o room (longer p more) f
+      {S : Schema} {o : Open S.Context} {before : List Record} {room : ℕ} {p : Place} {f : Fault} (more : List ℕ) → RecordFault S o before room p f
+      → (IsCut f → ⊥) → RecordFault S o before room (longer p more) f
   record_longer more (RecordFault.tag t) ne = RecordFault.tag (tag_fault_longer more t ne)
   record_longer more (RecordFault.group_too_deep t z is) ne = RecordFault.group_too_deep (tag_longer more t) z is
   record_longer more (RecordFault.message_too_deep t re z is) ne = RecordFault.message_too_deep (tag_longer more t) re z is
@@ -113,11 +115,11 @@ mutual
   record_longer more (RecordFault.in_a_group t bad is) ne = RecordFault.in_a_group (tag_longer more t) (bad_longer more bad (not_cut is ne)) is
   record_longer more (RecordFault.length_of t a v is) ne = RecordFault.length_of (tag_longer more t) a (length_fault_longer more v (not_cut is ne)) is
   record_longer more (RecordFault.cut_payload t re v is) ne = absurd (ne (ap (λ (z : Fault). z.cause) is ∙ ap (λ (z : Fault). z.cause) v.fault_is))
-  record_longer more (RecordFault.bad_text {k = k} {n = n} {r = r} {f = f} t re l given bad is) ne =
+  record_longer more (RecordFault.bad_text {before = before} {k = k} {n = n} {r = r} {f = f} t re l given bad is) ne =
       let same : take n (r.rest ++ more) ≡ take n r.rest = take-append-le n r.rest more given in
       let size = length-append r.rest more in
       RecordFault.bad_text (tag_longer more t) re (length_longer more l) (omega arith) (subst (λ (z : List ℕ). ¬ IsUtf8 z) (sym same) bad)
-      (subst (λ (z : List ℕ). f ≡ fault (r.at + utf8_valid_len z) (k ∷ []) BadText) (sym same) is)
+      (subst (λ (z : List ℕ). f ≡ fault (r.at + utf8_valid_len z) (step k before ∷ []) BadText) (sym same) is)
   record_longer more (RecordFault.in_a_list {n = n} {e = e} {r = r} {g = g} t re l bad is) ne =
       RecordFault.in_a_list (tag_longer more t) re (length_longer more l) (elements_longer e (payload_at r n) g more bad (not_cut is ne)) is
   record_longer more (RecordFault.in_a_message t re l bad is) ne =

@@ -3,10 +3,12 @@ use Rattle.std.proofs.Common.{◌≡◌, ◌≢◌, ℕ, zero, suc, ◌+◌, ◌
 use Rattle.std.specs.Prelude.{slice_get}
 use Rattle.std.proofs.lemmas.List.{take_more, reverse-append}
 use Rattle.pb_wire.specs.Record.{Payload, group, Record, group_of}
-use Rattle.pb_wire.specs.Fault.{Fault, fault, inside, HasTag, place}
+use Rattle.pb_wire.specs.Fault.{Fault, fault, step, inside, HasTag, place}
+use Rattle.pb_wire.specs.declared.fault.PathStep.{PathStep}
 use Rattle.pb_wire.specs.Schema.{blank, in_group}
 use Rattle.pb_wire.specs.Grammar.{Bad, RecordFault}
 use Rattle.pb_wire.specs.Reading.{Front, ReadsValue}
+use Rattle.pb_wire.proofs.Behind.{behind}
 use Rattle.pb_wire.proofs.ReadingLemmas.{front_none, front_push, group_value}
 
 -- the numbers without the innermost, where the list has it first
@@ -71,18 +73,23 @@ module _ (b : List ℕ) (outer depth start : ℕ) where
   nested_last room (i ∷ j ∷ ks) here k h first one = absurd (omega arith)
 
   faults :
-      (room k : ℕ) (ks : List ℕ) (here : ℕ) (f : Fault) → Nested room (k ∷ ks) here → RecordFault blank (in_group k tt) room (place b here) f
-      → (path : List ℕ) × Bad blank (in_group outer tt) depth (place b start) (fault f.byte path f.cause)
+      {before : List Record} (room k : ℕ) (ks : List ℕ) (here : ℕ) (f : Fault) → Nested room (k ∷ ks) here
+      → RecordFault blank (in_group k tt) before room (place b here) f
+      → (path : List PathStep) × Bad blank (in_group outer tt) depth (place b start) (fault f.byte path f.cause)
   faults room k [] here f h bad =
-      (f.path, rw (h.0, h.1) at (Bad.at_record {o = in_group k tt} {room = room} (h.2, h.3.spelled.1, h.3.sound) h.3.spelled.2 (λ e. cc) bad))
+      let told = behind h.2 bad in
+      let here : (path : List PathStep) × Bad blank (in_group k tt) room (place b start) (fault f.byte path f.cause) =
+      (told.0, Bad.at_record {o = in_group k tt} {room = room} (h.2, h.3.spelled.1, h.3.sound) h.3.spelled.2 (λ e. cc) told.1) in
+      rw (h.0, h.1) at here
   faults room k (j ∷ ks) here f h bad =
-      faults (suc room) j ks h.0 (inside k f) h.2
-      (RecordFault.in_a_group h.3 (Bad.at_record (h.4, h.5.spelled.1, h.5.sound) h.5.spelled.2 (λ e. cc) bad) refl)
+      let told = behind h.4 bad in
+      faults {before = []} (suc room) j ks h.0 (inside (step k []) (fault f.byte told.0 f.cause)) h.2
+      (RecordFault.in_a_group h.3 (Bad.at_record (h.4, h.5.spelled.1, h.5.sound) h.5.spelled.2 (λ e. cc) told.1) refl)
 
   -- a fault in the innermost group, as a fault of the outermost
   pub nested_fault :
-      (room : ℕ) (ks : List ℕ) (here k : ℕ) (f : Fault) → Nested room ks here → slice_get ks 0 ≡ Some k
-      → RecordFault blank (in_group k tt) room (place b here) f
-      → (path : List ℕ) × Bad blank (in_group outer tt) depth (place b start) (fault f.byte path f.cause)
+      {before : List Record} (room : ℕ) (ks : List ℕ) (here k : ℕ) (f : Fault) → Nested room ks here → slice_get ks 0 ≡ Some k
+      → RecordFault blank (in_group k tt) before room (place b here) f
+      → (path : List PathStep) × Bad blank (in_group outer tt) depth (place b start) (fault f.byte path f.cause)
   nested_fault room [] here k f h first bad = absurd h
   nested_fault room (j ∷ ks) here k f h first bad = let same : k ≡ j = cc in faults room j ks here f h (rw same at bad)

@@ -9,14 +9,17 @@ use Rattle.pb_wire.specs.Reading.{Front, ReadsAll, ReadsValue, BadValue, BadFrom
 use Rattle.pb_wire.specs.Reading.{IfFault, IfRawFault}
 use Rattle.pb_wire.specs.declared.fault.RawError.{RawError}
 use Rattle.pb_wire.specs.declared.fault.RawError.TheVariants as raw
+use Rattle.pb_wire.specs.declared.fault.PathStep.{PathStep}
+use Rattle.pb_wire.specs.declared.unknown.Unknown.{Unknown}
+use Rattle.pb_wire.specs.Unknown.{payload_of, records_of}
 use Rattle.pb_wire.specs.declared.fault.WireFault.{WireFault}
 use Rattle.pb_wire.specs.declared.fault.ReadError.{ReadError}
 use Rattle.pb_wire.specs.declared.fault.ReadError.TheVariants as errors
-use Rattle.std.specs.Prelude.{option_map, MatchOption, option_to_list}
-use Rattle.std.proofs.lemmas.List.{take-append-drop, drop-drop, length-take-le, length-drop, append-nil, same_from_push}
+use Rattle.std.specs.Prelude.{option_map, MatchOption, reverse, filter, ◌==◌, Bool, true, false, cond}
+use Rattle.std.proofs.lemmas.List.{take-append-drop, drop-drop, length-take-le, length-drop, append-nil, reverse-append}
 use Rattle.pb_wire.specs.Record.{Payload, len, group, Record, group_of}
 use Rattle.pb_wire.specs.Spell.{Body, Spells, AreRecords, SpellsGroup}
-use Rattle.pb_wire.specs.Fault.{Fault, fault, VarintFault, FixedFault, LengthFault, CutFault, TagFault, Place, place, HasTag, Reads, Leads, Moves}
+use Rattle.pb_wire.specs.Fault.{Fault, fault, step, VarintFault, FixedFault, LengthFault, CutFault, TagFault, Place, place, HasTag, Reads, Leads, Moves}
 
 -- the two parts of a tag
 pub tag_parts :
@@ -138,71 +141,81 @@ begins (Some k) b at h = λ e. cc
 
 pub bad_from :
     (innermost : Option ℕ) (b : List ℕ) (at here room : ℕ) (rs : List Record) (f : Fault) → (innermost ≡ None → here < length b)
-    → Front room (place b at) rs (place b here) → RecordFault blank (opened innermost) room (place b here) f
+    → Front room (place b at) rs (place b here) → RecordFault blank (opened innermost) rs room (place b here) f
     → Bad blank (opened innermost) room (place b at) f
 bad_from innermost b at here room rs f h front bad =
     Bad.at_record (rs, front.spelled.1, front.sound) front.spelled.2 (begins innermost b here h) bad
 
 pub bad_tag :
-    (innermost : Option ℕ) (p : Place) (room : ℕ) (f : Fault) → TagFault innermost p f → RecordFault blank (opened innermost) room p f
-bad_tag None p room f h = RecordFault.tag h
-bad_tag (Some k) p room f h = RecordFault.tag h
+    (innermost : Option ℕ) (p : Place) (before : List Record) (room : ℕ) (f : Fault) → TagFault innermost p f
+    → RecordFault blank (opened innermost) before room p f
+bad_tag None p before room f h = RecordFault.tag h
+bad_tag (Some k) p before room f h = RecordFault.tag h
 
-pub bad_varint_value : (room k : ℕ) (q : Place) (old : List ℕ) (w : WireFault) → VarintFault q (fault w.byte [] w.cause) → BadValue room k 0 q old old w
-bad_varint_value room k q old w h = ([], sym (append-nil old), λ o p tag. RecordFault.varint tag h refl)
+pub bad_varint_value : (room k : ℕ) (q : Place) (w : WireFault) → VarintFault q (fault w.byte [] w.cause) → BadValue room k 0 q [] w
+bad_varint_value room k q w h = λ o before p tag. RecordFault.varint tag h refl
 
-pub bad_fixed64_value : (room k : ℕ) (q : Place) (old : List ℕ) (w : WireFault) → FixedFault 8 q (fault w.byte [] w.cause) → BadValue room k 1 q old old w
-bad_fixed64_value room k q old w h = ([], sym (append-nil old), λ o p tag. RecordFault.fixed64 tag h refl)
+pub bad_fixed64_value : (room k : ℕ) (q : Place) (w : WireFault) → FixedFault 8 q (fault w.byte [] w.cause) → BadValue room k 1 q [] w
+bad_fixed64_value room k q w h = λ o before p tag. RecordFault.fixed64 tag h refl
 
-pub bad_fixed32_value : (room k : ℕ) (q : Place) (old : List ℕ) (w : WireFault) → FixedFault 4 q (fault w.byte [] w.cause) → BadValue room k 5 q old old w
-bad_fixed32_value room k q old w h = ([], sym (append-nil old), λ o p tag. RecordFault.fixed32 tag h refl)
+pub bad_fixed32_value : (room k : ℕ) (q : Place) (w : WireFault) → FixedFault 4 q (fault w.byte [] w.cause) → BadValue room k 5 q [] w
+bad_fixed32_value room k q w h = λ o before p tag. RecordFault.fixed32 tag h refl
 
 pub bad_bytes_value :
-    (room k : ℕ) (q : Place) (old : List ℕ) (w : WireFault)
-    → LengthFault q (fault w.byte [] w.cause) ⊎ CutFault q (fault w.byte [] w.cause) → BadValue room k 2 q old old w
-bad_bytes_value room k q old w (inl h) = ([], sym (append-nil old), λ o p tag. RecordFault.length_of tag tt h refl)
-bad_bytes_value room k q old w (inr h) = ([], sym (append-nil old), λ o p tag. RecordFault.cut_payload tag (inl refl) h refl)
+    (room k : ℕ) (q : Place) (w : WireFault) → LengthFault q (fault w.byte [] w.cause) ⊎ CutFault q (fault w.byte [] w.cause)
+    → BadValue room k 2 q [] w
+bad_bytes_value room k q w (inl h) = λ o before p tag. RecordFault.length_of tag tt h refl
+bad_bytes_value room k q w (inr h) = λ o before p tag. RecordFault.cut_payload tag (inl refl) h refl
 
 pub bad_group_value :
-    (room k : ℕ) (q : Place) (old new : List ℕ) (w : WireFault) → 0 < room → BadFrom (room - 1) (Some k) q old new w
-    → BadValue room k 3 q old new w
-bad_group_value zero k q old new w h bad = absurd (omega arith)
-bad_group_value (suc n) k q old new w h bad =
+    (room k : ℕ) (q : Place) (steps : List PathStep) (w : WireFault) → 0 < room → BadFrom (room - 1) (Some k) q steps w
+    → BadValue room k 3 q steps w
+bad_group_value zero k q steps w h bad = absurd (omega arith)
+bad_group_value (suc n) k q steps w h bad =
     let e : suc n - 1 ≡ n = omega arith in
-    let inner = rw e at bad.2 in
-    (bad.0, bad.1, λ o p tag. RecordFault.in_a_group tag inner refl)
+    let inner = rw e at bad in
+    λ o before p tag. RecordFault.in_a_group tag inner refl
 
 pub value_from_group :
-    (room k : ℕ) (q : Place) (old new : List ℕ) (e : ReadError) → 0 < room → IfFault e (BadFrom (room - 1) (Some k) q old new)
-    → IfFault e (BadValue room k 3 q old new)
-value_from_group room k q old new (errors.Fault w) h bad = bad_group_value room k q old new w h bad
-value_from_group room k q old new errors.Memory h bad = tt
+    (room k : ℕ) (q : Place) (steps : List PathStep) (e : ReadError) → 0 < room → IfFault e (BadFrom (room - 1) (Some k) q steps)
+    → IfFault e (BadValue room k 3 q steps)
+value_from_group room k q steps (errors.Fault w) h bad = bad_group_value room k q steps w h bad
+value_from_group room k q steps errors.Memory h bad = tt
 
 -- a value has a fault, behind a front of whole records
 pub bad_after :
-    (innermost : Option ℕ) (b : List ℕ) (at here start room k code : ℕ) (rs : List Record) (old pushed new : List ℕ) (e : ReadError)
-    → (innermost ≡ None → here < length b) → Front room (place b at) rs (place b here) → HasTag (place b here) k code (place b start)
-    → pushed ≡ old ++ k ∷ [] → IfFault e (BadValue room k code (place b start) pushed new)
-    → IfFault e (BadFrom room innermost (place b at) old new)
-bad_after innermost b at here start room k code rs old pushed new errors.Memory goes front tag e bad = tt
-bad_after innermost b at here start room k code rs old pushed new (errors.Fault w) goes front tag e bad = (
-  k ∷ bad.0,
-  bad.1 ∙ ap (λ (xs : List ℕ). xs ++ bad.0) e ∙ append_assoc old (k ∷ []) bad.0,
-  bad_from innermost b at here room rs (fault w.byte (k ∷ bad.0) w.cause) goes front (bad.2 (opened innermost) (place b here) tag),
-)
-
--- what `pop` leaves of what `push` made
-pub popped : (xs ys s : List ℕ) (x z : ℕ) (r : Option ℕ) → s ≡ xs ++ x ∷ [] → s ≡ ys ++ option_to_list r → r ≡ Some z → ys ≡ xs
-popped xs ys s x z r made left is =
-    let e : ys ++ z ∷ [] ≡ xs ++ x ∷ [] = sym (rw is at left) ∙ made in
-    (same_from_push ys xs z x e).0
+    (innermost : Option ℕ) (b : List ℕ) (at here start room k code : ℕ) (rs : List Record) (old new : List PathStep) (e : ReadError)
+    → (innermost ≡ None → here < length b) → (front : Front room (place b at) rs (place b here)) → HasTag (place b here) k code (place b start)
+    → new ≡ old ++ step k rs ∷ [] → IfFault e (BadValue room k code (place b start) old)
+    → IfFault e (BadFrom room innermost (place b at) new)
+bad_after innermost b at here start room k code rs old new errors.Memory goes front tag e bad = tt
+bad_after innermost b at here start room k code rs old new (errors.Fault w) goes front tag e bad =
+    let last : reverse new ≡ step k rs ∷ reverse old = ap reverse e ∙ reverse-append old (step k rs ∷ []) in
+    rw last (bad_from innermost b at here room rs (fault w.byte (step k rs ∷ reverse old) w.cause) goes front
+    (bad (opened innermost) rs (place b here) tag))
 
 -- a fault of the bytes within the limit
 pub from_front :
-    (e : RawError) (limits : Bounds) (b old new : List ℕ) (max room : ℕ) (w : WireFault) → limits.bytes < length b
-    → max ≡ limits.bytes → old ≡ [] → room ≡ limits.depth → BadFrom room None (place (take max b) 0) old new w
-    → IfRawFault e (λ f. f ≡ beyond max (fault w.byte new w.cause)) → IfRawFault e (HasFault blank tt limits b)
-from_front raw.Memory limits b old new max room w long is_max none is_depth bad told = tt
-from_front (raw.Fault byte path cause) limits b old new max room w long is_max none is_depth bad told =
-    let steps : new ≡ bad.0 = bad.1 ∙ ap (λ (xs : List ℕ). xs ++ bad.0) none in
-    HasFault.bad_front long (rw (is_max, is_depth) at bad.2) (rw (← steps, ← is_max) told)
+    (e : RawError) (limits : Bounds) (b : List ℕ) (steps : List PathStep) (max room : ℕ) (w : WireFault) → limits.bytes < length b
+    → max ≡ limits.bytes → room ≡ limits.depth → BadFrom room None (place (take max b) 0) steps w
+    → IfRawFault e (λ f. f ≡ beyond max (fault w.byte (reverse steps) w.cause)) → IfRawFault e (HasFault blank tt limits b)
+from_front raw.Memory limits b steps max room w long is_max is_depth bad told = tt
+from_front (raw.Fault byte path cause) limits b steps max room w long is_max is_depth bad told =
+    HasFault.bad_front long (rw (is_max, is_depth) at bad) (rw (← is_max) told)
+
+-- the records of a number among those that a list stands for
+pub same_count : (k : ℕ) (xs : List (ℕ × Unknown)) → length (filter (λ r. r.number == k) (records_of xs)) ≡ length (filter (λ x. x.0 == k) xs)
+same_count k [] = refl
+same_count k (x ∷ xs) = by_test (x.0 == k) (same_count k xs)
+  where
+    records_after : List Record
+    records_after = filter (λ r. r.number == k) (records_of xs)
+
+    after : List (ℕ × Unknown)
+    after = filter (λ y. y.0 == k) xs
+
+    by_test :
+        (t : Bool) → length records_after ≡ length after
+        → length (cond t (record { number = x.0; payload = payload_of x.1 } ∷ records_after) records_after) ≡ length (cond t (x ∷ after) after)
+    by_test true e = ap suc e
+    by_test false e = e

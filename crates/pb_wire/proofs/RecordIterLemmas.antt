@@ -5,12 +5,13 @@ use Rattle.std.proofs.lemmas.List.{take_at}
 use Rattle.pb_wire.specs.Record.{Record, group_of}
 use Rattle.pb_wire.specs.Record as wire
 use Rattle.pb_wire.specs.Spell.{Body}
-use Rattle.pb_wire.specs.Fault.{fault, VarintFault, FixedFault, LengthFault, CutFault, Place, place, HasTag, Reads, Leads, Moves}
+use Rattle.pb_wire.specs.Fault.{fault, step, VarintFault, FixedFault, LengthFault, CutFault, Place, place, HasTag, Reads, Leads, Moves}
 use Rattle.pb_wire.specs.Schema.{blank, records, in_group}
 use Rattle.pb_wire.specs.Sound.{Sound}
 use Rattle.pb_wire.specs.Grammar.{Bad, RecordFault}
 use Rattle.pb_wire.specs.Reading.{Front, ReadsValue}
 use Rattle.pb_wire.specs.RecordIter.{Seen, group, Shows, ShowsRecord, IsValueFault}
+use Rattle.pb_wire.specs.declared.fault.PathStep.{PathStep}
 use Rattle.pb_wire.specs.declared.fault.WireFault.{WireFault}
 use Rattle.pb_wire.proofs.ReadingLemmas.{moves_both, SpellsGroup-from_records}
 
@@ -31,37 +32,37 @@ len_read room k s p q r = record { type = refl; spelled = r; sound = Sound.some_
 -- ---- faults of values
 
 pub varint_fault : (code : ℕ) (p : Place) (e : WireFault) → code ≡ 0 → VarintFault p (fault e.byte [] e.cause) → IsValueFault code p e
-varint_fault code p e is v = rw is (λ o room k tag h. RecordFault.varint h v refl)
+varint_fault code p e is v = rw is (λ o before room k tag h. RecordFault.varint h v refl)
 
 pub fixed64_fault : (code : ℕ) (p : Place) (e : WireFault) → code ≡ 1 → FixedFault 8 p (fault e.byte [] e.cause) → IsValueFault code p e
-fixed64_fault code p e is v = rw is (λ o room k tag h. RecordFault.fixed64 h v refl)
+fixed64_fault code p e is v = rw is (λ o before room k tag h. RecordFault.fixed64 h v refl)
 
 pub fixed32_fault : (code : ℕ) (p : Place) (e : WireFault) → code ≡ 5 → FixedFault 4 p (fault e.byte [] e.cause) → IsValueFault code p e
-fixed32_fault code p e is v = rw is (λ o room k tag h. RecordFault.fixed32 h v refl)
+fixed32_fault code p e is v = rw is (λ o before room k tag h. RecordFault.fixed32 h v refl)
 
 pub len_fault :
     (code : ℕ) (p : Place) (e : WireFault) → code ≡ 2 → LengthFault p (fault e.byte [] e.cause) ⊎ CutFault p (fault e.byte [] e.cause)
     → IsValueFault code p e
-len_fault code p e is (inl v) = rw is (λ o room k tag h. RecordFault.length_of h tt v refl)
-len_fault code p e is (inr v) = rw is (λ o room k tag h. RecordFault.cut_payload h (inl refl) v refl)
+len_fault code p e is (inl v) = rw is (λ o before room k tag h. RecordFault.length_of h tt v refl)
+len_fault code p e is (inr v) = rw is (λ o before room k tag h. RecordFault.cut_payload h (inl refl) v refl)
 
 -- ---- faults of records
 
 -- the record that begins at p has this fault, below some path
 abbrev pub FaultAt : ℕ → Place → WireFault → Type 0
-FaultAt depth p e = (path : List ℕ) × RecordFault blank (records tt) depth p (fault e.byte path e.cause)
+FaultAt depth p e = (path : List PathStep) × RecordFault blank (records tt) [] depth p (fault e.byte path e.cause)
 
 pub fault_of_value : (depth code k : ℕ) (p q : Place) (e : WireFault) → HasTag p k code q → IsValueFault code q e → FaultAt depth p e
-fault_of_value depth code k p q e tag bad = (k ∷ [], bad (records tt) depth k p tag)
+fault_of_value depth code k p q e tag bad = (step k [] ∷ [], bad (records tt) [] depth k p tag)
 
 pub fault_of_group :
     (depth k : ℕ) (p q : Place) (e : WireFault) → 0 < depth → HasTag p k 3 q
-    → (path : List ℕ) × Bad blank (in_group k tt) (depth - 1) q (fault e.byte path e.cause) → FaultAt depth p e
+    → (path : List PathStep) × Bad blank (in_group k tt) (depth - 1) q (fault e.byte path e.cause) → FaultAt depth p e
 fault_of_group zero k p q e some tag bad = absurd (omega arith)
 fault_of_group (suc depth) k p q e some tag bad =
     let same : suc depth - 1 ≡ depth = omega arith in
     let inner = rw same at bad.1 in
-    (k ∷ bad.0, RecordFault.in_a_group tag inner refl)
+    (step k [] ∷ bad.0, RecordFault.in_a_group tag inner refl)
 
 -- ---- records as they are shown
 

@@ -105,7 +105,8 @@ record BadParts (depth : ℕ) (b : List ℕ) (f : Fault) : Type 0 where
   pub front : ShowsFront xs b
   pub passes : Passes depth (place b 0) xs at
   pub goes : at.rest ≢ []
-  pub bad : RecordFault blank (records tt) depth at f
+  pub before : List Record
+  pub bad : RecordFault blank (records tt) before depth at f
 
 bad_parts : {o : Open (Unit {0})} {depth : ℕ} {p : Place} {f : Fault} (b : List ℕ) → o ≡ records tt → p ≡ place b 0 → Bad blank o depth p f → BadParts depth b f
 bad_parts b top from (Bad.at_record {q = q} {front = front} w m goes bad) =
@@ -117,6 +118,7 @@ bad_parts b top from (Bad.at_record {q = q} {front = front} w m goes bad) =
       front = record { rs = w.0; front = front; others = q.rest; shown = xs.1; begins = rw from at m.given };
       passes = record { rs = w.0; front = front; shown = xs.1; sound = w.2; moves = rw from at m };
       goes = begins.1 (rw from at m.known);
+      before = w.0;
       bad = rw top at bad;
     }
 bad_parts b top from (Bad.at_end is w m end e) = absurd (cc)

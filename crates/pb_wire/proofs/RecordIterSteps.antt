@@ -5,16 +5,20 @@ use Rattle.std.proofs.Math.Seq.{drop-length}
 use Rattle.std.proofs.lemmas.List.{append_cancel_left}
 use Rattle.pb_wire.specs.Record.{Record, group_of}
 use Rattle.pb_wire.specs.Spell.{AreRecords}
-use Rattle.pb_wire.specs.Fault.{Fault, Place, place, Moves}
+use Rattle.pb_wire.specs.Fault.{Fault, fault, Place, place, Moves}
 use Rattle.pb_wire.specs.Schema.{blank, records}
 use Rattle.pb_wire.specs.Sound.{AllSound, one}
 use Rattle.pb_wire.specs.Grammar.{RecordFault, beyond}
 use Rattle.pb_wire.specs.Ranges.{IsNumber}
+use Rattle.pb_wire.specs.declared.fault.PathStep.{PathStep}
+use Rattle.pb_wire.specs.declared.fault.Cause.{Cause}
+use Rattle.pb_wire.specs.declared.fault.Cause.TheVariants.{Truncated}
 use Rattle.pb_wire.specs.Rest.{Rest}
 use Rattle.pb_wire.specs.RecordIter.{Seen, varint, fixed64, len, group, fixed32, Item, Shows, AreShown, ShowsRecord, Passes, Gives, to_end, to_fault, all_ok, as_told, too_large}
 use Rattle.pb_wire.proofs.Places.{moves_split, moved_nothing, moves_nothing, same_place_by, fewer}
 use Rattle.pb_wire.proofs.Unique.{same_varint, same_spelling}
 use Rattle.pb_wire.proofs.Fronts.{RecordAt, record_some}
+use Rattle.pb_wire.proofs.Behind.{behind}
 use Rattle.pb_wire.proofs.OneFault.{bad_not_record, one_record_fault}
 
 -- ---- a record is shown in one way
@@ -112,7 +116,7 @@ ends_here {depth} {p} {q} xs none h = judge (parts xs h)
         absurd (omega (arith, size, n, some))
 
 -- a fault stands at p
-fails_here : {depth : ℕ} {p q : Place} {f : Fault} (xs : List (ℕ × Seen)) → RecordFault blank (records tt) depth p f → Passes depth p xs q → (xs ≡ []) × (p ≡ q)
+fails_here : {before : List Record} {depth : ℕ} {p q : Place} {f : Fault} (xs : List (ℕ × Seen)) → RecordFault blank (records tt) before depth p f → Passes depth p xs q → (xs ≡ []) × (p ≡ q)
 fails_here {depth} {p} {q} xs bad h = judge (parts xs h)
   where
     judge : Parts depth p xs q → (xs ≡ []) × (p ≡ q)
@@ -187,17 +191,26 @@ record_left text is_cut at after depth x items shown (to_fault {xs = xs} {q = q}
           to_fault (rw (← same.1) at others) goes bad refl,
         )
 
+-- what is told of a fault has no path
+told_alike :
+    (is_cut : Bool) (end byte : ℕ) (c : Cause) (a b : List PathStep)
+    → as_told (if is_cut then beyond end (fault byte a c) else fault byte a c) ≡ as_told (if is_cut then beyond end (fault byte b c) else fault byte b c)
+told_alike false end byte c a b = refl
+told_alike true end byte Truncated a b = refl
+told_alike true end byte _ a b = refl
+
 -- a fault
 pub fault_left :
     (text : List ℕ) (is_cut : Bool) (at depth : ℕ) (f : Fault) (items : List Item) → at < length text
-    → RecordFault blank (records tt) depth (place text at) f → Gives (rest_of text is_cut at depth) items
+    → RecordFault blank (records tt) [] depth (place text at) f → Gives (rest_of text is_cut at depth) items
     → (others : List Item) × (items ≡ Err (as_told (if is_cut then beyond (length text) f else f)) ∷ others)
     × Gives (rest_of text false (length text) depth) others
 fault_left text is_cut at depth f items within bad (to_end {xs = xs} h over is) =
     let none = fails_here xs bad h in
     let n : length (drop at text) ≡ 0 = ap length (ap (λ (z : Place). z.rest) none.1 ∙ over) in
     absurd (omega (arith, n, length-drop at text))
-fault_left text is_cut at depth f items within bad (to_fault {xs = xs} {f = g} h goes other is) =
+fault_left text is_cut at depth f items within bad (to_fault {xs = xs} {f = g} {before = before} h goes other is) =
     let none = fails_here xs bad h in
-    let same : g ≡ f = one_record_fault (rw (← none.1) at other) bad in
-    ([], rw (none.0, same) at is, gives_nothing text (length text) depth refl)
+    let told = behind before bad in
+    let same : g ≡ fault f.byte told.0 f.cause = one_record_fault (rw (← none.1) at other) told.1 in
+    ([], rw (none.0, same, told_alike is_cut (length text) f.byte f.cause told.0 f.path) at is, gives_nothing text (length text) depth refl)

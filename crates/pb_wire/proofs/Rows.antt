@@ -7,7 +7,7 @@ use Rattle.std.specs.Prelude.{pos, negsuc}
 use Rattle.pb_wire.specs.Record.{varint, group, no_more, more}
 use Rattle.pb_wire.specs.Ranges.{IsNumber}
 use Rattle.pb_wire.specs.Spell.{shortest_records}
-use Rattle.pb_wire.specs.Fault.{Fault, fault, HasTag, IsHigh, VarintFault, FixedFault, LengthFault, TagFault}
+use Rattle.pb_wire.specs.Fault.{Fault, fault, step, HasTag, IsHigh, VarintFault, FixedFault, LengthFault, TagFault}
 use Rattle.pb_wire.specs.Schema.{blank, records}
 use Rattle.pb_wire.specs.Sound.{Sound, AllSound}
 use Rattle.pb_wire.specs.Grammar.{Bad, RecordFault, IsText, HasFault}
@@ -23,7 +23,7 @@ tag_here k w at rest is type small = record {
 }
 
 -- a fault of the record that stands first
-first : {b : List ℕ} {f : Fault} {bytes depth : ℕ} → length b ≤ bytes → b ≢ [] → RecordFault blank (records tt) depth (record { at = 0; known = None; rest = b }) f → HasFault blank tt (record { bytes = bytes; depth = depth }) b f
+first : {b : List ℕ} {f : Fault} {bytes depth : ℕ} → length b ≤ bytes → b ≢ [] → RecordFault blank (records tt) [] depth (record { at = 0; known = None; rest = b }) f → HasFault blank tt (record { bytes = bytes; depth = depth }) b f
 first {b} fits some bad = HasFault.bad fits (Bad.at_record ([], refl, AllSound.none) (moves_nothing (record { at = 0; known = None; rest = b })) (λ h. cc, λ h. some) bad)
 
 -- ---- numbers
@@ -80,11 +80,44 @@ a_group_in_short = refl
 cut_in_a_tag : HasFault blank tt (record { bytes = 9; depth = 9 }) (0x80 ∷ []) (fault 1 [] Truncated)
 cut_in_a_tag = first (lit≤ tt) (λ h. cc) (RecordFault.tag (TagFault.token (VarintFault.cut_short (lit< tt) (All-cons IsHigh _ [] (lit≤ tt) (All-nil IsHigh)) (λ h. cc) refl)))
 
-cut_in_a_value : HasFault blank tt (record { bytes = 9; depth = 9 }) (0x08 ∷ 0x96 ∷ []) (fault 2 (1 ∷ []) Truncated)
+cut_in_a_value : HasFault blank tt (record { bytes = 9; depth = 9 }) (0x08 ∷ 0x96 ∷ []) (fault 2 (step 1 [] ∷ []) Truncated)
 cut_in_a_value =
     first (lit≤ tt) (λ h. cc)
     (RecordFault.varint (tag_here 1 0 0 (0x96 ∷ []) (lit< tt, lit< tt) (lit< tt) (lit< tt))
     (VarintFault.cut_short (lit< tt) (All-cons IsHigh _ [] (lit≤ tt) (All-nil IsHigh)) (λ h. cc) refl) refl)
+
+behind_a_record :
+    (k : ℕ) → IsNumber k → 8 * k < 128
+    → HasFault blank tt (record { bytes = 9; depth = 9 }) ((8 * k) ∷ 0x01 ∷ 0x08 ∷ 0x96 ∷ []) (fault 4 (step 1 (record { number = k; payload = varint 1 } ∷ []) ∷ []) Truncated)
+behind_a_record k is small =
+    HasFault.bad (lit≤ tt)
+    (Bad.at_record {q = record { at = 2; known = None; rest = 0x08 ∷ 0x96 ∷ [] }} {front = (8 * k) ∷ 0x01 ∷ []} (
+      record { number = k; payload = varint 1 } ∷ [],
+      (
+        (8 * k) ∷ 0x01 ∷ [],
+        [],
+        record {
+          number = is;
+          tag = (8 * k) ∷ [];
+          tagged = record { size = lit≤ tt; ends = small; value = omega arith };
+          body = 0x01 ∷ [];
+          follows = (lit< tt, record { size = lit≤ tt; ends = lit< tt; value = refl });
+          joined = refl;
+        },
+        refl,
+        refl,
+      ),
+      AllSound.one Sound.is_varint AllSound.none,
+    ) (record { given = refl; within = tt; at = refl; known = refl }) (λ h. cc, λ h g. cc)
+    (RecordFault.varint (tag_here 1 0 2 (0x96 ∷ []) (lit< tt, lit< tt) (lit< tt) (lit< tt))
+    (VarintFault.cut_short (lit< tt) (All-cons IsHigh _ [] (lit≤ tt) (All-nil IsHigh)) (λ h. cc) refl) refl))
+
+-- the same behind a record of that number, and behind one of another number
+cut_in_a_second_value : HasFault blank tt (record { bytes = 9; depth = 9 }) (0x08 ∷ 0x01 ∷ 0x08 ∷ 0x96 ∷ []) (fault 4 (record { number = 1; occurrence = 1 } ∷ []) Truncated)
+cut_in_a_second_value = behind_a_record 1 (lit< tt, lit< tt) (lit< tt)
+
+cut_behind_another : HasFault blank tt (record { bytes = 9; depth = 9 }) (0x10 ∷ 0x01 ∷ 0x08 ∷ 0x96 ∷ []) (fault 4 (record { number = 1; occurrence = 0 } ∷ []) Truncated)
+cut_behind_another = behind_a_record 2 (lit< tt, lit< tt) (lit< tt)
 
 a_number_of_zero : HasFault blank tt (record { bytes = 9; depth = 9 }) (0x07 ∷ []) (fault 0 [] NumberZero)
 a_number_of_zero =
@@ -112,7 +145,7 @@ a_large_tag =
     ) (lit≤ tt) refl))
 
 -- an end of another number, two groups down
-a_wrong_end : HasFault blank tt (record { bytes = 9; depth = 9 }) (0x0b ∷ 0x13 ∷ 0x0c ∷ []) (fault 2 (1 ∷ 2 ∷ []) WrongEnd)
+a_wrong_end : HasFault blank tt (record { bytes = 9; depth = 9 }) (0x0b ∷ 0x13 ∷ 0x0c ∷ []) (fault 2 (step 1 [] ∷ step 2 [] ∷ []) WrongEnd)
 a_wrong_end =
     first (lit≤ tt) (λ h. cc)
     (RecordFault.in_a_group (tag_here 1 3 0 (0x13 ∷ 0x0c ∷ []) (lit< tt, lit< tt) (lit< tt) (lit< tt))
@@ -122,10 +155,10 @@ a_wrong_end =
     (RecordFault.tag (TagFault.wrong_end {m = 2} (tag_here 1 4 2 [] (lit< tt, lit< tt) (lit< tt) (lit< tt)) refl (λ h. omega (arith, h)) refl)))
     refl)) refl)
 
-a_group_too_deep : HasFault blank tt (record { bytes = 9; depth = 0 }) (0x0b ∷ []) (fault 0 (1 ∷ []) TooDeep)
+a_group_too_deep : HasFault blank tt (record { bytes = 9; depth = 0 }) (0x0b ∷ []) (fault 0 (step 1 [] ∷ []) TooDeep)
 a_group_too_deep = first (lit≤ tt) (λ h. cc) (RecordFault.group_too_deep (tag_here 1 3 0 [] (lit< tt, lit< tt) (lit< tt) (lit< tt)) refl refl)
 
-a_large_length : HasFault blank tt (record { bytes = 9; depth = 9 }) (0x12 ∷ 0xff ∷ 0xff ∷ 0xff ∷ 0xff ∷ 0x0f ∷ []) (fault 1 (2 ∷ []) LengthTooLarge)
+a_large_length : HasFault blank tt (record { bytes = 9; depth = 9 }) (0x12 ∷ 0xff ∷ 0xff ∷ 0xff ∷ 0xff ∷ 0x0f ∷ []) (fault 1 (step 2 [] ∷ []) LengthTooLarge)
 a_large_length =
     first (lit≤ tt) (λ h. cc)
     (RecordFault.length_of (tag_here 2 2 0 (0xff ∷ 0xff ∷ 0xff ∷ 0xff ∷ 0x0f ∷ []) (lit< tt, lit< tt) (lit< tt) (lit< tt)) tt
@@ -135,13 +168,13 @@ a_large_length =
       record { given = refl; within = tt; at = refl; known = refl },
     ) (lit≤ tt) refl) refl)
 
-cut_in_four_bytes : HasFault blank tt (record { bytes = 9; depth = 9 }) (0x0d ∷ 0x01 ∷ 0x02 ∷ 0x03 ∷ []) (fault 4 (1 ∷ []) Truncated)
+cut_in_four_bytes : HasFault blank tt (record { bytes = 9; depth = 9 }) (0x0d ∷ 0x01 ∷ 0x02 ∷ 0x03 ∷ []) (fault 4 (step 1 [] ∷ []) Truncated)
 cut_in_four_bytes =
     first (lit≤ tt) (λ h. cc)
     (RecordFault.fixed32 (tag_here 1 5 0 (0x01 ∷ 0x02 ∷ 0x03 ∷ []) (lit< tt, lit< tt) (lit< tt) (lit< tt)) (FixedFault.cut_short tt (lit< tt) refl) refl)
 
 -- a value that would pass the end of its frame, which is one byte further on
-past_the_frame : Bad blank (records tt) 9 (record { at = 2; known = Some 2; rest = 0x08 ∷ 0x96 ∷ 0x01 ∷ [] }) (fault 3 (1 ∷ []) PastEnd)
+past_the_frame : Bad blank (records tt) 9 (record { at = 2; known = Some 2; rest = 0x08 ∷ 0x96 ∷ 0x01 ∷ [] }) (fault 3 (step 1 [] ∷ []) PastEnd)
 past_the_frame =
     Bad.at_record ([], refl, AllSound.none) (moves_nothing (record { at = 2; known = Some 2; rest = 0x08 ∷ 0x96 ∷ 0x01 ∷ [] })) (λ h. cc, λ h. cc)
     (RecordFault.varint {k = 1} {q = record { at = 3; known = Some 1; rest = 0x96 ∷ 0x01 ∷ [] }} (record {

@@ -11,7 +11,7 @@ use Rattle.std.proofs.lemmas.List.{take-append-drop, length-take-le}
 use Rattle.std.proofs.lemmas.List.Elements.{All-head, All-tail}
 use Rattle.pb_wire.specs.Record.{varint, fixed64, fixed32, len, group, Record, group_of}
 use Rattle.pb_wire.specs.Spell.{Spells}
-use Rattle.pb_wire.specs.Fault.{Fault, fault, inside, Place, input_end, Moves, Reads, HasTag, HasLength, TagFault, VarintFault, FixedFault, LengthFault, CutFault}
+use Rattle.pb_wire.specs.Fault.{Fault, fault, step, inside, Place, input_end, Moves, Reads, HasTag, HasLength, TagFault, VarintFault, FixedFault, LengthFault, CutFault}
 use Rattle.pb_wire.specs.Schema.{Schema, Element, Reading, unread, text, message, same_level, packed, Open, records, in_group, context_of, open_group}
 use Rattle.pb_wire.specs.Sound.{Sound, AllSound}
 use Rattle.pb_wire.specs.Grammar.{Whole, Begins, payload_at, Bad, RecordFault, BadElements, IsAllowed}
@@ -19,6 +19,7 @@ use Rattle.pb_wire.specs.Ranges.{IsByte}
 use Rattle.pb_wire.specs.Exact.{IsOver, IsRead}
 use Rattle.pb_wire.specs.declared.fault.Cause.TheVariants.{Truncated, PastEnd, TooDeep, BadText}
 use Rattle.pb_wire.proofs.ReadingLemmas.{moves_both, SpellsGroup-from_records}
+use Rattle.pb_wire.proofs.Behind.{behind}
 use Rattle.pb_wire.proofs.Places.{after, moves_after, moves_nothing, fewer}
 use Rattle.pb_wire.proofs.Tokens.{Takes, ends_some, known_is, a_varint_or_fault, a_fixed_or_fault, a_length_or_fault, a_tag_or_fault, GoodTag}
 use Rattle.pb_wire.proofs.Elements.{GoodElements, elements_or_fault}
@@ -60,8 +61,9 @@ below_4 bs small = let a = small 0 in let b = small 1 in let c = small 2 in let 
 
 -- ---- values
 
+-- a value, or a fault of the record, as the first of what is open
 abbrev ValueAnswer : (S : Schema) → Open S.Context → ℕ → ℕ → ℕ → Place → Place → Type 0
-ValueAnswer S o room k w p q = ((r : Place) × ValueAt S (context_of o) room k w q r) ⊎ ((f : Fault) × RecordFault S o room p f)
+ValueAnswer S o room k w p q = ((r : Place) × ValueAt S (context_of o) room k w q r) ⊎ ((f : Fault) × RecordFault S o [] room p f)
 
 varint_answer :
     (S : Schema) (o : Open S.Context) (room k : ℕ) (p q : Place) → HasTag p k 0 q → ((n : ℕ) × (r : Place) × Reads q n r) ⊎ ((f : Fault) × VarintFault q f)
@@ -70,7 +72,7 @@ varint_answer S o room k p q t (inl (n, r, (a, v, m))) =
     let is = v.value in
     let small : n < 2 ^ 64 = omega arith in
     inl (r, record { payload = varint n; type = refl; body = a; spelled = (small, v); sound = Sound.is_varint; moves = m })
-varint_answer S o room k p q t (inr (f, v)) = inr (inside k f, RecordFault.varint t v refl)
+varint_answer S o room k p q t (inr (f, v)) = inr (inside (step k []) f, RecordFault.varint t v refl)
 
 fixed64_answer :
     (S : Schema) (o : Open S.Context) (room k : ℕ) (p q : Place) → AreBytes q.rest → HasTag p k 1 q → ((r : Place) × Takes q 8 r) ⊎ ((f : Fault) × FixedFault 8 q f)
@@ -88,7 +90,7 @@ fixed64_answer S o room k p q bytes t (inl (r, (a, size, m))) =
         moves = m;
       },
     )
-fixed64_answer S o room k p q bytes t (inr (f, v)) = inr (inside k f, RecordFault.fixed64 t v refl)
+fixed64_answer S o room k p q bytes t (inr (f, v)) = inr (inside (step k []) f, RecordFault.fixed64 t v refl)
 
 fixed32_answer :
     (S : Schema) (o : Open S.Context) (room k : ℕ) (p q : Place) → AreBytes q.rest → HasTag p k 5 q → ((r : Place) × Takes q 4 r) ⊎ ((f : Fault) × FixedFault 4 q f)
@@ -106,7 +108,7 @@ fixed32_answer S o room k p q bytes t (inl (r, (a, size, m))) =
         moves = m;
       },
     )
-fixed32_answer S o room k p q bytes t (inr (f, v)) = inr (inside k f, RecordFault.fixed32 t v refl)
+fixed32_answer S o room k p q bytes t (inr (f, v)) = inr (inside (step k []) f, RecordFault.fixed32 t v refl)
 
 abbrev pub Judged : (S : Schema) → Open S.Context → ℕ → Place → Type 0
 Judged S o room p = IsRead S o room p ⊎ ((f : Fault) × Bad S o room p f)
@@ -114,7 +116,7 @@ Judged S o room p = IsRead S o room p ⊎ ((f : Fault) × Bad S o room p f)
 group_answer :
     (S : Schema) (o : Open S.Context) (room k : ℕ) (p q : Place) → HasTag p k 3 q
     → ((m : ℕ) → room ≡ suc m → Judged S (in_group k (S.group_context (context_of o) k)) m q) → ValueAnswer S o room k 3 p q
-group_answer S o zero k p q t next = inr (fault p.at (k ∷ []) TooDeep, RecordFault.group_too_deep t refl refl)
+group_answer S o zero k p q t next = inr (fault p.at (step k [] ∷ []) TooDeep, RecordFault.group_too_deep t refl refl)
 group_answer S o (suc m) k p q t next = judge (next m refl)
   where
     judge : Judged S (in_group k (S.group_context (context_of o) k)) m q → ValueAnswer S o (suc m) k 3 p q
@@ -130,7 +132,7 @@ group_answer S o (suc m) k p q t next = judge (next m refl)
             moves = moves_both front end.tag.0 moves end.tag.2;
           },
         )
-    judge (inr (f, bad)) = inr (inside k f, RecordFault.in_a_group t bad refl)
+    judge (inr (f, bad)) = inr (inside (step k []) f, RecordFault.in_a_group t bad refl)
 
 -- the value that these bytes of a known length are
 len_at :
@@ -177,7 +179,7 @@ cut_or_given S o room k n p q r t l re next =
     (λ (cut : length r.rest < n).
     let g : Fault = fault (input_end r) [] Truncated in
     let c : CutFault q g = record { size = n; payload = r; length_is = l; cut = cut; fault_is = refl } in
-    inr (inside k g, RecordFault.cut_payload t re c refl))
+    inr (inside (step k []) g, RecordFault.cut_payload t re c refl))
     (λ (given : n ≤ length r.rest). next given)
     (cases_lt (length r.rest) n)
 
@@ -191,7 +193,7 @@ text_answer S o room k n p q r t l re given =
     inl (len_at S (context_of o) room k n q r l (take n r.rest) s.0 s.1 s.2 (Sound.a_text re (IsUtf8-from_is_utf8 (take n r.rest) h))))
     (λ (h : is_utf8 (take n r.rest) ≡ false).
     inr (
-      fault (r.at + utf8_valid_len (take n r.rest)) (k ∷ []) BadText,
+      fault (r.at + utf8_valid_len (take n r.rest)) (step k [] ∷ []) BadText,
       RecordFault.bad_text t re l given (λ u. let e = is_utf8-from_IsUtf8 (take n r.rest) u in cc) refl,
     ))
     (cases_Bool (is_utf8 (take n r.rest)))
@@ -202,21 +204,21 @@ list_answer :
     → ValueAnswer S o room k 2 p q
 list_answer S o room k n p q r l t size re (inl (front, e, es, m, end)) =
     inl (len_at S (context_of o) room k n q r size front e m end (Sound.a_list re es))
-list_answer S o room k n p q r l t size re (inr (f, bad)) = inr (inside k f, RecordFault.in_a_list t re size bad refl)
+list_answer S o room k n p q r l t size re (inr (f, bad)) = inr (inside (step k []) f, RecordFault.in_a_list t re size bad refl)
 
 message_answer :
     (S : Schema) (o : Open S.Context) (room k n : ℕ) (p q r : Place) (d : S.Context) → HasTag p k 2 q → HasLength q n r
     → S.reading (context_of o) k ≡ message d → Judged S (records d) room (payload_at r n) → ValueAnswer S o (suc room) k 2 p q
 message_answer S o room k n p q r d t size re (inl (front, e, w, m, over)) =
     inl (len_at S (context_of o) (suc room) k n q r size front e m (whole_known {n = n} refl e front m over) (Sound.a_message re w.1 w.2))
-message_answer S o room k n p q r d t size re (inr (f, bad)) = inr (inside k f, RecordFault.in_a_message t re size bad refl)
+message_answer S o room k n p q r d t size re (inr (f, bad)) = inr (inside (step k []) f, RecordFault.in_a_message t re size bad refl)
 
 value_answer :
     (S : Schema) (o : Open S.Context) (room k n : ℕ) (p q r : Place) (d : S.Context) → HasTag p k 2 q → HasLength q n r
     → S.reading (context_of o) k ≡ same_level d → Judged S (records d) room (payload_at r n) → ValueAnswer S o room k 2 p q
 value_answer S o room k n p q r d t size re (inl (front, e, w, m, over)) =
     inl (len_at S (context_of o) room k n q r size front e m (whole_known {n = n} refl e front m over) (Sound.a_value re w.1 w.2))
-value_answer S o room k n p q r d t size re (inr (f, bad)) = inr (inside k f, RecordFault.in_a_value t re size bad refl)
+value_answer S o room k n p q r d t size re (inr (f, bad)) = inr (inside (step k []) f, RecordFault.in_a_value t re size bad refl)
 
 -- what is judged of every place with fewer bytes than this
 abbrev Earlier : Schema → ℕ → Type 0
@@ -240,12 +242,12 @@ after_length S o room k n fuel p q r (same_level d) next short bytes t l re a =
 
 allowed_or_deep :
     (S : Schema) (o : Open S.Context) (room k : ℕ) (p q : Place) (how : Reading S.Context) → HasTag p k 2 q → S.reading (context_of o) k ≡ how
-    → IsAllowed room how ⊎ ((f : Fault) × RecordFault S o room p f)
+    → IsAllowed room how ⊎ ((f : Fault) × RecordFault S o [] room p f)
 allowed_or_deep S o room k p q unread t re = inl tt
 allowed_or_deep S o room k p q text t re = inl tt
 allowed_or_deep S o room k p q (packed x) t re = inl tt
 allowed_or_deep S o room k p q (same_level d) t re = inl tt
-allowed_or_deep S o zero k p q (message d) t re = inr (fault p.at (k ∷ []) TooDeep, RecordFault.message_too_deep t re refl refl)
+allowed_or_deep S o zero k p q (message d) t re = inr (fault p.at (step k [] ∷ []) TooDeep, RecordFault.message_too_deep t re refl refl)
 allowed_or_deep S o (suc room) k p q (message d) t re = inl (let h : 0 < suc room = omega arith in h)
 
 len_answer :
@@ -258,7 +260,7 @@ len_answer S o room k fuel p q next short bytes t =
     allowed :
         IsAllowed room (S.reading (context_of o) k) → ((n : ℕ) × (r : Place) × HasLength q n r) ⊎ ((f : Fault) × LengthFault q f)
         → ValueAnswer S o room k 2 p q
-    allowed a (inr (f, v)) = inr (inside k f, RecordFault.length_of t a v refl)
+    allowed a (inr (f, v)) = inr (inside (step k []) f, RecordFault.length_of t a v refl)
     allowed a (inl (n, r, l)) =
         let size = fewer l.length_is.0 l.length_is.2 in
         let left : length r.rest < fuel = omega arith in
@@ -266,7 +268,7 @@ len_answer S o room k fuel p q next short bytes t =
 
 -- a record, the end tag of the group that is open, or a fault
 abbrev RecordAnswer : (S : Schema) → Open S.Context → ℕ → Place → Type 0
-RecordAnswer S o room p = RecordAt S (context_of o) room p ⊎ (EndAt o p ⊎ ((f : Fault) × RecordFault S o room p f))
+RecordAnswer S o room p = RecordAt S (context_of o) room p ⊎ (EndAt o p ⊎ ((f : Fault) × RecordFault S o [] room p f))
 
 of_value :
     (S : Schema) (o : Open S.Context) (room k w : ℕ) (p q : Place) → HasTag p k w q → ValueAnswer S o room k w p q → RecordAnswer S o room p
@@ -314,15 +316,19 @@ read_more : (S : Schema) (o : Open S.Context) (room : ℕ) (p : Place) → (h : 
 read_more S (records c) room p h (front, q, w, m, over) = (h.1 ++ front, q, whole_more h front w, moves_both h.1 front h.5 m, over)
 read_more S (in_group k c) room p h (front, q, w, m, end) = (h.1 ++ front, q, whole_more h front w, moves_both h.1 front h.5 m, end)
 
-bad_more : {S : Schema} {o : Open S.Context} {room : ℕ} {p q : Place} {f : Fault} → (r : Record) (first : List ℕ) → Spells r first → Sound S (context_of o) room r.number r.payload → Moves p first q → Bad S o room q f → Bad S o room p f
+-- a fault behind one whole record more
+bad_more :
+    {S : Schema} {o : Open S.Context} {room : ℕ} {p q : Place} {f : Fault} → (r : Record) (first : List ℕ) → Spells r first
+    → Sound S (context_of o) room r.number r.payload → Moves p first q → Bad S o room q f → (g : Fault) × Bad S o room p g
 bad_more {S} {o} {room} {p} {q} {f} r first spell sound m (Bad.at_record {front = front} w n goes bad) =
-    Bad.at_record (r ∷ w.0, (first, front, spell, w.1, refl), AllSound.one sound w.2) (moves_both first front m n) goes bad
+    let here = behind (r ∷ w.0) bad in
+    (_, Bad.at_record (r ∷ w.0, (first, front, spell, w.1, refl), AllSound.one sound w.2) (moves_both first front m n) goes here.1)
 bad_more {S} {o} {room} {p} {q} {f} r first spell sound m (Bad.at_end {c = c} {front = front} is w n end e) =
     let context : context_of o ≡ c = ap (λ (z : Open S.Context). context_of z) is in
     let here : Sound S c room r.number r.payload = subst (λ (z : S.Context). Sound S z room r.number r.payload) context sound in
-    Bad.at_end is (r ∷ w.0, (first, front, spell, w.1, refl), AllSound.one here w.2) (moves_both first front m n) end e
+    (f, Bad.at_end is (r ∷ w.0, (first, front, spell, w.1, refl), AllSound.one here w.2) (moves_both first front m n) end e)
 
-nothing : (S : Schema) (c : S.Context) (room : ℕ) → Whole S c room []
+abbrev nothing : (S : Schema) (c : S.Context) (room : ℕ) → Whole S c room []
 nothing S c room = ([], refl, AllSound.none)
 
 goes_or_not : (S : Schema) (o : Open S.Context) (room : ℕ) (p : Place) → Begins o p ⊎ Judged S o room p
@@ -356,7 +362,7 @@ judged S (suc n) o room p short bytes = begin (λ i r q s b. judged S n i r q s 
     step next goes (inl h) =
         let size = fewer h.1 h.5 in let some = record_some h in
         ⊎_elim (λ (r : IsRead S o room h.2). inl (read_more S o room p h r))
-        (λ (b : (f : Fault) × Bad S o room h.2 f). inr (b.0, bad_more h.0 h.1 h.3 h.4 h.5 b.1))
+        (λ (b : (f : Fault) × Bad S o room h.2 f). inr (bad_more h.0 h.1 h.3 h.4 h.5 b.1))
         (next o room h.2 (omega arith) (moved_bytes h.1 h.5 bytes).1)
 
     begin : Earlier S n → Begins o p ⊎ Judged S o room p → Judged S o room p

@@ -1,20 +1,26 @@
 -- What is wrong at one place, and the faults of tokens.
-use Rattle.std.specs.Prelude.{◌≡◌, ◌≢◌, ℕ, ◌+◌, ◌-◌, ◌*◌, ◌%◌, ◌^◌, ◌<◌, ◌≤◌, List, [], ◌∷◌, ◌++◌, length, take, drop, All, Option, Some, None, MatchOption, option_map}
+use Rattle.std.specs.Prelude.{◌≡◌, ◌≢◌, ℕ, ◌+◌, ◌-◌, ◌*◌, ◌%◌, ◌^◌, ◌<◌, ◌≤◌, List, [], ◌∷◌, ◌++◌, length, take, drop, filter, ◌==◌, All, Option, Some, None, MatchOption, option_map}
 use Rattle.pb_wire.specs.declared.fault.Cause.{Cause}
 use Rattle.pb_wire.specs.declared.fault.Cause.TheVariants.{Truncated, PastEnd, VarintTooLong, TagTooLarge, NumberZero, BadType, StrayEnd, WrongEnd, LengthTooLarge}
+use Rattle.pb_wire.specs.declared.fault.PathStep.{PathStep}
+use Rattle.pb_wire.specs.Record.{Record}
 use Rattle.pb_wire.specs.Varint.{IsVarint}
+
+-- the step into the record of this number that stands behind these: how many of them have the number, whatever their wire type
+abbrev pub step : ℕ → List Record → PathStep
+step k before = record { number = k; occurrence = length (filter (λ r. r.number == k) before) }
 
 pub record Fault : Type 0 where
   pub byte : ℕ
-  pub path : List ℕ
+  pub path : List PathStep
   pub cause : Cause
 
-abbrev pub fault : ℕ → List ℕ → Cause → Fault
+abbrev pub fault : ℕ → List PathStep → Cause → Fault
 fault byte path cause = record { byte = byte; path = path; cause = cause }
 
--- what lies inside the record of this number
-abbrev pub inside : ℕ → Fault → Fault
-inside k f = record f { path = k ∷ f.path }
+-- what lies inside the record that this step leads into
+abbrev pub inside : PathStep → Fault → Fault
+inside s f = record f { path = s ∷ f.path }
 
 -- Where a reading stands: a position, how many bytes lie before the known end, and the bytes given from here on.
 pub record Place : Type 0 where

@@ -3,7 +3,7 @@ use Rattle.std.specs.Prelude.{◌≡◌, ◌≢◌, ℕ, suc, ◌+◌, ◌<◌, 
 use Rattle.std.specs.Str.Lossy.{utf8_valid_len}
 use Rattle.pb_wire.specs.Record.{Record}
 use Rattle.pb_wire.specs.Spell.{AreRecords}
-use Rattle.pb_wire.specs.Fault.{Fault, fault, inside, Place, Moves, HasTag, HasLength, TagFault, LengthFault, CutFault, text_at, VarintFault, FixedFault}
+use Rattle.pb_wire.specs.Fault.{Fault, fault, step, inside, Place, Moves, HasTag, HasLength, TagFault, LengthFault, CutFault, text_at, VarintFault, FixedFault}
 use Rattle.pb_wire.specs.Schema.{Schema, Element, a_varint, four_bytes, eight_bytes, Reading, unread, text, message, same_level, packed, Open, records, in_group, context_of, open_group}
 use Rattle.pb_wire.specs.Limits.{Bounds}
 use Rattle.pb_wire.specs.Sound.{AreElements, AllSound}
@@ -42,55 +42,55 @@ mutual
   pub data Bad (S : Schema) : Open S.Context → ℕ → Place → Fault → Type 0 where
     at_record :
         {o : Open S.Context} {room : ℕ} {p q : Place} {f : Fault} {front : List ℕ}
-        → Whole S (context_of o) room front → Moves p front q → Begins o q → RecordFault S o room q f → Bad S o room p f
+        → (w : Whole S (context_of o) room front) → Moves p front q → Begins o q → RecordFault S o w.0 room q f → Bad S o room p f
     at_end :
         {o : Open S.Context} {room m : ℕ} {c : S.Context} {p q : Place} {f : Fault} {front : List ℕ}
         → o ≡ in_group m c → Whole S c room front → Moves p front q → q.known ≡ Some 0 → f ≡ fault q.at [] PastEnd → Bad S o room p f
 
-  -- the record that begins here has this fault
-  pub data RecordFault (S : Schema) : Open S.Context → ℕ → Place → Fault → Type 0 where
-    tag : {o : Open S.Context} {room : ℕ} {p : Place} {f : Fault} → TagFault (open_group o) p f → RecordFault S o room p f
+  -- the record that begins here, behind these whole records of what is open, has this fault
+  pub data RecordFault (S : Schema) : Open S.Context → List Record → ℕ → Place → Fault → Type 0 where
+    tag : {o : Open S.Context} {before : List Record} {room : ℕ} {p : Place} {f : Fault} → TagFault (open_group o) p f → RecordFault S o before room p f
     group_too_deep :
-        {o : Open S.Context} {room k : ℕ} {p q : Place} {f : Fault}
-        → HasTag p k 3 q → room ≡ 0 → f ≡ fault p.at (k ∷ []) TooDeep → RecordFault S o room p f
+        {o : Open S.Context} {before : List Record} {room k : ℕ} {p q : Place} {f : Fault}
+        → HasTag p k 3 q → room ≡ 0 → f ≡ fault p.at (step k before ∷ []) TooDeep → RecordFault S o before room p f
     message_too_deep :
-        {o : Open S.Context} {room k : ℕ} {d : S.Context} {p q : Place} {f : Fault}
-        → HasTag p k 2 q → S.reading (context_of o) k ≡ message d → room ≡ 0 → f ≡ fault p.at (k ∷ []) TooDeep → RecordFault S o room p f
+        {o : Open S.Context} {before : List Record} {room k : ℕ} {d : S.Context} {p q : Place} {f : Fault}
+        → HasTag p k 2 q → S.reading (context_of o) k ≡ message d → room ≡ 0 → f ≡ fault p.at (step k before ∷ []) TooDeep → RecordFault S o before room p f
     varint :
-        {o : Open S.Context} {room k : ℕ} {p q : Place} {f g : Fault}
-        → HasTag p k 0 q → VarintFault q g → f ≡ inside k g → RecordFault S o room p f
+        {o : Open S.Context} {before : List Record} {room k : ℕ} {p q : Place} {f g : Fault}
+        → HasTag p k 0 q → VarintFault q g → f ≡ inside (step k before) g → RecordFault S o before room p f
     fixed64 :
-        {o : Open S.Context} {room k : ℕ} {p q : Place} {f g : Fault}
-        → HasTag p k 1 q → FixedFault 8 q g → f ≡ inside k g → RecordFault S o room p f
+        {o : Open S.Context} {before : List Record} {room k : ℕ} {p q : Place} {f g : Fault}
+        → HasTag p k 1 q → FixedFault 8 q g → f ≡ inside (step k before) g → RecordFault S o before room p f
     fixed32 :
-        {o : Open S.Context} {room k : ℕ} {p q : Place} {f g : Fault}
-        → HasTag p k 5 q → FixedFault 4 q g → f ≡ inside k g → RecordFault S o room p f
+        {o : Open S.Context} {before : List Record} {room k : ℕ} {p q : Place} {f g : Fault}
+        → HasTag p k 5 q → FixedFault 4 q g → f ≡ inside (step k before) g → RecordFault S o before room p f
     in_a_group :
-        {o : Open S.Context} {room k : ℕ} {p q : Place} {f g : Fault}
-        → HasTag p k 3 q → Bad S (in_group k (S.group_context (context_of o) k)) room q g → f ≡ inside k g → RecordFault S o (suc room) p f
+        {o : Open S.Context} {before : List Record} {room k : ℕ} {p q : Place} {f g : Fault}
+        → HasTag p k 3 q → Bad S (in_group k (S.group_context (context_of o) k)) room q g → f ≡ inside (step k before) g → RecordFault S o before (suc room) p f
     length_of :
-        {o : Open S.Context} {room k : ℕ} {p q : Place} {f g : Fault}
-        → HasTag p k 2 q → IsAllowed room (S.reading (context_of o) k) → LengthFault q g → f ≡ inside k g → RecordFault S o room p f
+        {o : Open S.Context} {before : List Record} {room k : ℕ} {p q : Place} {f g : Fault}
+        → HasTag p k 2 q → IsAllowed room (S.reading (context_of o) k) → LengthFault q g → f ≡ inside (step k before) g → RecordFault S o before room p f
     cut_payload :
-        {o : Open S.Context} {room k : ℕ} {p q : Place} {f g : Fault}
-        → HasTag p k 2 q → (S.reading (context_of o) k ≡ unread) ⊎ (S.reading (context_of o) k ≡ text) → CutFault q g → f ≡ inside k g
-        → RecordFault S o room p f
+        {o : Open S.Context} {before : List Record} {room k : ℕ} {p q : Place} {f g : Fault}
+        → HasTag p k 2 q → (S.reading (context_of o) k ≡ unread) ⊎ (S.reading (context_of o) k ≡ text) → CutFault q g → f ≡ inside (step k before) g
+        → RecordFault S o before room p f
     bad_text :
-        {o : Open S.Context} {room k n : ℕ} {p q r : Place} {f : Fault}
+        {o : Open S.Context} {before : List Record} {room k n : ℕ} {p q r : Place} {f : Fault}
         → HasTag p k 2 q → S.reading (context_of o) k ≡ text → HasLength q n r → n ≤ length r.rest → ¬ IsUtf8 (take n r.rest)
-        → f ≡ fault (r.at + utf8_valid_len (take n r.rest)) (k ∷ []) BadText → RecordFault S o room p f
+        → f ≡ fault (r.at + utf8_valid_len (take n r.rest)) (step k before ∷ []) BadText → RecordFault S o before room p f
     in_a_list :
-        {o : Open S.Context} {room k n : ℕ} {e : Element} {p q r : Place} {f g : Fault}
-        → HasTag p k 2 q → S.reading (context_of o) k ≡ packed e → HasLength q n r → BadElements e (payload_at r n) g → f ≡ inside k g
-        → RecordFault S o room p f
+        {o : Open S.Context} {before : List Record} {room k n : ℕ} {e : Element} {p q r : Place} {f g : Fault}
+        → HasTag p k 2 q → S.reading (context_of o) k ≡ packed e → HasLength q n r → BadElements e (payload_at r n) g → f ≡ inside (step k before) g
+        → RecordFault S o before room p f
     in_a_message :
-        {o : Open S.Context} {room k n : ℕ} {d : S.Context} {p q r : Place} {f g : Fault}
+        {o : Open S.Context} {before : List Record} {room k n : ℕ} {d : S.Context} {p q r : Place} {f g : Fault}
         → HasTag p k 2 q → S.reading (context_of o) k ≡ message d → HasLength q n r → Bad S (records d) room (payload_at r n) g
-        → f ≡ inside k g → RecordFault S o (suc room) p f
+        → f ≡ inside (step k before) g → RecordFault S o before (suc room) p f
     in_a_value :
-        {o : Open S.Context} {room k n : ℕ} {d : S.Context} {p q r : Place} {f g : Fault}
+        {o : Open S.Context} {before : List Record} {room k n : ℕ} {d : S.Context} {p q r : Place} {f g : Fault}
         → HasTag p k 2 q → S.reading (context_of o) k ≡ same_level d → HasLength q n r → Bad S (records d) room (payload_at r n) g
-        → f ≡ inside k g → RecordFault S o room p f
+        → f ≡ inside (step k before) g → RecordFault S o before room p f
 
 -- b is the text of these records, within the limits
 pub record IsText (S : Schema) (c : S.Context) (limits : Bounds) (b : List ℕ) (rs : List Record) : Type 0 where

@@ -11,6 +11,7 @@ pub mod Exact
 pub mod Unknown
 pub mod WireType
 pub mod Reading
+pub mod Token
 pub mod Limits
 pub mod Writable
 pub mod CauseName

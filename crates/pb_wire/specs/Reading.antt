@@ -1,11 +1,12 @@
 -- What the parts of the reader say of one another: places of a text that has no known end.
-use Rattle.std.specs.Prelude.{◌≡◌, ℕ, ◌+◌, ◌*◌, List, ◌∷◌, ◌++◌, Option, Some, None}
+use Rattle.std.specs.Prelude.{◌≡◌, ℕ, ◌+◌, ◌*◌, List, ◌∷◌, reverse, Option, Some, None}
 use Rattle.pb_wire.specs.Record.{Payload, wire_type, Record}
 use Rattle.pb_wire.specs.Spell.{Body, AreRecords}
-use Rattle.pb_wire.specs.Fault.{Fault, fault, Place, Leads, Reads, HasTag}
+use Rattle.pb_wire.specs.Fault.{Fault, fault, step, Place, Leads, Reads, HasTag}
 use Rattle.pb_wire.specs.Schema.{blank, Open, records, in_group}
 use Rattle.pb_wire.specs.Sound.{Sound, AllSound}
 use Rattle.pb_wire.specs.Grammar.{Bad, RecordFault}
+use Rattle.pb_wire.specs.declared.fault.PathStep.{PathStep}
 use Rattle.pb_wire.specs.declared.fault.WireFault.{WireFault}
 use Rattle.pb_wire.specs.declared.fault.RawError.{RawError}
 use Rattle.pb_wire.specs.declared.fault.RawError.TheVariants as raw
@@ -37,16 +38,21 @@ abbrev pub IfFault : ReadError → (WireFault → Type 0) → Type 0
 IfFault (errors.Fault w) P = P w
 IfFault errors.Memory P = Unit {0}
 
--- the value that begins at q, behind the tag of a record of number k, has a fault below these steps of the path
-abbrev pub BadValue : ℕ → ℕ → ℕ → Place → List ℕ → List ℕ → WireFault → Type 0
-BadValue room k code q old new w =
-    (steps : List ℕ) × (new ≡ old ++ steps)
-    × ((o : Open (Unit {0})) (p : Place) → HasTag p k code q → RecordFault blank o room p (fault w.byte (k ∷ steps) w.cause))
+-- the value that begins at q, behind a tag of the number k, has a fault below these steps of the path, the last of them first
+abbrev pub BadValue : ℕ → ℕ → ℕ → Place → List PathStep → WireFault → Type 0
+BadValue room k code q steps w =
+    (o : Open (Unit {0})) (before : List Record) (p : Place) → HasTag p k code q
+    → RecordFault blank o before room p (fault w.byte (step k before ∷ reverse steps) w.cause)
 
--- reading from p fails below these steps of the path
-abbrev pub BadFrom : ℕ → Option ℕ → Place → List ℕ → List ℕ → WireFault → Type 0
-BadFrom room innermost p old new w =
-    (steps : List ℕ) × (new ≡ old ++ steps) × Bad blank (opened innermost) room p (fault w.byte steps w.cause)
+-- the record of this number whose tag begins at p has a fault below these steps of the path, the last of them first
+abbrev pub BadRecord : ℕ → ℕ → Place → List PathStep → WireFault → Type 0
+BadRecord room k p steps w =
+    (o : Open (Unit {0})) (before : List Record)
+    → RecordFault blank o before room p (fault w.byte (step k before ∷ reverse steps) w.cause)
+
+-- reading from p fails below these steps of the path, the last of them first
+abbrev pub BadFrom : ℕ → Option ℕ → Place → List PathStep → WireFault → Type 0
+BadFrom room innermost p steps w = Bad blank (opened innermost) room p (fault w.byte (reverse steps) w.cause)
 
 -- a fact of a fault as a reader tells it, if it is one
 abbrev pub IfRawFault : RawError → (Fault → Type 0) → Type 0

@@ -4,7 +4,7 @@ use Rattle.pb_wire.specs.Varint.{IsVarint}
 use Rattle.pb_wire.specs.Record.{Record, group_of}
 use Rattle.pb_wire.specs.Record as wire
 use Rattle.pb_wire.specs.Spell.{Spells, AreRecords}
-use Rattle.pb_wire.specs.Fault.{Fault, fault, Place, Moves, place, HasTag}
+use Rattle.pb_wire.specs.Fault.{Fault, fault, step, Place, Moves, place, HasTag}
 use Rattle.pb_wire.specs.Schema.{blank, records, Open}
 use Rattle.pb_wire.specs.Sound.{Sound, AllSound}
 use Rattle.pb_wire.specs.Grammar.{RecordFault, beyond}
@@ -108,14 +108,14 @@ abbrev pub too_large : Rest → Fault
 too_large s = fault (length s.text) [] InputTooLarge
 
 -- These items are left: the records from here on. Where they lead to the end, nothing follows them, or that the text is too large.
--- Where a record has a fault, that fault follows.
+-- Where a record has a fault, that fault follows, without its path.
 pub data Gives (s : Rest) (items : List Item) : Type 0 where
   to_end :
       {xs : List (ℕ × Seen)} {q : Place} → Passes s.depth (place s.text s.at) xs q → q.rest ≡ []
       → items ≡ all_ok xs ++ (if s.is_cut then Err (as_told (too_large s)) ∷ [] else []) → Gives s items
   to_fault :
-      {xs : List (ℕ × Seen)} {q : Place} {f : Fault} → Passes s.depth (place s.text s.at) xs q → q.rest ≢ []
-      → RecordFault blank (records tt) s.depth q f
+      {xs : List (ℕ × Seen)} {q : Place} {f : Fault} {before : List Record} → Passes s.depth (place s.text s.at) xs q → q.rest ≢ []
+      → RecordFault blank (records tt) before s.depth q f
       → items ≡ all_ok xs ++ Err (as_told (if s.is_cut then beyond (length s.text) f else f)) ∷ [] → Gives s items
 
 -- what a call gave from s, leaving t
@@ -129,4 +129,5 @@ pub record NextGives (s : Rest) (r : Option (Result (ℕ × Payload) WireFault))
 -- the value that begins at p, behind the tag of a record with this wire type, has a fault
 abbrev pub IsValueFault : ℕ → Place → WireFault → Type 0
 IsValueFault code p e =
-    (o : Open (Unit {0})) (room k : ℕ) (tag : Place) → HasTag tag k code p → RecordFault blank o room tag (fault e.byte (k ∷ []) e.cause)
+    (o : Open (Unit {0})) (before : List Record) (room k : ℕ) (tag : Place) → HasTag tag k code p
+    → RecordFault blank o before room tag (fault e.byte (step k before ∷ []) e.cause)

@@ -100,14 +100,22 @@ pub struct WireFault {
     pub cause: Cause,
 }
 
+/// A step of a path: a record, by its number and by how many whole records of that number stand before it in the payload
+/// that holds it, whatever their wire types.
+#[derive(Clone, Copy, Debug, PartialEq, Eq)]
+pub struct PathStep {
+    pub number: u32,
+    pub occurrence: u32,
+}
+
 /// Why records were not read or written.
 #[derive(Debug, Drop, Error)]
 pub enum RawError {
-    /// The bytes are no records: where they fail, the numbers of the open records outermost first, and why.
+    /// The bytes are no records: where they fail, the steps to the open records outermost first, and why.
     #[error("{cause} at byte {byte}")]
     Fault {
         byte: u64,
-        path: Vec<u32>,
+        path: Vec<PathStep>,
         cause: Cause,
     },
     #[error("out of memory")]

@@ -12,6 +12,7 @@ ghost use Rattle.pb_wire.specs.Reading.{Front, ReadsValue};
 ghost use Rattle.pb_wire.specs.RecordIter.{Seen, seen, AreShown, ShowsFront, Gives, all_ok, as_told, start, ShowsRecord, IsValueFault};
 ghost use Rattle.pb_wire.specs.Schema.{blank, records, in_group, Open};
 ghost use Rattle.pb_wire.specs.WireType.{code_of};
+ghost use Rattle.pb_wire.specs.declared.fault.PathStep.{PathStep};
 
 use crate::fault::{Cause, WireFault};
 use crate::limits::Limits;
@@ -117,7 +118,7 @@ impl<'a> FusedIterator for RecordIter<'a> {}
 /// A fault of the bytes that are read, as a fault of the text. Where the text goes on behind them, their end is no end
 /// of a token.
 fn told(fault: WireFault, is_cut: bool, end: usize) -> WireFault
-    ensures { (path : List ℕ) → result ≡ as_told (let f = fault_with fault.byte path fault.cause in if is_cut then beyond end f else f) }
+    ensures { (path : List PathStep) → result ≡ as_told (let f = fault_with fault.byte path fault.cause in if is_cut then beyond end f else f) }
 {
     if !is_cut {
         return fault;
@@ -134,7 +135,7 @@ fn record_at(bytes: &[u8], at: usize, max_depth: u8) -> Result<(u32, Payload<'_>
     requires depth { max_depth ≤ 100 }
     ensures within { IfOk result (λ r. (at < r.2) × (r.2 ≤ length bytes.now)) }
     ensures ok { IfOk result (λ r. ShowsRecord max_depth (place bytes.now at) (r.0, seen r.1) (place bytes.now r.2)) }
-    ensures fault { IfErr result (λ e. (path : List ℕ) × RecordFault blank (records tt) max_depth (place bytes.now at) (fault_with e.byte path e.cause)) }
+    ensures fault { IfErr result (λ e. (path : List PathStep) × RecordFault blank (records tt) [] max_depth (place bytes.now at) (fault_with e.byte path e.cause)) }
 {
     let (number, wire_type, start) = tag_at(bytes, at, None)?;
     match wire_type {
@@ -178,7 +179,7 @@ fn group_end(
     ensures within { IfOk result (λ r. (start ≤ r.0) × (r.0 < r.1) × (r.1 ≤ length bytes.now)) }
     ensures ok { IfOk result (λ r. (rs : List Record) × Front (max_depth - 1) (place bytes.now start) rs (place bytes.now r.0)
         × HasTag (place bytes.now r.0) number 4 (place bytes.now r.1)) }
-    ensures fault { IfErr result (λ e. (path : List ℕ) × Bad blank (in_group number tt) (max_depth - 1) (place bytes.now start) (fault_with e.byte path e.cause)) }
+    ensures fault { IfErr result (λ e. (path : List PathStep) × Bad blank (in_group number tt) (max_depth - 1) (place bytes.now start) (fault_with e.byte path e.cause)) }
 {
     let mut groups = OpenGroups::new(number);
     let mut here = start;
@@ -205,7 +206,7 @@ fn group_end(
 }
 
 /// Finds the end of the value that begins at an index, behind a tag that begins or ends no group.
-fn value_end(bytes: &[u8], at: usize, wire_type: WireType) -> Result<usize, WireFault>
+pub(crate) fn value_end(bytes: &[u8], at: usize, wire_type: WireType) -> Result<usize, WireFault>
     requires at_in_bounds { at ≤ length bytes.now }
     requires no_start { code_of wire_type ≢ 3 }
     requires no_end { code_of wire_type ≢ 4 }

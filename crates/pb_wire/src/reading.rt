@@ -1,12 +1,12 @@
 //! Bytes as records.
 
-ghost use Rattle.std.specs.Prelude.{◌≡◌, ◌≢◌, ◌+◌, ◌≤◌, ◌<◌, ◌⊎◌, ℕ, List, [], Ok, Some, None, true, false, length, option_map, IfOk, IfErr, OnOk, MatchResult, IsErrAnd};
+ghost use Rattle.std.specs.Prelude.{◌≡◌, ◌≢◌, ◌+◌, ◌≤◌, ◌<◌, ◌^◌, ◌⊎◌, ℕ, List, [], reverse, filter, ◌==◌, Ok, Some, None, true, false, length, option_map, IfOk, IfErr, OnOk, MatchResult, IsErrAnd};
 ghost use Rattle.std.specs.Int.{w32, w64, to_le_bytes};
 ghost use Rattle.pb_wire.specs.Record.{Record, len};
 ghost use Rattle.pb_wire.specs.Ranges.{AreInRange};
 ghost use Rattle.pb_wire.specs.Writable.{AreWritable};
 ghost use Rattle.pb_wire.specs.Spell.{Body};
-ghost use Rattle.pb_wire.specs.Fault.{Fault, VarintFault, FixedFault, LengthFault, CutFault, TagFault, fault, place, Leads, Reads, HasTag};
+ghost use Rattle.pb_wire.specs.Fault.{Fault, VarintFault, FixedFault, LengthFault, CutFault, TagFault, fault, step, place, Leads, Reads, HasTag};
 ghost use Rattle.pb_wire.specs.Fault.{fault as fault_with};
 ghost use Rattle.pb_wire.specs.Schema.{blank};
 ghost use Rattle.pb_wire.specs.Grammar.{IsText, HasFault, beyond};
@@ -15,7 +15,7 @@ ghost use Rattle.pb_wire.specs.declared.reading.WireType.{WireType};
 ghost use Rattle.pb_wire.specs.Unknown.{payload_of, records_of};
 ghost use Rattle.pb_wire.specs.Reading.{ReadsAll, ReadsValue, IfFault, IfRawFault, BadValue, BadFrom};
 
-use crate::fault::{Cause, RawError, ReadError, WireFault};
+use crate::fault::{Cause, PathStep, RawError, ReadError, WireFault};
 use crate::limits::Limits;
 use crate::unknown::Unknown;
 use crate::varint::varint_at_front;
@@ -168,7 +168,8 @@ pub(crate) fn bytes_at(bytes: &[u8], at: usize) -> Result<(&[u8], usize), WireFa
     Ok((&bytes[start..start + size], start + size))
 }
 
-/// Reads the value that begins at an index, behind its tag.
+/// Reads the value that begins at an index, behind its tag. Where it has a fault, the steps to it from there are told, the
+/// last of them first.
 #[cycle(read)]
 fn value_at(
     alloc: Global,
@@ -177,17 +178,18 @@ fn value_at(
     number: u32,
     wire_type: WireType,
     room: u8,
-    path: &mut Vec<u32>,
+    steps: &mut Vec<PathStep>,
 ) -> Result<(Unknown, usize), ReadError>
     requires at_in_bounds { at ≤ length bytes.now }
+    requires size { length bytes.now < 2 ^ 32 }
     requires no_end { code_of wire_type ≢ 4 }
     requires level { code_of wire_type ≡ 3 → 0 < room }
+    requires no_steps { steps.old.items ≡ [] }
     ensures within { IfOk result (λ r. (at ≤ r.1) × (r.1 ≤ length bytes.now)) }
     ensures ok { IfOk result
         (λ r. ReadsValue room number (code_of wire_type) (place bytes.now at) (payload_of r.0) (place bytes.now r.1)) }
-    ensures path { OnOk result (path.new.items ≡ path.old.items) }
-    ensures fault { IfErr result (λ e. IfFault e
-        (BadValue room number (code_of wire_type) (place bytes.now at) path.old.items path.new.items)) }
+    ensures steps { OnOk result (steps.new.items ≡ []) }
+    ensures fault { IfErr result (λ e. IfFault e (BadValue room number (code_of wire_type) (place bytes.now at) steps.new.items)) }
 {
     match wire_type {
         WireType::Varint => {
@@ -203,7 +205,7 @@ fn value_at(
             Ok((Unknown::Len(Vec::from_slice(alloc, payload)?), after))
         }
         WireType::StartGroup => {
-            let (inside, after) = records_at(alloc, bytes, at, Some(number), room - 1, path)?;
+            let (inside, after) = records_at(alloc, bytes, at, Some(number), room - 1, steps)?;
             Ok((Unknown::Group(inside), after))
         }
         WireType::EndGroup => unreachable!(),
@@ -214,7 +216,8 @@ fn value_at(
     }
 }
 
-/// Reads records up to the end of the text, or up to and with the end of the group that is open.
+/// Reads records up to the end of the text, or up to and with the end of the group that is open. Where they have a fault,
+/// the steps to it from there are told, the last of them first.
 #[cycle(read)]
 fn records_at(
     alloc: Global,
@@ -222,16 +225,17 @@ fn records_at(
     at: usize,
     innermost: Option<u32>,
     room: u8,
-    path: &mut Vec<u32>,
+    steps: &mut Vec<PathStep>,
 ) -> Result<(Vec<(u32, Unknown)>, usize), ReadError>
-    requires { at ≤ length bytes.now }
+    requires at_in_bounds { at ≤ length bytes.now }
+    requires size { length bytes.now < 2 ^ 32 }
+    requires no_steps { steps.old.items ≡ [] }
     ensures within { IfOk result (λ r. (at ≤ r.1) × (r.1 ≤ length bytes.now)) }
     ensures whole { innermost ≡ None → IfOk result (λ r. r.1 ≡ length bytes.now) }
     ensures ok { IfOk result
         (λ r. ReadsAll room innermost (place bytes.now at) (records_of r.0.items) (place bytes.now r.1)) }
-    ensures path { OnOk result (path.new.items ≡ path.old.items) }
-    ensures fault { IfErr result (λ e. IfFault e
-        (BadFrom room innermost (place bytes.now at) path.old.items path.new.items)) }
+    ensures steps { OnOk result (steps.new.items ≡ []) }
+    ensures fault { IfErr result (λ e. IfFault e (BadFrom room innermost (place bytes.now at) steps.new.items)) }
 {
     let mut records = Vec::new(alloc);
     let mut here = at;
@@ -240,22 +244,47 @@ fn records_at(
         if let WireType::EndGroup = wire_type {
             return Ok((records, start));
         }
-        path.push(number)?;
         if let WireType::StartGroup = wire_type {
             if room == 0 {
+                steps.push(step_behind(&records, number))?;
                 return Err(ReadError::Fault(refused(here, Cause::TooDeep)));
             }
         }
-        let (payload, after) = value_at(alloc, bytes, start, number, wire_type, room, path)?;
-        path.pop();
+        let (payload, after) = match value_at(alloc, bytes, start, number, wire_type, room, steps) {
+            Ok(value) => value,
+            Err(error) => {
+                steps.push(step_behind(&records, number))?;
+                return Err(error);
+            }
+        };
         records.push((number, payload))?;
         here = after;
     }
     Ok((records, here))
 }
 
+/// The step to the record of this number that stands behind these.
+#[tactic(auto, using(crate::proofs::ReadingLemmas::same_count))]
+fn step_behind(records: &[(u32, Unknown)], number: u32) -> PathStep
+    requires { length records.now < 2 ^ 32 }
+    ensures { result ≡ step number (records_of records.now) }
+{
+    PathStep {
+        number,
+        occurrence: count_of(records, number),
+    }
+}
+
+/// How many of the records have a number.
+fn count_of(records: &[(u32, Unknown)], number: u32) -> u32
+    requires { length records.now < 2 ^ 32 }
+    ensures { result ≡ length (filter (λ r. r.0 == number) records.now) }
+{
+    records.iter().filter(|record| record.0 == number).count() as u32
+}
+
 /// Says that nothing is open and nothing is left.
-fn is_at_end(bytes: &[u8], at: usize, innermost: Option<u32>) -> bool
+pub(crate) fn is_at_end(bytes: &[u8], at: usize, innermost: Option<u32>) -> bool
     requires { at ≤ length bytes.now }
     ensures ends { result ≡ true → (innermost ≡ None) × (at ≡ length bytes.now) }
     ensures goes_on { result ≡ false → innermost ≡ None → at < length bytes.now }
@@ -296,16 +325,12 @@ fn read_text(alloc: Global, bytes: &[u8], limits: Limits) -> Result<Vec<(u32, Un
     ensures fault { IfErr result (λ e. IfRawFault e (HasFault blank tt limits bytes.now)) }
 {
     let max_bytes = limits.max_bytes() as usize;
-    let mut path = Vec::new(alloc);
+    let mut steps = Vec::new(alloc);
     if bytes.len() <= max_bytes {
-        return match records_at(alloc, bytes, 0, None, limits.max_depth(), &mut path) {
+        return match records_at(alloc, bytes, 0, None, limits.max_depth(), &mut steps) {
             Ok((records, _)) => Ok(records),
             Err(ReadError::Memory) => Err(RawError::Memory),
-            Err(ReadError::Fault(fault)) => Err(RawError::Fault {
-                byte: fault.byte,
-                path,
-                cause: fault.cause,
-            }),
+            Err(ReadError::Fault(fault)) => Err(below(fault, steps)),
         };
     }
     match records_at(
@@ -314,7 +339,7 @@ fn read_text(alloc: Global, bytes: &[u8], limits: Limits) -> Result<Vec<(u32, Un
         0,
         None,
         limits.max_depth(),
-        &mut path,
+        &mut steps,
     ) {
         Ok(_) => Err(RawError::Fault {
             byte: max_bytes as u64,
@@ -322,13 +347,30 @@ fn read_text(alloc: Global, bytes: &[u8], limits: Limits) -> Result<Vec<(u32, Un
             cause: Cause::InputTooLarge,
         }),
         Err(ReadError::Memory) => Err(RawError::Memory),
-        Err(ReadError::Fault(fault)) => Err(of_longer(alloc, max_bytes, fault, path)),
+        Err(ReadError::Fault(fault)) => Err(of_longer(alloc, max_bytes, fault, steps)),
+    }
+}
+
+/// A fault below these steps, of which the last comes first.
+pub(crate) fn below(fault: WireFault, mut steps: Vec<PathStep>) -> RawError
+    ensures { IfRawFault result (λ f. f ≡ fault_with fault.byte (reverse steps.items) fault.cause) }
+{
+    steps.reverse();
+    RawError::Fault {
+        byte: fault.byte,
+        path: steps,
+        cause: fault.cause,
     }
 }
 
 /// A fault of the bytes within the limit, as the fault of the longer text.
-fn of_longer(alloc: Global, max_bytes: usize, fault: WireFault, path: Vec<u32>) -> RawError
-    ensures { IfRawFault result (λ f. f ≡ beyond max_bytes (fault_with fault.byte path.items fault.cause)) }
+pub(crate) fn of_longer(
+    alloc: Global,
+    max_bytes: usize,
+    fault: WireFault,
+    steps: Vec<PathStep>,
+) -> RawError
+    ensures { IfRawFault result (λ f. f ≡ beyond max_bytes (fault_with fault.byte (reverse steps.items) fault.cause)) }
 {
     match fault.cause {
         Cause::Truncated => RawError::Fault {
@@ -336,10 +378,6 @@ fn of_longer(alloc: Global, max_bytes: usize, fault: WireFault, path: Vec<u32>) 
             path: Vec::new(alloc),
             cause: Cause::InputTooLarge,
         },
-        cause => RawError::Fault {
-            byte: fault.byte,
-            path,
-            cause,
-        },
+        _ => below(fault, steps),
     }
 }

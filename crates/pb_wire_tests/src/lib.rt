@@ -12,4 +12,6 @@ mod faults;
 #[cfg(test)]
 mod rows;
 #[cfg(test)]
+mod tokens;
+#[cfg(test)]
 mod walks;

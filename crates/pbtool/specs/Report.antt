@@ -2,15 +2,20 @@
 use Rattle.std.specs.Prelude.{ℕ, List, [], ◌∷◌, ◌++◌, codes, decimal, flat_map}
 use Rattle.pb_wire.specs.Fault.{Fault}
 use Rattle.pb_wire.specs.CauseName.{name_of}
+use Rattle.pb_wire.specs.declared.fault.PathStep.{PathStep}
 
--- each number after a dot
-abbrev pub dotted : List ℕ → List ℕ
-dotted path = flat_map (λ k. codes "." ++ decimal k) path
+-- a record's number, and in brackets its occurrence
+abbrev pub step_text : PathStep → List ℕ
+step_text s = decimal s.number ++ codes "[" ++ decimal s.occurrence ++ codes "]"
 
--- the numbers joined by dots, or `-` where there are none
-abbrev pub path_text : List ℕ → List ℕ
+-- each step after a dot
+abbrev pub dotted : List PathStep → List ℕ
+dotted path = flat_map (λ s. codes "." ++ step_text s) path
+
+-- the steps joined by dots, or `-` where there are none
+abbrev pub path_text : List PathStep → List ℕ
 path_text [] = codes "-"
-path_text (k ∷ ks) = decimal k ++ dotted ks
+path_text (s ∷ ss) = step_text s ++ dotted ss
 
 -- where a message's bytes are refused, and why
 abbrev pub fault_line : Fault → List ℕ

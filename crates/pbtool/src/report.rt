@@ -2,20 +2,20 @@
 
 ghost use Rattle.std.specs.Prelude.{◌≡◌, ◌≤◌, ◌++◌, codes, decimal, length, MatchResult};
 ghost use Rattle.pb_wire.specs.Fault.{fault};
-ghost use Rattle.pbtool.specs.Report.{device_line, dotted, fault_line, path_text};
+ghost use Rattle.pbtool.specs.Report.{device_line, dotted, fault_line, path_text, step_text};
 ghost use Rattle.pbtool.specs.Refusal.{refusal_line, refusal_status};
 ghost use Rattle.pbtool.specs.Sending.{Cut, Puts, Sent, SentOrCut};
 
 use crate::buffer::OutputBuffer;
-use pb_wire::{Cause, DeviceFault, Output, RawError};
+use pb_wire::{Cause, DeviceFault, Output, PathStep, RawError};
 
 /// Why a command is refused.
 #[derive(Debug, Drop)]
 pub enum Refusal<'a> {
-    /// The bytes of a message: where they fail, the numbers of the open records outermost first, and why.
+    /// The bytes of a message: where they fail, the steps to the open records outermost first, and why.
     Fault {
         byte: u64,
-        path: Vec<u32>,
+        path: Vec<PathStep>,
         cause: Cause,
     },
     /// The device of this path failed, or the file is not there.
@@ -88,7 +88,7 @@ fn put_fault<O: Output>(
     buffer: &mut OutputBuffer,
     out: &mut O,
     byte: u64,
-    path: &[u32],
+    path: &[PathStep],
     cause: Cause,
 ) -> Result<(), DeviceFault>
     ensures { Puts O.written O.failures out.old out.new buffer.old buffer.new result
@@ -113,11 +113,11 @@ fn put_byte<O: Output>(buffer: &mut OutputBuffer, out: &mut O, byte: u64) -> Res
     Ok(())
 }
 
-/// The numbers joined by dots, or `-` where there are none.
+/// The steps joined by dots, or `-` where there are none.
 fn put_path<O: Output>(
     buffer: &mut OutputBuffer,
     out: &mut O,
-    path: &[u32],
+    path: &[PathStep],
 ) -> Result<(), DeviceFault>
     ensures { Puts O.written O.failures out.old out.new buffer.old buffer.new result (path_text path.now) }
 {
@@ -130,16 +130,16 @@ fn put_path<O: Output>(
     Ok(())
 }
 
-/// Each number after a dot.
+/// Each step after a dot.
 fn put_steps<O: Output>(
     buffer: &mut OutputBuffer,
     out: &mut O,
-    numbers: &[u32],
+    steps: &[PathStep],
 ) -> Result<(), DeviceFault>
-    ensures { Puts O.written O.failures out.old out.new buffer.old buffer.new result (dotted numbers.now) }
+    ensures { Puts O.written O.failures out.old out.new buffer.old buffer.new result (dotted steps.now) }
 {
-    for number in numbers {
-        put_step(buffer, out, b".", *number)?;
+    for step in steps {
+        put_step(buffer, out, b".", *step)?;
     }
     Ok(())
 }
@@ -148,15 +148,18 @@ fn put_step<O: Output>(
     buffer: &mut OutputBuffer,
     out: &mut O,
     separator: &[u8],
-    number: u32,
+    step: PathStep,
 ) -> Result<(), DeviceFault>
     requires { length separator.now ≤ 1 }
     ensures { Puts O.written O.failures out.old out.new buffer.old buffer.new result
-        (separator.now ++ decimal number) }
+        (separator.now ++ step_text step) }
 {
-    buffer.make_room(out, 32)?;
+    buffer.make_room(out, 64)?;
     buffer.push(separator);
-    buffer.push_decimal(u64::from(number));
+    buffer.push_decimal(u64::from(step.number));
+    buffer.push(b"[");
+    buffer.push_decimal(u64::from(step.occurrence));
+    buffer.push(b"]");
     Ok(())
 }
 

@@ -53,10 +53,16 @@ const ROWS: &[Row] = &[
             "08ffffffffffffffffff01\n",
         ),
     ),
-    Row("0896", Told::Refused("byte 2 path 1 cause Truncated\n")),
+    Row("0896", Told::Refused("byte 2 path 1[0] cause Truncated\n")),
     Row("80", Told::Refused("byte 1 path - cause Truncated\n")),
-    Row("120541", Told::Refused("byte 3 path 2 cause Truncated\n")),
-    Row("0d010203", Told::Refused("byte 4 path 1 cause Truncated\n")),
+    Row(
+        "120541",
+        Told::Refused("byte 3 path 2[0] cause Truncated\n"),
+    ),
+    Row(
+        "0d010203",
+        Told::Refused("byte 4 path 1[0] cause Truncated\n"),
+    ),
     Row("0c", Told::Refused("byte 0 path - cause StrayEnd\n")),
     Row("00", Told::Refused("byte 0 path - cause NumberZero\n")),
     Row("07", Told::Refused("byte 0 path - cause NumberZero\n")),
@@ -67,22 +73,33 @@ const ROWS: &[Row] = &[
     ),
     Row(
         "08ffffffffffffffffffff",
-        Told::Refused("byte 1 path 1 cause VarintTooLong\n"),
+        Told::Refused("byte 1 path 1[0] cause VarintTooLong\n"),
     ),
     Row(
         "12ffffffff0f",
-        Told::Refused("byte 1 path 2 cause LengthTooLarge\n"),
+        Told::Refused("byte 1 path 2[0] cause LengthTooLarge\n"),
     ),
     Row(
         "12ffffffff07",
-        Told::Refused("byte 6 path 2 cause Truncated\n"),
+        Told::Refused("byte 6 path 2[0] cause Truncated\n"),
     ),
-    Row("0b130c", Told::Refused("byte 2 path 1.2 cause WrongEnd\n")),
+    Row(
+        "0b130c",
+        Told::Refused("byte 2 path 1[0].2[0] cause WrongEnd\n"),
+    ),
     Row("0b0c0c", Told::Refused("byte 2 path - cause StrayEnd\n")),
-    Row("0b", Told::Refused("byte 1 path 1 cause Truncated\n")),
+    Row("0b", Told::Refused("byte 1 path 1[0] cause Truncated\n")),
     Row(
         "a30113",
-        Told::Refused("byte 3 path 20.2 cause Truncated\n"),
+        Told::Refused("byte 3 path 20[0].2[0] cause Truncated\n"),
+    ),
+    Row(
+        "08010896",
+        Told::Refused("byte 4 path 1[1] cause Truncated\n"),
+    ),
+    Row(
+        "10010896",
+        Told::Refused("byte 4 path 1[0] cause Truncated\n"),
     ),
 ];
 
@@ -180,9 +197,9 @@ fn nested_groups(rt: HostRuntime) -> Result<(), Fail> {
     listing.push_str(ends.as_str())?;
     let deepest = run_over(alloc, &["raw", "f"], file.as_slice(), NONE)?;
     assert!(rt; deepest.is(0, listing.as_bytes(), b""));
-    let mut line = String::from_str(alloc, "byte 100 path 1")?;
+    let mut line = String::from_str(alloc, "byte 100 path 1[0]")?;
     for _ in 0..100 {
-        line.push_str(".1")?;
+        line.push_str(".1[0]")?;
     }
     line.push_str(" cause TooDeep\n")?;
     let deeper = run_over(alloc, &["raw", "f"], &[0x0b; 101], NONE)?;

@@ -1,7 +1,7 @@
 use Rattle.std.proofs.Common.{◌≡◌, ◌-◌, ◌<◌, suc, [], ◌∷◌, Some, arith, refl, ap, ◌∙◌}
 use Rattle.std.proofs.lemmas.Result.{err_from_is_err_and}
 use Rattle.pb_wire.specs.WireType.{code_of}
-use Rattle.pb_wire.specs.Fault.{place}
+use Rattle.pb_wire.specs.Fault.{place, step}
 use Rattle.pb_wire.specs.Fault.{fault as fault_with}
 use Rattle.pb_wire.specs.Schema.{in_group}
 use Rattle.pb_wire.specs.Grammar.{RecordFault}
@@ -24,7 +24,7 @@ returns-in_err-inside-clause-fault c =
     rw (p.1, p.2)
     (nested_fault c.args.bytes.now c.args.number (c.args.max_depth - 1) c.args.start c.records.invariant.2 c.records.groups c.records.here
     c.innermost.result (fault_with c.in_err-inside.field-0.0.byte [] c.in_err-inside.field-0.0.cause) c.records.invariant.3 c.innermost.ensures
-    (RecordFault.tag c.in_err-inside.ensures.fault))
+    (RecordFault.tag {before = []} c.in_err-inside.ensures.fault))
 
 pub returns-then-len-eq1-clause-ok : goal.returns-then-len-eq1-clause-ok
 returns-then-len-eq1-clause-ok c =
@@ -54,8 +54,8 @@ returns-then-len-max_depth-clause-fault c =
     let none : c.records.invariant.2 ≡ 0 = let n = c.len-in-StartGroup.ensures in let some = c.requires.a_level in omega arith in
     rw c.refused.ensures
     (nested_fault c.args.bytes.now c.args.number (c.args.max_depth - 1) c.args.start c.records.invariant.2 c.records.groups c.records.here
-    c.innermost.result (fault_with c.records.here (c.in_ok-inside.inside ∷ []) TooDeep) c.records.invariant.3 c.innermost.ensures
-    (RecordFault.group_too_deep (rw c.in-StartGroup.is at c.in_ok-inside.ensures.ok) none refl))
+    c.innermost.result (fault_with c.records.here (step c.in_ok-inside.inside [] ∷ []) TooDeep) c.records.invariant.3 c.innermost.ensures
+    (RecordFault.group_too_deep {before = []} (rw c.in-StartGroup.is at c.in_ok-inside.ensures.ok) none refl))
 
 pub push-requires : goal.push-requires
 push-requires c =
@@ -84,9 +84,9 @@ returns-in_err-here-in_default c =
       fault =
           nested_fault c.args.bytes.now c.args.number (c.args.max_depth - 1) c.args.start c.records.invariant.2 c.records.groups c.records.here
           c.innermost.result
-          (fault_with c.in_err-here-in_default.field-0.0.byte (c.in_ok-inside.inside ∷ []) c.in_err-here-in_default.field-0.0.cause)
+          (fault_with c.in_err-here-in_default.field-0.0.byte (step c.in_ok-inside.inside [] ∷ []) c.in_err-here-in_default.field-0.0.cause)
           c.records.invariant.3 c.innermost.ensures
-          (c.in_err-here-in_default.ensures.fault (in_group c.innermost.result tt) c.records.invariant.2 c.in_ok-inside.inside
+          (c.in_err-here-in_default.ensures.fault (in_group c.innermost.result tt) [] c.records.invariant.2 c.in_ok-inside.inside
           (place c.args.bytes.now c.records.here) c.in_ok-inside.ensures.ok);
     })
 

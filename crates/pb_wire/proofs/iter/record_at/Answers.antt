@@ -1,6 +1,7 @@
 use Rattle.std.proofs.Common.{◌≡◌, ◌-◌, suc, [], ◌∷◌, arith, refl, ap}
 use Rattle.std.proofs.lemmas.Result.{err_from_is_err_and}
 use Rattle.pb_wire.specs.WireType.{code_of}
+use Rattle.pb_wire.specs.Fault.{step}
 use Rattle.pb_wire.specs.Grammar.{RecordFault}
 use Rattle.pb_wire.proofs.RecordIterLemmas.{varint_read, fixed64_read, fixed32_read, len_read, varint_fault, fixed64_fault, fixed32_fault, len_fault, fault_of_value, fault_of_group, shows_record, shows_group, moved_bytes}
 use Rattle.pb_wire.proofs.iter.record_at.Goals as goal
@@ -41,7 +42,7 @@ returns-in_err-n-in-I32-clause-fault c =
 pub returns-then-max_depth-eq0-clause-fault : goal.returns-then-max_depth-eq0-clause-fault
 returns-then-max_depth-eq0-clause-fault c =
     rw c.refused.ensures
-    (c.in_ok-number.number ∷ [], RecordFault.group_too_deep (rw c.in-StartGroup.is at c.in_ok-number.ensures.ok) c.if-max_depth-eq0.true refl)
+    (step c.in_ok-number.number [] ∷ [], RecordFault.group_too_deep (rw c.in-StartGroup.is at c.in_ok-number.ensures.ok) c.if-max_depth-eq0.true refl)
 
 pub returns-in_err-end-in-StartGroup-clause-fault : goal.returns-in_err-end-in-StartGroup-clause-fault
 returns-in_err-end-in-StartGroup-clause-fault c =
