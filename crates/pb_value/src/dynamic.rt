@@ -109,6 +109,11 @@ impl<'p> DynamicMessage<'p> {
         &self.body
     }
 
+    /// The allocator that the message was made with.
+    pub fn alloc(&self) -> Global {
+        self.alloc
+    }
+
     /// The message's type, an index in its pool.
     pub fn message_type(&self) -> MessageId
         ensures named { result.0 ≡ self.now.kind }

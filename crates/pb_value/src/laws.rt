@@ -15,6 +15,7 @@ ghost use Rattle.pb_value.specs.Derives.{Derives};
 ghost use Rattle.pb_value.specs.Canon.{canon, canon_bytes};
 ghost use Rattle.pb_value.specs.WellFormed.{IsWellFormed};
 ghost use Rattle.pb_value.specs.Meaning.{ValueIsWellFormed, DerivedIsWellFormed};
+ghost use Rattle.pb_value.specs.RoundTrip.{CanonIsText, CanonIsTextOfOne, CanonHasValue};
 ghost use Rattle.pb_value.specs.Cause.{message_cause};
 ghost use Rattle.pb_value.specs.Joining.{FirstValueDecides, OntoIsJoining, OntoDerives, OntoIsWellFormed, MergeIsJoining, MergeIsText, MergeIsWellFormed};
 
@@ -32,6 +33,14 @@ pub fn well_formed_values()
 /// The canonical bytes of a well-formed message spell its canonical records, where the wire can hold them.
 pub fn canonical_spelling()
     ensures { (pool : Types) (m : ℕ) (v : Message) → IsPool pool → IsWellFormed pool m v → length (canon_bytes pool m v) < 2 ^ 31 → AreRecords (canon pool m v) (canon_bytes pool m v) }
+{}
+
+/// The canonical bytes of a well-formed message, where the wire can hold them, are a text of it within the greatest limits, and of no
+/// other value. Its canonical records have it as their value whatever their length.
+pub fn round_trip()
+    ensures text { (pool : Types) → IsPool pool → CanonIsText pool }
+    ensures only { (pool : Types) → IsPool pool → CanonIsTextOfOne pool }
+    ensures value { (pool : Types) → IsPool pool → CanonHasValue pool }
 {}
 
 /// Keys of one map stand in the order of the definitions: numbers by value, false before true, texts by their bytes.

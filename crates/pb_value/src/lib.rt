@@ -22,6 +22,8 @@ pub use change::{put_field, store, take_field};
 pub use dynamic::{DynamicMessage, default_value};
 pub use error::ValueError;
 pub use insert::insert_entry;
-pub use laws::{canonical_spelling, key_order, no_cause, one_value, well_formed_values};
+pub use laws::{
+    canonical_spelling, key_order, no_cause, one_value, round_trip, well_formed_values,
+};
 pub use message_ref::MessageRef;
 pub use push::push_element;

@@ -118,7 +118,9 @@ fn is_too_deep(error: &RawError) -> bool {
             *byte == 100
                 && *cause == Cause::TooDeep
                 && path.len() == 101
-                && path.iter().all(|step| step.number == 1 && step.occurrence == 0)
+                && path
+                    .iter()
+                    .all(|step| step.number == 1 && step.occurrence == 0)
         }
         RawError::Memory => false,
     }

@@ -1,0 +1,8 @@
+pub mod ErrorNumber
+pub mod Sizes
+pub mod Parts
+pub mod Measure
+pub mod Planned
+pub mod Sink
+pub mod Writing
+pub mod Encoding

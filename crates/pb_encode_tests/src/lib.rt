@@ -1,0 +1,11 @@
+//! Tests of encoding, by its public calls alone.
+#![tactic(auto)]
+
+#[cfg(test)]
+mod reading;
+#[cfg(test)]
+mod rows;
+#[cfg(test)]
+mod schema;
+#[cfg(test)]
+mod writing;

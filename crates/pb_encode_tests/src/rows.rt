@@ -1,0 +1,155 @@
+//! Messages and their canonical bytes. The bytes are those of a second implementation (protoc, deterministic) or written
+//! out by hand.
+
+ghost use Rattle.std.specs.Prelude.{◌<◌};
+
+use super::reading::body_of;
+use super::schema::pool;
+use super::writing::{is_cut, is_cut_at_each_byte, is_written, is_written_or_memory};
+use pb_encode::EncodeError;
+use pb_schema::Pool;
+use pb_value::{Content, DynamicMessage, Value};
+use std::alloc::Global;
+use std::test::Fail;
+
+/// A row: the type, its fields and unknown records, how many entries a plan of it has, and its bytes.
+const ROWS: &str = "
+T | | 0 |
+T | 1:i150 | 0 | 089601
+T | 1:i-2 | 0 | 08feffffffffffffffff01
+T | 1:i-1 | 0 | 08ffffffffffffffffff01
+T | 6:[i3,i270,i86942,i1] | 1 | 3207038e029ea70501
+T | 3:m1=i1;2=tz | 1 | 1a05080112017a
+T | 8:m1=i1;11=i1 | 1 | 420408015802
+T | 8:m11=i1 | 1 | 42025802
+T | 4:F9223372036854775808 | 0 | 210000000000000080
+T | 9:{t=i7} | 1 | 4a040a001007
+T | 20?g1 | 0 | a3010801a401
+T | 1?lA | 0 | 0a0141
+T | 3:n99 | 100 | 1ae9011ae6011ae3011ae0011add011ada011ad7011ad4011ad1011ace011acb011ac8011ac5011ac2011abf011abc011ab9011ab6011ab3011ab0011aad011aaa011aa7011aa4011aa1011a9e011a9b011a98011a95011a92011a8f011a8c011a89011a86011a83011a80011a7e1a7c1a7a1a781a761a741a721a701a6e1a6c1a6a1a681a661a641a621a601a5e1a5c1a5a1a581a561a541a521a501a4e1a4c1a4a1a481a461a441a421a401a3e1a3c1a3a1a381a361a341a321a301a2e1a2c1a2a1a281a261a241a221a201a1e1a1c1a1a1a181a161a141a121a101a0e1a0c1a0a1a081a061a041a021a00
+T | 3:w98 | 101 | 1aef011aec011ae9011ae6011ae3011ae0011add011ada011ad7011ad4011ad1011ace011acb011ac8011ac5011ac2011abf011abc011ab9011ab6011ab3011ab0011aad011aaa011aa7011aa4011aa1011a9e011a9b011a98011a95011a92011a8f011a8c011a89011a86011a83011a80011a7e1a7c1a7a1a781a761a741a721a701a6e1a6c1a6a1a681a661a641a621a601a5e1a5c1a5a1a581a561a541a521a501a4e1a4c1a4a1a481a461a441a421a401a3e1a3c1a3a1a381a361a341a321a301a2e1a2c1a2a1a281a261a241a221a201a1e1a1c1a1a1a181a161a141a121a101a0e1a0c1a0a1a081a06620408001200
+T | 1:i150 2:tz 3:m1=i1 4:F9223372036854775808 6:[i3,i4] 7:u5 9:{tk=i7} 10:b0 11:i-1 12:{u3=m} 20?g1 | 5 | 08960112017a1a0208012100000000000000803202030438054a050a016b100750005801620408031200a3010801a401
+F | 14:[i-1,i1] | 0 | 70017002
+F | 16:f2147483648 | 0 | 850100000080
+F | 17:e-1 | 0 | 8801ffffffffffffffffff01
+F | 17:e5 | 0 | 880105
+F | 13:[t,tx] | 0 | 6a006a0178
+F | 10:b1 | 0 | 5001
+F | 11:i-2147483648 | 0 | 58ffffffff0f
+F | 1:i5 100?v1 100?v2 | 0 | 0805a00601a00602
+T | 12:{u1=m11=i-1} | 2 | 6206080112025801
+T | 12:{u1=m1=i1;11=i-1} | 2 | 62080801120408015801
+T | 9:{tb=i1,ta=i2} | 2 | 4a050a016110024a050a01621001
+T | 9:{tk=i7} | 1 | 4a050a016b1007
+T | 9:{t=i0} | 1 | 4a040a001000
+T | 7:u5 | 0 | 3805
+T | 7:u0 | 0 | 3800
+T | 8:m | 1 | 4200
+T | 9:{tb=i0,ta=i0,t=i-1} 12:{u300=m1=i1,u2=m} | 7 | 4a0d0a0010ffffffffffffffffff014a050a016110004a050a01621000620408021200620708ac0212020801
+F | 1:i1 15:yab 16:f1065353216 17:e-1 18:[u1,u4294967295] | 1 | 08017a02616285010000803f8801ffffffffffffffffff0192010801000000ffffffff
+W | 1:I-1 2:U18446744073709551615 3:I-9223372036854775808 4:U1 5:i-2 6:I-3 7:u4294967295 8:u4294967295 9:b1 | 0 | 08ffffffffffffffffff0110ffffffffffffffffff0118ffffffffffffffffff012101000000000000002dfeffffff31fdffffffffffffff3dffffffff40ffffffff0f4801
+W | 1:I127 2:U128 3:I64 8:u16383 | 0 | 087f10800118800140ff7f
+W | 10:[b1,b0] 11:[F4607182418800017408,F9223372036854775808] 12:[I-1,I64] | 3 | 520201005a10000000000000f03f00000000000000806203018001
+W | 13:[y,yab] 14:[e0,e-1,e0] | 1 | 6a006a026162720c00ffffffffffffffffff0100
+W | 15:{b1=tt,b0=t} | 2 | 7a04080012007a050801120174
+W | 16:{i1=b1,i-1=b0,i0=b1} | 3 | 820104080110008201040800100182010408021001
+W | 17:{U256=yx,U1=y} | 2 | 8a010b09010000000000000012008a010c090001000000000000120178
+W | 18:[m,n1,m1=i1] | 4 | 9201009201021a009201020801
+W | 19:{tb=e-1,t=e0,tab=e-1} | 3 | 9a01040a0010009a010f0a02616210ffffffffffffffffff019a010e0a016210ffffffffffffffffff01
+W | 20:{I-1=f1069547520,I1=f2147483648,I0=f0} | 3 | a2011008ffffffffffffffffff01150000c03fa2010708001500000000a2010708011500000080
+W | 22:t | 0 | b20100
+W | 536870911:[f1065353216,f2147483648] | 1 | faffffff0f080000803f00000080
+T | 19?i1 19?I2 1?g0 19?l | 0 | 9d0101000000990102000000000000000b08000c9a0100
+";
+
+/// Whether a row's message is written as the row says, and cut where each write of one byte fails in turn.
+fn is_encoded(alloc: Global, pool: &Pool, row: &str) -> Result<bool, Fail> {
+    let (name, row) = row.split_once('|').ok_or("no type")?;
+    let (fields, row) = row.split_once('|').ok_or("no fields")?;
+    let (entries, text) = row.split_once('|').ok_or("no entries")?;
+    let bytes = hex::decode(alloc, text.trim())?;
+    let entries = entries.trim().parse::<usize>()?;
+    let kind = pool.message_by_name(name.trim()).ok_or("no such type")?;
+    let message = DynamicMessage::from_body(alloc, pool, kind, body_of(alloc, fields)?)?;
+    Ok(
+        is_written(alloc, &message, &bytes, entries)?
+            && is_cut_at_each_byte(alloc, &message, &bytes)?,
+    )
+}
+
+#[test]
+fn rows(rt: HostRuntime) -> Result<(), Fail> {
+    let pool = pool(rt.alloc())?;
+    for row in ROWS.lines() {
+        assert!(rt;
+            row.is_empty() || is_encoded(rt.alloc(), &pool, row)?,
+            "{row}"
+        );
+    }
+    Ok(())
+}
+
+/// A text of so many letters and what stands around it, past the buffer's size and at it.
+#[test]
+fn long_texts(rt: HostRuntime) -> Result<(), Fail> {
+    let pool = pool(rt.alloc())?;
+    for size in [4080, 4090, 4091, 4092, 4093, 4094, 4095, 4096, 4097, 9000] {
+        assert!(rt; is_long(rt.alloc(), &pool, size)?, "{size}");
+    }
+    Ok(())
+}
+
+/// Field 1 is 1, field 2 a text of so many letters, and field 15 two bytes.
+fn is_long(alloc: Global, pool: &Pool, size: usize) -> Result<bool, Fail>
+    requires { size < 16384 }
+{
+    let mut text = vec![in alloc; b'x'; size]?;
+    let mut bytes = Vec::new(alloc);
+    bytes.extend_from_slice(&[
+        0x08,
+        0x01,
+        0x12,
+        0x80 + (size % 128) as u8,
+        (size / 128) as u8,
+    ])?;
+    bytes.extend_from_slice(&text)?;
+    bytes.extend_from_slice(&[0x7a, 0x02, 0x61, 0x62])?;
+    let mut body = body_of(alloc, "1:i1 15:yab")?;
+    drop(
+        body.fields
+            .insert(2, Content::One(Value::Text(String::from_utf8(text)?)))?,
+    );
+    let kind = pool.message_by_name("F").ok_or("F")?;
+    let message = DynamicMessage::from_body(alloc, pool, kind, body)?;
+    Ok(
+        is_written(alloc, &message, &bytes, 0)?
+            && is_cut(alloc, &message, &bytes, 100)?
+            && is_cut(alloc, &message, &bytes, 10_000)?,
+    )
+}
+
+/// What the calls answer where a growth of memory is refused, which a run with `--fail-alloc` does.
+#[test]
+fn growths(rt: HostRuntime) -> Result<(), Fail> {
+    let pool = pool(rt.alloc())?;
+    let kind = pool.message_by_name("T").ok_or("T")?;
+    let body = body_of(rt.alloc(), "3:m1=i1 6:[i3,i4] 9:{tk=i7} 12:{u3=m}")?;
+    let message = DynamicMessage::from_body(rt.alloc(), &pool, kind, body)?;
+    let bytes = hex::decode(rt.alloc(), "1a020801320203044a050a016b1007620408031200")?;
+    assert!(rt; is_written_or_memory(rt.alloc(), &message, &bytes));
+    Ok(())
+}
+
+#[test]
+fn errors(rt: HostRuntime) -> Result<(), Fail> {
+    let cut = EncodeError::Device { written: 3 };
+    let text = format!(in rt.alloc(); "{cut}, {}, {}", EncodeError::Memory, EncodeError::TooLarge)?;
+    assert!(rt;
+        EncodeError::TooLarge.number() == 31
+            && EncodeError::Memory.number() == 32
+            && cut.number() == 33
+            && text.as_str()
+                == "the device failed after 3 bytes, out of memory, the encoding has more than 2147483647 bytes"
+    );
+    Ok(())
+}
