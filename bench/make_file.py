@@ -1,8 +1,8 @@
 #!/usr/bin/env python3
-"""Writes a message file of about so many megabytes, the same each time: make_file.py MEGABYTES FILE.
+"""Writes a message file of about so many megabytes, the same each time: make_file.py KIND MEGABYTES FILE.
 
-Its records are like those of a log: a length-delimited entry with numbers, a fixed value, a name and a body, some
-of them in groups."""
+KIND is `log` or `small`. The records of `log` are like those of a log: an entry with numbers, a fixed value, a name and a
+body, some of them in groups. Those of `small` take two bytes each, which is the least that a record takes."""
 import sys
 
 
@@ -34,13 +34,20 @@ def entry(i):
     return fields + length_delimited(7, b"x" * (state % 200))
 
 
+def small(i):
+    return tag(1 + i % 15, 0) + varint(i % 128)
+
+
+KINDS = {"log": entry, "small": small}
+
+
 def main():
-    size = int(sys.argv[1]) * 1_000_000
+    record, size = KINDS[sys.argv[1]], int(sys.argv[2]) * 1_000_000
     written = 0
-    with open(sys.argv[2], "wb") as out:
+    with open(sys.argv[3], "wb") as out:
         i = 0
         while written < size:
-            chunk = b"".join(entry(k) for k in range(i, i + 1000))
+            chunk = b"".join(record(k) for k in range(i, i + 1000))
             out.write(chunk)
             written += len(chunk)
             i += 1000

@@ -25,6 +25,10 @@ pub sound_records : (rs : List Record) (room : ℕ) → records_depth rs ≤ roo
 sound_records [] room h = AllSound.none
 sound_records (r ∷ rs) room h = AllSound.one (sound_payload r.payload r.number room (omega arith)) (sound_records rs room (omega arith))
 
+pub group_records_sound : (rs : List Record) (room : ℕ) → group_depth (group_of rs) ≤ room → AllSound blank tt room rs
+group_records_sound [] room h = AllSound.none
+group_records_sound (r ∷ rs) room h = AllSound.one (sound_payload r.payload r.number room (omega arith)) (group_records_sound rs room (omega arith))
+
 mutual
   pub sound_depth : {room k : ℕ} {p : Payload} → Sound blank tt room k p → depth p ≤ room
   sound_depth is_varint = omega arith

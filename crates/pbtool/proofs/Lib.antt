@@ -1,6 +1,6 @@
 pub mod SendingLemmas
 pub mod HexParts
-pub mod Depths
+pub mod Borrowing
 pub mod Lines
 pub mod Paths
 pub mod Judged

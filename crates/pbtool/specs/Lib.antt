@@ -6,4 +6,5 @@ pub mod Report
 pub mod Refusal
 pub mod Answer
 pub mod Steps
+pub mod Borrowed
 pub mod Words

@@ -1,12 +1,11 @@
 -- What the steps of a command leave.
-use Rattle.std.specs.Prelude.{◌≡◌, ◌⊎◌, ℕ, List, [], Bool, Option, None, Some, Result, Ok, Err, Vec, option_map, take}
+use Rattle.std.specs.Prelude.{◌≡◌, ◌⊎◌, ℕ, List, [], Bool, true, Option, None, Some, Result, Ok, Err, Vec, option_map, take}
 use Rattle.std.specs.declared.alloc.Global.{Global}
 use Rattle.pb_wire.specs.Fault.{fault}
 use Rattle.pb_wire.specs.Schema.{blank}
-use Rattle.pb_wire.specs.Grammar.{IsText, HasFault}
+use Rattle.pb_wire.specs.Grammar.{HasFault}
+use Rattle.pb_wire.specs.Exact.{IsSomeText}
 use Rattle.pb_wire.specs.Limits.{Bounds}
-use Rattle.pb_wire.specs.Unknown.{records_of}
-use Rattle.pb_wire.specs.declared.unknown.Unknown.{Unknown}
 use Rattle.pbtool.specs.FileMap.{FileMap, IsHonest}
 use Rattle.pbtool.specs.Report.{fault_line, output_name}
 use Rattle.pbtool.specs.Answer.{Answer, done, refused, device_failed}
@@ -18,14 +17,19 @@ abbrev pub IsReadOf : {F : Type 0} → (F → Option FileMap) → (F → Bool) �
 IsReadOf contents is_steady files limit path read =
     (map : FileMap) → IsHonest contents is_steady files map → read ≡ option_map (take limit) (map path)
 
--- the records, or why they are refused, of what IsRead says was read
-abbrev pub ReadsRecords :
-    Bounds → List ℕ → (Option (List ℕ) → Type 0) → Result (Vec (ℕ × Unknown) Global) Refusal → Type 0
-ReadsRecords limits path IsRead (Ok v) = (text : List ℕ) × IsRead (Some text) × IsText blank tt limits text (records_of v.items)
-ReadsRecords limits path IsRead (Err (Fault byte steps cause)) =
+-- the same of one input that doesn't fail and tells its bytes
+abbrev pub IsReadFrom : {I : Type 0} → (I → Option (List ℕ)) → (I → Bool) → I → ℕ → Option (List ℕ) → Type 0
+IsReadFrom left is_steady input limit read =
+    (bytes : List ℕ) → is_steady input ≡ true → left input ≡ Some bytes → read ≡ Some (take limit bytes)
+
+-- a text, or why its bytes are refused, of what IsRead says was read
+abbrev pub Judges :
+    Bounds → List ℕ → (Option (List ℕ) → Type 0) → Result (Vec ℕ Global) Refusal → Type 0
+Judges limits path IsRead (Ok v) = IsRead (Some v.items) × IsSomeText blank tt limits v.items
+Judges limits path IsRead (Err (Fault byte steps cause)) =
     (text : List ℕ) × IsRead (Some text) × HasFault blank tt limits text (fault byte steps.items cause)
-ReadsRecords limits path IsRead (Err (Device device)) = IsRead None × (device.now ≡ path)
-ReadsRecords limits path IsRead (Err Memory) = Unit {0}
+Judges limits path IsRead (Err (Device device)) = IsRead None × (device.now ≡ path)
+Judges limits path IsRead (Err Memory) = Unit {0}
 
 -- the text went out; or memory ran out before; or standard output failed
 abbrev pub Shows : (List ℕ → Type 0) → (List ℕ → Type 0) → List ℕ → Result Unit Refusal → Type 0

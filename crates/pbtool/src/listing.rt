@@ -1,14 +1,18 @@
 //! The listing of records that no schema says anything of.
 
-ghost use Rattle.std.specs.Prelude.{◌≡◌, ◌+◌, ◌*◌, ◌≤◌, ◌++◌, codes, decimal, length, MatchResult};
+ghost use Rattle.std.specs.Prelude.{◌≡◌, ◌+◌, ◌*◌, ◌≤◌, ◌<◌, ◌^◌, ◌++◌, ℕ, List, codes, decimal, length, MatchResult};
 ghost use Rattle.hex.specs.Hex.{encode_lower};
-ghost use Rattle.pb_wire.specs.Record.{depth, group_depth, group_of};
-ghost use Rattle.pb_wire.specs.Unknown.{payload_of, records_of};
-ghost use Rattle.pbtool.specs.RawListing.{indent, line, record_lines, group_lines, line_feed, raw_listing, shown_bytes};
+ghost use Rattle.pb_wire.specs.Record.{Record, group_of};
+ghost use Rattle.pb_wire.specs.Grammar.{IsText};
+ghost use Rattle.pb_wire.specs.Limits.{full};
+ghost use Rattle.pb_wire.specs.RecordIter.{seen};
+ghost use Rattle.pb_wire.specs.Schema.{blank};
+ghost use Rattle.pbtool.specs.RawListing.{indent, line, record_lines, group_lines, raw_listing, shown_bytes};
+ghost use Rattle.pbtool.specs.Borrowed.{IsBorrowed, limits_inside};
 ghost use Rattle.pbtool.specs.Sending.{Cut, Puts, Sent};
 
 use crate::buffer::OutputBuffer;
-use pb_wire::{DeviceFault, Output, Unknown};
+use pb_wire::{DeviceFault, Limits, MAX_DEPTH, Output, Payload, RecordIter};
 
 /// Two spaces for each level.
 const INDENT: [u8; 200] = [b' '; 200];
@@ -16,74 +20,63 @@ const INDENT: [u8; 200] = [b' '; 200];
 /// No line is longer, but for the bytes of a payload: the indentation, two numbers of at most twenty digits and a word.
 const LINE: usize = 256;
 
-/// Writes a line for each record.
-pub fn write_listing<O: Output>(out: &mut O, records: &[(u32, Unknown)]) -> Result<(), DeviceFault>
-    requires { group_depth (group_of (records_of records.now)) ≤ 100 }
-    ensures { MatchResult result (λ _. Sent O.written O.failures out.old out.new (raw_listing (records_of records.now)))
-        (λ _. Cut O.written O.failures out.old out.new (raw_listing (records_of records.now))) }
+/// Writes a line for each record that the bytes spell.
+pub fn write_listing<O: Output>(out: &mut O, bytes: &[u8]) -> Result<(), DeviceFault>
+    ensures { (rs : List Record) → IsText blank tt full bytes.now rs
+        → MatchResult result (λ _. Sent O.written O.failures out.old out.new (raw_listing rs))
+        (λ _. Cut O.written O.failures out.old out.new (raw_listing rs)) }
 {
     let mut buffer = OutputBuffer::new();
-    put_records(&mut buffer, out, 0, records)?;
+    put_records(&mut buffer, out, 0, bytes)?;
     buffer.flush(out)?;
     Ok(())
 }
 
-/// Writes a line of the bytes in hexadecimal.
-pub fn write_hex_line<O: Output>(out: &mut O, bytes: &[u8]) -> Result<(), DeviceFault>
-    ensures { MatchResult result (λ _. Sent O.written O.failures out.old out.new (encode_lower bytes.now ++ line_feed))
-        (λ _. Cut O.written O.failures out.old out.new (encode_lower bytes.now ++ line_feed)) }
-{
-    let mut buffer = OutputBuffer::new();
-    buffer.put_hex(out, bytes)?;
-    buffer.put(out, b"\n")?;
-    buffer.flush(out)?;
-    Ok(())
-}
-
-/// A line for each record, at a level of groups.
+/// A line for each record that the bytes spell, at a level of groups.
 #[cycle(listing)]
-#[tactic(auto, using(crate::proofs::Depths::depths))]
 fn put_records<O: Output>(
     buffer: &mut OutputBuffer,
     out: &mut O,
     level: usize,
-    records: &[(u32, Unknown)],
+    bytes: &[u8],
 ) -> Result<(), DeviceFault>
-    requires { level + group_depth (group_of (records_of records.now)) ≤ 100 }
-    ensures { Puts O.written O.failures out.old out.new buffer.old buffer.new result
-        (group_lines level (group_of (records_of records.now))) }
+    requires { level ≤ 100 }
+    ensures { (rs : List Record) → IsText blank tt (limits_inside level) bytes.now rs
+        → Puts O.written O.failures out.old out.new buffer.old buffer.new result (group_lines level (group_of rs)) }
 {
-    for (number, payload) in records {
-        put_record(buffer, out, level, *number, payload)?;
+    for item in RecordIter::new(bytes, Limits::FULL) {
+        let Ok((number, payload)) = item else { break };
+        put_record(buffer, out, level, number, payload)?;
     }
     Ok(())
 }
 
 #[cycle(listing)]
-#[tactic(auto, using(crate::proofs::Depths::depths))]
 fn put_record<O: Output>(
     buffer: &mut OutputBuffer,
     out: &mut O,
     level: usize,
     number: u32,
-    payload: &Unknown,
+    payload: Payload<'_>,
 ) -> Result<(), DeviceFault>
-    requires { level + depth (payload_of payload.now) ≤ 100 }
-    ensures { Puts O.written O.failures out.old out.new buffer.old buffer.new result
-        (record_lines level number (payload_of payload.now)) }
+    requires { level ≤ 100 }
+    ensures { (r : Record) → IsBorrowed level r (number, seen payload.entry)
+        → Puts O.written O.failures out.old out.new buffer.old buffer.new result (record_lines level r.number r.payload) }
 {
     match payload {
-        Unknown::Varint(value) => put_varint(buffer, out, level, number, *value)?,
-        Unknown::I64(value) => {
+        Payload::Varint(value) => put_varint(buffer, out, level, number, value)?,
+        Payload::I64(value) => {
             put_fixed(buffer, out, level, number, b" i64 ", &value.to_be_bytes())?
         }
-        Unknown::Len(bytes) => put_len(buffer, out, level, number, bytes)?,
-        Unknown::Group(inside) => {
+        Payload::Len(bytes) => put_len(buffer, out, level, number, bytes)?,
+        // No text nests so deep.
+        Payload::Group(_) if level == MAX_DEPTH as usize => {}
+        Payload::Group(inside) => {
             put_group_start(buffer, out, level, number)?;
             put_records(buffer, out, level + 1, inside)?;
             put_group_end(buffer, out, level)?;
         }
-        Unknown::I32(value) => {
+        Payload::I32(value) => {
             put_fixed(buffer, out, level, number, b" i32 ", &value.to_be_bytes())?
         }
     }

@@ -11,6 +11,7 @@ mod memory;
 mod raw;
 mod report;
 mod run;
+mod shortest;
 mod words;
 
 use crate::host::HostFiles;

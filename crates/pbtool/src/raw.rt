@@ -1,18 +1,20 @@
 //! The records of a file, without a schema.
 
-ghost use Rattle.std.specs.Prelude.{◌≡◌, ◌+◌, ◌≤◌, ℕ, List, Option, None, Some, IfOk, IsErrOf};
-ghost use Rattle.pb_wire.specs.Record.{group_depth, group_of};
-ghost use Rattle.pb_wire.specs.Unknown.{records_of};
-ghost use Rattle.pb_wire.specs.Writable.{AreWritable};
+ghost use Rattle.std.specs.Prelude.{◌≡◌, ◌+◌, ◌^◌, ◌<◌, ◌≤◌, ℕ, List, Option, None, Some, drop, IfSome, OnOk};
+ghost use Rattle.pb_wire.specs.Record.{Record};
+ghost use Rattle.pb_wire.specs.Schema.{blank};
+ghost use Rattle.pb_wire.specs.Grammar.{IsText};
+ghost use Rattle.pb_wire.specs.Limits.{full};
 ghost use Rattle.pbtool.specs.Answer.{RawAnswer, shown_as};
 ghost use Rattle.pbtool.specs.FileMap.{KeepsMap};
 ghost use Rattle.pbtool.specs.Sending.{Cut, Sent};
-ghost use Rattle.pbtool.specs.Steps.{Comes, IsReadOf, ReadsRecords, Shows};
+ghost use Rattle.pbtool.specs.Steps.{Comes, IsReadFrom, IsReadOf, Judges, Shows};
 
 use crate::files::Files;
-use crate::listing::{write_hex_line, write_listing};
+use crate::listing::write_listing;
 use crate::report::Refusal;
-use pb_wire::{Limits, Output, ReadFault, Unknown, read_raw, read_up_to, write_raw};
+use crate::shortest::write_shortest;
+use pb_wire::{Input, Limits, Output, ReadFault, judge_raw, read_up_to};
 use std::alloc::Global;
 
 /// The name that a report gives standard output.
@@ -27,80 +29,66 @@ pub fn raw<'a, F: Files, O: Output>(
     files: &mut F,
     out: &mut O,
 ) -> Result<(), Refusal<'a>>
-    requires { limits.depth ≤ 100 }
+    requires bytes { limits.bytes < 2 ^ 31 }
+    requires depth { limits.depth ≤ 100 }
     ensures comes { Comes (Sent O.written O.failures out.old out.new) (Cut O.written O.failures out.old out.new)
         (λ a. (read : Option (List ℕ)) × IsReadOf F.contents F.is_steady files.old (limits.bytes + 1) path.entry.now read
         × RawAnswer limits short path.entry.now read a) result }
+    ensures kept { OnOk result (F.failures files.new ≡ F.failures files.old) }
     ensures files { KeepsMap (F.contents files.old) (F.contents files.new) }
 {
-    let records = read_records(alloc, limits, path, files)?;
-    show(alloc, short, records.as_slice(), out)?;
+    let text = read_file(alloc, limits, path, files)?;
+    show(short, text.as_slice(), out)?;
     Ok(())
 }
 
-fn read_records<'a, F: Files>(
+/// The bytes of a file, which are judged. One that is not there is told as a device that failed.
+fn read_file<'a, F: Files>(
     alloc: Global,
     limits: Limits,
     path: &'a str,
     files: &mut F,
-) -> Result<Vec<(u32, Unknown)>, Refusal<'a>>
-    ensures records { ReadsRecords limits path.entry.now
-        (IsReadOf F.contents F.is_steady files.old (limits.bytes + 1) path.entry.now) result }
+) -> Result<Vec<u8>, Refusal<'a>>
+    ensures judged { Judges limits path.entry.now (IsReadOf F.contents F.is_steady files.old (limits.bytes + 1) path.entry.now) result }
+    ensures kept { OnOk result (F.failures files.new ≡ F.failures files.old) }
     ensures files { KeepsMap (F.contents files.old) (F.contents files.new) }
 {
+    let Ok(Some(mut input)) = files.open(path) else {
+        return Err(Refusal::Device(path));
+    };
+    let text = read_text(alloc, limits, path, &mut input)?;
+    Ok(text)
+}
+
+/// The bytes of an input, which are judged. At most one byte is read behind those that the limits allow.
+fn read_text<'a, I: Input>(
+    alloc: Global,
+    limits: Limits,
+    path: &'a str,
+    input: &mut I,
+) -> Result<Vec<u8>, Refusal<'a>>
+    ensures judged { Judges limits path.entry.now (IsReadFrom I.left I.is_steady input.old (limits.bytes + 1)) result }
+    ensures rest { IfSome (I.left input.old) (λ left. OnOk result (I.left input.new ≡ Some (drop (limits.bytes + 1) left))) }
+{
     let most = limits.max_bytes() as usize + 1;
-    let text = match read_file(alloc, path, most, files) {
+    let text = match read_up_to(alloc, input, most) {
         Ok(text) => text,
         Err(ReadFault::Device) => return Err(Refusal::Device(path)),
         Err(ReadFault::Memory) => return Err(Refusal::Memory),
     };
-    let records = read_raw(alloc, text.as_slice(), limits)?;
-    Ok(records)
+    judge_raw(alloc, text.as_slice(), limits)?;
+    Ok(text)
 }
 
-/// The first bytes of a file. One that is not there is a device's fault.
-fn read_file<F: Files>(
-    alloc: Global,
-    path: &str,
-    limit: usize,
-    files: &mut F,
-) -> Result<Vec<u8>, ReadFault>
-    ensures found { IfOk result
-        (λ text. IsReadOf F.contents F.is_steady files.old limit path.now (Some text.items)) }
-    ensures missing { IsErrOf result ReadFault.Device → IsReadOf F.contents F.is_steady files.old limit path.now None }
-    ensures files { KeepsMap (F.contents files.old) (F.contents files.new) }
+/// Writes the listing of the records that the bytes spell, or their shortest spelling.
+fn show<'a, O: Output>(short: bool, text: &[u8], out: &mut O) -> Result<(), Refusal<'a>>
+    ensures { (rs : List Record) → IsText blank tt full text.now rs
+        → Shows (Sent O.written O.failures out.old out.new) (Cut O.written O.failures out.old out.new) (shown_as short rs) result }
 {
-    let mut input = match files.open(path) {
-        Ok(Some(input)) => input,
-        Ok(None) => return Err(ReadFault::Device),
-        Err(_) => return Err(ReadFault::Device),
+    let shown = if short {
+        write_shortest(out, text)
+    } else {
+        write_listing(out, text)
     };
-    read_up_to(alloc, &mut input, limit)
-}
-
-/// Writes the listing of the records, or their shortest spelling.
-fn show<'a, O: Output>(
-    alloc: Global,
-    short: bool,
-    records: &[(u32, Unknown)],
-    out: &mut O,
-) -> Result<(), Refusal<'a>>
-    requires depth { group_depth (group_of (records_of records.now)) ≤ 100 }
-    requires writable { AreWritable (records_of records.now) }
-    ensures { Shows (Sent O.written O.failures out.old out.new) (Cut O.written O.failures out.old out.new)
-        (shown_as short (records_of records.now)) result }
-{
-    if !short {
-        return match write_listing(out, records) {
-            Ok(()) => Ok(()),
-            Err(_) => Err(Refusal::Device(OUTPUT)),
-        };
-    }
-    let Ok(bytes) = write_raw(alloc, records) else {
-        return Err(Refusal::Memory);
-    };
-    match write_hex_line(out, bytes.as_slice()) {
-        Ok(()) => Ok(()),
-        Err(_) => Err(Refusal::Device(OUTPUT)),
-    }
+    shown.map_err(|_| Refusal::Device(OUTPUT))
 }

@@ -1,57 +1,76 @@
-use Rattle.std.proofs.Common.{◌≡◌, ◌≤◌, ◌+◌, rules, arith}
-use Rattle.pb_wire.specs.Record.{depth, group_depth, group_of}
-use Rattle.pb_wire.specs.Unknown.{payload_of, records_of}
-use Rattle.pbtool.proofs.Depths.{depth-Group, depth-item}
-use Rattle.pbtool.proofs.Lines.{group_lines-more, group_lines-parts, record_lines-Group}
-use Rattle.pbtool.proofs.SendingLemmas.{puts_cut, puts_exit, puts_then}
+use Rattle.std.proofs.Common.{arith}
+use Rattle.pbtool.proofs.Borrowing.{full_text, text_inside, none_put, next_put, last_put, no_fault_put}
+use Rattle.pbtool.proofs.Lines.{lines-more, lines-parts, record_lines-group}
+use Rattle.pbtool.proofs.SendingLemmas.{puts_cut, puts_exit, puts_none, puts_then}
 use Rattle.pbtool.proofs.listing.+listing.Goals as goal
 
-pub put_record-put_records-requires : goal.put_record-put_records-requires
-put_record-put_records-requires g t c κs within =
-    let whole : depth (payload_of c.args.payload.now) ≡ group_depth (group_of (records_of c.deref-in-Group.result.now)) + 1 =
-    rw (c.in-Group.is, c.deref-in-Group.ensures.value) (depth-Group c.in-Group.inside) in
-    let low : c.args.level + 1 + group_depth (group_of (records_of c.deref-in-Group.result.now)) ≤ 100 = omega (arith, c.requires) in
-    search (rules, low)
+pub put_records-loop-item-init : goal.put_records-loop-item-init
+put_records-loop-item-init g t c = (
+  tt,
+  tt,
+  λ rs text.
+      let given = c.new-item-items.ensures.text rs (full_text c.args.level c.args.bytes.now rs text) in
+      none_put c.args.level rs _ c.into_iter-item-iterator.result c.args.bytes.now text
+      (given.0, given.1, rw c.into_iter-item-iterator.ensures.into_iter_gives given.2) puts_none,
+)
 
-pub put_records-put_record-requires : goal.put_records-put_record-requires
-put_records-put_record-requires g t c κs within =
-    let item = depth-item c.args.records.now c.loop-number.number-index c.loop-number-item.result c.loop-number-test.true in
-    let below : depth (payload_of c.loop-number-item.result.1) ≤ group_depth (group_of (records_of c.args.records.now)) =
-    rw c.loop-number-item.is item in
-    let low : c.args.level + depth (payload_of c.loop-number-item.result.1) ≤ 100 = omega (arith, c.requires) in
-    search (rules, low)
-
-pub put_records-loop-number-preserved : goal.put_records-loop-number-preserved
-put_records-loop-number-preserved g t c =
-    rw (group_lines-more c.args.level c.loop-number.number-index c.args.records.now c.loop-number-item.result c.loop-number-test.true c.loop-number-item.is)
-    (puts_then c.loop-number.invariant c.in_ok-put_record.ensures)
+pub put_records-loop-item-preserved : goal.put_records-loop-item-preserved
+put_records-loop-item-preserved g t c = (
+  tt,
+  tt,
+  λ rs text.
+      let before = c.loop-item.invariant.2 rs text in
+      let step = rw c.in-Ok.is at c.in-Some.ensures.steps in
+      let next = next_put c.args.level rs _ c.loop-item.item-iterator c.next.new.self (c.in-Ok.number, c.in-Ok.payload) before step in
+      let more = puts_then before.so_far (c.in_ok-put_record.ensures next.it next.is) in
+      next.again _ (rw (lines-more c.args.level before.done next.it) more),
+)
 
 pub put_records-returns-in_err-put_record : goal.put_records-returns-in_err-put_record
-put_records-returns-in_err-put_record g t c =
-    let sent = puts_then c.loop-number.invariant c.in_err-put_record.ensures in
-    let part = rw (← group_lines-more c.args.level c.loop-number.number-index c.args.records.now c.loop-number-item.result c.loop-number-test.true c.loop-number-item.is) at sent in
-    rw (group_lines-parts c.args.level (c.loop-number.number-index + 1) c.args.records.now)
-    (puts_exit _ _ c.from_residual.ensures.0 (puts_cut part _))
+put_records-returns-in_err-put_record g t c = λ rs text.
+    let before = c.loop-item.invariant.2 rs text in
+    let step = rw c.in-Ok.is at c.in-Some.ensures.steps in
+    let next = next_put c.args.level rs _ c.loop-item.item-iterator c.next.new.self (c.in-Ok.number, c.in-Ok.payload) before step in
+    let more = rw (← lines-more c.args.level before.done next.it) at (puts_then before.so_far (c.in_err-put_record.ensures next.it next.is)) in
+    rw (lines-parts c.args.level rs _ next.others next.joined) (puts_exit _ _ c.from_residual.ensures.0 (puts_cut more _))
 
-pub put_record-returns-in_err-put_group_start-in-Group : goal.put_record-returns-in_err-put_group_start-in-Group
-put_record-returns-in_err-put_group_start-in-Group g t c =
-    rw (c.in-Group.is, record_lines-Group)
-    (puts_exit _ _ c.from_residual-in_err-put_group_start-in-Group.ensures.0 (puts_cut (puts_cut c.in_err-put_group_start-in-Group.ensures _) _))
+pub put_records-returns-in-None : goal.put_records-returns-in-None
+put_records-returns-in-None g t c = λ rs text. last_put c.args.level rs _ c.loop-item.item-iterator c.next.new.self (c.loop-item.invariant.2 rs text) c.in-None.ensures.steps
 
-pub put_record-returns-in_err-put_records-in-Group : goal.put_record-returns-in_err-put_records-in-Group
-put_record-returns-in_err-put_records-in-Group g t c =
-    let inside = rw c.deref-in-Group.ensures.value at c.in_err-put_records-in-Group.ensures in
-    rw (c.in-Group.is, record_lines-Group)
-    (puts_exit _ _ c.from_residual-in_err-put_records-in-Group.ensures.0 (puts_cut (puts_then c.in_ok-put_group_start-in-Group.ensures inside) _))
+pub put_records-returns-in_default : goal.put_records-returns-in_default
+put_records-returns-in_default g t c = λ rs text.
+    let step = rw c.in_default.is at c.in-Some.ensures.steps in
+    absurd (no_fault_put c.args.level rs _ c.loop-item.item-iterator c.next.new.self c.in_default.field-0 (c.loop-item.invariant.2 rs text) step)
 
-pub put_record-returns-in_err-put_group_end-in-Group : goal.put_record-returns-in_err-put_group_end-in-Group
-put_record-returns-in_err-put_group_end-in-Group g t c =
-    let inside = rw c.deref-in-Group.ensures.value at c.in_ok-put_records-in-Group.ensures in
-    rw (c.in-Group.is, record_lines-Group)
-    (puts_exit _ _ c.from_residual-in_err-put_group_end-in-Group.ensures.0 (puts_then (puts_then c.in_ok-put_group_start-in-Group.ensures inside) c.in_err-put_group_end-in-Group.ensures))
+pub put_record-returns-in-Group : goal.put_record-returns-in-Group
+put_record-returns-in-Group g t c = λ r is.
+    let inside = text_inside c.args.level c.args.number r c.in-Group.field-0.now (rw c.in-Group.is at is) in
+    absurd (omega (arith, inside.2, c.if-level.true))
 
-pub put_record-returns-in_ok-put_group_end-in-Group : goal.put_record-returns-in_ok-put_group_end-in-Group
-put_record-returns-in_ok-put_group_end-in-Group g t c =
-    let inside = rw c.deref-in-Group.ensures.value at c.in_ok-put_records-in-Group.ensures in
-    rw (c.in-Group.is, record_lines-Group)
-    (puts_then (puts_then c.in_ok-put_group_start-in-Group.ensures inside) c.in_ok-put_group_end-in-Group.ensures)
+pub put_record-returns-in_err-put_group_start-in-Group-2 : goal.put_record-returns-in_err-put_group_start-in-Group-2
+put_record-returns-in_err-put_group_start-in-Group-2 g t c = λ r is.
+    let inside = text_inside c.args.level c.args.number r c.in-Group-2.inside.now (rw c.in-Group-2.is at is) in
+    rw (record_lines-group c.args.level c.args.number r inside.0 is.shown.number inside.1)
+    (puts_exit _ _ c.from_residual-in_err-put_group_start-in-Group-2.ensures.0 (puts_cut (puts_cut c.in_err-put_group_start-in-Group-2.ensures _) _))
+
+pub put_record-returns-in_err-put_records-in-Group-2 : goal.put_record-returns-in_err-put_records-in-Group-2
+put_record-returns-in_err-put_records-in-Group-2 g t c = λ r is.
+    let inside = text_inside c.args.level c.args.number r c.in-Group-2.inside.now (rw c.in-Group-2.is at is) in
+    let lines = c.in_err-put_records-in-Group-2.ensures inside.0 inside.3 in
+    rw (record_lines-group c.args.level c.args.number r inside.0 is.shown.number inside.1)
+    (puts_exit _ _ c.from_residual-in_err-put_records-in-Group-2.ensures.0 (puts_cut (puts_then c.in_ok-put_group_start-in-Group-2.ensures lines) _))
+
+pub put_record-returns-in_err-put_group_end-in-Group-2 : goal.put_record-returns-in_err-put_group_end-in-Group-2
+put_record-returns-in_err-put_group_end-in-Group-2 g t c = λ r is.
+    let inside = text_inside c.args.level c.args.number r c.in-Group-2.inside.now (rw c.in-Group-2.is at is) in
+    let lines = c.in_ok-put_records-in-Group-2.ensures inside.0 inside.3 in
+    rw (record_lines-group c.args.level c.args.number r inside.0 is.shown.number inside.1)
+    (puts_exit _ _ c.from_residual-in_err-put_group_end-in-Group-2.ensures.0
+    (puts_then (puts_then c.in_ok-put_group_start-in-Group-2.ensures lines) c.in_err-put_group_end-in-Group-2.ensures))
+
+pub put_record-returns-in_ok-put_group_end-in-Group-2 : goal.put_record-returns-in_ok-put_group_end-in-Group-2
+put_record-returns-in_ok-put_group_end-in-Group-2 g t c = λ r is.
+    let inside = text_inside c.args.level c.args.number r c.in-Group-2.inside.now (rw c.in-Group-2.is at is) in
+    let lines = c.in_ok-put_records-in-Group-2.ensures inside.0 inside.3 in
+    rw (record_lines-group c.args.level c.args.number r inside.0 is.shown.number inside.1)
+    (puts_then (puts_then c.in_ok-put_group_start-in-Group-2.ensures lines) c.in_ok-put_group_end-in-Group-2.ensures)

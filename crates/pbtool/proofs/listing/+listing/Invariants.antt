@@ -1,15 +1,19 @@
-use Rattle.std.proofs.Common.{Ok, take, ◌+◌, ◌-◌, ◌*◌}
-use Rattle.pb_wire.specs.Record.{group_of}
-use Rattle.pb_wire.specs.Unknown.{records_of}
+use Rattle.std.proofs.Common.{Ok, ◌+◌, ◌-◌, ◌*◌, List}
+use Rattle.pb_wire.specs.Record.{Record, group_of}
+use Rattle.pb_wire.specs.Grammar.{IsText}
+use Rattle.pb_wire.specs.Schema.{blank}
 use Rattle.pb_wire.specs.declared.device.DeviceFault.{DeviceFault}
+use Rattle.pbtool.specs.Borrowed.{limits_inside}
 use Rattle.pbtool.specs.RawListing.{group_lines}
 use Rattle.pbtool.specs.Sending.{Puts}
+use Rattle.pbtool.proofs.Borrowing.{IsPut}
 use Rattle.pbtool.proofs.listing.+listing.Given as goal
 
-abbrev pub invariant-put_records-loop-number : goal.invariant-put_records-loop-number
-invariant-put_records-loop-number g l =
-    Puts {E = DeviceFault} g.O.Output.written g.O.Output.failures l.initial.out l.out l.initial.buffer l.buffer (Ok tt)
-    (group_lines l.level (group_of (records_of (take l.number-index l.records))))
+abbrev pub invariant-put_records-loop-item : goal.invariant-put_records-loop-item
+invariant-put_records-loop-item g l =
+    (goal.iterator-put_records-loop-item g).can_next l.item-iterator × (goal.iterator-put_records-loop-item g).is_finite l.item-iterator
+    × ((rs : List Record) → IsText blank tt (limits_inside l.level) l.bytes rs
+    → IsPut l.level rs (λ done. Puts {E = DeviceFault} g.O.Output.written g.O.Output.failures l.initial.out l.out l.initial.buffer l.buffer (Ok tt) (group_lines l.level (group_of done))) l.item-iterator)
 
 abbrev pub decreases-put_records : goal.decreases-put_records
 decreases-put_records g l = 2 * (101 - l.level) + 1

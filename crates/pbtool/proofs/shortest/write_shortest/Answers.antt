@@ -1,26 +1,27 @@
 use Rattle.std.proofs.Common.{append-nil}
 use Rattle.pbtool.specs.RawListing.{line_feed}
+use Rattle.pbtool.proofs.Borrowing.{top_text}
 use Rattle.pbtool.proofs.SendingLemmas.{cut_alone, puts_cut, puts_then, sent_alone}
-use Rattle.pbtool.proofs.listing.write_hex_line.Goals as goal
+use Rattle.pbtool.proofs.shortest.write_shortest.Goals as goal
 
-pub returns-in_err-put_hex : goal.returns-in_err-put_hex
-returns-in_err-put_hex g c =
-    let put = rw c.new-buffer.ensures at c.in_err-put_hex.ensures in
+pub returns-in_err-put_records : goal.returns-in_err-put_records
+returns-in_err-put_records g c = λ rs text.
+    let put = rw c.new-buffer.ensures at (c.in_err-put_records.ensures rs (top_text text)) in
     cut_alone (puts_cut put line_feed) c.from_residual.result c.from_residual.ensures.0
 
 pub returns-in_err-put : goal.returns-in_err-put
-returns-in_err-put g c =
-    let put = rw c.new-buffer.ensures at c.in_ok-put_hex.ensures in
+returns-in_err-put g c = λ rs text.
+    let put = rw c.new-buffer.ensures at (c.in_ok-put_records.ensures rs (top_text text)) in
     cut_alone (puts_then put c.in_err-put.ensures) c.from_residual-in_err-put.result c.from_residual-in_err-put.ensures.0
 
 pub returns-in_err-flush : goal.returns-in_err-flush
-returns-in_err-flush g c =
-    let put = rw c.new-buffer.ensures at c.in_ok-put_hex.ensures in
+returns-in_err-flush g c = λ rs text.
+    let put = rw c.new-buffer.ensures at (c.in_ok-put_records.ensures rs (top_text text)) in
     let flush = rw append-nil at (puts_then (puts_then put c.in_ok-put.ensures) c.in_err-flush.ensures.sent) in
     cut_alone flush c.from_residual-in_err-flush.result c.from_residual-in_err-flush.ensures.0
 
 pub returns : goal.returns
-returns g c =
-    let put = rw c.new-buffer.ensures at c.in_ok-put_hex.ensures in
+returns g c = λ rs text.
+    let put = rw c.new-buffer.ensures at (c.in_ok-put_records.ensures rs (top_text text)) in
     let flush = rw c.in_ok-flush.ensures.empty at c.in_ok-flush.ensures.sent in
     sent_alone (puts_then put c.in_ok-put.ensures) flush
