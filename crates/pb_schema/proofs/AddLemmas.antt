@@ -35,7 +35,7 @@ pub map-map : {X Y Z : Type 0} (f : Y → Z) (g : X → Y) (xs : List X) → map
 map-map f g [] = refl
 map-map f g (x ∷ xs) = ap (λ l. f (g x) ∷ l) (map-map f g xs)
 
-take_past : {X : Type 0} (xs : List X) (i : ℕ) → length xs ≤ i → take i xs ≡ xs
+pub take_past : {X : Type 0} (xs : List X) (i : ℕ) → length xs ≤ i → take i xs ≡ xs
 take_past [] zero h = refl
 take_past [] (suc i) h = refl
 take_past (x ∷ xs) zero h = absurd (omega (arith, h))

@@ -3,8 +3,11 @@ pub mod Rows
 pub mod WordLemmas
 pub mod Loops
 pub mod ImportLemmas
+pub mod CycleLemmas
+pub mod SightLemmas
 pub mod OrderLemmas
 pub mod NameSetLemmas
+pub mod NameTreeLemmas
 pub mod NameLemmas
 pub mod AddLemmas
 pub mod TableLemmas
@@ -13,3 +16,5 @@ pub mod NumberLemmas
 pub mod RuleLemmas
 pub mod LookupLemmas
 pub mod PackedLemmas
+pub mod DeclareLemmas
+pub mod PackageLemmas

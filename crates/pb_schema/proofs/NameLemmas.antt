@@ -10,7 +10,7 @@ use Rattle.pb_schema.specs.Nesting.{parent_of, ParentsStandBefore}
 use Rattle.pb_schema.specs.Names.{in_scope, name_in, name_at, file_at, scope_within, scope_of, scope_by_names, message_name}
 use Rattle.pb_schema.proofs.NameSetLemmas.{bytes_of-append}
 
-map_push : {X Y : Type 0} (f : X → Y) (xs : List X) (x : X) → map f (xs ++ x ∷ []) ≡ map f xs ++ f x ∷ []
+pub map_push : {X Y : Type 0} (f : X → Y) (xs : List X) (x : X) → map f (xs ++ x ∷ []) ≡ map f xs ++ f x ∷ []
 map_push f [] x = refl
 map_push f (y ∷ ys) x = ap (λ l. f y ∷ l) (map_push f ys x)
 
@@ -63,13 +63,13 @@ front_at f g (x ∷ xs) zero p h = absurd (omega (arith, h))
 front_at f g (x ∷ xs) (suc i) zero h = refl
 front_at f g (x ∷ xs) (suc i) (suc p) h = front_at f g xs i p (omega (arith, h))
 
-parent_of-map : (xs : List MessageType) (i : ℕ) (d : MessageType) → i < length xs → parent_of (map message_view xs) i ≡ parent_view (get_or xs i d).parent
+pub parent_of-map : (xs : List MessageType) (i : ℕ) (d : MessageType) → i < length xs → parent_of (map message_view xs) i ≡ parent_view (get_or xs i d).parent
 parent_of-map [] i d h = absurd (omega (arith, h))
 parent_of-map (x ∷ xs) zero d h = refl
 parent_of-map (x ∷ xs) (suc i) d h = parent_of-map xs i d (omega (arith, h))
 
 -- the names of the messages so far give the scope of the next
-so_far : (files : List FileView) (xs : List MessageType) (i file : ℕ) (o : Option ℕ) → ParentsStandBefore (map message_view xs) (length xs) → i < length xs → parent_of (map message_view xs) i ≡ o → scope_by_names files (map (message_name files (map message_view xs)) (map message_view (take i xs))) file o ≡ scope_of files (map message_view xs) file o
+pub so_far : (files : List FileView) (xs : List MessageType) (i file : ℕ) (o : Option ℕ) → ParentsStandBefore (map message_view xs) (length xs) → i < length xs → parent_of (map message_view xs) i ≡ o → scope_by_names files (map (message_name files (map message_view xs)) (map message_view (take i xs))) file o ≡ scope_of files (map message_view xs) file o
 so_far files xs i file None before h e = refl
 so_far files xs i file (Some p) before h e =
     let ms = map message_view xs in

@@ -25,7 +25,7 @@ pub All-at : {X : Type 0} (P : X → Type 0) (xs : List X) (x : X) → AllByRecu
 All-at P [] x all h = Contains-none x h
 All-at P (y ∷ ys) x all h = ⊎_elim (λ e. subst P e all.0) (λ later. All-at P ys x all.1 later) (Contains-cases x y ys h)
 
-or_true : (b : Bool) → (b || true) ≡ true
+pub or_true : (b : Bool) → (b || true) ≡ true
 or_true true = refl
 or_true false = refl
 
@@ -55,7 +55,7 @@ all_push : {X : Type 0} (P : X → Type 0) (xs : List X) (x : X) → AllByRecurs
 all_push P [] x all p = (p, tt)
 all_push P (y ∷ ys) x all p = (all.0, all_push P ys x all.1 p)
 
-all_front : {X : Type 0} (P : X → Type 0) (xs ys : List X) → AllByRecursion P (xs ++ ys) → AllByRecursion P xs
+pub all_front : {X : Type 0} (P : X → Type 0) (xs ys : List X) → AllByRecursion P (xs ++ ys) → AllByRecursion P xs
 all_front P [] ys all = tt
 all_front P (x ∷ xs) ys all = (all.0, all_front P xs ys all.1)
 

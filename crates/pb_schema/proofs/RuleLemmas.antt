@@ -1,5 +1,5 @@
 -- What the tests of names, oneofs and types stand on.
-use Rattle.std.proofs.Common.{◌≡◌, ◌≢◌, ℕ, zero, suc, ◌+◌, ◌<◌, ◌≤◌, List, [], ◌∷◌, ◌++◌, Bool, true, false, ◌&&◌, IsTrue, ◌↔◌, ◌⊎◌, inl, inr, ⊎_elim, map, length, get_or, set, take, drop, replicate, refl, sym, ◌∙◌, ap, subst, arith, ◌==◌, Option, Some, None, IfSome, Contains}
+use Rattle.std.proofs.Common.{◌≡◌, ◌≢◌, ℕ, zero, suc, ◌+◌, ◌<◌, ◌≤◌, List, [], ◌∷◌, ◌++◌, Bool, true, false, ◌&&◌, IsTrue, ◌↔◌, ◌⊎◌, inl, inr, ⊎_elim, map, length, get_or, set, take, drop, replicate, refl, sym, ◌∙◌, ap, subst, arith, ◌==◌, Option, Some, None, option_map, IfSome, Contains, Result, Ok, Err, IfOk}
 use Rattle.std.specs.Prelude.{slice_get}
 use Rattle.std.specs.List.{AllByRecursion}
 use Rattle.std.proofs.lemmas.Bool.{false≢true, cases_eq}
@@ -13,8 +13,9 @@ use Rattle.pb_schema.specs.declared.types.Field.{Field}
 use Rattle.pb_schema.specs.View.{field_view}
 use Rattle.pb_schema.specs.Types.{FieldView, MessageView, EnumView, FileView, Types}
 use Rattle.pb_schema.specs.Names.{with_front, fronts_from, packages_of}
-use Rattle.pb_schema.specs.Imports.{AreReached, IsSeen}
-use Rattle.pb_schema.specs.Marks.{NotesMember, AreMembers, BitsSee, KindIsMarked}
+use Rattle.pb_schema.specs.Imports.{IsSeen}
+use Rattle.pb_schema.specs.Sight.{file_of_kind}
+use Rattle.pb_schema.specs.Marks.{NotesMember, AreMembers}
 use Rattle.pb_schema.specs.Rules.{IsMemberOf, HasMember, TypeIsSeen, IsFree}
 
 -- a test of a first part
@@ -58,6 +59,11 @@ defaults : {X : Type 0} (xs : List X) (i : ℕ) (d e : X) → i < length xs → 
 defaults [] i d e h = absurd (omega (arith, h))
 defaults (x ∷ xs) zero d e h = refl
 defaults (x ∷ xs) (suc i) d e h = defaults xs i d e (omega (arith, h))
+
+-- an answer that says one of two equivalent facts
+pub ok_iff : {E P Q : Type 0} (r : Result Bool E) → P ↔ Q → IfOk r (λ b. IsTrue b ↔ P) → IfOk r (λ b. IsTrue b ↔ Q)
+ok_iff (Ok b) same says = (λ e. same.0 (says.0 e), λ q. says.1 (same.1 q))
+ok_iff (Err e) same says = tt
 
 -- ONEOFS
 
@@ -115,32 +121,29 @@ members_all n fs bits are = (
 
 -- TYPES
 
-sees_iff : (ts : Types) (start : ℕ) (bits : List Bool) (file : ℕ) → AreReached ts.files start bits → BitsSee start bits file ↔ IsSeen ts.files start file
-sees_iff ts start bits file are =
-    (λ s. ⊎_elim inl (λ e. inr ((are.exact file).0 e)) s, λ s. ⊎_elim inl (λ r. inr ((are.exact file).1 r)) s)
+some_iff : {X : Type 0} (P : ℕ → Type 0) (file : X → ℕ) (o : Option X) → IfSome (option_map file o) P ↔ IfSome o (λ t. P (file t))
+some_iff P file None = (λ u. u, λ u. u)
+some_iff P file (Some x) = (λ u. u, λ u. u)
 
-some_iff : {X : Type 0} (P Q : X → Type 0) (o : Option X) → ((x : X) → P x ↔ Q x) → IfSome o P ↔ IfSome o Q
-some_iff P Q None same = (λ _. tt, λ _. tt)
-some_iff P Q (Some x) same = same x
-
-pub marked_iff : (ts : Types) (start : ℕ) (bits : List Bool) (k : Kind) → AreReached ts.files start bits → KindIsMarked ts.messages ts.enums start bits k ↔ TypeIsSeen ts start k
-marked_iff ts start bits (kind.Enum e) are = some_iff (λ (t : EnumView). BitsSee start bits t.file) (λ t. IsSeen ts.files start t.file) (slice_get ts.enums e.0) (λ t. sees_iff ts start bits t.file are)
-marked_iff ts start bits (kind.Message m) are = some_iff (λ (t : MessageView). BitsSee start bits t.file) (λ t. IsSeen ts.files start t.file) (slice_get ts.messages m.0) (λ t. sees_iff ts start bits t.file are)
-marked_iff ts start bits kind.Double are = (λ u. u, λ u. u)
-marked_iff ts start bits kind.Float are = (λ u. u, λ u. u)
-marked_iff ts start bits kind.Int64 are = (λ u. u, λ u. u)
-marked_iff ts start bits kind.Uint64 are = (λ u. u, λ u. u)
-marked_iff ts start bits kind.Int32 are = (λ u. u, λ u. u)
-marked_iff ts start bits kind.Fixed64 are = (λ u. u, λ u. u)
-marked_iff ts start bits kind.Fixed32 are = (λ u. u, λ u. u)
-marked_iff ts start bits kind.Bool are = (λ u. u, λ u. u)
-marked_iff ts start bits kind.Text are = (λ u. u, λ u. u)
-marked_iff ts start bits kind.Bytes are = (λ u. u, λ u. u)
-marked_iff ts start bits kind.Uint32 are = (λ u. u, λ u. u)
-marked_iff ts start bits kind.Sfixed32 are = (λ u. u, λ u. u)
-marked_iff ts start bits kind.Sfixed64 are = (λ u. u, λ u. u)
-marked_iff ts start bits kind.Sint32 are = (λ u. u, λ u. u)
-marked_iff ts start bits kind.Sint64 are = (λ u. u, λ u. u)
+-- the type that a kind names is seen where its file is
+pub seen_by_file : (ts : Types) (i : ℕ) (k : Kind) → IfSome (file_of_kind ts.messages ts.enums k) (IsSeen ts.files i) ↔ TypeIsSeen ts i k
+seen_by_file ts i (kind.Enum e) = some_iff (IsSeen ts.files i) (λ (t : EnumView). t.file) (slice_get ts.enums e.0)
+seen_by_file ts i (kind.Message m) = some_iff (IsSeen ts.files i) (λ (t : MessageView). t.file) (slice_get ts.messages m.0)
+seen_by_file ts i kind.Double = (λ u. u, λ u. u)
+seen_by_file ts i kind.Float = (λ u. u, λ u. u)
+seen_by_file ts i kind.Int64 = (λ u. u, λ u. u)
+seen_by_file ts i kind.Uint64 = (λ u. u, λ u. u)
+seen_by_file ts i kind.Int32 = (λ u. u, λ u. u)
+seen_by_file ts i kind.Fixed64 = (λ u. u, λ u. u)
+seen_by_file ts i kind.Fixed32 = (λ u. u, λ u. u)
+seen_by_file ts i kind.Bool = (λ u. u, λ u. u)
+seen_by_file ts i kind.Text = (λ u. u, λ u. u)
+seen_by_file ts i kind.Bytes = (λ u. u, λ u. u)
+seen_by_file ts i kind.Uint32 = (λ u. u, λ u. u)
+seen_by_file ts i kind.Sfixed32 = (λ u. u, λ u. u)
+seen_by_file ts i kind.Sfixed64 = (λ u. u, λ u. u)
+seen_by_file ts i kind.Sint32 = (λ u. u, λ u. u)
+seen_by_file ts i kind.Sint64 = (λ u. u, λ u. u)
 
 pub AreMembers-more : (n : ℕ) (xs : List Field) (i : ℕ) (x : Field) (a b : List Bool) → i < length xs → x ≡ get_or xs i x → AreMembers n (map field_view (take i xs)) a → NotesMember x.shape a b → AreMembers n (map field_view (take (i + 1) xs)) b
 AreMembers-more n xs i x a b h is was note =
@@ -161,7 +164,3 @@ and_iff false b f g = (λ e. absurd (false≢true e), λ p. f.1 p.0)
 pub free_iff : (keys names : List (List ℕ)) → ((x : List ℕ) → Contains keys x ↔ Contains names x) → (files : List FileView) → AllByRecursion (λ f. IsFree keys f.package_name) files ↔ AllByRecursion (λ f. IsFree names f.package_name) files
 free_iff keys names same files =
     all_iff (λ (f : FileView). IsFree keys f.package_name) (λ f. IsFree names f.package_name) (λ f. all_iff (λ p. ¬ Contains keys p) (λ p. ¬ Contains names p) (λ p. (λ no h. no ((same p).1 h), λ no h. no ((same p).0 h))) (packages_of f.package_name)) files
-
-pub seen_iff : (ts : Types) (start file : ℕ) (bits : List Bool) (fs : List FieldView) → start ≡ file → AreReached ts.files file bits → AllByRecursion (λ f. KindIsMarked ts.messages ts.enums start bits f.kind) fs ↔ AllByRecursion (λ f. TypeIsSeen ts file f.kind) fs
-seen_iff ts start file bits fs e are =
-    subst (λ k. AllByRecursion (λ (f : FieldView). KindIsMarked ts.messages ts.enums k bits f.kind) fs ↔ AllByRecursion (λ f. TypeIsSeen ts file f.kind) fs) (sym e) (all_iff (λ (f : FieldView). KindIsMarked ts.messages ts.enums file bits f.kind) (λ f. TypeIsSeen ts file f.kind) (λ f. marked_iff ts file bits f.kind are) fs)

@@ -9,9 +9,13 @@ pub mod ReadBack
 pub mod PayloadView
 pub mod Names
 pub mod Imports
+pub mod Cycles
+pub mod Sight
 pub mod Nesting
 pub mod Rules
 pub mod NameSet
+pub mod NameTree
+pub mod Declarations
 pub mod Marks
 pub mod ErrorNumber
 pub mod Oneofs

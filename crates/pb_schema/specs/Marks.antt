@@ -1,12 +1,10 @@
--- Bits that tell which oneofs have members, and which files are reached; lists of the oneofs' members.
-use Rattle.std.specs.Prelude.{◌≡◌, ◌<◌, ◌↔◌, ◌⊎◌, ℕ, List, [], ◌∷◌, ◌++◌, length, Bool, false, IsTrue, if◌then◌else◌, Some, option_map, Vec, IfSome, slice_get}
+-- Bits that tell which oneofs have members; lists of the oneofs' members.
+use Rattle.std.specs.Prelude.{◌≡◌, ◌<◌, ◌↔◌, ◌⊎◌, ℕ, List, [], ◌∷◌, ◌++◌, length, Bool, false, IsTrue, if◌then◌else◌, Some, option_map, Vec, slice_get}
 use Rattle.std.specs.declared.alloc.Global.{Global}
 use Rattle.pb_schema.specs.Oneofs.{is_member}
 use Rattle.std.specs.List.{slice_index_or}
-use Rattle.pb_schema.specs.declared.types.Kind.{Kind}
-use Rattle.pb_schema.specs.declared.types.Kind.TheVariants as kind
 use Rattle.pb_schema.specs.declared.types.Shape.{Shape}
-use Rattle.pb_schema.specs.Types.{FieldView, MessageView, EnumView}
+use Rattle.pb_schema.specs.Types.{FieldView}
 use Rattle.pb_schema.specs.Rules.{IsMemberOf, HasMember}
 
 -- the bit of the oneof that the shape is a member of is set too
@@ -18,16 +16,6 @@ pub record NotesMember (s : Shape) (old new : List Bool) : Type 0 where
 pub record AreMembers (oneofs : ℕ) (fs : List FieldView) (bits : List Bool) : Type 0 where
   pub size : length bits ≡ oneofs
   pub exact : (o : ℕ) → o < oneofs → IsTrue (slice_index_or bits o false) ↔ HasMember o fs
-
--- the file is the one that the bits are of, or marked by them
-abbrev pub BitsSee : ℕ → List Bool → ℕ → Type 0
-BitsSee start bits file = (start ≡ file) ⊎ IsTrue (slice_index_or bits file false)
-
--- so is the file of the type that a kind names
-abbrev pub KindIsMarked : List MessageView → List EnumView → ℕ → List Bool → Kind → Type 0
-KindIsMarked ms es start bits (kind.Enum e) = IfSome (slice_get es e.0) (λ t. BitsSee start bits t.file)
-KindIsMarked ms es start bits (kind.Message m) = IfSome (slice_get ms m.0) (λ t. BitsSee start bits t.file)
-KindIsMarked ms es start bits _ = Unit {0}
 
 -- the number of the field is appended to the members of its oneof, where there is such a oneof
 pub record AddsMember (f : FieldView) (old new : List (Vec ℕ Global)) : Type 0 where

@@ -1,15 +1,14 @@
 //! The rules of numbers, oneofs and the types of fields.
 
-ghost use Rattle.std.specs.Prelude.{◌≡◌, ◌↔◌, ◌<◌, ◌⊎◌, false, ℕ, IsTrue, IfOk, IfSome, map, length, slice_get, vec_len};
+ghost use Rattle.std.specs.Prelude.{◌≡◌, ◌↔◌, ◌<◌, ◌⊎◌, false, ℕ, IsTrue, IfOk, OnOk, map, length, slice_get, vec_len};
 ghost use Rattle.std.specs.List.{AllByRecursion, slice_index_or};
 ghost use Rattle.pb_schema.specs.View.{file_view, message_view, enum_view, field_view, types_of};
 ghost use Rattle.pb_schema.specs.Names.{AllDiffer};
-ghost use Rattle.pb_schema.specs.Imports.{AreReached};
-ghost use Rattle.pb_schema.specs.Marks.{BitsSee, KindIsMarked, NotesMember, AreMembers};
-ghost use Rattle.pb_schema.specs.Rules.{ImportsNameFiles, MessagesHaveFiles, FieldNumbersDiffer, NumbersDiffer, IsMemberOf, HasMember, EachOneofHasMember, OneofsHaveMembers, TypesAreSeen};
+ghost use Rattle.pb_schema.specs.Sight.{KnowsAll, file_of_kind};
+ghost use Rattle.pb_schema.specs.Marks.{NotesMember, AreMembers};
+ghost use Rattle.pb_schema.specs.Rules.{ImportsNameFiles, MessagesHaveFiles, FieldNumbersDiffer, NumbersDiffer, IsMemberOf, HasMember, EachOneofHasMember, OneofsHaveMembers, TypeIsSeen, TypesAreSeen};
 
-use crate::each_field::{FieldRule, in_each_field};
-use crate::imports::reached_from;
+use crate::sight::Sight;
 use crate::types::{EnumType, Field, FileInfo, Kind, MessageType, Shape};
 use indexmap::IndexSet;
 use std::alloc::{AllocError, Global};
@@ -94,63 +93,89 @@ pub(crate) fn oneofs_have_members(
     Ok(true)
 }
 
-/// A file, and a bit for each file that says whether it is reached from this one.
-#[derive(Drop)]
-struct Reach {
-    file: usize,
-    reached: Vec<bool>,
+/// The file of the type that a kind names.
+fn file_of_kind(messages: &[MessageType], enums: &[EnumType], kind: Kind) -> Option<usize>
+    ensures { result ≡ file_of_kind (map message_view messages.now) (map enum_view enums.now) kind }
+{
+    match kind {
+        Kind::Enum(id) => match enums.get(id.0) {
+            Some(entry) => Some(entry.file),
+            None => None,
+        },
+        Kind::Message(id) => match messages.get(id.0) {
+            Some(message) => Some(message.file),
+            None => None,
+        },
+        Kind::Double
+        | Kind::Float
+        | Kind::Int64
+        | Kind::Uint64
+        | Kind::Int32
+        | Kind::Fixed64
+        | Kind::Fixed32
+        | Kind::Bool
+        | Kind::Text
+        | Kind::Bytes
+        | Kind::Uint32
+        | Kind::Sfixed32
+        | Kind::Sfixed64
+        | Kind::Sint32
+        | Kind::Sint64 => None,
+    }
 }
 
-/// The reach of a file, which is known already where the last one was of the same file.
-fn reach_of(
+/// The type that a kind names is declared in a file that this one sees.
+fn type_is_seen(
     alloc: Global,
     files: &[FileInfo],
+    messages: &[MessageType],
+    enums: &[EnumType],
+    sight: &mut Sight,
     file: usize,
-    last: Reach,
-) -> Result<Reach, AllocError>
+    kind: Kind,
+) -> Result<bool, AllocError>
     requires imports { ImportsNameFiles (map file_view files.now) }
     requires within { file < length files.now }
-    requires known { last.file ≡ file → AreReached (map file_view files.now) file last.reached.items }
-    ensures file { IfOk result (λ reach. reach.file ≡ file) }
-    ensures reached { IfOk result (λ reach. AreReached (map file_view files.now) file reach.reached.items) }
+    requires known { KnowsAll (map file_view files.now) sight.old }
+    ensures seen { IfOk result (λ holds. IsTrue holds ↔ TypeIsSeen (types_of files.now messages.now enums.now) file kind) }
+    ensures known { OnOk result (KnowsAll (map file_view files.now) sight.new) }
 {
-    if last.file == file {
-        return Ok(last);
+    match file_of_kind(messages, enums, kind) {
+        Some(target) => sight.sees(alloc, files, file, target),
+        None => Ok(true),
     }
-    let reached = reached_from(alloc, files, file)?;
-    Ok(Reach { file, reached })
 }
 
-/// The type of a field is declared in a file of this reach.
-#[derive(Drop)]
-struct SeesType<'a> {
-    messages: &'a [MessageType],
-    enums: &'a [EnumType],
-    reach: &'a Reach,
-}
-
-fn sees(reach: &Reach, file: usize) -> bool
-    ensures { IsTrue result ↔ BitsSee reach.now.file reach.now.reached.items file }
+/// The type of each field of a message is declared in a file that the message's file sees.
+fn fields_see_types(
+    alloc: Global,
+    files: &[FileInfo],
+    messages: &[MessageType],
+    enums: &[EnumType],
+    sight: &mut Sight,
+    message: &MessageType,
+) -> Result<bool, AllocError>
+    requires imports { ImportsNameFiles (map file_view files.now) }
+    requires within { message.now.file < length files.now }
+    requires known { KnowsAll (map file_view files.now) sight.old }
+    ensures seen { IfOk result (λ holds. IsTrue holds ↔ AllByRecursion (λ f. TypeIsSeen (types_of files.now messages.now enums.now) message.now.file f.kind) (map field_view message.now.fields.items)) }
+    ensures known { OnOk result (KnowsAll (map file_view files.now) sight.new) }
 {
-    reach.file == file || matches!(reach.reached.get(file), Some(true))
-}
-
-impl FieldRule for SeesType<'_> {
-    ghost Holds = { λ s t f. KindIsMarked (map message_view s.messages.now) (map enum_view s.enums.now) s.reach.now.file s.reach.now.reached.items f.kind };
-
-    fn holds(&self, _message: &MessageType, field: &Field) -> bool {
-        match field.kind {
-            Kind::Enum(id) => match self.enums.get(id.0) {
-                Some(entry) => sees(self.reach, entry.file),
-                None => true,
-            },
-            Kind::Message(id) => match self.messages.get(id.0) {
-                Some(message) => sees(self.reach, message.file),
-                None => true,
-            },
-            _ => true,
+    for field in &message.fields {
+        let seen = type_is_seen(
+            alloc,
+            files,
+            messages,
+            enums,
+            sight,
+            message.file,
+            field.kind,
+        )?;
+        if !seen {
+            return Ok(false);
         }
     }
+    Ok(true)
 }
 
 pub(crate) fn types_are_seen(
@@ -163,18 +188,10 @@ pub(crate) fn types_are_seen(
     requires within { MessagesHaveFiles (map file_view files.now) (map message_view messages.now) }
     ensures { IfOk result (λ holds. IsTrue holds ↔ TypesAreSeen (types_of files.now messages.now enums.now)) }
 {
-    let mut reach = Reach {
-        file: usize::MAX,
-        reached: Vec::new(alloc),
-    };
+    let mut sight = Sight::new(alloc, files)?;
     for message in messages {
-        reach = reach_of(alloc, files, message.file, reach)?;
-        let rule = SeesType {
-            messages,
-            enums,
-            reach: &reach,
-        };
-        if !in_each_field(&rule, message) {
+        let seen = fields_see_types(alloc, files, messages, enums, &mut sight, message)?;
+        if !seen {
             return Ok(false);
         }
     }

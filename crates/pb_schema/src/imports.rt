@@ -3,7 +3,7 @@
 ghost use Rattle.std.specs.Prelude.{◌≡◌, ◌<◌, [], ◌∷◌, ℕ, ◌↔◌, IsTrue, All, IfOk, OnOk, vec_len, map, length};
 ghost use Rattle.pb_schema.specs.View.{file_view};
 ghost use Rattle.pb_schema.specs.Imports.{imports_of, AreReached, Marks};
-ghost use Rattle.pb_schema.specs.Rules.{ImportsNameFiles, NoFileReachesItself};
+ghost use Rattle.pb_schema.specs.Rules.{ImportsNameFiles};
 
 use crate::types::FileInfo;
 use std::alloc::{AllocError, Global};
@@ -65,17 +65,4 @@ pub(crate) fn reached_from(
         visit(files, at, &mut reached, &mut waiting)?;
     }
     Ok(reached)
-}
-
-pub(crate) fn no_file_reaches_itself(alloc: Global, files: &[FileInfo]) -> Result<bool, AllocError>
-    requires { ImportsNameFiles (map file_view files.now) }
-    ensures { IfOk result (λ holds. IsTrue holds ↔ NoFileReachesItself (map file_view files.now)) }
-{
-    for index in 0..files.len() {
-        let reached = reached_from(alloc, files, index)?;
-        if reached[index] {
-            return Ok(false);
-        }
-    }
-    Ok(true)
 }

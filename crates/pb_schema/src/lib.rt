@@ -1,6 +1,8 @@
 //! Types as data: pools of messages and enums that meet their rules, and what their kinds read and write.
 #![tactic(auto)]
 
+mod cycles;
+mod declarations;
 mod each_field;
 mod error;
 mod field_rules;
@@ -12,6 +14,7 @@ mod laws;
 mod member_table;
 mod name_rules;
 mod name_set;
+mod name_tree;
 mod names;
 mod number_table;
 mod order_rules;
@@ -19,6 +22,7 @@ mod pool;
 mod rules;
 pub mod scalars;
 mod shape_rules;
+mod sight;
 mod tables;
 mod types;
 mod words;

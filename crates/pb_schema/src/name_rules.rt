@@ -1,14 +1,13 @@
 //! The rules of names.
 
-ghost use Rattle.std.specs.Prelude.{◌≡◌, ◌↔◌, ◌<◌, ◌==◌, [], ℕ, IsTrue, IfOk, map, length, take, slice_index, string_bytes, Contains};
+ghost use Rattle.std.specs.Prelude.{◌≡◌, ◌↔◌, ℕ, IsTrue, IfOk, map, string_bytes};
 ghost use Rattle.std.specs.List.{AllByRecursion};
-ghost use Rattle.pb_schema.specs.View.{file_view, message_view, enum_view, field_view, bytes_of};
-ghost use Rattle.pb_schema.specs.Names.{is_word, names_of_field, with_front};
-ghost use Rattle.pb_schema.specs.Rules.{AreWords, MessageIsOfWords, MessageNamesAreWords, EnumIsOfWords, EnumNamesAreWords, IsFree};
+ghost use Rattle.pb_schema.specs.View.{message_view, enum_view, field_view};
+ghost use Rattle.pb_schema.specs.Names.{is_word, names_of_field};
+ghost use Rattle.pb_schema.specs.Rules.{AreWords, MessageIsOfWords, MessageNamesAreWords, EnumIsOfWords, EnumNamesAreWords};
 
-use crate::name_set::NameSet;
 use crate::names::entry_name;
-use crate::types::{EnumType, Field, FileInfo, MessageType, Shape};
+use crate::types::{EnumType, Field, MessageType, Shape};
 use crate::words::is_word;
 use std::alloc::{AllocError, Global};
 
@@ -94,43 +93,6 @@ pub(crate) fn enum_names_are_words(enums: &[EnumType]) -> bool
 {
     for entry in enums {
         if !enum_is_of_words(entry) {
-            return false;
-        }
-    }
-    true
-}
-
-/// No dot is at the index, or the front before it is no name of the set.
-fn front_is_free(set: &NameSet, package_name: &[u8], index: usize) -> bool
-    requires { index < length package_name.now }
-    ensures { IsTrue result ↔ AllByRecursion (λ p. ¬ Contains (bytes_of set.now.table.keys) p) (with_front (slice_index package_name.now index == 46) (take index package_name.now) []) }
-{
-    package_name[index] != b'.' || !set.contains(&package_name[..index])
-}
-
-/// No package that this one makes is a name of the set.
-fn is_free(set: &NameSet, package_name: &[u8]) -> bool
-    ensures { IsTrue result ↔ IsFree (bytes_of set.now.table.keys) package_name.now }
-{
-    if package_name.is_empty() {
-        return true;
-    }
-    if set.contains(package_name) {
-        return false;
-    }
-    for index in 0..package_name.len() {
-        if !front_is_free(set, package_name, index) {
-            return false;
-        }
-    }
-    true
-}
-
-pub(crate) fn packages_are_free(set: &NameSet, files: &[FileInfo]) -> bool
-    ensures { IsTrue result ↔ AllByRecursion (λ f. IsFree (bytes_of set.now.table.keys) f.package_name) (map file_view files.now) }
-{
-    for file in files {
-        if !is_free(set, file.package.as_str().as_bytes()) {
             return false;
         }
     }

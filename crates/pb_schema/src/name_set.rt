@@ -1,8 +1,8 @@
 //! Names that are added one after another, and whether all of them differ.
 
-ghost use Rattle.std.specs.Prelude.{◌≡◌, ◌↔◌, [], ◌∷◌, ℕ, List, IsTrue, IfOk, OnOk, IfSome, IfNone, Contains};
+ghost use Rattle.std.specs.Prelude.{◌≡◌, [], ◌∷◌, IfOk, OnOk};
 ghost use Rattle.pb_schema.specs.View.{bytes_of};
-ghost use Rattle.pb_schema.specs.Names.{AllDiffer, in_scope};
+ghost use Rattle.pb_schema.specs.Names.{in_scope};
 ghost use Rattle.pb_schema.specs.NameSet.{IsSetOf, Adds};
 
 use indexmap::IndexSet;
@@ -41,24 +41,6 @@ impl NameSet {
             set.add(name)?;
         }
         Ok(set)
-    }
-
-    /// Adds a name of a scope.
-    pub(crate) fn add_in_scope(
-        &mut self,
-        alloc: Global,
-        scope: &[u8],
-        name: &[u8],
-    ) -> Result<(), AllocError>
-        ensures { OnOk result (Adds (in_scope scope.now name.now ∷ []) self.old self.new) }
-    {
-        self.add(scoped(alloc, scope, name)?)
-    }
-
-    pub(crate) fn contains(&self, name: &[u8]) -> bool
-        ensures { IsTrue result ↔ Contains (bytes_of self.now.table.keys) name.now }
-    {
-        self.table.contains(name)
     }
 }
 

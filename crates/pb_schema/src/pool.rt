@@ -42,8 +42,8 @@ impl Pool {
 
     /// The pool of its parts, where they meet every rule.
     ///
-    /// Takes memory for tables of names and numbers, and time in proportion to the parts; imports take at most the number of files
-    /// times the number of imports.
+    /// Takes memory for tables of names and numbers, and time in proportion to the parts and the full names of messages and enums.
+    /// Where a field names a type of a file that is no direct import, the imports are walked from the field's file, once a file.
     pub fn from_parts(
         alloc: Global,
         files: Vec<FileInfo>,

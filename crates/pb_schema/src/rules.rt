@@ -3,19 +3,20 @@
 ghost use Rattle.std.specs.Prelude.{◌≡◌, ◌↔◌, ℕ, IsTrue, IfOk, map, length};
 ghost use Rattle.pb_schema.specs.View.{file_view, message_view, enum_view, types_of};
 ghost use Rattle.pb_schema.specs.Nesting.{ParentsStandBefore};
-ghost use Rattle.pb_schema.specs.Rules.{ImportsNameFiles, MessagesHaveFiles, FileRules, IndexRules, NameRules, ShapeRules, FieldRules, FullNamesDiffer, PackagesAreFree, IsPool};
+ghost use Rattle.pb_schema.specs.Rules.{ImportsNameFiles, MessagesHaveFiles, FileRules, IndexRules, NameRules, ShapeRules, FieldRules, PackagesAreWords, MessageNamesAreWords, EnumNamesAreWords, FullNamesDiffer, PackagesAreFree, IsPool};
 
+use crate::cycles::no_file_reaches_itself;
+use crate::declarations::{Declarations, add_enums, add_messages};
 use crate::field_rules::{numbers_differ, oneofs_have_members, types_are_seen};
 use crate::file_rules::{
     file_names_differ, files_are_named, imports_are_few, imports_name_files, packages_are_words,
 };
-use crate::imports::no_file_reaches_itself;
 use crate::index_rules::{
     enums_have_files, enums_share_file_with_parent, kinds_name_types, members_name_oneofs,
     messages_have_files, messages_share_file_with_parent,
 };
-use crate::name_rules::{enum_names_are_words, message_names_are_words, packages_are_free};
-use crate::names::{declared_names, message_names};
+use crate::name_rules::{enum_names_are_words, message_names_are_words};
+use crate::name_tree::{NameTree, add_packages};
 use crate::order_rules::{enums_stand_in_order, messages_stand_in_order};
 use crate::shape_rules::{
     enums_begin_at_zero, implicit_are_scalars, keys_are_key_kinds, numbers_are_field_numbers,
@@ -81,13 +82,18 @@ fn full_names_meet_rules(
     messages: &[MessageType],
     enums: &[EnumType],
 ) -> Result<bool, AllocError>
-    requires { ParentsStandBefore (map message_view messages.now) (length messages.now) }
+    requires parents { ParentsStandBefore (map message_view messages.now) (length messages.now) }
+    requires packages { PackagesAreWords (map file_view files.now) }
+    requires message_words { MessageNamesAreWords (map message_view messages.now) }
+    requires enum_words { EnumNamesAreWords (map enum_view enums.now) }
     ensures { IfOk result (λ holds. IsTrue holds ↔ (FullNamesDiffer (types_of files.now messages.now enums.now) × PackagesAreFree (types_of files.now messages.now enums.now))) }
 {
-    let names = message_names(alloc, files, messages)?;
-    let declared = declared_names(alloc, files, messages, enums, &names)?;
-    let free = packages_are_free(&declared, files);
-    Ok(declared.differ & free)
+    let mut tree = NameTree::new(alloc);
+    let packages = add_packages(&mut tree, alloc, files)?;
+    let mut declared = Declarations { tree, differ: true };
+    let names = add_messages(&mut declared, alloc, &packages, messages)?;
+    add_enums(&mut declared, alloc, &packages, &names, enums)?;
+    Ok(declared.differ)
 }
 
 fn names_meet_rules(
@@ -96,12 +102,15 @@ fn names_meet_rules(
     messages: &[MessageType],
     enums: &[EnumType],
 ) -> Result<bool, AllocError>
-    requires { ParentsStandBefore (map message_view messages.now) (length messages.now) }
+    requires parents { ParentsStandBefore (map message_view messages.now) (length messages.now) }
+    requires packages { PackagesAreWords (map file_view files.now) }
     ensures { IfOk result (λ holds. IsTrue holds ↔ NameRules (types_of files.now messages.now enums.now)) }
 {
     let words = message_names_are_words(alloc, messages)?;
-    let full = full_names_meet_rules(alloc, files, messages, enums)?;
-    Ok(words && full && enum_names_are_words(enums))
+    if !words || !enum_names_are_words(enums) {
+        return Ok(false);
+    }
+    full_names_meet_rules(alloc, files, messages, enums)
 }
 
 /// Whether parts meet every rule of a pool.

@@ -2,7 +2,7 @@
 //!
 //! Each kind has a type here that stands for it. Code over a kind takes one of them as a parameter.
 
-ghost use Rattle.std.specs.Prelude.{◌≡◌, ◌%◌, ◌^◌, Some, None, IfOk, IfSome, IfNone, string_bytes};
+ghost use Rattle.std.specs.Prelude.{◌≡◌, ◌%◌, ◌^◌, Some, None, IfOk, IfSome, IfNone, IsOk, IsTrue, string_bytes};
 ghost use Rattle.std.specs.List.{AllByRecursion};
 ghost use Rattle.std.specs.Int.{cast_unsigned, w64};
 ghost use Rattle.pb_wire.specs.Record.{wire_type};
@@ -10,7 +10,7 @@ ghost use Rattle.pb_wire.specs.Ranges.{IsByte};
 ghost use Rattle.pb_schema.specs.declared.types.Kind.{Kind as TheKind};
 ghost use Rattle.pb_schema.specs.declared.types.Kind.TheVariants as kind;
 ghost use Rattle.pb_schema.specs.Scalar.{Scalar as ScalarValue, int32, int64, uint32, uint64, boolean, float, double, enum, text, bytes};
-ghost use Rattle.pb_schema.specs.Kinds.{read as read_of, written, IsOfKind};
+ghost use Rattle.pb_schema.specs.Kinds.{read as read_of, written, is_packable, IsOfKind};
 ghost use Rattle.pb_schema.specs.ReadBack.{read-written};
 ghost use Rattle.pb_schema.specs.PayloadView.{payload_view};
 
@@ -54,11 +54,13 @@ pub trait Scalar {
         ensures payload { payload_view result ≡ written kind (view item.now) }
         ensures in_range { IsOfKind kind (view item.now) };
 
-    /// The value that a payload stands for. None where the payload is of another wire type, or is no text.
+    /// The value that a payload stands for. None where the payload is of another wire type, or is no text. Takes memory for a text or
+    /// bytes alone.
     fn read(alloc: Global, payload: ScalarPayload<'_>) -> Result<Option<Self::Item>, AllocError>
         ensures found { IfOk result (λ o. IfSome o (λ x. read_of kind (payload_view payload.entry) ≡ Some (view x))) }
         ensures in_range { IfOk result (λ o. IfSome o (λ x. IsOfKind kind (view x))) }
-        ensures none { IfOk result (λ o. IfNone o ((x : ScalarValue) → read_of kind (payload_view payload.entry) ≡ Some x → IsOfKind kind x → ⊥)) };
+        ensures none { IfOk result (λ o. IfNone o ((x : ScalarValue) → read_of kind (payload_view payload.entry) ≡ Some x → IsOfKind kind x → ⊥)) }
+        ensures packable { IsTrue (is_packable kind) → IsOk result };
 
     ghost reads_back: { (x : ScalarValue) → IsOfKind kind x → read_of kind (written kind x) ≡ Some x };
 }
