@@ -43,7 +43,12 @@ fn time_all(
     Ok(())
 }
 
-fn time_encode(rt: &HostRuntime, name: &str, message: &DynamicMessage<'_>, rounds: u32) -> io::Result<()> {
+fn time_encode(
+    rt: &HostRuntime,
+    name: &str,
+    message: &DynamicMessage<'_>,
+    rounds: u32,
+) -> io::Result<()> {
     let mut bytes = 0u64;
     let start = Instant::now(rt)?;
     for _ in 0..rounds {
@@ -55,17 +60,31 @@ fn time_encode(rt: &HostRuntime, name: &str, message: &DynamicMessage<'_>, round
     println!(rt; "{name} encode {rounds} {bytes} {}", spent.as_nanos())
 }
 
-fn time_encode_to(rt: &HostRuntime, name: &str, message: &DynamicMessage<'_>, rounds: u32) -> io::Result<()> {
+fn time_encode_to(
+    rt: &HostRuntime,
+    name: &str,
+    message: &DynamicMessage<'_>,
+    rounds: u32,
+) -> io::Result<()> {
     let mut out = Null { bytes: 0 };
     let start = Instant::now(rt)?;
     for _ in 0..rounds {
         let _ = encode_to(message, &mut out);
     }
     let spent = start.elapsed(rt)?;
-    println!(rt; "{name} encode_to {rounds} {} {}", out.bytes, spent.as_nanos())
+    println!(rt;
+        "{name} encode_to {rounds} {} {}",
+        out.bytes,
+        spent.as_nanos()
+    )
 }
 
-fn time_write_to(rt: &HostRuntime, name: &str, message: &DynamicMessage<'_>, rounds: u32) -> io::Result<()> {
+fn time_write_to(
+    rt: &HostRuntime,
+    name: &str,
+    message: &DynamicMessage<'_>,
+    rounds: u32,
+) -> io::Result<()> {
     let Ok(plan) = plan(message) else {
         return println!(rt; "{name}: out of memory");
     };
@@ -75,10 +94,19 @@ fn time_write_to(rt: &HostRuntime, name: &str, message: &DynamicMessage<'_>, rou
         let _ = plan.write_to(&mut out);
     }
     let spent = start.elapsed(rt)?;
-    println!(rt; "{name} write_to {rounds} {} {}", out.bytes, spent.as_nanos())
+    println!(rt;
+        "{name} write_to {rounds} {} {}",
+        out.bytes,
+        spent.as_nanos()
+    )
 }
 
-fn time_encoded_len(rt: &HostRuntime, name: &str, message: &DynamicMessage<'_>, rounds: u32) -> io::Result<()> {
+fn time_encoded_len(
+    rt: &HostRuntime,
+    name: &str,
+    message: &DynamicMessage<'_>,
+    rounds: u32,
+) -> io::Result<()> {
     let mut bytes = 0u128;
     let start = Instant::now(rt)?;
     for _ in 0..rounds {

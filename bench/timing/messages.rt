@@ -33,9 +33,30 @@ fn fields(alloc: Global) -> Option<Vec<Field>> {
     add(alloc, &mut fields, "b", 2, Kind::Text, Shape::Implicit)?;
     add(alloc, &mut fields, "d", 3, Kind::Double, Shape::Implicit)?;
     add(alloc, &mut fields, "s", 4, Kind::Sint64, Shape::Implicit)?;
-    add(alloc, &mut fields, "e", 5, Kind::Int32, Shape::List { packed: true })?;
-    add(alloc, &mut fields, "u", 6, Kind::Text, Shape::List { packed: false })?;
-    add(alloc, &mut fields, "r", 7, Kind::Message(MessageId(0)), Shape::List { packed: false })?;
+    add(
+        alloc,
+        &mut fields,
+        "e",
+        5,
+        Kind::Int32,
+        Shape::List { packed: true },
+    )?;
+    add(
+        alloc,
+        &mut fields,
+        "u",
+        6,
+        Kind::Text,
+        Shape::List { packed: false },
+    )?;
+    add(
+        alloc,
+        &mut fields,
+        "r",
+        7,
+        Kind::Message(MessageId(0)),
+        Shape::List { packed: false },
+    )?;
     Some(fields)
 }
 
@@ -48,7 +69,14 @@ fn add(
     shape: Shape,
 ) -> Option<()> {
     let name = String::from_str(alloc, name).ok()?;
-    fields.push(Field { name, number, kind, shape }).ok()
+    fields
+        .push(Field {
+            name,
+            number,
+            kind,
+            shape,
+        })
+        .ok()
 }
 
 fn empty(alloc: Global, pool: &Pool) -> Option<DynamicMessage<'_>> {
@@ -62,7 +90,9 @@ pub(crate) fn small(alloc: Global, pool: &Pool) -> Option<DynamicMessage<'_>> {
     let name = String::from_str(alloc, "worker-17").ok()?;
     message.set(1, Content::One(Value::I32(1000))).ok()?;
     message.set(2, Content::One(Value::Text(name))).ok()?;
-    message.set(3, Content::One(Value::F64(0x4009_21fb_5444_2d18))).ok()?;
+    message
+        .set(3, Content::One(Value::F64(0x4009_21fb_5444_2d18)))
+        .ok()?;
     message.set(4, Content::One(Value::I64(-123_456))).ok()?;
     Some(message)
 }
@@ -72,7 +102,8 @@ pub(crate) fn list_of_small(alloc: Global, pool: &Pool) -> Option<DynamicMessage
     let mut message = empty(alloc, pool)?;
     let mut list = Vec::new(alloc);
     for _ in 0..1000 {
-        list.push(Value::Message(small(alloc, pool)?.into_body())).ok()?;
+        list.push(Value::Message(small(alloc, pool)?.into_body()))
+            .ok()?;
     }
     message.set(7, Content::List(list)).ok()?;
     Some(message)

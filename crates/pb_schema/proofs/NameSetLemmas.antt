@@ -1,5 +1,5 @@
 -- Sets of names.
-use Rattle.std.proofs.Common.{◌≡◌, ◌≢◌, ℕ, List, [], ◌∷◌, ◌++◌, Bool, true, false, not, ◌&&◌, ◌||◌, IsTrue, ◌↔◌, ◌⊎◌, inl, inr, ⊎_elim, refl, sym, ◌∙◌, ap, subst, Contains, if◌then◌else◌, append_assoc, append-nil, Vec, Global}
+use Rattle.std.proofs.Common.{◌≡◌, ◌≢◌, ℕ, List, [], ◌∷◌, ◌++◌, Bool, true, false, not, ◌&&◌, ◌||◌, IsTrue, ◌↔◌, ◌⊎◌, inl, inr, ⊎_elim, refl, sym, ◌∙◌, ap, subst, Contains, if◌then◌else◌, Vec, Global}
 use Rattle.std.specs.List.{AllByRecursion, list_any}
 use Rattle.std.specs.Str.{bytes_eq}
 use Rattle.std.proofs.lemmas.Slice.Eq.{bytes_eq-Decides}
@@ -9,7 +9,7 @@ use Rattle.std.proofs.lemmas.List.Elements.{Contains-push, Contains-push_cases, 
 use Rattle.pb_schema.specs.declared.name_set.NameSet.{NameSet}
 use Rattle.pb_schema.specs.View.{bytes_of}
 use Rattle.pb_schema.specs.Names.{AllDiffer}
-use Rattle.pb_schema.specs.NameSet.{IsSetOf, Adds}
+use Rattle.pb_schema.specs.NameSet.{IsSetOf}
 use Rattle.pb_schema.proofs.ImportLemmas.{Contains-none, Contains-one}
 
 pub Contains-first : {X : Type 0} (x : X) (xs : List X) → Contains (x ∷ xs) x
@@ -126,9 +126,3 @@ module _ (s t : NameSet) (name : Vec ℕ Global) (before : List (List ℕ)) (was
 
   pub IsSetOf-insert : t.table.keys ≡ (if list_any (λ k. bytes_eq name.items k.items) s.table.keys then s.table.keys else s.table.keys ++ name ∷ []) → t.differ ≡ (s.differ && not (list_any (λ k. bytes_eq name.items k.items) s.table.keys)) → IsSetOf (before ++ name.items ∷ []) t
   IsSetOf-insert keys differ = by (list_any (λ k. bytes_eq name.items k.items) s.table.keys) refl keys differ
-
-pub Adds-none : (s : NameSet) → Adds [] s s
-Adds-none s before was = subst (λ l. IsSetOf l s) (sym (append-nil before)) was
-
-pub Adds-append : (xs ys : List (List ℕ)) (s t u : NameSet) → Adds xs s t → Adds ys t u → Adds (xs ++ ys) s u
-Adds-append xs ys s t u first second before was = subst (λ l. IsSetOf l u) (append_assoc before xs ys) (second (before ++ xs) (first before was))

@@ -1,9 +1,9 @@
 -- What the tests of names, oneofs and types stand on.
-use Rattle.std.proofs.Common.{◌≡◌, ◌≢◌, ℕ, zero, suc, ◌+◌, ◌<◌, ◌≤◌, List, [], ◌∷◌, ◌++◌, Bool, true, false, ◌&&◌, IsTrue, ◌↔◌, ◌⊎◌, inl, inr, ⊎_elim, map, length, get_or, set, take, drop, replicate, refl, sym, ◌∙◌, ap, subst, arith, ◌==◌, Option, Some, None, option_map, IfSome, Contains, Result, Ok, Err, IfOk}
+use Rattle.std.proofs.Common.{◌≡◌, ℕ, zero, suc, ◌+◌, ◌<◌, List, [], ◌∷◌, ◌++◌, Bool, true, false, IsTrue, ◌↔◌, ◌⊎◌, inl, inr, ⊎_elim, map, length, get_or, set, take, replicate, refl, sym, ◌∙◌, ap, subst, arith, Option, Some, None, option_map, IfSome, Result, Ok, Err, IfOk}
 use Rattle.std.specs.Prelude.{slice_get}
 use Rattle.std.specs.List.{AllByRecursion}
 use Rattle.std.proofs.lemmas.Bool.{false≢true, cases_eq}
-use Rattle.std.proofs.lemmas.List.{length-set, length-replicate, get_or-set_same, get_or-set_other, drop_more, take_more, map-append}
+use Rattle.std.proofs.lemmas.List.{length-set, length-replicate, get_or-set_same, get_or-set_other, take_more, map-append}
 use Rattle.std.proofs.lemmas.List.Elements.{All-from_recursion, recursion_from_All}
 use Rattle.pb_schema.specs.declared.types.Kind.{Kind}
 use Rattle.pb_schema.specs.declared.types.Kind.TheVariants as kind
@@ -11,49 +11,11 @@ use Rattle.pb_schema.specs.declared.types.Shape.{Shape}
 use Rattle.pb_schema.specs.declared.types.Shape.TheVariants as shape
 use Rattle.pb_schema.specs.declared.types.Field.{Field}
 use Rattle.pb_schema.specs.View.{field_view}
-use Rattle.pb_schema.specs.Types.{FieldView, MessageView, EnumView, FileView, Types}
-use Rattle.pb_schema.specs.Names.{with_front, fronts_from, packages_of}
+use Rattle.pb_schema.specs.Types.{FieldView, MessageView, EnumView, Types}
 use Rattle.pb_schema.specs.Imports.{IsSeen}
 use Rattle.pb_schema.specs.Sight.{file_of_kind}
 use Rattle.pb_schema.specs.Marks.{NotesMember, AreMembers}
-use Rattle.pb_schema.specs.Rules.{IsMemberOf, HasMember, TypeIsSeen, IsFree}
-
--- a test of a first part
-pub part_stops : {Whole A B : Type 0} {b : Bool} → Whole ↔ (A × B) → (IsTrue b ↔ A) → b ≡ false → IsTrue false ↔ Whole
-part_stops both test fails = (λ e. absurd (false≢true e), λ w. absurd (false≢true (sym fails ∙ test.1 (both.0 w).0)))
-
-pub part_goes_on : {Whole A B : Type 0} {b : Bool} → Whole ↔ (A × B) → (IsTrue b ↔ A) → b ≡ true → Whole ↔ B
-part_goes_on both test passes = (λ w. (both.0 w).1, λ rest. both.1 (test.0 passes, rest))
-
-pub all_iff : {X : Type 0} (P Q : X → Type 0) → ((x : X) → P x ↔ Q x) → (xs : List X) → AllByRecursion P xs ↔ AllByRecursion Q xs
-all_iff P Q same [] = (λ _. tt, λ _. tt)
-all_iff P Q same (x ∷ xs) =
-    (λ all. ((same x).0 all.0, (all_iff P Q same xs).0 all.1), λ all. ((same x).1 all.0, (all_iff P Q same xs).1 all.1))
-
--- PACKAGES
-
-front_split : (P : List ℕ → Type 0) (dot : Bool) (front : List ℕ) (fronts : List (List ℕ)) → AllByRecursion P (with_front dot front fronts) ↔ (AllByRecursion P (with_front dot front []) × AllByRecursion P fronts)
-front_split P true front fronts = (λ all. ((all.0, tt), all.1), λ all. (all.0.0, all.1))
-front_split P false front fronts = (λ all. (tt, all), λ all. all.1)
-
-pub fronts_more : (P : List ℕ → Type 0) (name : List ℕ) (i : ℕ) → i < length name → AllByRecursion P (fronts_from (take i name) (drop i name)) ↔ (AllByRecursion P (with_front (get_or name i 0 == 46) (take i name) []) × AllByRecursion P (fronts_from (take (i + 1) name) (drop (i + 1) name)))
-fronts_more P name i h =
-    let c = get_or name i 0 in
-    let same : AllByRecursion P (fronts_from (take i name) (drop i name)) ≡ AllByRecursion P (with_front (c == 46) (take i name) (fronts_from (take (i + 1) name) (drop (i + 1) name))) = ap (λ l. AllByRecursion P (fronts_from (take i name) l)) (drop_more name i 0 h) ∙ ap (λ f. AllByRecursion P (with_front (c == 46) (take i name) (fronts_from f (drop (i + 1) name)))) (sym (take_more name i 0 h)) in
-    subst (λ T. T ↔ (AllByRecursion P (with_front (c == 46) (take i name) []) × AllByRecursion P (fronts_from (take (i + 1) name) (drop (i + 1) name)))) (sym same) (front_split P (c == 46) (take i name) (fronts_from (take (i + 1) name) (drop (i + 1) name)))
-
-pub fronts_end : (P : List ℕ → Type 0) (name : List ℕ) (i : ℕ) → length name ≤ i → AllByRecursion P (fronts_from (take i name) (drop i name))
-fronts_end P name i h = subst (λ l. AllByRecursion P (fronts_from (take i name) l)) (sym (nothing name i h)) tt
-  where
-    nothing : (xs : List ℕ) (k : ℕ) → length xs ≤ k → drop k xs ≡ []
-    nothing [] zero h = refl
-    nothing [] (suc k) h = refl
-    nothing (x ∷ xs) zero h = absurd (omega (arith, h))
-    nothing (x ∷ xs) (suc k) h = nothing xs k (omega (arith, h))
-
-pub packages_of-some : (P : List ℕ → Type 0) (name : List ℕ) → name ≢ [] → AllByRecursion P (packages_of name) ↔ (P name × AllByRecursion P (fronts_from [] name))
-packages_of-some P [] some = absurd (some refl)
-packages_of-some P (c ∷ cs) some = (λ all. all, λ all. all)
+use Rattle.pb_schema.specs.Rules.{IsMemberOf, HasMember, TypeIsSeen}
 
 defaults : {X : Type 0} (xs : List X) (i : ℕ) (d e : X) → i < length xs → get_or xs i d ≡ get_or xs i e
 defaults [] i d e h = absurd (omega (arith, h))
@@ -155,12 +117,3 @@ pub all_at : {X Y : Type 0} (P : Y → Type 0) (f : X → Y) (xs : List X) (i : 
 all_at P f [] i x all h is = absurd (omega (arith, h))
 all_at P f (y ∷ ys) zero x all h is = subst (λ z. P (f z)) (sym is) all.0
 all_at P f (y ∷ ys) (suc i) x all h is = all_at P f ys i x all.1 (omega (arith, h)) is
-
-pub and_iff : {A B : Type 0} (a b : Bool) → (IsTrue a ↔ A) → (IsTrue b ↔ B) → IsTrue (a && b) ↔ (A × B)
-and_iff true b f g = (λ e. (f.0 refl, g.0 e), λ p. g.1 p.1)
-and_iff false b f g = (λ e. absurd (false≢true e), λ p. f.1 p.0)
-
--- a free package, by two lists with the same names
-pub free_iff : (keys names : List (List ℕ)) → ((x : List ℕ) → Contains keys x ↔ Contains names x) → (files : List FileView) → AllByRecursion (λ f. IsFree keys f.package_name) files ↔ AllByRecursion (λ f. IsFree names f.package_name) files
-free_iff keys names same files =
-    all_iff (λ (f : FileView). IsFree keys f.package_name) (λ f. IsFree names f.package_name) (λ f. all_iff (λ p. ¬ Contains keys p) (λ p. ¬ Contains names p) (λ p. (λ no h. no ((same p).1 h), λ no h. no ((same p).0 h))) (packages_of f.package_name)) files

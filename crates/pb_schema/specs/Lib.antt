@@ -19,4 +19,5 @@ pub mod Declarations
 pub mod Marks
 pub mod ErrorNumber
 pub mod Oneofs
+pub mod EnumValues
 pub mod Tables

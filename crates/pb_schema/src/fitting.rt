@@ -16,6 +16,8 @@ pub fn fits(field: &Field, wire_type: u8) -> bool
         Shape::List { packed: _ } => {
             wire_type == field.kind.wire_type() || field.kind.is_packable() && wire_type == 2
         }
-        _ => wire_type == field.kind.wire_type(),
+        Shape::Implicit | Shape::Explicit | Shape::OneofMember(_) => {
+            wire_type == field.kind.wire_type()
+        }
     }
 }

@@ -77,7 +77,21 @@ impl FieldRule for NamesKnownType {
         match field.kind {
             Kind::Enum(id) => id.0 < self.enums,
             Kind::Message(id) => id.0 < self.messages,
-            _ => true,
+            Kind::Double
+            | Kind::Float
+            | Kind::Int64
+            | Kind::Uint64
+            | Kind::Int32
+            | Kind::Fixed64
+            | Kind::Fixed32
+            | Kind::Bool
+            | Kind::Text
+            | Kind::Bytes
+            | Kind::Uint32
+            | Kind::Sfixed32
+            | Kind::Sfixed64
+            | Kind::Sint32
+            | Kind::Sint64 => true,
         }
     }
 }
@@ -103,7 +117,8 @@ impl FieldRule for NamesOwnOneof {
     fn holds(&self, message: &MessageType, field: &Field) -> bool {
         match field.shape {
             Shape::OneofMember(index) => (index as usize) < message.oneofs.len(),
-            _ => true,
+            Shape::Implicit | Shape::Explicit | Shape::List { packed: _ } | Shape::Map { key: _ } =>
+                true,
         }
     }
 }

@@ -30,6 +30,8 @@ mod words;
 pub use error::PoolError;
 pub use fitting::fits;
 pub use laws::{packed_numbers, reads_back};
+pub use names::entry_name;
 pub use pool::Pool;
 pub use scalars::{Scalar, ScalarPayload};
 pub use types::{EnumId, EnumType, Field, FileInfo, Kind, MessageId, MessageType, Shape};
+pub use words::{is_package, is_word};

@@ -19,8 +19,9 @@ fn raised(raise: bool, byte: u8) -> u8
     }
 }
 
-/// The name of the entry message of a map field.
-pub(crate) fn entry_name(alloc: Global, name: &[u8]) -> Result<Vec<u8>, AllocError>
+/// The simple name of the entry message of a map field with this name: the name without `_`, its first letter and each one behind a
+/// `_` made great if it is small, and `Entry` behind it.
+pub fn entry_name(alloc: Global, name: &[u8]) -> Result<Vec<u8>, AllocError>
     ensures { IfOk result (λ v. v.items ≡ entry_name name.now) }
 {
     let mut entry = Vec::new(alloc);

@@ -31,7 +31,7 @@ impl Model for Pool {
 }
 
 impl Pool {
-    ghost use Rattle.std.specs.Prelude.{◌≡◌, ◌<◌, length, map, option_map, IfOk, IfErr, IfSome};
+    ghost use Rattle.std.specs.Prelude.{◌≡◌, ◌<◌, length, map, option_map, slice_get, IfOk, IfErr, IfSome};
     ghost use Rattle.pb_schema.specs.declared.error.PoolError.TheVariants.{BadParts};
     ghost use Rattle.pb_schema.specs.Types.{message_fields, field_numbered};
     ghost use Rattle.pb_schema.specs.View.{field_view, file_view, message_view, enum_view, types_of};
@@ -39,6 +39,7 @@ impl Pool {
     ghost use Rattle.pb_schema.specs.Tables.{place_of, field_named};
     ghost use Rattle.pb_schema.specs.Rules.{IsPool, IsFieldOf};
     ghost use Rattle.pb_schema.specs.Oneofs.{member_numbers};
+    ghost use Rattle.pb_schema.specs.EnumValues.{value_name, enum_values};
 
     /// The pool of its parts, where they meet every rule.
     ///
@@ -111,6 +112,36 @@ impl Pool {
         }
     }
 
+    /// The full name of a message type, without a leading dot, in ASCII.
+    pub fn message_name(&self, message: MessageId) -> &[u8]
+        requires { message.0 < length self.now.messages }
+        ensures found { slice_get (message_names_of self.now) message.0 ≡ Some result.now }
+    {
+        match self.tables.messages.get_index(message.0) {
+            Some(name) => name.as_slice(),
+            None => &[],
+        }
+    }
+
+    /// The full name of an enum, without a leading dot, in ASCII.
+    pub fn enum_name(&self, entry: EnumId) -> &[u8]
+        requires { entry.0 < length self.now.enums }
+        ensures found { slice_get (enum_names_of self.now) entry.0 ≡ Some result.now }
+    {
+        match self.tables.enums.get_index(entry.0) {
+            Some(name) => name.as_slice(),
+            None => &[],
+        }
+    }
+
+    /// The name of the first value of an enum with this number.
+    pub fn value_name(&self, entry: EnumId, number: i32) -> Option<&str>
+        requires { entry.0 < length self.now.enums }
+        ensures found { option_map (λ s. s.now) result ≡ value_name number (enum_values self.now entry.0) }
+    {
+        first_named(&self.enums[entry.0].values, number)
+    }
+
     /// The field of a number in a message type.
     pub fn field_by_number(&self, message: MessageId, number: u32) -> Option<&Field>
         requires { message.0 < length self.now.messages }
@@ -159,6 +190,20 @@ fn find_name<'a>(fields: &'a [Field], name: &str) -> Option<&'a Field>
     for field in fields {
         if field.name.as_str() == name {
             return Some(field);
+        }
+    }
+    None
+}
+
+ghost use Rattle.std.specs.Prelude.{string_bytes};
+ghost use Rattle.pb_schema.specs.EnumValues.{value_name as named_value};
+
+fn first_named(values: &[(String, i32)], number: i32) -> Option<&str>
+    ensures { option_map (λ s. s.now) result ≡ named_value number (map (λ v. (string_bytes v.0, v.1)) values.now) }
+{
+    for value in values {
+        if value.1 == number {
+            return Some(value.0.as_str());
         }
     }
     None

@@ -17,7 +17,14 @@ impl Kind {
             Kind::Double | Kind::Fixed64 | Kind::Sfixed64 => 1,
             Kind::Text | Kind::Bytes | Kind::Message(_) => 2,
             Kind::Float | Kind::Fixed32 | Kind::Sfixed32 => 5,
-            _ => 0,
+            Kind::Int64
+            | Kind::Uint64
+            | Kind::Int32
+            | Kind::Bool
+            | Kind::Uint32
+            | Kind::Sint32
+            | Kind::Sint64
+            | Kind::Enum(_) => 0,
         }
     }
 
@@ -25,17 +32,44 @@ impl Kind {
     pub fn is_packable(self) -> bool
         ensures { result ≡ is_packable self }
     {
-        self.wire_type() != 2
+        match self {
+            Kind::Double
+            | Kind::Float
+            | Kind::Int64
+            | Kind::Uint64
+            | Kind::Int32
+            | Kind::Fixed64
+            | Kind::Fixed32
+            | Kind::Bool
+            | Kind::Uint32
+            | Kind::Sfixed32
+            | Kind::Sfixed64
+            | Kind::Sint32
+            | Kind::Sint64
+            | Kind::Enum(_) => true,
+            Kind::Text | Kind::Bytes | Kind::Message(_) => false,
+        }
     }
 
     /// The kind may be that of a map's keys.
     pub fn is_key_kind(self) -> bool
         ensures { result ≡ is_key_kind self }
     {
-        !matches!(
-            self,
-            Kind::Double | Kind::Float | Kind::Bytes | Kind::Enum(_) | Kind::Message(_)
-        )
+        match self {
+            Kind::Int64
+            | Kind::Uint64
+            | Kind::Int32
+            | Kind::Fixed64
+            | Kind::Fixed32
+            | Kind::Bool
+            | Kind::Text
+            | Kind::Uint32
+            | Kind::Sfixed32
+            | Kind::Sfixed64
+            | Kind::Sint32
+            | Kind::Sint64 => true,
+            Kind::Double | Kind::Float | Kind::Bytes | Kind::Enum(_) | Kind::Message(_) => false,
+        }
     }
 }
 
@@ -63,7 +97,8 @@ impl FieldRule for KeyIsKeyKind {
     fn holds(&self, _message: &MessageType, field: &Field) -> bool {
         match field.shape {
             Shape::Map { key } => key.is_key_kind(),
-            _ => true,
+            Shape::Implicit | Shape::Explicit | Shape::OneofMember(_) | Shape::List { packed: _ } =>
+                { true }
         }
     }
 }
@@ -82,7 +117,9 @@ impl FieldRule for PackedIsPackable {
     fn holds(&self, _message: &MessageType, field: &Field) -> bool {
         match field.shape {
             Shape::List { packed } => !packed || field.kind.is_packable(),
-            _ => true,
+            Shape::Implicit | Shape::Explicit | Shape::OneofMember(_) | Shape::Map { key: _ } => {
+                true
+            }
         }
     }
 }

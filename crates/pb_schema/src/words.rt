@@ -27,7 +27,8 @@ fn all_continue_word(bytes: &[u8]) -> bool
     true
 }
 
-pub(crate) fn is_word(name: &[u8]) -> bool
+/// The name is a word: a letter or `_`, and then letters, digits and `_`.
+pub fn is_word(name: &[u8]) -> bool
     ensures { result ≡ is_word name.now }
 {
     match name.split_first() {
@@ -50,7 +51,7 @@ fn may_stand(at_start: bool, byte: u8) -> bool
 }
 
 /// The name is empty, or words joined by dots.
-pub(crate) fn is_package(name: &[u8]) -> bool
+pub fn is_package(name: &[u8]) -> bool
     ensures { result ≡ is_package name.now }
 {
     if name.is_empty() {

@@ -89,6 +89,7 @@ impl<'a> Iterator for RecordIter<'a> {
 
     ghost remaining = { λ s. at_most (length s.text - s.at + (if s.is_cut then 1 else 0)) };
 
+    #[inline]
     fn next(&mut self) -> Option<Result<(u32, Payload<'a>), WireFault>> {
         let end = self.bytes.len();
         let is_cut = self.is_cut;
@@ -130,6 +131,7 @@ fn told(fault: WireFault, is_cut: bool, end: usize) -> WireFault
 }
 
 /// Reads the record that begins at an index, and tells the index after it.
+#[inline]
 fn record_at(bytes: &[u8], at: usize, max_depth: u8) -> Result<(u32, Payload<'_>, usize), WireFault>
     requires at_in_bounds { at ≤ length bytes.now }
     requires depth { max_depth ≤ 100 }
@@ -206,6 +208,7 @@ fn group_end(
 }
 
 /// Finds the end of the value that begins at an index, behind a tag that begins or ends no group.
+#[inline]
 pub(crate) fn value_end(bytes: &[u8], at: usize, wire_type: WireType) -> Result<usize, WireFault>
     requires at_in_bounds { at ≤ length bytes.now }
     requires no_start { code_of wire_type ≢ 3 }

@@ -33,6 +33,7 @@ pub(crate) enum WireType {
 }
 
 /// Reads the varint that begins at an index, and tells the index after it.
+#[inline]
 pub(crate) fn varint_at(bytes: &[u8], at: usize) -> Result<(u64, usize), WireFault>
     requires { at ≤ length bytes.now }
     ensures within { IfOk result (λ r. (at < r.1) × (r.1 ≤ length bytes.now)) }
@@ -49,6 +50,7 @@ pub(crate) fn varint_at(bytes: &[u8], at: usize) -> Result<(u64, usize), WireFau
 }
 
 /// Reads the tag that begins at an index: the number, the wire type, and the index after it.
+#[inline]
 pub(crate) fn tag_at(
     bytes: &[u8],
     at: usize,
@@ -94,6 +96,7 @@ pub(crate) fn refused(at: usize, cause: Cause) -> WireFault
     }
 }
 
+#[inline]
 fn wire_type_of(code: u64) -> Option<WireType>
     ensures found { (w : WireType) → result ≡ Some w → code_of w ≡ code }
     ensures none { result ≡ None → 6 ≤ code }
@@ -284,6 +287,7 @@ fn count_of(records: &[(u32, Unknown)], number: u32) -> u32
 }
 
 /// Says that nothing is open and nothing is left.
+#[inline]
 pub(crate) fn is_at_end(bytes: &[u8], at: usize, innermost: Option<u32>) -> bool
     requires { at ≤ length bytes.now }
     ensures ends { result ≡ true → (innermost ≡ None) × (at ≡ length bytes.now) }

@@ -28,6 +28,7 @@ pub fn read_up_to<I: Input>(
     ensures kept { OnOk result (I.failures input.new ≡ I.failures input.old) }
     ensures failed { IsErrOf result ReadFault.Device → I.failures input.new ≢ I.failures input.old }
     ensures steady { I.is_steady input.old ≡ true → result ≢ Err ReadFault.Device }
+    ensures stays { I.is_steady input.old ≡ true → I.is_steady input.new ≡ true }
 {
     let mut text = Vec::new(alloc);
     let mut buffer = [0u8; 16384];

@@ -25,6 +25,7 @@ pub fn read_varint(bytes: &[u8]) -> Result<(u64, usize), WireFault>
 }
 
 /// As `read_varint`. Most varints are one byte.
+#[inline(always)]
 pub(crate) fn varint_at_front(bytes: &[u8]) -> Result<(u64, usize), WireFault>
     ensures within { IfOk result (λ found. found.1 ≤ length bytes.now) }
     ensures found { IfOk result (λ found. IsVarint found.0 (take found.1 bytes.now)) }
@@ -92,6 +93,7 @@ impl VarintBytes {
 }
 
 /// The shortest varint of a number.
+#[inline]
 pub fn put_varint(number: u64) -> VarintBytes
     ensures shortest { result ≡ shortest number }
     ensures spelled { IsVarint number result }

@@ -1,7 +1,7 @@
 -- How a run ends, from what its command came to and what was told.
-use Rattle.std.proofs.Common.{◌≡◌, ◌+◌, ℕ, List, [], Bool, Option, inl, inr, ap, subst}
+use Rattle.std.proofs.Common.{◌≡◌, ◌+◌, ℕ, List, [], Bool, Option, inl, inr, ap, subst, arith}
 use Rattle.std.specs.Borrow.{Bor}
-use Rattle.std.specs.Prelude.{Result, Ok, Err, MatchResult}
+use Rattle.std.specs.Prelude.{Result, Ok, Err, MatchResult, OnOk}
 use Rattle.pb_wire.specs.Limits.{full}
 use Rattle.pbtool.specs.Answer.{Answer, done, refused, device_failed, Ends, Does, RawAnswer}
 use Rattle.pbtool.specs.FileMap.{FileMap, IsHonest}
@@ -51,3 +51,12 @@ module _ (Out OutCut Told : List ℕ → Type 0) (status : ℕ) where
             (subst (λ (o : Option (List ℕ)). RawAnswer full short file.now o a) (h.1 map honest) h.2)) ends,
         ends_weaker right (λ a. (map : FileMap) × RawAnswer full short file.now (map file.now) a) (λ a h. (λ _. h.0, h.2)) ends,
       )
+
+-- what holds of a command that succeeds holds where the status is 0
+pub kept_at_zero :
+    (Quiet : Type 0) (Told : Refusal → Type 0) (r : Result Unit Refusal) (status : ℕ) (Kept : Type 0)
+    → MatchResult r (λ _. (status ≡ 0) × Quiet) (λ e. (status ≡ refusal_status e) × Told e) → OnOk r Kept → status ≡ 0 → Kept
+kept_at_zero Quiet Told (Ok u) status Kept concluded kept zero = kept
+kept_at_zero Quiet Told (Err (Fault byte steps cause)) status Kept concluded kept zero = absurd (let e = concluded.0 in omega (arith, e, zero))
+kept_at_zero Quiet Told (Err (Device device)) status Kept concluded kept zero = absurd (let e = concluded.0 in omega (arith, e, zero))
+kept_at_zero Quiet Told (Err Memory) status Kept concluded kept zero = absurd (let e = concluded.0 in omega (arith, e, zero))

@@ -13,7 +13,7 @@ use Rattle.pbtool.specs.Words.{IsMatched, IsNamed}
 
 pairs_matched : (s : Option (Text × List Row)) (name : Text) (rows : List Row) (command : Command)
     → option_map (λ p. p.0) s ≡ Some name → option_map (λ p. p.1) s ≡ Some rows → IsNamed name rows command → IsMatched s command
-pairs_matched None name rows command n r named = tt
+pairs_matched None name rows command n r named = absurd (cc)
 pairs_matched (Some p) name rows command n r named =
     let same_name : name ≡ p.0 = cc in
     let same_rows : rows ≡ p.1 = cc in

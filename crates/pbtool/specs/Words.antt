@@ -1,5 +1,5 @@
 -- The command line, and the commands that its words name.
-use Rattle.std.specs.Prelude.{◌≡◌, List, [], ◌∷◌, Bool, true, false, Option, Some, codes, unwrap_or, string_bytes, map, IfSome}
+use Rattle.std.specs.Prelude.{◌≡◌, List, [], ◌∷◌, Bool, true, false, Option, Some, codes, unwrap_or, string_bytes, map, IsSomeAnd}
 use Rattle.std.specs.Str.{bytes_eq}
 use Rattle.std.specs.Option.{option_map_or}
 use Rattle.std.specs.declared.string.String.{String}
@@ -51,4 +51,4 @@ IsNamed name rows (Raw short file) = (name ≡ codes "raw") × (short ≡ flag_o
 
 -- the command is what clap's matches say
 abbrev pub IsMatched : Option (Text × List Row) → Command → Type 0
-IsMatched matched command = IfSome matched (λ m. IsNamed m.0 m.1 command)
+IsMatched matched command = IsSomeAnd matched (λ m. IsNamed m.0 m.1 command)

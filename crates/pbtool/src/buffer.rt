@@ -53,6 +53,7 @@ impl OutputBuffer {
     }
 
     /// Sees that so many bytes more can be held.
+    #[inline]
     pub fn make_room<O: Output>(&mut self, out: &mut O, count: usize) -> Result<(), DeviceFault>
         requires { count ≤ SIZE }
         ensures room { IfOk result (λ _. length self.new + count ≤ SIZE) }
@@ -65,6 +66,7 @@ impl OutputBuffer {
     }
 
     /// Holds bytes for which there is room.
+    #[inline]
     pub fn push(&mut self, bytes: &[u8])
         requires { length self.old + length bytes.now ≤ SIZE }
         ensures after { self.new ≡ self.old ++ bytes.now }
@@ -76,6 +78,7 @@ impl OutputBuffer {
     }
 
     /// Holds a number, for whose digits there is room.
+    #[inline]
     pub fn push_decimal(&mut self, number: u64)
         requires { length self.old + 20 ≤ SIZE }
         ensures after { self.new ≡ self.old ++ decimal number }
@@ -86,6 +89,7 @@ impl OutputBuffer {
     }
 
     /// Holds bytes in hexadecimal, in lower case, for which there is room.
+    #[inline]
     pub fn push_hex(&mut self, bytes: &[u8])
         requires { length self.old + 2 * length bytes.now ≤ SIZE }
         ensures after { self.new ≡ self.old ++ encode_lower bytes.now }

@@ -32,6 +32,9 @@ pub fn execute<F: Files, O: Output, E: Output>(
         (SentOrCut E.written E.failures err.old err.new) result
         (λ a. (map : FileMap) × Answers full map command.now a) }
     ensures status { result ≢ 2 }
+
+    // Where it is done, the files did not fail either.
+    ensures done { result ≡ 0 → F.failures files.new ≡ F.failures files.old }
     ensures files { KeepsMap (F.contents files.old) (F.contents files.new) }
 {
     match command {

@@ -84,6 +84,7 @@ fn put_record<O: Output>(
 }
 
 /// What stands before a record's value.
+#[inline]
 fn push_start(buffer: &mut OutputBuffer, level: usize, number: u32, word: &[u8])
     requires low { level ≤ 100 }
     requires room { length buffer.old + 220 + length word.now ≤ 8192 }
@@ -95,6 +96,7 @@ fn push_start(buffer: &mut OutputBuffer, level: usize, number: u32, word: &[u8])
     buffer.push(word);
 }
 
+#[inline]
 fn put_varint<O: Output>(
     buffer: &mut OutputBuffer,
     out: &mut O,

@@ -90,6 +90,7 @@ fn put_record<O: Output>(
 }
 
 /// A number as the shortest varint.
+#[inline]
 fn put_number<O: Output>(
     buffer: &mut OutputBuffer,
     out: &mut O,
@@ -103,6 +104,7 @@ fn put_number<O: Output>(
 }
 
 /// The tag of a number and a wire type.
+#[inline]
 fn put_tag<O: Output>(
     buffer: &mut OutputBuffer,
     out: &mut O,

@@ -1,7 +1,7 @@
 use Rattle.std.proofs.Common.{[], inl}
 use Rattle.pbtool.specs.Sending.{Cut, Sent, SentOrCut}
 use Rattle.pbtool.proofs.Commands.{only_raw}
-use Rattle.pbtool.proofs.Endings.{does_raw}
+use Rattle.pbtool.proofs.Endings.{does_raw, kept_at_zero}
 use Rattle.pbtool.proofs.execute.execute.Goals as goal
 
 pub returns-clause-honest : goal.returns-clause-honest
@@ -27,3 +27,6 @@ returns-clause-any g c =
     g.F.Files.contents g.F.Files.is_steady c.args.files.now command.0 command.1.0
     (Sent g.E.Output.written g.E.Output.failures c.args.err.now c.conclude.new.err [])
     c.raw-outcome.result (λ sent. inl sent) comes c.conclude.ensures).1
+
+pub returns-clause-done : goal.returns-clause-done
+returns-clause-done g c = λ zero. kept_at_zero _ _ c.raw-outcome.result c.conclude.result _ c.conclude.ensures c.raw-outcome.ensures.kept zero
