@@ -1,5 +1,5 @@
 -- A change of one field keeps a message well formed.
-use Rattle.std.proofs.Common.{◌≡◌, ◌≢◌, ℕ, ◌<◌, ◌≤◌, ◌+◌, max, List, Option, Some, None, IfSome, IsSomeAnd, Ordering, Less, Equal, Greater, nat_cmp, arith, inl, inr, refl, sym, ap, ◌∙◌, subst, option_and_then, Result, Ok, Err, OnOk, OnErr}
+use Rattle.std.proofs.Common.{◌≡◌, ◌≢◌, ℕ, ◌<◌, ◌≤◌, ◌+◌, max, List, Option, Some, None, IfSome, Ordering, Less, Equal, Greater, nat_cmp, arith, inl, inr, refl, sym, ap, ◌∙◌, subst, option_and_then, Result, Ok, Err, OnOk, OnErr}
 use Rattle.std.specs.Prelude.{◌⊎◌, Bool, true, false, ◌==◌, if◌then◌else◌}
 use Rattle.std.proofs.lemmas.Bool.Decides.{nat_tests, eqb_tells}
 use Rattle.pb_schema.specs.declared.types.Shape.{Shape}
@@ -8,12 +8,15 @@ use Rattle.std.specs.Ordering.{match_ordering, MatchOrdering}
 use Rattle.std.specs.Cmp.{ranks}
 use Rattle.pb_schema.specs.Types.{FieldView, Types, message_fields, field_numbered}
 use Rattle.pb_value.specs.Data.{Holding, Fields, no_fields, field, Message, body, put_field, drop_field, holding_depth, fields_depth, fields_of, unknown_of}
-use Rattle.pb_value.specs.WellFormed.{AreFields, RisesFrom, HasNoMember, HasOneMemberEach, oneof_of, oneof_at, IsOfShape, IsHeld, IsWellFormed}
+use Rattle.pb_value.specs.WellFormed.{AreFields, RisesFrom, HasNoMember, HasOneMemberEach, oneof_of, oneof_at, IsHeld, IsWellFormed}
 use Rattle.pb_schema.specs.Oneofs.{is_member}
 use Rattle.pb_value.specs.Judge.{has_shape, is_absence}
 use Rattle.pb_value.specs.Oneof.{is_member_at, member_set}
 use Rattle.pb_value.specs.Change.{other_than, gives_way, drop_some, stored_at, with_fields, Allowed}
 use Rattle.pb_value.proofs.JudgeLemmas.{IsOfShape-stored}
+pub use Rattle.pb_value.specs.WellFormed.{CanStand}
+pub use Rattle.pb_value.proofs.Options.{if_some, at_some, some_of}
+use Rattle.pb_value.proofs.Numbers.{self_equal}
 
 by_ordering : {A : Type 0} (P : A → Type 0) (n k : ℕ) (x y z : A) (o : Ordering) → MatchOrdering o (n < k) (n ≡ k) (k < n) → (n < k → P x) → (n ≡ k → P y) → (k < n → P z) → P (match_ordering o x y z)
 by_ordering P n k x y z Less h a b c = a h
@@ -24,7 +27,7 @@ by_ordering P n k x y z Greater h a b c = c h
 pub by_order : {A : Type 0} (P : A → Type 0) (n k : ℕ) (x y z : A) → (n < k → P x) → (n ≡ k → P y) → (k < n → P z) → P (match_ordering (nat_cmp n k) x y z)
 by_order P n k x y z = by_ordering P n k x y z (nat_cmp n k) (ranks n k)
 
-AreFields-drop_field : (pool : Types) (all : List FieldView) (n : ℕ) (fs : Fields) → AreFields pool all fs → AreFields pool all (drop_field n fs)
+pub AreFields-drop_field : (pool : Types) (all : List FieldView) (n : ℕ) (fs : Fields) → AreFields pool all fs → AreFields pool all (drop_field n fs)
 AreFields-drop_field pool all n no_fields w = tt
 AreFields-drop_field pool all n (field k g fs) w =
     by_order (AreFields pool all) n k _ _ _ (λ _. (w.0, AreFields-drop_field pool all n fs w.1)) (λ _. w.1) (λ _. (w.0, AreFields-drop_field pool all n fs w.1))
@@ -70,10 +73,6 @@ IsWellFormed-drop_field pool m n (body fs us) w =
 
 -- PUTTING A FIELD
 
--- the content h can stand at the number n
-abbrev pub CanStand : Types → List FieldView → ℕ → Holding → Type 0
-CanStand pool all n h = IsSomeAnd (field_numbered n all) (λ f. IsOfShape f.shape h × IsHeld pool f.shape f.kind h)
-
 pub AreFields-put_field : (pool : Types) (all : List FieldView) (n : ℕ) (h : Holding) (fs : Fields) → CanStand pool all n h → AreFields pool all fs → AreFields pool all (put_field n h fs)
 AreFields-put_field pool all n h no_fields ok w = (ok, tt)
 AreFields-put_field pool all n h (field k g fs) ok w =
@@ -93,14 +92,6 @@ HasNoMember-put_field all o n h (field k g fs) other w =
 NoOther : List FieldView → ℕ → Fields → Type 0
 NoOther all n no_fields = Unit {0}
 NoOther all n (field k g fs) = (k ≢ n → (o : ℕ) → oneof_at all n ≡ Some o → oneof_at all k ≢ Some o) × NoOther all n fs
-
-pub if_some : {A : Type 0} (o : Option A) (P : A → Type 0) → ((a : A) → o ≡ Some a → P a) → IfSome o P
-if_some None P f = tt
-if_some (Some a) P f = f a refl
-
-pub at_some : {A : Type 0} (o : Option A) (P : A → Type 0) (a : A) → IfSome o P → o ≡ Some a → P a
-at_some None P a h e = absurd (cc)
-at_some (Some b) P a h e = let same : b ≡ a = cc in subst P same h
 
 no_member_above : (all : List FieldView) (n low o : ℕ) (fs : Fields) → NoOther all n fs → RisesFrom low fs → n < low → oneof_at all n ≡ Some o → HasNoMember all o fs
 unfolding NoOther
@@ -134,10 +125,7 @@ pub oneof_at-member : (all : List FieldView) (o n : ℕ) → is_member_at o (fie
 oneof_at-member all o n e = told (field_numbered n all) e
   where
     own : (s : Shape) → is_member o s ≡ false → oneof_of s ≢ Some o
-    own (shape.OneofMember p) e = λ q. let same : p ≡ o = cc in let yes : (o == p) ≡ true = rw same (self o) in cc
-      where
-        self : (q : ℕ) → (q == q) ≡ true
-        self q = grind (arith, nat_tests)
+    own (shape.OneofMember p) e = λ q. let same : p ≡ o = cc in let yes : (o == p) ≡ true = rw same (self_equal o) in cc
     own shape.Implicit e = λ q. cc
     own shape.Explicit e = λ q. cc
     own (shape.List p) e = λ q. cc
@@ -406,10 +394,6 @@ stored_done all s n h (body fs us) put new k kept first dropped way rises =
     dropped ∙ ap (λ (v : Message). with_fields v (drop_some k (fields_of v))) first
     ∙ ap (λ (gs : Fields). body gs us) (drop_some-put_field all s n 0 h fs k way rises
     ∙ sym (ap (λ (b : Bool). if b then drop_field n fs else put_field n h (drop_some (gives_way all s n fs) fs)) kept))
-
-pub some_of : {A : Type 0} (o : Option A) (P : A → Type 0) → IsSomeAnd o P → (a : A) × (o ≡ Some a) × P a
-some_of None P h = absurd h
-some_of (Some a) P h = (a, refl, h)
 
 -- a content that may be set keeps a message well formed
 pub IsWellFormed-set :

@@ -15,13 +15,25 @@ use Rattle.pb_schema.specs.Kinds.{IsOfKind, is_key_kind, message_of_kind, defaul
 use Rattle.pb_schema.specs.Fits.{fits, fitting}
 use Rattle.pb_schema.specs.Rules.{HasKeyKind}
 use Rattle.pb_schema.specs.Context.{a_message, an_entry, key_field, value_field}
-use Rattle.pb_value.specs.Data.{Datum, scalar, message, datums_of, Entries, no_entries, entry, Holding, one, map as map_of, Message, levels_of, levels_in_entry, datums_depth, holding_depth, message_depth}
+use Rattle.pb_value.specs.Data.{Datum, scalar, message, Datums, no_datums, datum, datums_of, joined_datums, Entries, no_entries, entry, Holding, one, map as map_of, Message, levels_of, levels_in_entry, datums_depth, holding_depth, message_depth}
 use Rattle.pb_value.specs.Value.{last_of, all_elements, joined, unless_default, unless_no_elements, unless_no_entries, one_value, list_values, missing, entry_key, entry_value, entry_of, held_as}
 use Rattle.pb_value.specs.WellFormed.{IsOfShape, key_of, IsDatum, AreDatums, IsHeld, IsBody}
 use Rattle.pb_value.proofs.ListLemmas.{all_append, all_filter, all_map, last_of-all, some_mapped, or_default}
 use Rattle.pb_value.proofs.ElementLemmas.{IsOfKind-default_of}
 use Rattle.pb_value.proofs.FittingLemmas.{IsGood, AllGood, CountsFor, AllCount, all_count, all_elements-AreOfKind, inside_message, inside_entry, inside_map}
 use Rattle.pb_value.proofs.EntryLemmas.{IsEntry, IsMap-fold, HasEntry, HasEntry-fold}
+
+pub AreDatums-joined : (pool : Types) (k : Kind) (ds es : Datums) → AreDatums pool k ds → AreDatums pool k es → AreDatums pool k (joined_datums ds es)
+AreDatums-joined pool k no_datums es a b = b
+AreDatums-joined pool k (datum d ds) es a b = (a.0, AreDatums-joined pool k ds es a.1 b)
+
+pub datums_depth-joined : (ds es : Datums) (top : ℕ) → datums_depth ds ≤ top → datums_depth es ≤ top → datums_depth (joined_datums ds es) ≤ top
+datums_depth-joined no_datums es top a b = b
+datums_depth-joined (datum d ds) es top a b = let more = datums_depth-joined ds es top (omega (arith, a)) b in omega (arith, a, more)
+
+pub map_shaped : (key : Kind) (es : Entries) → HasEntry es → IsOfShape (shape.Map key) (map_of es)
+map_shaped key no_entries h = absurd h
+map_shaped key (entry x d es) h = tt
 
 -- a value of a kind that nests this deep
 pub record IsValue (pool : Types) (k : Kind) (top : ℕ) (d : Datum) : Type 0 where
@@ -59,10 +71,6 @@ module _ (pool : Types) where
   kept_unless_empty : (packed : Bool) (k : Kind) (top : ℕ) (ds : List Datum) → AllByRecursion (IsValue pool k top) ds → IfSome (unless_no_elements ds) (IsStored pool (shape.List packed) k top)
   kept_unless_empty packed k top [] h = tt
   kept_unless_empty packed k top (d ∷ ds) h = record { shaped = tt; held = AreDatums-datums_of k top (d ∷ ds) h; depth = datums_depth-datums_of k top (d ∷ ds) h }
-
-  map_shaped : (key : Kind) (es : Entries) → HasEntry es → IsOfShape (shape.Map key) (map_of es)
-  map_shaped key no_entries h = absurd h
-  map_shaped key (entry x d es) h = tt
 
   kept_unless_no_entries : (key k : Kind) (top : ℕ) (xs : List (Scalar × Datum)) → AllByRecursion (IsEntry pool key k top) xs → IfSome (unless_no_entries xs) (IsStored pool (shape.Map key) k top)
   kept_unless_no_entries key k top [] h = tt

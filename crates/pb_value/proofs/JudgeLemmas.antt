@@ -19,6 +19,8 @@ use Rattle.pb_value.specs.Cause.{or_else, at_field, shape_at, stored_cause, with
 use Rattle.pb_value.specs.WellFormed.{IsOfShape, IsHeld, AreFields, HasNoMember, HasOneMemberEach, oneof_of, oneof_at}
 use Rattle.pb_value.specs.declared.error.ValueError.{ValueError}
 use Rattle.pb_value.specs.declared.error.ValueError.TheVariants.{NoSuchField}
+use Rattle.pb_value.proofs.Options.{if_some}
+use Rattle.pb_value.proofs.Numbers.{self_equal, not_equal}
 
 -- a content of the shape that no absent field has
 pub IsOfShape-stored : (s : Shape) (h : Holding) → has_shape s h ≡ true → is_absence s h ≡ false → IsOfShape s h
@@ -69,7 +71,7 @@ second_of shape.Explicit seen o e = absurd (cc)
 second_of (shape.List p) seen o e = absurd (cc)
 second_of (shape.Map k) seen o e = absurd (cc)
 
-oneof_at-shape : (f : Option FieldView) → option_and_then (λ (g : FieldView). oneof_of g.shape) f ≡ oneof_of (shape_at f)
+pub oneof_at-shape : (f : Option FieldView) → option_and_then (λ (g : FieldView). oneof_of g.shape) f ≡ oneof_of (shape_at f)
 oneof_at-shape None = refl
 oneof_at-shape (Some f) = refl
 
@@ -83,10 +85,6 @@ OneFrom-none all seen (field n g fs) o h e = (
       cc,
   OneFrom-none all (with_member (shape_at (field_numbered n all)) seen) fs o h.1 (with_seen (shape_at (field_numbered n all)) seen o e),
 )
-
-if_some : {A : Type 0} (o : Option A) (P : A → Type 0) → ((a : A) → o ≡ Some a → P a) → IfSome o P
-if_some None P f = tt
-if_some (Some a) P f = f a refl
 
 pub OneFrom-each : (all : List FieldView) (seen : ℕ → Bool) (fs : Fields) → OneFrom all seen fs → HasOneMemberEach all fs
 unfolding OneFrom
@@ -181,11 +179,8 @@ fits_numbered (Some f) r = fits_type f (wire_type r.payload)
 fits_other : (fs : List FieldView) (n : ℕ) (r : Record) → r.number ≡ n → AllByRecursion (λ k. n ≢ k) (map (λ f. f.number) fs) → fits_any fs r ≡ false
 fits_other [] n r e h = refl
 fits_other (f ∷ fs) n r e h =
-    let apart : (r.number == f.number) ≡ false = unequal r.number f.number (λ q. h.0 (sym e ∙ q)) in
+    let apart : (r.number == f.number) ≡ false = not_equal r.number f.number (λ q. h.0 (sym e ∙ q)) in
     rw (apart) (fits_other fs n r e h.1)
-  where
-    unequal : (a b : ℕ) → a ≢ b → (a == b) ≡ false
-    unequal a b d = grind (arith, nat_tests)
 
 or_false : (b : Bool) → (b || false) ≡ b
 or_false true = refl
@@ -200,18 +195,12 @@ fits_found (f ∷ fs) r h = by_test (eqb_tells f.number r.number) (fits_found fs
         ((f.number == r.number ≡ true) × (f.number ≡ r.number)) ⊎ ((f.number == r.number ≡ false) × (f.number ≢ r.number))
         → fits_any fs r ≡ fits_numbered (field_numbered r.number fs) r → fits_any (f ∷ fs) r ≡ fits_numbered (field_numbered r.number (f ∷ fs)) r
     by_test (inl a) later =
-        let turned : (r.number == f.number) ≡ true = rw (a.1) (self r.number) in
+        let turned : (r.number == f.number) ≡ true = rw (a.1) (self_equal r.number) in
         let others : fits_any fs r ≡ false = fits_other fs f.number r (sym a.1) h.0 in
         rw (a.0, turned, others) (or_false (fits_type f (wire_type r.payload)))
-      where
-        self : (q : ℕ) → (q == q) ≡ true
-        self q = grind (arith, nat_tests)
     by_test (inr a) later =
-        let turned : (r.number == f.number) ≡ false = apart r.number f.number (λ q. a.1 (sym q)) in
+        let turned : (r.number == f.number) ≡ false = not_equal r.number f.number (λ q. a.1 (sym q)) in
         rw (a.0, turned) later
-      where
-        apart : (x y : ℕ) → x ≢ y → (x == y) ≡ false
-        apart x y d = grind (arith, nat_tests)
 
 pub fits_any-found : (pool : Types) (m : ℕ) (r : Record) (f : FieldView) → IsPool pool → field_numbered r.number (message_fields pool m) ≡ Some f → fits_any (message_fields pool m) r ≡ fits_type f (wire_type r.payload)
 unfolding fits_numbered

@@ -1,3 +1,5 @@
+pub mod Numbers
+pub mod Options
 pub mod BytesLemmas
 pub mod CanonLemmas
 pub mod Views
@@ -16,6 +18,10 @@ mod Table
 mod Rows
 mod InnerRows
 mod ChangeRows
+mod CauseRows
+mod ValueRows
+mod MergeRows
+mod SoundTexts
 mod Texts
 mod Forms
 pub mod ListLemmas
@@ -47,3 +53,5 @@ pub mod RoundTrip
 pub mod JoinedTexts
 pub mod OntoWell
 pub mod MergeSteps
+pub mod MergeInPlace
+pub mod PoolEq

@@ -1,7 +1,7 @@
 -- A well-formed message has no cause to be refused.
 use Rattle.std.proofs.Common.{◌≡◌, ◌≢◌, ℕ, ◌<◌, ◌≤◌, List, [], ◌∷◌, arith, inl, inr, refl, sym, ap, ◌∙◌, subst, Option, Some, None}
 use Rattle.std.proofs.lemmas.Bool.Decides.{nat_tests}
-use Rattle.std.specs.Prelude.{◌⊎◌, Bool, true, false, not, ◌&&◌, ◌||◌, ◌==◌, nat_lt, nat_le, ◌^◌, IsSomeAnd, IfSome, option_and_then}
+use Rattle.std.specs.Prelude.{◌⊎◌, Bool, true, false, not, ◌&&◌, ◌||◌, ◌==◌, nat_lt, nat_le, ◌^◌}
 use Rattle.pb_wire.specs.Record.{Payload, varint, fixed64, len, group, fixed32, Group, no_more, more, Record}
 use Rattle.pb_wire.specs.Ranges.{IsNumber}
 use Rattle.pb_wire.specs.Inside.{IsNumbered, IsNumberedGroup}
@@ -19,11 +19,9 @@ use Rattle.pb_value.specs.Cause.{or_else, unless, at_field, shape_at, in_message
 use Rattle.pb_value.specs.WellFormed.{AreUnknown, IsOfShape, KeysRise, HasNoMember, HasOneMemberEach, oneof_of, oneof_at, key_of, IsDatum, AreDatums, AreEntries, IsHeld, AreFields, IsBody, IsWellFormed}
 use Rattle.pb_value.specs.declared.error.ValueError.{ValueError}
 use Rattle.pb_value.specs.declared.error.ValueError.TheVariants.{WrongKind, NoSuchField, KnownAsUnknown, TooDeep, Memory}
-use Rattle.pb_value.proofs.JudgeLemmas.{OneFrom}
-
-some_of : {A : Type 0} (o : Option A) (P : A → Type 0) → IsSomeAnd o P → (a : A) × (o ≡ Some a) × P a
-some_of None P h = absurd h
-some_of (Some a) P h = (a, refl, h)
+use Rattle.pb_value.proofs.JudgeLemmas.{OneFrom, oneof_at-shape}
+use Rattle.pb_value.proofs.Options.{at_some, some_of}
+use Rattle.pb_value.proofs.Numbers.{number_is}
 
 and_true : (a b : Bool) → a ≡ true → b ≡ true → (a && b) ≡ true
 and_true a b e f = ap (λ (x : Bool). x && b) e ∙ f
@@ -101,10 +99,6 @@ bool_cases : (a : Bool) → (a ≡ true → ⊥) → a ≡ false
 bool_cases true f = absurd (f refl)
 bool_cases false f = refl
 
-oneof_at-shape : (f : Option FieldView) → option_and_then (λ (g : FieldView). oneof_of g.shape) f ≡ oneof_of (shape_at f)
-oneof_at-shape None = refl
-oneof_at-shape (Some f) = refl
-
 not_second : (s : Shape) (seen : ℕ → Bool) → ((o : ℕ) → seen o ≡ true → oneof_of s ≢ Some o) → is_second s seen ≡ false
 not_second (shape.OneofMember p) seen h = bool_cases (seen p) (λ e. h p e refl)
 not_second shape.Implicit seen h = refl
@@ -112,18 +106,11 @@ not_second shape.Explicit seen h = refl
 not_second (shape.List p) seen h = refl
 not_second (shape.Map k) seen h = refl
 
-same_number : (a b : ℕ) → (a == b) ≡ true → a ≡ b
-same_number a b e = grind (arith, nat_tests)
-
-at_some : {A : Type 0} (o : Option A) (P : A → Type 0) (a : A) → IfSome o P → o ≡ Some a → P a
-at_some None P a h e = absurd (cc)
-at_some (Some b) P a h e = let same : b ≡ a = cc in subst P same h
-
 was_seen : (s : Shape) (seen : ℕ → Bool) (o : ℕ) → with_member s seen o ≡ true → (oneof_of s ≡ Some o) ⊎ (seen o ≡ true)
 was_seen (shape.OneofMember p) seen o e = by_cases (or_cases (o == p) (seen o) e)
   where
     by_cases : ((o == p) ≡ true) ⊎ (seen o ≡ true) → (Some p ≡ Some o) ⊎ (seen o ≡ true)
-    by_cases (inl a) = inl (ap (λ (q : ℕ). Some q) (sym (same_number o p a)))
+    by_cases (inl a) = inl (ap (λ (q : ℕ). Some q) (sym (number_is o p a)))
     by_cases (inr b) = inr b
 was_seen shape.Implicit seen o e = inr e
 was_seen shape.Explicit seen o e = inr e

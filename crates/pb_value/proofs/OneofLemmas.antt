@@ -6,7 +6,6 @@ use Rattle.std.specs.Ordering.{match_ordering, MatchOrdering}
 use Rattle.std.specs.Cmp.{ranks}
 use Rattle.std.proofs.lemmas.List.{take_more}
 use Rattle.std.proofs.lemmas.Bool.{false≢true}
-use Rattle.std.proofs.lemmas.Bool.Decides.{nat_tests}
 use Rattle.pb_schema.specs.Types.{FieldView, MessageView, Types, field_numbered, message_fields, fields_of_message}
 use Rattle.pb_schema.specs.Rules.{IsPool, FieldNumbersDiffer}
 use Rattle.pb_schema.specs.Names.{AllDiffer}
@@ -14,7 +13,9 @@ use Rattle.pb_schema.specs.Oneofs.{is_member, members, member_numbers}
 use Rattle.pb_value.specs.Data.{Holding, Fields, no_fields, field, get_field}
 use Rattle.pb_value.specs.WellFormed.{HasNoMember, HasOneMemberEach, oneof_at}
 use Rattle.pb_value.specs.Oneof.{is_member_at, member_set}
-use Rattle.pb_value.proofs.ChangeLemmas.{by_order, at_some, member-oneof_at}
+use Rattle.pb_value.proofs.ChangeLemmas.{by_order, member-oneof_at}
+use Rattle.pb_value.proofs.Options.{at_some}
+use Rattle.pb_value.proofs.Numbers.{self_equal, number_is, not_equal}
 
 -- no field of these numbers is set
 abbrev pub NoneSet : Fields → List ℕ → Type 0
@@ -66,15 +67,12 @@ member_found all o n (field k h fs) one is e =
     by_place Greater r e later = by_member (is_member_at o (field_numbered k all)) refl e later
 
 -- where no member is set there is none to be found
-number_is : (n k : ℕ) → (k == n) ≡ true → k ≡ n
-number_is n k e = grind (arith, nat_tests)
-
 numbered_member : (all : List FieldView) (o n : ℕ) (P : ℕ → Type 0) → is_member_at o (field_numbered n all) ≡ true → AllByRecursion P (member_numbers o all) → P n
 numbered_member [] o n P is each = absurd (false≢true is)
 numbered_member (f ∷ fs) o n P is each = by_tests (f.number == n) refl (is_member o f.shape) refl (numbered_member fs o n P) is each
   where
     by_tests : (a : Bool) → (f.number == n) ≡ a → (b : Bool) → is_member o f.shape ≡ b → (is_member_at o (field_numbered n fs) ≡ true → AllByRecursion P (member_numbers o fs) → P n) → is_member_at o (if a then Some f else field_numbered n fs) ≡ true → AllByRecursion P (map (λ (g : FieldView). g.number) (if b then f ∷ members o fs else members o fs)) → P n
-    by_tests true p true q later is each = subst P (number_is n f.number p) each.0
+    by_tests true p true q later is each = subst P (number_is f.number n p) each.0
     by_tests true p false q later is each = absurd (false≢true (sym q ∙ is))
     by_tests false p true q later is each = later is each.1
     by_tests false p false q later is each = later is each
@@ -103,15 +101,6 @@ member_missing all o (field k h fs) none = by_member (is_member_at o (field_numb
     by_member false q later = later
 
 -- each number of a member is that of a field that is a member
-self_equal : (n : ℕ) → (n == n) ≡ true
-self_equal n = grind (arith, nat_tests)
-
-not_equal : (n k : ℕ) → n ≢ k → (n == k) ≡ false
-not_equal n k apart = told (n == k) refl
-  where
-    told : (b : Bool) → (n == k) ≡ b → (n == k) ≡ false
-    told true e = absurd (apart (number_is k n e))
-    told false e = e
 
 past_first : (g : FieldView) (gs fs : List FieldView) → AllByRecursion (λ n. g.number ≢ n) (map (λ (f : FieldView). f.number) fs) → AllByRecursion (λ f. field_numbered f.number gs ≡ Some f) fs → AllByRecursion (λ f. field_numbered f.number (g ∷ gs) ≡ Some f) fs
 past_first g gs [] apart each = tt

@@ -1,26 +1,26 @@
 -- One more element of a list and one more entry of a map keep a message well formed.
 use Rattle.std.proofs.Common.{◌≡◌, ℕ, ◌≤◌, suc, max, List, Option, Some, None, IfSome, IsSomeAnd, Ordering, Less, Equal, Greater, arith, refl, sym, ap, ◌∙◌, subst}
-use Rattle.std.proofs.lemmas.Cmp.{nat_cmp_total, int_cmp_total, nat_list_cmp_total}
-use Rattle.std.specs.Cmp.{bool_cmp_total}
 use Rattle.std.specs.Prelude.{true}
-use Rattle.std.specs.Ordering.{match_ordering, ordering_reverse}
+use Rattle.std.specs.Ordering.{match_ordering}
 use Rattle.pb_wire.specs.Record.{Record}
 use Rattle.pb_schema.specs.declared.types.Kind.{Kind}
 use Rattle.pb_schema.specs.declared.types.Shape.{Shape}
 use Rattle.pb_schema.specs.declared.types.Shape.TheVariants as shape
 use Rattle.pb_schema.specs.Types.{FieldView, Types, message_fields, field_numbered}
-use Rattle.pb_schema.specs.Scalar.{Scalar, int32, int64, uint32, uint64, boolean, float, double, enum, text, bytes, key_cmp}
+use Rattle.pb_schema.specs.Scalar.{Scalar, key_cmp}
 use Rattle.pb_schema.specs.Kinds.{IsOfKind}
 use Rattle.pb_value.specs.Data.{Datum, Datums, no_datums, datum, Entries, no_entries, entry, Holding, one, list, map, Fields, no_fields, field, Message, body, fields_of, get_field, put_field, put_entry, joined_datums, levels_of, levels_in_entry, datums_depth, entries_depth, holding_depth, fields_depth}
 use Rattle.pb_value.specs.Judge.{has_shape, IsKeyWithin}
-use Rattle.pb_value.specs.WellFormed.{IsOfShape, IsDatum, AreDatums, AreEntries, IsBelow, KeysRise, IsHeld, AreFields, IsWellFormed}
+use Rattle.pb_value.specs.WellFormed.{IsOfShape, IsDatum, AreDatums, AreEntries, KeysRise, IsHeld, AreFields, IsWellFormed}
 use Rattle.pb_value.specs.Change.{stored_at, with_fields, elements_of, entries_of, pushed, inserted, push_at, insert_at, is_list, is_map, IsElement, IsEntry, AreKeys, FitsKeys}
-use Rattle.pb_value.proofs.OrderLemmas.{slice_cmp-bytes_cmp}
-use Rattle.pb_value.proofs.ChangeLemmas.{by_order, CanStand, if_some, some_of, IsWellFormed-stored}
+use Rattle.pb_value.proofs.ChangeLemmas.{by_order, CanStand, IsWellFormed-stored}
+use Rattle.pb_value.proofs.Options.{if_some, some_of}
+use Rattle.pb_value.proofs.EntryLemmas.{KeysRise-put_entry}
+use Rattle.pb_value.proofs.HeldLemmas.{AreDatums-joined, datums_depth-joined}
 
 -- WHAT A FIELD HOLDS
 
-held_at : (pool : Types) (all : List FieldView) (n : ℕ) (h : Holding) (fs : Fields) → AreFields pool all fs → get_field n fs ≡ Some h → CanStand pool all n h
+pub held_at : (pool : Types) (all : List FieldView) (n : ℕ) (h : Holding) (fs : Fields) → AreFields pool all fs → get_field n fs ≡ Some h → CanStand pool all n h
 held_at pool all n h no_fields w e = absurd (cc)
 held_at pool all n h (field k g fs) w e =
     by_order (λ (x : Option Holding). x ≡ Some h → CanStand pool all n h) n k (get_field n fs) (Some g) (get_field n fs)
@@ -51,14 +51,6 @@ held pool m n f fs us found w =
 
 -- ELEMENTS
 
-AreDatums-joined : (pool : Types) (k : Kind) (ds : Datums) (d : Datum) → AreDatums pool k ds → IsDatum pool k d → AreDatums pool k (joined_datums ds (datum d no_datums))
-AreDatums-joined pool k no_datums d a b = (b, tt)
-AreDatums-joined pool k (datum e ds) d a b = (a.0, AreDatums-joined pool k ds d a.1 b)
-
-datums_depth-joined : (ds : Datums) (d : Datum) (top : ℕ) → datums_depth ds ≤ top → levels_of d ≤ top → datums_depth (joined_datums ds (datum d no_datums)) ≤ top
-datums_depth-joined no_datums d top a b = omega arith
-datums_depth-joined (datum e ds) d top a b = let more = datums_depth-joined ds d top (omega arith) b in omega arith
-
 elements_held : (pool : Types) (f : FieldView) (o : Option Holding) → IfSome o (Held pool f) → AreDatums pool f.kind (elements_of o) × (datums_depth (elements_of o) ≤ 100)
 unfolding Held
 elements_held pool f None h = (tt, omega arith)
@@ -85,7 +77,7 @@ pushed_to pool m n d f (body fs us) found listed good depth w =
     let ds = elements_of (get_field n fs) in
     subst (λ (gs : Fields). IsWellFormed pool m (body gs us)) (stored_list (message_fields pool m) f.shape n ds d fs listed)
     (IsWellFormed-stored pool m n (pushed d (get_field n fs)) (body fs us) f found (has_shape-list f.shape (joined_datums ds (datum d no_datums)) listed)
-    (AreDatums-joined pool f.kind ds d old.0 good) (datums_depth-joined ds d 100 old.1 depth) w)
+    (AreDatums-joined pool f.kind ds (datum d no_datums) old.0 (good, tt)) (datums_depth-joined ds (datum d no_datums) 100 old.1 (omega (arith, depth))) w)
 
 -- one more element keeps a message well formed
 pub IsWellFormed-push : (pool : Types) (m n : ℕ) (d : Datum) (v : Message) → IsElement pool m n d → IsWellFormed pool m v → IsWellFormed pool m (with_fields v (push_at n d (fields_of v)))
@@ -100,20 +92,6 @@ by_cases P Less a b c p q r = p
 by_cases P Equal a b c p q r = q
 by_cases P Greater a b c p q r = r
 
--- the other way round; a clause for each form that is no key has the second argument told apart too
-key_cmp-turned : (x y : Scalar) → key_cmp x y ≡ ordering_reverse (key_cmp y x)
-key_cmp-turned (int32 a) (int32 b) = int_cmp_total.antisymm a b
-key_cmp-turned (int64 a) (int64 b) = int_cmp_total.antisymm a b
-key_cmp-turned (uint32 a) (uint32 b) = nat_cmp_total.antisymm a b
-key_cmp-turned (uint64 a) (uint64 b) = nat_cmp_total.antisymm a b
-key_cmp-turned (boolean a) (boolean b) = bool_cmp_total.antisymm a b
-key_cmp-turned (text a) (text b) = sym (slice_cmp-bytes_cmp a b) ∙ nat_list_cmp_total.antisymm a b ∙ ap ordering_reverse (slice_cmp-bytes_cmp b a)
-key_cmp-turned (float a) (int32 b) = refl
-key_cmp-turned (double a) (int32 b) = refl
-key_cmp-turned (enum a) (int32 b) = refl
-key_cmp-turned (bytes a) (int32 b) = refl
-key_cmp-turned x y = refl
-
 AreEntries-put_entry :
     (pool : Types) (key k : Kind) (x : Scalar) (d : Datum) (es : Entries) → IsOfKind key x → IsDatum pool k d → AreEntries pool key k es
     → AreEntries pool key k (put_entry x d es)
@@ -121,19 +99,6 @@ AreEntries-put_entry pool key k x d no_entries a b w = (a, b, tt)
 AreEntries-put_entry pool key k x d (entry y e es) a b w =
     by_cases (AreEntries pool key k) (key_cmp x y) (entry x d (entry y e es)) (entry y d es) (entry y e (put_entry x d es)) (a, b, w) (w.0, b, w.2)
     (w.0, w.1, AreEntries-put_entry pool key k x d es a b w.2)
-
-IsBelow-put_entry : (y x : Scalar) (d : Datum) (es : Entries) → key_cmp y x ≡ Less → IsBelow y es → IsBelow y (put_entry x d es)
-IsBelow-put_entry y x d no_entries l b = l
-IsBelow-put_entry y x d (entry z e es) l b = by_cases (IsBelow y) (key_cmp x z) (entry x d (entry z e es)) (entry z d es) (entry z e (put_entry x d es)) l b b
-
-KeysRise-put_entry : (x : Scalar) (d : Datum) (es : Entries) → KeysRise es → KeysRise (put_entry x d es)
-KeysRise-put_entry x d no_entries w = (tt, tt)
-KeysRise-put_entry x d (entry y e es) w = told (key_cmp x y) refl (KeysRise-put_entry x d es w.1)
-  where
-    told : (o : Ordering) → key_cmp x y ≡ o → KeysRise (put_entry x d es) → KeysRise (match_ordering o (entry x d (entry y e es)) (entry y d es) (entry y e (put_entry x d es)))
-    told Less q later = (q, w)
-    told Equal q later = w
-    told Greater q later = (IsBelow-put_entry y x d es (key_cmp-turned y x ∙ ap ordering_reverse q) w.0, later)
 
 entries_depth-put_entry :
     (x : Scalar) (d : Datum) (es : Entries) (top : ℕ) → suc (levels_in_entry d) ≤ top → entries_depth es ≤ top → entries_depth (put_entry x d es) ≤ top
@@ -198,7 +163,7 @@ IsWellFormed-insert pool m n x d v ok w =
     let key = key_kind f.0.shape f.2.0 in
     inserted_to pool m n x d f.0 key.0 v f.1 key.1 f.2.1 f.2.2 f.2.3 w
 
-AreKeys-entries : (pool : Types) (key k : Kind) (es : Entries) → AreEntries pool key k es → AreKeys key es
+pub AreKeys-entries : (pool : Types) (key k : Kind) (es : Entries) → AreEntries pool key k es → AreKeys key es
 AreKeys-entries pool key k no_entries h = tt
 AreKeys-entries pool key k (entry x d es) h = (h.0, AreKeys-entries pool key k es h.2)
 

@@ -35,3 +35,18 @@ pool = record {
   messages = record { name = []; file = 0; parent = None; fields = t_fields; oneofs = [] ∷ [] } ∷ record { name = []; file = 0; parent = None; fields = f_fields; oneofs = [] } ∷ [];
   enums = [];
 }
+
+-- U, with two oneofs, a list of messages, an optional message, and maps in two orders of keys
+abbrev pub u_fields : List FieldView
+u_fields =
+    the_field 1 kind.Int32 shape.Implicit ∷ the_field 2 (a_type 0) (shape.OneofMember 0) ∷ the_field 3 kind.Int32 (shape.OneofMember 0)
+    ∷ the_field 4 (a_type 0) (shape.OneofMember 1) ∷ the_field 5 kind.Int32 (shape.OneofMember 1) ∷ the_field 6 (a_type 0) (shape.List false)
+    ∷ the_field 7 (a_type 0) shape.Explicit ∷ the_field 8 kind.Int32 (shape.Map kind.Int32) ∷ the_field 9 kind.Int32 (shape.Map kind.Bool)
+    ∷ the_field 10 kind.Int32 shape.Explicit ∷ []
+
+abbrev pub wide_pool : Types
+wide_pool = record {
+  files = [];
+  messages = record { name = []; file = 0; parent = None; fields = u_fields; oneofs = [] ∷ [] ∷ [] } ∷ [];
+  enums = [];
+}

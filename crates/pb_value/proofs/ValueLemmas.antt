@@ -1,7 +1,6 @@
 -- The value of sound records in range is well formed, level by level.
-use Rattle.std.proofs.Common.{◌≡◌, ◌≢◌, ℕ, zero, suc, ◌+◌, ◌<◌, ◌≤◌, List, [], ◌∷◌, map, arith, inl, inr, refl, sym, ap, ◌∙◌, subst, Option, Some, None, IfSome, IsSomeAnd, option_map}
-use Rattle.std.proofs.lemmas.Bool.Decides.{nat_tests}
-use Rattle.std.specs.Prelude.{◌⊎◌, Bool, true, false, not, ◌==◌, filter, if◌then◌else◌}
+use Rattle.std.proofs.Common.{◌≡◌, ℕ, zero, suc, ◌+◌, ◌<◌, ◌≤◌, List, [], ◌∷◌, arith, inl, inr, refl, sym, ap, ◌∙◌, subst, Option, Some, None, IfSome, IsSomeAnd, option_map}
+use Rattle.std.specs.Prelude.{◌⊎◌, Bool, true, false, not, filter}
 use Rattle.std.specs.List.{AllByRecursion}
 use Rattle.pb_wire.specs.Record.{Payload, varint, fixed64, len, group, fixed32, Group, no_more, more, Record, records_depth}
 use Rattle.pb_wire.specs.Inside.{IsNumbered, IsNumberedGroup}
@@ -13,7 +12,6 @@ use Rattle.pb_schema.specs.declared.types.Shape.{Shape}
 use Rattle.pb_schema.specs.declared.types.Shape.TheVariants as shape
 use Rattle.pb_schema.specs.Oneofs.{members}
 use Rattle.pb_schema.specs.Types.{FieldView, MessageView, Types, message_fields, field_numbered}
-use Rattle.pb_schema.specs.Names.{AllDiffer}
 use Rattle.pb_schema.specs.Rules.{IsPool, HasKeyKind}
 use Rattle.pb_schema.specs.Fits.{fits, fits_any, unfitting}
 use Rattle.pb_schema.specs.Context.{a_message}
@@ -22,11 +20,13 @@ use Rattle.pb_value.specs.Value.{last_of, last_run, counting, counting_as, held,
 use Rattle.pb_value.specs.WellFormed.{AreUnknown, RisesFrom, oneof_of, oneof_at, HasNoMember, HasOneMemberEach, IsOfShape, IsHeld, AreFields, IsBody, IsWellFormed}
 use Rattle.pb_value.specs.Meaning.{ValueIsWellFormed, DerivedIsWellFormed}
 use Rattle.pb_value.proofs.ListLemmas.{all_weaker, all_filter, all_last_run, LastPasses, last_run-last}
-use Rattle.pb_value.proofs.ChangeLemmas.{by_order, if_some, at_some, oneof_at-shape, RisesFrom-put_field, CanStand}
+use Rattle.pb_value.proofs.ChangeLemmas.{by_order, oneof_at-shape, RisesFrom-put_field, CanStand}
 use Rattle.pb_value.proofs.JudgeLemmas.{fields_all, differ_at}
 use Rattle.pb_value.proofs.SoundLemmas.{sound_depth}
 use Rattle.pb_value.proofs.FittingLemmas.{IsGood, AllGood, AllCount, all_good, all_count, same_number}
 use Rattle.pb_value.proofs.HeldLemmas.{IsStored, held-stored}
+use Rattle.pb_value.proofs.Options.{if_some, at_some}
+use Rattle.pb_value.proofs.Numbers.{found_each}
 
 -- RECORDS THAT COUNT
 
@@ -121,21 +121,6 @@ member_last inner shape.Implicit k all f rs h o own e = absurd (cc)
 member_last inner shape.Explicit k all f rs h o own e = absurd (cc)
 member_last inner (shape.List p) k all f rs h o own e = absurd (cc)
 member_last inner (shape.Map key) k all f rs h o own e = absurd (cc)
-
--- a field of those with these numbers is found by its number
-found_each : (fs : List FieldView) → AllDiffer (map (λ f. f.number) fs) → AllByRecursion (λ f. field_numbered f.number fs ≡ Some f) fs
-found_each [] h = tt
-found_each (f ∷ fs) h = (ap (λ (b : Bool). if b then Some f else field_numbered f.number fs) (self f.number), later fs h.0 (found_each fs h.1))
-  where
-    self : (n : ℕ) → (n == n) ≡ true
-    self n = grind (arith, nat_tests)
-
-    apart : (a b : ℕ) → a ≢ b → (a == b) ≡ false
-    apart a b d = grind (arith, nat_tests)
-
-    later : (gs : List FieldView) → AllByRecursion (λ k. f.number ≢ k) (map (λ g. g.number) gs) → AllByRecursion (λ g. field_numbered g.number fs ≡ Some g) gs → AllByRecursion (λ g. field_numbered g.number (f ∷ fs) ≡ Some g) gs
-    later [] d w = tt
-    later (g ∷ gs) d w = (ap (λ (b : Bool). if b then Some f else field_numbered g.number fs) (apart f.number g.number d.0) ∙ w.0, later gs d.1 w.1)
 
 -- UNKNOWN RECORDS
 

@@ -10,9 +10,10 @@ use Rattle.pb_schema.specs.Kinds.{message_of_kind}
 use Rattle.pb_schema.specs.Fits.{fits_any}
 use Rattle.pb_value.specs.Data.{Datum, scalar, message, Datums, no_datums, datum, Entries, no_entries, entry, Holding, one, list, map, Fields, no_fields, field, Message, body, message_depth}
 use Rattle.pb_value.specs.Judge.{is_scalar_of, holds_kind, has_shape, is_absence}
+use Rattle.pb_value.specs.Dynamic.{Dynamic, IsSameType}
 use Rattle.pb_value.specs.WellFormed.{key_of}
 use Rattle.pb_value.specs.declared.error.ValueError.{ValueError}
-use Rattle.pb_value.specs.declared.error.ValueError.TheVariants.{NoSuchField, WrongKind, WrongShape, DefaultStored, TwoMembers, KnownAsUnknown, TooDeep, Memory}
+use Rattle.pb_value.specs.declared.error.ValueError.TheVariants.{NoSuchField, WrongKind, WrongShape, DefaultStored, TwoMembers, KnownAsUnknown, TooDeep, Memory, OtherType}
 
 -- the first cause, or else the second
 abbrev pub or_else : Option ValueError → Option ValueError → Option ValueError
@@ -133,3 +134,7 @@ Judges r cause Good = MatchResult r (λ _. (cause ≡ None) × Good) (λ e. caus
 -- the same, up to want of memory
 abbrev pub JudgesOrFails : {T : Type 0} → Result T ValueError → Option ValueError → Type 0 → Type 0
 JudgesOrFails r cause Good = MatchResult r (λ _. (cause ≡ None) × Good) (λ e. FailsWith cause e)
+
+-- a merge is refused for want of memory, or where types or pools differ
+abbrev pub MergeFails : Dynamic → Dynamic → ValueError → Type 0
+MergeFails v w e = ((e ≡ Memory) × IsSameType v w) ⊎ ((e ≡ OtherType) × ¬ IsSameType v w)

@@ -1,7 +1,7 @@
 -- The numbers and the names of the causes of refused changes.
 use Rattle.std.specs.Prelude.{ℕ, List, codes}
 use Rattle.pb_value.specs.declared.error.ValueError.{ValueError}
-use Rattle.pb_value.specs.declared.error.ValueError.TheVariants.{NoSuchField, WrongKind, WrongShape, DefaultStored, TwoMembers, KnownAsUnknown, TooDeep, Memory}
+use Rattle.pb_value.specs.declared.error.ValueError.TheVariants.{NoSuchField, WrongKind, WrongShape, DefaultStored, TwoMembers, KnownAsUnknown, TooDeep, Memory, OtherType}
 
 abbrev pub number_of : ValueError → ℕ
 number_of NoSuchField = 21
@@ -12,6 +12,7 @@ number_of TwoMembers = 25
 number_of KnownAsUnknown = 26
 number_of TooDeep = 27
 number_of Memory = 28
+number_of OtherType = 29
 
 abbrev pub name_of : ValueError → List ℕ
 name_of NoSuchField = codes "NoSuchField"
@@ -22,3 +23,4 @@ name_of TwoMembers = codes "TwoMembers"
 name_of KnownAsUnknown = codes "KnownAsUnknown"
 name_of TooDeep = codes "TooDeep"
 name_of Memory = codes "Memory"
+name_of OtherType = codes "OtherType"

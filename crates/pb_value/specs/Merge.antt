@@ -6,8 +6,9 @@ use Rattle.pb_schema.specs.declared.types.Shape.{Shape}
 use Rattle.pb_schema.specs.declared.types.Shape.TheVariants as shape
 use Rattle.pb_schema.specs.Types.{FieldView, Types, message_fields}
 use Rattle.pb_schema.specs.Oneofs.{members}
-use Rattle.pb_value.specs.Data.{message, joined_datums, put_entries, Holding, one, list, map, Fields, no_fields, get_field, put_some, Message, body, fields_of, unknown_of, empty}
+use Rattle.pb_value.specs.Data.{message, joined_datums, put_entries, Holding, one, list, map, Fields, no_fields, get_field, put_field, put_some, Message, body, fields_of, unknown_of, empty}
 use Rattle.pb_value.specs.Canon.{message_type}
+use Rattle.pb_value.specs.Change.{gives_way, drop_some}
 
 -- a member of the oneof is set
 abbrev pub sets_oneof : List FieldView → Fields → Shape → Bool
@@ -41,3 +42,18 @@ merged_within pool (suc levels) m v w =
 -- w over v; the levels are 0 to 100
 unfoldable pub merged : Types → ℕ → Message → Message → Message
 merged pool m v w = merged_within pool 101 m v w
+
+-- ONE FIELD
+
+module _ (merge : ℕ → Message → Message → Message) where
+  -- what a field holds with the second's content over what it held
+  abbrev pub merged_over : Kind → Option Holding → Holding → Holding
+  merged_over k None h = h
+  merged_over k (Some g) h = both merge k g h
+
+  -- the fields with the second's content over that of the field f, whose oneof's other member gives way
+  abbrev pub merged_in : List FieldView → FieldView → Holding → Fields → Fields
+  merged_in all f h fs = put_over (drop_some (gives_way all f.shape f.number fs) fs)
+    where
+      put_over : Fields → Fields
+      put_over gs = put_field f.number (merged_over f.kind (get_field f.number gs) h) gs

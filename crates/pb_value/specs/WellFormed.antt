@@ -100,6 +100,10 @@ module _ (pool : Types) where
     IsBody m (body fs us) =
         AreFields (message_fields pool m) fs × RisesFrom 0 fs × HasOneMemberEach (message_fields pool m) fs × AreUnknown (message_fields pool m) us
 
+  -- the content can stand at the field of number n
+  abbrev pub CanStand : List FieldView → ℕ → Holding → Type 0
+  CanStand all n h = IsSomeAnd (field_numbered n all) (λ f. IsOfShape f.shape h × IsHeld f.shape f.kind h)
+
   -- a well-formed message of a type: its parts are, and at most 100 levels stand below it
   pub record IsWellFormed (m : ℕ) (v : Message) : Type 0 where
     pub parts : IsBody m v

@@ -42,7 +42,7 @@ pub fn take_field(message: &mut Body, number: u32) -> Option<Content>
 }
 
 /// The member that gives way to the field of a number: the one of its oneof that is set.
-fn gives_way(
+pub(crate) fn gives_way(
     pool: &Pool,
     kind: MessageId,
     fields: &BTreeMap<u32, Content>,

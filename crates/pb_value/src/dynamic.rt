@@ -7,9 +7,11 @@ use crate::depth::{MAX_LEVELS, content_within};
 use crate::error::ValueError;
 use crate::insert::{check_entry, insert_entry};
 use crate::lookup::field_at;
+use crate::merge::merge_body;
 use crate::message_ref::{MessageRef, print};
 use crate::oneof::set_member;
 use crate::push::{check_element, push_element};
+use crate::same_pool::is_same_pool;
 use pb_schema::{Kind, MessageId, Pool, Shape};
 use std::alloc::Global;
 use std::collections::BTreeMap;
@@ -44,15 +46,20 @@ impl<'p> Model for DynamicMessage<'p> {
 }
 
 impl<'p> DynamicMessage<'p> {
-    ghost use Rattle.std.specs.Prelude.{◌≡◌, ◌<◌, length, [], option_map, is_some, IfOk, IfErr, OnOk, OnErr, MatchResult, None};
+    ghost use Rattle.std.specs.Prelude.{◌≡◌, ◌<◌, length, [], option_map, is_some, IsTrue, IfOk, IfErr, OnOk, OnErr, MatchResult, None};
     ghost use Rattle.pb_schema.specs.Types.{message_fields};
+    ghost use Rattle.pb_schema.specs.Rules.{IsPool};
+    ghost use Rattle.std.specs.Bool.{Decides};
     ghost use Rattle.pb_value.specs.Data.{empty, fields_of, get_field, drop_field};
     ghost use Rattle.pb_value.specs.Change.{with_fields, set_at, set_cause, Allowed, push_at, push_cause, insert_at, entry_at, insert_cause};
     ghost use Rattle.pb_value.specs.Oneof.{member_set};
     ghost use Rattle.pb_value.specs.Inner.{only_datum, datum_at, datum_under, inner_message};
     ghost use Rattle.pb_value.specs.declared.error.ValueError.TheVariants.{Memory};
     ghost use Rattle.pb_value.specs.View.{body_view, content_view, key_view, value_view};
-    ghost use Rattle.pb_value.specs.Dynamic.{Dynamic};
+    ghost use Rattle.pb_value.specs.Dynamic.{Dynamic, IsSameType};
+    ghost use Rattle.pb_value.specs.Cause.{MergeFails};
+    ghost use Rattle.pb_value.specs.Merge.{merged};
+    ghost use Rattle.pb_value.specs.Joining.{JoinedIsText};
     ghost use Rattle.pb_value.specs.Cause.{message_cause, FailsWith};
     ghost use Rattle.pb_value.specs.WellFormed.{IsWellFormed};
 
@@ -217,6 +224,25 @@ impl<'p> DynamicMessage<'p> {
         insert_entry(self.alloc, &mut self.body, number, key, value)
     }
 
+    /// This message with another over it: scalars of the other where it has them, messages merged, lists joined, its entries put
+    /// over those of this one, and its unknown records behind. A member of a oneof that the other sets takes the place of
+    /// another member (encoding guide, "Last One Wins", "Oneofs", "Maps").
+    ///
+    /// It means what the canonical forms of both mean, one behind the other, and is never too deep. Both messages are given up; a
+    /// refused merge leaves neither. Types and pools are compared by value, in time linear in the pool; then it takes time linear in the
+    /// parts of the other and logarithmic in those of this one, but for the search of the member that gives way.
+    pub fn merge(self, other: DynamicMessage<'p>) -> Result<DynamicMessage<'p>, ValueError>
+        ensures merged { IfOk result (λ m. m ≡ record self.entry { body = merged self.entry.pool self.entry.kind self.entry.body other.entry.body }) }
+        ensures alike { IfOk result (λ _. IsSameType self.entry other.entry) }
+        ensures refused { IfErr result (MergeFails self.entry other.entry) }
+        ensures text { IfOk result (λ m. JoinedIsText self.entry.pool self.entry.kind self.entry.body other.entry.body m.body) }
+    {
+        if !self.is_alike(&other) {
+            return Err(ValueError::OtherType);
+        }
+        self.merge_alike(other)
+    }
+
     /// The message of a body that is known to be well formed. Nothing is judged.
     pub fn from_well_formed(
         alloc: Global,
@@ -234,6 +260,35 @@ impl<'p> DynamicMessage<'p> {
             kind,
             body,
         }
+    }
+
+    /// Whether another message is of the same type, and its pool holds the same.
+    fn is_alike(&self, other: &DynamicMessage) -> bool
+        ensures same { Decides result (IsSameType self.now other.now) }
+        ensures rules { IsTrue result → IsPool self.now.pool }
+    {
+        if self.kind.0 != other.kind.0 {
+            return false;
+        }
+        is_same_pool(self.pool, other.pool)
+    }
+
+    /// This message with another of its type over it.
+    fn merge_alike(self, other: DynamicMessage<'p>) -> Result<DynamicMessage<'p>, ValueError>
+        requires rules { IsPool self.pool }
+        requires alike { IsSameType self other }
+        ensures merged { IfOk result (λ m. m ≡ record self.entry { body = merged self.entry.pool self.entry.kind self.entry.body other.entry.body }) }
+        ensures text { IfOk result (λ m. JoinedIsText self.entry.pool self.entry.kind self.entry.body other.entry.body m.body) }
+        ensures memory { IfErr result (λ e. e ≡ Memory) }
+    {
+        let mut body = self.body;
+        merge_body(self.pool, self.kind, &mut body, other.body)?;
+        Ok(DynamicMessage {
+            alloc: self.alloc,
+            pool: self.pool,
+            kind: self.kind,
+            body,
+        })
     }
 
     /// The shape of the field of a number, where a content can be set there.

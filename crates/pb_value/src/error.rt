@@ -27,10 +27,12 @@ pub enum ValueError {
     TooDeep,
     /// There is no memory.
     Memory,
+    /// Two messages are of different types, or their pools hold different types.
+    OtherType,
 }
 
 impl ValueError {
-    /// The cause's number, from 21 to 28.
+    /// The cause's number, from 21 to 29.
     pub fn number(self) -> u8
         ensures { result ≡ number_of self }
     {
@@ -43,6 +45,7 @@ impl ValueError {
             ValueError::KnownAsUnknown => 26,
             ValueError::TooDeep => 27,
             ValueError::Memory => 28,
+            ValueError::OtherType => 29,
         }
     }
 
@@ -59,6 +62,7 @@ impl ValueError {
             ValueError::KnownAsUnknown => "KnownAsUnknown",
             ValueError::TooDeep => "TooDeep",
             ValueError::Memory => "Memory",
+            ValueError::OtherType => "OtherType",
         }
     }
 }

@@ -57,7 +57,8 @@ fn map_of(alloc: Global, key: MapKey, value: Value) -> Result<Content, ValueErro
     Ok(Content::Map(map))
 }
 
-/// Puts a value under a key of a map, and gives the one that stood there. What is no map becomes a map of one entry.
+/// Puts a value under a key of a map, and gives the one that stood there. What is no map becomes a map of one entry; a field that
+/// was judged a map holds nothing else.
 fn put_under(
     alloc: Global,
     content: &mut Content,

@@ -15,6 +15,7 @@ pub(crate) fn is_value_of(kind: Kind, value: &Value) -> bool
     ensures test { result ≡ is_value_of kind (value_view value.now) }
     ensures in_range { IsTrue result → IsWithin kind (value_view value.now) }
 {
+    // A number that is read is known to be in its type's range.
     match value {
         Value::I32(number) => {
             let _number = *number;
@@ -77,6 +78,7 @@ pub(crate) fn is_key_of(shape: Shape, key: &MapKey) -> bool
     let Shape::Map { key: kind } = shape else {
         return true;
     };
+    // As for values, reading a number tells its range.
     match key {
         MapKey::I32(number) => {
             let _number = *number;

@@ -12,9 +12,11 @@ mod insert;
 mod judge;
 mod laws;
 mod lookup;
+mod merge;
 mod message_ref;
 mod oneof;
 mod push;
+mod same_pool;
 mod unknown;
 
 pub use body::{Body, Content, MapKey, Value};

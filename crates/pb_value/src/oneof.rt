@@ -1,17 +1,50 @@
 //! Which member of a oneof is set.
 
 ghost use Rattle.std.specs.Prelude.{◌≡◌, ◌<◌, length};
-ghost use Rattle.pb_schema.specs.Types.{message_fields};
-ghost use Rattle.pb_value.specs.Oneof.{member_set};
+ghost use Rattle.pb_schema.specs.Types.{message_fields, field_numbered};
+ghost use Rattle.pb_value.specs.Oneof.{is_member_at, member_set};
 ghost use Rattle.pb_value.specs.View.{fields_view};
 ghost use Rattle.pb_value.specs.WellFormed.{HasOneMemberEach};
 
 use crate::body::Content;
-use pb_schema::{MessageId, Pool};
+use crate::lookup::field_at;
+use pb_schema::{MessageId, Pool, Shape};
 use std::collections::BTreeMap;
 
-/// The number of the member that is set, of the oneof with an index.
-pub(crate) fn set_member(
+/// Whether the field of a number is a member of the oneof with an index.
+fn is_member(pool: &Pool, kind: MessageId, number: u32, oneof: u32) -> bool
+    requires { kind.0 < length pool.now.messages }
+    ensures { result ≡ is_member_at oneof (field_numbered number (message_fields pool.now kind.0)) }
+{
+    match field_at(pool, kind, number) {
+        Some(field) => match field.shape {
+            Shape::OneofMember(index) => oneof == index,
+            _ => false,
+        },
+        None => false,
+    }
+}
+
+/// The number of the member that is set, looked for among what is stored.
+fn stored_member(
+    pool: &Pool,
+    kind: MessageId,
+    fields: &BTreeMap<u32, Content>,
+    oneof: u32,
+) -> Option<u32>
+    requires { kind.0 < length pool.now.messages }
+    ensures { result ≡ member_set (message_fields pool.now kind.0) oneof (fields_view fields.now.entries) }
+{
+    for (stored, _) in fields {
+        if is_member(pool, kind, *stored, oneof) {
+            return Some(*stored);
+        }
+    }
+    None
+}
+
+/// The number of the member that is set, looked for among the members.
+fn listed_member(
     pool: &Pool,
     kind: MessageId,
     fields: &BTreeMap<u32, Content>,
@@ -27,4 +60,22 @@ pub(crate) fn set_member(
         }
     }
     None
+}
+
+/// The number of the member that is set, of the oneof with an index. Looks at the fewer of the oneof's members and the stored fields.
+pub(crate) fn set_member(
+    pool: &Pool,
+    kind: MessageId,
+    fields: &BTreeMap<u32, Content>,
+    oneof: u32,
+) -> Option<u32>
+    requires within { kind.0 < length pool.now.messages }
+    requires one_each { HasOneMemberEach (message_fields pool.now kind.0) (fields_view fields.now.entries) }
+    ensures { result ≡ member_set (message_fields pool.now kind.0) oneof (fields_view fields.now.entries) }
+{
+    if fields.len() < pool.oneof_members(kind, oneof).len() {
+        stored_member(pool, kind, fields, oneof)
+    } else {
+        listed_member(pool, kind, fields, oneof)
+    }
 }

@@ -55,7 +55,7 @@ fn list_of(alloc: Global, value: Value) -> Result<Content, ValueError>
     Ok(Content::List(list))
 }
 
-/// Puts a value at the end of a list. What is no list becomes a list of one.
+/// Puts a value at the end of a list. What is no list becomes a list of one; a field that was judged a list holds nothing else.
 fn append(alloc: Global, content: &mut Content, value: Value) -> Result<(), ValueError>
     ensures ok { OnOk result (content_view content.new ≡ pushed (value_view value) (Some (content_view content.old))) }
     ensures err { OnErr result (content_view content.new ≡ content_view content.old) }

@@ -29,6 +29,7 @@ fn is_numbered(payload: &Unknown) -> bool
     ensures test { result ≡ is_numbered (payload_of payload.now) }
     ensures in_range { IsTrue result → IsInRange (payload_of payload.now) }
 {
+    // A number that is read is known to be in its type's range.
     match payload {
         Unknown::Varint(number) | Unknown::I64(number) => {
             let _number = *number;

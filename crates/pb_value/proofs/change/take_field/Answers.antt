@@ -1,4 +1,4 @@
-use Rattle.std.proofs.Common.{◌∙◌, ap, sym}
+use Rattle.std.proofs.Common.{sym}
 use Rattle.pb_value.proofs.Views.{body_view-roll, body_view-out}
 use Rattle.pb_value.proofs.FieldViews.{fields_view-remove_entry, get_field-at}
 use Rattle.pb_value.proofs.change.take_field.Goals as goal

@@ -4,7 +4,7 @@ use Rattle.pb_value.specs.Oneof.{is_member_at}
 use Rattle.pb_value.specs.View.{fields_view}
 use Rattle.pb_value.proofs.FieldViews.{get_field-some}
 use Rattle.pb_value.proofs.OneofLemmas.{NoneSet, NoneSet-more, NoneSet-all, member_found, member_missing, named_member, pool_differ}
-use Rattle.pb_value.proofs.oneof.set_member.Goals as goal
+use Rattle.pb_value.proofs.oneof.listed_member.Goals as goal
 
 pub returns-then-contains_key : goal.returns-then-contains_key
 returns-then-contains_key c =
