@@ -1,5 +1,5 @@
 -- How the loops that judge bodies begin, go on and end.
-use Rattle.std.proofs.Common.{◌≡◌, ℕ, ◌<◌, List, [], ◌∷◌, arith, refl, sym, ap, ◌∙◌, subst, Some, None, nat_cmp}
+use Rattle.std.proofs.Common.{◌≡◌, ℕ, ◌<◌, List, [], ◌∷◌, arith, sym, ap, ◌∙◌, subst, Some, None, nat_cmp}
 use Rattle.std.proofs.lemmas.Bool.Decides.{nat_tests}
 use Rattle.std.specs.Prelude.{Bool, true, false, not, ◌&&◌, nat_lt, ◌^◌}
 use Rattle.std.specs.List.{list_any}
@@ -25,10 +25,7 @@ use Rattle.pb_value.specs.declared.body.Content.{Content}
 use Rattle.pb_value.specs.declared.error.ValueError.TheVariants.{KnownAsUnknown, NoSuchField}
 use Rattle.pb_value.proofs.JudgeLemmas.{GoodFrom, GoodFrom-none, OneFrom-each, one_more, fits_any-found, fits_any-none}
 use Rattle.pb_value.proofs.OrderLemmas.{KeysRise-sorted, RisesFrom-sorted}
-
-both : (a b : Bool) → (a && b) ≡ true → (a ≡ true) × (b ≡ true)
-both true b e = (refl, e)
-both false b e = absurd (cc)
+use Rattle.pb_value.proofs.BytesLemmas.{both}
 
 IsNumber-tested : (k : ℕ) → is_number k ≡ true → IsNumber k
 IsNumber-tested k e = let p = both (nat_lt 0 k) (nat_lt k (2 ^ 29)) e in (low k p.0, high k p.1)

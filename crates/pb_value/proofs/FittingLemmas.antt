@@ -74,7 +74,7 @@ pub all_count :
     → AllByRecursion (λ r. IsGood pool c room r × (fits f r ≡ true)) rs → AllCount pool c room f.shape f.kind rs
 all_count pool c room f found rs h = all_weaker _ (CountsFor pool c room f.shape f.kind) (λ r w. counted pool c room f found r w.0 w.1) rs h
 
-reads_text : (c : Context) (s : Shape) → key_of s ≡ None → read_shaped c s kind.Text ≡ wire.text
+pub reads_text : (c : Context) (s : Shape) → key_of s ≡ None → read_shaped c s kind.Text ≡ wire.text
 reads_text c shape.Implicit e = refl
 reads_text c shape.Explicit e = refl
 reads_text c (shape.OneofMember o) e = refl

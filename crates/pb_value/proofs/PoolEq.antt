@@ -26,13 +26,9 @@ use Rattle.pb_schema.specs.contracts.types.FieldPartialEq.TheImpl as field_eq
 use Rattle.pb_schema.specs.contracts.types.MessageTypePartialEq.TheImpl as message_eq
 use Rattle.pb_schema.specs.contracts.types.EnumTypePartialEq.TheImpl as enum_eq
 use Rattle.pb_schema.specs.contracts.types.FileInfoPartialEq.TheImpl as file_eq
+use Rattle.pb_value.proofs.BytesLemmas.{both}
 
 -- TESTS TOGETHER
-
-and_parts : (a b : Bool) → (a && b) ≡ true → (a ≡ true) × (b ≡ true)
-and_parts true true e = (refl, refl)
-and_parts true false e = absurd (false≢true e)
-and_parts false b e = absurd (false≢true e)
 
 and_join : (a b : Bool) → a ≡ true → b ≡ true → (a && b) ≡ true
 and_join true b p q = q
@@ -40,7 +36,7 @@ and_join false b p q = p
 
 and_decides : (a b : Bool) (P Q : Type 0) → Decides a P → Decides b Q → Decides (a && b) (P × Q)
 and_decides a b P Q p q = (
-  λ e. let both = and_parts a b e in (p.0 both.0, q.0 both.1),
+  λ e. let each = both a b e in (p.0 each.0, q.0 each.1),
   λ h. and_join a b (p.1 h.0) (q.1 h.1),
 )
 
@@ -56,7 +52,7 @@ views_decide E view each (x ∷ xs) (y ∷ ys) = step (each x y) (views_decide E
   where
     step : Decides (E x y) (view x ≡ view y) → Decides (pointwise E xs ys) (map view xs ≡ map view ys) → Decides (E x y && pointwise E xs ys) (map view (x ∷ xs) ≡ map view (y ∷ ys))
     step first rest = (
-      λ e. let both = and_parts (E x y) (pointwise E xs ys) e in λ i. first.0 both.0 i ∷ rest.0 both.1 i,
+      λ e. let each = both (E x y) (pointwise E xs ys) e in λ i. first.0 each.0 i ∷ rest.0 each.1 i,
       λ e.
           let head : view x ≡ view y = cc in
           let tail : map view xs ≡ map view ys = cc in

@@ -1,13 +1,11 @@
 -- The value of sound records in range is well formed, level by level.
-use Rattle.std.proofs.Common.{◌≡◌, ℕ, zero, suc, ◌+◌, ◌<◌, ◌≤◌, List, [], ◌∷◌, arith, inl, inr, refl, sym, ap, ◌∙◌, subst, Option, Some, None, IfSome, IsSomeAnd, option_map}
-use Rattle.std.specs.Prelude.{◌⊎◌, Bool, true, false, not, filter}
+use Rattle.std.proofs.Common.{◌≡◌, ℕ, zero, suc, ◌+◌, ◌<◌, ◌≤◌, List, [], ◌∷◌, arith, refl, sym, ◌∙◌, subst, Option, Some, None, IfSome, IsSomeAnd}
+use Rattle.std.specs.Prelude.{Bool, true, false, not, filter}
 use Rattle.std.specs.List.{AllByRecursion}
 use Rattle.pb_wire.specs.Record.{Payload, varint, fixed64, len, group, fixed32, Group, no_more, more, Record, records_depth}
 use Rattle.pb_wire.specs.Inside.{IsNumbered, IsNumberedGroup}
 use Rattle.pb_wire.specs.Writable.{IsWritable, IsWritableGroup}
 use Rattle.pb_wire.proofs.RangeLemmas.{spelled_in_range, spelled_writable}
-use Rattle.pb_schema.specs.declared.types.Kind.{Kind}
-use Rattle.pb_schema.specs.declared.types.Kind.TheVariants as kind
 use Rattle.pb_schema.specs.declared.types.Shape.{Shape}
 use Rattle.pb_schema.specs.declared.types.Shape.TheVariants as shape
 use Rattle.pb_schema.specs.Oneofs.{members}
@@ -16,17 +14,18 @@ use Rattle.pb_schema.specs.Rules.{IsPool, HasKeyKind}
 use Rattle.pb_schema.specs.Fits.{fits, fits_any, unfitting}
 use Rattle.pb_schema.specs.Context.{a_message}
 use Rattle.pb_value.specs.Data.{Holding, Fields, no_fields, field, Message, put_field, put_some, holding_depth, fields_depth, message_depth}
-use Rattle.pb_value.specs.Value.{last_of, last_run, counting, counting_as, held, held_as, fields_held, body_of, value_within, value}
-use Rattle.pb_value.specs.WellFormed.{AreUnknown, RisesFrom, oneof_of, oneof_at, HasNoMember, HasOneMemberEach, IsOfShape, IsHeld, AreFields, IsBody, IsWellFormed}
+use Rattle.pb_value.specs.Value.{counting, counting_as, held, fields_held, body_of, value_within, value}
+use Rattle.pb_value.specs.WellFormed.{AreUnknown, RisesFrom, oneof_at, HasNoMember, HasOneMemberEach, IsOfShape, IsHeld, AreFields, IsBody, IsWellFormed}
 use Rattle.pb_value.specs.Meaning.{ValueIsWellFormed, DerivedIsWellFormed}
-use Rattle.pb_value.proofs.ListLemmas.{all_weaker, all_filter, all_last_run, LastPasses, last_run-last}
+use Rattle.pb_value.proofs.ListLemmas.{all_weaker, all_filter, all_last_run}
 use Rattle.pb_value.proofs.ChangeLemmas.{by_order, oneof_at-shape, RisesFrom-put_field, CanStand}
 use Rattle.pb_value.proofs.JudgeLemmas.{fields_all, differ_at}
 use Rattle.pb_value.proofs.SoundLemmas.{sound_depth}
-use Rattle.pb_value.proofs.FittingLemmas.{IsGood, AllGood, AllCount, all_good, all_count, same_number}
+use Rattle.pb_value.proofs.FittingLemmas.{IsGood, AllGood, AllCount, all_good, all_count}
 use Rattle.pb_value.proofs.HeldLemmas.{IsStored, held-stored}
 use Rattle.pb_value.proofs.Options.{if_some, at_some}
 use Rattle.pb_value.proofs.Numbers.{found_each}
+use Rattle.pb_value.proofs.OneMember.{last_number, member_last}
 
 -- RECORDS THAT COUNT
 
@@ -42,11 +41,6 @@ module _ (pool : Types) (inner : ℕ → List Record → Message) where
   counting_as-good t room shape.Explicit all f rs h = all_filter (IsGood pool (a_message t) room) (fits f) rs h
   counting_as-good t room (shape.List p) all f rs h = all_filter (IsGood pool (a_message t) room) (fits f) rs h
   counting_as-good t room (shape.Map k) all f rs h = all_filter (IsGood pool (a_message t) room) (fits f) rs h
-
--- no records, no value of a member
-nothing_held : (inner : ℕ → List Record → Message) (o : ℕ) (k : Kind) → held_as inner (shape.OneofMember o) k [] ≡ None
-nothing_held inner o (kind.Message m) = refl
-nothing_held inner o k = refl
 
 -- FIELDS
 
@@ -67,10 +61,6 @@ EachField-put_some P n (Some h) fs a w = EachField-put_field P n h fs a w
 RisesFrom-put_some : (n : ℕ) (o : Option Holding) (fs : Fields) → RisesFrom 0 fs → RisesFrom 0 (put_some n o fs)
 RisesFrom-put_some n None fs w = w
 RisesFrom-put_some n (Some h) fs w = RisesFrom-put_field 0 n h fs (omega arith) w
-
--- The number of the last record that fits a member of a oneof.
-last_number : List FieldView → List Record → ℕ → Option ℕ
-last_number all rs o = option_map (λ r. r.number) (last_of (filter (fits_any (members o all)) rs))
 
 -- A content that can stand at a number, this deep at most. Of a oneof it stands at the last number.
 record Stands (pool : Types) (all : List FieldView) (top : ℕ) (last : ℕ → Option ℕ) (n : ℕ) (h : Holding) : Type 0 where
@@ -103,24 +93,6 @@ module _ (pool : Types) (all : List FieldView) (top : ℕ) (last : ℕ → Optio
   )
 
 -- THE FIELDS THAT RECORDS GIVE
-
-member_last :
-    (inner : ℕ → List Record → Message) (s : Shape) (k : Kind) (all : List FieldView) (f : FieldView) (rs : List Record) (h : Holding) (o : ℕ) → oneof_of s ≡ Some o
-    → held_as inner s k (counting_as inner s all f rs) ≡ Some h → last_number all rs o ≡ Some f.number
-unfolding last_number LastPasses
-member_last inner (shape.OneofMember p) k all f rs h o own e =
-    let same : p ≡ o = cc in subst (λ (q : ℕ). last_number all rs q ≡ Some f.number) same (by_cases (last_run-last (fits f) (filter (fits_any (members p all)) rs)))
-  where
-    by_cases : (last_run (fits f) (filter (fits_any (members p all)) rs) ≡ []) ⊎ LastPasses (fits f) (filter (fits_any (members p all)) rs) → last_number all rs p ≡ Some f.number
-    by_cases (inl none) =
-        let nothing : held_as inner (shape.OneofMember p) k (last_run (fits f) (filter (fits_any (members p all)) rs)) ≡ None =
-        ap (held_as inner (shape.OneofMember p) k) none ∙ nothing_held inner p k in
-        absurd (cc)
-    by_cases (inr some) = ap (option_map (λ (r : Record). r.number)) some.1 ∙ ap (λ (n : ℕ). Some n) (same_number f some.0 some.2)
-member_last inner shape.Implicit k all f rs h o own e = absurd (cc)
-member_last inner shape.Explicit k all f rs h o own e = absurd (cc)
-member_last inner (shape.List p) k all f rs h o own e = absurd (cc)
-member_last inner (shape.Map key) k all f rs h o own e = absurd (cc)
 
 -- UNKNOWN RECORDS
 

@@ -25,7 +25,8 @@ pub use dynamic::{DynamicMessage, default_value};
 pub use error::ValueError;
 pub use insert::insert_entry;
 pub use laws::{
-    canonical_spelling, key_order, no_cause, one_value, round_trip, well_formed_values,
+    canonical_spelling, joined_records, key_order, merging, no_cause, one_value, reading_onto,
+    round_trip, well_formed_values,
 };
 pub use message_ref::MessageRef;
 pub use push::push_element;

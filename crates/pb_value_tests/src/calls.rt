@@ -1,7 +1,7 @@
 //! Each call once.
 
-use super::reading::{body_of, key_of, nest, value_of};
-use super::sample::sample;
+use super::reading::{body_of, key_of, value_of};
+use super::sample::{Schema, sample};
 use pb_schema::{EnumId, Kind, MessageId};
 use pb_value::{
     Content, DynamicMessage, Value, ValueError, canonical_spelling, default_value, key_order,
@@ -43,18 +43,24 @@ fn is_number(content: Option<&Content>, wanted: i32) -> bool {
     }
 }
 
+fn holds_a_number_and_a_member(message: &DynamicMessage<'_>) -> bool {
+    are_held(message, HELD)
+        && is_number(message.get(1), 5)
+        && message.which_oneof(0) == Some(8)
+        && message.which_oneof(1).is_none()
+        && message.which_oneof(2).is_none()
+}
+
+fn is_held(alloc: Global, schema: &Schema) -> Result<bool, Fail> {
+    let message = schema.made(alloc, body_of(alloc, "1:i5 8:n0")?)?;
+    Ok(holds_a_number_and_a_member(&message))
+}
+
 #[test]
 fn what_a_message_holds(rt: HostRuntime) -> Result<(), Fail> {
-    let alloc = rt.alloc();
-    let schema = sample(alloc)?;
-    let message = schema.made(alloc, body_of(alloc, "1:i5 8:n0")?)?;
-    assert!(rt;
-        are_held(&message, HELD)
-            && is_number(message.get(1), 5)
-            && message.which_oneof(0) == Some(8)
-            && message.which_oneof(1).is_none()
-            && message.which_oneof(2).is_none()
-    );
+    let schema = sample(rt.alloc())?;
+    let is_told = is_held(rt.alloc(), &schema)?;
+    assert!(rt; is_told);
     Ok(())
 }
 
@@ -137,17 +143,6 @@ fn keys(rt: HostRuntime) -> Result<(), Fail> {
     Ok(())
 }
 
-/// A value that nests as deep as one may is set and dropped.
-#[test]
-fn deep_value(rt: HostRuntime) -> Result<(), Fail> {
-    let alloc = rt.alloc();
-    let schema = sample(alloc)?;
-    let mut message = schema.empty(alloc);
-    message.set(3, Content::One(Value::Message(nest(alloc, 99)?)))?;
-    assert!(rt; message.has(3));
-    Ok(())
-}
-
 fn long_list(alloc: Global, count: i32) -> Result<Content, AllocError> {
     let mut numbers = Vec::new(alloc);
     for number in 0..count {
@@ -156,23 +151,28 @@ fn long_list(alloc: Global, count: i32) -> Result<Content, AllocError> {
     Ok(Content::List(numbers))
 }
 
-fn is_list_of(content: Option<&Content>, count: usize) -> bool {
+fn is_list_of(content: Option<&Content>, count: i32) -> bool {
     match content {
-        Some(Content::List(values)) => values.len() == count,
+        Some(Content::List(values)) => i32::try_from(values.len()) == Ok(count),
         _ => false,
     }
+}
+
+/// Whether a long list is set, and cleared again.
+fn is_long_set(alloc: Global, schema: &Schema, count: i32) -> Result<bool, ValueError> {
+    let mut message = schema.empty(alloc);
+    message.set(6, long_list(alloc, count)?)?;
+    let is_set = is_list_of(message.get(6), count);
+    message.clear(6);
+    Ok(is_set && !message.has(6))
 }
 
 /// A long list is set, cleared and dropped.
 #[test]
 fn long_value(rt: HostRuntime) -> Result<(), Fail> {
-    let alloc = rt.alloc();
-    let schema = sample(alloc)?;
-    let mut message = schema.empty(alloc);
-    message.set(6, long_list(alloc, 1_000_000)?)?;
-    let is_set = is_list_of(message.get(6), 1_000_000);
-    message.clear(6);
-    assert!(rt; is_set && !message.has(6));
+    let schema = sample(rt.alloc())?;
+    let is_done = is_long_set(rt.alloc(), &schema, 1_000_000)?;
+    assert!(rt; is_done);
     Ok(())
 }
 

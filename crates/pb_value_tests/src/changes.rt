@@ -1,8 +1,9 @@
 //! What changes leave, and which are refused.
 
+use super::choice::choose;
 use super::reading::{body_of, content_of, key_of, value_of};
 use super::sample::{Schema, sample};
-use pb_value::{Body, DynamicMessage, Value, ValueError};
+use pb_value::{Body, DynamicMessage, ValueError};
 use pb_wire::Unknown;
 use std::alloc::Global;
 use std::test::Fail;
@@ -37,6 +38,15 @@ const MEMBERS: &str = "
 7:u5 18:U5 | set 1 i5 | 1:i5 7:u5 18:U5
 7:u5 | set 8 h0 | !DefaultStored
 8:n0 | set 7 n0 | !WrongKind
+";
+
+/// Members, of which each is chosen in turn, and a field that is none.
+const CHOICES: &str = "
+| choose 7 u5 | 7:u5
+7:u5 | choose 8 n0 | 8:n0
+8:n0 | choose 18 U5 | 8:n0 18:U5
+8:n0 18:U5 | choose 7 u0 | 7:u0 18:U5
+7:u0 18:U5 | choose 1 i5 | !WrongShape
 ";
 
 const CLEARS: &str = "
@@ -96,11 +106,23 @@ const TABLES: &[&str] = &[
     SETS,
     ABSENCES,
     MEMBERS,
+    CHOICES,
     CLEARS,
     REFUSED_SETS,
     PUSHES,
     INSERTS,
 ];
+
+fn insert(
+    alloc: Global,
+    message: &mut DynamicMessage<'_>,
+    number: u32,
+    entry: &str,
+) -> Result<Option<ValueError>, Fail> {
+    let (key, value) = entry.split_once('=').ok_or("no entry")?;
+    let key = key_of(alloc, key)?;
+    Ok(message.insert(number, key, value_of(alloc, value)?).err())
+}
 
 /// Why the change is refused, if it is.
 fn apply(
@@ -114,12 +136,9 @@ fn apply(
     let rest = words.next().unwrap_or("");
     Ok(match verb {
         "set" => message.set(number, content_of(alloc, rest)?).err(),
+        "choose" => choose(message, number, content_of(alloc, rest)?).err(),
         "push" => message.push(number, value_of(alloc, rest)?).err(),
-        "insert" => {
-            let (key, value) = rest.split_once('=').ok_or("no entry")?;
-            let key = key_of(alloc, key)?;
-            message.insert(number, key, value_of(alloc, value)?).err()
-        }
+        "insert" => insert(alloc, message, number, rest)?,
         "clear" => {
             message.clear(number);
             None
@@ -135,23 +154,45 @@ fn with_record(alloc: Global, words: &str) -> Result<Body, Fail> {
     Ok(body)
 }
 
+/// What a change of a message of these fields is refused by, and the message after it.
+fn changed(
+    alloc: Global,
+    schema: &Schema,
+    before: &str,
+    change: &str,
+) -> Result<(Option<ValueError>, Body), Fail> {
+    let mut message = schema.made(alloc, with_record(alloc, before)?)?;
+    let told = apply(alloc, &mut message, change)?;
+    Ok((told, message.into_body()))
+}
+
+/// Whether a body has these fields, and the record that no change touches.
+fn has_fields(alloc: Global, body: &Body, words: &str) -> Result<bool, Fail> {
+    let wanted = with_record(alloc, words)?;
+    Ok(*body == wanted)
+}
+
+fn is_cause(told: Option<ValueError>, after: &str) -> Result<bool, Fail> {
+    if told == Some(ValueError::Memory) {
+        return Err(Fail::new("no memory"));
+    }
+    Ok(match (told, after.strip_prefix('!')) {
+        (Some(cause), Some(name)) => cause.name() == name,
+        (None, None) => true,
+        _ => false,
+    })
+}
+
 /// Whether a change does what its row says. Where there is no memory the message must be as before, and the test ends.
 fn is_done(alloc: Global, schema: &Schema, row: &str) -> Result<bool, Fail> {
     let (before, row) = row.split_once('|').ok_or("no row")?;
     let (change, after) = row.split_once('|').ok_or("no row")?;
-    let mut message = schema.made(alloc, with_record(alloc, before)?)?;
-    let told = apply(alloc, &mut message, change)?;
+    let (told, body) = changed(alloc, schema, before, change)?;
     let fields = if told.is_some() { before } else { after };
-    if message.into_body() != with_record(alloc, fields)? {
+    if !has_fields(alloc, &body, fields)? {
         return Ok(false);
     }
-    if told == Some(ValueError::Memory) {
-        return Err(Fail::new("no memory"));
-    }
-    Ok(match after.trim().strip_prefix('!') {
-        Some(cause) => told.is_some_and(|it| it.name() == cause),
-        None => told.is_none(),
-    })
+    is_cause(told, after.trim())
 }
 
 #[test]
@@ -165,25 +206,5 @@ fn changes(rt: HostRuntime) -> Result<(), Fail> {
             );
         }
     }
-    Ok(())
-}
-
-/// The number that stood under the key `k` of the map 9 before this one was put there.
-fn put(alloc: Global, message: &mut DynamicMessage<'_>, number: i32) -> Result<Option<i32>, Fail> {
-    let key = key_of(alloc, "tk")?;
-    Ok(match message.insert(9, key, Value::I32(number))? {
-        Some(Value::I32(stood)) => Some(stood),
-        _ => None,
-    })
-}
-
-#[test]
-fn insert_gives_back(rt: HostRuntime) -> Result<(), Fail> {
-    let alloc = rt.alloc();
-    let schema = sample(alloc)?;
-    let mut message = schema.empty(alloc);
-    let first = put(alloc, &mut message, 7)?;
-    let second = put(alloc, &mut message, 8)?;
-    assert!(rt; first.is_none() && second == Some(7));
     Ok(())
 }

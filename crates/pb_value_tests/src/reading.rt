@@ -20,7 +20,7 @@ fn around(alloc: Global, number: u32, value: Value) -> Result<Body, AllocError> 
 }
 
 /// The empty message inside so many others, each the field 3 of the one around it.
-pub(crate) fn nest(alloc: Global, levels: u32) -> Result<Body, AllocError> {
+fn nest(alloc: Global, levels: u32) -> Result<Body, AllocError> {
     let mut body = empty(alloc);
     for _ in 0..levels {
         body = around(alloc, 3, Value::Message(body))?;

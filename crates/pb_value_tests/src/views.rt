@@ -1,7 +1,8 @@
 //! Messages inside others, seen in their place.
 
 use super::reading::body_of;
-use super::sample::sample;
+use super::sample::{Schema, sample};
+use pb_schema::MessageId;
 use pb_value::{Content, DynamicMessage, MapKey, MessageRef, Value};
 use std::alloc::{AllocError, Global};
 use std::test::Fail;
@@ -43,55 +44,57 @@ fn are_told(view: &MessageRef<'_>, rows: &[(u32, Option<i32>)]) -> bool {
     true
 }
 
-#[test]
-fn inner_messages(rt: HostRuntime) -> Result<(), Fail> {
-    let alloc = rt.alloc();
-    let schema = sample(alloc)?;
-    let message = schema.made(alloc, body_of(alloc, "3:h5 12:{u9=h6} 19:[h7,h8]")?)?;
-    let view = message.view();
-    assert!(rt;
-        are_told(&view, FIELDS)
-            && number_at(&view, 0) == Some(7)
-            && number_at(&view, 1) == Some(8)
-            && number_at(&view, 2).is_none()
-            && number_under(&view, MapKey::U32(9)) == Some(6)
-            && number_under(&view, MapKey::U32(8)).is_none()
-            && number_under(&view, MapKey::I32(9)).is_none()
-    );
-    Ok(())
+fn has_inner(view: &MessageRef<'_>) -> bool {
+    are_told(view, FIELDS)
+        && number_at(view, 0) == Some(7)
+        && number_at(view, 1) == Some(8)
+        && number_at(view, 2).is_none()
+        && number_under(view, MapKey::U32(9)) == Some(6)
+        && number_under(view, MapKey::U32(8)).is_none()
+        && number_under(view, MapKey::I32(9)).is_none()
 }
 
 /// The same calls of the message itself.
-#[test]
-fn inner_messages_of_a_message(rt: HostRuntime) -> Result<(), Fail> {
-    let alloc = rt.alloc();
-    let schema = sample(alloc)?;
+fn has_inner_itself(message: &DynamicMessage<'_>) -> bool {
+    number_in(message.message(3)) == Some(5)
+        && number_in(message.message_at(19, 1)) == Some(8)
+        && number_in(message.message_of(12, &MapKey::U32(9))) == Some(6)
+}
+
+fn are_inner_told(alloc: Global, schema: &Schema) -> Result<bool, Fail> {
     let message = schema.made(alloc, body_of(alloc, "3:h5 12:{u9=h6} 19:[h7,h8]")?)?;
-    let key = MapKey::U32(9);
-    assert!(rt;
-        number_in(message.message(3)) == Some(5)
-            && number_in(message.message_at(19, 1)) == Some(8)
-            && number_in(message.message_of(12, &key)) == Some(6)
-    );
+    Ok(has_inner(&message.view()) && has_inner_itself(&message))
+}
+
+#[test]
+fn inner_messages(rt: HostRuntime) -> Result<(), Fail> {
+    let schema = sample(rt.alloc())?;
+    let are_told = are_inner_told(rt.alloc(), &schema)?;
+    assert!(rt; are_told);
     Ok(())
+}
+
+fn is_whole(view: &MessageRef<'_>, message: &DynamicMessage<'_>, kind: MessageId) -> bool {
+    view.body() == message.body()
+        && view.message_type() == kind
+        && view.pool().messages().len() == 2
+        && view.which_oneof(0) == Some(8)
+        && view.has(2)
+        && !view.has(7)
+        && view.has(8)
+        && !view.has(99)
+}
+
+fn is_whole_told(alloc: Global, schema: &Schema) -> Result<bool, Fail> {
+    let message = schema.made(alloc, body_of(alloc, "2:tx 8:n1 99~v7")?)?;
+    Ok(is_whole(&message.view(), &message, schema.kind))
 }
 
 #[test]
 fn whole_view(rt: HostRuntime) -> Result<(), Fail> {
-    let alloc = rt.alloc();
-    let schema = sample(alloc)?;
-    let message = schema.made(alloc, body_of(alloc, "2:tx 8:n1 99~v7")?)?;
-    let view = message.view();
-    assert!(rt;
-        view.body() == message.body()
-            && view.message_type() == schema.kind
-            && view.pool().messages().len() == 2
-            && view.which_oneof(0) == Some(8)
-            && view.has(2)
-            && !view.has(7)
-            && view.has(8)
-            && !view.has(99)
-    );
+    let schema = sample(rt.alloc())?;
+    let is_told = is_whole_told(rt.alloc(), &schema)?;
+    assert!(rt; is_told);
     Ok(())
 }
 
@@ -124,12 +127,16 @@ const OUTER: &str =
 
 const INNER: &str = "MessageRef { type: a.b.T.N, body: Body { fields: {}, unknown: [] } }";
 
+fn are_shown(alloc: Global, schema: &Schema) -> Result<bool, Fail> {
+    let message = schema.made(alloc, body_of(alloc, "1:i5 20:n0")?)?;
+    Ok(is_shown(alloc, &message, OUTER)? && is_shown_inside(alloc, &message, 20, INNER)?)
+}
+
 /// A message prints the full name of its type, and its body.
 #[test]
 fn printed(rt: HostRuntime) -> Result<(), Fail> {
-    let alloc = rt.alloc();
-    let schema = sample(alloc)?;
-    let message = schema.made(alloc, body_of(alloc, "1:i5 20:n0")?)?;
-    assert!(rt; is_shown(alloc, &message, OUTER)? && is_shown_inside(alloc, &message, 20, INNER)?);
+    let schema = sample(rt.alloc())?;
+    let are_told = are_shown(rt.alloc(), &schema)?;
+    assert!(rt; are_told);
     Ok(())
 }
