@@ -136,7 +136,7 @@ module _ (pool : Types) (value : ℕ → List Record → Message) (levels : ℕ)
     datum : IsDatum pool k d
     depth : levels_in_entry d ≤ top
 
-  joined-good_entry :
+  pub joined-good_entry :
       (key value_kind : Kind) (room : ℕ) (s : Shape) (m : MessageId) (rs : List Record) → key_of s ≡ None → AllCount pool (an_entry key value_kind) room s (kind.Message m) rs
       → AllGood pool (a_message m.0) room (joined rs)
   joined-good_entry key value_kind room s m [] none h = tt
@@ -162,7 +162,7 @@ module _ (pool : Types) (value : ℕ → List Record → Message) (levels : ℕ)
   key_is_scalar (kind.Message m) h = absurd (cc)
   key_is_scalar key h = refl
 
-  entry-good : (key k : Kind) (below : ℕ) (rs : List Record) → below < levels → IsTrue (is_key_kind key) → AllGood pool (an_entry key k) below rs
+  pub entry-good : (key k : Kind) (below : ℕ) (rs : List Record) → below < levels → IsTrue (is_key_kind key) → AllGood pool (an_entry key k) below rs
       → IsEntry pool key k (suc below) (entry_key value key rs, entry_value value k rs)
   entry-good key k below rs l can h =
       let keys : AllCount pool (an_entry key k) below shape.Explicit key (fitting (key_field key) rs) =

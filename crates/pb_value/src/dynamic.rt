@@ -332,7 +332,8 @@ ghost use Rattle.std.specs.Prelude.{◌≡◌};
 ghost use Rattle.pb_value.specs.Data.{empty};
 ghost use Rattle.pb_value.specs.View.{body_view};
 
-fn empty_body(alloc: Global) -> Body
+/// The message without a field.
+pub fn empty_body(alloc: Global) -> Body
     ensures { body_view result ≡ empty }
 {
     Body {

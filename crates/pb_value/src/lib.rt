@@ -21,7 +21,7 @@ mod unknown;
 
 pub use body::{Body, Content, MapKey, Value};
 pub use change::{put_field, store, take_field};
-pub use dynamic::{DynamicMessage, default_value};
+pub use dynamic::{DynamicMessage, default_value, empty_body};
 pub use error::ValueError;
 pub use insert::insert_entry;
 pub use laws::{

@@ -7,4 +7,4 @@ returns-in-Err-Fault-records_at-clause-fault c =
     let bad = rw c.in-Err-Fault-records_at.field-0-is at c.in-Err-Fault-records_at.ensures.fault in
     from_front c.of_longer.result c.args.limits c.args.bytes.now c.records_at-2.new.steps.items
     c.max_bytes-max_bytes.result c.max_depth-2.result c.in-Err-Fault-records_at.fault (omega arith)
-    c.max_bytes-max_bytes.ensures c.max_depth-2.ensures bad c.of_longer.ensures
+    c.max_bytes-max_bytes.ensures.same c.max_depth-2.ensures.same bad c.of_longer.ensures

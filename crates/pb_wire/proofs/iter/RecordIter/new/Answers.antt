@@ -7,17 +7,17 @@ use Rattle.pb_wire.proofs.RecordIterStart.{start-min, text_given, fault_given}
 use Rattle.pb_wire.proofs.iter.RecordIter.new.Goals as goal
 
 pub returns-clause-begins : goal.returns-clause-begins
-returns-clause-begins c = rw (c.min-end.ensures, c.max_bytes.ensures, c.max_depth.ensures) (start-min c.args.limits c.args.bytes.now)
+returns-clause-begins c = rw (c.min-end.ensures, c.max_bytes.ensures.same, c.max_depth.ensures.same) (start-min c.args.limits c.args.bytes.now)
 
 pub returns-clause-text : goal.returns-clause-text
 returns-clause-text c = λ rs t.
     let given = text_given c.args.limits c.args.bytes.now rs t in
-    (given.0, given.1, rw (c.min-end.ensures, c.max_bytes.ensures, c.max_depth.ensures, start-min c.args.limits c.args.bytes.now) given.2)
+    (given.0, given.1, rw (c.min-end.ensures, c.max_bytes.ensures.same, c.max_depth.ensures.same, start-min c.args.limits c.args.bytes.now) given.2)
 
 pub returns-clause-fault : goal.returns-clause-fault
 returns-clause-fault c = λ f h.
     let given = fault_given c.args.limits c.args.bytes.now f h in
-    (given.0, given.1, rw (c.min-end.ensures, c.max_bytes.ensures, c.max_depth.ensures, start-min c.args.limits c.args.bytes.now) given.2)
+    (given.0, given.1, rw (c.min-end.ensures, c.max_bytes.ensures.same, c.max_depth.ensures.same, start-min c.args.limits c.args.bytes.now) given.2)
 
 pub returns-clause-told : goal.returns-clause-told
 returns-clause-told c =

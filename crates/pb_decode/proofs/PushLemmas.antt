@@ -1,0 +1,241 @@
+-- A decoder between pieces: more bytes, too many bytes, and the end.
+use Rattle.std.proofs.Common.{◌≡◌, ◌≢◌, ℕ, ◌+◌, ◌-◌, ◌<◌, ◌≤◌, ◌^◌, List, [], ◌∷◌, ◌++◌, take, drop, length, refl, sym, ap, ◌∙◌, subst, arith, append_assoc, length-append, inl, inr, ◌⊎◌, Option, Some, None, option_map}
+use Rattle.std.proofs.lemmas.List.{length-take-le}
+use Rattle.std.proofs.Math.Seq.{take-append-add}
+use Rattle.pb_wire.specs.Record.{Record}
+use Rattle.pb_wire.specs.Ranges.{AreBytes}
+use Rattle.pb_wire.specs.declared.fault.Cause.{Cause}
+use Rattle.pb_wire.specs.declared.fault.Cause.TheVariants as cause
+use Rattle.pb_wire.specs.declared.fault.Cause.TheVariants.{Truncated, InputTooLarge}
+use Rattle.pb_wire.specs.Fault.{Fault, fault, Place, text_at}
+use Rattle.pb_wire.specs.Schema.{Open, records, context_of}
+use Rattle.pb_wire.specs.Grammar.{Whole, Bad, HasFault, beyond}
+use Rattle.pb_wire.specs.Exact.{IsOver, longer, IsCut}
+use Rattle.pb_wire.specs.Limits.{Bounds}
+use Rattle.pb_schema.specs.Types.{Types}
+use Rattle.pb_schema.specs.Context.{Context, a_message as in_message, schema_of}
+use Rattle.pb_value.specs.Data.{Message, empty}
+use Rattle.pb_value.proofs.MessageSteps.{value_of_nothing}
+use Rattle.pb_value.specs.Derives.{Text}
+use Rattle.pb_value.specs.WellFormed.{IsBody, IsWellFormed}
+use Rattle.pb_schema.specs.Rules.{IsPool}
+use Rattle.pb_decode.proofs.WellLemmas.{message_good}
+use Rattle.pb_decode.specs.declared.step.Step.{Step}
+use Rattle.pb_decode.specs.declared.step.Step.TheVariants as step
+use Rattle.pb_decode.specs.Frames.{Part, message_part, entry_part, group_part, Frame, Scope, EndsAt, Held, at_top, inside, IsSameForm, Stands}
+use Rattle.pb_decode.specs.After.{After}
+use Rattle.pb_decode.specs.Reader.{State, here, path_here, Reads, IsReading, Stops, over, cut, Told}
+use Rattle.pb_decode.specs.Push.{Took, IsSettled}
+use Rattle.pb_decode.proofs.AfterLemmas.{after_longer, after_record, at_record}
+use Rattle.pb_decode.proofs.FrameLemmas.{stands_at_start}
+use Rattle.pb_decode.proofs.FinishLemmas.{text_read}
+
+-- WHAT IS HELD is the rest of the bytes
+pub held_rest :
+    (pool : Types) (m depth levels : ℕ) (base : List Record) (p0 : Place) (s : State) (n : ℕ) (l z : List ℕ) → z ≡ drop n l
+    → Reads pool m depth levels base p0 s (drop n l) × Stops pool m depth p0 s (drop n l) → Reads pool m depth levels base p0 s z × Stops pool m depth p0 s z
+held_rest pool m depth levels base p0 s n l z is h = subst (λ (x : List ℕ). Reads pool m depth levels base p0 s x × Stops pool m depth p0 s x) (sym is) h
+
+pub held_all :
+    (pool : Types) (m depth levels : ℕ) (base : List Record) (p0 : Place) (s : State) (n : ℕ) (l : List ℕ) → n ≡ 0
+    → Reads pool m depth levels base p0 s (drop n l) × Stops pool m depth p0 s (drop n l) → Reads pool m depth levels base p0 s l × Stops pool m depth p0 s l
+held_all pool m depth levels base p0 s n l none h = subst (λ (x : ℕ). Reads pool m depth levels base p0 s (drop x l) × Stops pool m depth p0 s (drop x l)) none h
+
+-- MORE BYTES behind those that are held
+pub reads_more :
+    {pool : Types} {m depth levels : ℕ} {base : List Record} {p0 : Place} (s : State) (held more : List ℕ) → AreBytes more
+    → Reads pool m depth levels base p0 s held → Reads pool m depth levels base (longer p0 more) s (held ++ more)
+reads_more s held more bytes h = after_longer more bytes h
+
+pub reading_more : {pool : Types} (s : State) (held more : List ℕ) → AreBytes more → s.at + length held + length more < 2 ^ 31 → IsReading pool s held → IsReading pool s (held ++ more)
+reading_more s held more bytes small h = record {
+  m = h.m;
+  depth = h.depth;
+  levels = h.levels;
+  base = h.base;
+  p0 = longer h.p0 more;
+  reads = reads_more s held more bytes h.reads;
+  small = let e = length-append held more in omega (arith, e, small);
+}
+
+pub no_bytes : (l : List ℕ) → length l ≡ 0 → l ≡ []
+no_bytes [] none = refl
+no_bytes (x ∷ l) none = absurd (omega (arith, none))
+
+-- some text is read
+pub took_reading : {pool : Types} {m : ℕ} {limits : Bounds} {b : List ℕ} (s : State) (held : List ℕ) → limits.bytes < 2 ^ 31 → Took pool m limits b s held → IsReading pool s held
+took_reading {m = m} {limits = limits} {b = b} s held most h = record {
+  m = m;
+  depth = limits.depth;
+  levels = 101;
+  base = [];
+  p0 = text_at b;
+  reads = h.reads;
+  small = let at = h.at in let size = h.size in omega (arith, at, size, most);
+}
+
+-- NOTHING IS OPEN BUT THE TOP: the part is the message, and no end is known
+pub is_top :
+    {pool : Types} {m depth levels : ℕ} {base : List Record} {p0 : Place} {frames : List Frame} {now : Part} {o : Open Context} {room inner : ℕ} {path : _} {p : Place} {earlier : List Record}
+    → frames ≡ [] → Held pool m depth levels base p0 frames now o room inner path p earlier → (v : Message) × (now ≡ message_part m v)
+is_top none (at_top {now = now} v form is_open is_room is_inner is_path is_place is_base goes_on) = by_part now form
+  where
+    by_part : {k : ℕ} (part : Part) → IsSameForm part (message_part k v) → (w : Message) × (part ≡ message_part k w)
+    by_part (message_part j w) same = (w, ap (λ (z : ℕ). message_part z w) same)
+    by_part (entry_part key k x d) same = absurd same
+    by_part (group_part us) same = absurd same
+is_top none (inside up h begun form can deep completes is_path counts ends goes_on takes) = absurd (cc)
+
+-- no end is known of the whole text
+top_known : {pool : Types} {m depth levels : ℕ} {b : List ℕ} {now : Part} {scope : Scope} {q : Place} → Stands pool m depth levels [] (text_at b) [] now scope q → q.known ≡ None
+top_known {pool} {m} {depth} {levels} {b} {now} {q = q} s = from_held (length s.behind.front) s.held s.behind.moves.known
+  where
+    from_held :
+        {o : Open Context} {room inner : ℕ} {path : _} {p : Place} {earlier : List Record} (n : ℕ) → Held pool m depth levels [] (text_at b) [] now o room inner path p earlier
+        → q.known ≡ option_map (λ (e : ℕ). e - n) p.known → q.known ≡ None
+    from_held n (at_top v form is_open is_room is_inner is_path is_place is_base goes_on) known = known ∙ ap (λ (z : Place). option_map (λ (e : ℕ). e - n) z.known) is_place
+
+-- at the top, and behind a whole record
+pub stands_top :
+    {pool : Types} {m depth levels : ℕ} {b : List ℕ} (s : State) (held : List ℕ) → s.frames ≡ [] → s.next ≡ step.Tag → Reads pool m depth levels [] (text_at b) s held
+    → Stands pool m depth levels [] (text_at b) [] s.now s.scope (here s held)
+stands_top {pool} {m} {depth} {levels} {b} s held none tag h =
+    at_record
+    (subst (λ (z : Step). After pool m depth levels [] (text_at b) [] z s.now s.scope (here s held)) tag
+    (subst (λ (z : List Frame). After pool m depth levels [] (text_at b) z s.next s.now s.scope (here s held)) none h))
+
+pub top_over : {pool : Types} {m depth levels : ℕ} {b : List ℕ} (s : State) (held : List ℕ) → s.frames ≡ [] → s.next ≡ step.Tag → Reads pool m depth levels [] (text_at b) s held → IsOver (here s held) → held ≡ []
+top_over s held none tag h (inl ended) = let open_end = top_known (stands_top s held none tag h) in absurd (cc)
+top_over s held none tag h (inr ended) = ended.1
+
+-- a whole text, at the end of its bytes
+pub text_there :
+    {pool : Types} {m : ℕ} {limits : Bounds} (b : List ℕ) (s : State) (held : List ℕ) → length b ≤ limits.bytes → s.frames ≡ [] → s.next ≡ step.Tag → held ≡ []
+    → Reads pool m limits.depth 101 [] (text_at b) s held → (v : Message) × (s.now ≡ message_part m v) × Text pool m limits b v
+text_there {pool} {m} {limits} b s held size none tag empty h = from_top (is_top refl stands.held)
+  where
+    stands : Stands pool m limits.depth 101 [] (text_at b) [] s.now s.scope (here s held)
+    stands = stands_top s held none tag h
+
+    from_top : (v : Message) × (s.now ≡ message_part m v) → (v : Message) × (s.now ≡ message_part m v) × Text pool m limits b v
+    from_top (v, is) = (v, is, text_read pool m limits b m v s.scope (here s held) size (subst (λ (z : Part). Stands pool m limits.depth 101 [] (text_at b) [] z s.scope (here s held)) is stands) empty)
+
+-- TOO MANY BYTES: those within the limit are read first
+beyond_settled : (n : ℕ) (f : Fault) → (IsCut f → ⊥) → f ≡ beyond n f
+beyond_settled n f not_cut = by_cause f.byte f.path f.cause not_cut
+  where
+    by_cause : (byte : ℕ) (path : _) (c : Cause) → (c ≡ Truncated → ⊥) → fault byte path c ≡ beyond n (fault byte path c)
+    by_cause byte path cause.Truncated never = absurd (never refl)
+    by_cause byte path cause.PastEnd never = refl
+    by_cause byte path cause.VarintTooLong never = refl
+    by_cause byte path cause.TagTooLarge never = refl
+    by_cause byte path cause.NumberZero never = refl
+    by_cause byte path cause.BadType never = refl
+    by_cause byte path cause.StrayEnd never = refl
+    by_cause byte path cause.WrongEnd never = refl
+    by_cause byte path cause.LengthTooLarge never = refl
+    by_cause byte path cause.BadText never = refl
+    by_cause byte path cause.TooDeep never = refl
+    by_cause byte path cause.InputTooLarge never = refl
+
+-- the bytes within the limit of a longer text
+pub front_within : (b piece : List ℕ) (max room : ℕ) → length b + room ≡ max → room ≤ length piece → b ++ take room piece ≡ take max (b ++ piece)
+front_within b piece max room is enough = sym (take-append-add b piece room) ∙ ap (λ (n : ℕ). take n (b ++ piece)) is
+
+pub front_bad :
+    {pool : Types} {m : ℕ} {limits : Bounds} (b piece : List ℕ) (room : ℕ) (f : Fault) → length b + room ≡ limits.bytes → room < length piece → Told pool m limits.depth (longer (text_at b) (take room piece)) f
+    → IsSettled pool m limits (b ++ piece) f
+front_bad {pool} {m} {limits} b piece room f is more h = record {
+  fault =
+      HasFault.bad_front (let e = length-append b piece in omega (arith, e, is, more))
+      (subst (λ (z : List ℕ). Bad (schema_of pool) (records (in_message m)) limits.depth (text_at z) f) (front_within b piece limits.bytes room is (omega (arith, more))) h.bad) (beyond_settled limits.bytes f h.settled);
+  settled = h.settled;
+}
+
+pub whole_bad :
+    {pool : Types} {m : ℕ} {limits : Bounds} (b piece : List ℕ) (f : Fault) → length b + length piece ≤ limits.bytes → Told pool m limits.depth (longer (text_at b) piece) f → IsSettled pool m limits (b ++ piece) f
+whole_bad b piece f size h = record { fault = HasFault.bad (let e = length-append b piece in omega (arith, e, size)) h.bad; settled = h.settled }
+
+pub too_large :
+    {pool : Types} {m : ℕ} {limits : Bounds} (b piece : List ℕ) (room : ℕ) (s : State) (held : List ℕ) → length b + room ≡ limits.bytes → room < length piece
+    → Reads pool m limits.depth 101 [] (longer (text_at b) (take room piece)) s held → Stops pool m limits.depth (longer (text_at b) (take room piece)) s held
+    → IsSettled pool m limits (b ++ piece) (fault limits.bytes [] InputTooLarge)
+too_large {pool} {m} {limits} b piece room s held is more h (cut bad) = record {
+  fault =
+      HasFault.bad_front (let e = length-append b piece in omega (arith, e, is, more))
+      (subst (λ (z : List ℕ). Bad (schema_of pool) (records (in_message m)) limits.depth (text_at z) (fault (s.at + length held) (path_here s) Truncated)) (front_within b piece limits.bytes room is (omega (arith, more))) bad) refl;
+  settled = λ e. absurd (cc);
+}
+too_large {pool} {m} {limits} b piece room s held is more h (over none tag ended) =
+    let size : length (b ++ take room piece) ≤ limits.bytes = (let e = length-append b (take room piece) in let t = length-take-le room piece (omega (arith, more)) in omega (arith, e, t, is)) in
+    let (v, form, text) = text_there (b ++ take room piece) s held size none tag (top_over s held none tag h ended) h in
+    record {
+      fault =
+          HasFault.too_large (let e = length-append b piece in omega (arith, e, is, more))
+          (subst (Whole (schema_of pool) (in_message m) limits.depth) (front_within b piece limits.bytes room is (omega (arith, more))) (text.derives.records, text.derives.spelled, text.derives.sound)) refl;
+      settled = λ e. absurd (cc);
+    }
+
+-- THE END
+pub body_there :
+    {pool : Types} {m : ℕ} {limits : Bounds} (b : List ℕ) (s : State) (held : List ℕ) (k : ℕ) (w : Message) → s.frames ≡ [] → s.next ≡ step.Tag → length held ≡ 0 → s.now ≡ message_part k w
+    → Took pool m limits b s held → Text pool m limits b w
+body_there {pool} {m} {limits} b s held k w none tag empty is h =
+    let (v, form, text) = text_there b s held h.size none tag (no_bytes held empty) h.reads in
+    let same : v ≡ w = (let e : message_part m v ≡ message_part k w = sym form ∙ is in cc) in
+    subst (Text pool m limits b) same text
+
+-- what is begun is cut short
+pub cut_there :
+    {pool : Types} {m : ℕ} {limits : Bounds} (b : List ℕ) (s : State) (held : List ℕ) → (s.frames ≡ [] → s.next ≡ step.Tag → held ≡ [] → ⊥) → Took pool m limits b s held
+    → HasFault (schema_of pool) (in_message m) limits b (fault (s.at + length held) (path_here s) Truncated)
+cut_there {pool} {m} {limits} b s held begun h = by_stops h.stops
+  where
+    by_stops : Stops pool m limits.depth (text_at b) s held → HasFault (schema_of pool) (in_message m) limits b (fault (s.at + length held) (path_here s) Truncated)
+    by_stops (cut bad) = HasFault.bad h.size bad
+    by_stops (over none tag ended) = absurd (begun none tag (top_over s held none tag h.reads ended))
+
+-- THE START
+pub took_start :
+    (pool : Types) (m : ℕ) (limits : Bounds) (s : State) (held : List ℕ) → s.at ≡ 0 → s.next ≡ step.Tag → s.frames ≡ [] → s.now ≡ message_part m empty → s.scope.room ≡ limits.depth → s.scope.end ≡ None → ((k : ℕ) → s.scope.counts k ≡ 0)
+    → held ≡ [] → limits.depth ≤ 100 → m < length pool.messages → Took pool m limits [] s held
+took_start pool m limits s held at tag none part room end counts empty_held deep within = record {
+  reads =
+      subst (λ (z : Part). After pool m limits.depth 101 [] (text_at []) s.frames s.next z s.scope (here s held)) (sym part)
+      (subst (λ (z : Step). After pool m limits.depth 101 [] (text_at []) s.frames z (message_part m empty) s.scope (here s held)) (sym tag)
+      (subst (λ (z : List Frame). After pool m limits.depth 101 [] (text_at []) z step.Tag (message_part m empty) s.scope (here s held)) (sym none)
+      (subst (λ (z : Place). After pool m limits.depth 101 [] (text_at []) [] step.Tag (message_part m empty) s.scope z) placed
+      (after_record
+      (stands_at_start pool m limits.depth 101 [] (text_at []) s.scope empty (omega (arith, deep)) (sym (value_of_nothing pool 101 m)) within (tt, tt, tt, tt) (omega arith) tt room counts (subst (EndsAt (text_at [])) (sym end) refl))))));
+  stops = over none tag (inr (ap (option_map (λ (e : ℕ). e - s.at)) end, empty_held));
+  at = let e = ap length empty_held in omega (arith, e, at);
+  size = omega arith;
+}
+  where
+    placed : text_at [] ≡ here s held
+    placed =
+        ap (λ (z : ℕ). record { at = z; known = None; rest = [] }) (sym at) ∙ ap (λ (z : Option ℕ). record { at = s.at; known = option_map (λ (e : ℕ). e - s.at) z; rest = [] }) (sym end)
+        ∙ ap (λ (z : List ℕ). record { at = s.at; known = option_map (λ (e : ℕ). e - s.at) s.scope.end; rest = z }) (sym empty_held)
+
+-- THE MESSAGE that is read whole is well formed
+top_inner :
+    {pool : Types} {m depth levels : ℕ} {base : List Record} {p0 : Place} {frames : List Frame} {now : Part} {o : Open Context} {room inner : ℕ} {path : _} {p : Place} {earlier : List Record}
+    → frames ≡ [] → Held pool m depth levels base p0 frames now o room inner path p earlier → inner ≡ levels
+top_inner none (at_top v form is_open is_room is_inner is_path is_place is_base goes_on) = is_inner
+top_inner none (inside up h begun form can deep completes is_path counts ends goes_on takes) = absurd (cc)
+
+pub well_formed_there :
+    {pool : Types} {m depth : ℕ} {b : List ℕ} (s : State) (held : List ℕ) (k : ℕ) (w : Message) → IsPool pool → s.frames ≡ [] → s.next ≡ step.Tag → s.now ≡ message_part k w → Reads pool m depth 101 [] (text_at b) s held
+    → IsWellFormed pool m w
+well_formed_there {pool} {m} {depth} {b} s held k w ok none tag is h =
+    let stands : Stands pool m depth 101 [] (text_at b) [] (message_part k w) s.scope (here s held) = subst (λ (z : Part). Stands pool m depth 101 [] (text_at b) [] z s.scope (here s held)) is (stands_top s held none tag h) in
+    let good = message_good ok k w stands in
+    let (v, form) = is_top refl stands.held in
+    let same : k ≡ m = (let e : message_part k w ≡ message_part m v = form in cc) in
+    let inner = top_inner refl stands.held in
+    let low = good.1 in
+    record { parts = subst (λ (z : ℕ). IsBody pool z w) same good.0; depth = omega (arith, low, inner) }
+
+-- and no entry or group is
+pub top_message : {pool : Types} {m : ℕ} {limits : Bounds} (b : List ℕ) (s : State) (held : List ℕ) → s.frames ≡ [] → s.next ≡ step.Tag → Took pool m limits b s held → (v : Message) × (s.now ≡ message_part m v)
+top_message b s held none tag h = is_top refl (stands_top s held none tag h.reads).held

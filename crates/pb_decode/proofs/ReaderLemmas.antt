@@ -1,0 +1,126 @@
+-- A reader that takes bytes, and one that has some text read.
+use Rattle.std.proofs.Common.{◌≡◌, ◌≢◌, ℕ, ◌+◌, ◌-◌, ◌≤◌, ◌<◌, List, [], ◌∷◌, ◌++◌, take, drop, length, refl, sym, ap, ◌∙◌, subst, arith, length-drop, drop-drop, Option, Some, None, option_map}
+use Rattle.std.proofs.lemmas.List.{take_all}
+use Rattle.pb_wire.specs.Record.{Record}
+use Rattle.pb_wire.specs.declared.fault.Cause.{Cause}
+use Rattle.pb_wire.specs.declared.fault.Cause.TheVariants.{Truncated}
+use Rattle.pb_wire.specs.declared.fault.PathStep.{PathStep}
+use Rattle.pb_wire.specs.Fault.{Fault, fault, Place, input_end}
+use Rattle.pb_wire.specs.Spell.{Body}
+use Rattle.pb_decode.specs.declared.error.DecodeError.{DecodeError}
+use Rattle.pb_decode.specs.declared.error.DecodeError.TheVariants as error
+use Rattle.pb_decode.specs.declared.number.Number.{Number}
+use Rattle.pb_decode.specs.declared.number.Number.TheVariants as number
+use Rattle.pb_decode.specs.Number.{number_view}
+use Rattle.pb_wire.specs.Token.{passed}
+use Rattle.pb_wire.specs.Schema.{records}
+use Rattle.pb_wire.specs.Grammar.{Bad}
+use Rattle.pb_schema.specs.Types.{Types}
+use Rattle.pb_schema.specs.Context.{a_message as in_message, schema_of}
+use Rattle.pb_decode.specs.declared.step.Step.{Step}
+use Rattle.pb_decode.specs.declared.step.Step.TheVariants as step
+use Rattle.pb_decode.specs.Frames.{Scope, path_of, next_step}
+use Rattle.pb_decode.specs.Numbers.{NumberFault, Follows}
+use Rattle.pb_wire.proofs.Tokens.{ends_some}
+use Rattle.pb_decode.specs.After.{Tag, tag, awaited, After}
+use Rattle.pb_decode.specs.declared.purpose.Purpose.{Purpose}
+use Rattle.pb_decode.specs.Reader.{State, left_of, here, own_step, path_here, Reads, Stops, cut, Taken, Told, StandsAt, IfFault}
+use Rattle.pb_decode.proofs.AfterLemmas.{after_record, number_told}
+
+-- a slice from here on
+pub slice_from : (n : ℕ) (l : List ℕ) → take (length l - n) (drop n l) ≡ drop n l
+slice_from n l = take_all (length l - n) (drop n l) (let e = length-drop n l in omega (arith, e))
+
+pub drop_more : (n m : ℕ) (l : List ℕ) → drop m (drop n l) ≡ drop (n + m) l
+drop_more n m l = drop-drop m n l
+
+pub reads_slice :
+    (pool : Types) (m depth levels : ℕ) (base : List Record) (p0 : Place) (s : State) (n : ℕ) (l : List ℕ) → Reads pool m depth levels base p0 s (drop n l)
+    → Reads pool m depth levels base p0 s (take (length l - n) (drop n l))
+reads_slice pool m depth levels base p0 s n l h = subst (Reads pool m depth levels base p0 s) (sym (slice_from n l)) h
+
+pub taken_none :
+    (pool : Types) (m depth levels : ℕ) (base : List Record) (p0 : Place) (s : State) (n : ℕ) (l : List ℕ) (o : Option ℕ) → o ≡ None
+    → Taken pool m depth levels base p0 s (take (length l - n) (drop n l)) o → Reads pool m depth levels base p0 s (drop n l) × Stops pool m depth p0 s (drop n l)
+taken_none pool m depth levels base p0 s n l o none h =
+    subst (λ (z : List ℕ). Taken pool m depth levels base p0 s z None) (slice_from n l) (subst (Taken pool m depth levels base p0 s (take (length l - n) (drop n l))) none h)
+
+pub taken_some :
+    (pool : Types) (m depth levels : ℕ) (base : List Record) (p0 : Place) (s : State) (n size : ℕ) (l : List ℕ) (o : Option ℕ) → o ≡ Some size
+    → Taken pool m depth levels base p0 s (take (length l - n) (drop n l)) o → Reads pool m depth levels base p0 s (drop (n + size) l)
+taken_some pool m depth levels base p0 s n size l o some h =
+    let there : Reads pool m depth levels base p0 s (drop size (take (length l - n) (drop n l))) = subst (Taken pool m depth levels base p0 s (take (length l - n) (drop n l))) some h in
+    subst (Reads pool m depth levels base p0 s) (ap (drop size) (slice_from n l) ∙ drop_more n size l) there
+
+-- behind so many bytes
+left_passed : (e : Option ℕ) (at size : ℕ) → option_map (λ (z : ℕ). z - size) (option_map (λ (z : ℕ). z - at) e) ≡ option_map (λ (z : ℕ). z - (at + size)) e
+left_passed None at size = refl
+left_passed (Some e) at size = let same : (e - at) - size ≡ e - (at + size) = omega arith in ap (λ (z : ℕ). Some z) same
+
+-- where one stands behind so many of the bytes
+pub passed_here : (s t : State) (size : ℕ) (rest : List ℕ) → t.at ≡ s.at + size → t.scope.end ≡ s.scope.end → passed (here s rest) size ≡ here t (drop size rest)
+passed_here s t size rest at end =
+    ap (λ (z : Option ℕ). record { at = s.at + size; known = z; rest = drop size rest }) (left_passed s.scope.end s.at size)
+    ∙ ap (λ (z : ℕ). record { at = z; known = option_map (λ (e : ℕ). e - z) s.scope.end; rest = drop size rest }) (sym at)
+    ∙ ap (λ (z : Option ℕ). record { at = t.at; known = option_map (λ (e : ℕ). e - t.at) z; rest = drop size rest }) (sym end)
+
+-- the tag's number
+ap_number : (t : Tag) (n w : ℕ) (p : Purpose) → Some (tag n w p) ≡ Some t → n ≡ t.number
+ap_number t n w p is = cc
+
+-- the step of a record whose value or length comes next
+own_awaited : (next : Step) (t : Tag) (scope : Scope) → awaited next ≡ Some t → own_step next scope ≡ next_step t.number scope ∷ []
+own_awaited step.Tag t scope is = absurd (cc)
+own_awaited (step.Varint n p) t scope is = let same : n ≡ t.number = ap_number t n 0 p is in ap (λ (z : ℕ). next_step z scope ∷ []) same
+own_awaited (step.I64 n p) t scope is = let same : n ≡ t.number = ap_number t n 1 p is in ap (λ (z : ℕ). next_step z scope ∷ []) same
+own_awaited (step.I32 n p) t scope is = let same : n ≡ t.number = ap_number t n 5 p is in ap (λ (z : ℕ). next_step z scope ∷ []) same
+own_awaited (step.Length n p) t scope is = let same : n ≡ t.number = ap_number t n 2 p is in ap (λ (z : ℕ). next_step z scope ∷ []) same
+own_awaited (step.Payload n p size) t scope is = absurd (cc)
+own_awaited (step.Elements n k outer) t scope is = absurd (cc)
+
+-- a fault that ends what is begun behind a tag
+path_awaited : (s : State) (t : Tag) → awaited s.next ≡ Some t → path_of s.frames ++ next_step t.number s.scope ∷ [] ≡ path_here s
+path_awaited s t is = ap (λ (z : List PathStep). path_of s.frames ++ z) (sym (own_awaited s.next t s.scope is))
+
+pub number_bad :
+    {pool : Types} {m depth levels : ℕ} {base : List Record} {p0 : Place} (s : State) (rest : List ℕ) (t : Tag) (byte : ℕ) (c : Cause) → Reads pool m depth levels base p0 s rest → awaited s.next ≡ Some t
+    → NumberFault t.type (here s rest) (fault byte [] c) → Bad (schema_of pool) (records (in_message m)) depth p0 (fault byte (path_here s) c)
+number_bad {pool} {m} {depth} {p0 = p0} s rest t byte c begun is bad =
+    subst (λ (z : List PathStep). Bad (schema_of pool) (records (in_message m)) depth p0 (fault byte z c)) (path_awaited s t is) (number_told t (fault byte [] c) begun is bad)
+
+pub number_short :
+    {pool : Types} {m depth levels : ℕ} {base : List Record} {p0 : Place} (s : State) (rest : List ℕ) (t : Tag) → Reads pool m depth levels base p0 s rest → awaited s.next ≡ Some t
+    → NumberFault t.type (here s rest) (fault (input_end (here s rest)) [] Truncated) → Stops pool m depth p0 s rest
+number_short s rest t begun is bad = cut (number_bad s rest t (s.at + length rest) Truncated begun is bad)
+
+pub number_refused :
+    {pool : Types} {m depth levels : ℕ} {base : List Record} {p0 : Place} (s : State) (rest : List ℕ) (t : Tag) (c : Cause) → Reads pool m depth levels base p0 s rest → awaited s.next ≡ Some t → c ≢ Truncated
+    → NumberFault t.type (here s rest) (fault s.at [] c) → Told pool m depth p0 (fault s.at (path_here s) c)
+number_refused s rest t c begun is not_cut bad = record { bad = number_bad s rest t s.at c begun is bad; settled = not_cut }
+
+-- BEHIND A WHOLE RECORD a tag comes next
+pub stands_reads :
+    {pool : Types} {m depth levels : ℕ} {base : List Record} {p0 : Place} (s t : State) (size : ℕ) (rest : List ℕ) → t.at ≡ s.at + size → t.scope.end ≡ s.scope.end → t.next ≡ step.Tag
+    → StandsAt pool m depth levels base p0 t (passed (here s rest) size) → Reads pool m depth levels base p0 t (drop size rest)
+stands_reads {pool} {m} {depth} {levels} {base} {p0} s t size rest at end tag h =
+    subst (λ (z : Step). After pool m depth levels base p0 t.frames z t.now t.scope (here t (drop size rest))) (sym tag)
+    (after_record (subst (StandsAt pool m depth levels base p0 t) (passed_here s t size rest at end) h))
+
+-- a number has a byte at least
+pub number_some : (a : Number) (s : List ℕ) → Body 0 (number_view a) s → 0 < length s
+number_some (number.Varint n) s (small, v) = ends_some s v.ends
+number_some (number.I64 n) s (small, is) = let e = ap length is in omega (arith, e)
+number_some (number.I32 n) s (small, is) = let e = ap length is in omega (arith, e)
+
+pub size_some : (a : Number) (p : Place) (size : ℕ) → Follows p (number_view a) (passed p size) → 0 < size
+size_some a p size (front, spelled, moves) = let some = number_some a front spelled in let at = moves.at in omega (arith, some, at)
+
+-- what is told of an error
+pub if_fault_weaker : (e : DecodeError) (P Q : Fault → Type 0) → ((f : Fault) → P f → Q f) → IfFault e P → IfFault e Q
+if_fault_weaker (error.Fault byte path c) P Q h is = h (fault byte path.items c) is
+if_fault_weaker error.Memory P Q h is = tt
+if_fault_weaker error.Device P Q h is = is
+if_fault_weaker error.Finished P Q h is = is
+
+pub fault_told : {pool : Types} {m depth : ℕ} {p0 : Place} (e : DecodeError) (f : Fault) → IfFault e (λ g. g ≡ f) → Told pool m depth p0 f → IfFault e (Told pool m depth p0)
+fault_told {pool} {m} {depth} {p0} e f is told = if_fault_weaker e (λ g. g ≡ f) (Told pool m depth p0) (λ g same. subst (Told pool m depth p0) (sym same) told) is

@@ -1,0 +1,27 @@
+-- What a reader may do wherever it has some text read.
+use Rattle.std.proofs.Common.{◌≡◌, ℕ, ◌+◌, ◌≤◌, List, length, subst, arith, Some}
+use Rattle.pb_wire.specs.Record.{Record}
+use Rattle.pb_wire.specs.Fault.{Place}
+use Rattle.pb_schema.specs.Types.{Types}
+use Rattle.pb_schema.specs.Rules.{IsPool}
+use Rattle.pb_schema.specs.declared.types.Kind.{Kind}
+use Rattle.pb_decode.specs.declared.step.Step.{Step}
+use Rattle.pb_decode.specs.declared.step.Step.TheVariants as step
+use Rattle.pb_decode.specs.Frames.{Part, CanHold, Frame, Scope}
+use Rattle.pb_decode.specs.After.{Tag, awaited, After}
+use Rattle.pb_decode.proofs.AfterLemmas.{at_record, at_tag, at_payload}
+use Rattle.pb_decode.proofs.WellLemmas.{can_hold}
+use Rattle.pb_decode.proofs.FewRecords.{counts_fit}
+use Rattle.pb_decode.proofs.ListHolds.{list_can_hold}
+
+-- THE PART MAY BE CHANGED
+pub awaited_can :
+    {pool : Types} {m depth levels : ℕ} {base : List Record} {p0 : Place} {frames : List Frame} {scope : Scope} {next : Step} {now : Part} {u : Place} (t : Tag) → IsPool pool
+    → After pool m depth levels base p0 frames next now scope u → awaited next ≡ Some t → CanHold pool now
+awaited_can {now = now} t ok a is = can_hold ok now (at_tag t a is).stands
+
+-- AN OCCURRENCE MORE CAN BE COUNTED: there are no more than bytes
+pub awaited_few :
+    {pool : Types} {m depth levels : ℕ} {base : List Record} {p0 : Place} {frames : List Frame} {scope : Scope} {next : Step} {now : Part} {u : Place} (t : Tag) (k : ℕ)
+    → After pool m depth levels base p0 frames next now scope u → awaited next ≡ Some t → scope.counts k ≤ u.at
+awaited_few t k a is = let behind = at_tag t a is in let few = counts_fit k behind.stands in let moves = behind.has.tag.2.at in omega (arith, few, moves)

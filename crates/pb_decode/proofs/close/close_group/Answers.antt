@@ -1,0 +1,12 @@
+-- The group goes among the unknown records, which is what closing it makes of the part that holds it.
+use Rattle.std.proofs.Common.{sym, subst}
+use Rattle.pb_decode.specs.Frames.{Scope, Stands}
+use Rattle.pb_decode.specs.PartView.{part_view}
+use Rattle.pb_decode.proofs.GroupLemmas.{group_closes}
+use Rattle.pb_decode.proofs.close.close_group.Goals as goal
+
+pub returns-clause-stands : goal.returns-clause-stands
+returns-clause-stands c =
+    λ pool m depth levels base p0 q w frames scope s end.
+    subst (λ (z : Scope). Stands pool m depth levels base p0 frames (part_view c.put_group.new.outer) z w) (sym c.in_ok-scope.ensures.more)
+    (group_closes (part_view c.put_group.new.outer) s end c.in_ok-put_group.ensures.put)

@@ -1,0 +1,15 @@
+-- The element goes to the end of the list.
+use Rattle.std.proofs.Common.{subst, sym}
+use Rattle.pb_decode.specs.declared.step.Step.{Step}
+use Rattle.pb_decode.specs.declared.step.Step.TheVariants.{Elements}
+use Rattle.pb_decode.specs.PartView.{part_view, scope_view}
+use Rattle.pb_decode.specs.After.{After}
+use Rattle.pb_decode.specs.Reader.{state_view, frames_view, here}
+use Rattle.pb_decode.proofs.element.pass_element.Goals as goal
+
+pub returns-clause-goes_on : goal.returns-clause-goes_on
+returns-clause-goes_on c =
+    λ m depth levels base p0 w rest outer begun is type follows.
+    subst (λ (z : Step). After c.args.pool.now m depth levels base p0 (frames_view c.args.reader.frames.items) z (part_view c.put_element.new.part) (scope_view c.args.reader.scope) w) (sym is)
+    (c.in_ok-put_element.ensures.stands m depth levels outer base p0 (here (state_view c.args.reader) rest) w (frames_view c.args.reader.frames.items) (scope_view c.args.reader.scope)
+    (subst (λ (z : Step). After c.args.pool.now m depth levels base p0 (frames_view c.args.reader.frames.items) z (part_view c.args.reader.part) (scope_view c.args.reader.scope) (here (state_view c.args.reader) rest)) is begun) type follows)

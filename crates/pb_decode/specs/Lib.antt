@@ -1,0 +1,13 @@
+pub mod Occurrences
+pub mod Opened
+pub mod Frames
+pub mod PartView
+pub mod Number
+pub mod Purposes
+pub mod After
+pub mod Numbers
+pub mod Openings
+pub mod PayloadValue
+pub mod Closing
+pub mod Reader
+pub mod Push

@@ -1,0 +1,66 @@
+-- What a number makes of the part that it stands in.
+use Rattle.std.specs.Prelude.{◌≡◌, ◌≢◌, ◌≤◌, length, ℕ, [], ◌∷◌, ◌++◌, Option, Some, None}
+use Rattle.pb_wire.specs.Record.{Payload, wire_type}
+use Rattle.pb_wire.specs.Spell.{Body}
+use Rattle.pb_wire.specs.Fault.{Fault, fault, Place, input_end, Leads, VarintFault, FixedFault}
+use Rattle.pb_schema.specs.declared.types.Kind.{Kind}
+use Rattle.pb_schema.specs.Types.{Types, message_fields}
+use Rattle.pb_schema.specs.Scalar.{Scalar, int32, int64, uint32, uint64, boolean, text}
+use Rattle.pb_value.specs.Data.{Datum, scalar, one, body, fields_of, unknown_of}
+use Rattle.pb_value.specs.Change.{stored_at, push_at, with_fields}
+use Rattle.pb_decode.specs.declared.purpose.Purpose.{Purpose}
+use Rattle.pb_decode.specs.declared.purpose.Purpose.TheVariants as purpose
+use Rattle.pb_wire.specs.Token.{passed}
+use Rattle.pb_wire.specs.declared.fault.Cause.TheVariants.{Truncated}
+use Rattle.pb_decode.specs.declared.number_token.NumberToken.{NumberToken}
+use Rattle.pb_decode.specs.declared.number_token.NumberToken.TheVariants as token
+use Rattle.pb_decode.specs.Number.{number_view}
+use Rattle.pb_decode.specs.Frames.{Part, message_part, entry_part, group_part}
+
+-- the kind of the scalar that a record gives
+abbrev pub scalar_kind : Purpose → Option Kind
+scalar_kind (purpose.One k s) = Some k
+scalar_kind (purpose.Element k) = Some k
+scalar_kind (purpose.Key k) = Some k
+scalar_kind (purpose.EntryValue k) = Some k
+scalar_kind _ = None
+
+-- a value as a map's key
+abbrev pub key_in : Datum → Option Scalar
+key_in (scalar (int32 z)) = Some (int32 z)
+key_in (scalar (int64 z)) = Some (int64 z)
+key_in (scalar (uint32 n)) = Some (uint32 n)
+key_in (scalar (uint64 n)) = Some (uint64 n)
+key_in (scalar (boolean b)) = Some (boolean b)
+key_in (scalar (text s)) = Some (text s)
+key_in _ = None
+
+-- a value into the part that its record stands in
+abbrev pub put_datum : Types → ℕ → Purpose → Part → Datum → Part
+put_datum pool n (purpose.One k s) (message_part m v) d = message_part m (with_fields v (stored_at (message_fields pool m) s n (one d) (fields_of v)))
+put_datum pool n (purpose.Element k) (message_part m v) d = message_part m (with_fields v (push_at n d (fields_of v)))
+put_datum pool n (purpose.Key k) (entry_part key kd x e) d = entry_part key kd (key_in d) e
+put_datum pool n (purpose.EntryValue k) (entry_part key kd x e) d = entry_part key kd x (Some d)
+put_datum pool n _ p d = p
+
+-- the bytes of a number lead from u to w
+abbrev pub Follows : Place → Payload → Place → Type 0
+Follows u p w = Leads (Body 0 p) u w
+
+-- the number that begins here, behind a tag of this wire type, has this fault
+pub data NumberFault (w : ℕ) (u : Place) (g : Fault) : Type 0 where
+  a_varint : w ≡ 0 → VarintFault u g → NumberFault w u g
+  eight_bytes : w ≡ 1 → FixedFault 8 u g → NumberFault w u g
+  four_bytes : w ≡ 5 → FixedFault 4 u g → NumberFault w u g
+
+-- an unknown record into the part that it stands in; those of an entry are dropped
+abbrev pub put_record : ℕ → Payload → Part → Part
+put_record n p (message_part m v) = message_part m (body (fields_of v) (unknown_of v ++ record { number = n; payload = p } ∷ []))
+put_record n p (entry_part key kd x d) = entry_part key kd x d
+put_record n p (group_part us) = group_part (us ++ record { number = n; payload = p } ∷ [])
+
+-- the number at p, behind a tag of this wire type, is this one and takes so many bytes; or the input ends inside it; or it has another fault
+abbrev pub TellsNumber : ℕ → Place → NumberToken → Type 0
+TellsNumber w p (token.Whole a size) = (wire_type (number_view a) ≡ w) × (size ≤ length p.rest) × Follows p (number_view a) (passed p size)
+TellsNumber w p token.Short = NumberFault w p (fault (input_end p) [] Truncated)
+TellsNumber w p (token.Fault c) = (c ≢ Truncated) × NumberFault w p (fault p.at [] c)

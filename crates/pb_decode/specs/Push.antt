@@ -1,0 +1,26 @@
+-- What a decoder has received.
+use Rattle.std.specs.Prelude.{◌≡◌, ℕ, ◌+◌, ◌≤◌, List, [], length}
+use Rattle.pb_wire.specs.Fault.{Fault, text_at}
+use Rattle.pb_wire.specs.Grammar.{HasFault}
+use Rattle.pb_wire.specs.Exact.{IsCut}
+use Rattle.pb_wire.specs.Limits.{Bounds}
+use Rattle.pb_schema.specs.Types.{Types}
+use Rattle.pb_schema.specs.Context.{a_message, schema_of}
+use Rattle.pb_decode.specs.Reader.{State, Reads, Stops}
+
+-- A reader has read the text b, but for the bytes that it holds, of which no more can be taken.
+pub record Took (pool : Types) (m : ℕ) (limits : Bounds) (b : List ℕ) (s : State) (held : List ℕ) : Type 0 where
+  pub reads : Reads pool m limits.depth 101 [] (text_at b) s held
+  pub stops : Stops pool m limits.depth (text_at b) s held
+  pub at : s.at + length held ≡ length b
+  pub size : length b ≤ limits.bytes
+
+-- some text is read
+pub record TookSome (pool : Types) (m : ℕ) (limits : Bounds) (s : State) (held : List ℕ) : Type 0 where
+  pub text : List ℕ
+  pub took : Took pool m limits text s held
+
+-- a fault of b that no more bytes change
+pub record IsSettled (pool : Types) (m : ℕ) (limits : Bounds) (b : List ℕ) (f : Fault) : Type 0 where
+  pub fault : HasFault (schema_of pool) (a_message m) limits b f
+  pub settled : IsCut f → ⊥

@@ -1,0 +1,39 @@
+//! What comes behind a whole length where nothing is opened.
+
+ghost use Rattle.std.specs.Prelude.{◌≡◌, ◌+◌, ℕ, List};
+ghost use Rattle.pb_wire.specs.Record.{Record};
+ghost use Rattle.pb_wire.specs.Fault.{Place, HasLength};
+ghost use Rattle.pb_wire.specs.Grammar.{payload_at};
+ghost use Rattle.pb_schema.specs.Types.{Types};
+ghost use Rattle.pb_decode.specs.declared.purpose.Purpose.TheVariants as purposes;
+ghost use Rattle.pb_decode.specs.declared.step.Step.TheVariants as steps;
+ghost use Rattle.pb_decode.specs.Frames.{Part as PartView, Frame as FrameView, Scope as ScopeView};
+ghost use Rattle.pb_decode.specs.PartView.{scope_view};
+ghost use Rattle.pb_decode.specs.After.{After};
+
+use crate::part::Scope;
+use crate::purpose::Purpose;
+use crate::step::Step;
+use pb_schema::Kind;
+
+/// Behind the length of a packed list its elements come next, up to its end.
+pub(crate) fn begin_list(scope: Scope, number: u32, kind: Kind, end: u32) -> (Step, Scope)
+    ensures { (pool : Types) (m depth levels n : ℕ) (base : List Record) (p0 u t : Place) (frames : List FrameView) (now : PartView) → After pool m depth levels base p0 frames (steps.Length number (purposes.Packed kind)) now (scope_view scope) u → HasLength u n t → end ≡ t.at + n
+        → After pool m depth levels base p0 frames result.0 now (scope_view result.1) (payload_at t n) }
+{
+    let step = Step::Elements(number, kind, scope.end);
+    let inside = Scope {
+        room: scope.room,
+        end: Some(end),
+        occurrences: scope.occurrences,
+    };
+    (step, inside)
+}
+
+/// Behind a length whose record opens nothing its payload comes next.
+pub(crate) fn begin_payload(number: u32, purpose: Purpose, size: u32) -> Step
+    ensures { (pool : Types) (m depth levels : ℕ) (base : List Record) (p0 u t : Place) (frames : List FrameView) (scope : ScopeView) (now : PartView) → After pool m depth levels base p0 frames (steps.Length number purpose) now scope u → HasLength u size t
+        → After pool m depth levels base p0 frames result now scope t }
+{
+    Step::Payload(number, purpose, size)
+}

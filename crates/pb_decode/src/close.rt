@@ -1,0 +1,169 @@
+//! Entries and groups that are whole go where they belong.
+
+ghost use Rattle.std.specs.Prelude.{◌≡◌, ◌<◌, ◌-◌, ◌^◌, ℕ, List, ◌∷◌, Some, IsTrue, option_map, OnOk, IfOk, IfErr};
+ghost use Rattle.pb_wire.specs.Fault.{Place, HasTag};
+ghost use Rattle.pb_wire.specs.Record.{Record};
+ghost use Rattle.pb_wire.specs.Unknown.{records_of};
+ghost use Rattle.pb_schema.specs.Types.{Types};
+ghost use Rattle.pb_schema.specs.Kinds.{default_of, is_key_kind};
+ghost use Rattle.pb_value.specs.View.{body_view, key_view, value_view};
+ghost use Rattle.pb_value.specs.Value.{missing};
+ghost use Rattle.pb_value.specs.Data.{empty};
+ghost use Rattle.pb_decode.specs.Frames.{put_entry as put_entry_view, put_group as put_group_view, entry_part, group_part, Frame as FrameView, Scope as ScopeView, one_more_in, up_to, Stands};
+ghost use Rattle.pb_decode.specs.Closing.{HasRoomFor};
+ghost use Rattle.pb_decode.specs.Occurrences.{counts_view};
+ghost use Rattle.pb_decode.specs.PartView.{part_view, frame_view, scope_view};
+ghost use Rattle.pb_decode.specs.declared.error.DecodeError.TheVariants.{Memory};
+
+use crate::error::DecodeError;
+use crate::part::{Frame, Part, Scope, Slot};
+use crate::put::one_more;
+use crate::put_unknown::put_unknown;
+use pb_schema::Kind;
+use pb_value::{Body, MapKey, Value, default_value, insert_entry};
+use pb_wire::Unknown;
+use std::alloc::Global;
+use std::collections::BTreeMap;
+
+/// The key that an entry without one has.
+fn default_key(alloc: Global, kind: Kind) -> MapKey
+    requires { IsTrue (is_key_kind kind) }
+    ensures { key_view result ≡ default_of kind }
+{
+    match kind {
+        Kind::Int32 | Kind::Sint32 | Kind::Sfixed32 => MapKey::I32(0),
+        Kind::Int64 | Kind::Sint64 | Kind::Sfixed64 => MapKey::I64(0),
+        Kind::Uint32 | Kind::Fixed32 => MapKey::U32(0),
+        Kind::Uint64 | Kind::Fixed64 => MapKey::U64(0),
+        Kind::Bool => MapKey::Bool(false),
+        Kind::Text | Kind::Float | Kind::Double | Kind::Bytes | Kind::Enum(_) | Kind::Message(_) =>
+            MapKey::Text(String::new(alloc)),
+    }
+}
+
+/// A message of no fields.
+fn empty_body(alloc: Global) -> Body
+    ensures { body_view result ≡ empty }
+{
+    Body {
+        fields: BTreeMap::new(alloc),
+        unknown: Vec::new(alloc),
+    }
+}
+
+/// The value that an entry without one has: the default of its kind, or the empty message.
+fn missing_value(alloc: Global, kind: Kind) -> Value
+    ensures { value_view result ≡ missing (λ _ _. empty) kind }
+{
+    match default_value(alloc, kind) {
+        Some(value) => value,
+        None => Value::Message(empty_body(alloc)),
+    }
+}
+
+/// Puts an entry into the map of the part that holds it.
+pub(crate) fn put_entry(
+    alloc: Global,
+    slot: Slot,
+    outer: &mut Part,
+    key_kind: Kind,
+    value_kind: Kind,
+    key: Option<MapKey>,
+    value: Option<Value>,
+) -> Result<(), DecodeError>
+    requires key { IsTrue (is_key_kind key_kind) }
+    requires fits { HasRoomFor slot (part_view outer.old) key_kind (option_map key_view key) }
+    ensures put { OnOk result (part_view outer.new ≡ put_entry_view slot (part_view outer.old) key_kind value_kind (option_map key_view key) (option_map value_view value)) }
+    ensures memory { IfErr result (λ e. e ≡ Memory) }
+{
+    let key = match key {
+        Some(key) => key,
+        None => default_key(alloc, key_kind),
+    };
+    let value = match value {
+        Some(value) => value,
+        None => missing_value(alloc, value_kind),
+    };
+    match outer {
+        Part::Message(_, body) => match slot {
+            Slot::Map(number) => {
+                drop(insert_entry(alloc, body, number, key, value)?);
+                Ok(())
+            }
+            Slot::One(_, _) => Ok(()),
+            Slot::List(_) => Ok(()),
+            Slot::Entry => Ok(()),
+            Slot::Unknown(_) => Ok(()),
+        },
+        Part::Entry {
+            key_kind: _,
+            value_kind: _,
+            key: _,
+            value: _,
+        } => Ok(()),
+        Part::Group(_) => Ok(()),
+    }
+}
+
+/// Puts a group among the unknown records of the part that holds it.
+pub(crate) fn put_group(
+    slot: Slot,
+    outer: &mut Part,
+    records: Vec<(u32, Unknown)>,
+) -> Result<(), DecodeError>
+    ensures put { OnOk result (part_view outer.new ≡ put_group_view slot (part_view outer.old) (records_of records.items)) }
+    ensures memory { IfErr result (λ e. e ≡ Memory) }
+{
+    match slot {
+        Slot::Unknown(number) => {
+            put_unknown(outer, number, Unknown::Group(records))?;
+            Ok(())
+        }
+        Slot::One(_, _) => Ok(()),
+        Slot::List(_) => Ok(()),
+        Slot::Map(_) => Ok(()),
+        Slot::Entry => Ok(()),
+    }
+}
+
+/// An entry whose known end is reached goes into its map, and one stands in what holds it.
+pub(crate) fn close_entry(
+    alloc: Global,
+    frame: Frame,
+    key_kind: Kind,
+    value_kind: Kind,
+    key: Option<MapKey>,
+    value: Option<Value>,
+) -> Result<(Part, Scope), DecodeError>
+    requires key { IsTrue (is_key_kind key_kind) }
+    requires fits { HasRoomFor frame.slot (part_view frame.part) key_kind (option_map key_view key) }
+    requires few { counts_view frame.scope.occurrences frame.number < 2 ^ 32 - 1 }
+    ensures scope { IfOk result (λ r. scope_view r.1 ≡ one_more_in frame.number (scope_view frame.scope)) }
+    ensures stands { (pool : Types) (m depth levels : ℕ) (base : List Record) (p0 q : Place) (frames : List FrameView) (scope : ScopeView) → Stands pool m depth levels base p0 (frame_view frame ∷ frames) (entry_part key_kind value_kind (option_map key_view key) (option_map value_view value)) scope q
+        → q.known ≡ Some 0 → IfOk result (λ r. Stands pool m depth levels base p0 frames (part_view r.0) (scope_view r.1) (up_to frame.scope.end q)) }
+    ensures memory { IfErr result (λ e. e ≡ Memory) }
+{
+    let slot = frame.slot;
+    let mut outer = frame.part;
+    put_entry(alloc, slot, &mut outer, key_kind, value_kind, key, value)?;
+    let scope = one_more(frame.scope, frame.number)?;
+    Ok((outer, scope))
+}
+
+/// A group whose end tag is there goes among the unknown records of what holds it, and one stands in that.
+pub(crate) fn close_group(
+    frame: Frame,
+    records: Vec<(u32, Unknown)>,
+) -> Result<(Part, Scope), DecodeError>
+    requires few { counts_view frame.scope.occurrences frame.number < 2 ^ 32 - 1 }
+    ensures scope { IfOk result (λ r. scope_view r.1 ≡ one_more_in frame.number (scope_view frame.scope)) }
+    ensures stands { (pool : Types) (m depth levels : ℕ) (base : List Record) (p0 q w : Place) (frames : List FrameView) (scope : ScopeView) → Stands pool m depth levels base p0 (frame_view frame ∷ frames) (group_part (records_of records.items)) scope q
+        → HasTag q frame.number 4 w → IfOk result (λ r. Stands pool m depth levels base p0 frames (part_view r.0) (scope_view r.1) w) }
+    ensures memory { IfErr result (λ e. e ≡ Memory) }
+{
+    let slot = frame.slot;
+    let mut outer = frame.part;
+    put_group(slot, &mut outer, records)?;
+    let scope = one_more(frame.scope, frame.number)?;
+    Ok((outer, scope))
+}

@@ -1,0 +1,87 @@
+//! Elements of a packed list.
+
+ghost use Rattle.std.specs.Prelude.{◌≡◌, ◌≢◌, ◌+◌, ◌<◌, ◌^◌, ℕ, List, Option, Some, IfOk, IfErr};
+ghost use Rattle.pb_wire.specs.Record.{Record, wire_type as type_of};
+ghost use Rattle.pb_wire.specs.Fault.{Place};
+ghost use Rattle.pb_schema.specs.Rules.{IsPool};
+ghost use Rattle.pb_schema.specs.Kinds.{wire_type_of};
+ghost use Rattle.pb_decode.specs.declared.step.Step.TheVariants.{Elements};
+ghost use Rattle.pb_decode.specs.declared.error.DecodeError.TheVariants.{Memory};
+ghost use Rattle.pb_decode.specs.Frames.{CanHold};
+ghost use Rattle.pb_decode.specs.Number.{number_view};
+ghost use Rattle.pb_decode.specs.Numbers.{Follows};
+ghost use Rattle.pb_decode.specs.PartView.{part_view};
+ghost use Rattle.pb_decode.specs.Reader.{state_view, left_of, here, Reads, IsReading, Taken, Passes, IfFault, Told, AfterAt};
+
+use crate::error::DecodeError;
+use crate::fault::fault_at;
+use crate::number::Number;
+use crate::number_token::NumberToken;
+use crate::put_number::put_element;
+use crate::reader::{Reader, left, number_at};
+use pb_schema::{Kind, Pool};
+use std::alloc::Global;
+
+/// Puts an element of so many bytes at the end of its list, behind which the reader then stands.
+fn pass_element(
+    alloc: Global,
+    pool: &Pool,
+    reader: Reader,
+    number: u32,
+    kind: Kind,
+    value: Number,
+    size: usize,
+) -> Result<Reader, DecodeError>
+    requires can { CanHold pool.now (part_view reader.part) }
+    requires fits { reader.at + size < 2 ^ 32 }
+    ensures at { IfOk result (λ r. (r.at ≡ reader.at + size) × (r.step ≡ reader.step)) }
+    ensures same_end { IfOk result (λ r. r.scope.end ≡ reader.scope.end) }
+    ensures goes_on { (m depth levels : ℕ) (base : List Record) (p0 w : Place) (rest : List ℕ) (outer : Option ℕ) → Reads pool.now m depth levels base p0 (state_view reader) rest → reader.step ≡ Elements number kind outer
+        → type_of (number_view value) ≡ wire_type_of kind → Follows (here (state_view reader) rest) (number_view value) w → IfOk result (λ r. AfterAt pool.now m depth levels base p0 (state_view r) w) }
+    ensures memory { IfErr result (λ e. e ≡ Memory) }
+{
+    let Reader {
+        at,
+        part,
+        scope,
+        frames,
+        step,
+    } = reader;
+    let mut part = part;
+    put_element(alloc, pool, &mut part, number, kind, value)?;
+    Ok(Reader {
+        at: at + size as u32,
+        part,
+        scope,
+        frames,
+        step,
+    })
+}
+
+/// Takes an element of a packed list.
+pub(crate) fn take_element(
+    alloc: Global,
+    pool: &Pool,
+    reader: Reader,
+    number: u32,
+    kind: Kind,
+    outer: Option<u32>,
+    bytes: &[u8],
+) -> Result<(Reader, Option<usize>), DecodeError>
+    requires rules { IsPool pool.now }
+    requires reading { IsReading pool.now (state_view reader) bytes.now }
+    requires step { reader.step ≡ Elements number kind outer }
+    requires goes_on { left_of (state_view reader) ≢ Some 0 }
+    ensures passes { IfOk result (λ r. Passes (state_view reader) bytes.now (state_view r.0) r.1) }
+    ensures taken { (m depth levels : ℕ) (base : List Record) (p0 : Place) → Reads pool.now m depth levels base p0 (state_view reader) bytes.now → IfOk result (λ r. Taken pool.now m depth levels base p0 (state_view r.0) bytes.now r.1) }
+    ensures refused { (m depth levels : ℕ) (base : List Record) (p0 : Place) → Reads pool.now m depth levels base p0 (state_view reader) bytes.now → IfErr result (λ e. IfFault e (Told pool.now m depth p0)) }
+{
+    match number_at(kind.wire_type(), bytes, left(&reader)) {
+        NumberToken::Whole(value, size) => {
+            let next = pass_element(alloc, pool, reader, number, kind, value, size)?;
+            Ok((next, Some(size)))
+        }
+        NumberToken::Short => Ok((reader, None)),
+        NumberToken::Fault(cause) => Err(fault_at(alloc, &reader, reader.at, cause)),
+    }
+}

@@ -1,0 +1,58 @@
+//! Why bytes are refused.
+
+ghost use Rattle.std.specs.Prelude.{◌≡◌};
+
+use pb_value::ValueError;
+use pb_wire::{Cause, PathStep};
+use std::alloc::{AllocError, AllocFailed};
+use thiserror::Error;
+
+/// Why no message was decoded.
+#[derive(Debug, Drop, Error)]
+pub enum DecodeError {
+    /// The bytes are no message of the type: where they fail, the steps to the open records outermost first, and why.
+    #[error("{cause} at byte {byte}")]
+    Fault {
+        byte: u64,
+        path: Vec<PathStep>,
+        cause: Cause,
+    },
+    #[error("out of memory")]
+    Memory,
+    #[error("the input failed")]
+    Device,
+    /// The decoder refused bytes before, or gave its message.
+    #[error("the decoder is finished")]
+    Finished,
+}
+
+impl From<AllocError> for DecodeError {
+    ghost use Rattle.pb_decode.specs.declared.error.DecodeError.TheVariants.{Memory};
+
+    ghost from_gives = { λ _ e. e ≡ Memory };
+
+    fn from(_e: AllocError) -> DecodeError {
+        DecodeError::Memory
+    }
+}
+
+impl<T: Drop> From<AllocFailed<T>> for DecodeError {
+    ghost use Rattle.pb_decode.specs.declared.error.DecodeError.TheVariants.{Memory};
+
+    ghost from_gives = { λ _ e. e ≡ Memory };
+
+    fn from(_e: AllocFailed<T>) -> DecodeError {
+        DecodeError::Memory
+    }
+}
+
+// The changes that a decoder makes fail for want of memory alone.
+impl From<ValueError> for DecodeError {
+    ghost use Rattle.pb_decode.specs.declared.error.DecodeError.TheVariants.{Memory};
+
+    ghost from_gives = { λ _ e. e ≡ Memory };
+
+    fn from(_e: ValueError) -> DecodeError {
+        DecodeError::Memory
+    }
+}
