@@ -27,6 +27,7 @@ use Rattle.pb_decode.specs.declared.purpose.Purpose.{Purpose}
 use Rattle.pb_decode.specs.Numbers.{NumberFault, a_varint, eight_bytes, four_bytes}
 use Rattle.pb_decode.specs.Opened.{below}
 use Rattle.pb_decode.specs.Purposes.{Means, part_context}
+use Rattle.pb_decode.specs.PayloadValue.{IsBytesPurpose}
 use Rattle.pb_decode.specs.After.{Tag, tag, awaited, IsRoomFor, end_of_part, part_scope, Elements, with_elements, Underway, nothing, a_tag, a_length, some_elements, After}
 use Rattle.pb_decode.proofs.OpenedLemmas.{begins_at_tag}
 use Rattle.pb_decode.proofs.FrameLemmas.{told, ends_longer, ends_along, stands_longer}
@@ -40,7 +41,7 @@ underway_longer :
     {pool : Types} {room : ℕ} {v now : Part} {q u : Place} {next : Step} (more : List ℕ) → Underway pool room v q next now u → Underway pool room v (longer q more) next now (longer u more)
 underway_longer more (nothing is same place) = nothing is same (ap (λ (z : Place). longer z more) place)
 underway_longer more (a_tag t is has means room_for same) = a_tag t is (tag_longer more has) means room_for same
-underway_longer more (a_length is has l means room_for same) = a_length is (tag_longer more has) (length_longer more l) means room_for same
+underway_longer more (a_length is has l means room_for bytes same) = a_length is (tag_longer more has) (length_longer more l) means room_for bytes same
 underway_longer more (some_elements is has l means h was same) = some_elements is (tag_longer more has) (length_longer more l) means (elements_longer more h) was same
 
 pub after_longer :
@@ -69,7 +70,7 @@ at_record {pool} {m} {depth} {levels} {base} {p0} {frames} {scope} {now} {u} a =
     from_underway : (v : Part) (q : Place) → Stands pool m depth levels base p0 frames v scope q → Underway pool scope.room v q step.Tag now u → Stands pool m depth levels base p0 frames now scope u
     from_underway v q s (nothing at same place) = subst (λ (z : Part). Stands pool m depth levels base p0 frames z scope u) (sym same) (subst (λ (z : Place). Stands pool m depth levels base p0 frames v scope z) (sym place) s)
     from_underway v q s (a_tag t at has means room_for same) = absurd (cc)
-    from_underway v q s (a_length at has l means room_for same) = absurd (cc)
+    from_underway v q s (a_length at has l means room_for bytes same) = absurd (cc)
     from_underway v q s (some_elements at has l means h was same) = absurd (cc)
 
 -- A TAG whose value or length comes next
@@ -128,7 +129,7 @@ at_tag {pool} {m} {depth} {levels} {base} {p0} {frames} {scope} {next} {now} {u}
   where
     from_underway : (v : Part) (q : Place) → Stands pool m depth levels base p0 frames v scope q → Underway pool scope.room v q next now u → AtTag pool m depth levels base p0 frames now scope t u
     from_underway v q s (nothing at same place) = absurd (cc)
-    from_underway v q s (a_length at has l means room_for same) = absurd (cc)
+    from_underway v q s (a_length at has l means room_for bytes same) = absurd (cc)
     from_underway v q s (some_elements at has l means h was same) = absurd (cc)
     from_underway v q s (a_tag t2 at has means room_for same) =
         let alike : t2 ≡ t = cc in
@@ -149,6 +150,7 @@ pub record AtPayload (pool : Types) (m depth levels : ℕ) (base : List Record) 
   pub length_is : HasLength length_at n u
   pub means : Means pool (part_context now) k 2 meant
   pub room_for : IsRoomFor scope.room meant
+  pub for_bytes : IsBytesPurpose meant
 
 pub at_payload :
     {pool : Types} {m depth levels : ℕ} {base : List Record} {p0 : Place} {frames : List Frame} {scope : Scope} {now : Part} {u : Place} (k : ℕ) (meant : Purpose) (n : ℕ)
@@ -159,7 +161,7 @@ at_payload {pool} {m} {depth} {levels} {base} {p0} {frames} {scope} {now} {u} k 
     from_underway v q s (nothing at same place) = absurd (cc)
     from_underway v q s (a_tag t at has means room_for same) = absurd (cc)
     from_underway v q s (some_elements at has l means h was same) = absurd (cc)
-    from_underway v q s (a_length {r = r} {k = k2} {n = n2} {p = p} at has l means room_for same) =
+    from_underway v q s (a_length {r = r} {k = k2} {n = n2} {p = p} at has l means room_for bytes same) =
         let own : k2 ≡ k = cc in
         let size : n2 ≡ n = cc in
         let alike : p ≡ meant = cc in
@@ -173,19 +175,20 @@ at_payload {pool} {m} {depth} {levels} {base} {p0} {frames} {scope} {now} {u} k 
               subst (λ (z : Purpose). Means pool (part_context now) k 2 z) alike
               (subst (λ (z : ℕ). Means pool (part_context now) z 2 p) own (subst (λ (z : Part). Means pool (part_context z) k2 2 p) (sym same) means));
           room_for = subst (IsRoomFor scope.room) alike room_for;
+          for_bytes = subst IsBytesPurpose alike bytes;
         }
 
 -- A LENGTH: its payload comes next
 pub after_length :
     {pool : Types} {m depth levels : ℕ} {base : List Record} {p0 : Place} {frames : List Frame} {scope : Scope} {next : Step} {now : Part} {u t : Place} (k : ℕ) (meant : Purpose) (n : ℕ)
-    → After pool m depth levels base p0 frames next now scope u → awaited next ≡ Some (tag k 2 meant) → HasLength u n t → After pool m depth levels base p0 frames (step.Payload k meant n) now scope t
-after_length {scope = scope} {now = now} k meant n a is l =
+    → After pool m depth levels base p0 frames next now scope u → awaited next ≡ Some (tag k 2 meant) → IsBytesPurpose meant → HasLength u n t → After pool m depth levels base p0 frames (step.Payload k meant n) now scope t
+after_length {scope = scope} {now = now} k meant n a is bytes l =
     let behind = at_tag (tag k 2 meant) a is in
     record {
       before = now;
       place = behind.place;
       stands = behind.stands;
-      begun = a_length refl behind.has l behind.means behind.room_for refl;
+      begun = a_length refl behind.has l behind.means behind.room_for bytes refl;
       ends = ends_along l.length_is.0 scope.end l.length_is.2 a.ends;
     }
 

@@ -7,6 +7,7 @@ pub mod OpenLemmas
 pub mod FinishLemmas
 pub mod PackedLemmas
 pub mod OpenMore
+pub mod OpenSteps
 pub mod StepsOfParts
 pub mod EntrySteps
 pub mod PackedNumbers
@@ -29,3 +30,6 @@ pub mod PathLemmas
 pub mod ElementLemmas
 pub mod PushLemmas
 pub mod DecodeLemmas
+pub mod PayloadTaken
+pub mod EndedLemmas
+pub mod LengthSteps

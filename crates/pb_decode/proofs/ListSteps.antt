@@ -134,7 +134,7 @@ at_list {pool} {m} {depth} {levels} {base} {p0} {frames} {scope} {now} {u} k kd 
     from_underway : (v : Part) (q : Place) → Stands pool m depth levels base p0 frames v (record scope { end = outer }) q → Underway pool scope.room v q (step.Elements k kd outer) now u → AtList pool m depth levels base p0 frames now scope k kd outer u
     from_underway v q s (nothing at same place) = absurd (cc)
     from_underway v q s (a_tag t at has means room_for same) = absurd (cc)
-    from_underway v q s (a_length at has l means room_for same) = absurd (cc)
+    from_underway v q s (a_length at has l means room_for bytes same) = absurd (cc)
     from_underway v q s (some_elements {r = r} {t = t} {k = k2} {n = n} {m = j} {kd = kd2} {w = w} {front = front} at has l means h was same) =
         let own : k2 ≡ k = cc in
         let kind_is : kd2 ≡ kd = cc in

@@ -18,6 +18,7 @@ use Rattle.pb_decode.specs.declared.step.Step.{Step}
 use Rattle.pb_decode.specs.declared.step.Step.TheVariants as step
 use Rattle.pb_decode.specs.Frames.{Part, message_part, Scope, Frame, EndsAt, Stands}
 use Rattle.pb_decode.specs.Purposes.{Means, part_context}
+use Rattle.pb_decode.specs.PayloadValue.{IsBytesPurpose}
 
 -- a tag's number, its wire type and what its record is for
 pub record Tag : Type 0 where
@@ -88,7 +89,7 @@ pub data Underway (pool : Types) (room : ℕ) (v : Part) (q : Place) : Step → 
       → awaited next ≡ Some t → HasTag q t.number t.type u → Means pool (part_context v) t.number t.type t.meant → IsRoomFor room t.meant → now ≡ v → Underway pool room v q next now u
   a_length :
       {next : Step} {now : Part} {r u : Place} {k n : ℕ} {p : Purpose}
-      → next ≡ step.Payload k p n → HasTag q k 2 r → HasLength r n u → Means pool (part_context v) k 2 p → IsRoomFor room p → now ≡ v → Underway pool room v q next now u
+      → next ≡ step.Payload k p n → HasTag q k 2 r → HasLength r n u → Means pool (part_context v) k 2 p → IsRoomFor room p → IsBytesPurpose p → now ≡ v → Underway pool room v q next now u
   some_elements :
       {next : Step} {now : Part} {r t u : Place} {k n m : ℕ} {outer : Option ℕ} {kd : Kind} {w : Message} {front : List ℕ}
       → next ≡ step.Elements k kd outer → HasTag q k 2 r → HasLength r n t → Means pool (part_context v) k 2 (purpose.Packed kd) → Elements (element_of kd) (payload_at t n) u front

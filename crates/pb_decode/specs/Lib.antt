@@ -10,4 +10,5 @@ pub mod Openings
 pub mod PayloadValue
 pub mod Closing
 pub mod Reader
+pub mod Ended
 pub mod Push

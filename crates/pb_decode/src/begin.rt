@@ -1,6 +1,6 @@
 //! What comes behind a whole length where nothing is opened.
 
-ghost use Rattle.std.specs.Prelude.{◌≡◌, ◌+◌, ℕ, List};
+ghost use Rattle.std.specs.Prelude.{◌≡◌, ◌+◌, ℕ, List, Some};
 ghost use Rattle.pb_wire.specs.Record.{Record};
 ghost use Rattle.pb_wire.specs.Fault.{Place, HasLength};
 ghost use Rattle.pb_wire.specs.Grammar.{payload_at};
@@ -9,6 +9,7 @@ ghost use Rattle.pb_decode.specs.declared.purpose.Purpose.TheVariants as purpose
 ghost use Rattle.pb_decode.specs.declared.step.Step.TheVariants as steps;
 ghost use Rattle.pb_decode.specs.Frames.{Part as PartView, Frame as FrameView, Scope as ScopeView};
 ghost use Rattle.pb_decode.specs.PartView.{scope_view};
+ghost use Rattle.pb_decode.specs.PayloadValue.{IsBytesPurpose};
 ghost use Rattle.pb_decode.specs.After.{After};
 
 use crate::part::Scope;
@@ -18,7 +19,9 @@ use pb_schema::Kind;
 
 /// Behind the length of a packed list its elements come next, up to its end.
 pub(crate) fn begin_list(scope: Scope, number: u32, kind: Kind, end: u32) -> (Step, Scope)
-    ensures { (pool : Types) (m depth levels n : ℕ) (base : List Record) (p0 u t : Place) (frames : List FrameView) (now : PartView) → After pool m depth levels base p0 frames (steps.Length number (purposes.Packed kind)) now (scope_view scope) u → HasLength u n t → end ≡ t.at + n
+    ensures step { result.0 ≡ steps.Elements number kind scope.end }
+    ensures end { result.1.end ≡ Some end }
+    ensures after { (pool : Types) (m depth levels n : ℕ) (base : List Record) (p0 u t : Place) (frames : List FrameView) (now : PartView) → After pool m depth levels base p0 frames (steps.Length number (purposes.Packed kind)) now (scope_view scope) u → HasLength u n t → end ≡ t.at + n
         → After pool m depth levels base p0 frames result.0 now (scope_view result.1) (payload_at t n) }
 {
     let step = Step::Elements(number, kind, scope.end);
@@ -32,7 +35,8 @@ pub(crate) fn begin_list(scope: Scope, number: u32, kind: Kind, end: u32) -> (St
 
 /// Behind a length whose record opens nothing its payload comes next.
 pub(crate) fn begin_payload(number: u32, purpose: Purpose, size: u32) -> Step
-    ensures { (pool : Types) (m depth levels : ℕ) (base : List Record) (p0 u t : Place) (frames : List FrameView) (scope : ScopeView) (now : PartView) → After pool m depth levels base p0 frames (steps.Length number purpose) now scope u → HasLength u size t
+    ensures step { result ≡ steps.Payload number purpose size }
+    ensures after { (pool : Types) (m depth levels : ℕ) (base : List Record) (p0 u t : Place) (frames : List FrameView) (scope : ScopeView) (now : PartView) → IsBytesPurpose purpose → After pool m depth levels base p0 frames (steps.Length number purpose) now scope u → HasLength u size t
         → After pool m depth levels base p0 frames result now scope t }
 {
     Step::Payload(number, purpose, size)

@@ -21,6 +21,7 @@ use pb_wire::{Cause, Token, varint_token};
 pub(crate) fn front_number(bytes: &[u8], left: Option<u32>) -> Result<Option<(u64, usize)>, Cause>
     ensures whole { (at : ℕ) → IfOk result (λ o. IfSome o (λ t. (t.1 ≤ length bytes.now) × Reads (given_at at left bytes.now) t.0 (passed (given_at at left bytes.now) t.1))) }
     ensures short { (at : ℕ) → IfOk result (λ o. IfNone o (VarintFault (given_at at left bytes.now) (fault (input_end (given_at at left bytes.now)) [] Truncated))) }
+    ensures settled { IfErr result (λ c. c ≢ Truncated) }
     ensures tag { (pool : Types) (m depth levels at : ℕ) (base : List Record) (p0 : Place) (frames : List FrameView) (scope : ScopeView) (now : PartView) → Stands pool m depth levels base p0 frames now scope (given_at at left bytes.now) → left ≢ Some 0 → bytes.now ≢ []
         → IfErr result (λ c. Bad (schema_of pool) (records (a_message m)) depth p0 (fault at (path_of frames) c)) }
     ensures length { (pool : Types) (m depth levels at number : ℕ) (base : List Record) (p0 : Place) (frames : List FrameView) (scope : ScopeView) (now : PartView) (next : Step) (meant : Purpose) → After pool m depth levels base p0 frames next now scope (given_at at left bytes.now)

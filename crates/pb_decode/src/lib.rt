@@ -10,7 +10,9 @@ mod front;
 mod number;
 mod number_token;
 mod occurrences;
+mod open;
 mod part;
+mod pass_length;
 mod payload_value;
 mod purpose;
 mod put;
@@ -22,5 +24,7 @@ mod reader;
 mod step;
 mod tag;
 mod tag_step;
+mod take_ended;
+mod take_payload;
 
 pub use error::DecodeError;

@@ -3,5 +3,5 @@ use Rattle.std.proofs.Common.{refl}
 use Rattle.pb_decode.proofs.AfterLemmas.{after_length}
 use Rattle.pb_decode.proofs.begin.begin_payload.Goals as goal
 
-pub returns : goal.returns
-returns c = λ pool m depth levels base p0 u t frames scope now begun l. after_length c.args.number c.args.purpose c.args.size begun refl l
+pub returns-clause-after : goal.returns-clause-after
+returns-clause-after c = λ pool m depth levels base p0 u t frames scope now bytes begun l. after_length c.args.number c.args.purpose c.args.size begun refl bytes l

@@ -6,6 +6,9 @@ use Rattle.pb_wire.specs.declared.token.Token.{Token}
 use Rattle.pb_decode.proofs.TokenTold.{tag_number_told, length_refused}
 use Rattle.pb_decode.proofs.front.front_number.Goals as goal
 
+pub returns-in-Fault-clause-settled : goal.returns-in-Fault-clause-settled
+returns-in-Fault-clause-settled c = (subst (λ (z : Token). TellsVarint (given_at 0 c.args.left c.args.bytes.now) z) c.in-Fault.is (c.varint_token.ensures 0)).0
+
 pub returns-in-Fault-clause-tag : goal.returns-in-Fault-clause-tag
 returns-in-Fault-clause-tag c =
     λ pool m depth levels at base p0 frames scope now s open_here some.

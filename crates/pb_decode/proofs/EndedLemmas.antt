@@ -1,0 +1,112 @@
+-- What ends where a reader stands.
+use Rattle.std.proofs.Common.{◌≡◌, ℕ, ◌-◌, ◌≤◌, List, [], ◌∷◌, ◌++◌, map, reverse, refl, sym, ap, ◌∙◌, subst, arith, append-nil, Option, Some, option_map}
+use Rattle.std.proofs.lemmas.List.{reverse-append, map-append}
+use Rattle.pb_wire.specs.Record.{Record}
+use Rattle.pb_wire.specs.declared.fault.Cause.TheVariants.{PastEnd}
+use Rattle.pb_wire.specs.declared.fault.PathStep.{PathStep}
+use Rattle.pb_wire.specs.Fault.{fault, Place}
+use Rattle.pb_wire.specs.Schema.{Open, records}
+use Rattle.pb_wire.specs.Grammar.{Bad}
+use Rattle.pb_schema.specs.declared.types.Kind.{Kind}
+use Rattle.pb_schema.specs.Types.{Types}
+use Rattle.pb_schema.specs.Rules.{IsPool}
+use Rattle.pb_schema.specs.Scalar.{Scalar}
+use Rattle.pb_schema.specs.Context.{Context, a_message as in_message, schema_of}
+use Rattle.pb_value.specs.Data.{Datum}
+use Rattle.pb_decode.specs.declared.part.Frame.{Frame as FrameKept}
+use Rattle.pb_decode.specs.declared.part.Slot.{Slot}
+use Rattle.pb_decode.specs.declared.part.Slot.TheVariants as slot
+use Rattle.pb_decode.specs.declared.step.Step.{Step}
+use Rattle.pb_decode.specs.declared.step.Step.TheVariants as step
+use Rattle.pb_decode.specs.Frames.{Part, message_part, entry_part, group_part, CanHold, Scope, Frame, one_more_in, up_to, path_of, Held, inside, Stands}
+use Rattle.pb_decode.specs.PartView.{frame_view}
+use Rattle.pb_decode.specs.Closing.{HasRoomFor}
+use Rattle.pb_decode.specs.After.{After}
+use Rattle.pb_decode.specs.Reader.{State, frames_view, left_of, here, own_step, path_here, Reads, StandsAt, Told}
+use Rattle.pb_decode.proofs.AfterLemmas.{after_record, at_record}
+use Rattle.pb_decode.proofs.GroupLemmas.{past_end_told}
+use Rattle.pb_decode.proofs.WellLemmas.{can_hold, fits_keys}
+use Rattle.pb_decode.proofs.FewRecords.{counts_fit, frame_counts_fit}
+use Rattle.pb_decode.proofs.ListSteps.{at_list, list_over}
+use Rattle.pb_decode.proofs.ListHolds.{list_can_hold}
+
+-- frames are kept outermost first, so the last is the innermost
+pub frames_split : (fs gs : List FrameKept) (f : FrameKept) → fs ≡ gs ++ f ∷ [] → frames_view fs ≡ frame_view f ∷ frames_view gs
+frames_split fs gs f is = ap frames_view is ∙ ap reverse (map-append frame_view gs (f ∷ [])) ∙ reverse-append (map frame_view gs) (frame_view f ∷ [])
+
+-- AT A TAG one stands behind a whole record of the innermost part
+pub standing :
+    {pool : Types} {m depth levels : ℕ} {base : List Record} {p0 : Place} (s : State) (rest : List ℕ) (frames : List Frame) (now : Part) → Reads pool m depth levels base p0 s rest → s.next ≡ step.Tag → s.frames ≡ frames → s.now ≡ now
+    → Stands pool m depth levels base p0 frames now s.scope (here s rest)
+standing {pool} {m} {depth} {levels} {base} {p0} s rest frames now begun tag around is =
+    subst (λ (z : Part). Stands pool m depth levels base p0 frames z s.scope (here s rest)) is
+    (subst (λ (z : List Frame). Stands pool m depth levels base p0 z s.now s.scope (here s rest)) around
+    (at_record (subst (λ (z : Step). After pool m depth levels base p0 s.frames z s.now s.scope (here s rest)) tag begun)))
+
+-- and where that ended, one stands in the part that holds it
+closed_here : (s t : State) (end : Option ℕ) (rest : List ℕ) → t.at ≡ s.at → t.scope.end ≡ end → up_to end (here s rest) ≡ here t rest
+closed_here s t end rest at is =
+    ap (λ (z : Option ℕ). up_to z (here s rest)) (sym is)
+    ∙ ap (λ (z : ℕ). record { at = z; known = option_map (λ (e : ℕ). e - z) t.scope.end; rest = rest }) (sym at)
+
+pub closed_reads :
+    {pool : Types} {m depth levels : ℕ} {base : List Record} {p0 : Place} (s t : State) (end : Option ℕ) (rest : List ℕ) → t.at ≡ s.at → t.next ≡ step.Tag → t.scope.end ≡ end → StandsAt pool m depth levels base p0 t (up_to end (here s rest))
+    → Reads pool m depth levels base p0 t rest
+closed_reads {pool} {m} {depth} {levels} {base} {p0} s t end rest at tag is h =
+    subst (λ (z : Step). After pool m depth levels base p0 t.frames z t.now t.scope (here t rest)) (sym tag)
+    (after_record (subst (StandsAt pool m depth levels base p0 t) (closed_here s t end rest at is) h))
+
+-- THE PART THAT HOLDS THE INNERMOST may be changed
+pub frame_can_hold :
+    {pool : Types} {m depth levels : ℕ} {base : List Record} {p0 : Place} {frame : Frame} {frames : List Frame} {scope : Scope} {now : Part} {q : Place} → Stands pool m depth levels base p0 (frame ∷ frames) now scope q → CanHold pool frame.part
+frame_can_hold {pool} {m} {depth} {levels} {base} {p0} {frame} {frames} {scope} {now} {q} s = from_held s.held
+  where
+    from_held : {o : Open Context} {room inner : ℕ} {path : List PathStep} {p : Place} {earlier : List Record} → Held pool m depth levels base p0 (frame ∷ frames) now o room inner path p earlier → CanHold pool frame.part
+    from_held (inside up h begun form can deep completes is_path counts ends goes_on takes) = can
+
+-- its map has keys of the kind of the entry's key
+pub entry_has_room :
+    {pool : Types} {m depth levels : ℕ} {base : List Record} {p0 : Place} {frame : Frame} {frames : List Frame} {scope : Scope} {q : Place} (ok : IsPool pool) (key kd : Kind) (x : Option Scalar) (d : Option Datum)
+    → Stands pool m depth levels base p0 (frame ∷ frames) (entry_part key kd x d) scope q → HasRoomFor frame.slot frame.part key x
+entry_has_room {pool} {m} {depth} {levels} {base} {p0} {frame} {frames} {scope} {q} ok key kd x d s = by_slot frame.slot frame.part refl refl
+  where
+    by_slot : (t : Slot) (p : Part) → frame.slot ≡ t → frame.part ≡ p → HasRoomFor t p key x
+    by_slot (slot.Map n) (message_part k v) is_slot is_part = fits_keys ok key kd x d k n v s is_part is_slot
+    by_slot (slot.Map n) (entry_part k2 v2 y e) is_slot is_part = tt
+    by_slot (slot.Map n) (group_part us) is_slot is_part = tt
+    by_slot (slot.One sh n) p is_slot is_part = tt
+    by_slot (slot.List n) p is_slot is_part = tt
+    by_slot slot.Entry p is_slot is_part = tt
+    by_slot (slot.Unknown n) p is_slot is_part = tt
+
+-- A GROUP at a known end
+pub group_past_end :
+    {pool : Types} {m depth levels : ℕ} {base : List Record} {p0 : Place} (t : State) (frame : Frame) (frames : List Frame) (scope : Scope) (us : List Record) (q : Place) → t.frames ≡ frame ∷ frames → t.next ≡ step.Tag
+    → Stands pool m depth levels base p0 (frame ∷ frames) (group_part us) scope q → q.known ≡ Some 0 → Told pool m depth p0 (fault q.at (path_here t) PastEnd)
+group_past_end {pool} {m} {depth} {p0 = p0} t frame frames scope us q around tag s end =
+    let path : path_of (frame ∷ frames) ≡ path_here t =
+    sym (append-nil (path_of (frame ∷ frames))) ∙ ap (λ (z : List Frame). path_of z ++ []) (sym around) ∙ ap (λ (z : Step). path_of t.frames ++ own_step z t.scope) (sym tag) in
+    record { bad = subst (λ (z : List PathStep). Bad (schema_of pool) (records (in_message m)) depth p0 (fault q.at z PastEnd)) path (past_end_told s end); settled = λ same. absurd (cc) }
+
+-- A PACKED LIST at its end
+pub list_few :
+    {pool : Types} {m depth levels : ℕ} {base : List Record} {p0 : Place} (s : State) (rest : List ℕ) (k : ℕ) (kd : Kind) (outer : Option ℕ) → Reads pool m depth levels base p0 s rest → s.next ≡ step.Elements k kd outer
+    → s.scope.counts k ≤ s.at
+list_few {pool} {m} {depth} {levels} {base} {p0} s rest k kd outer begun is =
+    let list = at_list k kd outer (subst (λ (z : Step). After pool m depth levels base p0 s.frames z s.now s.scope (here s rest)) is begun) in
+    let few = counts_fit k list.stands in
+    let tag = list.has.tag.2.at in
+    let size = list.length_is.length_is.2.at in
+    let on = list.elements_are.moves.at in
+    omega (arith, few, tag, size, on)
+
+pub list_ended :
+    {pool : Types} {m depth levels : ℕ} {base : List Record} {p0 : Place} (s t : State) (rest : List ℕ) (k : ℕ) (kd : Kind) (outer : Option ℕ) → IsPool pool → Reads pool m depth levels base p0 s rest → s.next ≡ step.Elements k kd outer
+    → left_of s ≡ Some 0 → t.at ≡ s.at → t.next ≡ step.Tag → t.frames ≡ s.frames → t.now ≡ s.now → t.scope ≡ one_more_in k (record s.scope { end = outer }) → Reads pool m depth levels base p0 t rest
+list_ended {pool} {m} {depth} {levels} {base} {p0} s t rest k kd outer ok begun is end at tag around now scope =
+    let inside_list = subst (λ (z : Step). After pool m depth levels base p0 s.frames z s.now s.scope (here s rest)) is begun in
+    let over = list_over k kd outer ok (list_can_hold k kd outer ok inside_list) inside_list end in
+    closed_reads s t outer rest at tag (ap (λ (z : Scope). z.end) scope)
+    (subst (λ (z : List Frame). Stands pool m depth levels base p0 z t.now t.scope (up_to outer (here s rest))) (sym around)
+    (subst (λ (z : Part). Stands pool m depth levels base p0 s.frames z t.scope (up_to outer (here s rest))) (sym now)
+    (subst (λ (z : Scope). Stands pool m depth levels base p0 s.frames s.now z (up_to outer (here s rest))) (sym scope) over)))

@@ -1,0 +1,53 @@
+-- A reader that stands where something begins.
+use Rattle.std.proofs.Common.{◌≡◌, ℕ, ◌-◌, List, [], ◌∷◌, ◌++◌, map, reverse, refl, sym, ap, ◌∙◌, subst, Option, option_map}
+use Rattle.std.proofs.lemmas.List.{map-append, reverse-append}
+use Rattle.pb_wire.specs.Record.{Record}
+use Rattle.pb_wire.specs.Fault.{Place}
+use Rattle.pb_schema.specs.Types.{Types}
+use Rattle.pb_decode.specs.declared.part.Frame.{Frame as FrameKept}
+use Rattle.pb_decode.specs.declared.step.Step.{Step}
+use Rattle.pb_decode.specs.declared.step.Step.TheVariants as step
+use Rattle.pb_decode.specs.Frames.{Part, Frame, Scope, Stands}
+use Rattle.pb_decode.specs.PartView.{part_view, scope_view, frame_view}
+use Rattle.pb_decode.specs.After.{After}
+use Rattle.pb_decode.specs.declared.open.Opening.{Opening}
+use Rattle.pb_decode.specs.declared.part.Part.{Part as PartKept}
+use Rattle.pb_decode.specs.declared.part.Scope.{Scope as ScopeKept}
+use Rattle.pb_decode.specs.declared.reader.Reader.{Reader}
+use Rattle.pb_decode.specs.Reader.{State, state_view, frames_view, left_of, here, Reads}
+use Rattle.pb_decode.proofs.FrameLemmas.{place_up_to}
+use Rattle.pb_decode.proofs.AfterLemmas.{after_record}
+
+-- a frame more is the innermost
+pub frames_pushed : (fs : List FrameKept) (f : FrameKept) → frames_view (fs ++ f ∷ []) ≡ frame_view f ∷ frames_view fs
+frames_pushed fs f = ap reverse (map-append frame_view fs (f ∷ [])) ∙ reverse-append (map frame_view fs) (frame_view f ∷ [])
+
+-- where a reader stands is told by its position, its end and the bytes that are left
+place_here : (s : State) (rest : List ℕ) (u : Place) → u ≡ record u { known = option_map (λ (e : ℕ). e - u.at) s.scope.end } → u.at ≡ s.at → u.rest ≡ rest → u ≡ here s rest
+place_here s rest u is at same =
+    is ∙ ap (λ (z : ℕ). record { at = z; known = option_map (λ (e : ℕ). e - z) s.scope.end; rest = u.rest }) at
+    ∙ ap (λ (z : List ℕ). record { at = s.at; known = left_of s; rest = z }) same
+
+pub after_here :
+    {pool : Types} {m depth levels : ℕ} {base : List Record} {p0 : Place} (s : State) (rest : List ℕ) (u : Place) → After pool m depth levels base p0 s.frames s.next s.now s.scope u → u.at ≡ s.at → u.rest ≡ rest
+    → Reads pool m depth levels base p0 s rest
+after_here {pool} {m} {depth} {levels} {base} {p0} s rest u a at same =
+    subst (After pool m depth levels base p0 s.frames s.next s.now s.scope) (place_here s rest u (place_up_to u s.scope.end a.ends) at same) a
+
+-- behind a whole record, or where a part begins, a tag comes next
+pub stands_here :
+    {pool : Types} {m depth levels : ℕ} {base : List Record} {p0 : Place} (s : State) (rest : List ℕ) (u : Place) → Stands pool m depth levels base p0 s.frames s.now s.scope u → s.next ≡ step.Tag → u.at ≡ s.at → u.rest ≡ rest
+    → Reads pool m depth levels base p0 s rest
+stands_here {pool} {m} {depth} {levels} {base} {p0} s rest u h tag at same =
+    after_here s rest u (subst (λ (z : Step). After pool m depth levels base p0 s.frames z s.now s.scope u) (sym tag) (after_record h)) at same
+
+-- a reader in what is opened stands where it begins
+pub entered :
+    {pool : Types} {m depth levels : ℕ} {base : List Record} {p0 : Place} (r : Reader) (o : Opening) (frames : List Frame) (q : Place) → frames_view r.frames.items ≡ frame_view o.frame ∷ frames → r.part ≡ o.part → r.scope ≡ o.scope
+    → r.step ≡ step.Tag → q.at ≡ r.at → Stands pool m depth levels base p0 (frame_view o.frame ∷ frames) (part_view o.part) (scope_view o.scope) q → Reads pool m depth levels base p0 (state_view r) q.rest
+entered {pool} {m} {depth} {levels} {base} {p0} r o frames q is_frames is_part is_scope tag at h =
+    stands_here (state_view r) q.rest q
+    (subst (λ (z : List Frame). Stands pool m depth levels base p0 z (part_view r.part) (scope_view r.scope) q) (sym is_frames)
+    (subst (λ (z : PartKept). Stands pool m depth levels base p0 (frame_view o.frame ∷ frames) (part_view z) (scope_view r.scope) q) (sym is_part)
+    (subst (λ (z : ScopeKept). Stands pool m depth levels base p0 (frame_view o.frame ∷ frames) (part_view o.part) (scope_view z) q) (sym is_scope) h)))
+    tag at refl

@@ -1,0 +1,190 @@
+//! What a whole length or the tag of a group opens.
+
+ghost use Rattle.std.specs.Prelude.{◌≡◌, ◌+◌, ◌<◌, ℕ, List, ◌∷◌, Some, option_map};
+ghost use Rattle.pb_wire.specs.Record.{Record};
+ghost use Rattle.pb_wire.specs.Fault.{Place, HasTag, HasLength};
+ghost use Rattle.pb_wire.specs.Grammar.{payload_at};
+ghost use Rattle.pb_schema.specs.Types.{Types};
+ghost use Rattle.pb_schema.specs.Rules.{IsPool};
+ghost use Rattle.pb_value.specs.View.{body_view, content_view, value_view};
+ghost use Rattle.pb_decode.specs.declared.purpose.Purpose.TheVariants as purpose;
+ghost use Rattle.pb_decode.specs.declared.step.Step.TheVariants as step;
+ghost use Rattle.pb_decode.specs.Frames.{CanHold, Frame as FrameView, Stands};
+ghost use Rattle.pb_decode.specs.PartView.{part_view, scope_view, frame_view};
+ghost use Rattle.pb_decode.specs.Occurrences.{counts_view};
+ghost use Rattle.pb_decode.specs.After.{After};
+ghost use Rattle.pb_decode.specs.Openings.{message_given, message_held, taken_message, without_message, room_in as levels_in};
+
+use crate::occurrences::Occurrences;
+use crate::part::{Frame, Part, Scope, Slot};
+use pb_schema::{Kind, MessageId};
+use pb_value::{Body, Content, Value, empty_body, take_field};
+use std::alloc::Global;
+
+/// What is opened: the frame of what holds it, and what there is of it so far.
+#[derive(Drop)]
+pub(crate) struct Opening {
+    pub frame: Frame,
+    pub part: Part,
+    pub scope: Scope,
+}
+
+/// The message that a value is, or an empty one.
+fn message_of(alloc: Global, value: Option<Value>) -> Body
+    ensures { body_view result ≡ message_given (option_map value_view value) }
+{
+    match value {
+        Some(Value::Message(message)) => message,
+        _ => empty_body(alloc),
+    }
+}
+
+/// The message that a field of one value held, or an empty one.
+fn message_in(alloc: Global, content: Option<Content>) -> Body
+    ensures { body_view result ≡ message_held (option_map content_view content) }
+{
+    match content {
+        Some(Content::One(value)) => message_of(alloc, Some(value)),
+        Some(Content::List(_)) => empty_body(alloc),
+        Some(Content::Map(_)) => empty_body(alloc),
+        None => empty_body(alloc),
+    }
+}
+
+/// Takes out what a message that is opened for a slot goes on from.
+fn take_message(alloc: Global, slot: Slot, outer: &mut Part) -> Body
+    ensures taken { body_view result ≡ taken_message slot (part_view outer.old) }
+    ensures left { part_view outer.new ≡ without_message slot (part_view outer.old) }
+{
+    match outer {
+        Part::Message(_, body) => match slot {
+            Slot::One(_, number) => message_in(alloc, take_field(body, number)),
+            Slot::List(_) => empty_body(alloc),
+            Slot::Map(_) => empty_body(alloc),
+            Slot::Entry => empty_body(alloc),
+            Slot::Unknown(_) => empty_body(alloc),
+        },
+        Part::Entry {
+            key_kind: _,
+            value_kind: _,
+            key: _,
+            value,
+        } => match slot {
+            Slot::Entry => message_of(alloc, value.take()),
+            Slot::One(_, _) => empty_body(alloc),
+            Slot::List(_) => empty_body(alloc),
+            Slot::Map(_) => empty_body(alloc),
+            Slot::Unknown(_) => empty_body(alloc),
+        },
+        Part::Group(_) => match slot {
+            Slot::One(_, _) => empty_body(alloc),
+            Slot::List(_) => empty_body(alloc),
+            Slot::Map(_) => empty_body(alloc),
+            Slot::Entry => empty_body(alloc),
+            Slot::Unknown(_) => empty_body(alloc),
+        },
+    }
+}
+
+/// How many levels are left in a message that is opened for a slot.
+fn room_in(slot: Slot, room: u8) -> u8
+    ensures { result ≡ levels_in slot room }
+{
+    match slot {
+        Slot::Entry => room,
+        Slot::One(_, _) => room.saturating_sub(1),
+        Slot::List(_) => room.saturating_sub(1),
+        Slot::Map(_) => room.saturating_sub(1),
+        Slot::Unknown(_) => room.saturating_sub(1),
+    }
+}
+
+/// The scope of a part in which no record stands yet.
+fn new_scope(alloc: Global, room: u8, end: Option<u32>) -> Scope
+    ensures room { result.room ≡ room }
+    ensures end { result.end ≡ end }
+    ensures none { (k : ℕ) → counts_view result.occurrences k ≡ 0 }
+{
+    Scope {
+        room,
+        end,
+        occurrences: Occurrences::new(alloc),
+    }
+}
+
+/// Behind the length of a record of a message the message is open, up to its end. It goes on from what its slot holds.
+pub(crate) fn open_message(
+    alloc: Global,
+    part: Part,
+    scope: Scope,
+    number: u32,
+    kind: MessageId,
+    slot: Slot,
+    end: u32,
+) -> Opening
+    ensures { (pool : Types) (m depth levels n : ℕ) (base : List Record) (p0 u t : Place) (frames : List FrameView) → IsPool pool → CanHold pool (part_view part) → After pool m depth levels base p0 frames (step.Length number (purpose.Message kind slot)) (part_view part) (scope_view scope) u
+        → HasLength u n t → end ≡ t.at + n → Stands pool m depth levels base p0 (frame_view result.frame ∷ frames) (part_view result.part) (scope_view result.scope) (payload_at t n) }
+{
+    let mut outer = part;
+    let message = take_message(alloc, slot, &mut outer);
+    let inner = new_scope(alloc, room_in(slot, scope.room), Some(end));
+    Opening {
+        frame: Frame {
+            part: outer,
+            number,
+            slot,
+            scope,
+        },
+        part: Part::Message(kind, message),
+        scope: inner,
+    }
+}
+
+/// Behind the length of a record of a map an entry is open, up to its end.
+pub(crate) fn open_entry(
+    alloc: Global,
+    part: Part,
+    scope: Scope,
+    number: u32,
+    key_kind: Kind,
+    value_kind: Kind,
+    end: u32,
+) -> Opening
+    ensures { (pool : Types) (m depth levels n : ℕ) (base : List Record) (p0 u t : Place) (frames : List FrameView) → IsPool pool → CanHold pool (part_view part) → After pool m depth levels base p0 frames (step.Length number (purpose.Entry key_kind value_kind)) (part_view part) (scope_view scope) u
+        → HasLength u n t → end ≡ t.at + n → Stands pool m depth levels base p0 (frame_view result.frame ∷ frames) (part_view result.part) (scope_view result.scope) (payload_at t n) }
+{
+    let inner = new_scope(alloc, scope.room.saturating_sub(1), Some(end));
+    Opening {
+        frame: Frame {
+            part,
+            number,
+            slot: Slot::Map(number),
+            scope,
+        },
+        part: Part::Entry {
+            key_kind,
+            value_kind,
+            key: None,
+            value: None,
+        },
+        scope: inner,
+    }
+}
+
+/// Behind the first tag of a group, of which no schema knows, the group is open. Its end is known where that of what holds it is.
+pub(crate) fn open_group(alloc: Global, part: Part, scope: Scope, number: u32) -> Opening
+    ensures { (pool : Types) (m depth levels : ℕ) (base : List Record) (p0 q u : Place) (frames : List FrameView) → IsPool pool → CanHold pool (part_view part) → Stands pool m depth levels base p0 frames (part_view part) (scope_view scope) q
+        → 0 < scope.room → HasTag q number 3 u → Stands pool m depth levels base p0 (frame_view result.frame ∷ frames) (part_view result.part) (scope_view result.scope) u }
+{
+    let inner = new_scope(alloc, scope.room.saturating_sub(1), scope.end);
+    Opening {
+        frame: Frame {
+            part,
+            number,
+            slot: Slot::Unknown(number),
+            scope,
+        },
+        part: Part::Group(Vec::new(alloc)),
+        scope: inner,
+    }
+}
