@@ -1,6 +1,6 @@
 //! Pools of many parts.
 
-use super::pools::{has_name, has_number};
+use super::pools::{has_each_of, has_name, has_one_of};
 use pb_schema::{Field, FileInfo, Kind, MessageId, MessageType, Pool, PoolError, Shape};
 use std::alloc::{AllocError, Global};
 use std::test::Fail;
@@ -98,12 +98,11 @@ const NOT_THERE: &[u32] = &[0, 19_000, 19_999, 21_001];
 #[test]
 fn many_fields(rt: HostRuntime) -> Result<(), Fail> {
     let pool = wide_pool(rt.alloc(), 20_000)?;
-    for number in THERE {
-        assert!(rt; has_number(&pool, "p.Wide", *number), "field {number}");
-    }
-    for number in NOT_THERE {
-        assert!(rt; !has_number(&pool, "p.Wide", *number), "field {number}");
-    }
-    assert!(rt; has_name(&pool, "p.Wide", "f1") && has_name(&pool, "p.Wide", "f21000"));
+    assert!(rt;
+        has_each_of(&pool, "p.Wide", THERE)
+            && !has_one_of(&pool, "p.Wide", NOT_THERE)
+            && has_name(&pool, "p.Wide", "f1")
+            && has_name(&pool, "p.Wide", "f21000")
+    );
     Ok(())
 }

@@ -1,7 +1,7 @@
 //! Parts that meet all rules, and for each rule the same parts with the least change that breaks it.
 
 use super::parts::{changed_pool, pool_of};
-use pb_schema::{EnumId, MessageId, PoolError};
+use pb_schema::{EnumId, MessageId, Pool, PoolError};
 use std::alloc::Global;
 use std::test::Fail;
 
@@ -126,18 +126,28 @@ const MESSAGES: &[&str] = &["a.b.M", "a.b.M.N", "P", "R", "S"];
 
 const ENUMS: &[&str] = &["a.b.M.N.E", "a.b.M.G", "a.b.H"];
 
+fn are_messages(pool: &Pool, names: &[&str]) -> bool {
+    for (index, name) in names.iter().enumerate() {
+        if pool.message_by_name(name) != Some(MessageId(index)) {
+            return false;
+        }
+    }
+    true
+}
+
+fn are_enums(pool: &Pool, names: &[&str]) -> bool {
+    for (index, name) in names.iter().enumerate() {
+        if pool.enum_by_name(name) != Some(EnumId(index)) {
+            return false;
+        }
+    }
+    true
+}
+
 #[test]
 fn parts_that_meet_all_rules(rt: HostRuntime) -> Result<(), Fail> {
     let pool = pool_of(rt.alloc(), USUAL)?;
-    for (index, name) in MESSAGES.iter().enumerate() {
-        assert!(rt;
-            pool.message_by_name(name) == Some(MessageId(index)),
-            "{name}"
-        );
-    }
-    for (index, name) in ENUMS.iter().enumerate() {
-        assert!(rt; pool.enum_by_name(name) == Some(EnumId(index)), "{name}");
-    }
+    assert!(rt; are_messages(&pool, MESSAGES) && are_enums(&pool, ENUMS));
     Ok(())
 }
 

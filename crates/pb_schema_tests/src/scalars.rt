@@ -1,7 +1,7 @@
 //! Payloads that are written and read, by the table of kinds.
 
-use pb_schema::ScalarPayload;
 use pb_schema::scalars::*;
+use pb_schema::{Scalar, ScalarPayload};
 use std::alloc::Global;
 use std::test::Fail;
 
@@ -23,6 +23,25 @@ fn is_four(payload: ScalarPayload<'_>, number: u32) -> bool {
     match payload {
         ScalarPayload::I32(written) => written == number,
         _ => false,
+    }
+}
+
+/// Whether a payload is read as this value.
+fn reads<S: Scalar>(alloc: Global, payload: ScalarPayload<'_>, wanted: &S::Item) -> bool
+where
+    S::Item: PartialEq,
+{
+    match S::read(alloc, payload) {
+        Ok(Some(item)) => item == *wanted,
+        _ => false,
+    }
+}
+
+/// Whether a payload is of another wire type, or no text.
+fn reads_none<S: Scalar>(alloc: Global, payload: ScalarPayload<'_>) -> bool {
+    match S::read(alloc, payload) {
+        Ok(read) => read.is_none(),
+        Err(_) => false,
     }
 }
 
@@ -74,62 +93,50 @@ const SIGNED: &[Signed] = &[
     },
 ];
 
-#[test]
-fn signed_numbers_written(rt: HostRuntime) {
-    for row in SIGNED {
-        let number = row.number;
-        let long = i64::from(number);
-        assert!(rt;
-            is_varint(Int32::write(&number), row.varint)
-                && is_varint(EnumNumber::write(&number), row.varint)
-                && is_varint(Int64::write(&long), row.varint)
-                && is_varint(Sint32::write(&number), row.zigzag)
-                && is_varint(Sint64::write(&long), row.zigzag)
-                && is_four(Sfixed32::write(&number), row.fixed)
-                && is_eight(Sfixed64::write(&long), row.varint),
-            "{number}"
-        );
-    }
+fn are_written(row: &Signed) -> bool {
+    let long = i64::from(row.number);
+    is_varint(Int32::write(&row.number), row.varint)
+        && is_varint(EnumNumber::write(&row.number), row.varint)
+        && is_varint(Int64::write(&long), row.varint)
+        && is_varint(Sint32::write(&row.number), row.zigzag)
+        && is_varint(Sint64::write(&long), row.zigzag)
+        && is_four(Sfixed32::write(&row.number), row.fixed)
+        && is_eight(Sfixed64::write(&long), row.varint)
+}
+
+fn varints_are_read(alloc: Global, row: &Signed) -> bool {
+    let long = i64::from(row.number);
+    let varint = ScalarPayload::Varint(row.varint);
+    let zigzag = ScalarPayload::Varint(row.zigzag);
+    reads::<Int32>(alloc, varint, &row.number)
+        && reads::<EnumNumber>(alloc, varint, &row.number)
+        && reads::<Int64>(alloc, varint, &long)
+        && reads::<Sint32>(alloc, zigzag, &row.number)
+        && reads::<Sint64>(alloc, zigzag, &long)
+}
+
+fn fixed_are_read(alloc: Global, row: &Signed) -> bool {
+    let four = ScalarPayload::I32(row.fixed);
+    let eight = ScalarPayload::I64(row.varint);
+    reads::<Sfixed32>(alloc, four, &row.number)
+        && reads::<Fixed32>(alloc, four, &row.fixed)
+        && reads::<Float>(alloc, four, &row.fixed)
+        && reads::<Sfixed64>(alloc, eight, &i64::from(row.number))
+        && reads::<Fixed64>(alloc, eight, &row.varint)
+        && reads::<Double>(alloc, eight, &row.varint)
 }
 
 #[test]
-fn signed_numbers_read(rt: HostRuntime) -> Result<(), Fail> {
-    let alloc = rt.alloc();
+fn signed_numbers(rt: HostRuntime) {
     for row in SIGNED {
-        let number = row.number;
-        let long = i64::from(number);
-        let varint = ScalarPayload::Varint(row.varint);
-        let zigzag = ScalarPayload::Varint(row.zigzag);
         assert!(rt;
-            Int32::read(alloc, varint)? == Some(number)
-                && EnumNumber::read(alloc, varint)? == Some(number)
-                && Int64::read(alloc, varint)? == Some(long)
-                && Sint32::read(alloc, zigzag)? == Some(number)
-                && Sint64::read(alloc, zigzag)? == Some(long),
-            "{number}"
+            are_written(row)
+                && varints_are_read(rt.alloc(), row)
+                && fixed_are_read(rt.alloc(), row),
+            "{}",
+            row.number
         );
     }
-    Ok(())
-}
-
-#[test]
-fn fixed_numbers_read(rt: HostRuntime) -> Result<(), Fail> {
-    let alloc = rt.alloc();
-    for row in SIGNED {
-        let number = row.number;
-        let four = ScalarPayload::I32(row.fixed);
-        let eight = ScalarPayload::I64(row.varint);
-        assert!(rt;
-            Sfixed32::read(alloc, four)? == Some(number)
-                && Fixed32::read(alloc, four)? == Some(row.fixed)
-                && Float::read(alloc, four)? == Some(row.fixed)
-                && Sfixed64::read(alloc, eight)? == Some(i64::from(number))
-                && Fixed64::read(alloc, eight)? == Some(row.varint)
-                && Double::read(alloc, eight)? == Some(row.varint),
-            "{number}"
-        );
-    }
-    Ok(())
 }
 
 #[test]
@@ -148,19 +155,18 @@ fn other_numbers_written(rt: HostRuntime) {
 
 /// The low 32 bits are taken before ZigZag is undone.
 #[test]
-fn high_bits_dropped(rt: HostRuntime) -> Result<(), Fail> {
+fn high_bits_dropped(rt: HostRuntime) {
     let alloc = rt.alloc();
     let low = ScalarPayload::Varint(0xffff_fffe);
     let high = ScalarPayload::Varint(0x1_ffff_ffff);
     assert!(rt;
-        Int32::read(alloc, low)? == Some(-2)
-            && Int64::read(alloc, low)? == Some(0xffff_fffe)
-            && Uint32::read(alloc, high)? == Some(0xffff_ffff)
-            && Sint32::read(alloc, high)? == Some(i32::MIN)
-            && EnumNumber::read(alloc, high)? == Some(-1)
-            && Uint64::read(alloc, high)? == Some(0x1_ffff_ffff)
+        reads::<Int32>(alloc, low, &-2)
+            && reads::<Int64>(alloc, low, &0xffff_fffe)
+            && reads::<Uint32>(alloc, high, &0xffff_ffff)
+            && reads::<Sint32>(alloc, high, &i32::MIN)
+            && reads::<EnumNumber>(alloc, high, &-1)
+            && reads::<Uint64>(alloc, high, &0x1_ffff_ffff)
     );
-    Ok(())
 }
 
 const TRUTHS: &[(u64, bool)] = &[
@@ -173,31 +179,28 @@ const TRUTHS: &[(u64, bool)] = &[
 ];
 
 #[test]
-fn truth_of_numbers(rt: HostRuntime) -> Result<(), Fail> {
+fn truth_of_numbers(rt: HostRuntime) {
     for (number, truth) in TRUTHS {
-        let payload = ScalarPayload::Varint(*number);
         assert!(rt;
-            Bool::read(rt.alloc(), payload)? == Some(*truth),
+            reads::<Bool>(rt.alloc(), ScalarPayload::Varint(*number), truth),
             "{number}"
         );
     }
-    Ok(())
 }
 
 #[test]
-fn payloads_of_other_types(rt: HostRuntime) -> Result<(), Fail> {
+fn payloads_of_other_types(rt: HostRuntime) {
     let alloc = rt.alloc();
     let four = ScalarPayload::I32(5);
     assert!(rt;
-        Int32::read(alloc, four)?.is_none()
-            && Sfixed32::read(alloc, ScalarPayload::Varint(5))?.is_none()
-            && Double::read(alloc, four)?.is_none()
-            && Text::read(alloc, four)?.is_none()
-            && Bytes::read(alloc, ScalarPayload::I64(5))?.is_none()
+        reads_none::<Int32>(alloc, four)
+            && reads_none::<Sfixed32>(alloc, ScalarPayload::Varint(5))
+            && reads_none::<Double>(alloc, four)
+            && reads_none::<Text>(alloc, four)
+            && reads_none::<Bytes>(alloc, ScalarPayload::I64(5))
             && four.wire_type() == 5
             && ScalarPayload::Len(b"").wire_type() == 2
     );
-    Ok(())
 }
 
 /// The text is read, and written as the bytes that it was read of.
