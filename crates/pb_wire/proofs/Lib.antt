@@ -5,6 +5,7 @@ pub mod UnknownLemmas
 pub mod Unique
 pub mod WritingLemmas
 pub mod Places
+pub mod FixedLemmas
 pub mod Tokens
 pub mod Elements
 pub mod Fronts

@@ -15,6 +15,7 @@ pub mod Token
 pub mod Limits
 pub mod Writable
 pub mod CauseName
+pub mod PathText
 pub mod Zigzag
 pub mod Rest
 pub mod RecordIter

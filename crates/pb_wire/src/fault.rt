@@ -13,7 +13,7 @@ use thiserror::Error;
 #[derive(Clone, Copy, Debug, PartialEq, Eq)]
 pub enum Cause {
     /// The input ends inside a token, or with a payload or a group open.
-    Truncated,
+    Truncated = 1,
     /// A token would pass a known end.
     PastEnd,
     /// Ten bytes of a varint all have the high bit.
@@ -43,20 +43,7 @@ impl Cause {
     pub fn number(self) -> u8
         ensures { result ≡ number_of self }
     {
-        match self {
-            Cause::Truncated => 1,
-            Cause::PastEnd => 2,
-            Cause::VarintTooLong => 3,
-            Cause::TagTooLarge => 4,
-            Cause::NumberZero => 5,
-            Cause::BadType => 6,
-            Cause::StrayEnd => 7,
-            Cause::WrongEnd => 8,
-            Cause::LengthTooLarge => 9,
-            Cause::BadText => 10,
-            Cause::TooDeep => 11,
-            Cause::InputTooLarge => 12,
-        }
+        self as u8
     }
 
     /// The cause's name, as every printed fault has it.
@@ -108,11 +95,39 @@ pub struct PathStep {
     pub occurrence: u32,
 }
 
+impl fmt::Display for PathStep {
+    ghost use Rattle.std.specs.Prelude.{Some};
+    ghost use Rattle.pb_wire.specs.PathText.{step_text};
+
+    ghost output = { λ step. Some (step_text step) };
+
+    fn fmt<W: fmt::Write>(&self, f: &mut fmt::Formatter<W>) -> fmt::Result {
+        write!(f, "{}[{}]", self.number, self.occurrence)
+    }
+}
+
+/// The steps of a path joined by dots, or `-` where there are none.
+#[derive(Clone, Copy)]
+struct Steps<'a>(&'a [PathStep]);
+
+impl fmt::Display for Steps<'_> {
+    fn fmt<W: fmt::Write>(&self, f: &mut fmt::Formatter<W>) -> fmt::Result {
+        let Some((first, others)) = self.0.split_first() else {
+            return f.write_str("-");
+        };
+        write!(f, "{first}")?;
+        for step in others {
+            write!(f, ".{step}")?;
+        }
+        Ok(())
+    }
+}
+
 /// Why records were not read or written.
 #[derive(Debug, Drop, Error)]
 pub enum RawError {
     /// The bytes are no records: where they fail, the steps to the open records outermost first, and why.
-    #[error("{cause} at byte {byte}")]
+    #[error("{cause} at byte {byte}, path {steps}", steps = Steps(.path))]
     Fault {
         byte: u64,
         path: Vec<PathStep>,

@@ -21,6 +21,13 @@ impl<R: Read + Drop> ReadInput<R> {
             failures: 0,
         }
     }
+
+    /// The reader.
+    pub fn into_inner(self) -> R
+        ensures { R.remaining result ≡ ⟦<ReadInput<R> as Input>⟧.left self }
+    {
+        self.reader
+    }
 }
 
 impl<R: Read + Drop> Input for ReadInput<R> {
@@ -56,6 +63,13 @@ impl<W: Write + Drop> WriteOutput<W> {
             writer,
             failures: 0,
         }
+    }
+
+    /// The writer.
+    pub fn into_inner(self) -> W
+        ensures { W.contents result ≡ ⟦<WriteOutput<W> as Output>⟧.written self }
+    {
+        self.writer
     }
 }
 

@@ -17,7 +17,7 @@ ghost use Rattle.pb_wire.specs.declared.fault.PathStep.{PathStep};
 use crate::fault::{Cause, WireFault};
 use crate::limits::Limits;
 use crate::open_groups::OpenGroups;
-use crate::reading::{WireType, bytes_at, refused, tag_at, u32_at, u64_at, varint_at};
+use crate::reading::{WireType, bytes_at, refused, tag_at, told_beyond, u32_at, u64_at, varint_at};
 use std::iter::FusedIterator;
 use std::marker::Model;
 
@@ -35,7 +35,7 @@ pub enum Payload<'a> {
 ///
 /// The bytes after the first `max_bytes` are never read: behind the records that stand there whole comes
 /// `InputTooLarge`, unless a fault other than `Truncated` shows before.
-#[derive(Debug, Drop)]
+#[derive(Clone, Debug, Drop)]
 pub struct RecordIter<'a> {
     bytes: &'a [u8],
     at: usize,
@@ -89,7 +89,7 @@ impl<'a> Iterator for RecordIter<'a> {
 
     ghost remaining = { λ s. at_most (length s.text - s.at + (if s.is_cut then 1 else 0)) };
 
-    #[inline]
+    #[inline(always)]
     fn next(&mut self) -> Option<Result<(u32, Payload<'a>), WireFault>> {
         let end = self.bytes.len();
         let is_cut = self.is_cut;
@@ -121,17 +121,15 @@ impl<'a> FusedIterator for RecordIter<'a> {}
 fn told(fault: WireFault, is_cut: bool, end: usize) -> WireFault
     ensures { (path : List PathStep) → result ≡ as_told (let f = fault_with fault.byte path fault.cause in if is_cut then beyond end f else f) }
 {
-    if !is_cut {
-        return fault;
-    }
-    match fault.cause {
-        Cause::Truncated => refused(end, Cause::InputTooLarge),
-        _ => fault,
+    if is_cut {
+        told_beyond(end, fault)
+    } else {
+        fault
     }
 }
 
 /// Reads the record that begins at an index, and tells the index after it.
-#[inline]
+#[inline(always)]
 fn record_at(bytes: &[u8], at: usize, max_depth: u8) -> Result<(u32, Payload<'_>, usize), WireFault>
     requires at_in_bounds { at ≤ length bytes.now }
     requires depth { max_depth ≤ 100 }
@@ -208,7 +206,7 @@ fn group_end(
 }
 
 /// Finds the end of the value that begins at an index, behind a tag that begins or ends no group.
-#[inline]
+#[inline(always)]
 pub(crate) fn value_end(bytes: &[u8], at: usize, wire_type: WireType) -> Result<usize, WireFault>
     requires at_in_bounds { at ≤ length bytes.now }
     requires no_start { code_of wire_type ≢ 3 }

@@ -53,7 +53,7 @@ fn judge_text(alloc: Global, bytes: &[u8], limits: Limits) -> Result<(), RawErro
             cause: Cause::InputTooLarge,
         }),
         Err(ReadError::Memory) => Err(RawError::Memory),
-        Err(ReadError::Fault(fault)) => Err(of_longer(alloc, max_bytes, fault, steps)),
+        Err(ReadError::Fault(fault)) => Err(of_longer(max_bytes, fault, steps)),
     }
 }
 

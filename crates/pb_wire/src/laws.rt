@@ -21,24 +21,37 @@ pub fn shortest_spelling()
 
 /// Every place is read whole, or has exactly one fault; so has every frame, and every text within its limits.
 pub fn one_fault<C>()
-    ensures here { (reading : C → ℕ → Reading C) (group : C → ℕ → C) (o : Open C) (room : ℕ) (p : Place) → All IsByte p.rest → Exactly (IsRead (schema reading group) o room p) (Bad (schema reading group) o room p) }
-    ensures frame { (reading : C → ℕ → Reading C) (group : C → ℕ → C) (c : C) (room at size : ℕ) (rest : List ℕ) → All IsByte rest → Exactly (IsFrame (schema reading group) c room size rest) (Bad (schema reading group) (records c) room (ending_at at size rest)) }
-    ensures text { (reading : C → ℕ → Reading C) (group : C → ℕ → C) (c : C) (limits : Bounds) (b : List ℕ) → All IsByte b → Exactly (IsSomeText (schema reading group) c limits b) (HasFault (schema reading group) c limits b) }
+    ensures here { (reading : C → ℕ → Reading C) (group : C → ℕ → C) (o : Open C) (room : ℕ) (p : Place)
+        → All IsByte p.rest
+        → Exactly (IsRead (schema reading group) o room p) (Bad (schema reading group) o room p) }
+    ensures frame { (reading : C → ℕ → Reading C) (group : C → ℕ → C) (c : C) (room at size : ℕ) (rest : List ℕ)
+        → All IsByte rest
+        → Exactly (IsFrame (schema reading group) c room size rest) (Bad (schema reading group) (records c) room (ending_at at size rest)) }
+    ensures text { (reading : C → ℕ → Reading C) (group : C → ℕ → C) (c : C) (limits : Bounds) (b : List ℕ)
+        → All IsByte b
+        → Exactly (IsSomeText (schema reading group) c limits b) (HasFault (schema reading group) c limits b) }
 {}
 
 /// A fault other than the end of the input is the fault of every longer text, and what is read whole up to a known end
 /// or the end of a group stays so.
 pub fn longer_text<C>()
-    ensures fault { (reading : C → ℕ → Reading C) (group : C → ℕ → C) (o : Open C) (room : ℕ) (p : Place) (f : Fault) (more : List ℕ) → (IsCut f → ⊥) → Bad (schema reading group) o room p f → Bad (schema reading group) o room (longer p more) f }
-    ensures read { (reading : C → ℕ → Reading C) (group : C → ℕ → C) (o : Open C) (room : ℕ) (p : Place) (more : List ℕ) → (open_group o ≢ None) ⊎ (p.known ≢ None) → IsRead (schema reading group) o room p → IsRead (schema reading group) o room (longer p more) }
+    ensures fault { (reading : C → ℕ → Reading C) (group : C → ℕ → C) (o : Open C) (room : ℕ) (p : Place) (f : Fault) (more : List ℕ)
+        → (IsCut f → ⊥) → Bad (schema reading group) o room p f
+        → Bad (schema reading group) o room (longer p more) f }
+    ensures read { (reading : C → ℕ → Reading C) (group : C → ℕ → C) (o : Open C) (room : ℕ) (p : Place) (more : List ℕ)
+        → (open_group o ≢ None) ⊎ (p.known ≢ None) → IsRead (schema reading group) o room p
+        → IsRead (schema reading group) o room (longer p more) }
 {}
 
 /// A fault is told at a byte from the place that is read from up to the end of the input, and the end of the input is
 /// where it is told that the input ends. That the input is too large is told of longer texts alone.
 pub fn fault_bounds<C>()
-    ensures bounds { (reading : C → ℕ → Reading C) (group : C → ℕ → C) (o : Open C) (room : ℕ) (p : Place) (f : Fault) → Bad (schema reading group) o room p f → (p.at ≤ f.byte) × (f.byte ≤ input_end p) }
-    ensures cut { (reading : C → ℕ → Reading C) (group : C → ℕ → C) (o : Open C) (room : ℕ) (p : Place) (f : Fault) → Bad (schema reading group) o room p f → IsCut f → f.byte ≡ input_end p }
-    ensures within { (reading : C → ℕ → Reading C) (group : C → ℕ → C) (o : Open C) (room : ℕ) (p : Place) (f : Fault) → Bad (schema reading group) o room p f → f.cause ≢ InputTooLarge }
+    ensures bounds { (reading : C → ℕ → Reading C) (group : C → ℕ → C) (o : Open C) (room : ℕ) (p : Place) (f : Fault)
+        → Bad (schema reading group) o room p f → (p.at ≤ f.byte) × (f.byte ≤ input_end p) }
+    ensures cut { (reading : C → ℕ → Reading C) (group : C → ℕ → C) (o : Open C) (room : ℕ) (p : Place) (f : Fault)
+        → Bad (schema reading group) o room p f → IsCut f → f.byte ≡ input_end p }
+    ensures within { (reading : C → ℕ → Reading C) (group : C → ℕ → C) (o : Open C) (room : ℕ) (p : Place) (f : Fault)
+        → Bad (schema reading group) o room p f → f.cause ≢ InputTooLarge }
 {}
 
 /// Records are read back from every spelling of them, whatever the lengths in it, and from their shortest spelling also

@@ -13,6 +13,7 @@ ghost use Rattle.pb_wire.specs.Grammar.{IsText, HasFault, beyond};
 ghost use Rattle.pb_wire.specs.WireType.{code_of};
 ghost use Rattle.pb_wire.specs.declared.reading.WireType.{WireType};
 ghost use Rattle.pb_wire.specs.Unknown.{payload_of, records_of};
+ghost use Rattle.pb_wire.specs.RecordIter.{as_told};
 ghost use Rattle.pb_wire.specs.Reading.{ReadsAll, ReadsValue, IfFault, IfRawFault, BadValue, BadFrom};
 
 use crate::fault::{Cause, PathStep, RawError, ReadError, WireFault};
@@ -33,7 +34,8 @@ pub(crate) enum WireType {
 }
 
 /// Reads the varint that begins at an index, and tells the index after it.
-#[inline]
+// What each record goes through is put in place, since a call costs as much as a short record.
+#[inline(always)]
 pub(crate) fn varint_at(bytes: &[u8], at: usize) -> Result<(u64, usize), WireFault>
     requires { at ≤ length bytes.now }
     ensures within { IfOk result (λ r. (at < r.1) × (r.1 ≤ length bytes.now)) }
@@ -50,7 +52,7 @@ pub(crate) fn varint_at(bytes: &[u8], at: usize) -> Result<(u64, usize), WireFau
 }
 
 /// Reads the tag that begins at an index: the number, the wire type, and the index after it.
-#[inline]
+#[inline(always)]
 pub(crate) fn tag_at(
     bytes: &[u8],
     at: usize,
@@ -63,14 +65,13 @@ pub(crate) fn tag_at(
     ensures fault { IfErr result (λ e. TagFault innermost (place bytes.now at) (fault e.byte [] e.cause)) }
 {
     let (tag, after) = varint_at(bytes, at)?;
-    let number = tag / 8;
-    if tag > u64::from(u32::MAX) {
+    let Ok(tag) = u32::try_from(tag) else {
         return Err(refused(at, Cause::TagTooLarge));
-    }
+    };
+    let number = tag / 8;
     if number == 0 {
         return Err(refused(at, Cause::NumberZero));
     }
-    let number = number as u32;
     let Some(wire_type) = wire_type_of(tag % 8) else {
         return Err(refused(at, Cause::BadType));
     };
@@ -96,8 +97,8 @@ pub(crate) fn refused(at: usize, cause: Cause) -> WireFault
     }
 }
 
-#[inline]
-fn wire_type_of(code: u64) -> Option<WireType>
+#[inline(always)]
+fn wire_type_of(code: u32) -> Option<WireType>
     ensures found { (w : WireType) → result ≡ Some w → code_of w ≡ code }
     ensures none { result ≡ None → 6 ≤ code }
 {
@@ -119,20 +120,10 @@ pub(crate) fn u64_at(bytes: &[u8], at: usize) -> Result<(u64, usize), WireFault>
     ensures ok { IfOk result (λ r. Leads (λ s. s ≡ to_le_bytes w64 r.0) (place bytes.now at) (place bytes.now r.1)) }
     ensures fault { IfErr result (λ e. FixedFault 8 (place bytes.now at) (fault e.byte [] e.cause)) }
 {
-    if bytes.len() - at < 8 {
+    let Some(front) = bytes[at..].first_chunk() else {
         return Err(refused(bytes.len(), Cause::Truncated));
-    }
-    let front = [
-        bytes[at],
-        bytes[at + 1],
-        bytes[at + 2],
-        bytes[at + 3],
-        bytes[at + 4],
-        bytes[at + 5],
-        bytes[at + 6],
-        bytes[at + 7],
-    ];
-    Ok((u64::from_le_bytes(front), at + 8))
+    };
+    Ok((u64::from_le_bytes(*front), at + 8))
 }
 
 /// Reads the four bytes that begin at an index.
@@ -142,11 +133,10 @@ pub(crate) fn u32_at(bytes: &[u8], at: usize) -> Result<(u32, usize), WireFault>
     ensures ok { IfOk result (λ r. Leads (λ s. s ≡ to_le_bytes w32 r.0) (place bytes.now at) (place bytes.now r.1)) }
     ensures fault { IfErr result (λ e. FixedFault 4 (place bytes.now at) (fault e.byte [] e.cause)) }
 {
-    if bytes.len() - at < 4 {
+    let Some(front) = bytes[at..].first_chunk() else {
         return Err(refused(bytes.len(), Cause::Truncated));
-    }
-    let front = [bytes[at], bytes[at + 1], bytes[at + 2], bytes[at + 3]];
-    Ok((u32::from_le_bytes(front), at + 4))
+    };
+    Ok((u32::from_le_bytes(*front), at + 4))
 }
 
 /// The most bytes that a payload has.
@@ -351,7 +341,7 @@ fn read_text(alloc: Global, bytes: &[u8], limits: Limits) -> Result<Vec<(u32, Un
             cause: Cause::InputTooLarge,
         }),
         Err(ReadError::Memory) => Err(RawError::Memory),
-        Err(ReadError::Fault(fault)) => Err(of_longer(alloc, max_bytes, fault, steps)),
+        Err(ReadError::Fault(fault)) => Err(of_longer(max_bytes, fault, steps)),
     }
 }
 
@@ -368,20 +358,21 @@ pub(crate) fn below(fault: WireFault, mut steps: Vec<PathStep>) -> RawError
 }
 
 /// A fault of the bytes within the limit, as the fault of the longer text.
-pub(crate) fn of_longer(
-    alloc: Global,
-    max_bytes: usize,
-    fault: WireFault,
-    steps: Vec<PathStep>,
-) -> RawError
+pub(crate) fn of_longer(max_bytes: usize, fault: WireFault, mut steps: Vec<PathStep>) -> RawError
     ensures { IfRawFault result (λ f. f ≡ beyond max_bytes (fault_with fault.byte (reverse steps.items) fault.cause)) }
 {
+    if let Cause::Truncated = fault.cause {
+        steps.clear();
+    }
+    below(told_beyond(max_bytes, fault), steps)
+}
+
+/// A fault of the first bytes of a longer text, as the fault of that text: their end is no end of a token.
+pub(crate) fn told_beyond(end: usize, fault: WireFault) -> WireFault
+    ensures { (path : List PathStep) → result ≡ as_told (beyond end (fault_with fault.byte path fault.cause)) }
+{
     match fault.cause {
-        Cause::Truncated => RawError::Fault {
-            byte: max_bytes as u64,
-            path: Vec::new(alloc),
-            cause: Cause::InputTooLarge,
-        },
-        _ => below(fault, steps),
+        Cause::Truncated => refused(end, Cause::InputTooLarge),
+        _ => fault,
     }
 }

@@ -83,6 +83,26 @@ impl Model for VarintBytes {
     ghost invariant = { λ v. v.len ≤ 10 };
 }
 
+impl PartialEq for VarintBytes {
+    ghost use Rattle.std.specs.Prelude.{nat_eq};
+    ghost use Rattle.std.specs.Cmp.{partial_equiv_from_equiv};
+    ghost use Rattle.std.specs.Cmp.Lexicographic.{pointwise, nat_list_eq_equiv};
+
+    ghost eq = { pointwise nat_eq };
+
+    ghost laws = { partial_equiv_from_equiv nat_list_eq_equiv };
+
+    fn eq(&self, other: &VarintBytes) -> bool {
+        self.as_slice() == other.as_slice()
+    }
+}
+
+impl Eq for VarintBytes {
+    ghost use Rattle.std.specs.Cmp.Lexicographic.{nat_list_eq_equiv};
+
+    ghost laws = { nat_list_eq_equiv };
+}
+
 impl VarintBytes {
     /// The bytes.
     pub fn as_slice(&self) -> &[u8]

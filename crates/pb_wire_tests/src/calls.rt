@@ -1,9 +1,10 @@
 //! Worked rows, and each call once. Expected values are those of the encoding guide or were worked out by hand.
 
+use pb_wire::laws::{fault_bounds, longer_text, one_fault, read_back, shortest_spelling};
 use pb_wire::{
-    Cause, Limits, MAX_BYTES, MAX_DEPTH, RawError, Unknown, WireFault, can_write, fault_bounds,
-    longer_text, one_fault, put_varint, read_raw, read_varint, shortest_spelling, unzigzag32,
-    unzigzag64, write_raw, zigzag32, zigzag64,
+    Cause, Limits, MAX_BYTES, MAX_DEPTH, PathStep, RawError, RecordIter, Unknown, WireFault,
+    can_write, put_varint, read_raw, read_varint, unzigzag32, unzigzag64, write_raw, zigzag32,
+    zigzag64,
 };
 use std::test::Fail;
 
@@ -121,6 +122,10 @@ fn limits(rt: HostRuntime) {
     );
 }
 
+fn step(number: u32, occurrence: u32) -> PathStep {
+    PathStep { number, occurrence }
+}
+
 #[test]
 fn causes(rt: HostRuntime) -> Result<(), Fail> {
     let alloc = rt.alloc();
@@ -135,9 +140,16 @@ fn causes(rt: HostRuntime) -> Result<(), Fail> {
         cause: Cause::WrongEnd,
     };
     let told = format!(in alloc; "{refusal}")?;
+    let inside = RawError::Fault {
+        byte: 65,
+        path: vec![in alloc; step(9, 1), step(5, 0)]?,
+        cause: Cause::Truncated,
+    };
+    let told_inside = format!(in alloc; "{inside}")?;
     assert!(rt;
         shown.as_str() == "BadText at byte 7"
-            && told.as_str() == "WrongEnd at byte 2"
+            && told.as_str() == "WrongEnd at byte 2, path -"
+            && told_inside.as_str() == "Truncated at byte 65, path 9[1].5[0]"
             && (Cause::Truncated.number(), Cause::InputTooLarge.number()) == (1, 12)
             && (refusal.number(), RawError::Memory.number()) == (13, 14)
     );
@@ -150,4 +162,16 @@ fn laws() {
     one_fault::<()>();
     longer_text::<()>();
     fault_bounds::<()>();
+    read_back();
+}
+
+#[test]
+fn copies(rt: HostRuntime) -> Result<(), Fail> {
+    let mut items = RecordIter::new(b"\x08\x01\x08\x02", Limits::FULL);
+    let mut others = items.clone()?;
+    for _ in 0..3 {
+        assert!(rt; items.next() == others.next());
+    }
+    assert!(rt; put_varint(300) == put_varint(300) && put_varint(300) != put_varint(301));
+    Ok(())
 }

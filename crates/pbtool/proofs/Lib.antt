@@ -1,5 +1,6 @@
 pub mod SendingLemmas
 pub mod HexParts
+pub mod Digits
 pub mod Borrowing
 pub mod Lines
 pub mod Paths

@@ -2,7 +2,7 @@
 use Rattle.std.proofs.Common.{◌≡◌, ℕ, ◌+◌, ◌<◌, List, [], ◌∷◌, ◌++◌, length, get_or, take, drop, sym, refl, ap, ◌∙◌, append_assoc, append-nil, codes}
 use Rattle.std.proofs.lemmas.List.{take_more, take-append-drop}
 use Rattle.pb_wire.specs.declared.fault.PathStep.{PathStep}
-use Rattle.pbtool.specs.Report.{dotted, step_text}
+use Rattle.pb_wire.specs.PathText.{dotted, step_text}
 
 -- what stands at an index past the end
 abbrev pub no_step : PathStep

@@ -4,6 +4,8 @@ use Rattle.std.specs.Prelude.{Result, Ok, Err, MatchResult, IsErr}
 use Rattle.std.specs.Io.KnownBytes.{Appends}
 use Rattle.std.proofs.KnownBytes.{Appends-nil, Appends-trans}
 use Rattle.std.proofs.Math.Seq.{take-append-add}
+use Rattle.std.specs.Borrow.{MutBor}
+use Rattle.pbtool.specs.declared.buffered.Buffered.{Buffered}
 use Rattle.pbtool.specs.Sending.{Sent, Cut, IsUnderWay, Puts}
 
 -- a beginning of a text begins a longer one
@@ -72,75 +74,100 @@ module _ {D : Type 0} {written : D → Option (List ℕ)} {failures : D → ℕ}
   module _ {E : Type 0} where
     -- one text after another
     pub puts_then :
-        {d0 d1 d2 : D} {h0 h1 h2 a b : List ℕ} {r : Result Unit E} → Puts {E = E} written failures d0 d1 h0 h1 (Ok tt) a
-        → Puts written failures d1 d2 h1 h2 r b → Puts written failures d0 d2 h0 h2 r (a ++ b)
-    puts_then {d0} {d1} {d2} {h0} {h1} {h2} {a} {b} {r} first second = record {
+        {b0 b1 b2 : Buffered D} {x y : List ℕ} {r : Result Unit E} → Puts {E = E} written failures b0 b1 (Ok tt) x
+        → Puts written failures b1 b2 r y → Puts written failures b0 b2 r (x ++ y)
+    puts_then {b0} {b1} {b2} {x} {y} {r} first second = record {
+      same = second.same ∙ first.same;
       follow = λ start text under.
-          subst (λ (t : List ℕ). MatchResult r (λ _. IsUnderWay written failures start d2 h2 t) (λ _. Cut written failures start d2 t))
-          (append_assoc text a b) (second.follow start (text ++ a) (first.follow start text under));
+          subst (λ (t : List ℕ). MatchResult r (λ _. IsUnderWay written failures start b2.out.now b2.held t) (λ _. Cut written failures start b2.out.now t))
+          (append_assoc text x y) (second.follow start (text ++ x) (first.follow start text under));
     }
 
     -- the device failed before the rest
     pub puts_cut :
-        {d0 d1 : D} {h0 h1 a : List ℕ} {e : E} → Puts written failures d0 d1 h0 h1 (Err e) a → (b : List ℕ)
-        → Puts written failures d0 d1 h0 h1 (Err e) (a ++ b)
-    puts_cut {d0} {d1} {h0} {h1} {a} {e} first b = record {
+        {b0 b1 : Buffered D} {x : List ℕ} {e : E} → Puts written failures b0 b1 (Err e) x → (y : List ℕ)
+        → Puts written failures b0 b1 (Err e) (x ++ y)
+    puts_cut {b0} {b1} {x} {e} first y = record {
+      same = first.same;
       follow = λ start text under.
-          subst (Cut written failures start d1) (append_assoc text a b) (cut_longer written failures start d1 (text ++ a) b (first.follow start text under));
+          subst (Cut written failures start b1.out.now) (append_assoc text x y) (cut_longer written failures start b1.out.now (text ++ x) y (first.follow start text under));
     }
 
     -- the device failed, at the exit of a `?`
-    pub puts_exit :
-        {d0 d1 : D} {h0 h1 a : List ℕ} {e : E} (r : Result Unit E) (held : List ℕ) → IsErr r
-        → Puts written failures d0 d1 h0 h1 (Err e) a → Puts written failures d0 d1 h0 held r a
-    puts_exit (Ok u) held is_err first = absurd (cc)
-    puts_exit (Err f) held is_err first = record { follow = first.follow }
+    pub puts_exit : {b0 b1 : Buffered D} {x : List ℕ} {e : E} (r : Result Unit E) → IsErr r → Puts written failures b0 b1 (Err e) x → Puts written failures b0 b1 r x
+    puts_exit (Ok u) is_err first = absurd (cc)
+    puts_exit (Err f) is_err first = record { same = first.same; follow = first.follow }
 
     -- the bytes are held
     pub puts_held :
-        {d : D} {h0 h1 bytes : List ℕ} → h1 ≡ h0 ++ bytes → Puts {E = E} written failures d d h0 h1 (Ok tt) bytes
-    puts_held {d} {h0} {h1} {bytes} e = record { follow = λ start text under. holds_more h1 bytes e under }
+        {b0 b1 : Buffered D} {bytes : List ℕ} → b1.out ≡ b0.out → b1.held ≡ b0.held ++ bytes → Puts {E = E} written failures b0 b1 (Ok tt) bytes
+    puts_held {b0} {b1} {bytes} out e = record {
+      same = ap (λ (o : MutBor D). o.ghost_name) out;
+      follow = λ start text under.
+          subst (λ (d : D). IsUnderWay written failures start d b1.held (text ++ bytes)) (ap (λ (o : MutBor D). o.now) (sym out)) (holds_more b1.held bytes e under);
+    }
 
     -- what is held went out
     pub puts_sent :
-        {d0 d1 : D} {h0 : List ℕ} → Sent written failures d0 d1 h0 → Puts {E = E} written failures d0 d1 h0 [] (Ok tt) []
-    puts_sent {d0} {d1} {h0} sent = record {
+        {b0 b1 : Buffered D} → b1.out.ghost_name ≡ b0.out.ghost_name → b1.held ≡ [] → Sent written failures b0.out.now b1.out.now b0.held
+        → Puts {E = E} written failures b0 b1 (Ok tt) []
+    puts_sent {b0} {b1} same empty sent = record {
+      same = same;
       follow = λ start text under.
-          let went : Sent written failures start d1 (text ++ []) = rw append-nil (goes_out d1 under sent) in
-          sent_under_way written failures start d1 (text ++ []) went;
+          let went : Sent written failures start b1.out.now (text ++ []) = rw append-nil (goes_out b1.out.now under sent) in
+          rw empty (sent_under_way written failures start b1.out.now (text ++ []) went);
     }
 
     -- a beginning of what is held went out
     pub puts_broken :
-        {d0 d1 : D} {h0 held : List ℕ} {e : E} → Cut written failures d0 d1 h0 → Puts written failures d0 d1 h0 held (Err e) []
-    puts_broken {d0} {d1} {h0} cut = record { follow = λ start text under. rw append-nil (goes_out_in_part d1 under cut) }
+        {b0 b1 : Buffered D} {e : E} → b1.out.ghost_name ≡ b0.out.ghost_name → Cut written failures b0.out.now b1.out.now b0.held
+        → Puts written failures b0 b1 (Err e) []
+    puts_broken {b0} {b1} same cut = record { same = same; follow = λ start text under. rw append-nil (goes_out_in_part b1.out.now under cut) }
 
     -- nothing is put
-    pub puts_none : {d : D} {h : List ℕ} → Puts {E = E} written failures d d h h (Ok tt) []
-    puts_none {d} {h} = puts_held (sym (append-nil h))
+    pub puts_none : {b : Buffered D} → Puts {E = E} written failures b b (Ok tt) []
+    puts_none {b} = puts_held refl (sym (append-nil b.held))
 
     -- bytes went out where nothing was held
-    pub puts_through : {d0 d1 : D} {bytes : List ℕ} → Sent written failures d0 d1 bytes → Puts {E = E} written failures d0 d1 [] [] (Ok tt) bytes
-    puts_through {d0} {d1} {bytes} sent = record {
-      follow = λ start text under. sent_under_way written failures start d1 (text ++ bytes) (goes_out d1 (holds_more bytes bytes refl under) sent);
+    pub puts_through :
+        {b0 b1 : Buffered D} {bytes : List ℕ} → b1.out.ghost_name ≡ b0.out.ghost_name → b0.held ≡ [] → b1.held ≡ []
+        → Sent written failures b0.out.now b1.out.now bytes → Puts {E = E} written failures b0 b1 (Ok tt) bytes
+    puts_through {b0} {b1} {bytes} same empty still sent = record {
+      same = same;
+      follow = λ start text under.
+          let longer : bytes ≡ b0.held ++ bytes = rw empty refl in
+          rw still (sent_under_way written failures start b1.out.now (text ++ bytes) (goes_out b1.out.now (holds_more bytes bytes longer under) sent));
     }
 
     -- a beginning of the bytes went out where nothing was held
     pub puts_through_cut :
-        {d0 d1 : D} {held bytes : List ℕ} {e : E} → Cut written failures d0 d1 bytes → Puts written failures d0 d1 [] held (Err e) bytes
-    puts_through_cut {d0} {d1} {held} {bytes} cut = record { follow = λ start text under. goes_out_in_part d1 (holds_more bytes bytes refl under) cut }
+        {b0 b1 : Buffered D} {bytes : List ℕ} {e : E} → b1.out.ghost_name ≡ b0.out.ghost_name → b0.held ≡ []
+        → Cut written failures b0.out.now b1.out.now bytes → Puts written failures b0 b1 (Err e) bytes
+    puts_through_cut {b0} {b1} {bytes} same empty cut = record {
+      same = same;
+      follow = λ start text under.
+          let longer : bytes ≡ b0.held ++ bytes = rw empty refl in goes_out_in_part b1.out.now (holds_more bytes bytes longer under) cut;
+    }
 
     -- a text that was put into an empty buffer, which was then flushed, went out whole
     pub sent_alone :
-        {d0 d1 d2 : D} {h text : List ℕ} → Puts {E = E} written failures d0 d1 [] h (Ok tt) text
-        → Puts {E = E} written failures d1 d2 h [] (Ok tt) [] → Sent written failures d0 d2 text
-    sent_alone {d0} {d1} {d2} {h} {text} put flush =
-        let under = (puts_then put flush).follow d0 [] (at_start written failures d0) in
-        under_way_sent (rw append-nil at under)
+        {b0 b1 b2 : Buffered D} {text : List ℕ} (start end : D) → b0.out.now ≡ start → b0.held ≡ []
+        → Puts {E = E} written failures b0 b1 (Ok tt) text → Puts {E = E} written failures b1 b2 (Ok tt) [] → b2.held ≡ []
+        → (b2.out.ghost_name ≡ b0.out.ghost_name → end ≡ b2.out.now) → Sent written failures start end text
+    sent_alone {b0} {b1} {b2} {text} start end begins empty put flush emptied ends =
+        let both = puts_then put flush in
+        let nothing : IsUnderWay written failures b0.out.now b0.out.now b0.held [] = rw empty (at_start written failures b0.out.now) in
+        let under = both.follow b0.out.now [] nothing in
+        let sent : Sent written failures b0.out.now b2.out.now text = under_way_sent (rw (append-nil, emptied) at under) in
+        rw (← begins, ends both.same) sent
 
     -- or a beginning of it, where the device failed
     pub cut_alone :
-        {d0 d1 : D} {h text : List ℕ} {e : E} → Puts written failures d0 d1 [] h (Err e) text → (r : Result Unit E) → IsErr r
-        → MatchResult r (λ _. Sent written failures d0 d1 text) (λ _. Cut written failures d0 d1 text)
-    cut_alone {d0} {d1} {h} {text} {e} put (Ok u) is_err = absurd (cc)
-    cut_alone {d0} {d1} {h} {text} {e} put (Err f) is_err = put.follow d0 [] (at_start written failures d0)
+        {b0 b1 : Buffered D} {text : List ℕ} {e : E} (start end : D) → b0.out.now ≡ start → b0.held ≡ []
+        → Puts written failures b0 b1 (Err e) text → (b1.out.ghost_name ≡ b0.out.ghost_name → end ≡ b1.out.now)
+        → (r : Result Unit E) → IsErr r
+        → MatchResult r (λ _. Sent written failures start end text) (λ _. Cut written failures start end text)
+    cut_alone {b0} {b1} {text} {e} start end begins empty put ends (Ok u) is_err = absurd (cc)
+    cut_alone {b0} {b1} {text} {e} start end begins empty put ends (Err f) is_err =
+        let nothing : IsUnderWay written failures b0.out.now b0.out.now b0.held [] = rw empty (at_start written failures b0.out.now) in
+        rw (← begins, ends put.same) (put.follow b0.out.now [] nothing)

@@ -1,21 +1,8 @@
 -- The lines that tell why a command was refused.
-use Rattle.std.specs.Prelude.{ℕ, List, [], ◌∷◌, ◌++◌, codes, decimal, flat_map}
+use Rattle.std.specs.Prelude.{ℕ, List, ◌++◌, codes, decimal}
 use Rattle.pb_wire.specs.Fault.{Fault}
 use Rattle.pb_wire.specs.CauseName.{name_of}
-use Rattle.pb_wire.specs.declared.fault.PathStep.{PathStep}
-
--- a record's number, and in brackets its occurrence
-abbrev pub step_text : PathStep → List ℕ
-step_text s = decimal s.number ++ codes "[" ++ decimal s.occurrence ++ codes "]"
-
--- each step after a dot
-abbrev pub dotted : List PathStep → List ℕ
-dotted path = flat_map (λ s. codes "." ++ step_text s) path
-
--- the steps joined by dots, or `-` where there are none
-abbrev pub path_text : List PathStep → List ℕ
-path_text [] = codes "-"
-path_text (s ∷ ss) = step_text s ++ dotted ss
+use Rattle.pb_wire.specs.PathText.{path_text}
 
 -- where a message's bytes are refused, and why
 abbrev pub fault_line : Fault → List ℕ

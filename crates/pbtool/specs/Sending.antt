@@ -1,6 +1,7 @@
 -- Bytes that go out to a device, at once or through a buffer.
 use Rattle.std.specs.Prelude.{◌≡◌, ◌≢◌, ◌⊎◌, ℕ, List, ◌++◌, take, Option, Result, MatchResult}
 use Rattle.std.specs.Io.KnownBytes.{Appends}
+use Rattle.pbtool.specs.declared.buffered.Buffered.{Buffered}
 
 module _ {D : Type 0} (written : D → Option (List ℕ)) (failures : D → ℕ) (old new : D) where
   -- the bytes went out whole
@@ -22,7 +23,9 @@ pub record IsUnderWay {D : Type 0} (written : D → Option (List ℕ)) (failures
   pub whole : text ≡ sent ++ held
 
 -- the bytes follow whatever text is under way, unless the device fails
-pub record Puts {D E : Type 0} (written : D → Option (List ℕ)) (failures : D → ℕ) (old new : D) (held_old held_new : List ℕ) (r : Result Unit E) (bytes : List ℕ) : Type 0 where
+pub record Puts {D E : Type 0} (written : D → Option (List ℕ)) (failures : D → ℕ) (old new : Buffered D) (r : Result Unit E) (bytes : List ℕ) : Type 0 where
+  pub same : new.out.ghost_name ≡ old.out.ghost_name
   pub follow :
-      (start : D) (text : List ℕ) → IsUnderWay written failures start old held_old text
-      → MatchResult r (λ _. IsUnderWay written failures start new held_new (text ++ bytes)) (λ _. Cut written failures start new (text ++ bytes))
+      (start : D) (text : List ℕ) → IsUnderWay written failures start old.out.now old.held text
+      → MatchResult r (λ _. IsUnderWay written failures start new.out.now new.held (text ++ bytes))
+      (λ _. Cut written failures start new.out.now (text ++ bytes))

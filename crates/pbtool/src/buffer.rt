@@ -1,18 +1,16 @@
-//! Output through a buffer of fixed size, so that it takes no memory and few calls.
+//! Bytes on their way to an output, in a buffer of fixed size.
 
-ghost use Rattle.std.specs.Prelude.{◌≡◌, ◌+◌, ◌*◌, ◌<◌, ◌≤◌, ◌++◌, IfOk, List, [], length, take, decimal, ℕ};
+ghost use Rattle.std.specs.Prelude.{◌≡◌, ◌+◌, ◌*◌, ◌<◌, ◌≤◌, ◌++◌, ◌∷◌, List, [], length, take, decimal, ℕ};
 ghost use Rattle.hex.specs.Hex.{encode_lower};
-ghost use Rattle.pbtool.specs.Sending.{IsUnderWay, Puts};
 
 use itoa::Buffer;
-use pb_wire::{DeviceFault, Output, write_all};
 use std::marker::Model;
 
 /// The bytes that a buffer holds at most.
-const SIZE: usize = 8192;
+pub const SIZE: usize = 8192;
 
-/// The bytes that are printed in hexadecimal at a time.
-const CHUNK: usize = 1024;
+/// The digits of hexadecimal.
+const HEX_DIGITS: [u8; 16] = *b"0123456789abcdef";
 
 /// Bytes on their way to an output. A contract sees those that are held.
 #[derive(Drop)]
@@ -39,34 +37,30 @@ impl OutputBuffer {
         }
     }
 
-    /// Writes what is held. Where the output fails, what is held is lost.
-    pub fn flush<O: Output>(&mut self, out: &mut O) -> Result<(), DeviceFault>
-        ensures empty { self.new ≡ [] }
-        ensures sent { Puts O.written O.failures out.old out.new self.old self.new result [] }
+    /// The bytes that are held.
+    pub fn as_slice(&self) -> &[u8]
+        ensures { result.now ≡ self.now }
     {
-        let sent = write_all(out, &self.bytes[..self.len]);
-        self.len = 0;
-        match sent {
-            Ok(()) => Ok(()),
-            Err(_) => Err(DeviceFault),
-        }
+        &self.bytes[..self.len]
     }
 
-    /// Sees that so many bytes more can be held.
-    #[inline]
-    pub fn make_room<O: Output>(&mut self, out: &mut O, count: usize) -> Result<(), DeviceFault>
-        requires { count ≤ SIZE }
-        ensures room { IfOk result (λ _. length self.new + count ≤ SIZE) }
-        ensures kept { Puts O.written O.failures out.old out.new self.old self.new result [] }
+    /// How many bytes more can be held.
+    #[inline(always)]
+    pub fn room(&self) -> usize
+        ensures { result + length self.now ≡ SIZE }
     {
-        if count > SIZE - self.len {
-            self.flush(out)?;
-        }
-        Ok(())
+        SIZE - self.len
+    }
+
+    /// Lets go of what is held.
+    pub fn clear(&mut self)
+        ensures { self.new ≡ [] }
+    {
+        self.len = 0;
     }
 
     /// Holds bytes for which there is room.
-    #[inline]
+    #[inline(always)]
     pub fn push(&mut self, bytes: &[u8])
         requires { length self.old + length bytes.now ≤ SIZE }
         ensures after { self.new ≡ self.old ++ bytes.now }
@@ -77,9 +71,30 @@ impl OutputBuffer {
         self.len = end;
     }
 
-    /// Holds a number, for whose digits there is room.
-    #[inline]
+    /// Holds a number, for whose digits there is room. Most numbers are short.
+    #[inline(always)]
     pub fn push_decimal(&mut self, number: u64)
+        requires { length self.old + 20 ≤ SIZE }
+        ensures after { self.new ≡ self.old ++ decimal number }
+        ensures len { length self.new ≤ length self.old + 20 }
+    {
+        if number < 10 {
+            self.push(&[digit(number)]);
+        } else if number < 100 {
+            self.push(&[digit(number / 10), digit(number % 10)]);
+        } else if number < 1000 {
+            self.push(&[
+                digit(number / 100),
+                digit(number / 10 % 10),
+                digit(number % 10),
+            ]);
+        } else {
+            self.push_long(number);
+        }
+    }
+
+    /// As `push_decimal`, whatever the number.
+    fn push_long(&mut self, number: u64)
         requires { length self.old + 20 ≤ SIZE }
         ensures after { self.new ≡ self.old ++ decimal number }
         ensures len { length self.new ≤ length self.old + 20 }
@@ -100,48 +115,25 @@ impl OutputBuffer {
         self.len = end;
     }
 
-    /// Bytes of at most the buffer's size.
-    fn put_short<O: Output>(&mut self, out: &mut O, bytes: &[u8]) -> Result<(), DeviceFault>
-        requires { length bytes.now ≤ SIZE }
-        ensures { Puts O.written O.failures out.old out.new self.old self.new result bytes.now }
+    /// Holds a byte in hexadecimal, for which there is room.
+    #[inline]
+    pub fn push_hex_byte(&mut self, byte: u8)
+        requires { length self.old + 2 ≤ SIZE }
+        ensures after { self.new ≡ self.old ++ encode_lower (byte ∷ []) }
+        ensures len { length self.new ≡ length self.old + 2 }
     {
-        self.make_room(out, bytes.len())?;
-        self.push(bytes);
-        Ok(())
+        self.push(&[
+            HEX_DIGITS[(byte / 16) as usize],
+            HEX_DIGITS[(byte % 16) as usize],
+        ]);
     }
+}
 
-    pub fn put<O: Output>(&mut self, out: &mut O, bytes: &[u8]) -> Result<(), DeviceFault>
-        ensures { Puts O.written O.failures out.old out.new self.old self.new result bytes.now }
-    {
-        if bytes.len() <= SIZE {
-            return self.put_short(out, bytes);
-        }
-        self.flush(out)?;
-        match write_all(out, bytes) {
-            Ok(()) => Ok(()),
-            Err(_) => Err(DeviceFault),
-        }
-    }
-
-    /// The bytes in hexadecimal, in lower case.
-    pub fn put_hex<O: Output>(&mut self, out: &mut O, bytes: &[u8]) -> Result<(), DeviceFault>
-        ensures { Puts O.written O.failures out.old out.new self.old self.new result (encode_lower bytes.now) }
-    {
-        let mut done = 0;
-        'chunks: while done < bytes.len() {
-            let end = bytes.len().min(done + CHUNK);
-            self.put_chunk(out, &bytes[done..end])?;
-            done = end;
-        }
-        Ok(())
-    }
-
-    fn put_chunk<O: Output>(&mut self, out: &mut O, bytes: &[u8]) -> Result<(), DeviceFault>
-        requires { length bytes.now ≤ CHUNK }
-        ensures { Puts O.written O.failures out.old out.new self.old self.new result (encode_lower bytes.now) }
-    {
-        self.make_room(out, 2 * bytes.len())?;
-        self.push_hex(bytes);
-        Ok(())
-    }
+/// A digit in ASCII.
+#[inline(always)]
+fn digit(number: u64) -> u8
+    requires { number < 10 }
+    ensures { result ≡ 48 + number }
+{
+    b'0' + number as u8
 }

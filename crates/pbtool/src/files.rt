@@ -18,6 +18,9 @@ pub trait Files {
     // Opening and reading do not fail, and the files stay steady.
     ghost is_steady: { Self → Bool };
 
+    // Writing does not fail, and the files go on taking writes.
+    ghost takes_writes: { Self → Bool };
+
     /// Opens a file, or answers `None` where no file has this path.
     fn open(&mut self, path: &str) -> Result<Option<Self::In>, DeviceFault>
         ensures map { OpensAt Self.In.left (contents self.old) (contents self.new) path.now result }
@@ -25,6 +28,7 @@ pub trait Files {
         ensures failed { OnErr result (failures self.new ≢ failures self.old) }
         ensures succeeds { is_steady self.old ≡ true → IsOk result }
         ensures steady { is_steady self.old ≡ true → is_steady self.new ≡ true }
+        ensures takes_writes { takes_writes self.old ≡ true → takes_writes self.new ≡ true }
         ensures steady_input { is_steady self.old ≡ true
             → IfOk result (λ o. IfSome o (λ input. Self.In.is_steady input ≡ true)) };
 
@@ -33,5 +37,7 @@ pub trait Files {
         ensures map { WritesWhole (contents self.old) (contents self.new) path.now bytes.now result }
         ensures kept { OnOk result (failures self.new ≡ failures self.old) }
         ensures failed { OnErr result (failures self.new ≢ failures self.old) }
-        ensures steady { is_steady self.old ≡ true → is_steady self.new ≡ true };
+        ensures succeeds { takes_writes self.old ≡ true → IsOk result }
+        ensures steady { is_steady self.old ≡ true → is_steady self.new ≡ true }
+        ensures takes_writes { takes_writes self.old ≡ true → takes_writes self.new ≡ true };
 }

@@ -32,6 +32,8 @@ where
 
     ghost is_steady = { λ _. false };
 
+    ghost takes_writes = { λ _. false };
+
     fn open(&mut self, path: &str) -> Result<Option<ReadInput<R::File>>, DeviceFault> {
         match fs::open(self.rt, path) {
             Ok(file) => Ok(Some(ReadInput::new(file))),

@@ -2,6 +2,7 @@
 #![tactic(auto)]
 
 mod buffer;
+mod buffered;
 mod command;
 mod execute;
 mod files;

@@ -1,6 +1,6 @@
 //! Files in memory, for tests.
 
-ghost use Rattle.std.specs.Prelude.{◌≡◌, ◌≢◌, ◌<◌, ◌&&◌, Some, None, true, is_none, IfSome, OnOk, option_map, ℕ, List};
+ghost use Rattle.std.specs.Prelude.{◌≡◌, ◌≢◌, ◌<◌, ◌&&◌, Some, None, true, false, is_none, IfSome, OnOk, option_map, ℕ, List};
 ghost use Rattle.pbtool.specs.MemFiles.{map_of};
 
 use crate::files::Files;
@@ -76,6 +76,9 @@ impl<'a> Files for MemFiles<'a> {
     ghost failures = { λ s. s.failures };
 
     ghost is_steady = { λ s. is_none s.plan.fails_after && is_none s.input_plan.fails_after };
+
+    // Memory can run out at a write.
+    ghost takes_writes = { λ _. false };
 
     fn open(&mut self, path: &str) -> Result<Option<MemInput<'a>>, DeviceFault> {
         if self.plan.count_call() {

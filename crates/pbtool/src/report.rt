@@ -2,11 +2,12 @@
 
 ghost use Rattle.std.specs.Prelude.{◌≡◌, ◌≤◌, ◌++◌, codes, decimal, length, MatchResult};
 ghost use Rattle.pb_wire.specs.Fault.{fault};
-ghost use Rattle.pbtool.specs.Report.{device_line, dotted, fault_line, path_text, step_text};
+ghost use Rattle.pb_wire.specs.PathText.{dotted, path_text, step_text};
+ghost use Rattle.pbtool.specs.Report.{device_line, fault_line};
 ghost use Rattle.pbtool.specs.Refusal.{refusal_line, refusal_status};
 ghost use Rattle.pbtool.specs.Sending.{Cut, Puts, Sent, SentOrCut};
 
-use crate::buffer::OutputBuffer;
+use crate::buffered::Buffered;
 use pb_wire::{Cause, DeviceFault, Output, PathStep, RawError};
 
 /// Why a command is refused.
@@ -66,112 +67,91 @@ impl Refusal<'_> {
         ensures { MatchResult result (λ _. Sent E.written E.failures err.old err.new (refusal_line self.now))
             (λ _. Cut E.written E.failures err.old err.new (refusal_line self.now)) }
     {
-        let mut buffer = OutputBuffer::new();
-        self.put(&mut buffer, err)?;
-        buffer.flush(err)?;
+        let mut buffered = Buffered::new(err);
+        buffered.put_refusal(self)?;
+        buffered.flush()?;
         Ok(())
     }
+}
 
-    fn put<E: Output>(&self, buffer: &mut OutputBuffer, err: &mut E) -> Result<(), DeviceFault>
-        ensures { Puts E.written E.failures err.old err.new buffer.old buffer.new result (refusal_line self.now) }
+impl<O: Output> Buffered<'_, O> {
+    fn put_refusal(&mut self, refusal: &Refusal<'_>) -> Result<(), DeviceFault>
+        ensures { Puts O.written O.failures self.old self.new result (refusal_line refusal.now) }
     {
-        match self {
-            Refusal::Fault { byte, path, cause } => put_fault(buffer, err, *byte, path, *cause)?,
-            Refusal::Device(path) => put_device(buffer, err, path)?,
-            Refusal::Memory => buffer.put(err, b"memory\n")?,
+        match refusal {
+            Refusal::Fault { byte, path, cause } => self.put_fault(*byte, path, *cause)?,
+            Refusal::Device(path) => self.put_device(path)?,
+            Refusal::Memory => self.put(b"memory\n")?,
         }
         Ok(())
     }
-}
 
-fn put_fault<O: Output>(
-    buffer: &mut OutputBuffer,
-    out: &mut O,
-    byte: u64,
-    path: &[PathStep],
-    cause: Cause,
-) -> Result<(), DeviceFault>
-    ensures { Puts O.written O.failures out.old out.new buffer.old buffer.new result
-        (fault_line (fault byte path.now cause)) }
-{
-    put_byte(buffer, out, byte)?;
-    put_path(buffer, out, path)?;
-    buffer.put(out, b" cause ")?;
-    buffer.put(out, cause.name().as_bytes())?;
-    buffer.put(out, b"\n")?;
-    Ok(())
-}
-
-fn put_byte<O: Output>(buffer: &mut OutputBuffer, out: &mut O, byte: u64) -> Result<(), DeviceFault>
-    ensures { Puts O.written O.failures out.old out.new buffer.old buffer.new result
-        (codes "byte " ++ decimal byte ++ codes " path ") }
-{
-    buffer.make_room(out, 32)?;
-    buffer.push(b"byte ");
-    buffer.push_decimal(byte);
-    buffer.push(b" path ");
-    Ok(())
-}
-
-/// The steps joined by dots, or `-` where there are none.
-fn put_path<O: Output>(
-    buffer: &mut OutputBuffer,
-    out: &mut O,
-    path: &[PathStep],
-) -> Result<(), DeviceFault>
-    ensures { Puts O.written O.failures out.old out.new buffer.old buffer.new result (path_text path.now) }
-{
-    let Some((first, others)) = path.split_first() else {
-        buffer.put(out, b"-")?;
-        return Ok(());
-    };
-    put_step(buffer, out, b"", *first)?;
-    put_steps(buffer, out, others)?;
-    Ok(())
-}
-
-/// Each step after a dot.
-fn put_steps<O: Output>(
-    buffer: &mut OutputBuffer,
-    out: &mut O,
-    steps: &[PathStep],
-) -> Result<(), DeviceFault>
-    ensures { Puts O.written O.failures out.old out.new buffer.old buffer.new result (dotted steps.now) }
-{
-    for step in steps {
-        put_step(buffer, out, b".", *step)?;
+    fn put_fault(&mut self, byte: u64, path: &[PathStep], cause: Cause) -> Result<(), DeviceFault>
+        ensures { Puts O.written O.failures self.old self.new result
+            (fault_line (fault byte path.now cause)) }
+    {
+        self.put_byte(byte)?;
+        self.put_path(path)?;
+        self.put(b" cause ")?;
+        self.put(cause.name().as_bytes())?;
+        self.put(b"\n")?;
+        Ok(())
     }
-    Ok(())
-}
 
-fn put_step<O: Output>(
-    buffer: &mut OutputBuffer,
-    out: &mut O,
-    separator: &[u8],
-    step: PathStep,
-) -> Result<(), DeviceFault>
-    requires { length separator.now ≤ 1 }
-    ensures { Puts O.written O.failures out.old out.new buffer.old buffer.new result
-        (separator.now ++ step_text step) }
-{
-    buffer.make_room(out, 64)?;
-    buffer.push(separator);
-    buffer.push_decimal(u64::from(step.number));
-    buffer.push(b"[");
-    buffer.push_decimal(u64::from(step.occurrence));
-    buffer.push(b"]");
-    Ok(())
-}
+    fn put_byte(&mut self, byte: u64) -> Result<(), DeviceFault>
+        ensures { Puts O.written O.failures self.old self.new result
+            (codes "byte " ++ decimal byte ++ codes " path ") }
+    {
+        self.make_room(32)?;
+        self.held.push(b"byte ");
+        self.held.push_decimal(byte);
+        self.held.push(b" path ");
+        Ok(())
+    }
 
-fn put_device<O: Output>(
-    buffer: &mut OutputBuffer,
-    out: &mut O,
-    path: &str,
-) -> Result<(), DeviceFault>
-    ensures { Puts O.written O.failures out.old out.new buffer.old buffer.new result (device_line path.now) }
-{
-    buffer.put(out, b"device ")?;
-    buffer.put(out, path.as_bytes())?;
-    buffer.put(out, b"\n")?;
-    Ok(())
+    /// The steps joined by dots, or `-` where there are none.
+    fn put_path(&mut self, path: &[PathStep]) -> Result<(), DeviceFault>
+        ensures { Puts O.written O.failures self.old self.new result (path_text path.now) }
+    {
+        let Some((first, others)) = path.split_first() else {
+            self.put(b"-")?;
+            return Ok(());
+        };
+        self.put_step(b"", *first)?;
+        self.put_steps(others)?;
+        Ok(())
+    }
+
+    /// Each step after a dot.
+    fn put_steps(&mut self, steps: &[PathStep]) -> Result<(), DeviceFault>
+        ensures { Puts O.written O.failures self.old self.new result (dotted steps.now) }
+    {
+        for step in steps {
+            self.put_step(b".", *step)?;
+        }
+        Ok(())
+    }
+
+    fn put_step(&mut self, separator: &[u8], step: PathStep) -> Result<(), DeviceFault>
+        requires { length separator.now ≤ 1 }
+        ensures { Puts O.written O.failures self.old self.new result
+            (separator.now ++ step_text step) }
+    {
+        self.make_room(64)?;
+        self.held.push(separator);
+        self.held.push_decimal(u64::from(step.number));
+        self.held.push(b"[");
+        self.held.push_decimal(u64::from(step.occurrence));
+        self.held.push(b"]");
+        Ok(())
+    }
+
+    fn put_device(&mut self, path: &str) -> Result<(), DeviceFault>
+        ensures { Puts O.written O.failures self.old self.new result (device_line path.now) }
+    {
+        self.put(b"device ")?;
+        self.put(path.as_bytes())?;
+        self.put(b"\n")?;
+        Ok(())
+    }
 }

@@ -2,9 +2,10 @@
 //! encoding guide's rules, worked out by hand.
 
 use crate::files::Files;
+use crate::host::HostFiles;
 use crate::memory::MemFiles;
 use crate::run::run;
-use pb_wire::{FailurePlan, MemOutput, read_up_to};
+use pb_wire::{FailurePlan, MemOutput, ReadFault, read_up_to};
 use std::alloc::Global;
 use std::test::Fail;
 
@@ -335,5 +336,22 @@ fn written_files(rt: HostRuntime) -> Result<(), Fail> {
     assert!(rt;
         files.bytes_at("a") == Some(b"again".as_slice()) && read.as_slice() == b"again".as_slice()
     );
+    Ok(())
+}
+
+// A path through what is no folder can't be opened, which is no missing file; a folder opens, and can't be read.
+#[test]
+fn unreadable_files(rt: HostRuntime) -> Result<(), Fail> {
+    let mut files = HostFiles::new(&rt);
+    assert!(rt;
+        files.open("/dev/null/file").is_err()
+            && files.write_whole("/dev/null/file", b"a").is_err()
+            && files
+                .open("/dev/no file")
+                .is_ok_and(|input| input.is_none())
+    );
+    let mut folder = files.open("/dev")?.ok_or("no folder")?;
+    let read = read_up_to(rt.alloc(), &mut folder, 9);
+    assert!(rt; matches!(read, Err(ReadFault::Device)));
     Ok(())
 }

@@ -1,20 +1,19 @@
-use Rattle.std.proofs.Common.{append-nil}
+use Rattle.std.proofs.Common.{append-nil, arith}
 use Rattle.pbtool.proofs.SendingLemmas.{cut_alone, puts_then, sent_alone}
 use Rattle.pbtool.proofs.report.Refusal.write.Goals as goal
 
-pub returns-in_err-put : goal.returns-in_err-put
-returns-in_err-put g c =
-    let put = rw c.new-buffer.ensures at c.in_err-put.ensures in
-    cut_alone put c.from_residual.result c.from_residual.ensures.0
+pub returns-in_err-put_refusal : goal.returns-in_err-put_refusal
+returns-in_err-put_refusal g c =
+    cut_alone _ _ c.new-buffered.ensures.now c.new-buffered.ensures.empty c.in_err-put_refusal.ensures (λ e. grind (arith, e, c.new-buffered.ensures.same))
+    c.from_residual.result c.from_residual.ensures.0
 
 pub returns-in_err-flush : goal.returns-in_err-flush
 returns-in_err-flush g c =
-    let put = rw c.new-buffer.ensures at c.in_ok-put.ensures in
-    let flush = rw append-nil at (puts_then put c.in_err-flush.ensures.sent) in
-    cut_alone flush c.from_residual-in_err-flush.result c.from_residual-in_err-flush.ensures.0
+    let flush = rw append-nil at (puts_then c.in_ok-put_refusal.ensures c.in_err-flush.ensures.sent) in
+    cut_alone _ _ c.new-buffered.ensures.now c.new-buffered.ensures.empty flush (λ e. grind (arith, e, c.new-buffered.ensures.same))
+    c.from_residual-in_err-flush.result c.from_residual-in_err-flush.ensures.0
 
 pub returns : goal.returns
 returns g c =
-    let put = rw c.new-buffer.ensures at c.in_ok-put.ensures in
-    let flush = rw c.in_ok-flush.ensures.empty at c.in_ok-flush.ensures.sent in
-    sent_alone put flush
+    sent_alone _ _ c.new-buffered.ensures.now c.new-buffered.ensures.empty c.in_ok-put_refusal.ensures
+    c.in_ok-flush.ensures.sent c.in_ok-flush.ensures.empty (λ e. grind (arith, e, c.new-buffered.ensures.same))
