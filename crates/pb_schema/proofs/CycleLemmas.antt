@@ -6,8 +6,8 @@ use Rattle.std.proofs.lemmas.List.{length-set, length-replicate, get_or-set_same
 use Rattle.std.proofs.lemmas.List.Sums.{sum_by_push}
 use Rattle.std.proofs.lemmas.List.Elements.{Contains-push, Contains-push_cases, Contains-append_left}
 use Rattle.std.proofs.lemmas.Bool.{cases_eq}
-use Rattle.pb_schema.specs.declared.cycles.Progress.{Progress}
-use Rattle.pb_schema.specs.declared.cycles.Progress.TheVariants.{Unseen, Open, Done}
+use Rattle.pb_schema.specs.declared.imports.cycles.Progress.{Progress}
+use Rattle.pb_schema.specs.declared.imports.cycles.Progress.TheVariants.{Unseen, Open, Done}
 use Rattle.pb_schema.specs.declared.types.FileInfo.{FileInfo}
 use Rattle.pb_schema.specs.View.{file_view}
 use Rattle.pb_schema.specs.Types.{FileView}

@@ -7,7 +7,7 @@ use Rattle.std.proofs.lemmas.List.{length-map, take_more, map-append}
 use Rattle.std.proofs.lemmas.Grind.{flat_map-append}
 use Rattle.std.proofs.lemmas.Option.{slice_get_within}
 use Rattle.std.proofs.lemmas.List.Elements.{Contains-push, Contains-push_cases, Contains-append_left}
-use Rattle.pb_schema.specs.declared.declarations.Declarations.{Declarations}
+use Rattle.pb_schema.specs.declared.names.declared.Declarations.{Declarations}
 use Rattle.pb_schema.specs.declared.types.Kind.{Kind}
 use Rattle.pb_schema.specs.declared.types.Shape.TheVariants as shape
 use Rattle.pb_schema.specs.declared.types.MessageType.{MessageType}
@@ -19,7 +19,7 @@ use Rattle.pb_schema.specs.Names.{is_word, in_scope, name_at, package_of, scope_
 use Rattle.pb_schema.specs.NameTree.{IsTree, IsScope, scope_name, full_names_of, Keeps, IsAddedAt, NameAdded, ArePackages, PackagesAdded}
 use Rattle.pb_schema.specs.Rules.{AreWords, MessageIsOfWords, EnumIsOfWords, FullNamesDiffer, PackagesAreFree}
 use Rattle.pb_schema.specs.Declarations.{IsDeclared, Added, named_in, Adds, AddedAt, AddsOne, names_by_message, AddsMessage, scope_id, HaveNames, MayAddMessages, MessagesAdded, MayAddEnums}
-use Rattle.pb_schema.specs.declared.name_tree.NameTree.{NameTree}
+use Rattle.pb_schema.specs.declared.names.tree.NameTree.{NameTree}
 use Rattle.pb_schema.proofs.ImportLemmas.{Contains-none}
 use Rattle.pb_schema.proofs.OrderLemmas.{iff_trans}
 use Rattle.pb_schema.proofs.NameSetLemmas.{Contains-first, Contains-later, Contains-cases, All-at, AllDiffer-push, AllDiffer-front, AllDiffer-back, AllDiffer-new, all_front, all_back}

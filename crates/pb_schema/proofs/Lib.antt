@@ -18,3 +18,5 @@ pub mod LookupLemmas
 pub mod PackedLemmas
 pub mod DeclareLemmas
 pub mod PackageLemmas
+pub mod PoolEq
+pub mod NameRows

@@ -1,18 +1,20 @@
 -- What look-ups stand on.
-use Rattle.std.proofs.Common.{◌≡◌, ◌≢◌, ℕ, zero, suc, ◌+◌, ◌<◌, ◌≤◌, get_or, MatchOption, List, [], ◌∷◌, Bool, true, false, cond, map, length, refl, sym, ◌∙◌, ap, subst, arith, eqb, Option, Some, None, option_map, IfSome, find, position, Vec, Global, Bor}
+use Rattle.std.proofs.Common.{◌≡◌, ◌≢◌, ℕ, zero, suc, ◌+◌, ◌<◌, ◌≤◌, get_or, MatchOption, List, [], ◌∷◌, Bool, true, false, cond, map, length, refl, sym, ◌∙◌, ap, subst, arith, nat_lt, eqb, Option, Some, None, option_map, IfSome, find, position, Vec, Global, Bor}
 use Rattle.std.specs.Prelude.{slice_get}
-use Rattle.std.specs.List.{AllByRecursion, flat_map, prefix_len, HoldsAt}
+use Rattle.std.specs.List.{AllByRecursion, flat_map, prefix_len, position_or_len, HoldsAt}
 use Rattle.std.specs.Str.{bytes_eq}
 use Rattle.std.proofs.lemmas.Bool.Decides.{Decides-eqb}
+use Rattle.std.proofs.lemmas.Slice.Eq.{bytes_eq-Decides}
+use Rattle.std.proofs.lemmas.List.Folds.{find_at}
 use Rattle.std.proofs.lemmas.List.{length-map}
 use Rattle.pb_schema.specs.declared.types.Field.{Field}
 use Rattle.pb_schema.specs.View.{field_view, bytes_of}
 use Rattle.pb_schema.specs.Types.{FieldView, MessageView, EnumView, Types, message_fields, fields_of_message, field_numbered}
-use Rattle.pb_schema.specs.declared.name_set.NameSet.{NameSet}
+use Rattle.pb_schema.specs.declared.names.set.NameSet.{NameSet}
 use Rattle.pb_schema.specs.Nesting.{ParentsStandBefore}
 use Rattle.pb_schema.specs.Names.{AllDiffer, in_scope, scope_of, scope_by_names, message_name, enum_name, message_names, enum_names, names_in_message, declared_by_message, declared_by_enum}
 use Rattle.pb_schema.specs.NameSet.{IsSetOf}
-use Rattle.pb_schema.specs.Tables.{IsNumbered, AreNumberTables, AreMemberTables, HasTables, place_of}
+use Rattle.pb_schema.specs.Tables.{IsNumbered, AreNumberTables, AreMemberTables, AreNameTables, HasTables, place_of, field_named}
 use Rattle.pb_schema.specs.Rules.{IsPool, IsFieldOf, NamesOneof}
 use Rattle.pb_schema.proofs.NameSetLemmas.{all_back, AllDiffer-front, AllDiffer-back}
 use Rattle.pb_schema.proofs.NameLemmas.{scope_of-names}
@@ -153,10 +155,65 @@ enum_names_by ts names ok same = each ts.enums
     each [] = refl
     each (e ∷ es) = ap (λ n. n ∷ map (λ d. in_scope (scope_by_names ts.files names d.file d.parent) d.name) es) (one e) ∙ ap (λ l. enum_name ts.files ts.messages e ∷ l) (each es)
 
-pub pool_tables : (ts : Types) (names others : List (List ℕ)) (messages enums : NameSet) (numbers : List (Vec (ℕ × ℕ) Global)) (members : List (Vec (Vec ℕ Global) Global)) → IsPool ts → names ≡ message_names ts → IsSetOf names messages → others ≡ enum_names ts → IsSetOf others enums → AreNumberTables ts.messages numbers → AreMemberTables ts.messages members → HasTables ts messages.table.keys enums.table.keys numbers members
-pool_tables ts names others messages enums numbers members ok same is_messages same' is_enums are are' = record {
+pub pool_tables : (ts : Types) (names others : List (List ℕ)) (messages enums : NameSet) (numbers : List (Vec (ℕ × ℕ) Global)) (members : List (Vec (Vec ℕ Global) Global)) (fields : List (Option NameSet)) → IsPool ts → names ≡ message_names ts → IsSetOf names messages → others ≡ enum_names ts → IsSetOf others enums → AreNumberTables ts.messages numbers → AreMemberTables ts.messages members → AreNameTables ts.messages fields → HasTables ts messages.table.keys enums.table.keys numbers members fields
+pool_tables ts names others messages enums numbers members fields ok same is_messages same' is_enums are are' of_fields = record {
   messages = is_messages.ordered (is_messages.differ.1 (subst AllDiffer (sym same) (pool_message_names ts ok))) ∙ same;
   enums = is_enums.ordered (is_enums.differ.1 (subst AllDiffer (sym same') (pool_enum_names ts ok))) ∙ same';
   numbers = are;
   members = are';
+  names = of_fields;
 }
+
+-- FIELDS BY NAME
+
+both_ways : (a b : Bool) → (a ≡ true → b ≡ true) → (b ≡ true → a ≡ true) → a ≡ b
+both_ways true b there back = sym (there refl)
+both_ways false b there back = sym (test_false b (λ h. bool_differ (back h)))
+  where
+    bool_differ : false ≡ true → ⊥
+    bool_differ e = cc
+
+bytes_eq-sym : (xs ys : List ℕ) → bytes_eq xs ys ≡ bytes_eq ys xs
+bytes_eq-sym xs ys = both_ways (bytes_eq xs ys) (bytes_eq ys xs) (λ e. (bytes_eq-Decides ys xs).1 (sym ((bytes_eq-Decides xs ys).0 e))) (λ e. (bytes_eq-Decides xs ys).1 (sym ((bytes_eq-Decides ys xs).0 e)))
+
+flipped : (name : List ℕ) (fs : List FieldView) → field_named name fs ≡ find (λ f. bytes_eq name f.name) fs
+flipped name [] = refl
+flipped name (f ∷ fs) = ap (λ b. cond b (Some f) (field_named name fs)) (bytes_eq-sym f.name name) ∙ ap (λ o. cond (bytes_eq name f.name) (Some f) o) (flipped name fs)
+
+-- a field is found at the place of its name
+pub named_at : (name : List ℕ) (fs : List FieldView) → field_named name fs ≡ slice_get fs (position_or_len (λ f. bytes_eq name f.name) fs)
+named_at name fs = flipped name fs ∙ find_at (λ (f : FieldView). bytes_eq name f.name) fs
+
+pub place_some : {X : Type 0} (t : X → Bool) (xs : List X) (i : ℕ) → position t xs ≡ Some i → position_or_len t xs ≡ i
+place_some t xs i e = by_test (nat_lt (position_or_len t xs) (length xs)) e
+  where
+    by_test : (b : Bool) → cond b (Some (position_or_len t xs)) None ≡ Some i → position_or_len t xs ≡ i
+    by_test true e = some_same refl e
+    by_test false e = absurd (none_some e)
+
+pub place_none : {X : Type 0} (t : X → Bool) (xs : List X) → position t xs ≡ None → length xs ≤ position_or_len t xs
+place_none t xs e = by_test (nat_lt (position_or_len t xs) (length xs)) refl e
+  where
+    by_test : (b : Bool) → nat_lt (position_or_len t xs) (length xs) ≡ b → cond b (Some (position_or_len t xs)) None ≡ None → length xs ≤ position_or_len t xs
+    by_test true is e = absurd (none_some (sym e))
+    by_test false is e = grind arith
+
+-- what a read at the place of a name gives
+pub read_named : (name : List ℕ) (fs : List Field) (n : ℕ) (r : Option (Bor Field)) → position_or_len (λ f. bytes_eq name f.name) (map field_view fs) ≡ n → MatchOption r (length fs ≤ n) (λ x. (n < length fs) × (x.now ≡ get_or fs n x.now)) → option_map (λ f. field_view f.now) r ≡ field_named name (map field_view fs)
+read_named name fs n None at past = sym (named_at name (map field_view fs) ∙ ap (slice_get (map field_view fs)) at ∙ get_past fs n past)
+read_named name fs n (Some x) at here = sym (named_at name (map field_view fs) ∙ ap (slice_get (map field_view fs)) at ∙ get_map fs n x.now here.0 here.1)
+
+-- the place of a name is that of its field
+pub place_by_name : (name : List ℕ) (fs : List FieldView) (ks : List (Vec ℕ Global)) → bytes_of ks ≡ map (λ f. f.name) fs → position (λ k. bytes_eq name k.items) ks ≡ position (λ (f : FieldView). bytes_eq name f.name) fs
+place_by_name name fs ks same = place_of-bytes name ks ∙ ap (place_of name) same ∙ names_in fs
+  where
+    names_in : (gs : List FieldView) → place_of name (map (λ f. f.name) gs) ≡ position (λ (f : FieldView). bytes_eq name f.name) gs
+    names_in gs = simp (prefix_len-map, length-map)
+
+pub unnamed : (name : List ℕ) (fs : List FieldView) → position (λ (f : FieldView). bytes_eq name f.name) fs ≡ None → field_named name fs ≡ None
+unnamed name fs e = named_at name fs ∙ get_outside fs (position_or_len (λ (f : FieldView). bytes_eq name f.name) fs) (place_none (λ (f : FieldView). bytes_eq name f.name) fs e)
+  where
+    get_outside : (gs : List FieldView) (i : ℕ) → length gs ≤ i → slice_get gs i ≡ None
+    get_outside [] i h = refl
+    get_outside (g ∷ gs) zero h = absurd (omega (arith, h))
+    get_outside (g ∷ gs) (suc i) h = get_outside gs i (omega (arith, h))

@@ -6,7 +6,7 @@ use Rattle.std.proofs.lemmas.Slice.Eq.{bytes_eq-Decides}
 use Rattle.std.proofs.lemmas.Bool.{false≢true}
 use Rattle.std.proofs.lemmas.Map.Views.{Contains-from_any}
 use Rattle.std.proofs.lemmas.List.Elements.{Contains-push, Contains-push_cases, Contains-append_left, Contains-append_right, Contains-append_cases}
-use Rattle.pb_schema.specs.declared.name_set.NameSet.{NameSet}
+use Rattle.pb_schema.specs.declared.names.set.NameSet.{NameSet}
 use Rattle.pb_schema.specs.View.{bytes_of}
 use Rattle.pb_schema.specs.Names.{AllDiffer}
 use Rattle.pb_schema.specs.NameSet.{IsSetOf}

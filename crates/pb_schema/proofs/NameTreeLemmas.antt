@@ -11,7 +11,7 @@ use Rattle.std.proofs.lemmas.List.{append_cancel_left, append_cancel_right}
 use Rattle.std.proofs.lemmas.Option.{slice_get-map, slice_get_within}
 use Rattle.std.proofs.lemmas.List.Elements.{Contains-append_left}
 use Rattle.pb_schema.specs.Names.{begins_word, continues_word, is_word, in_scope, name_at, AllDiffer}
-use Rattle.pb_schema.specs.declared.name_tree.NameTree.{NameTree}
+use Rattle.pb_schema.specs.declared.names.tree.NameTree.{NameTree}
 use Rattle.pb_schema.specs.View.{bytes_of}
 use Rattle.pb_schema.specs.NameTree.{scope_name, names_behind, full_names, full_names_of, IsScope, AreNamed, IsTree, IsInTree, NameAdded}
 use Rattle.pb_schema.proofs.ImportLemmas.{Contains-none}

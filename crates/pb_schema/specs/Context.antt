@@ -40,24 +40,54 @@ element_of k = of_wire_type (wire_type_of k)
 -- a message value of a map entry is at the entry's level
 abbrev pub message_in : Context → ℕ → Reading Context
 message_in (an_entry key value) m = wire.same_level (a_message m)
-message_in c m = wire.message (a_message m)
+message_in (a_message _) m = wire.message (a_message m)
+message_in unknown_group m = wire.message (a_message m)
 
 -- how an L record of a field is read: one that doesn't fit isn't looked into
 abbrev pub read_singular : Context → Kind → Reading Context
 read_singular c kind.Text = wire.text
 read_singular c (kind.Message m) = message_in c m.0
-read_singular c _ = wire.unread
+read_singular c kind.Double = wire.unread
+read_singular c kind.Float = wire.unread
+read_singular c kind.Int64 = wire.unread
+read_singular c kind.Uint64 = wire.unread
+read_singular c kind.Int32 = wire.unread
+read_singular c kind.Fixed64 = wire.unread
+read_singular c kind.Fixed32 = wire.unread
+read_singular c kind.Bool = wire.unread
+read_singular c kind.Bytes = wire.unread
+read_singular c kind.Uint32 = wire.unread
+read_singular c kind.Sfixed32 = wire.unread
+read_singular c kind.Sfixed64 = wire.unread
+read_singular c kind.Sint32 = wire.unread
+read_singular c kind.Sint64 = wire.unread
+read_singular c (kind.Enum _) = wire.unread
 
 abbrev pub read_listed : Context → Kind → Reading Context
 read_listed c kind.Text = wire.text
 read_listed c kind.Bytes = wire.unread
 read_listed c (kind.Message m) = message_in c m.0
-read_listed c k = wire.packed (element_of k)
+read_listed c kind.Double = wire.packed (element_of kind.Double)
+read_listed c kind.Float = wire.packed (element_of kind.Float)
+read_listed c kind.Int64 = wire.packed (element_of kind.Int64)
+read_listed c kind.Uint64 = wire.packed (element_of kind.Uint64)
+read_listed c kind.Int32 = wire.packed (element_of kind.Int32)
+read_listed c kind.Fixed64 = wire.packed (element_of kind.Fixed64)
+read_listed c kind.Fixed32 = wire.packed (element_of kind.Fixed32)
+read_listed c kind.Bool = wire.packed (element_of kind.Bool)
+read_listed c kind.Uint32 = wire.packed (element_of kind.Uint32)
+read_listed c kind.Sfixed32 = wire.packed (element_of kind.Sfixed32)
+read_listed c kind.Sfixed64 = wire.packed (element_of kind.Sfixed64)
+read_listed c kind.Sint32 = wire.packed (element_of kind.Sint32)
+read_listed c kind.Sint64 = wire.packed (element_of kind.Sint64)
+read_listed c (kind.Enum e) = wire.packed (element_of (kind.Enum e))
 
 abbrev pub read_shaped : Context → Shape → Kind → Reading Context
 read_shaped c (shape.Map key) k = wire.message (an_entry key k)
 read_shaped c (shape.List _) k = read_listed c k
-read_shaped c _ k = read_singular c k
+read_shaped c shape.Explicit k = read_singular c k
+read_shaped c shape.Implicit k = read_singular c k
+read_shaped c (shape.OneofMember _) k = read_singular c k
 
 abbrev pub read_field : Context → Option FieldView → Reading Context
 read_field c None = wire.unread

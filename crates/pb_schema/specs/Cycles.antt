@@ -1,8 +1,8 @@
 -- What a walk over imports, depth first, keeps.
 use Rattle.std.specs.Prelude.{◌≡◌, ◌≢◌, ℕ, List, length, Bool, true, false, Contains}
 use Rattle.std.specs.List.{slice_index_or}
-use Rattle.pb_schema.specs.declared.cycles.Progress.{Progress}
-use Rattle.pb_schema.specs.declared.cycles.Progress.TheVariants.{Unseen, Open, Done}
+use Rattle.pb_schema.specs.declared.imports.cycles.Progress.{Progress}
+use Rattle.pb_schema.specs.declared.imports.cycles.Progress.TheVariants.{Unseen, Open, Done}
 use Rattle.pb_schema.specs.Types.{FileView}
 use Rattle.pb_schema.specs.Imports.{imports_of, Reaches}
 

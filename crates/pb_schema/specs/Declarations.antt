@@ -1,7 +1,7 @@
 -- Names that are declared one after another, each a word in a scope.
 use Rattle.std.specs.Prelude.{◌≡◌, ◌↔◌, ℕ, List, [], ◌∷◌, ◌++◌, map, length, flat_map, IsTrue, Option, Some, None, slice_get, option_and_then, Contains}
 use Rattle.std.specs.List.{AllZip}
-use Rattle.pb_schema.specs.declared.declarations.Declarations.{Declarations}
+use Rattle.pb_schema.specs.declared.names.declared.Declarations.{Declarations}
 use Rattle.pb_schema.specs.Types.{MessageView, EnumView, FileView}
 use Rattle.pb_schema.specs.Nesting.{ParentsStandBefore}
 use Rattle.pb_schema.specs.Names.{in_scope, names_in_message, message_name, declared_by_message, declared_by_enum, AllDiffer}

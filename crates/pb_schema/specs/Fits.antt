@@ -12,7 +12,9 @@ use Rattle.pb_schema.specs.Kinds.{wire_type_of, is_packable}
 abbrev pub fits_shape : Shape → Kind → ℕ → Bool
 fits_shape (shape.Map _) k w = w == 2
 fits_shape (shape.List _) k w = (w == wire_type_of k) || (is_packable k && (w == 2))
-fits_shape _ k w = w == wire_type_of k
+fits_shape shape.Explicit k w = w == wire_type_of k
+fits_shape shape.Implicit k w = w == wire_type_of k
+fits_shape (shape.OneofMember _) k w = w == wire_type_of k
 
 abbrev pub fits_type : FieldView → ℕ → Bool
 fits_type f w = fits_shape f.shape f.kind w

@@ -13,14 +13,21 @@ use Rattle.pb_schema.specs.Scalar.{Scalar, int32, int64, uint32, uint64, boolean
 abbrev pub wire_type_of : Kind → ℕ
 wire_type_of kind.Double = 1
 wire_type_of kind.Float = 5
+wire_type_of kind.Int64 = 0
+wire_type_of kind.Uint64 = 0
+wire_type_of kind.Int32 = 0
 wire_type_of kind.Fixed64 = 1
 wire_type_of kind.Fixed32 = 5
+wire_type_of kind.Bool = 0
 wire_type_of kind.Text = 2
 wire_type_of kind.Bytes = 2
+wire_type_of kind.Uint32 = 0
 wire_type_of kind.Sfixed32 = 5
 wire_type_of kind.Sfixed64 = 1
+wire_type_of kind.Sint32 = 0
+wire_type_of kind.Sint64 = 0
+wire_type_of (kind.Enum _) = 0
 wire_type_of (kind.Message _) = 2
-wire_type_of _ = 0
 
 -- every kind but text, bytes and messages may stand in a packed list
 abbrev pub is_packable : Kind → Bool
@@ -30,15 +37,41 @@ is_packable k = not (wire_type_of k == 2)
 abbrev pub is_key_kind : Kind → Bool
 is_key_kind kind.Double = false
 is_key_kind kind.Float = false
+is_key_kind kind.Int64 = true
+is_key_kind kind.Uint64 = true
+is_key_kind kind.Int32 = true
+is_key_kind kind.Fixed64 = true
+is_key_kind kind.Fixed32 = true
+is_key_kind kind.Bool = true
+is_key_kind kind.Text = true
 is_key_kind kind.Bytes = false
+is_key_kind kind.Uint32 = true
+is_key_kind kind.Sfixed32 = true
+is_key_kind kind.Sfixed64 = true
+is_key_kind kind.Sint32 = true
+is_key_kind kind.Sint64 = true
 is_key_kind (kind.Enum _) = false
 is_key_kind (kind.Message _) = false
-is_key_kind _ = true
 
 -- the message type of a kind
 abbrev pub message_of_kind : Kind → Option ℕ
+message_of_kind kind.Double = None
+message_of_kind kind.Float = None
+message_of_kind kind.Int64 = None
+message_of_kind kind.Uint64 = None
+message_of_kind kind.Int32 = None
+message_of_kind kind.Fixed64 = None
+message_of_kind kind.Fixed32 = None
+message_of_kind kind.Bool = None
+message_of_kind kind.Text = None
+message_of_kind kind.Bytes = None
+message_of_kind kind.Uint32 = None
+message_of_kind kind.Sfixed32 = None
+message_of_kind kind.Sfixed64 = None
+message_of_kind kind.Sint32 = None
+message_of_kind kind.Sint64 = None
+message_of_kind (kind.Enum _) = None
 message_of_kind (kind.Message m) = Some m.0
-message_of_kind _ = None
 
 -- The value that a payload of a kind stands for. An int32, uint32, sint32 or enum has the low 32 bits of the number, and ZigZag is
 -- undone after that; a bool is true for every other number than 0; a float or double stays its bits.
@@ -59,7 +92,23 @@ read kind.Sfixed32 (fixed32 n) = Some (int32 (cast_signed w32 n))
 read kind.Float (fixed32 n) = Some (float n)
 read kind.Text (len s) = Some (text s)
 read kind.Bytes (len s) = Some (bytes s)
-read _ _ = None
+read kind.Double p = None
+read kind.Float p = None
+read kind.Int64 p = None
+read kind.Uint64 p = None
+read kind.Int32 p = None
+read kind.Fixed64 p = None
+read kind.Fixed32 p = None
+read kind.Bool p = None
+read kind.Text p = None
+read kind.Bytes p = None
+read kind.Uint32 p = None
+read kind.Sfixed32 p = None
+read kind.Sfixed64 p = None
+read kind.Sint32 p = None
+read kind.Sint64 p = None
+read (kind.Enum _) p = None
+read (kind.Message _) p = None
 
 -- The payload that a value is written as; a negative int32 or enum as all 64 bits of its two's complement. What is no value of the kind has none,
 -- and the number 0 stands in its place.
@@ -80,7 +129,23 @@ written kind.Sfixed32 (int32 z) = fixed32 (cast_unsigned w32 z)
 written kind.Float (float n) = fixed32 n
 written kind.Text (text s) = len s
 written kind.Bytes (bytes s) = len s
-written _ _ = varint 0
+written kind.Double v = varint 0
+written kind.Float v = varint 0
+written kind.Int64 v = varint 0
+written kind.Uint64 v = varint 0
+written kind.Int32 v = varint 0
+written kind.Fixed64 v = varint 0
+written kind.Fixed32 v = varint 0
+written kind.Bool v = varint 0
+written kind.Text v = varint 0
+written kind.Bytes v = varint 0
+written kind.Uint32 v = varint 0
+written kind.Sfixed32 v = varint 0
+written kind.Sfixed64 v = varint 0
+written kind.Sint32 v = varint 0
+written kind.Sint64 v = varint 0
+written (kind.Enum _) v = varint 0
+written (kind.Message _) v = varint 0
 
 -- the value is of the kind, and in the kind's range
 abbrev pub IsOfKind : Kind → Scalar → Type 0
@@ -100,7 +165,23 @@ IsOfKind kind.Sfixed32 (int32 z) = FitsSigned w32 z
 IsOfKind kind.Float (float n) = n < 2 ^ 32
 IsOfKind kind.Text (text s) = IsUtf8 s
 IsOfKind kind.Bytes (bytes s) = AllByRecursion IsByte s
-IsOfKind _ _ = ⊥
+IsOfKind kind.Double v = ⊥
+IsOfKind kind.Float v = ⊥
+IsOfKind kind.Int64 v = ⊥
+IsOfKind kind.Uint64 v = ⊥
+IsOfKind kind.Int32 v = ⊥
+IsOfKind kind.Fixed64 v = ⊥
+IsOfKind kind.Fixed32 v = ⊥
+IsOfKind kind.Bool v = ⊥
+IsOfKind kind.Text v = ⊥
+IsOfKind kind.Bytes v = ⊥
+IsOfKind kind.Uint32 v = ⊥
+IsOfKind kind.Sfixed32 v = ⊥
+IsOfKind kind.Sfixed64 v = ⊥
+IsOfKind kind.Sint32 v = ⊥
+IsOfKind kind.Sint64 v = ⊥
+IsOfKind (kind.Enum _) v = ⊥
+IsOfKind (kind.Message _) v = ⊥
 
 -- the default of a kind; a message has none, and no bytes stand in its place
 abbrev pub default_of : Kind → Scalar

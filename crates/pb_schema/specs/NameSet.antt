@@ -1,6 +1,6 @@
 -- A set of names that are added one after another.
 use Rattle.std.specs.Prelude.{ℕ, ◌≡◌, ◌↔◌, List, ◌++◌, IsTrue, Contains}
-use Rattle.pb_schema.specs.declared.name_set.NameSet.{NameSet}
+use Rattle.pb_schema.specs.declared.names.set.NameSet.{NameSet}
 use Rattle.pb_schema.specs.View.{bytes_of}
 use Rattle.pb_schema.specs.Names.{AllDiffer}
 

@@ -1,7 +1,7 @@
 -- Names as words in scopes.
 use Rattle.std.specs.Prelude.{◌≡◌, ◌<◌, ◌↔◌, ◌⊎◌, ℕ, List, [], ◌∷◌, ◌++◌, length, Bool, true, false, IsTrue, Option, Some, None, slice_get, Contains}
 use Rattle.std.specs.List.{AllByRecursion, AllZip, flat_map}
-use Rattle.pb_schema.specs.declared.name_tree.NameTree.{NameTree}
+use Rattle.pb_schema.specs.declared.names.tree.NameTree.{NameTree}
 use Rattle.pb_schema.specs.View.{bytes_of}
 use Rattle.pb_schema.specs.Types.{FileView}
 use Rattle.pb_schema.specs.Rules.{PackagesAreWords}

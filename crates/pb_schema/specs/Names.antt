@@ -83,7 +83,10 @@ names_of_field f = by_shape f.shape f.name
   where
     by_shape : Shape → List ℕ → List (List ℕ)
     by_shape (shape.Map key) name = name ∷ entry_name name ∷ []
-    by_shape _ name = name ∷ []
+    by_shape shape.Implicit name = name ∷ []
+    by_shape shape.Explicit name = name ∷ []
+    by_shape (shape.OneofMember o) name = name ∷ []
+    by_shape (shape.List packed) name = name ∷ []
 
 abbrev pub package_of : List FileView → ℕ → List ℕ
 package_of files i = of_file (slice_get files i)

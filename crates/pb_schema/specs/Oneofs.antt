@@ -6,7 +6,10 @@ use Rattle.pb_schema.specs.Types.{FieldView}
 
 abbrev pub is_member : ℕ → Shape → Bool
 is_member o (shape.OneofMember p) = o == p
-is_member o _ = false
+is_member o shape.Explicit = false
+is_member o shape.Implicit = false
+is_member o (shape.List _) = false
+is_member o (shape.Map _) = false
 
 -- the members among some fields, in their order
 abbrev pub members : ℕ → List FieldView → List FieldView

@@ -1,5 +1,5 @@
 -- The rules of a pool (language specification, proto3; descriptor.proto).
-use Rattle.std.specs.Prelude.{◌≡◌, ◌≢◌, ℕ, ◌+◌, ◌^◌, ◌<◌, ◌≤◌, ◌⊎◌, ℤ, pos, List, [], ◌∷◌, length, map, true, Option, Some, None, IsTrue, IfSome, IsSomeAnd, Contains, slice_get}
+use Rattle.std.specs.Prelude.{◌≡◌, ◌≢◌, ℕ, ◌+◌, ◌^◌, ◌<◌, ◌≤◌, ◌⊎◌, ℤ, pos, List, [], ◌∷◌, length, map, true, false, Option, Some, None, IsTrue, IfSome, IsSomeAnd, Contains, slice_get}
 use Rattle.std.specs.List.{AllByRecursion}
 use Rattle.pb_schema.specs.declared.types.Kind.{Kind}
 use Rattle.pb_schema.specs.declared.types.Kind.TheVariants as kind
@@ -65,14 +65,31 @@ EnumsShareFileWithParent ms es = AllByRecursion (λ e. IsInFileOfParent ms e.fil
 abbrev pub NamesType : ℕ → ℕ → Kind → Type 0
 NamesType messages enums (kind.Enum e) = e.0 < enums
 NamesType messages enums (kind.Message m) = m.0 < messages
-NamesType messages enums _ = Unit {0}
+NamesType messages enums kind.Double = Unit {0}
+NamesType messages enums kind.Float = Unit {0}
+NamesType messages enums kind.Int64 = Unit {0}
+NamesType messages enums kind.Uint64 = Unit {0}
+NamesType messages enums kind.Int32 = Unit {0}
+NamesType messages enums kind.Fixed64 = Unit {0}
+NamesType messages enums kind.Fixed32 = Unit {0}
+NamesType messages enums kind.Bool = Unit {0}
+NamesType messages enums kind.Text = Unit {0}
+NamesType messages enums kind.Bytes = Unit {0}
+NamesType messages enums kind.Uint32 = Unit {0}
+NamesType messages enums kind.Sfixed32 = Unit {0}
+NamesType messages enums kind.Sfixed64 = Unit {0}
+NamesType messages enums kind.Sint32 = Unit {0}
+NamesType messages enums kind.Sint64 = Unit {0}
 
 abbrev pub KindsNameTypes : List MessageView → List EnumView → Type 0
 KindsNameTypes ms es = EachField (λ t f. NamesType (length ms) (length es) f.kind) ms
 
 abbrev pub NamesOneof : ℕ → Shape → Type 0
 NamesOneof oneofs (shape.OneofMember o) = o < oneofs
-NamesOneof oneofs _ = Unit {0}
+NamesOneof oneofs shape.Explicit = Unit {0}
+NamesOneof oneofs shape.Implicit = Unit {0}
+NamesOneof oneofs (shape.List _) = Unit {0}
+NamesOneof oneofs (shape.Map _) = Unit {0}
 
 abbrev pub MembersNameOneofs : List MessageView → Type 0
 MembersNameOneofs ms = EachField (λ t f. NamesOneof (length t.oneofs) f.shape) ms
@@ -172,14 +189,31 @@ NumbersDiffer ms = AllByRecursion FieldNumbersDiffer ms
 abbrev pub TypeIsSeen : Types → ℕ → Kind → Type 0
 TypeIsSeen ts file (kind.Enum e) = IfSome (slice_get ts.enums e.0) (λ t. IsSeen ts.files file t.file)
 TypeIsSeen ts file (kind.Message m) = IfSome (slice_get ts.messages m.0) (λ t. IsSeen ts.files file t.file)
-TypeIsSeen ts file _ = Unit {0}
+TypeIsSeen ts file kind.Double = Unit {0}
+TypeIsSeen ts file kind.Float = Unit {0}
+TypeIsSeen ts file kind.Int64 = Unit {0}
+TypeIsSeen ts file kind.Uint64 = Unit {0}
+TypeIsSeen ts file kind.Int32 = Unit {0}
+TypeIsSeen ts file kind.Fixed64 = Unit {0}
+TypeIsSeen ts file kind.Fixed32 = Unit {0}
+TypeIsSeen ts file kind.Bool = Unit {0}
+TypeIsSeen ts file kind.Text = Unit {0}
+TypeIsSeen ts file kind.Bytes = Unit {0}
+TypeIsSeen ts file kind.Uint32 = Unit {0}
+TypeIsSeen ts file kind.Sfixed32 = Unit {0}
+TypeIsSeen ts file kind.Sfixed64 = Unit {0}
+TypeIsSeen ts file kind.Sint32 = Unit {0}
+TypeIsSeen ts file kind.Sint64 = Unit {0}
 
 abbrev pub TypesAreSeen : Types → Type 0
 TypesAreSeen ts = EachField (λ t f. TypeIsSeen ts t.file f.kind) ts.messages
 
 abbrev pub IsMemberOf : ℕ → Shape → Type 0
 IsMemberOf o (shape.OneofMember p) = o ≡ p
-IsMemberOf o _ = ⊥
+IsMemberOf o shape.Explicit = ⊥
+IsMemberOf o shape.Implicit = ⊥
+IsMemberOf o (shape.List _) = ⊥
+IsMemberOf o (shape.Map _) = ⊥
 
 abbrev pub HasMember : ℕ → List FieldView → Type 0
 HasMember o [] = ⊥
@@ -193,14 +227,21 @@ OneofsHaveMembers ms = AllByRecursion EachOneofHasMember ms
 
 abbrev pub HasKeyKind : Shape → Type 0
 HasKeyKind (shape.Map key) = IsTrue (is_key_kind key)
-HasKeyKind _ = Unit {0}
+HasKeyKind shape.Explicit = Unit {0}
+HasKeyKind shape.Implicit = Unit {0}
+HasKeyKind (shape.OneofMember _) = Unit {0}
+HasKeyKind (shape.List _) = Unit {0}
 
 abbrev pub KeysAreKeyKinds : List MessageView → Type 0
 KeysAreKeyKinds ms = EachField (λ t f. HasKeyKind f.shape) ms
 
 abbrev pub MayBePacked : Shape → Kind → Type 0
 MayBePacked (shape.List true) k = IsTrue (is_packable k)
-MayBePacked _ k = Unit {0}
+MayBePacked (shape.List false) k = Unit {0}
+MayBePacked shape.Explicit k = Unit {0}
+MayBePacked shape.Implicit k = Unit {0}
+MayBePacked (shape.OneofMember _) k = Unit {0}
+MayBePacked (shape.Map _) k = Unit {0}
 
 abbrev pub PackedArePackable : List MessageView → Type 0
 PackedArePackable ms = EachField (λ t f. MayBePacked f.shape f.kind) ms
@@ -208,7 +249,26 @@ PackedArePackable ms = EachField (λ t f. MayBePacked f.shape f.kind) ms
 -- a message's presence is always explicit
 abbrev pub MayBeImplicit : Shape → Kind → Type 0
 MayBeImplicit shape.Implicit (kind.Message m) = ⊥
-MayBeImplicit _ k = Unit {0}
+MayBeImplicit shape.Implicit kind.Double = Unit {0}
+MayBeImplicit shape.Implicit kind.Float = Unit {0}
+MayBeImplicit shape.Implicit kind.Int64 = Unit {0}
+MayBeImplicit shape.Implicit kind.Uint64 = Unit {0}
+MayBeImplicit shape.Implicit kind.Int32 = Unit {0}
+MayBeImplicit shape.Implicit kind.Fixed64 = Unit {0}
+MayBeImplicit shape.Implicit kind.Fixed32 = Unit {0}
+MayBeImplicit shape.Implicit kind.Bool = Unit {0}
+MayBeImplicit shape.Implicit kind.Text = Unit {0}
+MayBeImplicit shape.Implicit kind.Bytes = Unit {0}
+MayBeImplicit shape.Implicit kind.Uint32 = Unit {0}
+MayBeImplicit shape.Implicit kind.Sfixed32 = Unit {0}
+MayBeImplicit shape.Implicit kind.Sfixed64 = Unit {0}
+MayBeImplicit shape.Implicit kind.Sint32 = Unit {0}
+MayBeImplicit shape.Implicit kind.Sint64 = Unit {0}
+MayBeImplicit shape.Implicit (kind.Enum _) = Unit {0}
+MayBeImplicit shape.Explicit k = Unit {0}
+MayBeImplicit (shape.OneofMember _) k = Unit {0}
+MayBeImplicit (shape.List _) k = Unit {0}
+MayBeImplicit (shape.Map _) k = Unit {0}
 
 abbrev pub ImplicitAreScalars : List MessageView → Type 0
 ImplicitAreScalars ms = EachField (λ t f. MayBeImplicit f.shape f.kind) ms

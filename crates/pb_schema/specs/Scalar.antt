@@ -1,5 +1,5 @@
 -- The values that are no messages.
-use Rattle.std.specs.Prelude.{ℕ, ℤ, pos, List, [], ◌∷◌, Bool, true, false, not, ◌==◌}
+use Rattle.std.specs.Prelude.{ℕ, ℤ, pos, negsuc, List, [], ◌∷◌, Bool, true, false, not, ◌==◌}
 use Rattle.std.specs.declared.cmp.Ordering.{Ordering}
 use Rattle.std.specs.declared.cmp.Ordering.TheVariants.{Less, Equal, Greater}
 use Rattle.std.specs.Ordering.{nat_cmp, int_cmp, bool_cmp, match_ordering}
@@ -29,7 +29,11 @@ is_default (double n) = n == 0
 is_default (enum (pos n)) = n == 0
 is_default (text []) = true
 is_default (bytes []) = true
-is_default _ = false
+is_default (int32 (negsuc n)) = false
+is_default (int64 (negsuc n)) = false
+is_default (enum (negsuc n)) = false
+is_default (text (x ∷ xs)) = false
+is_default (bytes (x ∷ xs)) = false
 
 -- texts by their bytes
 abbrev pub bytes_cmp : List ℕ → List ℕ → Ordering

@@ -1,7 +1,7 @@
 -- Marks that tell from which file a file was found to be reached.
 use Rattle.std.specs.Prelude.{◌≡◌, ◌⊎◌, ℕ, List, length, Option, Some, None, option_map, slice_get}
 use Rattle.std.specs.List.{slice_index_or}
-use Rattle.pb_schema.specs.declared.sight.Sight.{Sight}
+use Rattle.pb_schema.specs.declared.imports.sight.Sight.{Sight}
 use Rattle.pb_schema.specs.declared.types.Kind.{Kind}
 use Rattle.pb_schema.specs.declared.types.Kind.TheVariants as kind
 use Rattle.pb_schema.specs.Types.{FileView, MessageView, EnumView}

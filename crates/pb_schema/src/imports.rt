@@ -1,5 +1,8 @@
 //! Which files a file reaches by imports.
 
+pub(crate) mod cycles;
+pub(crate) mod sight;
+
 ghost use Rattle.std.specs.Prelude.{◌≡◌, ◌<◌, [], ◌∷◌, ℕ, ◌↔◌, IsTrue, All, IfOk, OnOk, vec_len, map, length};
 ghost use Rattle.pb_schema.specs.View.{file_view};
 ghost use Rattle.pb_schema.specs.Imports.{imports_of, AreReached, Marks};

@@ -1,11 +1,16 @@
 //! The full names of what files declare.
 
+pub(crate) mod declared;
+pub(crate) mod set;
+pub(crate) mod tree;
+pub(crate) mod words;
+
 ghost use Rattle.std.specs.Prelude.{◌≡◌, [], ◌++◌, ℕ, IfOk, map, take, length, string_bytes};
 ghost use Rattle.pb_schema.specs.View.{file_view, message_view, enum_view, parent_view, bytes_of};
 ghost use Rattle.pb_schema.specs.Nesting.{ParentsStandBefore};
 ghost use Rattle.pb_schema.specs.Names.{raised, entry_name, in_scope, scope_by_names, message_name};
 
-use crate::name_set::scoped;
+use crate::names::set::scoped;
 use crate::types::{EnumType, FileInfo, MessageId, MessageType};
 use std::alloc::{AllocError, Global};
 

@@ -1,7 +1,11 @@
 //! Pools: types that meet their rules.
 
+pub(crate) mod same;
+
 use crate::error::PoolError;
-use crate::number_table::field_at;
+use crate::pool::same::{same_enums, same_files, same_messages};
+use crate::tables::names::field_named;
+use crate::tables::numbers::field_at;
 use crate::tables::{Tables, checked};
 use crate::types::{EnumId, EnumType, Field, FileInfo, MessageId, MessageType};
 use std::alloc::Global;
@@ -27,16 +31,17 @@ impl Model for Pool {
 
     ghost view = { λ p. types_of p.files.items p.messages.items p.enums.items };
 
-    ghost invariant = { λ p. IsPool (types_of p.files.items p.messages.items p.enums.items) × HasTables (types_of p.files.items p.messages.items p.enums.items) p.tables.messages.keys p.tables.enums.keys p.tables.numbers.items p.tables.members.items };
+    ghost invariant = { λ p. IsPool (types_of p.files.items p.messages.items p.enums.items) × HasTables (types_of p.files.items p.messages.items p.enums.items) p.tables.messages.keys p.tables.enums.keys p.tables.numbers.items p.tables.members.items p.tables.names.items };
 }
 
 impl Pool {
     ghost use Rattle.std.specs.Prelude.{◌≡◌, ◌<◌, length, map, option_map, slice_get, IfOk, IfErr, IfSome};
+    ghost use Rattle.std.specs.Bool.{Decides};
     ghost use Rattle.pb_schema.specs.declared.error.PoolError.TheVariants.{BadParts};
     ghost use Rattle.pb_schema.specs.Types.{message_fields, field_numbered};
     ghost use Rattle.pb_schema.specs.View.{field_view, file_view, message_view, enum_view, types_of};
     ghost use Rattle.pb_schema.specs.Names.{message_names as message_names_of, enum_names as enum_names_of};
-    ghost use Rattle.pb_schema.specs.Tables.{place_of, field_named};
+    ghost use Rattle.pb_schema.specs.Tables.{place_of, field_named as named_field};
     ghost use Rattle.pb_schema.specs.Rules.{IsPool, IsFieldOf};
     ghost use Rattle.pb_schema.specs.Oneofs.{member_numbers};
     ghost use Rattle.pb_schema.specs.EnumValues.{value_name, enum_values};
@@ -88,6 +93,17 @@ impl Pool {
         ensures rules { IsPool self.now }
     {
         self.enums.as_slice()
+    }
+
+    /// Whether another pool holds the same files, message types and enums, each in the same order. In time by the smaller pool's
+    /// parts.
+    pub fn equals(&self, other: &Pool) -> bool
+        ensures same { Decides result (self.now ≡ other.now) }
+        ensures rules { IsPool self.now }
+    {
+        same_files(self.files(), other.files())
+            && same_messages(self.messages(), other.messages())
+            && same_enums(self.enums(), other.enums())
     }
 
     /// The message type of a full name, which has no leading dot.
@@ -159,11 +175,15 @@ impl Pool {
     /// The field of a simple name in a message type.
     pub fn field_by_name(&self, message: MessageId, name: &str) -> Option<&Field>
         requires { message.0 < length self.now.messages }
-        ensures found { option_map (λ f. field_view f.now) result ≡ field_named name.now (message_fields self.now message.0) }
+        ensures found { option_map (λ f. field_view f.now) result ≡ named_field name.now (message_fields self.now message.0) }
         ensures rules { IfSome result (λ f. IsFieldOf self.now message.0 (field_view f.now)) }
         ensures pool { IsPool self.now }
     {
-        find_name(&self.messages[message.0].fields, name)
+        field_named(
+            &self.messages[message.0].fields,
+            &self.tables.names[message.0],
+            name,
+        )
     }
 
     /// The numbers of the members of a oneof in the order of their declaration. There are none where the message type has no such
@@ -181,20 +201,6 @@ impl Pool {
 }
 
 ghost use Rattle.std.specs.Prelude.{◌≡◌, map, option_map};
-ghost use Rattle.pb_schema.specs.View.{field_view as view_of_field};
-ghost use Rattle.pb_schema.specs.Tables.{field_named as named_field};
-
-fn find_name<'a>(fields: &'a [Field], name: &str) -> Option<&'a Field>
-    ensures { option_map (λ f. view_of_field f.now) result ≡ named_field name.now (map view_of_field fields.now) }
-{
-    for field in fields {
-        if field.name.as_str() == name {
-            return Some(field);
-        }
-    }
-    None
-}
-
 ghost use Rattle.std.specs.Prelude.{string_bytes};
 ghost use Rattle.pb_schema.specs.EnumValues.{value_name as named_value};
 

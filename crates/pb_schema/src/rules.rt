@@ -1,24 +1,32 @@
 //! All rules of a pool.
 
+pub(crate) mod each_field;
+pub(crate) mod fields;
+pub(crate) mod files;
+pub(crate) mod indexes;
+pub(crate) mod names;
+pub(crate) mod order;
+pub(crate) mod shapes;
+
 ghost use Rattle.std.specs.Prelude.{◌≡◌, ◌↔◌, ℕ, IsTrue, IfOk, map, length};
 ghost use Rattle.pb_schema.specs.View.{file_view, message_view, enum_view, types_of};
 ghost use Rattle.pb_schema.specs.Nesting.{ParentsStandBefore};
 ghost use Rattle.pb_schema.specs.Rules.{ImportsNameFiles, MessagesHaveFiles, FileRules, IndexRules, NameRules, ShapeRules, FieldRules, PackagesAreWords, MessageNamesAreWords, EnumNamesAreWords, FullNamesDiffer, PackagesAreFree, IsPool};
 
-use crate::cycles::no_file_reaches_itself;
-use crate::declarations::{Declarations, add_enums, add_messages};
-use crate::field_rules::{numbers_differ, oneofs_have_members, types_are_seen};
-use crate::file_rules::{
+use crate::imports::cycles::no_file_reaches_itself;
+use crate::names::declared::{Declarations, add_enums, add_messages};
+use crate::names::tree::{NameTree, add_packages};
+use crate::rules::fields::{numbers_differ, oneofs_have_members, types_are_seen};
+use crate::rules::files::{
     file_names_differ, files_are_named, imports_are_few, imports_name_files, packages_are_words,
 };
-use crate::index_rules::{
+use crate::rules::indexes::{
     enums_have_files, enums_share_file_with_parent, kinds_name_types, members_name_oneofs,
     messages_have_files, messages_share_file_with_parent,
 };
-use crate::name_rules::{enum_names_are_words, message_names_are_words};
-use crate::name_tree::{NameTree, add_packages};
-use crate::order_rules::{enums_stand_in_order, messages_stand_in_order};
-use crate::shape_rules::{
+use crate::rules::names::{enum_names_are_words, message_names_are_words};
+use crate::rules::order::{enums_stand_in_order, messages_stand_in_order};
+use crate::rules::shapes::{
     enums_begin_at_zero, implicit_are_scalars, keys_are_key_kinds, numbers_are_field_numbers,
     packed_are_packable,
 };

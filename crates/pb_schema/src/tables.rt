@@ -1,27 +1,33 @@
 //! What a pool keeps beside its parts.
 
+pub(crate) mod members;
+pub(crate) mod names;
+pub(crate) mod numbers;
+
 ghost use Rattle.std.specs.Prelude.{◌≡◌, IfOk, IfSome, IfNone};
 ghost use Rattle.pb_schema.specs.View.{types_of};
 ghost use Rattle.pb_schema.specs.Rules.{IsPool};
 ghost use Rattle.pb_schema.specs.Tables.{HasTables};
 
-use crate::member_table::{MemberTable, member_tables};
-use crate::name_set::NameSet;
+use crate::names::set::NameSet;
 use crate::names::{enum_names, message_names};
-use crate::number_table::{NumberTable, number_tables};
 use crate::rules::meet_rules;
+use crate::tables::members::{MemberTable, member_tables};
+use crate::tables::names::{NameTable, name_tables};
+use crate::tables::numbers::{NumberTable, number_tables};
 use crate::types::{EnumType, FileInfo, MessageType};
 use indexmap::IndexSet;
 use std::alloc::{AllocError, Global};
 
-/// The full names of messages and enums in their order, and of each message the numbers of its fields and the members of its
-/// oneofs.
+/// The full names of messages and enums in their order, and of each message the numbers of its fields, the members of its oneofs
+/// and the names of many fields.
 #[derive(Debug, Drop)]
 pub(crate) struct Tables {
     pub(crate) messages: IndexSet<Vec<u8>>,
     pub(crate) enums: IndexSet<Vec<u8>>,
     pub(crate) numbers: Vec<NumberTable>,
     pub(crate) members: Vec<MemberTable>,
+    pub(crate) names: Vec<NameTable>,
 }
 
 /// The tables of parts that meet every rule; None where they do not.
@@ -32,7 +38,7 @@ pub(crate) fn checked(
     enums: &[EnumType],
 ) -> Result<Option<Tables>, AllocError>
     ensures meets { IfOk result (λ o. IfSome o (λ t. IsPool (types_of files.now messages.now enums.now))) }
-    ensures tables { IfOk result (λ o. IfSome o (λ t. HasTables (types_of files.now messages.now enums.now) t.messages.keys t.enums.keys t.numbers.items t.members.items)) }
+    ensures tables { IfOk result (λ o. IfSome o (λ t. HasTables (types_of files.now messages.now enums.now) t.messages.keys t.enums.keys t.numbers.items t.members.items t.names.items)) }
     ensures none { IfOk result (λ o. IfNone o (¬ IsPool (types_of files.now messages.now enums.now))) }
 {
     let holds = meet_rules(alloc, files, messages, enums)?;
@@ -45,10 +51,12 @@ pub(crate) fn checked(
     let message_set = NameSet::collect(alloc, names)?;
     let numbers = number_tables(alloc, messages)?;
     let members = member_tables(alloc, messages)?;
+    let field_names = name_tables(alloc, messages)?;
     Ok(Some(Tables {
         messages: message_set.table,
         enums: enum_set.table,
         numbers,
         members,
+        names: field_names,
     }))
 }

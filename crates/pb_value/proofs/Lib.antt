@@ -54,4 +54,3 @@ pub mod JoinedTexts
 pub mod OntoWell
 pub mod MergeSteps
 pub mod MergeInPlace
-pub mod PoolEq

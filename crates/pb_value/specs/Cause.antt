@@ -59,12 +59,18 @@ content_cause s k h = or_else (unless (holds_kind s k h) WrongKind) (unless (has
 -- the oneofs that have a member so far, and this field's too
 abbrev pub with_member : Shape → (ℕ → Bool) → ℕ → Bool
 with_member (shape.OneofMember p) seen o = (o == p) || seen o
-with_member _ seen o = seen o
+with_member shape.Implicit seen o = seen o
+with_member shape.Explicit seen o = seen o
+with_member (shape.List _) seen o = seen o
+with_member (shape.Map _) seen o = seen o
 
 -- the field is a member of a oneof that has one
 abbrev pub is_second : Shape → (ℕ → Bool) → Bool
 is_second (shape.OneofMember p) seen = seen p
-is_second _ seen = false
+is_second shape.Implicit seen = false
+is_second shape.Explicit seen = false
+is_second (shape.List _) seen = false
+is_second (shape.Map _) seen = false
 
 -- the same of a content that is stored
 abbrev pub stored_cause : (ℕ → Bool) → Shape → Kind → Holding → Option ValueError

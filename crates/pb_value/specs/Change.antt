@@ -22,7 +22,10 @@ other_than n (Some k) = if k == n then None else Some k
 -- the member that gives way to the field of number n: the one of its oneof that is set
 abbrev pub gives_way : List FieldView → Shape → ℕ → Fields → Option ℕ
 gives_way all (shape.OneofMember o) n fs = other_than n (member_set all o fs)
-gives_way all _ n fs = None
+gives_way all shape.Implicit n fs = None
+gives_way all shape.Explicit n fs = None
+gives_way all (shape.List _) n fs = None
+gives_way all (shape.Map _) n fs = None
 
 abbrev pub drop_some : Option ℕ → Fields → Fields
 drop_some None fs = fs
@@ -93,17 +96,25 @@ entry_at n x fs = get_entry x (entries_of (get_field n fs))
 
 -- a field of the shape holds one value
 abbrev pub IsSingle : Shape → Type 0
+IsSingle shape.Implicit = Unit {0}
+IsSingle shape.Explicit = Unit {0}
+IsSingle (shape.OneofMember _) = Unit {0}
 IsSingle (shape.List p) = ⊥
 IsSingle (shape.Map k) = ⊥
-IsSingle _ = Unit {0}
 
 abbrev pub is_list : Shape → Bool
 is_list (shape.List _) = true
-is_list _ = false
+is_list shape.Implicit = false
+is_list shape.Explicit = false
+is_list (shape.OneofMember _) = false
+is_list (shape.Map _) = false
 
 abbrev pub is_map : Shape → Bool
 is_map (shape.Map _) = true
-is_map _ = false
+is_map shape.Implicit = false
+is_map shape.Explicit = false
+is_map (shape.OneofMember _) = false
+is_map (shape.List _) = false
 
 -- why a value cannot be pushed
 abbrev pub push_cause : Types → ℕ → ℕ → Datum → Option ValueError

@@ -26,11 +26,42 @@ is_scalar_of kind.Sfixed32 (int32 z) = true
 is_scalar_of kind.Float (float n) = true
 is_scalar_of kind.Text (text s) = true
 is_scalar_of kind.Bytes (bytes s) = true
-is_scalar_of _ _ = false
+is_scalar_of kind.Double x = false
+is_scalar_of kind.Float x = false
+is_scalar_of kind.Int64 x = false
+is_scalar_of kind.Uint64 x = false
+is_scalar_of kind.Int32 x = false
+is_scalar_of kind.Fixed64 x = false
+is_scalar_of kind.Fixed32 x = false
+is_scalar_of kind.Bool x = false
+is_scalar_of kind.Text x = false
+is_scalar_of kind.Bytes x = false
+is_scalar_of kind.Uint32 x = false
+is_scalar_of kind.Sfixed32 x = false
+is_scalar_of kind.Sfixed64 x = false
+is_scalar_of kind.Sint32 x = false
+is_scalar_of kind.Sint64 x = false
+is_scalar_of (kind.Enum _) x = false
+is_scalar_of (kind.Message _) x = false
 
 abbrev pub is_message_kind : Kind → Bool
+is_message_kind kind.Double = false
+is_message_kind kind.Float = false
+is_message_kind kind.Int64 = false
+is_message_kind kind.Uint64 = false
+is_message_kind kind.Int32 = false
+is_message_kind kind.Fixed64 = false
+is_message_kind kind.Fixed32 = false
+is_message_kind kind.Bool = false
+is_message_kind kind.Text = false
+is_message_kind kind.Bytes = false
+is_message_kind kind.Uint32 = false
+is_message_kind kind.Sfixed32 = false
+is_message_kind kind.Sfixed64 = false
+is_message_kind kind.Sint32 = false
+is_message_kind kind.Sint64 = false
+is_message_kind (kind.Enum _) = false
 is_message_kind (kind.Message _) = true
-is_message_kind _ = false
 
 -- a value of the kind; what a message holds is not looked into
 abbrev pub is_value_of : Kind → Datum → Bool
@@ -44,7 +75,10 @@ are_values_of k (datum d ds) = is_value_of k d && are_values_of k ds
 -- the key of a map; where the field is no map, no key is judged
 abbrev pub is_key_of : Shape → Scalar → Bool
 is_key_of (shape.Map key) x = is_scalar_of key x
-is_key_of _ x = true
+is_key_of shape.Implicit x = true
+is_key_of shape.Explicit x = true
+is_key_of (shape.OneofMember _) x = true
+is_key_of (shape.List _) x = true
 
 abbrev pub are_entries_of : Shape → Kind → Entries → Bool
 are_entries_of s k no_entries = true
@@ -63,7 +97,16 @@ has_shape shape.Explicit (one d) = true
 has_shape (shape.OneofMember _) (one d) = true
 has_shape (shape.List _) (list ds) = true
 has_shape (shape.Map _) (map es) = true
-has_shape _ _ = false
+has_shape shape.Implicit (list ds) = false
+has_shape shape.Implicit (map es) = false
+has_shape shape.Explicit (list ds) = false
+has_shape shape.Explicit (map es) = false
+has_shape (shape.OneofMember _) (list ds) = false
+has_shape (shape.OneofMember _) (map es) = false
+has_shape (shape.List _) (one d) = false
+has_shape (shape.List _) (map es) = false
+has_shape (shape.Map _) (one d) = false
+has_shape (shape.Map _) (list ds) = false
 
 abbrev pub is_default_datum : Datum → Bool
 is_default_datum (scalar x) = is_default x
@@ -71,7 +114,10 @@ is_default_datum (message b) = false
 
 abbrev pub is_implicit : Shape → Bool
 is_implicit shape.Implicit = true
-is_implicit _ = false
+is_implicit shape.Explicit = false
+is_implicit (shape.OneofMember _) = false
+is_implicit (shape.List _) = false
+is_implicit (shape.Map _) = false
 
 -- what an absent field has too: an implicit field's default, an empty list, an empty map
 abbrev pub is_absence : Shape → Holding → Bool

@@ -13,7 +13,10 @@ use Rattle.pb_value.specs.Change.{gives_way, drop_some}
 -- a member of the oneof is set
 abbrev pub sets_oneof : List FieldView → Fields → Shape → Bool
 sets_oneof all gs (shape.OneofMember o) = list_any (λ f. is_some (get_field f.number gs)) (members o all)
-sets_oneof all gs _ = false
+sets_oneof all gs shape.Implicit = false
+sets_oneof all gs shape.Explicit = false
+sets_oneof all gs (shape.List _) = false
+sets_oneof all gs (shape.Map _) = false
 
 module _ (merged : ℕ → Message → Message → Message) where
   -- messages are merged, lists joined, the second's entries put over the first's, and else the second counts

@@ -44,11 +44,25 @@ IsOfShape shape.Explicit (one d) = Unit {0}
 IsOfShape (shape.OneofMember _) (one d) = Unit {0}
 IsOfShape (shape.List _) (list (datum d ds)) = Unit {0}
 IsOfShape (shape.Map _) (map (entry k d es)) = Unit {0}
-IsOfShape _ _ = ⊥
+IsOfShape shape.Implicit (list ds) = ⊥
+IsOfShape shape.Implicit (map es) = ⊥
+IsOfShape shape.Explicit (list ds) = ⊥
+IsOfShape shape.Explicit (map es) = ⊥
+IsOfShape (shape.OneofMember _) (list ds) = ⊥
+IsOfShape (shape.OneofMember _) (map es) = ⊥
+IsOfShape (shape.List _) (one d) = ⊥
+IsOfShape (shape.List _) (list no_datums) = ⊥
+IsOfShape (shape.List _) (map es) = ⊥
+IsOfShape (shape.Map _) (one d) = ⊥
+IsOfShape (shape.Map _) (list ds) = ⊥
+IsOfShape (shape.Map _) (map no_entries) = ⊥
 
 abbrev pub oneof_of : Shape → Option ℕ
 oneof_of (shape.OneofMember o) = Some o
-oneof_of _ = None
+oneof_of shape.Implicit = None
+oneof_of shape.Explicit = None
+oneof_of (shape.List _) = None
+oneof_of (shape.Map _) = None
 
 -- the oneof that the field of a number belongs to
 abbrev pub oneof_at : List FieldView → ℕ → Option ℕ
@@ -67,7 +81,10 @@ HasOneMemberEach all (field n h fs) = IfSome (oneof_at all n) (λ o. HasNoMember
 -- the kind of a map's keys
 abbrev pub key_of : Shape → Option Kind
 key_of (shape.Map key) = Some key
-key_of _ = None
+key_of shape.Implicit = None
+key_of shape.Explicit = None
+key_of (shape.OneofMember _) = None
+key_of (shape.List _) = None
 
 module _ (pool : Types) where
   abbrev mutual

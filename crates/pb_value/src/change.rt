@@ -1,5 +1,9 @@
 //! Changes of what a body holds.
 
+pub(crate) mod insert;
+pub(crate) mod oneof;
+pub(crate) mod push;
+
 ghost use Rattle.std.specs.Prelude.{◌≡◌, ◌<◌, length, OnOk, OnErr, IfErr, Some, option_map};
 ghost use Rattle.pb_schema.specs.Types.{message_fields};
 ghost use Rattle.pb_value.specs.Data.{body, get_field, put_field, drop_field, fields_of, unknown_of};
@@ -9,9 +13,9 @@ ghost use Rattle.pb_value.specs.View.{body_view, content_view, fields_view};
 ghost use Rattle.pb_value.specs.declared.error.ValueError.TheVariants.{Memory};
 
 use crate::body::{Body, Content};
+use crate::change::oneof::set_member;
 use crate::error::ValueError;
 use crate::judge::is_absence;
-use crate::oneof::set_member;
 use pb_schema::{MessageId, Pool, Shape};
 use std::collections::BTreeMap;
 

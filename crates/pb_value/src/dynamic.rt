@@ -1,17 +1,16 @@
 //! Messages that are well formed by a pool.
 
 use crate::body::{Body, Content, MapKey, Value};
+use crate::change::insert::{check_entry, insert_entry};
+use crate::change::oneof::set_member;
+use crate::change::push::{check_element, push_element};
 use crate::change::{clear_field, store};
-use crate::check::{check_content, check_message, check_parts};
-use crate::depth::{MAX_LEVELS, content_within};
 use crate::error::ValueError;
-use crate::insert::{check_entry, insert_entry};
+use crate::judge::check::{check_content, check_message, check_parts};
+use crate::judge::depth::{MAX_LEVELS, content_within};
 use crate::lookup::field_at;
 use crate::merge::merge_body;
 use crate::message_ref::{MessageRef, print};
-use crate::oneof::set_member;
-use crate::push::{check_element, push_element};
-use crate::same_pool::is_same_pool;
 use pb_schema::{Kind, MessageId, Pool, Shape};
 use std::alloc::Global;
 use std::collections::BTreeMap;
@@ -270,7 +269,7 @@ impl<'p> DynamicMessage<'p> {
         if self.kind.0 != other.kind.0 {
             return false;
         }
-        is_same_pool(self.pool, other.pool)
+        self.pool.equals(other.pool)
     }
 
     /// This message with another of its type over it.

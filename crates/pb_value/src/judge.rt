@@ -1,5 +1,9 @@
 //! Which values are of which kind, and which contents of which shape.
 
+pub(crate) mod check;
+pub(crate) mod depth;
+pub(crate) mod unknown;
+
 ghost use Rattle.std.specs.Prelude.{◌≡◌, IsTrue};
 ghost use Rattle.pb_value.specs.Judge.{is_value_of, are_values_of, is_key_of, are_entries_of, holds_kind, has_shape, is_absence, is_scalar_of, is_default_datum, IsWithin, IsKeyWithin};
 ghost use Rattle.pb_schema.specs.Scalar.{bytes as scalar_bytes};

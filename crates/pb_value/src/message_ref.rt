@@ -1,9 +1,9 @@
 //! Messages that are borrowed, whole or from inside others.
 
 use crate::body::{Body, Content, MapKey, Value};
+use crate::change::oneof::set_member;
 use crate::full_name::FullName;
 use crate::lookup::field_at;
-use crate::oneof::set_member;
 use pb_schema::{Kind, MessageId, Pool};
 use std::fmt;
 use std::marker::Model;

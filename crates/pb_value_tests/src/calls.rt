@@ -1,27 +1,21 @@
 //! Each call once.
 
 use super::reading::{body_of, key_of, value_of};
-use super::sample::{Schema, sample};
+use super::sample::Schema;
 use pb_schema::{EnumId, Kind, MessageId};
 use pb_value::{
-    Content, DynamicMessage, Value, ValueError, canonical_spelling, default_value, key_order,
-    no_cause, one_value, well_formed_values,
+    Content, DynamicMessage, Value, ValueError, canonical_spelling, default_value, joined_records,
+    key_order, merging, no_cause, one_value, reading_onto, round_trip, well_formed_values,
 };
 use std::alloc::{AllocError, Global};
 use std::test::Fail;
 
-#[test]
-fn empty_message(rt: HostRuntime) -> Result<(), Fail> {
-    let schema = sample(rt.alloc())?;
-    let message = schema.empty(rt.alloc());
-    assert!(rt;
-        message.body().fields.is_empty()
-            && message.body().unknown.is_empty()
-            && message.message_type() == schema.kind
-            && message.pool().messages().len() == 2
-            && message.which_oneof(0).is_none()
-    );
-    Ok(())
+pub(crate) fn is_empty(schema: &Schema, message: &DynamicMessage<'_>) -> bool {
+    message.body().fields.is_empty()
+        && message.body().unknown.is_empty()
+        && message.message_type() == schema.kind
+        && message.pool().messages().len() == 2
+        && message.which_oneof(0).is_none()
 }
 
 /// A field, and whether the message holds it.
@@ -51,17 +45,9 @@ fn holds_a_number_and_a_member(message: &DynamicMessage<'_>) -> bool {
         && message.which_oneof(2).is_none()
 }
 
-fn is_held(alloc: Global, schema: &Schema) -> Result<bool, Fail> {
+pub(crate) fn is_held(alloc: Global, schema: &Schema) -> Result<bool, Fail> {
     let message = schema.made(alloc, body_of(alloc, "1:i5 8:n0")?)?;
     Ok(holds_a_number_and_a_member(&message))
-}
-
-#[test]
-fn what_a_message_holds(rt: HostRuntime) -> Result<(), Fail> {
-    let schema = sample(rt.alloc())?;
-    let is_told = is_held(rt.alloc(), &schema)?;
-    assert!(rt; is_told);
-    Ok(())
 }
 
 /// A kind and its default.
@@ -107,6 +93,7 @@ const CAUSES: &[(ValueError, u8, &str)] = &[
     (ValueError::KnownAsUnknown, 26, "KnownAsUnknown"),
     (ValueError::TooDeep, 27, "TooDeep"),
     (ValueError::Memory, 28, "Memory"),
+    (ValueError::OtherType, 29, "OtherType"),
 ];
 
 #[test]
@@ -131,15 +118,25 @@ const KEYS: &[(&str, &str)] = &[
     ("ta", "t\u{e9}"),
 ];
 
+fn is_less(alloc: Global, low: &str, high: &str) -> Result<bool, Fail> {
+    let less = key_of(alloc, low)?;
+    let more = key_of(alloc, high)?;
+    Ok(less < more && less != more && less == less)
+}
+
+fn is_key_shown(alloc: Global, key: &str, wanted: &str) -> Result<bool, Fail> {
+    let shown = format!(in alloc; "{:?}", key_of(alloc, key)?)?;
+    Ok(shown.as_str() == wanted)
+}
+
 #[test]
 fn keys(rt: HostRuntime) -> Result<(), Fail> {
-    let alloc = rt.alloc();
     for (low, high) in KEYS {
-        let (less, more) = (key_of(alloc, low)?, key_of(alloc, high)?);
-        assert!(rt; less < more && less != more && less == less, "{low} {high}");
+        let is_less = is_less(rt.alloc(), low, high)?;
+        assert!(rt; is_less, "{low} {high}");
     }
-    let shown = format!(in alloc; "{:?}", key_of(alloc, "tk")?)?;
-    assert!(rt; shown.as_str() == "Text(\"k\")");
+    let is_shown = is_key_shown(rt.alloc(), "tk", "Text(\"k\")")?;
+    assert!(rt; is_shown);
     Ok(())
 }
 
@@ -158,22 +155,16 @@ fn is_list_of(content: Option<&Content>, count: i32) -> bool {
     }
 }
 
-/// Whether a long list is set, and cleared again.
-fn is_long_set(alloc: Global, schema: &Schema, count: i32) -> Result<bool, ValueError> {
-    let mut message = schema.empty(alloc);
+/// Whether a long list is set, cleared and dropped.
+pub(crate) fn is_long_set(
+    alloc: Global,
+    message: &mut DynamicMessage<'_>,
+    count: i32,
+) -> Result<bool, ValueError> {
     message.set(6, long_list(alloc, count)?)?;
     let is_set = is_list_of(message.get(6), count);
     message.clear(6);
     Ok(is_set && !message.has(6))
-}
-
-/// A long list is set, cleared and dropped.
-#[test]
-fn long_value(rt: HostRuntime) -> Result<(), Fail> {
-    let schema = sample(rt.alloc())?;
-    let is_done = is_long_set(rt.alloc(), &schema, 1_000_000)?;
-    assert!(rt; is_done);
-    Ok(())
 }
 
 #[test]
@@ -183,4 +174,8 @@ fn laws_hold() {
     key_order();
     no_cause();
     well_formed_values();
+    round_trip();
+    joined_records();
+    reading_onto();
+    merging();
 }

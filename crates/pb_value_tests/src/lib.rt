@@ -11,8 +11,12 @@ mod changes;
 #[cfg(test)]
 mod choice;
 #[cfg(test)]
+mod merges;
+#[cfg(test)]
 mod reading;
 #[cfg(test)]
 mod sample;
+#[cfg(test)]
+mod tests;
 #[cfg(test)]
 mod views;

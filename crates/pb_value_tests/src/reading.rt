@@ -1,37 +1,25 @@
 //! Values, contents and bodies, read from words.
 
-use pb_value::{Body, Content, MapKey, Value};
+use pb_value::{Body, Content, MapKey, Value, empty_body};
 use pb_wire::Unknown;
 use std::alloc::{AllocError, Global};
 use std::collections::BTreeMap;
 use std::test::Fail;
 
-fn empty(alloc: Global) -> Body {
-    Body {
-        fields: BTreeMap::new(alloc),
-        unknown: Vec::new(alloc),
-    }
-}
-
-fn around(alloc: Global, number: u32, value: Value) -> Result<Body, AllocError> {
-    let mut body = empty(alloc);
-    drop(body.fields.insert(number, Content::One(value))?);
-    Ok(body)
-}
-
-/// The empty message inside so many others, each the field 3 of the one around it.
-fn nest(alloc: Global, levels: u32) -> Result<Body, AllocError> {
-    let mut body = empty(alloc);
+/// A body inside so many others, each the field 3 of the one around it.
+fn nest(alloc: Global, inside: Body, levels: u32) -> Result<Body, AllocError> {
+    let mut body = inside;
     for _ in 0..levels {
-        body = around(alloc, 3, Value::Message(body))?;
+        let mut around = empty_body(alloc);
+        drop(around.fields.insert(3, Content::One(Value::Message(body)))?);
+        body = around;
     }
     Ok(body)
 }
 
-/// A value by a letter and what follows it: `i`, `I`, `u`, `U`, `b`, `f`, `F` and `e` a number (of a float its bits), `t` a text,
-/// `x` bytes in hexadecimal, `n` so many messages inside each other, `h` a message whose field 1 is this number.
-pub(crate) fn value_of(alloc: Global, word: &str) -> Result<Value, Fail> {
-    let (form, rest) = word.split_at_checked(1).ok_or("no value")?;
+/// A scalar by a letter and what follows it: `i`, `I`, `u`, `U`, `b`, `f`, `F` and `e` a number (of a float its bits), `t` a text,
+/// `x` bytes in hexadecimal.
+fn scalar_of(alloc: Global, form: &str, rest: &str) -> Result<Value, Fail> {
     Ok(match form {
         "i" => Value::I32(rest.parse::<i32>()?),
         "I" => Value::I64(rest.parse::<i64>()?),
@@ -43,9 +31,44 @@ pub(crate) fn value_of(alloc: Global, word: &str) -> Result<Value, Fail> {
         "e" => Value::Enum(rest.parse::<i32>()?),
         "t" => Value::Text(String::from_str(alloc, rest)?),
         "x" => Value::Bytes(hex::decode(alloc, rest)?),
-        "n" => Value::Message(nest(alloc, rest.parse::<u32>()?)?),
-        "h" => Value::Message(around(alloc, 1, Value::I32(rest.parse::<i32>()?))?),
         _ => return Err(Fail::new("no form of value")),
+    })
+}
+
+fn add_scalar(alloc: Global, body: &mut Body, number: &str, word: &str) -> Result<(), Fail> {
+    let number = number.parse::<u32>()?;
+    let (form, rest) = word.split_at_checked(1).ok_or("no value")?;
+    let value = scalar_of(alloc, form, rest)?;
+    drop(body.fields.insert(number, Content::One(value))?);
+    Ok(())
+}
+
+/// A message of scalars, as `1=i5;11=i-2`.
+fn flat_of(alloc: Global, words: &str) -> Result<Body, Fail> {
+    let mut body = empty_body(alloc);
+    for word in words.split(';') {
+        if let Some((number, value)) = word.split_once('=') {
+            add_scalar(alloc, &mut body, number, value)?;
+        }
+    }
+    Ok(body)
+}
+
+/// So many messages inside each other, the innermost of scalars, as `2.1=i5`, or empty.
+fn nest_of(alloc: Global, words: &str) -> Result<Body, Fail> {
+    let (levels, inside) = words.split_once('.').unwrap_or((words, ""));
+    let levels = levels.parse::<u32>()?;
+    Ok(nest(alloc, flat_of(alloc, inside)?, levels)?)
+}
+
+/// A value: a message of scalars behind `m`, as `m1=i5`; so many messages inside each other behind `n`, of which the innermost has
+/// what follows the dot, as `n2.1=i5`; or a scalar.
+pub(crate) fn value_of(alloc: Global, word: &str) -> Result<Value, Fail> {
+    let (form, rest) = word.split_at_checked(1).ok_or("no value")?;
+    Ok(match form {
+        "m" => Value::Message(flat_of(alloc, rest)?),
+        "n" => Value::Message(nest_of(alloc, rest)?),
+        _ => scalar_of(alloc, form, rest)?,
     })
 }
 
@@ -69,12 +92,19 @@ fn list_of(alloc: Global, words: &str) -> Result<Content, Fail> {
     Ok(Content::List(values))
 }
 
+type Entries = BTreeMap<MapKey, Value>;
+
+fn add_entry(alloc: Global, entries: &mut Entries, key: &str, value: &str) -> Result<(), Fail> {
+    let value = value_of(alloc, value)?;
+    drop(entries.insert(key_of(alloc, key)?, value)?);
+    Ok(())
+}
+
 fn map_of(alloc: Global, words: &str) -> Result<Content, Fail> {
     let mut entries = BTreeMap::new(alloc);
     for word in words.split(',') {
         if let Some((key, value)) = word.split_once('=') {
-            let key = key_of(alloc, key)?;
-            drop(entries.insert(key, value_of(alloc, value)?)?);
+            add_entry(alloc, &mut entries, key, value)?;
         }
     }
     Ok(Content::Map(entries))
@@ -118,18 +148,31 @@ fn payload_of(alloc: Global, word: &str) -> Result<Unknown, Fail> {
     })
 }
 
+fn add_field(alloc: Global, body: &mut Body, number: &str, word: &str) -> Result<(), Fail> {
+    let number = number.parse::<u32>()?;
+    drop(body.fields.insert(number, content_of(alloc, word)?)?);
+    Ok(())
+}
+
+fn add_record(alloc: Global, body: &mut Body, number: &str, word: &str) -> Result<(), Fail> {
+    let number = number.parse::<u32>()?;
+    body.unknown.push((number, payload_of(alloc, word)?))?;
+    Ok(())
+}
+
+fn add_word(alloc: Global, body: &mut Body, word: &str) -> Result<(), Fail> {
+    if let Some((number, content)) = word.split_once(':') {
+        return add_field(alloc, body, number, content);
+    }
+    let (number, payload) = word.split_once('~').ok_or("no field or record")?;
+    add_record(alloc, body, number, payload)
+}
+
 /// A body is fields as `1:i5 6:[i1,i0]` and unknown records as `99~v7`.
 pub(crate) fn body_of(alloc: Global, words: &str) -> Result<Body, Fail> {
-    let mut body = empty(alloc);
+    let mut body = empty_body(alloc);
     for word in words.split_whitespace() {
-        if let Some((number, content)) = word.split_once(':') {
-            let number = number.parse::<u32>()?;
-            drop(body.fields.insert(number, content_of(alloc, content)?)?);
-        } else {
-            let (number, payload) = word.split_once('~').ok_or("no field or record")?;
-            let number = number.parse::<u32>()?;
-            body.unknown.push((number, payload_of(alloc, payload)?))?;
-        }
+        add_word(alloc, &mut body, word)?;
     }
     Ok(body)
 }

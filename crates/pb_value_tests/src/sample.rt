@@ -30,16 +30,22 @@ impl Schema {
 /// repeated string u = 13; repeated sint32 v = 14 [packed = false]; bytes w = 15; float g = 16; E k = 17;
 /// oneof q { fixed64 f = 18; } repeated T r = 19; message N { string z = 1; } N l = 20; }
 pub(crate) fn sample(alloc: Global) -> Result<Schema, Fail> {
-    let pool = Pool::from_parts(alloc, files(alloc)?, messages(alloc)?, enums(alloc)?)?;
-    let kind = pool.message_by_name("a.b.T").ok_or("T")?;
+    sample_in(alloc, "a.b", "a.b.T")
+}
+
+/// A type of the same declarations in a package of this name.
+pub(crate) fn sample_in(alloc: Global, package: &str, name: &str) -> Result<Schema, Fail> {
+    let files = files(alloc, package)?;
+    let pool = Pool::from_parts(alloc, files, messages(alloc)?, enums(alloc)?)?;
+    let kind = pool.message_by_name(name).ok_or("no type")?;
     Ok(Schema { pool, kind })
 }
 
-fn files(alloc: Global) -> Result<Vec<FileInfo>, AllocError> {
+fn files(alloc: Global, package: &str) -> Result<Vec<FileInfo>, AllocError> {
     let mut files = Vec::new(alloc);
     files.push(FileInfo {
         name: String::from_str(alloc, "t.proto")?,
-        package: String::from_str(alloc, "a.b")?,
+        package: String::from_str(alloc, package)?,
         imports: Vec::new(alloc),
     })?;
     Ok(files)

@@ -1,7 +1,7 @@
 //! Messages inside others, seen in their place.
 
 use super::reading::body_of;
-use super::sample::{Schema, sample};
+use super::sample::Schema;
 use pb_schema::MessageId;
 use pb_value::{Content, DynamicMessage, MapKey, MessageRef, Value};
 use std::alloc::{AllocError, Global};
@@ -61,17 +61,12 @@ fn has_inner_itself(message: &DynamicMessage<'_>) -> bool {
         && number_in(message.message_of(12, &MapKey::U32(9))) == Some(6)
 }
 
-fn are_inner_told(alloc: Global, schema: &Schema) -> Result<bool, Fail> {
-    let message = schema.made(alloc, body_of(alloc, "3:h5 12:{u9=h6} 19:[h7,h8]")?)?;
+pub(crate) fn are_inner_told(alloc: Global, schema: &Schema) -> Result<bool, Fail> {
+    let message = schema.made(
+        alloc,
+        body_of(alloc, "3:m1=i5 12:{u9=m1=i6} 19:[m1=i7,m1=i8]")?,
+    )?;
     Ok(has_inner(&message.view()) && has_inner_itself(&message))
-}
-
-#[test]
-fn inner_messages(rt: HostRuntime) -> Result<(), Fail> {
-    let schema = sample(rt.alloc())?;
-    let are_told = are_inner_told(rt.alloc(), &schema)?;
-    assert!(rt; are_told);
-    Ok(())
 }
 
 fn is_whole(view: &MessageRef<'_>, message: &DynamicMessage<'_>, kind: MessageId) -> bool {
@@ -85,17 +80,9 @@ fn is_whole(view: &MessageRef<'_>, message: &DynamicMessage<'_>, kind: MessageId
         && !view.has(99)
 }
 
-fn is_whole_told(alloc: Global, schema: &Schema) -> Result<bool, Fail> {
+pub(crate) fn is_whole_told(alloc: Global, schema: &Schema) -> Result<bool, Fail> {
     let message = schema.made(alloc, body_of(alloc, "2:tx 8:n1 99~v7")?)?;
     Ok(is_whole(&message.view(), &message, schema.kind))
-}
-
-#[test]
-fn whole_view(rt: HostRuntime) -> Result<(), Fail> {
-    let schema = sample(rt.alloc())?;
-    let is_told = is_whole_told(rt.alloc(), &schema)?;
-    assert!(rt; is_told);
-    Ok(())
 }
 
 fn shown(alloc: Global, message: &DynamicMessage<'_>) -> Result<String, AllocError> {
@@ -127,16 +114,8 @@ const OUTER: &str =
 
 const INNER: &str = "MessageRef { type: a.b.T.N, body: Body { fields: {}, unknown: [] } }";
 
-fn are_shown(alloc: Global, schema: &Schema) -> Result<bool, Fail> {
+/// A message prints the full name of its type, and its body.
+pub(crate) fn are_shown(alloc: Global, schema: &Schema) -> Result<bool, Fail> {
     let message = schema.made(alloc, body_of(alloc, "1:i5 20:n0")?)?;
     Ok(is_shown(alloc, &message, OUTER)? && is_shown_inside(alloc, &message, 20, INNER)?)
-}
-
-/// A message prints the full name of its type, and its body.
-#[test]
-fn printed(rt: HostRuntime) -> Result<(), Fail> {
-    let schema = sample(rt.alloc())?;
-    let are_told = are_shown(rt.alloc(), &schema)?;
-    assert!(rt; are_told);
-    Ok(())
 }

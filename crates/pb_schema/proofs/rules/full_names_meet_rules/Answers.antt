@@ -1,6 +1,6 @@
 use Rattle.std.proofs.Common.{ℕ, List, Option, true, map, refl, sym, subst}
 use Rattle.std.proofs.lemmas.List.{length-map}
-use Rattle.pb_schema.specs.declared.declarations.Declarations.{Declarations}
+use Rattle.pb_schema.specs.declared.names.declared.Declarations.{Declarations}
 use Rattle.pb_schema.specs.View.{file_view, message_view, types_of}
 use Rattle.pb_schema.specs.Nesting.{ParentsStandBefore}
 use Rattle.pb_schema.specs.Names.{message_name}

@@ -12,4 +12,4 @@ returns-clause-tables c =
     let ts = types_of c.args.files.now c.args.messages.now c.args.enums.now in
     let ok = c.in_ok-holds.ensures.0 c.if-not-holds.false in
     let of_enums = c.in_ok-names_of_enums.ensures ∙ enum_names_by ts (bytes_of c.deref.result.now) ok (ap bytes_of c.deref.ensures.value ∙ c.in_ok-names.ensures) in
-    pool_tables ts (bytes_of c.in_ok-names.names.items) (bytes_of c.in_ok-names_of_enums.names_of_enums.items) c.in_ok-message_set.message_set c.in_ok-enum_set.enum_set c.in_ok-numbers.numbers.items c.in_ok-members.members.items ok c.in_ok-names.ensures c.in_ok-message_set.ensures of_enums c.in_ok-enum_set.ensures c.in_ok-numbers.ensures c.in_ok-members.ensures
+    pool_tables ts (bytes_of c.in_ok-names.names.items) (bytes_of c.in_ok-names_of_enums.names_of_enums.items) c.in_ok-message_set.message_set c.in_ok-enum_set.enum_set c.in_ok-numbers.numbers.items c.in_ok-members.members.items c.in_ok-field_names.field_names.items ok c.in_ok-names.ensures c.in_ok-message_set.ensures of_enums c.in_ok-enum_set.ensures c.in_ok-numbers.ensures c.in_ok-members.ensures c.in_ok-field_names.ensures

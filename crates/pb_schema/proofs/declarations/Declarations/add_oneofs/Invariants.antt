@@ -1,7 +1,0 @@
-use Rattle.std.proofs.Common.{[], ◌∷◌, take, string_bytes}
-use Rattle.std.specs.List.{flat_map}
-use Rattle.pb_schema.specs.Declarations.{Adds}
-use Rattle.pb_schema.proofs.declarations.Declarations.add_oneofs.Given as goal
-
-abbrev pub invariant-loop-name : goal.invariant-loop-name
-invariant-loop-name l = Adds l.scope (flat_map (λ n. string_bytes n ∷ []) (take l.name-index l.oneofs)) l.fn.self l.self

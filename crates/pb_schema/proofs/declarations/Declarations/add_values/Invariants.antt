@@ -1,7 +1,0 @@
-use Rattle.std.proofs.Common.{[], ◌∷◌, take, string_bytes}
-use Rattle.std.specs.List.{flat_map}
-use Rattle.pb_schema.specs.Declarations.{Adds}
-use Rattle.pb_schema.proofs.declarations.Declarations.add_values.Given as goal
-
-abbrev pub invariant-loop-value : goal.invariant-loop-value
-invariant-loop-value l = Adds l.scope (flat_map (λ v. string_bytes v.0 ∷ []) (take l.value-index l.values)) l.fn.self l.self

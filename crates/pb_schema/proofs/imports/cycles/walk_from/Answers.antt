@@ -1,0 +1,126 @@
+use Rattle.std.proofs.Common.{◌≡◌, ◌<◌, ◌∙◌, [], ◌∷◌, ◌++◌, map, length, set, sym, ap, subst, arith}
+use Rattle.std.specs.Prelude.{slice_get}
+use Rattle.std.proofs.lemmas.List.{length-map, get_or_read}
+use Rattle.pb_schema.specs.declared.imports.cycles.Progress.TheVariants.{Unseen, Open, Done}
+use Rattle.pb_schema.specs.View.{file_view}
+use Rattle.pb_schema.specs.Imports.{imports_of}
+use Rattle.pb_schema.specs.Cycles.{progress_of}
+use Rattle.pb_schema.proofs.CycleLemmas.{Walk, becomes-set, top_of, walk-start, walk-push, walk-advance, walk-pop, walk-reaches, walk-cycle, walk-answers, work-push, work-advance, work-pop, onward-start, onward-push, onward-pop, import_is_there, next_fits}
+use Rattle.pb_schema.proofs.imports.cycles.walk_from.Goals as goal
+
+pub loop-file-init : goal.loop-file-init
+loop-file-init c =
+    let F = map file_view c.args.files.now in
+    let P = c.args.progress.now.items in
+    let within : c.args.start < length F = omega (arith, length-map c.args.files.now file_view, c.requires.within) in
+    let in_list : c.args.start < length P = omega (arith, within, c.requires.settled.done.size) in
+    rw c.in_ok-path.ensures.items (walk-start F P c.args.start c.requires.settled within c.requires.unseen, onward-start c.args.start P in_list c.requires.unseen)
+
+pub import_at-requires : goal.import_at-requires
+import_at-requires c =
+    let F = map file_view c.args.files.now in
+    let w = subst (Walk F c.loop-file.progress.items) c.in-Some.ensures.items c.loop-file.invariant.0 in
+    omega (arith, length-map c.args.files.now file_view, (top_of F c.loop-file.progress.items c.pop.new.self.items c.in-Some.file c.in-Some.next w).within)
+
+pub index_mut-requires-in-None : goal.index_mut-requires-in-None
+index_mut-requires-in-None c =
+    let F = map file_view c.args.files.now in
+    let w = subst (Walk F c.loop-file.progress.items) c.in-Some.ensures.items c.loop-file.invariant.0 in
+    omega (arith, c.loop-file.progress.ok.0, w.done.size, (top_of F c.loop-file.progress.items c.pop.new.self.items c.in-Some.file c.in-Some.next w).within)
+
+pub loop-file-smaller-in-None : goal.loop-file-smaller-in-None
+loop-file-smaller-in-None c =
+    let F = map file_view c.args.files.now in
+    let P = c.loop-file.progress.items in
+    let w = subst (Walk F P) c.in-Some.ensures.items c.loop-file.invariant.0 in
+    rw c.in-Some.ensures.items (work-pop F P c.pop.new.self.items c.in-Some.file c.in-Some.next w)
+
+pub loop-file-preserved-in-None : goal.loop-file-preserved-in-None
+loop-file-preserved-in-None c =
+    let F = map file_view c.args.files.now in
+    let P = c.loop-file.progress.items in
+    let f = c.in-Some.file in
+    let w = subst (Walk F P) c.in-Some.ensures.items c.loop-file.invariant.0 in
+    let in_list : f < length P = omega (arith, w.done.size, (top_of F P c.pop.new.self.items f c.in-Some.next w).within) in (
+      walk-pop F P _ c.pop.new.self.items f c.in-Some.next w (sym c.import_at.ensures ∙ c.in-None.is) (becomes-set f Done P in_list),
+      onward-pop F c.pop.new.self.items c.args.start f c.in-Some.next c.args.progress.now.items P w c.loop-file.invariant.1,
+    )
+
+pub index-requires : goal.index-requires
+index-requires c =
+    let F = map file_view c.args.files.now in
+    let w = c.loop-file.invariant.0 in
+    let there : c.in-Some-import_at.import < length F = import_is_there F c.in-Some.file c.in-Some.next c.in-Some-import_at.import c.requires.imports (sym c.import_at.ensures ∙ c.in-Some-import_at.is) in
+    omega (arith, c.loop-file.progress.ok.0, w.done.size, there)
+
+pub overflow_add-next : goal.overflow_add-next
+overflow_add-next c =
+    next_fits c.args.files.now c.in-Some.file c.in-Some.next c.in-Some-import_at.import (sym c.import_at.ensures ∙ c.in-Some-import_at.is)
+
+pub loop-file-smaller-in-Continue-branch-2 : goal.loop-file-smaller-in-Continue-branch-2
+loop-file-smaller-in-Continue-branch-2 c =
+    let F = map file_view c.args.files.now in
+    rw (c.in-Some.ensures.items, c.in_ok-push-in-Done.ensures.items) (work-advance F c.loop-file.progress.items c.pop.new.self.items c.in-Some.file c.in-Some.next c.in-Some-import_at.import (sym c.import_at.ensures ∙ c.in-Some-import_at.is))
+
+pub loop-file-preserved-in-Continue-branch-2 : goal.loop-file-preserved-in-Continue-branch-2
+loop-file-preserved-in-Continue-branch-2 c =
+    let F = map file_view c.args.files.now in
+    let P = c.loop-file.progress.items in
+    let j = c.in-Some-import_at.import in
+    let w = subst (Walk F P) c.in-Some.ensures.items c.loop-file.invariant.0 in
+    let at : slice_get (imports_of F c.in-Some.file) c.in-Some.next ≡ _ = sym c.import_at.ensures ∙ c.in-Some-import_at.is in
+    let there : j < length F = import_is_there F c.in-Some.file c.in-Some.next j c.requires.imports at in
+    let is : progress_of P j ≡ Done = sym (get_or_read P j c.index.result.now (omega (arith, there, w.done.size)) c.index.ensures Unseen) ∙ c.in-Done.is in
+    rw c.in_ok-push-in-Done.ensures.items (walk-advance F P c.pop.new.self.items c.in-Some.file c.in-Some.next j w at is, c.loop-file.invariant.1)
+
+pub returns-in-Open : goal.returns-in-Open
+returns-in-Open c =
+    let F = map file_view c.args.files.now in
+    let P = c.loop-file.progress.items in
+    let j = c.in-Some-import_at.import in
+    let w = subst (Walk F P) c.in-Some.ensures.items c.loop-file.invariant.0 in
+    let at : slice_get (imports_of F c.in-Some.file) c.in-Some.next ≡ _ = sym c.import_at.ensures ∙ c.in-Some-import_at.is in
+    let there : j < length F = import_is_there F c.in-Some.file c.in-Some.next j c.requires.imports at in
+    let is : progress_of P j ≡ Open = sym (get_or_read P j c.index.result.now (omega (arith, there, w.done.size)) c.index.ensures Unseen) ∙ c.in-Open.is in
+    (j, walk-cycle F P c.pop.new.self.items c.in-Some.file c.in-Some.next j w at is)
+
+pub index_mut-requires-in-Unseen : goal.index_mut-requires-in-Unseen
+index_mut-requires-in-Unseen c =
+    let F = map file_view c.args.files.now in
+    let w = c.loop-file.invariant.0 in
+    let there : c.in-Some-import_at.import < length F = import_is_there F c.in-Some.file c.in-Some.next c.in-Some-import_at.import c.requires.imports (sym c.import_at.ensures ∙ c.in-Some-import_at.is) in
+    omega (arith, c.loop-file.progress.ok.0, w.done.size, there)
+
+pub loop-file-smaller : goal.loop-file-smaller
+loop-file-smaller c =
+    let F = map file_view c.args.files.now in
+    let P = c.loop-file.progress.items in
+    let j = c.in-Some-import_at.import in
+    let w = c.loop-file.invariant.0 in
+    let at : slice_get (imports_of F c.in-Some.file) c.in-Some.next ≡ _ = sym c.import_at.ensures ∙ c.in-Some-import_at.is in
+    let there : j < length F = import_is_there F c.in-Some.file c.in-Some.next j c.requires.imports at in
+    let in_list : j < length P = omega (arith, there, w.done.size) in
+    let is : progress_of P j ≡ Unseen = sym (get_or_read P j c.index.result.now in_list c.index.ensures Unseen) ∙ c.in-Unseen.is in
+    rw (c.in-Some.ensures.items, c.in_ok-push-in-Unseen-2.ensures.items, c.in_ok-push-in-Unseen.ensures.items) (work-push F P c.pop.new.self.items c.in-Some.file c.in-Some.next j there in_list is)
+
+pub loop-file-preserved : goal.loop-file-preserved
+loop-file-preserved c =
+    let F = map file_view c.args.files.now in
+    let P = c.loop-file.progress.items in
+    let j = c.in-Some-import_at.import in
+    let f = c.in-Some.file in
+    let n = c.in-Some.next in
+    let E = c.pop.new.self.items in
+    let w = subst (Walk F P) c.in-Some.ensures.items c.loop-file.invariant.0 in
+    let at : slice_get (imports_of F f) n ≡ _ = sym c.import_at.ensures ∙ c.in-Some-import_at.is in
+    let there : j < length F = import_is_there F f n j c.requires.imports at in
+    let in_list : j < length P = omega (arith, there, w.done.size) in
+    let is : progress_of P j ≡ Unseen = sym (get_or_read P j c.index.result.now in_list c.index.ensures Unseen) ∙ c.in-Unseen.is in
+    let both : c.push-in-Unseen-2.new.self.items ≡ E ++ (f, n) ∷ [] ++ (j, 0) ∷ [] = c.in_ok-push-in-Unseen-2.ensures.items ∙ ap (λ l. l ++ (j, 0) ∷ []) c.in_ok-push-in-Unseen.ensures.items in (
+      subst (Walk F (set P j Open)) (sym both) (walk-push F P (set P j Open) (E ++ (f, n) ∷ []) j w there is (walk-reaches F P E f n j w at) (becomes-set j Open P in_list)),
+      onward-push c.args.start j c.args.progress.now.items P c.loop-file.invariant.1 in_list is,
+    )
+
+pub returns : goal.returns
+returns c =
+    walk-answers (map file_view c.args.files.now) c.args.start c.args.progress.now.items c.loop-file.progress.items c.loop-file.path.items (omega (arith, c.loop-file.path.ok.0, c.in_default.ensures.cases)) c.loop-file.invariant.0 c.loop-file.invariant.1

@@ -1,8 +1,0 @@
-use Rattle.std.proofs.Common.{◌↔◌, map, drop}
-use Rattle.pb_schema.specs.View.{file_view, enum_view}
-use Rattle.pb_schema.specs.Rules.{EnumsHaveFiles}
-use Rattle.pb_schema.proofs.index_rules.enums_have_files.Given as goal
-
-abbrev pub invariant-loop-entry : goal.invariant-loop-entry
-invariant-loop-entry l =
-    EnumsHaveFiles (map file_view l.files) (map enum_view l.enums) ↔ EnumsHaveFiles (map file_view l.files) (map enum_view (drop l.entry-index l.enums))

@@ -1,5 +1,0 @@
-use Rattle.std.proofs.lemmas.List.{length-map}
-use Rattle.pb_schema.proofs.index_rules.kinds_name_types.Goals as goal
-
-pub returns : goal.returns
-returns c = simp length-map c.each_field.ensures

@@ -1,7 +1,0 @@
-use Rattle.std.proofs.Common.{map, take}
-use Rattle.pb_schema.specs.View.{message_view}
-use Rattle.pb_schema.specs.Tables.{AreNumberTables}
-use Rattle.pb_schema.proofs.number_table.number_tables.Given as goal
-
-abbrev pub invariant-loop-message : goal.invariant-loop-message
-invariant-loop-message l = AreNumberTables (map message_view (take l.message-index l.messages)) l.tables.items

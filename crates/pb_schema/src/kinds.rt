@@ -1,0 +1,71 @@
+//! What each kind is (encoding guide, "Scalar Value Types").
+
+ghost use Rattle.std.specs.Prelude.{◌≡◌};
+ghost use Rattle.pb_schema.specs.Kinds.{wire_type_of, is_packable, is_key_kind};
+
+use crate::types::Kind;
+
+impl Kind {
+    /// The number of the wire type that the kind's values are sent as.
+    pub fn wire_type(self) -> u8
+        ensures { result ≡ wire_type_of self }
+    {
+        match self {
+            Kind::Double | Kind::Fixed64 | Kind::Sfixed64 => 1,
+            Kind::Text | Kind::Bytes | Kind::Message(_) => 2,
+            Kind::Float | Kind::Fixed32 | Kind::Sfixed32 => 5,
+            Kind::Int64
+            | Kind::Uint64
+            | Kind::Int32
+            | Kind::Bool
+            | Kind::Uint32
+            | Kind::Sint32
+            | Kind::Sint64
+            | Kind::Enum(_) => 0,
+        }
+    }
+
+    /// A repeated field of the kind may be packed.
+    pub fn is_packable(self) -> bool
+        ensures { result ≡ is_packable self }
+    {
+        match self {
+            Kind::Double
+            | Kind::Float
+            | Kind::Int64
+            | Kind::Uint64
+            | Kind::Int32
+            | Kind::Fixed64
+            | Kind::Fixed32
+            | Kind::Bool
+            | Kind::Uint32
+            | Kind::Sfixed32
+            | Kind::Sfixed64
+            | Kind::Sint32
+            | Kind::Sint64
+            | Kind::Enum(_) => true,
+            Kind::Text | Kind::Bytes | Kind::Message(_) => false,
+        }
+    }
+
+    /// The kind may be that of a map's keys.
+    pub fn is_key_kind(self) -> bool
+        ensures { result ≡ is_key_kind self }
+    {
+        match self {
+            Kind::Int64
+            | Kind::Uint64
+            | Kind::Int32
+            | Kind::Fixed64
+            | Kind::Fixed32
+            | Kind::Bool
+            | Kind::Text
+            | Kind::Uint32
+            | Kind::Sfixed32
+            | Kind::Sfixed64
+            | Kind::Sint32
+            | Kind::Sint64 => true,
+            Kind::Double | Kind::Float | Kind::Bytes | Kind::Enum(_) | Kind::Message(_) => false,
+        }
+    }
+}

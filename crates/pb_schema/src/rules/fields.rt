@@ -1,0 +1,199 @@
+//! The rules of numbers, oneofs and the types of fields.
+
+ghost use Rattle.std.specs.Prelude.{◌≡◌, ◌↔◌, ◌<◌, ◌⊎◌, false, ℕ, IsTrue, IfOk, OnOk, map, length, slice_get, vec_len};
+ghost use Rattle.std.specs.List.{AllByRecursion, slice_index_or};
+ghost use Rattle.pb_schema.specs.View.{file_view, message_view, enum_view, field_view, types_of};
+ghost use Rattle.pb_schema.specs.Names.{AllDiffer};
+ghost use Rattle.pb_schema.specs.Sight.{KnowsAll, file_of_kind};
+ghost use Rattle.pb_schema.specs.Marks.{NotesMember, AreMembers};
+ghost use Rattle.pb_schema.specs.Rules.{ImportsNameFiles, MessagesHaveFiles, FieldNumbersDiffer, NumbersDiffer, IsMemberOf, HasMember, EachOneofHasMember, OneofsHaveMembers, TypeIsSeen, TypesAreSeen};
+
+use crate::imports::sight::Sight;
+use crate::types::{EnumType, Field, FileInfo, Kind, MessageType, Shape};
+use indexmap::IndexSet;
+use std::alloc::{AllocError, Global};
+
+fn field_numbers_differ(alloc: Global, fields: &[Field]) -> Result<bool, AllocError>
+    ensures { IfOk result (λ holds. IsTrue holds ↔ AllDiffer (map (λ f. f.number) (map field_view fields.now))) }
+{
+    let mut numbers: IndexSet<u32> = IndexSet::new(alloc);
+    for field in fields {
+        let is_new = numbers.insert(field.number)?;
+        if !is_new {
+            return Ok(false);
+        }
+    }
+    Ok(true)
+}
+
+pub(crate) fn numbers_differ(alloc: Global, messages: &[MessageType]) -> Result<bool, AllocError>
+    ensures { IfOk result (λ holds. IsTrue holds ↔ NumbersDiffer (map message_view messages.now)) }
+{
+    for message in messages {
+        let holds = field_numbers_differ(alloc, &message.fields)?;
+        if !holds {
+            return Ok(false);
+        }
+    }
+    Ok(true)
+}
+
+/// Sets the bit of the oneof that the shape is a member of.
+fn note_member(members: &mut Vec<bool>, shape: Shape)
+    ensures { NotesMember shape members.old.items members.new.items }
+{
+    if let Shape::OneofMember(index) = shape
+        && (index as usize) < members.len()
+    {
+        members[index as usize] = true;
+    }
+}
+
+/// A bit for each of so many oneofs, set where a field is a member.
+fn members_of(alloc: Global, fields: &[Field], oneofs: usize) -> Result<Vec<bool>, AllocError>
+    ensures { IfOk result (λ bits. AreMembers oneofs (map field_view fields.now) bits.items) }
+{
+    let mut members = vec![in alloc; false; oneofs]?;
+    for field in fields {
+        note_member(&mut members, field.shape);
+    }
+    Ok(members)
+}
+
+fn all_set(bits: &[bool]) -> bool
+    ensures { IsTrue result ↔ AllByRecursion IsTrue bits.now }
+{
+    for bit in bits {
+        if !*bit {
+            return false;
+        }
+    }
+    true
+}
+
+fn each_oneof_has_member(alloc: Global, message: &MessageType) -> Result<bool, AllocError>
+    ensures { IfOk result (λ holds. IsTrue holds ↔ EachOneofHasMember (message_view message.now)) }
+{
+    let members = members_of(alloc, &message.fields, message.oneofs.len())?;
+    Ok(all_set(&members))
+}
+
+pub(crate) fn oneofs_have_members(
+    alloc: Global,
+    messages: &[MessageType],
+) -> Result<bool, AllocError>
+    ensures { IfOk result (λ holds. IsTrue holds ↔ OneofsHaveMembers (map message_view messages.now)) }
+{
+    for message in messages {
+        let holds = each_oneof_has_member(alloc, message)?;
+        if !holds {
+            return Ok(false);
+        }
+    }
+    Ok(true)
+}
+
+/// The file of the type that a kind names.
+fn file_of_kind(messages: &[MessageType], enums: &[EnumType], kind: Kind) -> Option<usize>
+    ensures { result ≡ file_of_kind (map message_view messages.now) (map enum_view enums.now) kind }
+{
+    match kind {
+        Kind::Enum(id) => match enums.get(id.0) {
+            Some(entry) => Some(entry.file),
+            None => None,
+        },
+        Kind::Message(id) => match messages.get(id.0) {
+            Some(message) => Some(message.file),
+            None => None,
+        },
+        Kind::Double
+        | Kind::Float
+        | Kind::Int64
+        | Kind::Uint64
+        | Kind::Int32
+        | Kind::Fixed64
+        | Kind::Fixed32
+        | Kind::Bool
+        | Kind::Text
+        | Kind::Bytes
+        | Kind::Uint32
+        | Kind::Sfixed32
+        | Kind::Sfixed64
+        | Kind::Sint32
+        | Kind::Sint64 => None,
+    }
+}
+
+/// The type that a kind names is declared in a file that this one sees.
+fn type_is_seen(
+    alloc: Global,
+    files: &[FileInfo],
+    messages: &[MessageType],
+    enums: &[EnumType],
+    sight: &mut Sight,
+    file: usize,
+    kind: Kind,
+) -> Result<bool, AllocError>
+    requires imports { ImportsNameFiles (map file_view files.now) }
+    requires within { file < length files.now }
+    requires known { KnowsAll (map file_view files.now) sight.old }
+    ensures seen { IfOk result (λ holds. IsTrue holds ↔ TypeIsSeen (types_of files.now messages.now enums.now) file kind) }
+    ensures known { OnOk result (KnowsAll (map file_view files.now) sight.new) }
+{
+    match file_of_kind(messages, enums, kind) {
+        Some(target) => sight.sees(alloc, files, file, target),
+        None => Ok(true),
+    }
+}
+
+/// The type of each field of a message is declared in a file that the message's file sees.
+fn fields_see_types(
+    alloc: Global,
+    files: &[FileInfo],
+    messages: &[MessageType],
+    enums: &[EnumType],
+    sight: &mut Sight,
+    message: &MessageType,
+) -> Result<bool, AllocError>
+    requires imports { ImportsNameFiles (map file_view files.now) }
+    requires within { message.now.file < length files.now }
+    requires known { KnowsAll (map file_view files.now) sight.old }
+    ensures seen { IfOk result (λ holds. IsTrue holds ↔ AllByRecursion (λ f. TypeIsSeen (types_of files.now messages.now enums.now) message.now.file f.kind) (map field_view message.now.fields.items)) }
+    ensures known { OnOk result (KnowsAll (map file_view files.now) sight.new) }
+{
+    for field in &message.fields {
+        let seen = type_is_seen(
+            alloc,
+            files,
+            messages,
+            enums,
+            sight,
+            message.file,
+            field.kind,
+        )?;
+        if !seen {
+            return Ok(false);
+        }
+    }
+    Ok(true)
+}
+
+pub(crate) fn types_are_seen(
+    alloc: Global,
+    files: &[FileInfo],
+    messages: &[MessageType],
+    enums: &[EnumType],
+) -> Result<bool, AllocError>
+    requires imports { ImportsNameFiles (map file_view files.now) }
+    requires within { MessagesHaveFiles (map file_view files.now) (map message_view messages.now) }
+    ensures { IfOk result (λ holds. IsTrue holds ↔ TypesAreSeen (types_of files.now messages.now enums.now)) }
+{
+    let mut sight = Sight::new(alloc, files)?;
+    for message in messages {
+        let seen = fields_see_types(alloc, files, messages, enums, &mut sight, message)?;
+        if !seen {
+            return Ok(false);
+        }
+    }
+    Ok(true)
+}
