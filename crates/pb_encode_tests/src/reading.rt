@@ -1,23 +1,16 @@
 //! Bodies, read from words.
 
-use pb_value::{Body, Content, MapKey, Value};
+use pb_value::{Body, Content, MapKey, Value, empty_body};
 use pb_wire::Unknown;
 use std::alloc::Global;
 use std::collections::BTreeMap;
 use std::test::Fail;
 
-pub(crate) fn empty(alloc: Global) -> Body {
-    Body {
-        fields: BTreeMap::new(alloc),
-        unknown: Vec::new(alloc),
-    }
-}
-
 /// A body inside so many others, each the field 3 of the one around it.
 fn nest(alloc: Global, inside: Body, levels: u32) -> Result<Body, Fail> {
     let mut body = inside;
     for _ in 0..levels {
-        let mut around = empty(alloc);
+        let mut around = empty_body(alloc);
         drop(around.fields.insert(3, Content::One(Value::Message(body)))?);
         body = around;
     }
@@ -27,8 +20,8 @@ fn nest(alloc: Global, inside: Body, levels: u32) -> Result<Body, Fail> {
 /// A body whose field 12 has an empty message under 0.
 fn with_entry(alloc: Global) -> Result<Body, Fail> {
     let mut entries = BTreeMap::new(alloc);
-    drop(entries.insert(MapKey::U32(0), Value::Message(empty(alloc)))?);
-    let mut body = empty(alloc);
+    drop(entries.insert(MapKey::U32(0), Value::Message(empty_body(alloc)))?);
+    let mut body = empty_body(alloc);
     drop(body.fields.insert(12, Content::Map(entries))?);
     Ok(body)
 }
@@ -59,14 +52,19 @@ fn scalar_of(alloc: Global, word: &str) -> Result<Value, Fail> {
     })
 }
 
+fn add_scalar(alloc: Global, body: &mut Body, number: &str, word: &str) -> Result<(), Fail> {
+    let number = number.parse::<u32>()?;
+    let value = scalar_of(alloc, word)?;
+    drop(body.fields.insert(number, Content::One(value))?);
+    Ok(())
+}
+
 /// A message of scalars, as `1=i5;11=i-2`.
 fn flat_of(alloc: Global, words: &str) -> Result<Body, Fail> {
-    let mut body = empty(alloc);
+    let mut body = empty_body(alloc);
     for word in words.split(';') {
         if let Some((number, value)) = word.split_once('=') {
-            let number = number.parse::<u32>()?;
-            let value = scalar_of(alloc, value)?;
-            drop(body.fields.insert(number, Content::One(value))?);
+            add_scalar(alloc, &mut body, number, value)?;
         }
     }
     Ok(body)
@@ -78,7 +76,7 @@ fn value_of(alloc: Global, word: &str) -> Result<Value, Fail> {
     let (form, rest) = word.split_at_checked(1).ok_or("no value")?;
     Ok(match form {
         "m" => Value::Message(flat_of(alloc, rest)?),
-        "n" => Value::Message(nest(alloc, empty(alloc), rest.parse::<u32>()?)?),
+        "n" => Value::Message(nest(alloc, empty_body(alloc), rest.parse::<u32>()?)?),
         "w" => Value::Message(nest(alloc, with_entry(alloc)?, rest.parse::<u32>()?)?),
         _ => scalar_of(alloc, word)?,
     })
@@ -104,12 +102,19 @@ fn list_of(alloc: Global, words: &str) -> Result<Content, Fail> {
     Ok(Content::List(values))
 }
 
+type Entries = BTreeMap<MapKey, Value>;
+
+fn add_entry(alloc: Global, entries: &mut Entries, word: &str) -> Result<(), Fail> {
+    let (key, value) = word.split_once('=').ok_or("no entry")?;
+    let value = value_of(alloc, value)?;
+    drop(entries.insert(key_of(alloc, key)?, value)?);
+    Ok(())
+}
+
 fn map_of(alloc: Global, words: &str) -> Result<Content, Fail> {
     let mut entries = BTreeMap::new(alloc);
     for word in words.split(',') {
-        let (key, value) = word.split_once('=').ok_or("no entry")?;
-        let key = key_of(alloc, key)?;
-        drop(entries.insert(key, value_of(alloc, value)?)?);
+        add_entry(alloc, &mut entries, word)?;
     }
     Ok(Content::Map(entries))
 }
@@ -144,19 +149,31 @@ fn unknown_of(alloc: Global, word: &str) -> Result<Unknown, Fail> {
     })
 }
 
+fn add_field(alloc: Global, body: &mut Body, number: &str, word: &str) -> Result<(), Fail> {
+    let number = number.parse::<u32>()?;
+    drop(body.fields.insert(number, content_of(alloc, word)?)?);
+    Ok(())
+}
+
+fn add_record(alloc: Global, body: &mut Body, number: &str, word: &str) -> Result<(), Fail> {
+    let number = number.parse::<u32>()?;
+    body.unknown.push((number, unknown_of(alloc, word)?))?;
+    Ok(())
+}
+
+fn add_word(alloc: Global, body: &mut Body, word: &str) -> Result<(), Fail> {
+    if let Some((number, content)) = word.split_once(':') {
+        return add_field(alloc, body, number, content);
+    }
+    let (number, payload) = word.split_once('?').ok_or("no field")?;
+    add_record(alloc, body, number, payload)
+}
+
 /// A body is fields as `1:i5 6:[i1,i0]`, and unknown records as `20?g1`.
 pub(crate) fn body_of(alloc: Global, words: &str) -> Result<Body, Fail> {
-    let mut body = empty(alloc);
+    let mut body = empty_body(alloc);
     for word in words.split_whitespace() {
-        if let Some((number, content)) = word.split_once(':') {
-            let number = number.parse::<u32>()?;
-            drop(body.fields.insert(number, content_of(alloc, content)?)?);
-        } else if let Some((number, payload)) = word.split_once('?') {
-            let number = number.parse::<u32>()?;
-            body.unknown.push((number, unknown_of(alloc, payload)?))?;
-        } else {
-            return Err(Fail::new("no field"));
-        }
+        add_word(alloc, &mut body, word)?;
     }
     Ok(body)
 }

@@ -1,15 +1,14 @@
 //! Messages and their canonical bytes. The bytes are those of a second implementation (protoc, deterministic) or written
 //! out by hand.
 
-ghost use Rattle.std.specs.Prelude.{◌<◌};
-
 use super::reading::body_of;
 use super::schema::pool;
 use super::writing::{is_cut, is_cut_at_each_byte, is_written, is_written_or_memory};
 use pb_encode::EncodeError;
 use pb_schema::Pool;
 use pb_value::{Content, DynamicMessage, Value};
-use std::alloc::Global;
+use pb_wire::put_varint;
+use std::alloc::{AllocError, Global};
 use std::test::Fail;
 
 /// A row: the type, its fields and unknown records, how many entries a plan of it has, and its bytes.
@@ -62,81 +61,141 @@ W | 536870911:[f1065353216,f2147483648] | 1 | faffffff0f080000803f00000080
 T | 19?i1 19?I2 1?g0 19?l | 0 | 9d0101000000990102000000000000000b08000c9a0100
 ";
 
-/// Whether a row's message is written as the row says, and cut where each write of one byte fails in turn.
+/// A message of a type and these fields.
+fn message_of<'p>(
+    alloc: Global,
+    pool: &'p Pool,
+    name: &str,
+    fields: &str,
+) -> Result<DynamicMessage<'p>, Fail> {
+    let kind = pool.message_by_name(name).ok_or("no such type")?;
+    let body = body_of(alloc, fields)?;
+    Ok(DynamicMessage::from_body(alloc, pool, kind, body)?)
+}
+
+/// Whether a message is written so, and cut where each write of one byte fails in turn.
+fn is_told(
+    alloc: Global,
+    message: &DynamicMessage<'_>,
+    text: &str,
+    entries: usize,
+) -> Result<bool, Fail> {
+    let bytes = hex::decode(alloc, text)?;
+    Ok(is_written(alloc, message, &bytes, entries)? && is_cut_at_each_byte(alloc, message, &bytes))
+}
+
+/// Whether a row's message is written as the row says.
 fn is_encoded(alloc: Global, pool: &Pool, row: &str) -> Result<bool, Fail> {
     let (name, row) = row.split_once('|').ok_or("no type")?;
     let (fields, row) = row.split_once('|').ok_or("no fields")?;
     let (entries, text) = row.split_once('|').ok_or("no entries")?;
-    let bytes = hex::decode(alloc, text.trim())?;
     let entries = entries.trim().parse::<usize>()?;
-    let kind = pool.message_by_name(name.trim()).ok_or("no such type")?;
-    let message = DynamicMessage::from_body(alloc, pool, kind, body_of(alloc, fields)?)?;
-    Ok(
-        is_written(alloc, &message, &bytes, entries)?
-            && is_cut_at_each_byte(alloc, &message, &bytes)?,
-    )
+    let message = message_of(alloc, pool, name.trim(), fields)?;
+    is_told(alloc, &message, text.trim(), entries)
+}
+
+/// The first row that is told otherwise, or none.
+fn first_wrong<'a>(alloc: Global, pool: &Pool, rows: &'a str) -> Result<Option<&'a str>, Fail> {
+    for row in rows.lines() {
+        if !row.is_empty() && !is_encoded(alloc, pool, row)? {
+            return Ok(Some(row));
+        }
+    }
+    Ok(None)
+}
+
+fn wrong_row(alloc: Global) -> Result<Option<&'static str>, Fail> {
+    let pool = pool(alloc)?;
+    first_wrong(alloc, &pool, ROWS)
 }
 
 #[test]
 fn rows(rt: HostRuntime) -> Result<(), Fail> {
-    let pool = pool(rt.alloc())?;
-    for row in ROWS.lines() {
-        assert!(rt;
-            row.is_empty() || is_encoded(rt.alloc(), &pool, row)?,
-            "{row}"
-        );
-    }
+    let wrong = wrong_row(rt.alloc())?;
+    assert!(rt; wrong.is_none(), "{wrong:?}");
     Ok(())
 }
 
-/// A text of so many letters and what stands around it, past the buffer's size and at it.
-#[test]
-fn long_texts(rt: HostRuntime) -> Result<(), Fail> {
-    let pool = pool(rt.alloc())?;
-    for size in [4080, 4090, 4091, 4092, 4093, 4094, 4095, 4096, 4097, 9000] {
-        assert!(rt; is_long(rt.alloc(), &pool, size)?, "{size}");
-    }
-    Ok(())
-}
+/// Lengths of a text, with what stands around it past the buffer's size and at it.
+const SIZES: &[usize] = &[4080, 4090, 4091, 4092, 4093, 4094, 4095, 4096, 4097, 9000];
 
 /// Field 1 is 1, field 2 a text of so many letters, and field 15 two bytes.
-fn is_long(alloc: Global, pool: &Pool, size: usize) -> Result<bool, Fail>
-    requires { size < 16384 }
-{
-    let mut text = vec![in alloc; b'x'; size]?;
-    let mut bytes = Vec::new(alloc);
-    bytes.extend_from_slice(&[
-        0x08,
-        0x01,
-        0x12,
-        0x80 + (size % 128) as u8,
-        (size / 128) as u8,
-    ])?;
-    bytes.extend_from_slice(&text)?;
-    bytes.extend_from_slice(&[0x7a, 0x02, 0x61, 0x62])?;
-    let mut body = body_of(alloc, "1:i1 15:yab")?;
-    drop(
-        body.fields
-            .insert(2, Content::One(Value::Text(String::from_utf8(text)?)))?,
-    );
-    let kind = pool.message_by_name("F").ok_or("F")?;
-    let message = DynamicMessage::from_body(alloc, pool, kind, body)?;
+fn long_message(alloc: Global, pool: &Pool, size: usize) -> Result<DynamicMessage<'_>, Fail> {
+    let mut message = message_of(alloc, pool, "F", "1:i1 15:yab")?;
+    let text = String::from_utf8(vec![in alloc; b'x'; size]?)?;
+    message.set(2, Content::One(Value::Text(text)))?;
+    Ok(message)
+}
+
+fn long_bytes(alloc: Global, size: usize) -> Result<Vec<u8>, AllocError> {
+    let mut bytes = Vec::from_slice(alloc, b"\x08\x01\x12")?;
+    bytes.extend_from_slice(put_varint(size as u64).as_slice())?;
+    bytes.resize(bytes.len().saturating_add(size), b'x')?;
+    bytes.extend_from_slice(b"\x7a\x02ab")?;
+    Ok(bytes)
+}
+
+fn is_long_told(alloc: Global, message: &DynamicMessage<'_>, size: usize) -> Result<bool, Fail> {
+    let bytes = long_bytes(alloc, size)?;
     Ok(
-        is_written(alloc, &message, &bytes, 0)?
-            && is_cut(alloc, &message, &bytes, 100)?
-            && is_cut(alloc, &message, &bytes, 10_000)?,
+        is_written(alloc, message, &bytes, 0)?
+            && is_cut(alloc, message, &bytes, 100)
+            && is_cut(alloc, message, &bytes, 10_000),
     )
+}
+
+fn is_long(alloc: Global, pool: &Pool, size: usize) -> Result<bool, Fail> {
+    let message = long_message(alloc, pool, size)?;
+    is_long_told(alloc, &message, size)
+}
+
+/// The first length that is told otherwise, or none.
+fn wrong_among(alloc: Global, pool: &Pool, sizes: &[usize]) -> Result<Option<usize>, Fail> {
+    for size in sizes {
+        if !is_long(alloc, pool, *size)? {
+            return Ok(Some(*size));
+        }
+    }
+    Ok(None)
+}
+
+fn wrong_size(alloc: Global) -> Result<Option<usize>, Fail> {
+    let pool = pool(alloc)?;
+    wrong_among(alloc, &pool, SIZES)
+}
+
+#[test]
+fn long_texts(rt: HostRuntime) -> Result<(), Fail> {
+    let wrong = wrong_size(rt.alloc())?;
+    assert!(rt; wrong.is_none(), "{wrong:?}");
+    Ok(())
+}
+
+/// Fields of `T`, and the bytes of that message.
+const GROWING: &str = "3:m1=i1 6:[i3,i4] 9:{tk=i7} 12:{u3=m}";
+
+const GROWN: &str = "1a020801320203044a050a016b1007620408031200";
+
+fn is_grown(alloc: Global, message: &DynamicMessage<'_>) -> Result<bool, Fail> {
+    let bytes = hex::decode(alloc, GROWN)?;
+    Ok(is_written_or_memory(alloc, message, &bytes))
+}
+
+fn is_grown_in(alloc: Global, pool: &Pool) -> Result<bool, Fail> {
+    let message = message_of(alloc, pool, "T", GROWING)?;
+    is_grown(alloc, &message)
+}
+
+fn are_growths_told(alloc: Global) -> Result<bool, Fail> {
+    let pool = pool(alloc)?;
+    is_grown_in(alloc, &pool)
 }
 
 /// What the calls answer where a growth of memory is refused, which a run with `--fail-alloc` does.
 #[test]
 fn growths(rt: HostRuntime) -> Result<(), Fail> {
-    let pool = pool(rt.alloc())?;
-    let kind = pool.message_by_name("T").ok_or("T")?;
-    let body = body_of(rt.alloc(), "3:m1=i1 6:[i3,i4] 9:{tk=i7} 12:{u3=m}")?;
-    let message = DynamicMessage::from_body(rt.alloc(), &pool, kind, body)?;
-    let bytes = hex::decode(rt.alloc(), "1a020801320203044a050a016b1007620408031200")?;
-    assert!(rt; is_written_or_memory(rt.alloc(), &message, &bytes));
+    let are_told = are_growths_told(rt.alloc())?;
+    assert!(rt; are_told);
     Ok(())
 }
 

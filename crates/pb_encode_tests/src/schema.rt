@@ -15,6 +15,8 @@ use pb_schema::{EnumId, EnumType, Field, FileInfo, Kind, MessageId, MessageType,
 use std::alloc::{AllocError, Global};
 use std::test::Fail;
 
+type FieldRow = (&'static str, u32, Kind, Shape);
+
 const T: Kind = Kind::Message(MessageId(0));
 
 const E: Kind = Kind::Enum(EnumId(0));
@@ -23,22 +25,117 @@ const PACKED: Shape = Shape::List { packed: true };
 
 const UNPACKED: Shape = Shape::List { packed: false };
 
-const OF_TEXT: Shape = Shape::Map { key: Kind::Text };
+const FIELDS_OF_T: &[FieldRow] = &[
+    ("a", 1, Kind::Int32, Shape::Implicit),
+    ("b", 2, Kind::Text, Shape::Implicit),
+    ("c", 3, T, Shape::Explicit),
+    ("d", 4, Kind::Double, Shape::Implicit),
+    ("e", 6, Kind::Int32, PACKED),
+    ("x", 7, Kind::Uint32, Shape::OneofMember(0)),
+    ("y", 8, T, Shape::OneofMember(0)),
+    ("m", 9, Kind::Int32, Shape::Map { key: Kind::Text }),
+    ("p", 10, Kind::Bool, Shape::Explicit),
+    ("s", 11, Kind::Sint32, Shape::Implicit),
+    ("n", 12, T, Shape::Map { key: Kind::Uint32 }),
+];
+
+const FIELDS_OF_F: &[FieldRow] = &[
+    ("a", 1, Kind::Int32, Shape::Implicit),
+    ("b", 2, Kind::Text, Shape::Implicit),
+    ("d", 4, Kind::Double, Shape::Implicit),
+    ("e", 6, Kind::Int32, PACKED),
+    ("p", 10, Kind::Bool, Shape::Explicit),
+    ("s", 11, Kind::Sint32, Shape::Implicit),
+    ("u", 13, Kind::Text, UNPACKED),
+    ("v", 14, Kind::Sint32, UNPACKED),
+    ("w", 15, Kind::Bytes, Shape::Implicit),
+    ("g", 16, Kind::Float, Shape::Implicit),
+    ("k", 17, E, Shape::Implicit),
+    ("h", 18, Kind::Fixed32, PACKED),
+];
+
+const FIELDS_OF_W: &[FieldRow] = &[
+    ("a", 1, Kind::Int64, Shape::Implicit),
+    ("b", 2, Kind::Uint64, Shape::Implicit),
+    ("c", 3, Kind::Sint64, Shape::Implicit),
+    ("d", 4, Kind::Fixed64, Shape::Implicit),
+    ("e", 5, Kind::Sfixed32, Shape::Implicit),
+    ("f", 6, Kind::Sfixed64, Shape::Implicit),
+    ("g", 7, Kind::Fixed32, Shape::Implicit),
+    ("h", 8, Kind::Uint32, Shape::Implicit),
+    ("i", 9, Kind::Bool, Shape::Implicit),
+    ("j", 10, Kind::Bool, PACKED),
+    ("k", 11, Kind::Double, PACKED),
+    ("l", 12, Kind::Sint64, PACKED),
+    ("m", 13, Kind::Bytes, UNPACKED),
+    ("n", 14, E, PACKED),
+    ("o", 15, Kind::Text, Shape::Map { key: Kind::Bool }),
+    ("p", 16, Kind::Bool, Shape::Map { key: Kind::Sint32 }),
+    ("q", 17, Kind::Bytes, Shape::Map { key: Kind::Fixed64 }),
+    ("r", 18, T, UNPACKED),
+    ("s", 19, E, Shape::Map { key: Kind::Text }),
+    ("t", 20, Kind::Float, Shape::Map { key: Kind::Int64 }),
+    ("v", 22, Kind::Text, Shape::Explicit),
+    ("u", 536_870_911, Kind::Float, PACKED),
+];
+
+/// The types by name, their fields and the names of their oneofs.
+type TypeRow = (&'static str, &'static [FieldRow], &'static [&'static str]);
+
+const TYPES: &[TypeRow] = &[
+    ("T", FIELDS_OF_T, &["o"]),
+    ("F", FIELDS_OF_F, &[]),
+    ("W", FIELDS_OF_W, &[]),
+];
 
 pub(crate) fn pool(alloc: Global) -> Result<Pool, Fail> {
+    let files = files(alloc)?;
+    Ok(Pool::from_parts(alloc, files, messages(alloc)?, enums(alloc)?)?)
+}
+
+fn files(alloc: Global) -> Result<Vec<FileInfo>, AllocError> {
     let mut files = Vec::new(alloc);
     files.push(FileInfo {
         name: String::from_str(alloc, "t.proto")?,
         package: String::new(alloc),
         imports: Vec::new(alloc),
     })?;
-    let mut oneofs = Vec::new(alloc);
-    oneofs.push(String::from_str(alloc, "o")?)?;
+    Ok(files)
+}
+
+fn fields_of(alloc: Global, rows: &[FieldRow]) -> Result<Vec<Field>, AllocError> {
+    let mut fields = Vec::new(alloc);
+    for (name, number, kind, shape) in rows {
+        fields.push(Field {
+            name: String::from_str(alloc, name)?,
+            number: *number,
+            kind: *kind,
+            shape: *shape,
+        })?;
+    }
+    Ok(fields)
+}
+
+fn names_of(alloc: Global, rows: &[&str]) -> Result<Vec<String>, AllocError> {
+    let mut names = Vec::new(alloc);
+    for name in rows {
+        names.push(String::from_str(alloc, name)?)?;
+    }
+    Ok(names)
+}
+
+fn messages(alloc: Global) -> Result<Vec<MessageType>, AllocError> {
     let mut messages = Vec::new(alloc);
-    messages.push(message(alloc, "T", nested(alloc)?, oneofs)?)?;
-    messages.push(message(alloc, "F", flat(alloc)?, Vec::new(alloc))?)?;
-    messages.push(message(alloc, "W", wide(alloc)?, Vec::new(alloc))?)?;
-    Ok(Pool::from_parts(alloc, files, messages, enums(alloc)?)?)
+    for (name, fields, oneofs) in TYPES {
+        messages.push(MessageType {
+            name: String::from_str(alloc, name)?,
+            file: 0,
+            parent: None,
+            fields: fields_of(alloc, fields)?,
+            oneofs: names_of(alloc, oneofs)?,
+        })?;
+    }
+    Ok(messages)
 }
 
 fn enums(alloc: Global) -> Result<Vec<EnumType>, AllocError> {
@@ -53,142 +150,4 @@ fn enums(alloc: Global) -> Result<Vec<EnumType>, AllocError> {
         values,
     })?;
     Ok(enums)
-}
-
-fn message(
-    alloc: Global,
-    name: &str,
-    fields: Vec<Field>,
-    oneofs: Vec<String>,
-) -> Result<MessageType, AllocError> {
-    Ok(MessageType {
-        name: String::from_str(alloc, name)?,
-        file: 0,
-        parent: None,
-        fields,
-        oneofs,
-    })
-}
-
-fn add(
-    alloc: Global,
-    fields: &mut Vec<Field>,
-    name: &str,
-    number: u32,
-    kind: Kind,
-    shape: Shape,
-) -> Result<(), AllocError> {
-    fields.push(Field {
-        name: String::from_str(alloc, name)?,
-        number,
-        kind,
-        shape,
-    })?;
-    Ok(())
-}
-
-fn nested(alloc: Global) -> Result<Vec<Field>, AllocError> {
-    let mut fields = Vec::new(alloc);
-    add(alloc, &mut fields, "a", 1, Kind::Int32, Shape::Implicit)?;
-    add(alloc, &mut fields, "b", 2, Kind::Text, Shape::Implicit)?;
-    add(alloc, &mut fields, "c", 3, T, Shape::Explicit)?;
-    add(alloc, &mut fields, "d", 4, Kind::Double, Shape::Implicit)?;
-    add(alloc, &mut fields, "e", 6, Kind::Int32, PACKED)?;
-    add(
-        alloc,
-        &mut fields,
-        "x",
-        7,
-        Kind::Uint32,
-        Shape::OneofMember(0),
-    )?;
-    add(alloc, &mut fields, "y", 8, T, Shape::OneofMember(0))?;
-    add(alloc, &mut fields, "m", 9, Kind::Int32, OF_TEXT)?;
-    add(alloc, &mut fields, "p", 10, Kind::Bool, Shape::Explicit)?;
-    add(alloc, &mut fields, "s", 11, Kind::Sint32, Shape::Implicit)?;
-    add(
-        alloc,
-        &mut fields,
-        "n",
-        12,
-        T,
-        Shape::Map { key: Kind::Uint32 },
-    )?;
-    Ok(fields)
-}
-
-fn flat(alloc: Global) -> Result<Vec<Field>, AllocError> {
-    let mut fields = Vec::new(alloc);
-    add(alloc, &mut fields, "a", 1, Kind::Int32, Shape::Implicit)?;
-    add(alloc, &mut fields, "b", 2, Kind::Text, Shape::Implicit)?;
-    add(alloc, &mut fields, "d", 4, Kind::Double, Shape::Implicit)?;
-    add(alloc, &mut fields, "e", 6, Kind::Int32, PACKED)?;
-    add(alloc, &mut fields, "p", 10, Kind::Bool, Shape::Explicit)?;
-    add(alloc, &mut fields, "s", 11, Kind::Sint32, Shape::Implicit)?;
-    add(alloc, &mut fields, "u", 13, Kind::Text, UNPACKED)?;
-    add(alloc, &mut fields, "v", 14, Kind::Sint32, UNPACKED)?;
-    add(alloc, &mut fields, "w", 15, Kind::Bytes, Shape::Implicit)?;
-    add(alloc, &mut fields, "g", 16, Kind::Float, Shape::Implicit)?;
-    add(alloc, &mut fields, "k", 17, E, Shape::Implicit)?;
-    add(alloc, &mut fields, "h", 18, Kind::Fixed32, PACKED)?;
-    Ok(fields)
-}
-
-fn wide(alloc: Global) -> Result<Vec<Field>, AllocError> {
-    let mut fields = Vec::new(alloc);
-    add(alloc, &mut fields, "a", 1, Kind::Int64, Shape::Implicit)?;
-    add(alloc, &mut fields, "b", 2, Kind::Uint64, Shape::Implicit)?;
-    add(alloc, &mut fields, "c", 3, Kind::Sint64, Shape::Implicit)?;
-    add(alloc, &mut fields, "d", 4, Kind::Fixed64, Shape::Implicit)?;
-    add(alloc, &mut fields, "e", 5, Kind::Sfixed32, Shape::Implicit)?;
-    add(alloc, &mut fields, "f", 6, Kind::Sfixed64, Shape::Implicit)?;
-    add(alloc, &mut fields, "g", 7, Kind::Fixed32, Shape::Implicit)?;
-    add(alloc, &mut fields, "h", 8, Kind::Uint32, Shape::Implicit)?;
-    add(alloc, &mut fields, "i", 9, Kind::Bool, Shape::Implicit)?;
-    add_lists_and_maps(alloc, &mut fields)?;
-    Ok(fields)
-}
-
-fn add_lists_and_maps(alloc: Global, fields: &mut Vec<Field>) -> Result<(), AllocError> {
-    add(alloc, fields, "j", 10, Kind::Bool, PACKED)?;
-    add(alloc, fields, "k", 11, Kind::Double, PACKED)?;
-    add(alloc, fields, "l", 12, Kind::Sint64, PACKED)?;
-    add(alloc, fields, "m", 13, Kind::Bytes, UNPACKED)?;
-    add(alloc, fields, "n", 14, E, PACKED)?;
-    add(
-        alloc,
-        fields,
-        "o",
-        15,
-        Kind::Text,
-        Shape::Map { key: Kind::Bool },
-    )?;
-    add(
-        alloc,
-        fields,
-        "p",
-        16,
-        Kind::Bool,
-        Shape::Map { key: Kind::Sint32 },
-    )?;
-    add(
-        alloc,
-        fields,
-        "q",
-        17,
-        Kind::Bytes,
-        Shape::Map { key: Kind::Fixed64 },
-    )?;
-    add(alloc, fields, "r", 18, T, UNPACKED)?;
-    add(alloc, fields, "s", 19, E, OF_TEXT)?;
-    add(
-        alloc,
-        fields,
-        "t",
-        20,
-        Kind::Float,
-        Shape::Map { key: Kind::Int64 },
-    )?;
-    add(alloc, fields, "v", 22, Kind::Text, Shape::Explicit)?;
-    add(alloc, fields, "u", 536_870_911, Kind::Float, PACKED)
 }

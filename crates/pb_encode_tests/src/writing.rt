@@ -9,51 +9,94 @@ use pb_wire::{FailurePlan, MemOutput};
 use std::alloc::Global;
 use std::test::Fail;
 
+/// Whether just these bytes are sent, so many a call.
+fn is_sent(
+    alloc: Global,
+    message: &DynamicMessage<'_>,
+    bytes: &[u8],
+    most: usize,
+) -> Result<bool, EncodeError>
+    requires { 0 < most }
+{
+    let mut output = MemOutput::new(alloc, most, FailurePlan::NEVER);
+    encode_to(message, &mut output)?;
+    Ok(output.bytes() == bytes)
+}
+
+/// Whether a plan writes these bytes, and has so many entries.
+fn is_planned(
+    alloc: Global,
+    message: &DynamicMessage<'_>,
+    bytes: &[u8],
+    entries: usize,
+) -> Result<bool, EncodeError> {
+    let mut output = MemOutput::new(alloc, 1_000_000, FailurePlan::NEVER);
+    let plan = plan(message)?;
+    plan.write_to(&mut output)?;
+    let is_measured = plan.len() as usize == bytes.len() && plan.entries() == entries;
+    Ok(is_measured && output.bytes() == bytes)
+}
+
 /// Whether every call gives these bytes or their length, and so many entries.
 pub(crate) fn is_written(
     alloc: Global,
     message: &DynamicMessage<'_>,
     bytes: &[u8],
     entries: usize,
-) -> Result<bool, Fail> {
-    let mut each = MemOutput::new(alloc, 1, FailurePlan::NEVER);
-    encode_to(message, &mut each)?;
-    let mut whole = MemOutput::new(alloc, 1_000_000, FailurePlan::NEVER);
-    let measured = plan(message)?;
-    measured.write_to(&mut whole)?;
-    let lengths = measured.len() as usize == bytes.len()
-        && encoded_len(message) == bytes.len() as u128;
+) -> Result<bool, EncodeError> {
     Ok(
-        lengths
-            && measured.entries() == entries
+        encoded_len(message) == bytes.len() as u128
             && encode(message)?.as_slice() == bytes
-            && each.bytes() == bytes
-            && whole.bytes() == bytes,
+            && is_sent(alloc, message, bytes, 1)?
+            && is_planned(alloc, message, bytes, entries)?,
     )
 }
 
-/// Whether, with each write refused in turn, what went out is a beginning of the bytes and is counted.
-pub(crate) fn is_cut(
+/// How many bytes go out, a beginning of these, where the device fails after so many calls. None where the call tells otherwise.
+fn sent_before_failure(
     alloc: Global,
     message: &DynamicMessage<'_>,
     bytes: &[u8],
     most: usize,
-) -> Result<bool, Fail>
+    calls: u64,
+) -> Option<usize>
     requires { 0 < most }
 {
-    for fails_after in 0..bytes.len() as u64 {
-        let mut output = MemOutput::new(alloc, most, failing_after(fails_after));
-        let told = encode_to(message, &mut output);
-        let written = output.bytes().len() as u64;
-        if told == Ok(()) {
-            return Ok(output.bytes() == bytes);
+    let mut output = MemOutput::new(alloc, most, failing_after(calls));
+    let told = encode_to(message, &mut output);
+    let sent = output.bytes().len();
+    let is_told = match told {
+        Ok(()) => sent == bytes.len(),
+        Err(error) => {
+            error
+                == EncodeError::Device {
+                    written: sent as u64,
+                }
         }
-        let is_counted = told == Err(EncodeError::Device { written });
-        if !is_counted || !bytes.starts_with(output.bytes()) {
-            return Ok(false);
+    };
+    (is_told && bytes.starts_with(output.bytes())).then_some(sent)
+}
+
+/// Whether, with each write refused in turn, what went out is a beginning of the bytes and is counted.
+pub(crate) fn is_cut(alloc: Global, message: &DynamicMessage<'_>, bytes: &[u8], most: usize) -> bool
+    requires { 0 < most }
+{
+    for calls in 0..bytes.len() as u64 {
+        match sent_before_failure(alloc, message, bytes, most, calls) {
+            None => return false,
+            Some(sent) if sent == bytes.len() => return true,
+            Some(_) => {}
         }
     }
-    Ok(true)
+    true
+}
+
+/// Whether, with the write of this byte refused, just the bytes before it went out.
+fn is_cut_at(alloc: Global, message: &DynamicMessage<'_>, bytes: &[u8], end: usize) -> bool {
+    let written = end as u64;
+    let mut output = MemOutput::new(alloc, 1, failing_after(written));
+    encode_to(message, &mut output) == Err(EncodeError::Device { written })
+        && Some(output.bytes()) == bytes.get(..end)
 }
 
 /// Whether, with each write of one byte refused in turn, just the bytes before it went out.
@@ -61,19 +104,31 @@ pub(crate) fn is_cut_at_each_byte(
     alloc: Global,
     message: &DynamicMessage<'_>,
     bytes: &[u8],
-) -> Result<bool, Fail> {
-    for fails_after in 0..bytes.len() {
-        let mut output = MemOutput::new(alloc, 1, failing_after(fails_after as u64));
-        let cut = EncodeError::Device {
-            written: fails_after as u64,
-        };
-        if encode_to(message, &mut output) != Err(cut)
-            || Some(output.bytes()) != bytes.get(..fails_after)
-        {
-            return Ok(false);
+) -> bool {
+    for end in 0..bytes.len() {
+        if !is_cut_at(alloc, message, bytes, end) {
+            return false;
         }
     }
-    Ok(true)
+    true
+}
+
+fn is_encoded_or_memory(message: &DynamicMessage<'_>, bytes: &[u8]) -> bool {
+    match encode(message) {
+        Ok(text) => text.as_slice() == bytes,
+        Err(error) => error == EncodeError::Memory,
+    }
+}
+
+fn is_sent_or_memory(alloc: Global, message: &DynamicMessage<'_>, bytes: &[u8]) -> bool {
+    let mut output = MemOutput::new(alloc, 1_000_000, FailurePlan::NEVER);
+    match encode_to(message, &mut output) {
+        Ok(()) => output.bytes() == bytes,
+        Err(EncodeError::TooLarge) => false,
+        Err(EncodeError::Memory) => output.bytes().is_empty(),
+        // The output in memory fails where it can't grow.
+        Err(EncodeError::Device { written }) => output.bytes().len() as u64 == written,
+    }
 }
 
 /// Whether each call gives the bytes, or fails for want of memory with nothing more written than it tells.
@@ -82,19 +137,9 @@ pub(crate) fn is_written_or_memory(
     message: &DynamicMessage<'_>,
     bytes: &[u8],
 ) -> bool {
-    let is_encoded = match encode(message) {
-        Ok(text) => text.as_slice() == bytes,
-        Err(error) => error == EncodeError::Memory,
-    };
-    let mut output = MemOutput::new(alloc, 1_000_000, FailurePlan::NEVER);
-    let is_sent = match encode_to(message, &mut output) {
-        Ok(()) => output.bytes() == bytes,
-        Err(EncodeError::TooLarge) => false,
-        Err(EncodeError::Memory) => output.bytes().is_empty(),
-        // The output in memory fails where it can't grow.
-        Err(EncodeError::Device { written }) => output.bytes().len() as u64 == written,
-    };
-    is_encoded && is_sent && encoded_len(message) == bytes.len() as u128
+    is_encoded_or_memory(message, bytes)
+        && is_sent_or_memory(alloc, message, bytes)
+        && encoded_len(message) == bytes.len() as u128
 }
 
 fn failing_after(calls: u64) -> FailurePlan {
