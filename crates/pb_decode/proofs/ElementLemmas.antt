@@ -83,7 +83,7 @@ in_list :
     → After pool m depth levels base p0 s.frames (step.Elements k kd outer) s.now s.scope (here s rest)
 in_list {pool} {m} {depth} {levels} {base} {p0} s rest k kd outer begun is = subst (λ (z : Step). After pool m depth levels base p0 s.frames z s.now s.scope (here s rest)) is begun
 
-packs_here : {pool : Types} {m depth levels : ℕ} {base : List Record} {p0 u : Place} {frames : List Frame} {now : Part} {scope : Scope} (k : ℕ) (kd : Kind) (outer : Option ℕ) → After pool m depth levels base p0 frames (step.Elements k kd outer) now scope u → IsTrue (is_packable kd)
+pub packs_here : {pool : Types} {m depth levels : ℕ} {base : List Record} {p0 u : Place} {frames : List Frame} {now : Part} {scope : Scope} (k : ℕ) (kd : Kind) (outer : Option ℕ) → After pool m depth levels base p0 frames (step.Elements k kd outer) now scope u → IsTrue (is_packable kd)
 packs_here {pool} k kd outer begun =
     let list = at_list k kd outer begun in
     let (f, found, e, is_kind, (p, is_shape), none, can) = packed_field (field_numbered k (message_fields pool list.message_type)) k 2 kd list.means in

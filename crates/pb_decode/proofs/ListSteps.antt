@@ -176,7 +176,7 @@ list_goes_on {pool} {m} {depth} {levels} {base} {p0} {frames} {scope} {now} {u} 
       ends = ends_along first scope.end moves begun.ends;
     }
 
-list_reading : (pool : Types) (c : Context) (t k : ℕ) (kd : Kind) → c ≡ in_message t → Means pool (in_message t) k 2 (purpose.Packed kd) → (schema_of pool).reading c k ≡ packed (element_of kd)
+pub list_reading : (pool : Types) (c : Context) (t k : ℕ) (kd : Kind) → c ≡ in_message t → Means pool (in_message t) k 2 (purpose.Packed kd) → (schema_of pool).reading c k ≡ packed (element_of kd)
 list_reading pool c t k kd is means =
     let (f, found, e, is_kind, (p, is_shape), none, can) = packed_field (field_numbered k (message_fields pool t)) k 2 kd means in
     ap (λ (z : Context). (schema_of pool).reading z k) is ∙ ap (read_field (in_message t)) found ∙ ap (λ (z : Shape). read_shaped (in_message t) z f.kind) is_shape

@@ -198,7 +198,7 @@ begun_short (a_group levels tag is_open is_place) e h = absurd (cc)
 -- THE END OF THE INPUT
 
 -- no bytes are left, and what is open does not end there
-nothing_left : (q : Place) → q.rest ≡ [] → q.known ≢ Some 0 → VarintFault q (fault (input_end q) [] Truncated)
+pub nothing_left : (q : Place) → q.rest ≡ [] → q.known ≢ Some 0 → VarintFault q (fault (input_end q) [] Truncated)
 nothing_left q none open_end = by_known q.known q.at q.rest none open_end
   where
     by_known : (e : Option ℕ) (at : ℕ) (rest : List ℕ) → rest ≡ [] → e ≢ Some 0 → VarintFault (record { at = at; known = e; rest = rest }) (fault (at + length rest) [] Truncated)

@@ -247,18 +247,22 @@ module _ {pool : Types} {m depth levels : ℕ} {base : List Record} {p0 u : Plac
       as_text kd (a_text same re) is = re
       as_text kd (some_bytes same re) is = absurd (let both : kind.Bytes ≡ kind.Text = sym same ∙ is in cc)
 
-  -- A PAYLOAD THAT IS CUT: where the input ends inside it, that is the fault of the whole
-  pub payload_cut : IsBytesPurpose meant → length u.rest < n → Bad (schema_of pool) (records (in_message m)) depth p0 (below (path_of frames) (fault (input_end u) (next_step k scope ∷ []) Truncated))
-  payload_cut is short =
-      let at = at_payload k meant n begun in
-      told_inside k 2 (fault (input_end u) [] Truncated) at.stands at.has
-      (RecordFault.cut_payload at.has (by_kind at (scalar_kind meant) refl) (record { size = n; payload = u; length_is = at.length_is; cut = short; fault_is = refl }) refl)
+  -- HOW IT IS READ: its bytes are not looked into, or are a text
+  pub payload_reading : IsBytesPurpose meant → (at : AtPayload pool m depth levels base p0 frames now scope k meant n u)
+      → ((schema_of pool).reading (context_of at.stands.open_now) k ≡ unread) ⊎ ((schema_of pool).reading (context_of at.stands.open_now) k ≡ text_reading)
+  payload_reading is at = by_kind (scalar_kind meant) refl
     where
       unread_or_text : {r : Reading Context} (kd : Kind) → ReadsBytes r kd → (r ≡ unread) ⊎ (r ≡ text_reading)
       unread_or_text kd (a_text same re) = inr re
       unread_or_text kd (some_bytes same re) = inl re
 
-      by_kind : (s : AtPayload pool m depth levels base p0 frames now scope k meant n u) (o : Option Kind) → scalar_kind meant ≡ o
-          → ((schema_of pool).reading (context_of s.stands.open_now) k ≡ unread) ⊎ ((schema_of pool).reading (context_of s.stands.open_now) k ≡ text_reading)
-      by_kind at (Some kd) of = unread_or_text kd (reads_here kd at of)
-      by_kind at None of = inl (unread_here at (only_unknown meant is of))
+      by_kind : (o : Option Kind) → scalar_kind meant ≡ o → ((schema_of pool).reading (context_of at.stands.open_now) k ≡ unread) ⊎ ((schema_of pool).reading (context_of at.stands.open_now) k ≡ text_reading)
+      by_kind (Some kd) of = unread_or_text kd (reads_here kd at of)
+      by_kind None of = inl (unread_here at (only_unknown meant is of))
+
+  -- A PAYLOAD THAT IS CUT: where the input ends inside it, that is the fault of the whole
+  pub payload_cut : IsBytesPurpose meant → length u.rest < n → Bad (schema_of pool) (records (in_message m)) depth p0 (below (path_of frames) (fault (input_end u) (next_step k scope ∷ []) Truncated))
+  payload_cut is short =
+      let at = at_payload k meant n begun in
+      told_inside k 2 (fault (input_end u) [] Truncated) at.stands at.has
+      (RecordFault.cut_payload at.has (payload_reading is at) (record { size = n; payload = u; length_is = at.length_is; cut = short; fault_is = refl }) refl)

@@ -62,18 +62,6 @@ pub no_bytes : (l : List ℕ) → length l ≡ 0 → l ≡ []
 no_bytes [] none = refl
 no_bytes (x ∷ l) none = absurd (omega (arith, none))
 
--- some text is read
-pub took_reading : {pool : Types} {m : ℕ} {limits : Bounds} {b : List ℕ} (s : State) (held : List ℕ) → limits.bytes < 2 ^ 31 → Took pool m limits b s held → IsReading pool s held
-took_reading {m = m} {limits = limits} {b = b} s held most h = record {
-  m = m;
-  depth = limits.depth;
-  levels = 101;
-  base = [];
-  p0 = text_at b;
-  reads = h.reads;
-  small = let at = h.at in let size = h.size in omega (arith, at, size, most);
-}
-
 -- NOTHING IS OPEN BUT THE TOP: the part is the message, and no end is known
 pub is_top :
     {pool : Types} {m depth levels : ℕ} {base : List Record} {p0 : Place} {frames : List Frame} {now : Part} {o : Open Context} {room inner : ℕ} {path : _} {p : Place} {earlier : List Record}
@@ -87,7 +75,7 @@ is_top none (at_top {now = now} v form is_open is_room is_inner is_path is_place
 is_top none (inside up h begun form can deep completes is_path counts ends goes_on takes) = absurd (cc)
 
 -- no end is known of the whole text
-top_known : {pool : Types} {m depth levels : ℕ} {b : List ℕ} {now : Part} {scope : Scope} {q : Place} → Stands pool m depth levels [] (text_at b) [] now scope q → q.known ≡ None
+pub top_known : {pool : Types} {m depth levels : ℕ} {b : List ℕ} {now : Part} {scope : Scope} {q : Place} → Stands pool m depth levels [] (text_at b) [] now scope q → q.known ≡ None
 top_known {pool} {m} {depth} {levels} {b} {now} {q = q} s = from_held (length s.behind.front) s.held s.behind.moves.known
   where
     from_held :
@@ -121,7 +109,7 @@ text_there {pool} {m} {limits} b s held size none tag empty h = from_top (is_top
     from_top (v, is) = (v, is, text_read pool m limits b m v s.scope (here s held) size (subst (λ (z : Part). Stands pool m limits.depth 101 [] (text_at b) [] z s.scope (here s held)) is stands) empty)
 
 -- TOO MANY BYTES: those within the limit are read first
-beyond_settled : (n : ℕ) (f : Fault) → (IsCut f → ⊥) → f ≡ beyond n f
+pub beyond_settled : (n : ℕ) (f : Fault) → (IsCut f → ⊥) → f ≡ beyond n f
 beyond_settled n f not_cut = by_cause f.byte f.path f.cause not_cut
   where
     by_cause : (byte : ℕ) (path : _) (c : Cause) → (c ≡ Truncated → ⊥) → fault byte path c ≡ beyond n (fault byte path c)
@@ -175,67 +163,3 @@ too_large {pool} {m} {limits} b piece room s held is more h (over none tag ended
           (subst (Whole (schema_of pool) (in_message m) limits.depth) (front_within b piece limits.bytes room is (omega (arith, more))) (text.derives.records, text.derives.spelled, text.derives.sound)) refl;
       settled = λ e. absurd (cc);
     }
-
--- THE END
-pub body_there :
-    {pool : Types} {m : ℕ} {limits : Bounds} (b : List ℕ) (s : State) (held : List ℕ) (k : ℕ) (w : Message) → s.frames ≡ [] → s.next ≡ step.Tag → length held ≡ 0 → s.now ≡ message_part k w
-    → Took pool m limits b s held → Text pool m limits b w
-body_there {pool} {m} {limits} b s held k w none tag empty is h =
-    let (v, form, text) = text_there b s held h.size none tag (no_bytes held empty) h.reads in
-    let same : v ≡ w = (let e : message_part m v ≡ message_part k w = sym form ∙ is in cc) in
-    subst (Text pool m limits b) same text
-
--- what is begun is cut short
-pub cut_there :
-    {pool : Types} {m : ℕ} {limits : Bounds} (b : List ℕ) (s : State) (held : List ℕ) → (s.frames ≡ [] → s.next ≡ step.Tag → held ≡ [] → ⊥) → Took pool m limits b s held
-    → HasFault (schema_of pool) (in_message m) limits b (fault (s.at + length held) (path_here s) Truncated)
-cut_there {pool} {m} {limits} b s held begun h = by_stops h.stops
-  where
-    by_stops : Stops pool m limits.depth (text_at b) s held → HasFault (schema_of pool) (in_message m) limits b (fault (s.at + length held) (path_here s) Truncated)
-    by_stops (cut bad) = HasFault.bad h.size bad
-    by_stops (over none tag ended) = absurd (begun none tag (top_over s held none tag h.reads ended))
-
--- THE START
-pub took_start :
-    (pool : Types) (m : ℕ) (limits : Bounds) (s : State) (held : List ℕ) → s.at ≡ 0 → s.next ≡ step.Tag → s.frames ≡ [] → s.now ≡ message_part m empty → s.scope.room ≡ limits.depth → s.scope.end ≡ None → ((k : ℕ) → s.scope.counts k ≡ 0)
-    → held ≡ [] → limits.depth ≤ 100 → m < length pool.messages → Took pool m limits [] s held
-took_start pool m limits s held at tag none part room end counts empty_held deep within = record {
-  reads =
-      subst (λ (z : Part). After pool m limits.depth 101 [] (text_at []) s.frames s.next z s.scope (here s held)) (sym part)
-      (subst (λ (z : Step). After pool m limits.depth 101 [] (text_at []) s.frames z (message_part m empty) s.scope (here s held)) (sym tag)
-      (subst (λ (z : List Frame). After pool m limits.depth 101 [] (text_at []) z step.Tag (message_part m empty) s.scope (here s held)) (sym none)
-      (subst (λ (z : Place). After pool m limits.depth 101 [] (text_at []) [] step.Tag (message_part m empty) s.scope z) placed
-      (after_record
-      (stands_at_start pool m limits.depth 101 [] (text_at []) s.scope empty (omega (arith, deep)) (sym (value_of_nothing pool 101 m)) within (tt, tt, tt, tt) (omega arith) tt room counts (subst (EndsAt (text_at [])) (sym end) refl))))));
-  stops = over none tag (inr (ap (option_map (λ (e : ℕ). e - s.at)) end, empty_held));
-  at = let e = ap length empty_held in omega (arith, e, at);
-  size = omega arith;
-}
-  where
-    placed : text_at [] ≡ here s held
-    placed =
-        ap (λ (z : ℕ). record { at = z; known = None; rest = [] }) (sym at) ∙ ap (λ (z : Option ℕ). record { at = s.at; known = option_map (λ (e : ℕ). e - s.at) z; rest = [] }) (sym end)
-        ∙ ap (λ (z : List ℕ). record { at = s.at; known = option_map (λ (e : ℕ). e - s.at) s.scope.end; rest = z }) (sym empty_held)
-
--- THE MESSAGE that is read whole is well formed
-top_inner :
-    {pool : Types} {m depth levels : ℕ} {base : List Record} {p0 : Place} {frames : List Frame} {now : Part} {o : Open Context} {room inner : ℕ} {path : _} {p : Place} {earlier : List Record}
-    → frames ≡ [] → Held pool m depth levels base p0 frames now o room inner path p earlier → inner ≡ levels
-top_inner none (at_top v form is_open is_room is_inner is_path is_place is_base goes_on) = is_inner
-top_inner none (inside up h begun form can deep completes is_path counts ends goes_on takes) = absurd (cc)
-
-pub well_formed_there :
-    {pool : Types} {m depth : ℕ} {b : List ℕ} (s : State) (held : List ℕ) (k : ℕ) (w : Message) → IsPool pool → s.frames ≡ [] → s.next ≡ step.Tag → s.now ≡ message_part k w → Reads pool m depth 101 [] (text_at b) s held
-    → IsWellFormed pool m w
-well_formed_there {pool} {m} {depth} {b} s held k w ok none tag is h =
-    let stands : Stands pool m depth 101 [] (text_at b) [] (message_part k w) s.scope (here s held) = subst (λ (z : Part). Stands pool m depth 101 [] (text_at b) [] z s.scope (here s held)) is (stands_top s held none tag h) in
-    let good = message_good ok k w stands in
-    let (v, form) = is_top refl stands.held in
-    let same : k ≡ m = (let e : message_part k w ≡ message_part m v = form in cc) in
-    let inner = top_inner refl stands.held in
-    let low = good.1 in
-    record { parts = subst (λ (z : ℕ). IsBody pool z w) same good.0; depth = omega (arith, low, inner) }
-
--- and no entry or group is
-pub top_message : {pool : Types} {m : ℕ} {limits : Bounds} (b : List ℕ) (s : State) (held : List ℕ) → s.frames ≡ [] → s.next ≡ step.Tag → Took pool m limits b s held → (v : Message) × (s.now ≡ message_part m v)
-top_message b s held none tag h = is_top refl (stands_top s held none tag h.reads).held

@@ -238,7 +238,7 @@ allowed_entry room key kd true b = allowed_explicit room key kd key
 allowed_entry room key kd false true = allowed_explicit room key kd kd
 allowed_entry room key kd false false = tt
 
-reads_allowed : (pool : Types) (now : Part) (k room : ℕ) (meant : Purpose) → Means pool (part_context now) k 2 meant → IsRoomFor room meant → IsAllowed room ((schema_of pool).reading (part_context now) k)
+pub reads_allowed : (pool : Types) (now : Part) (k room : ℕ) (meant : Purpose) → Means pool (part_context now) k 2 meant → IsRoomFor room meant → IsAllowed room ((schema_of pool).reading (part_context now) k)
 reads_allowed pool (message_part t v) k room meant h some = allowed_field room t k (field_numbered k (message_fields pool t)) meant h some
 reads_allowed pool (entry_part key kd x d) k room meant h some = allowed_entry room key kd (1 == k) (2 == k)
 reads_allowed pool (group_part us) k room meant h some = tt

@@ -117,7 +117,10 @@ IsPartOf (group_part us) c = c ≡ unknown_group
 -- the wire type of the records that go into a slot
 abbrev pub slot_type : Slot → ℕ
 slot_type (slot.Unknown n) = 3
-slot_type _ = 2
+slot_type (slot.One s n) = 2
+slot_type (slot.List n) = 2
+slot_type (slot.Map n) = 2
+slot_type slot.Entry = 2
 
 -- Whatever the payload comes to be, with its part in the slot the outer part is worth the records with that record too.
 abbrev pub Completes : Types → ℕ → ℕ → Frame → List Record → Part → List Record → Type 0

@@ -12,3 +12,13 @@ pub mod Closing
 pub mod Reader
 pub mod Ended
 pub mod Push
+pub mod Received
+pub mod Waiting
+pub mod Pending
+pub mod Decoder
+pub mod ReadingView
+pub mod ErrorNumber
+pub mod Origin
+pub mod Onto
+pub mod FromDevice
+pub mod Frame

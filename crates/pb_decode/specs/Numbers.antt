@@ -23,7 +23,10 @@ scalar_kind (purpose.One k s) = Some k
 scalar_kind (purpose.Element k) = Some k
 scalar_kind (purpose.Key k) = Some k
 scalar_kind (purpose.EntryValue k) = Some k
-scalar_kind _ = None
+scalar_kind (purpose.Packed k) = None
+scalar_kind (purpose.Message m s) = None
+scalar_kind (purpose.Entry key k) = None
+scalar_kind purpose.Unknown = None
 
 -- a value as a map's key
 abbrev pub key_in : Datum → Option Scalar

@@ -1,8 +1,8 @@
 -- What a decoder has received.
-use Rattle.std.specs.Prelude.{◌≡◌, ℕ, ◌+◌, ◌≤◌, List, [], length}
+use Rattle.std.specs.Prelude.{◌≡◌, ◌⊎◌, ℕ, ◌+◌, ◌≤◌, List, [], length}
 use Rattle.pb_wire.specs.Fault.{Fault, text_at}
 use Rattle.pb_wire.specs.Grammar.{HasFault}
-use Rattle.pb_wire.specs.Exact.{IsCut}
+use Rattle.pb_wire.specs.Exact.{IsSomeText, IsCut}
 use Rattle.pb_wire.specs.Limits.{Bounds}
 use Rattle.pb_schema.specs.Types.{Types}
 use Rattle.pb_schema.specs.Context.{a_message, schema_of}
@@ -24,3 +24,7 @@ pub record TookSome (pool : Types) (m : ℕ) (limits : Bounds) (s : State) (held
 pub record IsSettled (pool : Types) (m : ℕ) (limits : Bounds) (b : List ℕ) (f : Fault) : Type 0 where
   pub fault : HasFault (schema_of pool) (a_message m) limits b f
   pub settled : IsCut f → ⊥
+
+-- b is a text, or is cut short: more bytes may still make it one
+abbrev pub IsGoing : Types → ℕ → Bounds → List ℕ → Type 0
+IsGoing pool m limits b = IsSomeText (schema_of pool) (a_message m) limits b ⊎ ((f : Fault) × HasFault (schema_of pool) (a_message m) limits b f × IsCut f)

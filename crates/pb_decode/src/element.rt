@@ -1,6 +1,6 @@
 //! Elements of a packed list.
 
-ghost use Rattle.std.specs.Prelude.{◌≡◌, ◌≢◌, ◌+◌, ◌<◌, ◌^◌, ℕ, List, Option, Some, IfOk, IfErr};
+ghost use Rattle.std.specs.Prelude.{◌≡◌, ◌≢◌, ◌+◌, ◌<◌, ◌^◌, ℕ, List, Option, Some, IfOk, IfErr, IfNone};
 ghost use Rattle.pb_wire.specs.Record.{Record, wire_type as type_of};
 ghost use Rattle.pb_wire.specs.Fault.{Place};
 ghost use Rattle.pb_schema.specs.Rules.{IsPool};
@@ -12,6 +12,7 @@ ghost use Rattle.pb_decode.specs.Number.{number_view};
 ghost use Rattle.pb_decode.specs.Numbers.{Follows};
 ghost use Rattle.pb_decode.specs.PartView.{part_view};
 ghost use Rattle.pb_decode.specs.Reader.{state_view, left_of, here, Reads, IsReading, Taken, Passes, IfFault, Told, AfterAt};
+ghost use Rattle.pb_decode.specs.Waiting.{Waits};
 
 use crate::error::DecodeError;
 use crate::fault::fault_at;
@@ -74,6 +75,7 @@ pub(crate) fn take_element(
     requires goes_on { left_of (state_view reader) ≢ Some 0 }
     ensures passes { IfOk result (λ r. Passes (state_view reader) bytes.now (state_view r.0) r.1) }
     ensures taken { (m depth levels : ℕ) (base : List Record) (p0 : Place) → Reads pool.now m depth levels base p0 (state_view reader) bytes.now → IfOk result (λ r. Taken pool.now m depth levels base p0 (state_view r.0) bytes.now r.1) }
+    ensures waits { IfOk result (λ r. IfNone r.1 (Waits (state_view r.0) bytes.now)) }
     ensures refused { (m depth levels : ℕ) (base : List Record) (p0 : Place) → Reads pool.now m depth levels base p0 (state_view reader) bytes.now → IfErr result (λ e. IfFault e (Told pool.now m depth p0)) }
 {
     match number_at(kind.wire_type(), bytes, left(&reader)) {

@@ -1,6 +1,7 @@
 //! Why bytes are refused.
 
 ghost use Rattle.std.specs.Prelude.{◌≡◌};
+ghost use Rattle.pb_decode.specs.ErrorNumber.{number_of};
 
 use pb_value::ValueError;
 use pb_wire::{Cause, PathStep};
@@ -24,6 +25,25 @@ pub enum DecodeError {
     /// The decoder refused bytes before, or gave its message.
     #[error("the decoder is finished")]
     Finished,
+}
+
+impl DecodeError {
+    /// The error's number: 40 for a fault, 41 for want of memory, 42 for an input that failed and 43 for a decoder that is
+    /// finished.
+    pub fn number(&self) -> u8
+        ensures { result ≡ number_of self.now }
+    {
+        match self {
+            DecodeError::Fault {
+                byte: _,
+                path: _,
+                cause: _,
+            } => 40,
+            DecodeError::Memory => 41,
+            DecodeError::Device => 42,
+            DecodeError::Finished => 43,
+        }
+    }
 }
 
 impl From<AllocError> for DecodeError {

@@ -1,11 +1,12 @@
 //! Where a reader stands, as the path of a fault.
 
-ghost use Rattle.std.specs.Prelude.{◌≡◌, ◌∷◌, [], map, IfOk, IfErr, IfSome, IfNone};
+ghost use Rattle.std.specs.Prelude.{◌≡◌, ◌++◌, ◌∷◌, [], map, IfOk, IfErr, IfSome, IfNone};
 ghost use Rattle.pb_wire.specs.Fault.{fault as fault_of};
+ghost use Rattle.pb_wire.specs.declared.fault.Cause.TheVariants.{InputTooLarge};
 ghost use Rattle.pb_decode.specs.declared.error.DecodeError.TheVariants.{Memory};
-ghost use Rattle.pb_decode.specs.Frames.{next_step, Scope as ScopeView};
+ghost use Rattle.pb_decode.specs.Frames.{next_step, path_of, Scope as ScopeView};
 ghost use Rattle.pb_decode.specs.PartView.{scope_view};
-ghost use Rattle.pb_decode.specs.Reader.{state_view, own_step, path_here as steps_here, IfFault};
+ghost use Rattle.pb_decode.specs.Reader.{frames_view, state_view, own_step, path_here as steps_here, IfFault};
 
 use crate::error::DecodeError;
 use crate::part::Frame;
@@ -52,17 +53,29 @@ fn begun_number(step: Step) -> Option<u32>
     }
 }
 
+/// The steps to the record of a number that comes next in the innermost part.
+fn path_inside(alloc: Global, reader: &Reader, number: u32) -> Result<Vec<PathStep>, DecodeError>
+    ensures path { IfOk result (λ v. v.items ≡ path_of (frames_view reader.now.frames.items) ++ next_step number (scope_view reader.now.scope) ∷ []) }
+    ensures memory { IfErr result (λ e. e ≡ Memory) }
+{
+    let mut path = frame_steps(alloc, &reader.frames)?;
+    let occurrence = reader.scope.occurrences.count(number);
+    path.push(PathStep { number, occurrence })?;
+    Ok(path)
+}
+
 /// The steps to where a reader stands.
 fn path_here(alloc: Global, reader: &Reader) -> Result<Vec<PathStep>, DecodeError>
     ensures path { IfOk result (λ v. v.items ≡ steps_here (state_view reader.now)) }
     ensures memory { IfErr result (λ e. e ≡ Memory) }
 {
-    let mut path = frame_steps(alloc, &reader.frames)?;
     match begun_number(reader.step) {
-        None => Ok(path),
+        None => {
+            let path = frame_steps(alloc, &reader.frames)?;
+            Ok(path)
+        }
         Some(number) => {
-            let occurrence = reader.scope.occurrences.count(number);
-            path.push(PathStep { number, occurrence })?;
+            let path = path_inside(alloc, reader, number)?;
             Ok(path)
         }
     }
@@ -79,5 +92,36 @@ pub(crate) fn fault_at(alloc: Global, reader: &Reader, byte: u32, cause: Cause) 
             cause,
         },
         Err(_) => DecodeError::Memory,
+    }
+}
+
+/// The fault of the record of a number that comes next.
+pub(crate) fn fault_inside(
+    alloc: Global,
+    reader: &Reader,
+    number: u32,
+    byte: u32,
+    cause: Cause,
+) -> DecodeError
+    ensures { IfFault result (λ f. f ≡ fault_of byte (path_of (frames_view reader.now.frames.items) ++ next_step number (scope_view reader.now.scope) ∷ []) cause) }
+{
+    match path_inside(alloc, reader, number) {
+        Ok(path) => DecodeError::Fault {
+            byte: u64::from(byte),
+            path,
+            cause,
+        },
+        Err(_) => DecodeError::Memory,
+    }
+}
+
+/// The fault that there are more bytes than the limit allows.
+pub(crate) fn too_large(alloc: Global, most: u32) -> DecodeError
+    ensures { IfFault result (λ f. f ≡ fault_of most [] InputTooLarge) }
+{
+    DecodeError::Fault {
+        byte: u64::from(most),
+        path: Vec::new(alloc),
+        cause: Cause::InputTooLarge,
     }
 }

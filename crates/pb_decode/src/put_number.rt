@@ -1,6 +1,6 @@
 //! Numbers go where their records' purposes say.
 
-ghost use Rattle.std.specs.Prelude.{◌≡◌, ℕ, List, Option, Some, OnOk, IfErr};
+ghost use Rattle.std.specs.Prelude.{◌≡◌, ℕ, List, Option, None, Some, OnOk, IfErr};
 ghost use Rattle.pb_wire.specs.Record.{Record, wire_type};
 ghost use Rattle.pb_wire.specs.Fault.{Place};
 ghost use Rattle.pb_schema.specs.declared.types.Kind.{Kind as KindView};
@@ -53,6 +53,8 @@ fn put_value(
 ) -> Result<(), DecodeError>
     requires { CanHold pool.now (part_view part.old) }
     ensures put { (kind : KindView) (x : Scalar) → kind_given purpose ≡ Some kind → read kind (number_view value) ≡ Some x → OnOk result (part_view part.new ≡ put_datum pool.now number purpose (part_view part.old) (scalar x)) }
+    ensures no_kind { kind_given purpose ≡ None → part.new ≡ part.old }
+    ensures unread { (kind : KindView) → kind_given purpose ≡ Some kind → read kind (number_view value) ≡ None → part.new ≡ part.old }
     ensures memory { IfErr result (λ e. e ≡ Memory) }
 {
     let Some(kind) = scalar_kind(purpose) else {

@@ -1,6 +1,6 @@
 //! Whole payloads behind a length go where their records' purposes say.
 
-ghost use Rattle.std.specs.Prelude.{◌≡◌, ◌≤◌, ◌+◌, ℕ, List, [], ◌∷◌, Some, length, IsUtf8, option_map, OnOk, IfErr};
+ghost use Rattle.std.specs.Prelude.{◌≡◌, ◌≤◌, ◌+◌, ℕ, List, [], ◌∷◌, Some, length, IsUtf8, option_map, OnOk, IfErr, IfNone};
 ghost use Rattle.pb_wire.specs.Record.{len, Record};
 ghost use Rattle.pb_wire.specs.Fault.{fault, Place, Moves};
 ghost use Rattle.pb_wire.specs.Schema.{records};
@@ -45,6 +45,7 @@ fn put_value(
 ) -> Result<(), DecodeError>
     requires { CanHold pool.now (part_view part.old) }
     ensures put { (x : Scalar) → option_map value_view value ≡ Some (scalar x) → OnOk result (part_view part.new ≡ put_datum pool.now number purpose (part_view part.old) (scalar x)) }
+    ensures same { IfNone value (part.new ≡ part.old) }
     ensures memory { IfErr result (λ e. e ≡ OutOfMemory) }
 {
     let Some(value) = value else {
@@ -70,6 +71,7 @@ pub(crate) fn put_payload(
         → length bytes.now ≡ n → Moves u bytes.now w → OnOk result (Stands pool.now m depth levels base p0 frames (part_view part.new) (one_more_in number scope) w) }
     ensures refused { (m depth levels n : ℕ) (base : List Record) (p0 u w : Place) (frames : List FrameView) (scope : ScopeView) → After pool.now m depth levels base p0 frames (Payload number purpose n) (part_view part.old) scope u
         → length bytes.now ≡ n → Moves u bytes.now w → IfErr result (λ e. IfBadText e (λ valid. Bad (schema_of pool.now) (records (a_message m)) depth p0 (below (path_of frames) (fault (u.at + valid) (next_step number scope ∷ []) BadTextCause)))) }
+    ensures same { IfErr result (λ e. IfBadText e (λ _. part.new ≡ part.old)) }
     ensures within { IfErr result (λ e. IfBadText e (λ valid. valid ≤ length bytes.now)) }
     ensures accepted { (kind_given purpose ≡ Some TextKind → IsUtf8 bytes.now) → IfErr result (λ e. e ≡ Memory) }
 {

@@ -1,6 +1,6 @@
 //! A reader of a message: a stack of what is open, and what comes next.
 
-ghost use Rattle.std.specs.Prelude.{◌≡◌, ◌⊎◌, ◌+◌, ◌-◌, ◌<◌, ◌^◌, ℕ, List, Some, IfOk, IfErr};
+ghost use Rattle.std.specs.Prelude.{◌≡◌, ◌⊎◌, ◌+◌, ◌-◌, ◌<◌, ◌≤◌, ◌^◌, ℕ, List, Some, drop, length, IfOk, IfErr, IfNone};
 ghost use Rattle.pb_wire.specs.Record.{Record, wire_type as type_of};
 ghost use Rattle.pb_wire.specs.Fault.{Place};
 ghost use Rattle.pb_wire.specs.Token.{given_at};
@@ -13,7 +13,8 @@ ghost use Rattle.pb_decode.specs.Numbers.{TellsNumber, Follows};
 ghost use Rattle.pb_decode.specs.Occurrences.{counts_view};
 ghost use Rattle.pb_decode.specs.PartView.{part_view};
 ghost use Rattle.pb_decode.specs.After.{tag, awaited};
-ghost use Rattle.pb_decode.specs.Reader.{state_view, left_of, here, Reads, IsReading, Taken, Passes, IfFault, Told, StandsAt};
+ghost use Rattle.pb_decode.specs.Reader.{state_view, left_of, here, Reads, IsReading, Stops, Taken, Passes, IfFault, Told, StandsAt};
+ghost use Rattle.pb_decode.specs.Waiting.{Waits};
 
 use crate::error::DecodeError;
 use crate::fault::fault_at;
@@ -24,6 +25,7 @@ use crate::purpose::Purpose;
 use crate::put::one_more;
 use crate::put_number::put_number;
 use crate::step::Step;
+use crate::take_next::take_next;
 use pb_schema::Pool;
 use pb_wire::Cause;
 use std::alloc::Global;
@@ -117,6 +119,7 @@ pub(crate) fn take_number(
     requires step { awaited reader.step ≡ Some (tag number wire_type purpose) }
     ensures passes { IfOk result (λ r. Passes (state_view reader) bytes.now (state_view r.0) r.1) }
     ensures taken { (m depth levels : ℕ) (base : List Record) (p0 : Place) → Reads pool.now m depth levels base p0 (state_view reader) bytes.now → IfOk result (λ r. Taken pool.now m depth levels base p0 (state_view r.0) bytes.now r.1) }
+    ensures waits { IfOk result (λ r. IfNone r.1 (Waits (state_view r.0) bytes.now)) }
     ensures refused { (m depth levels : ℕ) (base : List Record) (p0 : Place) → Reads pool.now m depth levels base p0 (state_view reader) bytes.now → IfErr result (λ e. IfFault e (Told pool.now m depth p0)) }
 {
     match number_at(wire_type, bytes, left(&reader)) {
@@ -126,5 +129,31 @@ pub(crate) fn take_number(
         }
         NumberToken::Short => Ok((reader, None)),
         NumberToken::Fault(cause) => Err(fault_at(alloc, &reader, reader.at, cause)),
+    }
+}
+
+/// Takes all that stands whole at the front of the bytes, and how many bytes that are.
+pub(crate) fn take_all(
+    alloc: Global,
+    pool: &Pool,
+    reader: Reader,
+    bytes: &[u8],
+) -> Result<(Reader, usize), DecodeError>
+    requires rules { IsPool pool.now }
+    requires reading { IsReading pool.now (state_view reader) bytes.now }
+    ensures passes { IfOk result (λ r. (r.1 ≤ length bytes.now) × ((state_view r.0).at ≡ reader.at + r.1)) }
+    ensures taken { (m depth levels : ℕ) (base : List Record) (p0 : Place) → Reads pool.now m depth levels base p0 (state_view reader) bytes.now → IfOk result (λ r. Reads pool.now m depth levels base p0 (state_view r.0) (drop r.1 bytes.now) × Stops pool.now m depth p0 (state_view r.0) (drop r.1 bytes.now)) }
+    ensures waits { IfOk result (λ r. Waits (state_view r.0) (drop r.1 bytes.now)) }
+    ensures refused { (m depth levels : ℕ) (base : List Record) (p0 : Place) → Reads pool.now m depth levels base p0 (state_view reader) bytes.now → IfErr result (λ e. IfFault e (Told pool.now m depth p0)) }
+{
+    let mut here = 0;
+    let mut reader = reader;
+    loop {
+        let (next, taken) = take_next(alloc, pool, reader, &bytes[here..])?;
+        reader = next;
+        let Some(size) = taken else {
+            return Ok((reader, here));
+        };
+        here += size;
     }
 }

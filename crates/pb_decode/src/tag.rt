@@ -24,6 +24,7 @@ const MAX_LENGTH: u64 = 0x7fff_ffff;
 /// The number and the wire type of a whole tag.
 pub(crate) fn tag_parts(tag: u64) -> Result<(u32, u8), Cause>
     ensures whole { (q u : Place) → Reads q tag u → IfOk result (λ t. HasTag q t.0 t.1 u) }
+    ensures known { IfOk result (λ t. t.1 < 6) }
     ensures settled { IfErr result (λ c. c ≢ Truncated) }
     ensures refused { (pool : Types) (m depth levels : ℕ) (base : List Record) (p0 q u : Place) (frames : List FrameView) (scope : ScopeView) (now : PartView) → Stands pool m depth levels base p0 frames now scope q → Reads q tag u
         → IfErr result (λ c. Bad (schema_of pool) (records (a_message m)) depth p0 (fault q.at (path_of frames) c)) }

@@ -1,6 +1,6 @@
 //! Whole payloads of bytes.
 
-ghost use Rattle.std.specs.Prelude.{◌≡◌, ◌+◌, ◌-◌, ◌<◌, ◌^◌, ℕ, List, length, IfOk, IfErr};
+ghost use Rattle.std.specs.Prelude.{◌≡◌, ◌+◌, ◌-◌, ◌<◌, ◌^◌, ℕ, List, length, IfOk, IfErr, IfNone};
 ghost use Rattle.pb_wire.specs.Record.{Record};
 ghost use Rattle.pb_wire.specs.Fault.{Place, Moves};
 ghost use Rattle.pb_schema.specs.Rules.{IsPool};
@@ -10,6 +10,7 @@ ghost use Rattle.pb_decode.specs.Occurrences.{counts_view};
 ghost use Rattle.pb_decode.specs.PartView.{part_view};
 ghost use Rattle.pb_decode.specs.PayloadValue.{IsBytesPurpose};
 ghost use Rattle.pb_decode.specs.Reader.{state_view, here, Reads, IsReading, Taken, Passes, IfFault, Told, StandsAt};
+ghost use Rattle.pb_decode.specs.Waiting.{Waits};
 
 use crate::error::DecodeError;
 use crate::fault::fault_at;
@@ -93,6 +94,7 @@ pub(crate) fn take_payload(
     requires step { reader.step ≡ Payload number purpose size }
     ensures passes { IfOk result (λ r. Passes (state_view reader) bytes.now (state_view r.0) r.1) }
     ensures taken { (m depth levels : ℕ) (base : List Record) (p0 : Place) → Reads pool.now m depth levels base p0 (state_view reader) bytes.now → IfOk result (λ r. Taken pool.now m depth levels base p0 (state_view r.0) bytes.now r.1) }
+    ensures waits { IfOk result (λ r. IfNone r.1 (Waits (state_view r.0) bytes.now)) }
     ensures refused { (m depth levels : ℕ) (base : List Record) (p0 : Place) → Reads pool.now m depth levels base p0 (state_view reader) bytes.now → IfErr result (λ e. IfFault e (Told pool.now m depth p0)) }
 {
     let wanted = size as usize;

@@ -13,6 +13,7 @@ use Rattle.pb_decode.specs.Reader.{state_view, here, path_here, weight}
 use Rattle.pb_decode.proofs.ReaderLemmas.{size_some, fault_told}
 use Rattle.pb_decode.proofs.ListHolds.{list_can_hold}
 use Rattle.pb_decode.proofs.ElementLemmas.{list_types, element_short, element_refused, after_reads}
+use Rattle.pb_decode.proofs.WaitLemmas.{element_waits}
 use Rattle.pb_decode.proofs.element.take_element.Goals as goal
 
 pub number_at-requires : goal.number_at-requires
@@ -63,3 +64,9 @@ returns-in-Fault-clause-refused c =
     let same = subst (λ (z : ℕ). TellsNumber z (here (state_view c.args.reader) c.args.bytes.now) (token.Fault c.in-Fault.cause)) c.wire_type.ensures told in
     fault_told c.fault_at.result (fault c.args.reader.at (path_here (state_view c.args.reader)) c.in-Fault.cause) c.fault_at.ensures
     (element_refused (state_view c.args.reader) c.args.bytes.now c.args.number c.args.kind c.args.outer c.in-Fault.cause begun c.requires.step c.requires.goes_on same.0 same.1)
+
+pub returns-in-Short-clause-waits : goal.returns-in-Short-clause-waits
+returns-in-Short-clause-waits c =
+    let told = subst (λ (z : Option ℕ). TellsNumber c.wire_type.result (given_at c.args.reader.at z c.args.bytes.now) token.Short) c.left.ensures (c.in-Short.ensures c.args.reader.at) in
+    element_waits (state_view c.args.reader) c.args.bytes.now c.args.number c.args.kind c.args.outer c.requires.step
+    (subst (λ (z : ℕ). TellsNumber z (here (state_view c.args.reader) c.args.bytes.now) token.Short) c.wire_type.ensures told)

@@ -8,6 +8,7 @@ use Rattle.pb_decode.specs.After.{tag}
 use Rattle.pb_decode.specs.Reader.{state_view, here, path_here, weight}
 use Rattle.pb_decode.proofs.ReaderLemmas.{number_short, number_refused, stands_reads, size_some, fault_told}
 use Rattle.pb_decode.proofs.ReaderSafe.{awaited_can, awaited_few}
+use Rattle.pb_decode.proofs.WaitLemmas.{number_waits}
 use Rattle.pb_decode.proofs.reader.take_number.Goals as goal
 
 pub pass_number-requires-clause-can : goal.pass_number-requires-clause-can
@@ -52,3 +53,8 @@ returns-in-Fault-clause-refused c =
     let told = subst (λ (z : Option ℕ). TellsNumber c.args.wire_type (given_at c.args.reader.at z c.args.bytes.now) (token.Fault c.in-Fault.cause)) c.left.ensures (c.in-Fault.ensures c.args.reader.at) in
     fault_told c.fault_at.result (fault c.args.reader.at (path_here (state_view c.args.reader)) c.in-Fault.cause) c.fault_at.ensures
     (number_refused (state_view c.args.reader) c.args.bytes.now (tag c.args.number c.args.wire_type c.args.purpose) c.in-Fault.cause begun c.requires.step told.0 told.1)
+
+pub returns-in-Short-clause-waits : goal.returns-in-Short-clause-waits
+returns-in-Short-clause-waits c =
+    let told = subst (λ (z : Option ℕ). TellsNumber c.args.wire_type (given_at c.args.reader.at z c.args.bytes.now) token.Short) c.left.ensures (c.in-Short.ensures c.args.reader.at) in
+    number_waits (state_view c.args.reader) c.args.bytes.now (tag c.args.number c.args.wire_type c.args.purpose) c.requires.number c.requires.step told

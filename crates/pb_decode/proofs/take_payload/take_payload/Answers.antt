@@ -6,6 +6,7 @@ use Rattle.pb_wire.specs.Token.{passed}
 use Rattle.pb_decode.specs.Reader.{state_view, here}
 use Rattle.pb_decode.proofs.ReaderLemmas.{stands_reads}
 use Rattle.pb_decode.proofs.PayloadTaken.{payload_can, payload_few, payload_moves, payload_short}
+use Rattle.pb_decode.proofs.WaitLemmas.{payload_waits}
 use Rattle.pb_decode.proofs.take_payload.take_payload.Goals as goal
 
 pub returns-then-bytes-wanted-clause-taken : goal.returns-then-bytes-wanted-clause-taken
@@ -40,3 +41,7 @@ returns-clause-taken c =
     (c.in_ok-next.ensures.at.0 ∙ ap (λ (z : ℕ). c.args.reader.at + z) (length-take-le c.args.size c.args.bytes.now within)) c.in_ok-next.ensures.same_end c.in_ok-next.ensures.at.1
     (c.in_ok-next.ensures.stands m depth levels base p0 (passed (here (state_view c.args.reader) c.args.bytes.now) c.args.size) c.args.bytes.now begun
     (payload_moves (state_view c.args.reader) c.args.bytes.now c.args.number c.args.purpose c.args.size begun c.requires.step within))
+
+pub returns-then-bytes-wanted-clause-waits : goal.returns-then-bytes-wanted-clause-waits
+returns-then-bytes-wanted-clause-waits c =
+    payload_waits (state_view c.args.reader) c.args.bytes.now c.args.number c.args.purpose c.args.size c.requires.step (omega arith)

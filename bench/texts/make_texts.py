@@ -1,0 +1,130 @@
+#!/usr/bin/env python3
+"""Writes texts of the type in messages.proto, the same each time: make_texts.py MEGABYTES FOLDER.
+
+Each text is the canonical bytes of its message: fields by rising number, map entries by rising key, the shortest spelling of each
+record. So what a codec encodes again is the text itself."""
+import os
+import sys
+
+
+def varint(n):
+    out = bytearray()
+    while n >= 0x80:
+        out.append(n & 0x7F | 0x80)
+        n >>= 7
+    out.append(n)
+    return bytes(out)
+
+
+def tag(number, wire_type):
+    return varint(number * 8 + wire_type)
+
+
+def length_delimited(number, payload):
+    return tag(number, 2) + varint(len(payload)) + payload
+
+
+def zigzag(n):
+    return (n << 1) ^ (n >> 63)
+
+
+def mixed(i):
+    """A number below 2^64 that looks like chance."""
+    i = (i + 1) * 0x9E3779B97F4A7C15 % 2**64
+    i = (i ^ i >> 30) * 0xBF58476D1CE4E5B9 % 2**64
+    i = (i ^ i >> 27) * 0x94D049BB133111EB % 2**64
+    return i ^ i >> 31
+
+
+def word(i):
+    return "worker-%d" % (mixed(i) % 9973)
+
+
+def item(i):
+    state = mixed(i)
+    change = state % 2**40 - 2**39
+    fields = tag(1, 0) + varint(1 + state % 100000) + length_delimited(2, word(i).encode())
+    return fields + tag(3, 1) + (state | 1).to_bytes(8, "little") + tag(4, 0) + varint(zigzag(change) or 1)
+
+
+def small(i):
+    """Many small messages."""
+    return length_delimited(1, item(i))
+
+
+def long(i):
+    """Long texts, in ASCII and beyond it, and byte strings."""
+    text = ("%s spricht %s, " % (word(i), "größer" if i % 2 else "smaller")) * 150
+    return length_delimited(2, text.encode())
+
+
+def blob(i):
+    return length_delimited(3, mixed(i).to_bytes(8, "little") * 512)
+
+
+def packed(i):
+    """Packed numbers of one byte to ten, of signed numbers and of eight bytes."""
+    numbers = b"".join(varint(mixed(i * 1000 + k) % 2 ** (7 * (1 + k % 4))) for k in range(1000))
+    return numbers
+
+
+def change(i):
+    return b"".join(varint(zigzag(mixed(i * 1000 + k) % 2 ** (8 + k % 50) - 2 ** (7 + k % 50))) for k in range(500))
+
+
+def place(i):
+    return b"".join(mixed(i * 1000 + k).to_bytes(8, "little") for k in range(300))
+
+
+def counted(i):
+    """Map entries, whose keys rise."""
+    key = b"key-%08d" % i
+    return length_delimited(7, length_delimited(1, key) + tag(2, 0) + varint(mixed(i) % 2**31))
+
+
+def entry(i):
+    return length_delimited(8, tag(1, 0) + varint(i) + length_delimited(2, item(i)))
+
+
+def nest(i, levels):
+    """Messages inside each other, each with a few numbers."""
+    inside = b""
+    for level in range(levels):
+        numbers = length_delimited(4, varint(level) + varint(1 + mixed(i) % 1000))
+        inside = numbers + (length_delimited(10, inside) if level else b"")
+    return length_delimited(9, inside)
+
+
+def unknown(i):
+    """Records that no field has: numbers, bytes and groups."""
+    state = mixed(i)
+    record = tag(1000 + i % 50, 0) + varint(state) + tag(2000, 1) + state.to_bytes(8, "little") + length_delimited(3000, word(i).encode())
+    return record + tag(4000, 3) + tag(1, 0) + varint(state % 1000) + tag(2, 5) + (state % 2**32).to_bytes(4, "little") + tag(4000, 4)
+
+
+def until(size, part):
+    """Parts until there are so many bytes."""
+    out = bytearray()
+    i = 0
+    while len(out) < size:
+        out += part(i)
+        i += 1
+    return bytes(out)
+
+
+def main():
+    size = int(float(sys.argv[1]) * 1_000_000)
+    texts = {
+        "small": lambda: until(size, small),
+        "strings": lambda: until(size // 2, long) + until(size // 2, blob),
+        "packed": lambda: length_delimited(4, until(size // 3, packed)) + length_delimited(5, until(size // 3, change)) + length_delimited(6, until(size // 3, place)),
+        "maps": lambda: until(size // 2, counted) + until(size // 2, entry),
+        "nests": lambda: until(size, lambda i: nest(i, 90)),
+        "unknown": lambda: until(size, unknown),
+    }
+    for name, text in texts.items():
+        with open(os.path.join(sys.argv[2], name), "wb") as out:
+            out.write(text())
+
+
+main()

@@ -1,0 +1,163 @@
+-- A reader that goes on over the bytes of an input, piece by piece.
+use Rattle.std.proofs.Common.{◌≡◌, ℕ, ◌+◌, ◌-◌, ◌<◌, ◌≤◌, List, [], ◌++◌, take, length, refl, sym, ap, ◌∙◌, subst, arith, append-nil, append_assoc, length-append, Option, Some, None, inl, inr, ◌⊎◌}
+use Rattle.std.proofs.lemmas.Bool.{cases_lt}
+use Rattle.std.proofs.lemmas.List.{take_at}
+use Rattle.std.specs.Prelude.{Result, Ok, Err, IfErr, IfSome}
+use Rattle.std.specs.Io.KnownBytes.{Consumes, IsAtEnd}
+use Rattle.std.proofs.KnownBytes.{Consumes-nil, Consumes-trans, Consumes-whole}
+use Rattle.pb_wire.specs.Record.{Record}
+use Rattle.pb_wire.specs.Limits.{Bounds}
+use Rattle.pb_wire.specs.Schema.{records as in_records}
+use Rattle.pb_wire.specs.declared.fault.Cause.TheVariants.{InputTooLarge}
+use Rattle.pb_wire.specs.Fault.{Fault, fault, text_at}
+use Rattle.pb_wire.specs.Grammar.{Bad, HasFault}
+use Rattle.pb_wire.proofs.Longer.{bad_longer}
+use Rattle.pb_schema.specs.Context.{a_message, schema_of}
+use Rattle.pb_wire.specs.Spell.{AreRecords}
+use Rattle.pb_schema.specs.Types.{Types}
+use Rattle.pb_value.specs.Data.{Message}
+use Rattle.pb_value.specs.Derives.{Text}
+use Rattle.pb_decode.specs.declared.error.DecodeError.{DecodeError}
+use Rattle.pb_decode.specs.declared.error.DecodeError.TheVariants as error
+use Rattle.pb_decode.specs.declared.push.Reading.{Reading}
+use Rattle.pb_decode.specs.Reader.{state_view, IfFault}
+use Rattle.pb_decode.specs.Origin.{Origin, origin, further, TookFrom, IsWhole, BadFrom, ToldFrom}
+use Rattle.pb_decode.specs.FromDevice.{IfRefused, TakesAtMost, ReadsOn, ToldOf}
+use Rattle.pb_decode.proofs.PushLemmas.{beyond_settled, front_within}
+use Rattle.pb_decode.proofs.OntoText.{text_from, whole_fault, beyond_told}
+
+pub further_nil : (o : Origin) → further o [] ≡ o
+further_nil o = ap (λ (z : List ℕ). record o { place = record o.place { rest = z } }) (append-nil o.place.rest)
+
+pub further_more : (o : Origin) (a b : List ℕ) → further (further o a) b ≡ further o (a ++ b)
+further_more o a b = ap (λ (z : List ℕ). record o { place = record o.place { rest = z } }) (append_assoc o.place.rest a b)
+
+pub reads_none : (pool : Types) (r : Reading) (left : Option (List ℕ)) → ReadsOn pool r r left left 0
+reads_none pool r left = record {
+  bytes = [];
+  size = refl;
+  given = Consumes-nil left;
+  onward = λ o took. subst (λ (z : Origin). TookFrom pool z (state_view r.reader) r.held.items) (sym (further_nil o)) took;
+}
+
+pub reads_more : {pool : Types} {r s t : Reading} {x y z : Option (List ℕ)} {n m k : ℕ} → n + m ≡ k → ReadsOn pool r s x y n → ReadsOn pool s t y z m → ReadsOn pool r t x z k
+reads_more {pool} {r} {s} {t} {x} {y} {z} sum h g = record {
+  bytes = h.bytes ++ g.bytes;
+  size = let a = h.size in let b = g.size in let joined = length-append h.bytes g.bytes in omega (arith, sum, a, b, joined);
+  given = Consumes-trans x y z h.bytes g.bytes h.given g.given;
+  onward = λ o took. subst (λ (p : Origin). TookFrom pool p (state_view t.reader) t.held.items) (further_more o h.bytes g.bytes) (g.onward (further o h.bytes) (h.onward o took));
+}
+
+-- the input gave nothing more
+pub reads_nothing : {pool : Types} {r s : Reading} {x y : Option (List ℕ)} {n : ℕ} (z : Option (List ℕ)) → ReadsOn pool r s x y n → Consumes y z [] → ReadsOn pool r s x z n
+reads_nothing {x = x} {y = y} z h none = record {
+  bytes = h.bytes;
+  size = h.size;
+  given = subst (Consumes x z) (append-nil h.bytes) (Consumes-trans x y z h.bytes [] h.given none);
+  onward = h.onward;
+}
+
+-- how far the reader has come
+pub reads_at : {pool : Types} {r s : Reading} {x y : Option (List ℕ)} {n : ℕ} (o : Origin) → ReadsOn pool r s x y n → TookFrom pool o (state_view r.reader) r.held.items → s.reader.at + length s.held.items ≡ r.reader.at + length r.held.items + n
+reads_at o h took =
+    let before = took.at in
+    let after = (h.onward o took).at in
+    let joined = length-append o.place.rest h.bytes in
+    let size = h.size in
+    omega (arith, before, after, joined, size)
+
+pub reads_on : {pool : Types} {r s : Reading} {x y : Option (List ℕ)} {n : ℕ} (o : Origin) → ReadsOn pool r s x y n → TookFrom pool o (state_view r.reader) r.held.items → (p : Origin) × TookFrom pool p (state_view s.reader) s.held.items
+reads_on o h took = (further o h.bytes, h.onward o took)
+
+pub told_more :
+    {pool : Types} {r s : Reading} {x y z : Option (List ℕ)} {n room most : ℕ} (o : Origin) (f : Fault) → n + room ≤ most → (h : ReadsOn pool r s x y n) → ToldOf pool (further o h.bytes) y z room f → ToldOf pool o x z most f
+told_more {pool} {x = x} {y = y} {z = z} o f fits h g = record {
+  bytes = h.bytes ++ g.bytes;
+  few = let a = h.size in let b = g.few in let joined = length-append h.bytes g.bytes in omega (arith, fits, a, b, joined);
+  given = Consumes-trans x y z h.bytes g.bytes h.given g.given;
+  told = subst (λ (p : Origin). ToldFrom pool p f) (further_more o h.bytes g.bytes) g.told;
+}
+
+pub takes_more : {pool : Types} {r s : Reading} {x y : Option (List ℕ)} (z : Option (List ℕ)) {n room most : ℕ} → n + room ≤ most → ReadsOn pool r s x y n → TakesAtMost room y z → TakesAtMost most x z
+takes_more {x = x} {y = y} z fits h (bytes, few, given) = (
+  h.bytes ++ bytes,
+  let a = h.size in let joined = length-append h.bytes bytes in omega (arith, fits, a, few, joined),
+  Consumes-trans x y z h.bytes bytes h.given given,
+)
+
+pub takes_read : {pool : Types} {r s : Reading} {x y : Option (List ℕ)} {n most : ℕ} → n ≤ most → ReadsOn pool r s x y n → TakesAtMost most x y
+takes_read fits h = (h.bytes, let a = h.size in omega (arith, fits, a), h.given)
+
+-- what is told of an error, said weaker
+pub if_refused_weaker : (e : DecodeError) (P Q : Fault → Type 0) → ((f : Fault) → P f → Q f) → IfRefused e P → IfRefused e Q
+if_refused_weaker (error.Fault byte path c) P Q h bad = h (fault byte path.items c) bad
+if_refused_weaker error.Memory P Q h bad = tt
+if_refused_weaker error.Device P Q h bad = tt
+if_refused_weaker error.Finished P Q h bad = bad
+
+pub if_fault_refused : (e : DecodeError) (P Q : Fault → Type 0) → ((f : Fault) → P f → Q f) → IfFault e P → IfRefused e Q
+if_fault_refused (error.Fault byte path c) P Q h bad = h (fault byte path.items c) bad
+if_fault_refused error.Memory P Q h bad = tt
+if_fault_refused error.Device P Q h bad = absurd bad
+if_fault_refused error.Finished P Q h bad = bad
+
+pub refused_weaker : {A : Type 0} (r : Result A DecodeError) (P Q : Fault → Type 0) → ((f : Fault) → P f → Q f) → IfErr r (λ e. IfRefused e P) → IfErr r (λ e. IfRefused e Q)
+refused_weaker (Ok a) P Q h bad = tt
+refused_weaker (Err e) P Q h bad = if_refused_weaker e P Q h bad
+
+pub err_refused : {A : Type 0} (r : Result A DecodeError) (P Q : Fault → Type 0) → ((f : Fault) → P f → Q f) → IfErr r (λ e. IfFault e P) → IfErr r (λ e. IfRefused e Q)
+err_refused (Ok a) P Q h bad = tt
+err_refused (Err e) P Q h bad = if_fault_refused e P Q h bad
+
+-- A TEXT, from position 0 on, with no known end
+module _ {pool : Types} {k : ℕ} {limits : Bounds} (base : List Record) where
+  -- a fault that no more bytes change is the fault of all that is left
+  settled_fault : (b rest : List ℕ) (f : Fault) → length b ≤ limits.bytes → ToldFrom pool (further (origin k limits.depth base None) b) f → HasFault (schema_of pool) (a_message k) limits (b ++ rest) f
+  settled_fault b rest f few told = by_size (cases_lt limits.bytes (length (b ++ rest)))
+    where
+      by_size : (limits.bytes < length (b ++ rest)) ⊎ (length (b ++ rest) ≤ limits.bytes) → HasFault (schema_of pool) (a_message k) limits (b ++ rest) f
+      by_size (inr fits) = HasFault.bad fits (bad_longer rest told.bad told.settled)
+      by_size (inl more) =
+          let joined = length-append b rest in
+          HasFault.bad_front more
+          (subst (λ (z : List ℕ). Bad (schema_of pool) (in_records (a_message k)) limits.depth (text_at z) f) (front_within b rest limits.bytes (limits.bytes - length b) (omega (arith, few)) (omega (arith, more, joined)))
+          (bad_longer (take (limits.bytes - length b) rest) told.bad told.settled)) (beyond_settled limits.bytes f told.settled)
+
+  pub told_left : (x y : Option (List ℕ)) (most : ℕ) (f : Fault) → most ≡ limits.bytes → ToldOf pool (origin k limits.depth base None) x y most f → IfSome x (λ left. HasFault (schema_of pool) (a_message k) limits left f)
+  told_left None y most f same h = tt
+  told_left (Some left) None most f same h = absurd h.given
+  told_left (Some left) (Some rest) most f same h =
+      let few = h.few in subst (λ (z : List ℕ). HasFault (schema_of pool) (a_message k) limits z f) (sym h.given) (settled_fault h.bytes rest f (omega (arith, few, same)) h.told)
+
+  -- more bytes than the limit allows
+  pub more_left :
+      {r s : Reading} (x y z : Option (List ℕ)) (most : ℕ) (bytes : List ℕ) → most ≡ limits.bytes → TookFrom pool (origin k limits.depth base None) (state_view r.reader) r.held.items → ReadsOn pool r s x y most → Consumes y z bytes
+      → length bytes ≡ 1 → IfSome x (λ left. HasFault (schema_of pool) (a_message k) limits left (fault most [] InputTooLarge))
+  more_left None y z most bytes same took h given one = tt
+  more_left (Some left) None z most bytes same took h given one = absurd h.given
+  more_left (Some left) (Some rest) None most bytes same took h given one = absurd given
+  more_left {r} {s} (Some left) (Some rest) (Some last) most bytes same took h given one =
+      let size = h.size in
+      let whole = ap length h.given ∙ length-append h.bytes rest in
+      let part = ap length given ∙ length-append bytes last in
+      let front : take most left ≡ h.bytes = ap (take most) h.given ∙ take_at h.bytes rest most size in
+      beyond_told most (state_view s.reader) s.held.items same (omega (arith, size, whole, part, one))
+      (subst (λ (b : List ℕ). TookFrom pool (further (origin k limits.depth base None) b) (state_view s.reader) s.held.items) (sym front) (h.onward (origin k limits.depth base None) took))
+
+-- all that is left, up to the end of the input
+pub text_left :
+    {pool : Types} {k : ℕ} {limits : Bounds} (x y : Option (List ℕ)) (bytes : List ℕ) (v : Message) → length bytes ≤ limits.bytes → Consumes x y bytes → IsAtEnd y → IsWhole pool (further (origin k limits.depth [] None) bytes) v
+    → IfSome x (λ left. Text pool k limits left v)
+text_left {pool} {k} {limits} x y bytes v size given ended h =
+    Consumes-whole x y bytes (λ left. Text pool k limits left v) given ended (text_from v size h)
+
+pub fault_left :
+    (pool : Types) {k : ℕ} {limits : Bounds} (base : List Record) (x y : Option (List ℕ)) (bytes : List ℕ) (f : Fault) → length bytes ≤ limits.bytes → Consumes x y bytes → IsAtEnd y
+    → BadFrom pool (further (origin k limits.depth base None) bytes) f → IfSome x (λ left. HasFault (schema_of pool) (a_message k) limits left f)
+fault_left pool {k} {limits} base x y bytes f size given ended bad = Consumes-whole x y bytes (λ left. HasFault (schema_of pool) (a_message k) limits left f) given ended (whole_fault pool base f size bad)
+
+-- and nothing is left then
+pub nothing_left : (x y : Option (List ℕ)) (bytes : List ℕ) → Consumes x y bytes → IsAtEnd y → IfSome x (λ left. y ≡ Some [])
+nothing_left None y bytes given ended = tt
+nothing_left (Some left) None bytes given ended = absurd given
+nothing_left (Some left) (Some rest) bytes given ended = ap (λ (z : List ℕ). Some z) ended

@@ -1,0 +1,73 @@
+-- The length of a record, where its payload or its part begins.
+use Rattle.std.proofs.Common.{◌≡◌, ◌≢◌, ℕ, ◌<◌, ◌≤◌, List, [], ◌∷◌, ◌++◌, length, sym, ap, subst, arith, Option, Some, None, IfSome}
+use Rattle.std.specs.Prelude.{IfNone}
+use Rattle.pb_wire.specs.Record.{Record}
+use Rattle.pb_wire.specs.declared.fault.Cause.{Cause}
+use Rattle.pb_wire.specs.declared.fault.Cause.TheVariants.{Truncated}
+use Rattle.pb_wire.specs.declared.fault.PathStep.{PathStep}
+use Rattle.pb_wire.specs.Fault.{fault, Place, input_end, Reads as ReadsNumber, VarintFault, LengthFault}
+use Rattle.pb_wire.specs.Schema.{records}
+use Rattle.pb_wire.specs.Grammar.{Bad}
+use Rattle.pb_wire.specs.Token.{given_at, passed}
+use Rattle.pb_wire.proofs.Tokens.{ends_some}
+use Rattle.pb_schema.specs.Types.{Types}
+use Rattle.pb_schema.specs.Context.{a_message as in_message, schema_of}
+use Rattle.pb_decode.specs.declared.purpose.Purpose.{Purpose}
+use Rattle.pb_decode.specs.declared.step.Step.{Step}
+use Rattle.pb_decode.specs.declared.step.Step.TheVariants as step
+use Rattle.pb_decode.specs.Frames.{EndsAt, path_of, next_step}
+use Rattle.pb_decode.specs.After.{awaited, After}
+use Rattle.pb_decode.specs.Reader.{State, left_of, here, own_step, path_here, Reads, Stops, cut, Told}
+use Rattle.pb_decode.proofs.FrameLemmas.{ends_along}
+use Rattle.pb_decode.proofs.TokenTold.{length_refused}
+
+-- a number takes a byte at least
+pub number_size : {p : Place} {n size : ℕ} → ReadsNumber p n (passed p size) → 0 < size
+number_size h = let some = ends_some h.0 h.1.ends in let at = h.2.at in omega (arith, some, at)
+
+-- BEHIND THE LENGTH the known end is where it was
+pub length_ends :
+    {pool : Types} {m depth levels : ℕ} {base : List Record} {p0 : Place} (s : State) (rest : List ℕ) (n size : ℕ) → Reads pool m depth levels base p0 s rest
+    → ReadsNumber (here s rest) n (passed (here s rest) size) → EndsAt (passed (here s rest) size) s.scope.end
+length_ends s rest n size begun h = ends_along h.0 s.scope.end h.2 begun.ends
+
+-- the reader awaits the length of this record
+pub at_length :
+    {pool : Types} {m depth levels : ℕ} {base : List Record} {p0 : Place} (s : State) (rest : List ℕ) (k : ℕ) (p : Purpose) → Reads pool m depth levels base p0 s rest → s.next ≡ step.Length k p
+    → After pool m depth levels base p0 s.frames (step.Length k p) s.now s.scope (here s rest)
+at_length {pool} {m} {depth} {levels} {base} {p0} s rest k p begun is = subst (λ (z : Step). After pool m depth levels base p0 s.frames z s.now s.scope (here s rest)) is begun
+
+-- A FAULT below the step of the record is one where the reader stands
+length_told :
+    (pool : Types) (m depth : ℕ) (p0 : Place) (s : State) (k : ℕ) (p : Purpose) (byte : ℕ) (c : Cause) → s.next ≡ step.Length k p
+    → Bad (schema_of pool) (records (in_message m)) depth p0 (fault byte (path_of s.frames ++ next_step k s.scope ∷ []) c) → Bad (schema_of pool) (records (in_message m)) depth p0 (fault byte (path_here s) c)
+length_told pool m depth p0 s k p byte c is bad =
+    let path : path_of s.frames ++ next_step k s.scope ∷ [] ≡ path_here s = ap (λ (z : Step). path_of s.frames ++ own_step z s.scope) (sym is) in
+    subst (λ (z : List PathStep). Bad (schema_of pool) (records (in_message m)) depth p0 (fault byte z c)) path bad
+
+pub length_fault_told :
+    (pool : Types) (m depth : ℕ) (p0 : Place) (s : State) (k : ℕ) (p : Purpose) (c : Cause) → s.next ≡ step.Length k p → c ≢ Truncated
+    → Bad (schema_of pool) (records (in_message m)) depth p0 (fault s.at (path_of s.frames ++ next_step k s.scope ∷ []) c) → Told pool m depth p0 (fault s.at (path_here s) c)
+length_fault_told pool m depth p0 s k p c is not_cut bad = record { bad = length_told pool m depth p0 s k p s.at c is bad; settled = not_cut }
+
+-- THE BYTES END inside the length
+pub length_short :
+    {pool : Types} {m depth levels : ℕ} {base : List Record} {p0 : Place} (s : State) (rest : List ℕ) (k : ℕ) (p : Purpose) → Reads pool m depth levels base p0 s rest → s.next ≡ step.Length k p
+    → VarintFault (here s rest) (fault (input_end (here s rest)) [] Truncated) → Stops pool m depth p0 s rest
+length_short {pool} {m} {depth} {levels} {base} {p0} s rest k p begun is bad =
+    cut (length_told pool m depth p0 s k p (input_end (here s rest)) Truncated is (length_refused k p (fault (input_end (here s rest)) [] Truncated) begun (ap awaited is) (LengthFault.token bad)))
+
+-- WHAT IS TOLD of the number at the front of the bytes
+pub number_there :
+    (s : State) (left : Option ℕ) (rest : List ℕ) (o : Option (ℕ × ℕ)) (n size : ℕ) → left ≡ left_of s → o ≡ Some (n, size)
+    → IfSome o (λ t. (t.1 ≤ length rest) × ReadsNumber (given_at s.at left rest) t.0 (passed (given_at s.at left rest) t.1)) → (size ≤ length rest) × ReadsNumber (here s rest) n (passed (here s rest) size)
+number_there s left rest o n size same is h =
+    subst (λ (z : Option ℕ). (size ≤ length rest) × ReadsNumber (given_at s.at z rest) n (passed (given_at s.at z rest) size)) same
+    (subst (λ (z : Option (ℕ × ℕ)). IfSome z (λ t. (t.1 ≤ length rest) × ReadsNumber (given_at s.at left rest) t.0 (passed (given_at s.at left rest) t.1))) is h)
+
+pub number_cut :
+    (s : State) (left : Option ℕ) (rest : List ℕ) (o : Option (ℕ × ℕ)) → left ≡ left_of s → o ≡ None → IfNone o (VarintFault (given_at s.at left rest) (fault (input_end (given_at s.at left rest)) [] Truncated))
+    → VarintFault (here s rest) (fault (input_end (here s rest)) [] Truncated)
+number_cut s left rest o same is h =
+    subst (λ (z : Option ℕ). VarintFault (given_at s.at z rest) (fault (input_end (given_at s.at z rest)) [] Truncated)) same
+    (subst (λ (z : Option (ℕ × ℕ)). IfNone z (VarintFault (given_at s.at left rest) (fault (input_end (given_at s.at left rest)) [] Truncated))) is h)

@@ -1,0 +1,187 @@
+-- A reader from where it began: the start, more bytes, and the end.
+use Rattle.std.proofs.Common.{◌≡◌, ◌≢◌, ℕ, zero, suc, ◌+◌, ◌-◌, ◌<◌, ◌≤◌, ◌^◌, List, [], ◌++◌, length, refl, sym, ap, ◌∙◌, subst, arith, length-append, inl, inr, Option, Some, None, option_map}
+use Rattle.pb_wire.specs.Record.{Record}
+use Rattle.pb_wire.specs.Ranges.{AreBytes}
+use Rattle.pb_wire.specs.Spell.{AreRecords}
+use Rattle.pb_wire.specs.Sound.{AllSound}
+use Rattle.pb_wire.specs.declared.fault.Cause.TheVariants.{Truncated}
+use Rattle.pb_wire.specs.declared.fault.PathStep.{PathStep}
+use Rattle.pb_wire.specs.Fault.{Fault, fault, Place, Moves, input_end}
+use Rattle.pb_wire.specs.Token.{given_at}
+use Rattle.pb_wire.specs.Schema.{Open, records, context_of}
+use Rattle.pb_wire.specs.Grammar.{Bad, Begins}
+use Rattle.pb_wire.specs.Exact.{IsOver, longer}
+use Rattle.pb_schema.specs.Types.{Types}
+use Rattle.pb_schema.specs.Rules.{IsPool}
+use Rattle.pb_schema.specs.Context.{Context, a_message as in_message, schema_of}
+use Rattle.pb_value.specs.Data.{Message, empty}
+use Rattle.pb_value.specs.Value.{value, value_within}
+use Rattle.pb_value.proofs.MessageSteps.{value_of_nothing}
+use Rattle.pb_value.specs.WellFormed.{IsBody, IsWellFormed}
+use Rattle.pb_decode.specs.declared.step.Step.{Step}
+use Rattle.pb_decode.specs.declared.step.Step.TheVariants as step
+use Rattle.pb_decode.specs.Opened.{Behind}
+use Rattle.pb_decode.specs.Frames.{Part, message_part, Frame, Scope, EndsAt, Held, at_top, Stands}
+use Rattle.pb_decode.specs.After.{After}
+use Rattle.pb_decode.specs.Reader.{State, here, path_here, Reads, IsReading, Stops, over, cut}
+use Rattle.pb_decode.specs.Origin.{Origin, origin, further, TookFrom, IsOverAt, IsWhole, BadFrom}
+use Rattle.pb_decode.proofs.AfterLemmas.{after_record, at_record}
+use Rattle.pb_decode.proofs.FrameLemmas.{stands_at_start}
+use Rattle.pb_decode.proofs.FinishLemmas.{cut_told}
+use Rattle.pb_decode.proofs.WellLemmas.{message_good}
+use Rattle.pb_decode.proofs.PushLemmas.{is_top}
+
+-- MORE BYTES
+
+-- a reader that took some text stands where a step goes on
+pub from_reading : {pool : Types} (o : Origin) (s : State) (held : List ℕ) → s.at + length held < 2 ^ 31 → TookFrom pool o s held → IsReading pool s held
+from_reading o s held small h = record {
+  m = o.kind;
+  depth = o.depth;
+  levels = 101;
+  base = o.base;
+  p0 = o.place;
+  reads = h.reads;
+  small = small;
+}
+
+pub took_further :
+    {pool : Types} (o : Origin) (s t : State) (held rest more : List ℕ) → TookFrom pool o s held → t.at + length rest ≡ s.at + length held + length more
+    → Reads pool o.kind o.depth 101 o.base (longer o.place more) t rest × Stops pool o.kind o.depth (longer o.place more) t rest → TookFrom pool (further o more) t rest
+took_further o s t held rest more h at there = record {
+  reads = there.0;
+  stops = there.1;
+  at = let was = h.at in let joined = length-append o.place.rest more in omega (arith, at, was, joined);
+}
+
+-- THE END
+-- the part is the message, of the type and the levels that it began with
+top_inner :
+    {pool : Types} {m depth levels : ℕ} {base : List Record} {p0 : Place} {now : Part} {o : Open Context} {room inner : ℕ} {path : _} {p : Place} {earlier : List Record}
+    → Held pool m depth levels base p0 [] now o room inner path p earlier → inner ≡ levels
+top_inner (at_top v form is_open is_room is_inner is_path is_place is_base goes_on) = is_inner
+
+-- where nothing is open but the message, one stands behind a whole record of it
+pub stands_over : {pool : Types} (o : Origin) (s : State) (held : List ℕ) → IsOverAt s held → TookFrom pool o s held → Stands pool o.kind o.depth 101 o.base o.place [] s.now s.scope (here s held)
+stands_over {pool} o s held ended h =
+    at_record
+    (subst (λ (z : Step). After pool o.kind o.depth 101 o.base o.place [] z s.now s.scope (here s held)) ended.next
+    (subst (λ (z : List Frame). After pool o.kind o.depth 101 o.base o.place z s.next s.now s.scope (here s held)) ended.frames h.reads))
+
+pub is_message : {pool : Types} (o : Origin) (s : State) (held : List ℕ) → IsOverAt s held → TookFrom pool o s held → (v : Message) × (s.now ≡ message_part o.kind v)
+is_message o s held ended h = is_top refl (stands_over o s held ended h).held
+
+-- whole records lead from the top's first byte to where one stands
+whole_read : (pool : Types) (o : Origin) (k : ℕ) (v : Message) (scope : Scope) (q : Place) → IsOver q → Stands pool o.kind o.depth 101 o.base o.place [] (message_part k v) scope q → IsWhole pool o v
+unfolding value
+whole_read pool o k v scope q ended s = from_held s.held s.behind s.worth
+  where
+    from_held :
+        {a : Open Context} {room inner : ℕ} {path : List PathStep} {p : Place} {earlier rs : List Record}
+        → Held pool o.kind o.depth 101 o.base o.place [] (message_part k v) a room inner path p earlier → Behind (schema_of pool) a room p rs q → v ≡ value_within pool inner k (earlier ++ rs) → IsWhole pool o v
+    from_held {a} {room} {inner} {path} {p} {earlier} {rs} (at_top x form is_open is_room is_inner is_path is_place is_base goes_on) h worth = record {
+      records = rs;
+      front = h.front;
+      after = q;
+      spelled = h.spelled;
+      sound =
+          subst (λ (z : ℕ). AllSound (schema_of pool) (in_message o.kind) z rs) is_room
+          (subst (λ (z : Open Context). AllSound (schema_of pool) (context_of z) room rs) is_open h.sound);
+      moves = subst (λ (z : Place). Moves z h.front q) is_place h.moves;
+      over = ended;
+      valued =
+          worth ∙ ap (λ (z : ℕ). value_within pool z k (earlier ++ rs)) is_inner ∙ ap (λ (z : ℕ). value_within pool 101 z (earlier ++ rs)) form
+          ∙ ap (λ (z : List Record). value_within pool 101 o.kind (z ++ rs)) is_base;
+    }
+
+pub whole_there : {pool : Types} (o : Origin) (s : State) (held : List ℕ) (k : ℕ) (w : Message) → IsOverAt s held → s.now ≡ message_part k w → TookFrom pool o s held → IsWhole pool o w
+whole_there {pool} o s held k w ended is h =
+    whole_read pool o k w s.scope (here s held) ended.over
+    (subst (λ (z : Part). Stands pool o.kind o.depth 101 o.base o.place [] z s.scope (here s held)) is (stands_over o s held ended h))
+
+pub well_formed_over : {pool : Types} (o : Origin) (s : State) (held : List ℕ) (k : ℕ) (w : Message) → IsPool pool → IsOverAt s held → s.now ≡ message_part k w → TookFrom pool o s held → IsWellFormed pool o.kind w
+well_formed_over {pool} o s held k w ok ended is h =
+    let stands : Stands pool o.kind o.depth 101 o.base o.place [] (message_part k w) s.scope (here s held) =
+    subst (λ (z : Part). Stands pool o.kind o.depth 101 o.base o.place [] z s.scope (here s held)) is (stands_over o s held ended h) in
+    let good = message_good ok k w stands in
+    let (v, form) = is_top refl stands.held in
+    let same : k ≡ o.kind = (let e : message_part k w ≡ message_part o.kind v = form in cc) in
+    let inner = top_inner stands.held in
+    let low = good.1 in
+    record { parts = subst (λ (z : ℕ). IsBody pool z w) same good.0; depth = omega (arith, low, inner) }
+
+-- what is begun is cut short
+pub cut_over : {pool : Types} (o : Origin) (s : State) (held : List ℕ) → (IsOverAt s held → ⊥) → TookFrom pool o s held → BadFrom pool o (fault (s.at + length held) (path_here s) Truncated)
+cut_over {pool} o s held begun h = by_stops h.stops
+  where
+    by_stops : Stops pool o.kind o.depth o.place s held → BadFrom pool o (fault (s.at + length held) (path_here s) Truncated)
+    by_stops (cut bad) = bad
+    by_stops (over none tag ended) = absurd (begun (record { frames = none; next = tag; over = ended }))
+
+-- THE START
+-- nothing is taken yet
+unfoldable started : Part → Scope → State
+started v scope = record { at = 0; now = v; scope = scope; frames = []; next = step.Tag }
+
+state_is : (s : State) (v : Part) → s.at ≡ 0 → s.next ≡ step.Tag → s.frames ≡ [] → s.now ≡ v → s ≡ started v s.scope
+unfolding started
+state_is s v at tag none part =
+    ap (λ (z : ℕ). record s { at = z }) at ∙ ap (λ (z : Part). record s { at = 0; now = z }) part ∙ ap (λ (z : List Frame). record s { at = 0; now = v; frames = z }) none
+    ∙ ap (λ (z : Step). record s { at = 0; now = v; frames = []; next = z }) tag
+
+left_at_start : (end : Option ℕ) → option_map (λ (e : ℕ). e - 0) end ≡ end
+left_at_start None = refl
+left_at_start (Some e) = let same : e - 0 ≡ e = omega arith in ap (λ (z : ℕ). Some z) same
+
+ends_at_start : (end : Option ℕ) → EndsAt (given_at 0 end []) end
+ends_at_start None = refl
+ends_at_start (Some e) = (e, refl, omega arith)
+
+-- a message begins unless it ends at once
+begins_there :
+    {pool : Types} {m depth levels : ℕ} {base : List Record} {p0 : Place} {now : Part} {o : Open Context} {room inner : ℕ} {path : List PathStep} {p : Place} {earlier : List Record} (n : ℕ)
+    → Held pool m depth levels base p0 [] now o room inner path p earlier → Begins o (given_at 0 (Some (suc n)) [])
+begins_there n (at_top v form is_open is_room is_inner is_path is_place is_base goes_on) =
+    subst (λ (z : Open Context). Begins z (given_at 0 (Some (suc n)) [])) (sym is_open) ((λ e. let same : Some (suc n) ≡ Some 0 = e in absurd (cc)), (λ e. let same : Some (suc n) ≡ None = e in absurd (cc)))
+
+stops_at_start :
+    {pool : Types} (k depth : ℕ) (base : List Record) (v : Part) (scope : Scope) (end : Option ℕ) → scope.end ≡ end → Stands pool k depth 101 base (given_at 0 end []) [] v scope (given_at 0 end [])
+    → Stops pool k depth (given_at 0 end []) (started v scope) []
+unfolding started
+stops_at_start k depth base v scope None is stands = over refl refl (inr (ap (option_map (λ (e : ℕ). e - 0)) is, refl))
+stops_at_start k depth base v scope (Some zero) is stands = over refl refl (inl (ap (option_map (λ (e : ℕ). e - 0)) is))
+stops_at_start k depth base v scope (Some (suc n)) is stands = cut (cut_told stands (begins_there n stands.held) refl (λ e. let same : Some (suc n) ≡ Some 0 = e in absurd (cc)))
+
+took_started :
+    (pool : Types) (k depth : ℕ) (base : List Record) (end : Option ℕ) (v : Message) (scope : Scope) → scope.room ≡ depth → scope.end ≡ end → ((n : ℕ) → scope.counts n ≡ 0) → depth ≤ 100 → k < length pool.messages
+    → IsWellFormed pool k v → v ≡ value pool k base → TookFrom pool (origin k depth base end) (started (message_part k v) scope) []
+unfolding value started
+took_started pool k depth base end v scope room is_end counts deep within good is = record {
+  reads = subst (λ (z : Place). After pool k depth 101 base (given_at 0 end []) [] step.Tag (message_part k v) scope z) placed (after_record stands);
+  stops = stops_at_start k depth base (message_part k v) scope end is_end stands;
+  at = omega arith;
+}
+  where
+    stands : Stands pool k depth 101 base (given_at 0 end []) [] (message_part k v) scope (given_at 0 end [])
+    stands =
+        stands_at_start pool k depth 101 base (given_at 0 end []) scope v (omega (arith, deep)) is within good.parts (let low = good.depth in omega (arith, low)) tt room counts
+        (subst (EndsAt (given_at 0 end [])) (sym is_end) (ends_at_start end))
+
+    placed : given_at 0 end [] ≡ given_at 0 (option_map (λ (e : ℕ). e - 0) scope.end) []
+    placed = ap (λ (z : Option ℕ). given_at 0 z []) (sym (left_at_start end) ∙ ap (option_map (λ (e : ℕ). e - 0)) (sym is_end))
+
+pub took_origin :
+    (pool : Types) (k depth : ℕ) (base : List Record) (end : Option ℕ) (v : Message) (s : State) (held : List ℕ) → s.at ≡ 0 → s.next ≡ step.Tag → s.frames ≡ [] → s.now ≡ message_part k v → s.scope.room ≡ depth → s.scope.end ≡ end
+    → ((n : ℕ) → s.scope.counts n ≡ 0) → held ≡ [] → depth ≤ 100 → k < length pool.messages → IsWellFormed pool k v → v ≡ value pool k base → TookFrom pool (origin k depth base end) s held
+took_origin pool k depth base end v s held at tag none part room is_end counts empty_held deep within good is =
+    subst (λ (z : State). TookFrom pool (origin k depth base end) z held) (sym (state_is s (message_part k v) at tag none part))
+    (subst (TookFrom pool (origin k depth base end) (started (message_part k v) s.scope)) (sym empty_held) (took_started pool k depth base end v s.scope room is_end counts deep within good is))
+
+-- onto nothing
+pub begun_empty :
+    {pool : Types} (k room depth : ℕ) (end : Option ℕ) (v : Message) (s : State) (held : List ℕ) → v ≡ empty → room ≡ depth → k < length pool.messages
+    → ((p : Types) (base : List Record) → k < length p.messages → IsWellFormed p k v → v ≡ value p k base → TookFrom p (origin k room base end) s held) → TookFrom pool (origin k depth [] end) s held
+unfolding value
+begun_empty {pool} k room depth end v s held none same within begun =
+    subst (λ (d : ℕ). TookFrom pool (origin k d [] end) s held) same
+    (begun pool [] within (subst (IsWellFormed pool k) (sym none) (record { parts = (tt, tt, tt, tt); depth = omega arith })) (none ∙ sym (value_of_nothing pool 101 k)))

@@ -1,0 +1,73 @@
+-- A piece is taken part by part.
+use Rattle.std.proofs.Common.{◌≡◌, ℕ, zero, suc, ◌+◌, ◌-◌, ◌≤◌, ◌<◌, ◌^◌, List, [], ◌∷◌, ◌++◌, take, drop, length, refl, sym, ap, ◌∙◌, subst, arith, append_assoc, length-append, length-drop}
+use Rattle.std.specs.Prelude.{true, ◌==◌}
+use Rattle.std.proofs.lemmas.Bool.{eqb-true}
+use Rattle.std.proofs.lemmas.List.{append-nil, take-append-drop, take_all}
+use Rattle.std.proofs.Math.Seq.{take-add}
+use Rattle.pb_wire.specs.Record.{Record}
+use Rattle.pb_wire.specs.Ranges.{AreBytes}
+use Rattle.pb_wire.specs.Fault.{Fault, Place}
+use Rattle.pb_wire.specs.Exact.{longer}
+use Rattle.pb_wire.proofs.Longer.{bad_longer}
+use Rattle.pb_schema.specs.Types.{Types}
+use Rattle.pb_decode.specs.Reader.{State, Reads, Stops, IsReading, Told}
+use Rattle.pb_decode.proofs.PushLemmas.{reads_more, no_bytes}
+use Rattle.pb_decode.proofs.ReaderLemmas.{slice_from}
+
+-- a fault that is settled is that of every longer text
+pub told_longer : {pool : Types} {m depth : ℕ} {p : Place} (more : List ℕ) (f : Fault) → Told pool m depth p f → Told pool m depth (longer p more) f
+told_longer more f h = record { bad = bad_longer more h.bad h.settled; settled = h.settled }
+
+pub none_held : (n : ℕ) → true ≡ (n == 0) → n ≡ 0
+none_held n h = eqb-true n 0 (sym h)
+
+-- WHAT IS GIVEN part by part
+both_given : (p : Place) (a b c : List ℕ) → a ++ b ≡ c → longer (longer p a) b ≡ longer p c
+both_given p a b c is = ap (λ (z : List ℕ). record p { rest = z }) (append_assoc p.rest a b ∙ ap (λ (z : List ℕ). p.rest ++ z) is)
+
+slice_next : (here more : ℕ) (l : List ℕ) → take here l ++ take ((here + more) - here) (drop here l) ≡ take (here + more) l
+slice_next here more l = let same : (here + more) - here ≡ more = omega arith in ap (λ (n : ℕ). take here l ++ take n (drop here l)) same ∙ sym (take-add here more l)
+
+slice_last : (here : ℕ) (l : List ℕ) → take here l ++ take (length l - here) (drop here l) ≡ l
+slice_last here l = ap (λ (z : List ℕ). take here l ++ z) (slice_from here l) ∙ take-append-drop here l
+
+pub next_given : (p : Place) (here more : ℕ) (l : List ℕ) → longer (longer p (take here l)) (take ((here + more) - here) (drop here l)) ≡ longer p (take (here + more) l)
+next_given p here more l = both_given p (take here l) (take ((here + more) - here) (drop here l)) (take (here + more) l) (slice_next here more l)
+
+pub last_given : (p : Place) (here : ℕ) (l : List ℕ) → longer (longer p (take here l)) (take (length l - here) (drop here l)) ≡ longer p l
+last_given p here l = both_given p (take here l) (take (length l - here) (drop here l)) l (slice_last here l)
+
+pub none_given : (p : Place) → p ≡ longer p []
+none_given p = ap (λ (z : List ℕ). record p { rest = z }) (sym (append-nil p.rest))
+
+pub all_given : (p : Place) (here : ℕ) (l : List ℕ) → here ≡ length l → longer p (take here l) ≡ longer p l
+all_given p here l is = ap (λ (z : List ℕ). record p { rest = p.rest ++ z }) (take_all here l (omega (arith, is)))
+
+-- THE REST OF A PIECE, with nothing held
+pub reads_rest :
+    {pool : Types} {m depth levels : ℕ} {base : List Record} {p : Place} (s : State) (held rest : List ℕ) → length held ≡ 0 → AreBytes rest
+    → Reads pool m depth levels base p s held → Reads pool m depth levels base (longer p rest) s rest
+reads_rest {pool} {m} {depth} {levels} {base} {p} s held rest none bytes h =
+    subst (λ (z : List ℕ). Reads pool m depth levels base (longer p rest) s (z ++ rest)) (no_bytes held none) (reads_more s held rest bytes h)
+
+-- the bytes of a part of a piece
+pub part_bytes : (n m : ℕ) (l : List ℕ) → AreBytes l → AreBytes (take n (drop m l))
+part_bytes n m l h = first n (drop m l) (others m l h)
+  where
+    others : (m : ℕ) (l : List ℕ) → AreBytes l → AreBytes (drop m l)
+    others zero l h = h
+    others (suc m) [] h = h
+    others (suc m) (x ∷ l) h = others m l h.1
+
+    first : (n : ℕ) (l : List ℕ) → AreBytes l → AreBytes (take n l)
+    first zero l h = tt
+    first (suc n) [] h = tt
+    first (suc n) (x ∷ l) h = (h.0, first n l h.1)
+
+-- what is told of a part is told of the whole piece
+pub told_on :
+    {pool : Types} {m depth : ℕ} (p : Place) (here more : ℕ) (l : List ℕ) (f : Fault) → Told pool m depth (longer (longer p (take here l)) (take ((here + more) - here) (drop here l))) f
+    → Told pool m depth (longer p l) f
+told_on {pool} {m} {depth} p here more l f h =
+    subst (λ (z : Place). Told pool m depth z f) (both_given p (take (here + more) l) (drop (here + more) l) l (take-append-drop (here + more) l))
+    (told_longer (drop (here + more) l) f (subst (λ (z : Place). Told pool m depth z f) (next_given p here more l) h))

@@ -1,0 +1,121 @@
+-- Whole records, taken where a reader stands.
+use Rattle.std.proofs.Common.{◌≡◌, ◌⊎◌, inl, inr, ℕ, ◌+◌, ◌-◌, ◌≤◌, List, take, drop, length, refl, sym, ap, ◌∙◌, subst, arith, drop-drop, length-drop, Option, Some, None, option_map, IfSome}
+use Rattle.std.specs.Prelude.{true}
+use Rattle.std.proofs.lemmas.Bool.{false≢true}
+use Rattle.pb_wire.specs.Record.{Record}
+use Rattle.pb_wire.specs.Fault.{Place, Moves, Reads as ReadsNumber, HasTag, HasLength}
+use Rattle.pb_wire.specs.Token.{given_at, passed}
+use Rattle.pb_wire.proofs.TokenLemmas.{moves_passed}
+use Rattle.pb_schema.specs.Types.{Types}
+use Rattle.pb_schema.specs.Rules.{IsPool}
+use Rattle.pb_decode.specs.declared.purpose.Purpose.{Purpose}
+use Rattle.pb_decode.specs.declared.purpose.Purpose.TheVariants as purpose
+use Rattle.pb_decode.specs.declared.step.Step.{Step}
+use Rattle.pb_decode.specs.declared.step.Step.TheVariants as step
+use Rattle.pb_decode.specs.PayloadValue.{IsBytesPurpose}
+use Rattle.pb_decode.specs.Purposes.{Means, part_context}
+use Rattle.pb_decode.specs.Frames.{Part, CanHold, Scope, Frame, EndsAt, Stands}
+use Rattle.pb_decode.specs.After.{tag, awaited, goes_down, After}
+use Rattle.pb_decode.specs.Reader.{State, here, Reads}
+use Rattle.pb_decode.proofs.FrameLemmas.{ends_along}
+use Rattle.pb_decode.proofs.AfterLemmas.{after_tag, after_length}
+use Rattle.pb_decode.proofs.DeepLemmas.{reads_below}
+use Rattle.pb_decode.proofs.EndedLemmas.{standing}
+use Rattle.pb_decode.proofs.FewRecords.{counts_fit}
+use Rattle.pb_decode.proofs.WellLemmas.{can_hold}
+use Rattle.pb_decode.proofs.ReaderLemmas.{slice_from}
+
+-- WHAT IS TOLD of the number at the front of some bytes
+pub front_there :
+    (at : ℕ) (left : Option ℕ) (rest : List ℕ) (o : Option (ℕ × ℕ)) (n size : ℕ) → o ≡ Some (n, size)
+    → IfSome o (λ t. (t.1 ≤ length rest) × ReadsNumber (given_at at left rest) t.0 (passed (given_at at left rest) t.1)) → (size ≤ length rest) × ReadsNumber (given_at at left rest) n (passed (given_at at left rest) size)
+front_there at left rest o n size is h =
+    subst (λ (z : Option (ℕ × ℕ)). IfSome z (λ t. (t.1 ≤ length rest) × ReadsNumber (given_at at left rest) t.0 (passed (given_at at left rest) t.1))) is h
+
+-- behind two numbers one stands behind the bytes of both
+known_twice : (e : Option ℕ) (a b : ℕ) → option_map (λ (z : ℕ). z - b) (option_map (λ (z : ℕ). z - a) e) ≡ option_map (λ (z : ℕ). z - (a + b)) e
+known_twice None a b = refl
+known_twice (Some e) a b = let same : (e - a) - b ≡ e - (a + b) = omega arith in ap (λ (z : ℕ). Some z) same
+
+pub passed_twice : (p : Place) (a b : ℕ) → passed (passed p a) b ≡ passed p (a + b)
+passed_twice p a b =
+    let at : (p.at + a) + b ≡ p.at + (a + b) = omega arith in
+    ap (λ (z : Option ℕ). record { at = (p.at + a) + b; known = z; rest = drop b (drop a p.rest) }) (known_twice p.known a b)
+    ∙ ap (λ (z : ℕ). record { at = z; known = option_map (λ (e : ℕ). e - (a + b)) p.known; rest = drop b (drop a p.rest) }) at
+    ∙ ap (λ (z : List ℕ). record { at = p.at + (a + b); known = option_map (λ (e : ℕ). e - (a + b)) p.known; rest = z }) (drop-drop b a p.rest)
+
+-- WHAT STANDS at the front of the bytes behind stands behind
+pub there_behind :
+    (P : Place → Place → Type 0) (at : ℕ) (left behind : Option ℕ) (rest : List ℕ) (used more : ℕ) → behind ≡ option_map (λ (e : ℕ). e - used) left
+    → P (given_at (at + used) behind (take (length rest - used) (drop used rest))) (passed (given_at (at + used) behind (take (length rest - used) (drop used rest))) more)
+    → P (passed (given_at at left rest) used) (passed (given_at at left rest) (used + more))
+there_behind P at left behind rest used more is h =
+    subst (P (passed (given_at at left rest) used)) (passed_twice (given_at at left rest) used more)
+    (subst (λ (z : Option ℕ). P (given_at (at + used) z (drop used rest)) (passed (given_at (at + used) z (drop used rest)) more)) is
+    (subst (λ (z : List ℕ). P (given_at (at + used) behind z) (passed (given_at (at + used) behind z) more)) (slice_from used rest) h))
+
+-- BEHIND A WHOLE RECORD, where a tag may come
+pub tag_stands :
+    {pool : Types} {m depth levels : ℕ} {base : List Record} {p0 : Place} (s : State) (rest : List ℕ) → Reads pool m depth levels base p0 s rest → s.next ≡ step.Tag → Stands pool m depth levels base p0 s.frames s.now s.scope (here s rest)
+tag_stands s rest begun tag = standing s rest s.frames s.now begun tag refl refl
+
+pub tag_can : {pool : Types} {m depth levels : ℕ} {base : List Record} {p0 : Place} (s : State) (rest : List ℕ) → IsPool pool → Reads pool m depth levels base p0 s rest → s.next ≡ step.Tag → CanHold pool s.now
+tag_can s rest ok begun tag = can_hold ok s.now (tag_stands s rest begun tag)
+
+pub tag_few : {pool : Types} {m depth levels : ℕ} {base : List Record} {p0 : Place} (s : State) (rest : List ℕ) (k : ℕ) → Reads pool m depth levels base p0 s rest → s.next ≡ step.Tag → s.scope.counts k ≤ s.at
+tag_few s rest k begun tag = counts_fit k (tag_stands s rest begun tag)
+
+-- A TAG of a record that opens nothing: its value or its length comes next
+pub tag_next :
+    {pool : Types} {m depth levels : ℕ} {base : List Record} {p0 : Place} {frames : List Frame} {scope : Scope} {now : Part} {q u : Place} (next : Step) (k w : ℕ) (meant : Purpose)
+    → Stands pool m depth levels base p0 frames now scope q → awaited next ≡ Some (tag k w meant) → HasTag q k w u → Means pool (part_context now) k w meant → (goes_down meant ≡ true → ⊥) → After pool m depth levels base p0 frames next now scope u
+tag_next next k w meant s is has means stays = after_tag next (tag k w meant) s is has means (λ deep. absurd (stays deep))
+
+pub number_stays : (pool : Types) (now : Part) (k w : ℕ) (meant : Purpose) → Means pool (part_context now) k w meant → ((w ≡ 0) ⊎ (w ≡ 1) ⊎ (w ≡ 5)) → goes_down meant ≡ true → ⊥
+number_stays pool now k w meant means type deep = let two : w ≡ 2 = (reads_below pool now k w meant means deep).0 in by_type type two
+  where
+    by_type : ((w ≡ 0) ⊎ (w ≡ 1) ⊎ (w ≡ 5)) → w ≡ 2 → ⊥
+    by_type (inl e) two = absurd (omega (arith, e, two))
+    by_type (inr (inl e)) two = absurd (omega (arith, e, two))
+    by_type (inr (inr e)) two = absurd (omega (arith, e, two))
+
+pub bytes_stay : (meant : Purpose) → IsBytesPurpose meant → goes_down meant ≡ true → ⊥
+bytes_stay (purpose.One k s) bytes deep = false≢true deep
+bytes_stay (purpose.Element k) bytes deep = false≢true deep
+bytes_stay (purpose.Key k) bytes deep = false≢true deep
+bytes_stay (purpose.EntryValue k) bytes deep = false≢true deep
+bytes_stay purpose.Unknown bytes deep = false≢true deep
+bytes_stay (purpose.Packed k) bytes deep = bytes
+bytes_stay (purpose.Message j s) bytes deep = bytes
+bytes_stay (purpose.Entry key k) bytes deep = bytes
+
+-- behind the tag of a number
+pub number_next :
+    {pool : Types} {m depth levels : ℕ} {base : List Record} {p0 : Place} {frames : List Frame} {scope : Scope} {now : Part} {q u : Place} (k w : ℕ) (meant : Purpose) → ((w ≡ 0) ⊎ (w ≡ 1) ⊎ (w ≡ 5))
+    → Stands pool m depth levels base p0 frames now scope q → HasTag q k w u → Means pool (part_context now) k w meant → (next : Step) × (awaited next ≡ Some (tag k w meant)) × After pool m depth levels base p0 frames next now scope u
+number_next {pool} {m} {depth} {levels} {base} {p0} {frames} {scope} {now} {q} {u} k w meant type s has means = by_type type
+  where
+    by_step : (next : Step) → awaited next ≡ Some (tag k w meant) → (next : Step) × (awaited next ≡ Some (tag k w meant)) × After pool m depth levels base p0 frames next now scope u
+    by_step next is = (next, is, tag_next next k w meant s is has means (number_stays pool now k w meant means type))
+
+    by_type : ((w ≡ 0) ⊎ (w ≡ 1) ⊎ (w ≡ 5)) → (next : Step) × (awaited next ≡ Some (tag k w meant)) × After pool m depth levels base p0 frames next now scope u
+    by_type (inl e) = by_step (step.Varint k meant) (ap (λ (z : ℕ). Some (tag k z meant)) (sym e))
+    by_type (inr (inl e)) = by_step (step.I64 k meant) (ap (λ (z : ℕ). Some (tag k z meant)) (sym e))
+    by_type (inr (inr e)) = by_step (step.I32 k meant) (ap (λ (z : ℕ). Some (tag k z meant)) (sym e))
+
+-- A PAYLOAD of bytes behind its tag and its length
+pub payload_ends :
+    {pool : Types} {m depth levels : ℕ} {base : List Record} {p0 : Place} {u t : Place} {k w n : ℕ} (s : State) (rest : List ℕ) → Reads pool m depth levels base p0 s rest → HasTag (here s rest) k w u → ReadsNumber u n t → EndsAt t s.scope.end
+payload_ends s rest begun has h = ends_along h.0 s.scope.end h.2 (ends_along has.tag.0 s.scope.end has.tag.2 begun.ends)
+
+pub bytes_next :
+    {pool : Types} {m depth levels : ℕ} {base : List Record} {p0 : Place} {frames : List Frame} {scope : Scope} {now : Part} {q u t : Place} (k n : ℕ) (meant : Purpose)
+    → Stands pool m depth levels base p0 frames now scope q → HasTag q k 2 u → Means pool (part_context now) k 2 meant → IsBytesPurpose meant → HasLength u n t → After pool m depth levels base p0 frames (step.Payload k meant n) now scope t
+bytes_next k n meant s has means bytes l = after_length k meant n (tag_next (step.Length k meant) k 2 meant s refl has means (bytes_stay meant bytes)) refl bytes l
+
+pub payload_leads : (p : Place) (start size : ℕ) (u : Place) → start + size ≤ length p.rest → HasLength u size (passed p start) → Moves (passed p start) (take ((start + size) - start) (drop start p.rest)) (passed p (start + size))
+payload_leads p start size u within l =
+    let same : (start + size) - start ≡ size = omega arith in
+    let left = length-drop start p.rest in
+    subst (λ (z : ℕ). Moves (passed p start) (take z (drop start p.rest)) (passed p (start + size))) (sym same)
+    (subst (Moves (passed p start) (take size (drop start p.rest))) (passed_twice p start size) (moves_passed (passed p start) size (omega (arith, within, left)) l.within))

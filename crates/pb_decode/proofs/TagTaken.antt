@@ -1,0 +1,134 @@
+-- A tag, or the end of the input, where a reader stands behind a whole record.
+use Rattle.std.proofs.Common.{◌≡◌, ◌≢◌, ℕ, zero, suc, ◌+◌, ◌-◌, ◌<◌, ◌≤◌, List, [], ◌∷◌, ◌++◌, length, refl, sym, ap, ◌∙◌, subst, arith, append-nil, inl, inr, ◌⊎◌, Option, Some, None, option_map}
+use Rattle.std.specs.Prelude.{IfSome, IfNone}
+use Rattle.pb_wire.specs.Record.{Record}
+use Rattle.pb_wire.specs.declared.fault.Cause.{Cause}
+use Rattle.pb_wire.specs.declared.fault.Cause.TheVariants.{Truncated}
+use Rattle.pb_wire.specs.declared.fault.PathStep.{PathStep}
+use Rattle.pb_wire.specs.Fault.{fault, Place, input_end, Reads as HasNumber, TagFault, VarintFault}
+use Rattle.pb_wire.specs.Token.{given_at, passed}
+use Rattle.pb_wire.proofs.Tokens.{ends_some}
+use Rattle.pb_wire.specs.Schema.{Open, records, in_group}
+use Rattle.pb_wire.specs.Grammar.{Bad, RecordFault, Begins}
+use Rattle.pb_schema.specs.Types.{Types}
+use Rattle.pb_schema.specs.Context.{Context, a_message as in_message, schema_of}
+use Rattle.pb_decode.specs.declared.step.Step.{Step}
+use Rattle.pb_decode.specs.declared.step.Step.TheVariants as step
+use Rattle.pb_decode.specs.Opened.{Begun}
+use Rattle.pb_decode.specs.Opened as opened
+use Rattle.pb_decode.specs.Frames.{Part, Scope, Frame, path_of, Held, inside, Stands}
+use Rattle.pb_decode.specs.Reader.{State, left_of, here, own_step, path_here, weight, Reads, Stops, over, cut, Told}
+use Rattle.pb_decode.specs.Ended.{NothingEnds, GoesOn}
+use Rattle.pb_decode.proofs.OpenedLemmas.{cut_at_end}
+use Rattle.pb_decode.proofs.AfterLemmas.{told_here}
+use Rattle.pb_decode.proofs.EndedLemmas.{standing}
+
+-- A STEP weighs at most as much as half a byte
+pub light : (s : Step) → weight s ≤ 1
+light step.Tag = omega arith
+light (step.Varint n p) = omega arith
+light (step.I64 n p) = omega arith
+light (step.I32 n p) = omega arith
+light (step.Length n p) = omega arith
+light (step.Payload n p size) = omega arith
+light (step.Elements n k outer) = omega arith
+
+-- A NUMBER has a byte at least
+pub number_long : {n : ℕ} (p : Place) (size : ℕ) → HasNumber p n (passed p size) → 0 < size
+number_long p size h = let some = ends_some h.0 h.1.ends in let at = h.2.at in omega (arith, some, at)
+
+-- THE NUMBER AT THE FRONT, with so many bytes before the known end
+pub front_whole :
+    (at : ℕ) (e f : Option ℕ) (rest : List ℕ) (o : Option (ℕ × ℕ)) (n size : ℕ) → o ≡ Some (n, size) → e ≡ f → IfSome o (λ t. (t.1 ≤ length rest) × HasNumber (given_at at e rest) t.0 (passed (given_at at e rest) t.1))
+    → (size ≤ length rest) × HasNumber (given_at at f rest) n (passed (given_at at f rest) size)
+front_whole at e f rest o n size is same h =
+    subst (λ (z : Option ℕ). (size ≤ length rest) × HasNumber (given_at at z rest) n (passed (given_at at z rest) size)) same
+    (subst (λ (z : Option (ℕ × ℕ)). IfSome z (λ t. (t.1 ≤ length rest) × HasNumber (given_at at e rest) t.0 (passed (given_at at e rest) t.1))) is h)
+
+pub front_short :
+    (at : ℕ) (e f : Option ℕ) (rest : List ℕ) (o : Option (ℕ × ℕ)) → o ≡ None → e ≡ f → IfNone o (VarintFault (given_at at e rest) (fault (input_end (given_at at e rest)) [] Truncated))
+    → VarintFault (given_at at f rest) (fault (input_end (given_at at f rest)) [] Truncated)
+front_short at e f rest o is same h =
+    subst (λ (z : Option ℕ). VarintFault (given_at at z rest) (fault (input_end (given_at at z rest)) [] Truncated)) same
+    (subst (λ (z : Option (ℕ × ℕ)). IfNone z (VarintFault (given_at at e rest) (fault (input_end (given_at at e rest)) [] Truncated))) is h)
+
+-- WHERE A RECORD BEGINS: what is open inside something else has a known end, or ends by a tag
+begun_known : (pool : Types) {a o : Open Context} {room below k : ℕ} {q u : Place} (c : Context) → Begun (schema_of pool) a room k q o below u → o ≡ records c → u.known ≡ None → ⊥
+begun_known pool c (opened.a_message {n = n} levels has re l is_open is_place) is none = let never : Some n ≡ None = sym (ap (λ (z : Place). z.known) is_place) ∙ none in cc
+begun_known pool c (opened.a_value {n = n} levels has re l is_open is_place) is none = let never : Some n ≡ None = sym (ap (λ (z : Place). z.known) is_place) ∙ none in cc
+begun_known pool c (opened.a_group levels has is_open is_place) is none = let never = sym is_open ∙ is in cc
+
+held_known :
+    {pool : Types} {m depth levels : ℕ} {base : List Record} {p0 : Place} {frame : Frame} {frames : List Frame} {now : Part} {o : Open Context} {room inner : ℕ} {path : List PathStep} {p : Place} {earlier : List Record} (c : Context)
+    → Held pool m depth levels base p0 (frame ∷ frames) now o room inner path p earlier → o ≡ records c → p.known ≡ None → ⊥
+held_known {pool} c (inside up h begun form can deep completes is_path counts ends goes_on takes) is none = begun_known pool c begun is none
+
+still_none : (front : ℕ) (e f : Option ℕ) → f ≡ option_map (λ (z : ℕ). z - front) e → f ≡ None → e ≡ None
+still_none front None f is none = refl
+still_none front (Some n) f is none = absurd (let never : Some (n - front) ≡ None = sym is ∙ none in cc)
+
+begins_inside :
+    {pool : Types} {m depth levels : ℕ} {base : List Record} {p0 : Place} {scope : Scope} {now : Part} {q : Place} (frames : List Frame) (s : Stands pool m depth levels base p0 frames now scope q) → (frames ≡ [] → q.known ≢ None) → q.known ≢ Some 0 → Begins s.open_now q
+begins_inside {pool} {m} {depth} {levels} {base} {p0} {scope} {now} {q} frames s top open_end = by_open s.open_now refl
+  where
+    by_frames : (c : Context) (fs : List Frame) → frames ≡ fs → s.open_now ≡ records c → q.known ≡ None → ⊥
+    by_frames c [] is is_open none = top is none
+    by_frames c (f ∷ fs) is is_open none =
+        held_known c (subst (λ (z : List Frame). Held pool m depth levels base p0 z now s.open_now scope.room s.inner s.path s.begin s.earlier) is s.held) is_open (still_none (length s.behind.front) s.begin.known q.known s.behind.moves.known none)
+
+    by_open : (o : Open Context) → s.open_now ≡ o → Begins o q
+    by_open (records c) is = (open_end, λ none e. by_frames c frames refl is none)
+    by_open (in_group k c) is = open_end
+
+begins_here : (o : Open Context) (q : Place) → q.known ≢ Some 0 → q.rest ≢ [] → Begins o q
+begins_here (records c) q open_end some = (open_end, λ none. some)
+begins_here (in_group k c) q open_end some = open_end
+
+-- AT A TAG the path is that of the part
+pub path_at_tag : (s : State) → s.next ≡ step.Tag → path_of s.frames ≡ path_here s
+path_at_tag s tag = sym (append-nil (path_of s.frames)) ∙ ap (λ (z : Step). path_of s.frames ++ own_step z s.scope) (sym tag)
+
+pub refused_at_tag :
+    {pool : Types} {m depth : ℕ} {p0 : Place} (s : State) (c : Cause) → s.next ≡ step.Tag → c ≢ Truncated → Bad (schema_of pool) (records (in_message m)) depth p0 (fault s.at (path_of s.frames) c) → Told pool m depth p0 (fault s.at (path_here s) c)
+refused_at_tag {pool} {m} {depth} {p0} s c tag settled bad = record { bad = subst (λ (z : List PathStep). Bad (schema_of pool) (records (in_message m)) depth p0 (fault s.at z c)) (path_at_tag s tag) bad; settled = settled }
+
+-- THE INPUT ENDS TOO EARLY
+cut_here :
+    {pool : Types} {m depth levels : ℕ} {base : List Record} {p0 : Place} (s : State) (rest : List ℕ) → s.next ≡ step.Tag → (h : Stands pool m depth levels base p0 s.frames s.now s.scope (here s rest)) → Begins h.open_now (here s rest)
+    → RecordFault (schema_of pool) h.open_now h.records_so_far s.scope.room (here s rest) (fault (input_end (here s rest)) [] Truncated) → Stops pool m depth p0 s rest
+cut_here {pool} {m} {depth} {p0 = p0} s rest tag h goes bad =
+    cut (subst (λ (z : Step). Bad (schema_of pool) (records (in_message m)) depth p0 (fault (s.at + length rest) (path_of s.frames ++ own_step z s.scope) Truncated)) (sym tag)
+    (told_here (fault (input_end (here s rest)) [] Truncated) h goes bad))
+
+-- inside a tag
+pub tag_short :
+    {pool : Types} {m depth levels : ℕ} {base : List Record} {p0 : Place} (s : State) (rest : List ℕ) → Reads pool m depth levels base p0 s rest → s.next ≡ step.Tag → left_of s ≢ Some 0 → rest ≢ []
+    → VarintFault (here s rest) (fault (input_end (here s rest)) [] Truncated) → Stops pool m depth p0 s rest
+tag_short s rest begun tag open_end some bad =
+    let h = standing s rest s.frames s.now begun tag refl refl in
+    cut_here s rest tag h (begins_here h.open_now (here s rest) open_end some) (RecordFault.tag (TagFault.token bad))
+
+-- NOTHING IS LEFT: at the top that is the end, unless a known end is still to come
+pub stops_at_tag :
+    {pool : Types} {m depth levels : ℕ} {base : List Record} {p0 : Place} (s : State) (rest : List ℕ) → Reads pool m depth levels base p0 s rest → s.next ≡ step.Tag → NothingEnds s → (rest ≡ []) ⊎ (left_of s ≡ Some 0) → Stops pool m depth p0 s rest
+stops_at_tag {pool} {m} {depth} {levels} {base} {p0} s rest begun tag goes_on nothing = by_end (left_of s) refl nothing
+  where
+    h : Stands pool m depth levels base p0 s.frames s.now s.scope (here s rest)
+    h = standing s rest s.frames s.now begun tag refl refl
+
+    cut_off : rest ≡ [] → (s.frames ≡ [] → left_of s ≢ None) → left_of s ≢ Some 0 → Stops pool m depth p0 s rest
+    cut_off none top open_end = cut_here s rest tag h (begins_inside s.frames h top open_end) (cut_at_end none open_end)
+
+    ended : (s.frames ≡ []) ⊎ (left_of s ≢ Some 0) → left_of s ≡ Some 0 → Stops pool m depth p0 s rest
+    ended (inl top) end = over top tag (inl end)
+    ended (inr open_end) end = absurd (open_end end)
+
+    by_frames : (fs : List Frame) → s.frames ≡ fs → rest ≡ [] → left_of s ≡ None → Stops pool m depth p0 s rest
+    by_frames [] is none endless = over is tag (inr (endless, none))
+    by_frames (f ∷ fs) is none endless = cut_off none (λ top. absurd (let never : f ∷ fs ≡ [] = sym is ∙ top in cc)) (λ end. let never : None ≡ Some 0 = sym endless ∙ end in cc)
+
+    by_end : (e : Option ℕ) → left_of s ≡ e → (rest ≡ []) ⊎ (left_of s ≡ Some 0) → Stops pool m depth p0 s rest
+    by_end e is (inr end) = ended (subst (λ (z : Step). GoesOn z s.frames (left_of s)) tag goes_on) end
+    by_end None is (inl none) = by_frames s.frames refl none is
+    by_end (Some zero) is (inl none) = ended (subst (λ (z : Step). GoesOn z s.frames (left_of s)) tag goes_on) is
+    by_end (Some (suc n)) is (inl none) = cut_off none (λ top endless. let never : Some (suc n) ≡ None = sym is ∙ endless in cc) (λ end. let never : Some (suc n) ≡ Some 0 = sym is ∙ end in cc)

@@ -1,0 +1,29 @@
+-- The group that the tag ends is the innermost one, or the tag is refused.
+use Rattle.std.proofs.Common.{◌≡◌, List, Some, refl, sym, ap, ◌∙◌}
+use Rattle.pb_wire.specs.Fault.{fault}
+use Rattle.pb_wire.specs.Token.{passed}
+use Rattle.pb_decode.specs.declared.part.Frame.{Frame}
+use Rattle.pb_decode.specs.Openings.{innermost_number}
+use Rattle.pb_decode.specs.PartView.{part_view, scope_view}
+use Rattle.pb_decode.specs.Reader.{state_view, frames_view, here, path_here}
+use Rattle.pb_decode.proofs.ReaderLemmas.{fault_told}
+use Rattle.pb_decode.proofs.EndedLemmas.{standing}
+use Rattle.pb_decode.proofs.TagTaken.{refused_at_tag}
+use Rattle.pb_decode.proofs.take_tag.pass_group_end.Goals as goal
+
+pub returns-in_ok-next-in-Ok-clause-reads : goal.returns-in_ok-next-in-Ok-clause-reads
+returns-in_ok-next-in-Ok-clause-reads c =
+    λ pool m depth levels base p0 rest begun has.
+    let ends = c.in-Ok.ensures.ends refl in
+    let inner : innermost_number (frames_view c.args.reader.frames.items) ≡ Some c.args.number =
+    ap (λ (z : List Frame). innermost_number (frames_view z)) (sym c.deref.ensures.value) ∙ sym c.innermost.ensures ∙ ends.1 in
+    c.in_ok-next-in-Ok.ensures.reads pool m depth levels c.args.number base p0 rest begun inner has
+
+pub returns-in-Err-clause-refused : goal.returns-in-Err-clause-refused
+returns-in-Err-clause-refused c =
+    λ pool m depth levels base p0 rest begun has.
+    fault_told c.fault_at.result (fault c.args.reader.at (path_here (state_view c.args.reader)) c.in-Err.cause) c.fault_at.ensures
+    (refused_at_tag (state_view c.args.reader) c.in-Err.cause c.requires.step c.in-Err.ensures.settled
+    (c.in-Err.ensures.refused pool m depth levels base p0 (here (state_view c.args.reader) rest) (passed (here (state_view c.args.reader) rest) c.args.size) (frames_view c.args.reader.frames.items) (scope_view c.args.reader.scope)
+    (standing (state_view c.args.reader) rest (frames_view c.args.reader.frames.items) (part_view c.args.reader.part) begun c.requires.step refl refl)
+    (c.innermost.ensures ∙ ap (λ (z : List Frame). innermost_number (frames_view z)) c.deref.ensures.value) has))

@@ -1,0 +1,195 @@
+//! Reading the bytes of an input in pieces.
+
+ghost use Rattle.std.specs.Prelude.{◌≡◌, ◌≢◌, ◌⊎◌, true, false, ◌+◌, ◌<◌, ◌≤◌, ◌^◌, ℕ, List, [], length, None, Some, Err, IfOk, IfErr, OnOk, IfSome, IsErrAnd, MatchResult};
+ghost use Rattle.std.specs.Io.KnownBytes.{Consumes, IsAtEnd};
+ghost use Rattle.pb_wire.specs.Record.{Record};
+ghost use Rattle.pb_wire.specs.Fault.{Fault};
+ghost use Rattle.pb_wire.specs.Grammar.{HasFault};
+ghost use Rattle.pb_schema.specs.Rules.{IsPool};
+ghost use Rattle.pb_schema.specs.Context.{a_message, schema_of};
+ghost use Rattle.pb_value.specs.Data.{Message};
+ghost use Rattle.pb_value.specs.Derives.{Text};
+ghost use Rattle.pb_decode.specs.declared.error.DecodeError.TheVariants.{Device};
+ghost use Rattle.pb_decode.specs.Reader.{state_view};
+ghost use Rattle.pb_decode.specs.Origin.{Origin, origin, TookFrom};
+ghost use Rattle.pb_decode.specs.FromDevice.{IfRefused, IsNoFault, TellsFailures, TakesAtMost, ReadsOn, ToldOf};
+
+use crate::error::DecodeError;
+use crate::fault::too_large;
+use crate::origin::{begin_empty, finish_message, take_onward};
+use crate::push::Reading;
+use pb_schema::{MessageId, Pool};
+use pb_value::DynamicMessage;
+use pb_wire::{Input, Limits};
+use std::alloc::Global;
+
+/// How many bytes are asked of an input at once.
+const PIECE: usize = 4096;
+
+/// Takes a piece that the input gives into the buffer, and tells how many bytes it gave.
+fn read_piece<I: Input>(
+    alloc: Global,
+    pool: &Pool,
+    reading: Reading,
+    input: &mut I,
+    buffer: &mut [u8],
+) -> Result<(Reading, usize), DecodeError>
+    requires rules { IsPool pool.now }
+    requires took { (o : Origin) × TookFrom pool.now o (state_view reading.reader) reading.held.items }
+    requires small { reading.reader.at + length reading.held.items + length buffer.old < 2 ^ 31 }
+    ensures count { IfOk result (λ r. r.1 ≤ length buffer.old) }
+    ensures read { IfOk result (λ r. ReadsOn pool.now reading r.0 (I.left input.old) (I.left input.new) r.1) }
+    ensures ends { IfOk result (λ r. r.1 ≡ 0 → 0 < length buffer.old → IsAtEnd (I.left input.new)) }
+    ensures fault { (o : Origin) → TookFrom pool.now o (state_view reading.reader) reading.held.items → IfErr result (λ e. IfRefused e (ToldOf pool.now o (I.left input.old) (I.left input.new) (length buffer.old))) }
+    ensures most { TakesAtMost (length buffer.old) (I.left input.old) (I.left input.new) }
+    ensures failures { TellsFailures result (I.failures input.old) (I.failures input.new) }
+    ensures steady { I.is_steady input.old ≡ true → result ≢ Err Device }
+    ensures stays { I.is_steady input.old ≡ true → I.is_steady input.new ≡ true }
+{
+    let Ok(count) = input.read(buffer) else {
+        return Err(DecodeError::Device);
+    };
+    let next = take_onward(alloc, pool, reading, &buffer[..count])?;
+    Ok((next, count))
+}
+
+/// Takes what the input gives up to its end, but at most `most` bytes, and tells how many bytes it gave.
+pub(crate) fn read_pieces<I: Input>(
+    alloc: Global,
+    pool: &Pool,
+    reading: Reading,
+    input: &mut I,
+    most: usize,
+) -> Result<(Reading, usize), DecodeError>
+    requires rules { IsPool pool.now }
+    requires took { (o : Origin) × TookFrom pool.now o (state_view reading.reader) reading.held.items }
+    requires small { reading.reader.at + length reading.held.items + most < 2 ^ 31 }
+    ensures count { IfOk result (λ r. r.1 ≤ most) }
+    ensures read { IfOk result (λ r. ReadsOn pool.now reading r.0 (I.left input.old) (I.left input.new) r.1) }
+    ensures ends { IfOk result (λ r. (r.1 ≡ most) ⊎ IsAtEnd (I.left input.new)) }
+    ensures fault { (o : Origin) → TookFrom pool.now o (state_view reading.reader) reading.held.items → IfErr result (λ e. IfRefused e (ToldOf pool.now o (I.left input.old) (I.left input.new) most)) }
+    ensures taken { TakesAtMost most (I.left input.old) (I.left input.new) }
+    ensures failures { TellsFailures result (I.failures input.old) (I.failures input.new) }
+    ensures steady { I.is_steady input.old ≡ true → result ≢ Err Device }
+    ensures stays { I.is_steady input.old ≡ true → I.is_steady input.new ≡ true }
+{
+    let mut buffer = [0u8; PIECE];
+    let mut reading = reading;
+    let mut taken = 0;
+    'reading: while taken < most {
+        let room = buffer.len().min(most - taken);
+        let (next, count) = read_piece(alloc, pool, reading, input, &mut buffer[..room])?;
+        reading = next;
+        if count == 0 {
+            return Ok((reading, taken));
+        }
+        taken += count;
+    }
+    Ok((reading, taken))
+}
+
+/// Asks the input for one more byte, and says whether there was one.
+fn has_byte<I: Input>(input: &mut I) -> Result<bool, DecodeError>
+    ensures some { IfOk result (λ more. more ≡ true → (bytes : List ℕ) × (length bytes ≡ 1) × Consumes (I.left input.old) (I.left input.new) bytes) }
+    ensures none { IfOk result (λ more. more ≡ false → Consumes (I.left input.old) (I.left input.new) [] × IsAtEnd (I.left input.new)) }
+    ensures error { IfErr result (λ e. e ≡ Device) }
+    ensures most { TakesAtMost 1 (I.left input.old) (I.left input.new) }
+    ensures failures { TellsFailures result (I.failures input.old) (I.failures input.new) }
+    ensures steady { I.is_steady input.old ≡ true → result ≢ Err Device }
+    ensures stays { I.is_steady input.old ≡ true → I.is_steady input.new ≡ true }
+{
+    let mut byte = [0u8; 1];
+    let Ok(count) = input.read(&mut byte) else {
+        return Err(DecodeError::Device);
+    };
+    if count == 0 {
+        return Ok(false);
+    }
+    Ok(true)
+}
+
+/// Takes what the input gives up to its end. Where that is more than the limit allows, it is refused at the first byte past
+/// the limit.
+fn read_within<I: Input>(
+    alloc: Global,
+    pool: &Pool,
+    kind: MessageId,
+    limits: Limits,
+    reading: Reading,
+    input: &mut I,
+) -> Result<Reading, DecodeError>
+    requires rules { IsPool pool.now }
+    requires took { (base : List Record) × TookFrom pool.now (origin kind.0 limits.depth base None) (state_view reading.reader) reading.held.items }
+    ensures read { IfOk result (λ r. (n : ℕ) × (n ≤ limits.bytes) × ReadsOn pool.now reading r (I.left input.old) (I.left input.new) n) }
+    ensures ends { OnOk result (IsAtEnd (I.left input.new)) }
+    ensures small { limits.bytes < 2 ^ 31 }
+    ensures fault { IfErr result (λ e. IfRefused e (λ f. IfSome (I.left input.old) (λ left. HasFault (schema_of pool.now) (a_message kind.0) limits left f))) }
+    ensures most { TakesAtMost (limits.bytes + 1) (I.left input.old) (I.left input.new) }
+    ensures failures { TellsFailures result (I.failures input.old) (I.failures input.new) }
+    ensures steady { I.is_steady input.old ≡ true → result ≢ Err Device }
+    ensures stays { I.is_steady input.old ≡ true → I.is_steady input.new ≡ true }
+{
+    let most = limits.max_bytes();
+    let (taken, count) = read_pieces(alloc, pool, reading, input, most as usize)?;
+    if count < most as usize {
+        return Ok(taken);
+    }
+    let more = has_byte(input)?;
+    if more {
+        return Err(too_large(alloc, most));
+    }
+    Ok(taken)
+}
+
+/// The message of what the input gives up to its end.
+fn read_message<'p, I: Input>(
+    alloc: Global,
+    pool: &'p Pool,
+    kind: MessageId,
+    input: &mut I,
+    limits: Limits,
+) -> Result<DynamicMessage<'p>, DecodeError>
+    requires { kind.0 < length pool.now.messages }
+    ensures of_type { IfOk result (λ m. (m.pool ≡ pool.now) × (m.kind ≡ kind.0)) }
+    ensures value { IfSome (I.left input.old) (λ left. IfOk result (λ m. Text pool.now kind.0 limits left m.body)) }
+    ensures rest { OnOk result (IfSome (I.left input.old) (λ left. I.left input.new ≡ Some [])) }
+    ensures fault { IfErr result (λ e. IfRefused e (λ f. IfSome (I.left input.old) (λ left. HasFault (schema_of pool.now) (a_message kind.0) limits left f))) }
+    ensures most { TakesAtMost (limits.bytes + 1) (I.left input.old) (I.left input.new) }
+    ensures failures { TellsFailures result (I.failures input.old) (I.failures input.new) }
+    ensures steady { I.is_steady input.old ≡ true → result ≢ Err Device }
+    ensures stays { I.is_steady input.old ≡ true → I.is_steady input.new ≡ true }
+{
+    let _types = pool.messages();
+    let begun = begin_empty(alloc, pool, kind, limits, None);
+    let reading = read_within(alloc, pool, kind, limits, begun, input)?;
+    finish_message(alloc, pool, kind, reading)
+}
+
+/// Decodes a message of a type from what an input gives up to its end (encoding guide, "Message Structure").
+///
+/// The answer is that of the bytes as a whole, however the input cuts them: the message's value, or [`DecodeError::Fault`]
+/// with the first byte that no text of the type can have there. [`DecodeError::Device`] says that the input failed. What is
+/// held meanwhile is the message so far and the bytes of one open token or payload. `kind` is a type of the pool.
+pub fn decode_from<'p, I: Input>(
+    alloc: Global,
+    pool: &'p Pool,
+    kind: MessageId,
+    input: &mut I,
+    limits: Limits,
+) -> Result<DynamicMessage<'p>, DecodeError>
+    requires { kind.0 < length pool.now.messages }
+    ensures of_type { IfOk result (λ m. (m.pool ≡ pool.now) × (m.kind ≡ kind.0)) }
+    ensures value { IfSome (I.left input.old) (λ left. IfOk result (λ m. Text pool.now kind.0 limits left m.body)) }
+    ensures fault { IfErr result (λ e. IfRefused e (λ f. IfSome (I.left input.old) (λ left. HasFault (schema_of pool.now) (a_message kind.0) limits left f))) }
+    ensures accepted { IfSome (I.left input.old) (λ left. (v : Message) → Text pool.now kind.0 limits left v → MatchResult result (λ m. m.body ≡ v) IsNoFault) }
+    ensures refused { IfSome (I.left input.old) (λ left. (f : Fault) → HasFault (schema_of pool.now) (a_message kind.0) limits left f → IsErrAnd result (λ e. IfRefused e (λ g. g ≡ f))) }
+    // what it leaves of the input
+    ensures rest { OnOk result (IfSome (I.left input.old) (λ left. I.left input.new ≡ Some [])) }
+    ensures most { TakesAtMost (limits.bytes + 1) (I.left input.old) (I.left input.new) }
+    // how it fails
+    ensures failures { TellsFailures result (I.failures input.old) (I.failures input.new) }
+    ensures steady { I.is_steady input.old ≡ true → result ≢ Err Device }
+    ensures stays { I.is_steady input.old ≡ true → I.is_steady input.new ≡ true }
+{
+    read_message(alloc, pool, kind, input, limits)
+}

@@ -1,0 +1,105 @@
+//! Decoding onto a message.
+
+ghost use Rattle.std.specs.Prelude.{◌≡◌, ◌+◌, ◌<◌, ◌≤◌, ◌^◌, ◌++◌, ℕ, List, [], length, None, OnOk, IfOk, IfErr, IsErrAnd, MatchResult};
+ghost use Rattle.pb_wire.specs.Record.{Record};
+ghost use Rattle.pb_wire.specs.Fault.{Fault};
+ghost use Rattle.pb_wire.specs.Grammar.{HasFault};
+ghost use Rattle.pb_wire.specs.Exact.{Exactly};
+ghost use Rattle.pb_wire.specs.Limits.{full};
+ghost use Rattle.pb_schema.specs.Rules.{IsPool};
+ghost use Rattle.pb_schema.specs.Context.{a_message, schema_of};
+ghost use Rattle.pb_value.specs.Data.{Message};
+ghost use Rattle.pb_value.specs.Canon.{canon_bytes};
+ghost use Rattle.pb_value.specs.View.{body_view};
+ghost use Rattle.pb_value.specs.WellFormed.{IsWellFormed};
+ghost use Rattle.pb_value.specs.Derives.{Derives, Text};
+ghost use Rattle.pb_decode.specs.declared.error.DecodeError.TheVariants.{Memory};
+ghost use Rattle.pb_decode.specs.Reader.{state_view, IfFault};
+ghost use Rattle.pb_decode.specs.Origin.{origin, further, TookFrom};
+ghost use Rattle.pb_decode.specs.Onto.{IsTextOnto};
+
+use crate::error::DecodeError;
+use crate::fault::too_large;
+use crate::origin::{begin_at, finish_message, take_onward};
+use crate::push::Reading;
+use pb_schema::{MessageId, Pool};
+use pb_value::{Body, DynamicMessage};
+use pb_wire::Limits;
+use std::alloc::Global;
+
+/// Takes all bytes of a text, or of too many those within the limit.
+fn take_within(
+    alloc: Global,
+    pool: &Pool,
+    kind: MessageId,
+    limits: Limits,
+    reading: Reading,
+    bytes: &[u8],
+) -> Result<Reading, DecodeError>
+    requires rules { IsPool pool.now }
+    requires took { (base : List Record) × TookFrom pool.now (origin kind.0 limits.depth base None) (state_view reading.reader) reading.held.items }
+    ensures size { OnOk result (length bytes.now ≤ limits.bytes) }
+    ensures at { IfOk result (λ r. r.reader.at + length r.held.items ≡ length bytes.now) }
+    ensures took { (base : List Record) → TookFrom pool.now (origin kind.0 limits.depth base None) (state_view reading.reader) reading.held.items → IfOk result (λ r. TookFrom pool.now (further (origin kind.0 limits.depth base None) bytes.now) (state_view r.reader) r.held.items) }
+    ensures fault { IfErr result (λ e. IfFault e (HasFault (schema_of pool.now) (a_message kind.0) limits bytes.now)) }
+{
+    let most = limits.max_bytes();
+    if bytes.len() > most as usize {
+        let _front = take_onward(alloc, pool, reading, &bytes[..most as usize])?;
+        return Err(too_large(alloc, most));
+    }
+    let taken = take_onward(alloc, pool, reading, bytes)?;
+    Ok(taken)
+}
+
+/// Decodes the bytes of a text onto the body of a message.
+fn read_onto<'p>(
+    alloc: Global,
+    pool: &'p Pool,
+    kind: MessageId,
+    body: Body,
+    bytes: &[u8],
+    limits: Limits,
+) -> Result<DynamicMessage<'p>, DecodeError>
+    requires rules { IsPool pool.now }
+    requires within { kind.0 < length pool.now.messages }
+    requires well_formed { IsWellFormed pool.now kind.0 (body_view body) }
+    ensures deep { limits.depth ≤ 100 }
+    ensures of_type { IfOk result (λ m. (m.pool ≡ pool.now) × (m.kind ≡ kind.0)) }
+    ensures value { IfOk result (λ m. IsTextOnto pool.now kind.0 limits (body_view body) bytes.now m.body) }
+    ensures fault { IfErr result (λ e. IfFault e (HasFault (schema_of pool.now) (a_message kind.0) limits bytes.now)) }
+{
+    let room = limits.max_depth();
+    let begun = begin_at(alloc, kind, body, room, None);
+    let reading = take_within(alloc, pool, kind, limits, begun, bytes)?;
+    finish_message(alloc, pool, kind, reading)
+}
+
+/// Decodes bytes onto a message of their type: the answer is what the message's canonical form and the bytes behind it mean
+/// together (encoding guide, "Last One Wins").
+///
+/// The message is given up also where the bytes are refused. Places and limits count the bytes alone.
+pub fn decode_onto<'p>(
+    message: DynamicMessage<'p>,
+    bytes: &[u8],
+    limits: Limits,
+) -> Result<DynamicMessage<'p>, DecodeError>
+    ensures of_type { IfOk result (λ m. (m.pool ≡ message.entry.pool) × (m.kind ≡ message.entry.kind)) }
+    ensures value { IfOk result (λ m. IsTextOnto message.entry.pool message.entry.kind limits message.entry.body bytes.now m.body) }
+    ensures fault { IfErr result (λ e. IfFault e (HasFault (schema_of message.entry.pool) (a_message message.entry.kind) limits bytes.now)) }
+    ensures accepted { (w : Message) → IsTextOnto message.entry.pool message.entry.kind limits message.entry.body bytes.now w → MatchResult result (λ m. m.body ≡ w) (λ e. e ≡ Memory) }
+    ensures refused { (f : Fault) → HasFault (schema_of message.entry.pool) (a_message message.entry.kind) limits bytes.now f → IsErrAnd result (λ e. IfFault e (λ g. g ≡ f)) }
+    ensures one { Exactly ((w : Message) × IsTextOnto message.entry.pool message.entry.kind limits message.entry.body bytes.now w) (HasFault (schema_of message.entry.pool) (a_message message.entry.kind) limits bytes.now) }
+    // behind any bytes that the message derives from
+    ensures joined { (a : List ℕ) → Derives message.entry.pool message.entry.kind limits.depth a message.entry.body → IfOk result (λ m. Derives message.entry.pool message.entry.kind limits.depth (a ++ bytes.now) m.body) }
+    ensures accepts_joined { (a : List ℕ) (w : Message) → length bytes.now ≤ limits.bytes → Derives message.entry.pool message.entry.kind limits.depth a message.entry.body → Derives message.entry.pool message.entry.kind limits.depth (a ++ bytes.now) w → MatchResult result (λ m. m.body ≡ w) (λ e. e ≡ Memory) }
+    // behind its canonical bytes
+    ensures text { length (canon_bytes message.entry.pool message.entry.kind message.entry.body ++ bytes.now) < 2 ^ 31 → IfOk result (λ m. Text message.entry.pool message.entry.kind full (canon_bytes message.entry.pool message.entry.kind message.entry.body ++ bytes.now) m.body) }
+{
+    let alloc = message.alloc();
+    let pool = message.pool();
+    let kind = message.message_type();
+    let _types = pool.messages();
+    let _well_formed = message.body();
+    read_onto(alloc, pool, kind, message.into_body(), bytes, limits)
+}

@@ -1,0 +1,287 @@
+//! Decoding, whole and in pieces.
+
+ghost use Rattle.std.specs.Prelude.{◌≡◌, ◌+◌, ◌-◌, ◌<◌, ◌≤◌, ◌^◌, ◌++◌, ℕ, List, [], drop, length, vec_len, IfOk, IfErr, IsErrAnd, MatchResult};
+ghost use Rattle.pb_wire.specs.Record.{Record};
+ghost use Rattle.pb_wire.specs.Fault.{Fault, fault, Place};
+ghost use Rattle.pb_wire.specs.declared.fault.Cause.TheVariants.{Truncated};
+ghost use Rattle.pb_wire.specs.Grammar.{HasFault};
+ghost use Rattle.pb_wire.specs.Exact.{longer, Exactly};
+ghost use Rattle.pb_schema.specs.Rules.{IsPool};
+ghost use Rattle.pb_schema.specs.Context.{a_message, schema_of};
+ghost use Rattle.pb_value.specs.Data.{Message};
+ghost use Rattle.pb_value.specs.Derives.{Text};
+ghost use Rattle.pb_decode.specs.declared.error.DecodeError.TheVariants.{Memory};
+ghost use Rattle.pb_decode.specs.Reader.{state_view, path_here, Reads, IsReading, Stops, IfFault, Told};
+ghost use Rattle.pb_decode.specs.Push.{Took, TookSome, IsSettled};
+ghost use Rattle.pb_decode.specs.Waiting.{Waits, lists_in};
+
+use crate::error::DecodeError;
+use crate::fault::{fault_at, too_large};
+use crate::origin::{begin_empty, finish_message};
+use crate::reader::{Reader, take_all};
+use crate::step::Step;
+use pb_schema::{MessageId, Pool};
+use pb_value::DynamicMessage;
+use pb_wire::{Cause, Limits};
+use std::alloc::Global;
+
+/// What a decoder has between pieces.
+#[derive(Drop)]
+pub(crate) struct Reading {
+    pub reader: Reader,
+    /// The bytes of an open token, or of an open payload.
+    pub held: Vec<u8>,
+}
+
+/// Takes what stands whole at the front of the bytes, and holds the others.
+fn take_front(
+    alloc: Global,
+    pool: &Pool,
+    reader: Reader,
+    bytes: &[u8],
+) -> Result<(Reader, Vec<u8>), DecodeError>
+    requires rules { IsPool pool.now }
+    requires reading { IsReading pool.now (state_view reader) bytes.now }
+    ensures at { IfOk result (λ r. (state_view r.0).at + length r.1.items ≡ reader.at + length bytes.now) }
+    ensures taken { (m depth levels : ℕ) (base : List Record) (p0 : Place) → Reads pool.now m depth levels base p0 (state_view reader) bytes.now → IfOk result (λ r. Reads pool.now m depth levels base p0 (state_view r.0) r.1.items × Stops pool.now m depth p0 (state_view r.0) r.1.items) }
+    ensures waits { IfOk result (λ r. Waits (state_view r.0) r.1.items) }
+    ensures refused { (m depth levels : ℕ) (base : List Record) (p0 : Place) → Reads pool.now m depth levels base p0 (state_view reader) bytes.now → IfErr result (λ e. IfFault e (Told pool.now m depth p0)) }
+{
+    let (next, size) = take_all(alloc, pool, reader, bytes)?;
+    let held = rest_of(alloc, bytes, size)?;
+    Ok((next, held))
+}
+
+/// The bytes from an index on.
+fn rest_of(alloc: Global, bytes: &[u8], from: usize) -> Result<Vec<u8>, DecodeError>
+    requires { from ≤ length bytes.now }
+    ensures rest { IfOk result (λ v. v.items ≡ drop from bytes.now) }
+    ensures memory { IfErr result (λ e. e ≡ Memory) }
+{
+    let rest = Vec::from_slice(alloc, &bytes[from..])?;
+    Ok(rest)
+}
+
+/// Takes what stands whole at the front of the bytes that are held, and holds the others.
+fn take_held(
+    alloc: Global,
+    pool: &Pool,
+    reader: Reader,
+    held: Vec<u8>,
+) -> Result<(Reader, Vec<u8>), DecodeError>
+    requires rules { IsPool pool.now }
+    requires reading { IsReading pool.now (state_view reader) held.items }
+    ensures at { IfOk result (λ r. (state_view r.0).at + length r.1.items ≡ reader.at + length held.items) }
+    ensures taken { (m depth levels : ℕ) (base : List Record) (p0 : Place) → Reads pool.now m depth levels base p0 (state_view reader) held.items → IfOk result (λ r. Reads pool.now m depth levels base p0 (state_view r.0) r.1.items × Stops pool.now m depth p0 (state_view r.0) r.1.items) }
+    ensures waits { IfOk result (λ r. Waits (state_view r.0) r.1.items) }
+    ensures refused { (m depth levels : ℕ) (base : List Record) (p0 : Place) → Reads pool.now m depth levels base p0 (state_view reader) held.items → IfErr result (λ e. IfFault e (Told pool.now m depth p0)) }
+{
+    let (next, size) = take_all(alloc, pool, reader, &held)?;
+    if size == 0 {
+        return Ok((next, held));
+    }
+    let rest = rest_of(alloc, &held, size)?;
+    Ok((next, rest))
+}
+
+/// Takes what stands whole at the front of the bytes that are held and of those behind them, and holds the others.
+fn take_joined(
+    alloc: Global,
+    pool: &Pool,
+    reader: Reader,
+    held: Vec<u8>,
+    more: &[u8],
+) -> Result<(Reader, Vec<u8>), DecodeError>
+    requires rules { IsPool pool.now }
+    requires reading { IsReading pool.now (state_view reader) held.items }
+    requires small { reader.at + length held.items + length more.now < 2 ^ 31 }
+    ensures at { IfOk result (λ r. (state_view r.0).at + length r.1.items ≡ reader.at + length held.items + length more.now) }
+    ensures taken { (m depth levels : ℕ) (base : List Record) (p0 : Place) → Reads pool.now m depth levels base p0 (state_view reader) held.items → IfOk result (λ r. Reads pool.now m depth levels base (longer p0 more.now) (state_view r.0) r.1.items × Stops pool.now m depth (longer p0 more.now) (state_view r.0) r.1.items) }
+    ensures waits { IfOk result (λ r. Waits (state_view r.0) r.1.items) }
+    ensures refused { (m depth levels : ℕ) (base : List Record) (p0 : Place) → Reads pool.now m depth levels base p0 (state_view reader) held.items → IfErr result (λ e. IfFault e (Told pool.now m depth (longer p0 more.now))) }
+{
+    let mut joined = held;
+    joined.extend_from_slice(more)?;
+    take_held(alloc, pool, reader, joined)
+}
+
+/// How many more bytes to hold before what comes next is looked at again, at least one: all that are missing of a payload,
+/// and of a token the next.
+fn wanted(step: Step, count: usize) -> usize
+    ensures { 0 < result }
+{
+    match step {
+        Step::Payload(_, _, size) => (size as usize).saturating_sub(count).max(1),
+        Step::Tag
+        | Step::Varint(_, _)
+        | Step::I64(_, _)
+        | Step::I32(_, _)
+        | Step::Length(_, _)
+        | Step::Elements(_, _, _) => 1,
+    }
+}
+
+/// Takes a piece behind the bytes that are held. Its first bytes join these until the token or the payload that they begin
+/// is whole, and the others are read where they lie.
+pub(crate) fn take_piece(
+    alloc: Global,
+    pool: &Pool,
+    reader: Reader,
+    held: Vec<u8>,
+    piece: &[u8],
+) -> Result<(Reader, Vec<u8>), DecodeError>
+    requires rules { IsPool pool.now }
+    requires reading { IsReading pool.now (state_view reader) held.items }
+    requires small { reader.at + length held.items + length piece.now < 2 ^ 31 }
+    ensures at { IfOk result (λ r. (state_view r.0).at + length r.1.items ≡ reader.at + length held.items + length piece.now) }
+    ensures taken { (m depth levels : ℕ) (base : List Record) (p0 : Place) → Reads pool.now m depth levels base p0 (state_view reader) held.items → IfOk result (λ r. Reads pool.now m depth levels base (longer p0 piece.now) (state_view r.0) r.1.items × Stops pool.now m depth (longer p0 piece.now) (state_view r.0) r.1.items) }
+    ensures waits { IfOk result (λ r. Waits (state_view r.0) r.1.items) }
+    ensures refused { (m depth levels : ℕ) (base : List Record) (p0 : Place) → Reads pool.now m depth levels base p0 (state_view reader) held.items → IfErr result (λ e. IfFault e (Told pool.now m depth (longer p0 piece.now))) }
+{
+    let mut reader = reader;
+    let mut held = held;
+    let mut here = 0;
+    while !held.is_empty() {
+        let more = wanted(reader.step, held.len()).min(piece.len() - here);
+        let (next, rest) = take_joined(alloc, pool, reader, held, &piece[here..here + more])?;
+        reader = next;
+        held = rest;
+        here += more;
+        if here == piece.len() {
+            return Ok((reader, held));
+        }
+    }
+    take_front(alloc, pool, reader, &piece[here..])
+}
+
+/// How many more bytes a text may have.
+fn room_for(most: u32, reading: &Reading) -> usize
+    ensures { result ≡ (most - reading.now.reader.at) - length reading.now.held.items }
+{
+    (most.saturating_sub(reading.reader.at) as usize).saturating_sub(reading.held.len())
+}
+
+/// Takes the next piece of a text.
+pub(crate) fn take_text(
+    alloc: Global,
+    pool: &Pool,
+    kind: MessageId,
+    limits: Limits,
+    reading: Reading,
+    piece: &[u8],
+) -> Result<Reading, DecodeError>
+    requires rules { IsPool pool.now }
+    requires took { TookSome pool.now kind.0 limits (state_view reading.reader) reading.held.items }
+    ensures after { (b : List ℕ) → Took pool.now kind.0 limits b (state_view reading.reader) reading.held.items → IfOk result (λ r. Took pool.now kind.0 limits (b ++ piece.now) (state_view r.reader) r.held.items) }
+    ensures waits { IfOk result (λ r. Waits (state_view r.reader) r.held.items) }
+    ensures fault { (b : List ℕ) → Took pool.now kind.0 limits b (state_view reading.reader) reading.held.items → IfErr result (λ e. IfFault e (IsSettled pool.now kind.0 limits (b ++ piece.now))) }
+{
+    let most = limits.max_bytes();
+    let room = room_for(most, &reading);
+    if piece.len() > room {
+        let _front = take_piece(alloc, pool, reading.reader, reading.held, &piece[..room])?;
+        return Err(too_large(alloc, most));
+    }
+    let (reader, held) = take_piece(alloc, pool, reading.reader, reading.held, piece)?;
+    Ok(Reading { reader, held })
+}
+
+/// Where no byte is taken yet.
+pub(crate) fn start(alloc: Global, pool: &Pool, kind: MessageId, limits: Limits) -> Reading
+    requires { kind.0 < length pool.now.messages }
+    ensures took { Took pool.now kind.0 limits [] (state_view result.reader) result.held.items }
+    ensures waits { Waits (state_view result.reader) result.held.items }
+{
+    begin_empty(alloc, pool, kind, limits, None)
+}
+
+/// How many packed lists are open.
+fn open_lists(step: Step) -> usize
+    ensures { result ≡ lists_in step }
+{
+    match step {
+        Step::Elements(_, _, _) => 1,
+        Step::Tag
+        | Step::Varint(_, _)
+        | Step::I64(_, _)
+        | Step::I32(_, _)
+        | Step::Length(_, _)
+        | Step::Payload(_, _, _) => 0,
+    }
+}
+
+/// How many messages, map entries, groups and packed lists are open, the top one too.
+pub(crate) fn open_contexts(reading: &Reading) -> usize
+    ensures { result ≡ vec_len reading.now.reader.frames + lists_in reading.now.reader.step + 1 }
+{
+    reading.reader.frames.len() + open_lists(reading.reader.step) + 1
+}
+
+/// The fault that the input ends too early.
+pub(crate) fn cut_short(alloc: Global, reading: &Reading) -> DecodeError
+    requires { reading.now.reader.at + length reading.now.held.items < 2 ^ 31 }
+    ensures { IfFault result (λ f. f ≡ fault (reading.now.reader.at + length reading.now.held.items) (path_here (state_view reading.now.reader)) Truncated) }
+{
+    let byte = reading.reader.at + reading.held.len() as u32;
+    fault_at(alloc, &reading.reader, byte, Cause::Truncated)
+}
+
+/// The message of the bytes that are taken, or why there is none.
+pub(crate) fn end<'p>(
+    alloc: Global,
+    pool: &'p Pool,
+    kind: MessageId,
+    limits: Limits,
+    reading: Reading,
+) -> Result<DynamicMessage<'p>, DecodeError>
+    requires rules { IsPool pool.now }
+    requires within { kind.0 < length pool.now.messages }
+    requires took { TookSome pool.now kind.0 limits (state_view reading.reader) reading.held.items }
+    ensures of_type { IfOk result (λ m. (m.pool ≡ pool.now) × (m.kind ≡ kind.0)) }
+    ensures value { (b : List ℕ) → Took pool.now kind.0 limits b (state_view reading.reader) reading.held.items → IfOk result (λ m. Text pool.now kind.0 limits b m.body) }
+    ensures fault { (b : List ℕ) → Took pool.now kind.0 limits b (state_view reading.reader) reading.held.items → IfErr result (λ e. IfFault e (HasFault (schema_of pool.now) (a_message kind.0) limits b)) }
+{
+    let _small = limits.max_bytes();
+    finish_message(alloc, pool, kind, reading)
+}
+
+/// Decodes the bytes of a text.
+fn decode_text<'p>(
+    alloc: Global,
+    pool: &'p Pool,
+    kind: MessageId,
+    bytes: &[u8],
+    limits: Limits,
+) -> Result<DynamicMessage<'p>, DecodeError>
+    requires { kind.0 < length pool.now.messages }
+    ensures of_type { IfOk result (λ m. (m.pool ≡ pool.now) × (m.kind ≡ kind.0)) }
+    ensures value { IfOk result (λ m. Text pool.now kind.0 limits bytes.now m.body) }
+    ensures fault { IfErr result (λ e. IfFault e (HasFault (schema_of pool.now) (a_message kind.0) limits bytes.now)) }
+{
+    let _types = pool.messages();
+    let begun = start(alloc, pool, kind, limits);
+    let reading = take_text(alloc, pool, kind, limits, begun, bytes)?;
+    end(alloc, pool, kind, limits, reading)
+}
+
+/// Decodes a message of a type from the bytes of its text (encoding guide, "Message Structure").
+///
+/// The answer is the message's value, or [`DecodeError::Fault`] with the first byte that no text of the type can have there.
+/// `kind` is a type of the pool. Bytes past the limits are refused.
+pub fn decode<'p>(
+    alloc: Global,
+    pool: &'p Pool,
+    kind: MessageId,
+    bytes: &[u8],
+    limits: Limits,
+) -> Result<DynamicMessage<'p>, DecodeError>
+    requires { kind.0 < length pool.now.messages }
+    ensures of_type { IfOk result (λ m. (m.pool ≡ pool.now) × (m.kind ≡ kind.0)) }
+    ensures value { IfOk result (λ m. Text pool.now kind.0 limits bytes.now m.body) }
+    ensures fault { IfErr result (λ e. IfFault e (HasFault (schema_of pool.now) (a_message kind.0) limits bytes.now)) }
+    ensures accepted { (v : Message) → Text pool.now kind.0 limits bytes.now v → MatchResult result (λ m. m.body ≡ v) (λ e. e ≡ Memory) }
+    ensures refused { (f : Fault) → HasFault (schema_of pool.now) (a_message kind.0) limits bytes.now f → IsErrAnd result (λ e. IfFault e (λ g. g ≡ f)) }
+    ensures one { Exactly ((v : Message) × Text pool.now kind.0 limits bytes.now v) (HasFault (schema_of pool.now) (a_message kind.0) limits bytes.now) }
+{
+    decode_text(alloc, pool, kind, bytes, limits)
+}

@@ -1,0 +1,146 @@
+//! Decoding from pieces of a text.
+
+use crate::error::DecodeError;
+use crate::push::{Reading, end, open_contexts, start, take_text};
+use pb_schema::{MessageId, Pool};
+use pb_value::DynamicMessage;
+use pb_wire::Limits;
+use std::alloc::Global;
+use std::marker::Model;
+
+/// Decodes a message of a type from pieces of its text.
+///
+/// What it keeps between pieces is the message so far, what is open, and the bytes of one open token or payload.
+#[derive(Drop)]
+pub struct PushDecoder<'p> {
+    alloc: Global,
+    pool: &'p Pool,
+    kind: MessageId,
+    limits: Limits,
+    reading: Option<Reading>,
+}
+
+impl<'p> Model for PushDecoder<'p> {
+    ghost use Rattle.pb_decode.specs.Decoder.{Decoder, datum_code, payload_code};
+    ghost use Rattle.std.specs.Coded.{codes};
+    ghost use Rattle.pb_value.specs.Code.{message_code};
+
+    ghost Value = { Decoder };
+
+    ghost coded = { Prim.hlevel (codes, message_code, datum_code, payload_code) };
+
+    ghost use Rattle.std.specs.Prelude.{option_map};
+    ghost use Rattle.pb_decode.specs.ReadingView.{reading_view, IsSound};
+
+    ghost view = { λ d. record { pool = d.pool.now; kind = d.kind.0; limits = d.limits; reading = option_map reading_view d.reading } };
+
+    ghost invariant = { λ d. IsSound d.pool.now d.kind.0 d.limits d.reading };
+}
+
+impl<'p> PushDecoder<'p> {
+    ghost use Rattle.std.specs.Prelude.{◌≡◌, ◌<◌, ◌≤◌, ◌+◌, ◌*◌, ◌++◌, max, ℕ, List, [], length, None, Err, OnOk, OnErr, IfOk, IfErr, IsErrAnd, MatchResult};
+    ghost use Rattle.pb_wire.specs.Fault.{Fault};
+    ghost use Rattle.pb_wire.specs.Grammar.{HasFault};
+    ghost use Rattle.pb_wire.specs.Exact.{Exactly};
+    ghost use Rattle.pb_schema.specs.Context.{a_message, schema_of};
+    ghost use Rattle.pb_value.specs.Data.{Message};
+    ghost use Rattle.pb_value.specs.Derives.{Text};
+    ghost use Rattle.pb_decode.specs.declared.error.DecodeError.TheVariants.{Memory, Finished};
+    ghost use Rattle.pb_decode.specs.Reader.{IfFault};
+    ghost use Rattle.pb_decode.specs.Push.{IsGoing, IsSettled};
+    ghost use Rattle.pb_decode.specs.Received.{After};
+    ghost use Rattle.pb_decode.specs.Pending.{IsPending, HasOpen, IsDeclared};
+
+    /// A decoder that has received no byte. `kind` is a type of the pool.
+    pub fn new(
+        alloc: Global,
+        pool: &'p Pool,
+        kind: MessageId,
+        limits: Limits,
+    ) -> Result<PushDecoder<'p>, DecodeError>
+        requires { kind.0 < length pool.now.messages }
+        ensures of_type { IfOk result (λ d. (d.pool ≡ pool.now) × (d.kind ≡ kind.0) × (d.limits ≡ limits)) }
+        ensures after { IfOk result (λ d. After d []) }
+        ensures memory { IfErr result (λ e. e ≡ Memory) }
+    {
+        let _types = pool.messages();
+        let reading = start(alloc, pool, kind, limits);
+        Ok(PushDecoder {
+            alloc,
+            pool,
+            kind,
+            limits,
+            reading: Some(reading),
+        })
+    }
+
+    /// Receives the next piece. Bytes that no text begins with are refused in the first piece that settles it, and every later
+    /// call answers [`DecodeError::Finished`].
+    pub fn feed(&mut self, piece: &[u8]) -> Result<(), DecodeError>
+        ensures same { (self.new.pool ≡ self.old.pool) × (self.new.kind ≡ self.old.kind) × (self.new.limits ≡ self.old.limits) }
+        ensures after { (b : List ℕ) → After self.old b → OnOk result (After self.new (b ++ piece.now)) }
+        ensures goes_on { (b : List ℕ) → After self.old b → OnOk result (IsGoing self.old.pool self.old.kind self.old.limits (b ++ piece.now)) }
+        ensures fault { (b : List ℕ) → After self.old b → IfErr result (λ e. IfFault e (IsSettled self.old.pool self.old.kind self.old.limits (b ++ piece.now))) }
+        ensures going { (b : List ℕ) → After self.old b → IsGoing self.old.pool self.old.kind self.old.limits (b ++ piece.now) → IfErr result (λ e. e ≡ Memory) }
+        ensures refused { (b : List ℕ) (f : Fault) → After self.old b → IsSettled self.old.pool self.old.kind self.old.limits (b ++ piece.now) f → IsErrAnd result (λ e. IfFault e (λ g. g ≡ f)) }
+        ensures closes { OnErr result (self.new.reading ≡ None) }
+        ensures finished { self.old.reading ≡ None → (result ≡ Err Finished) × (self.new ≡ self.old) }
+    {
+        let Some(reading) = self.reading.take() else {
+            return Err(DecodeError::Finished);
+        };
+        let next = take_text(
+            self.alloc,
+            self.pool,
+            self.kind,
+            self.limits,
+            reading,
+            piece,
+        )?;
+        self.reading = Some(next);
+        Ok(())
+    }
+
+    /// The message of all bytes received. Every later call answers [`DecodeError::Finished`].
+    pub fn finish(&mut self) -> Result<DynamicMessage<'p>, DecodeError>
+        ensures same { (self.new.pool ≡ self.old.pool) × (self.new.kind ≡ self.old.kind) × (self.new.limits ≡ self.old.limits) }
+        ensures value { (b : List ℕ) → After self.old b → IfOk result (λ m. (m.pool ≡ self.old.pool) × (m.kind ≡ self.old.kind) × Text self.old.pool self.old.kind self.old.limits b m.body) }
+        ensures fault { (b : List ℕ) → After self.old b → IfErr result (λ e. IfFault e (HasFault (schema_of self.old.pool) (a_message self.old.kind) self.old.limits b)) }
+        ensures accepted { (b : List ℕ) (v : Message) → After self.old b → Text self.old.pool self.old.kind self.old.limits b v → MatchResult result (λ m. m.body ≡ v) (λ e. e ≡ Memory) }
+        ensures refused { (b : List ℕ) (f : Fault) → After self.old b → HasFault (schema_of self.old.pool) (a_message self.old.kind) self.old.limits b f → IsErrAnd result (λ e. IfFault e (λ g. g ≡ f)) }
+        ensures one { (b : List ℕ) → After self.old b → Exactly ((v : Message) × Text self.old.pool self.old.kind self.old.limits b v) (HasFault (schema_of self.old.pool) (a_message self.old.kind) self.old.limits b) }
+        ensures closes { self.new.reading ≡ None }
+        ensures finished { self.old.reading ≡ None → result ≡ Err Finished }
+    {
+        let Some(reading) = self.reading.take() else {
+            return Err(DecodeError::Finished);
+        };
+        end(self.alloc, self.pool, self.kind, self.limits, reading)
+    }
+    /// How many bytes are held: those received of the open token, or of the payload of a text, of bytes or of an unknown
+    /// record. They are at most ten, or the length declared for that payload. 0 where the decoder is finished.
+    pub fn pending(&self) -> usize
+        ensures held { (b : List ℕ) → After self.now b → IsPending (schema_of self.now.pool) (a_message self.now.kind) self.now.limits.depth b result }
+        ensures one { (b : List ℕ) (n : ℕ) → After self.now b → IsPending (schema_of self.now.pool) (a_message self.now.kind) self.now.limits.depth b n → n ≡ result }
+        ensures bound { (b : List ℕ) → After self.now b → (n : ℕ) × IsDeclared (schema_of self.now.pool) (a_message self.now.kind) self.now.limits.depth b n × (result ≤ max 10 n) }
+        ensures closed { self.now.reading ≡ None → result ≡ 0 }
+    {
+        match &self.reading {
+            Some(reading) => reading.held.len(),
+            None => 0,
+        }
+    }
+
+    /// How many messages, map entries, groups and packed lists are open, the top one too. 0 where the decoder is finished.
+    pub fn frames(&self) -> usize
+        ensures open { (b : List ℕ) → After self.now b → HasOpen (schema_of self.now.pool) (a_message self.now.kind) self.now.limits.depth b result }
+        ensures one { (b : List ℕ) (n : ℕ) → After self.now b → HasOpen (schema_of self.now.pool) (a_message self.now.kind) self.now.limits.depth b n → n ≡ result }
+        ensures bound { result ≤ 2 * self.now.limits.depth + 2 }
+        ensures closed { self.now.reading ≡ None → result ≡ 0 }
+    {
+        match &self.reading {
+            Some(reading) => open_contexts(reading),
+            None => 0,
+        }
+    }
+}

@@ -1,0 +1,184 @@
+//! Records of numbers and of bytes, taken whole.
+
+ghost use Rattle.std.specs.Prelude.{◌≡◌, ◌⊎◌, ◌+◌, ◌-◌, ◌≤◌, ◌<◌, ◌^◌, true, ℕ, List, drop, length, IfOk, IfErr, IfSome, IfNone, OnOk};
+ghost use Rattle.pb_wire.specs.Record.{Record};
+ghost use Rattle.pb_wire.specs.Fault.{Place, HasTag, HasLength};
+ghost use Rattle.pb_wire.specs.Token.{passed};
+ghost use Rattle.pb_schema.specs.Rules.{IsPool};
+ghost use Rattle.pb_schema.specs.Types.{Types};
+ghost use Rattle.pb_decode.specs.declared.step.Step.TheVariants.{Tag};
+ghost use Rattle.pb_decode.specs.declared.error.DecodeError.TheVariants.{Memory};
+ghost use Rattle.pb_decode.specs.Frames.{one_more_in};
+ghost use Rattle.pb_decode.specs.Occurrences.{counts_view};
+ghost use Rattle.pb_decode.specs.PartView.{scope_view};
+ghost use Rattle.pb_decode.specs.PayloadValue.{IsBytesPurpose};
+ghost use Rattle.pb_decode.specs.Reader.{state_view, here, Reads, IsReading};
+
+use crate::error::DecodeError;
+use crate::front::front_number;
+use crate::number_token::NumberToken;
+use crate::part::Scope;
+use crate::payload_value::PayloadError;
+use crate::purpose::{Purpose, purpose_of};
+use crate::put_number::put_number;
+use crate::put_payload::put_payload;
+use crate::reader::{Reader, left, number_at};
+use crate::record_tag::{RecordTag, left_behind, record_tag};
+use crate::tag::payload_size;
+use pb_schema::Pool;
+use std::alloc::Global;
+
+/// Counts one more record of a number.
+fn count_one(scope: &mut Scope, number: u32) -> Result<(), DecodeError>
+    requires { counts_view scope.old.occurrences number < 2 ^ 32 - 1 }
+    ensures more { OnOk result (scope_view scope.new ≡ one_more_in number (scope_view scope.old)) }
+    ensures same_end { OnOk result (scope.new.end ≡ scope.old.end) }
+    ensures memory { IfErr result (λ e. e ≡ Memory) }
+{
+    scope.occurrences.add(number)?;
+    Ok(())
+}
+
+/// Takes the record of a number, behind whose tag the number stands whole, and how many bytes the record takes.
+fn take_number_record(
+    alloc: Global,
+    pool: &Pool,
+    reader: &mut Reader,
+    tag: RecordTag,
+    bytes: &[u8],
+) -> Result<Option<usize>, DecodeError>
+    requires rules { IsPool pool.now }
+    requires reading { IsReading pool.now (state_view reader.old) bytes.now }
+    requires step { reader.old.step ≡ Tag }
+    requires number { (tag.wire_type ≡ 0) ⊎ (tag.wire_type ≡ 1) ⊎ (tag.wire_type ≡ 5) }
+    requires within { tag.size ≤ length bytes.now }
+    requires tag { HasTag (here (state_view reader.old) bytes.now) tag.number tag.wire_type (passed (here (state_view reader.old) bytes.now) tag.size) }
+    ensures step { reader.new.step ≡ Tag }
+    ensures passes { IfOk result (λ o. IfSome o (λ n. (tag.size ≤ n) × (n ≤ length bytes.now) × (reader.new.at ≡ reader.old.at + n))) }
+    ensures none { IfOk result (λ o. IfNone o (reader.new ≡ reader.old)) }
+    ensures taken { (m depth levels : ℕ) (base : List Record) (p0 : Place) → Reads pool.now m depth levels base p0 (state_view reader.old) bytes.now → IfOk result (λ o. IfSome o (λ n. Reads pool.now m depth levels base p0 (state_view reader.new) (drop n bytes.now))) }
+    ensures memory { IfErr result (λ e. e ≡ Memory) }
+{
+    let behind = left_behind(left(reader), tag.size);
+    match number_at(tag.wire_type, &bytes[tag.size..], behind) {
+        NumberToken::Whole(value, size) => {
+            let purpose = purpose_of(pool, &reader.part, tag.number, tag.wire_type);
+            put_number(alloc, pool, &mut reader.part, tag.number, purpose, value)?;
+            count_one(&mut reader.scope, tag.number)?;
+            let used = tag.size + size;
+            reader.at += used as u32;
+            Ok(Some(used))
+        }
+        NumberToken::Short => Ok(None),
+        NumberToken::Fault(_) => Ok(None),
+    }
+}
+
+/// Says that a record of a purpose has its payload's bytes for its value, or is unknown.
+fn is_for_bytes(purpose: Purpose) -> bool
+    ensures { result ≡ true → IsBytesPurpose purpose }
+{
+    match purpose {
+        Purpose::One(_, _) => true,
+        Purpose::Element(_) => true,
+        Purpose::Key(_) => true,
+        Purpose::EntryValue(_) => true,
+        Purpose::Unknown => true,
+        Purpose::Packed(_) => false,
+        Purpose::Message(_, _) => false,
+        Purpose::Entry(_, _) => false,
+    }
+}
+
+/// Where the payload of a record begins whose tag takes so many bytes, and its size, if all of it is here.
+fn payload_behind(reader: &Reader, tag_size: usize, bytes: &[u8]) -> Option<(usize, usize)>
+    requires within { tag_size ≤ length bytes.now }
+    requires small { reader.now.at + length bytes.now < 2 ^ 31 }
+    ensures within { IfSome result (λ t. (tag_size ≤ t.0) × (t.0 + t.1 ≤ length bytes.now)) }
+    ensures whole { (pool : Types) (m depth levels number wire_type : ℕ) (base : List Record) (p0 : Place) → Reads pool m depth levels base p0 (state_view reader.now) bytes.now
+        → HasTag (here (state_view reader.now) bytes.now) number wire_type (passed (here (state_view reader.now) bytes.now) tag_size)
+        → IfSome result (λ t. HasLength (passed (here (state_view reader.now) bytes.now) tag_size) t.1 (passed (here (state_view reader.now) bytes.now) t.0)) }
+{
+    let behind = left_behind(left(reader), tag_size);
+    let Ok(Some((length, used))) = front_number(&bytes[tag_size..], behind) else {
+        return None;
+    };
+    let start = tag_size + used;
+    let Ok(size) = payload_size(length, reader.at + start as u32, reader.scope.end) else {
+        return None;
+    };
+    let size = size as usize;
+    if bytes.len() - start < size {
+        return None;
+    }
+    Some((start, size))
+}
+
+/// Takes the record of bytes, behind whose tag its payload stands whole, and how many bytes the record takes.
+fn take_bytes_record(
+    alloc: Global,
+    pool: &Pool,
+    reader: &mut Reader,
+    tag: RecordTag,
+    bytes: &[u8],
+) -> Result<Option<usize>, DecodeError>
+    requires rules { IsPool pool.now }
+    requires reading { IsReading pool.now (state_view reader.old) bytes.now }
+    requires step { reader.old.step ≡ Tag }
+    requires bytes { tag.wire_type ≡ 2 }
+    requires within { tag.size ≤ length bytes.now }
+    requires tag { HasTag (here (state_view reader.old) bytes.now) tag.number tag.wire_type (passed (here (state_view reader.old) bytes.now) tag.size) }
+    ensures step { reader.new.step ≡ Tag }
+    ensures passes { IfOk result (λ o. IfSome o (λ n. (tag.size ≤ n) × (n ≤ length bytes.now) × (reader.new.at ≡ reader.old.at + n))) }
+    ensures none { IfOk result (λ o. IfNone o (reader.new ≡ reader.old)) }
+    ensures taken { (m depth levels : ℕ) (base : List Record) (p0 : Place) → Reads pool.now m depth levels base p0 (state_view reader.old) bytes.now → IfOk result (λ o. IfSome o (λ n. Reads pool.now m depth levels base p0 (state_view reader.new) (drop n bytes.now))) }
+    ensures memory { IfErr result (λ e. e ≡ Memory) }
+{
+    let purpose = purpose_of(pool, &reader.part, tag.number, 2);
+    if !is_for_bytes(purpose) {
+        return Ok(None);
+    }
+    let Some((start, size)) = payload_behind(reader, tag.size, bytes) else {
+        return Ok(None);
+    };
+    let end = start + size;
+    let payload = &bytes[start..end];
+    match put_payload(alloc, pool, &mut reader.part, tag.number, purpose, payload) {
+        Ok(()) => {
+            count_one(&mut reader.scope, tag.number)?;
+            reader.at += end as u32;
+            Ok(Some(end))
+        }
+        Err(PayloadError::BadText(_)) => Ok(None),
+        Err(PayloadError::Memory) => Err(DecodeError::Memory),
+    }
+}
+
+/// Takes the record at the front of the bytes, if it is one of a number or of bytes and stands whole there, and how many bytes
+/// it takes.
+pub(crate) fn take_record(
+    alloc: Global,
+    pool: &Pool,
+    reader: &mut Reader,
+    bytes: &[u8],
+) -> Result<Option<usize>, DecodeError>
+    requires rules { IsPool pool.now }
+    requires reading { IsReading pool.now (state_view reader.old) bytes.now }
+    requires step { reader.old.step ≡ Tag }
+    ensures step { reader.new.step ≡ Tag }
+    ensures passes { IfOk result (λ o. IfSome o (λ n. (0 < n) × (n ≤ length bytes.now) × (reader.new.at ≡ reader.old.at + n))) }
+    ensures none { IfOk result (λ o. IfNone o (reader.new ≡ reader.old)) }
+    ensures taken { (m depth levels : ℕ) (base : List Record) (p0 : Place) → Reads pool.now m depth levels base p0 (state_view reader.old) bytes.now → IfOk result (λ o. IfSome o (λ n. Reads pool.now m depth levels base p0 (state_view reader.new) (drop n bytes.now))) }
+    ensures memory { IfErr result (λ e. e ≡ Memory) }
+{
+    let Some(tag) = record_tag(bytes, left(reader)) else {
+        return Ok(None);
+    };
+    if tag.wire_type == 2 {
+        take_bytes_record(alloc, pool, reader, tag, bytes)
+    } else if tag.wire_type == 0 || tag.wire_type == 1 || tag.wire_type == 5 {
+        take_number_record(alloc, pool, reader, tag, bytes)
+    } else {
+        Ok(None)
+    }
+}

@@ -1,0 +1,52 @@
+//! The length of a record.
+
+ghost use Rattle.std.specs.Prelude.{◌≡◌, ℕ, List, IfOk, IfErr, IfNone};
+ghost use Rattle.pb_wire.specs.Record.{Record};
+ghost use Rattle.pb_wire.specs.Fault.{Place};
+ghost use Rattle.pb_schema.specs.Rules.{IsPool};
+ghost use Rattle.pb_decode.specs.declared.step.Step.TheVariants as steps;
+ghost use Rattle.pb_decode.specs.Reader.{state_view, Reads, IsReading, Taken, Passes, IfFault, Told};
+ghost use Rattle.pb_decode.specs.Waiting.{Waits};
+
+use crate::error::DecodeError;
+use crate::fault::fault_at;
+use crate::front::front_number;
+use crate::pass_length::pass_length;
+use crate::purpose::Purpose;
+use crate::reader::{Reader, left};
+use crate::tag::payload_size;
+use pb_schema::Pool;
+use std::alloc::Global;
+
+/// Takes the length of a record.
+pub(crate) fn take_length(
+    alloc: Global,
+    pool: &Pool,
+    reader: Reader,
+    number: u32,
+    purpose: Purpose,
+    bytes: &[u8],
+) -> Result<(Reader, Option<usize>), DecodeError>
+    requires rules { IsPool pool.now }
+    requires reading { IsReading pool.now (state_view reader) bytes.now }
+    requires step { reader.step ≡ steps.Length number purpose }
+    ensures passes { IfOk result (λ r. Passes (state_view reader) bytes.now (state_view r.0) r.1) }
+    ensures taken { (m depth levels : ℕ) (base : List Record) (p0 : Place) → Reads pool.now m depth levels base p0 (state_view reader) bytes.now → IfOk result (λ r. Taken pool.now m depth levels base p0 (state_view r.0) bytes.now r.1) }
+    ensures waits { IfOk result (λ r. IfNone r.1 (Waits (state_view r.0) bytes.now)) }
+    ensures refused { (m depth levels : ℕ) (base : List Record) (p0 : Place) → Reads pool.now m depth levels base p0 (state_view reader) bytes.now → IfErr result (λ e. IfFault e (Told pool.now m depth p0)) }
+{
+    match front_number(bytes, left(&reader)) {
+        Err(cause) => Err(fault_at(alloc, &reader, reader.at, cause)),
+        Ok(None) => Ok((reader, None)),
+        Ok(Some((length, used))) => {
+            let begin = reader.at + used as u32;
+            match payload_size(length, begin, reader.scope.end) {
+                Err(cause) => Err(fault_at(alloc, &reader, reader.at, cause)),
+                Ok(size) => {
+                    let next = pass_length(alloc, reader, number, purpose, begin, size)?;
+                    Ok((next, Some(used)))
+                }
+            }
+        }
+    }
+}

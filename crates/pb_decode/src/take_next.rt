@@ -1,0 +1,96 @@
+//! The next step of a reader.
+
+ghost use Rattle.std.specs.Prelude.{◌≡◌, ℕ, List, IfOk, IfErr, IfNone};
+ghost use Rattle.pb_wire.specs.Record.{Record};
+ghost use Rattle.pb_wire.specs.Fault.{Place};
+ghost use Rattle.pb_schema.specs.Rules.{IsPool};
+ghost use Rattle.pb_decode.specs.Reader.{state_view, Reads, IsReading, Taken, Passes, IfFault, Told};
+ghost use Rattle.pb_decode.specs.Waiting.{Waits};
+ghost use Rattle.pb_decode.specs.Ended.{NothingEnds};
+
+use crate::element::take_element;
+use crate::error::DecodeError;
+use crate::quick::quick;
+use crate::reader::{Reader, take_number};
+use crate::step::Step;
+use crate::take_ended::take_ended;
+use crate::take_length::take_length;
+use crate::take_payload::take_payload;
+use crate::take_tag::take_tag;
+use pb_schema::Pool;
+use std::alloc::Global;
+
+/// Takes what comes next, where nothing ends before it.
+fn take_open(
+    alloc: Global,
+    pool: &Pool,
+    reader: Reader,
+    bytes: &[u8],
+) -> Result<(Reader, Option<usize>), DecodeError>
+    requires rules { IsPool pool.now }
+    requires reading { IsReading pool.now (state_view reader) bytes.now }
+    requires goes_on { NothingEnds (state_view reader) }
+    ensures passes { IfOk result (λ r. Passes (state_view reader) bytes.now (state_view r.0) r.1) }
+    ensures taken { (m depth levels : ℕ) (base : List Record) (p0 : Place) → Reads pool.now m depth levels base p0 (state_view reader) bytes.now → IfOk result (λ r. Taken pool.now m depth levels base p0 (state_view r.0) bytes.now r.1) }
+    ensures waits { IfOk result (λ r. IfNone r.1 (Waits (state_view r.0) bytes.now)) }
+    ensures refused { (m depth levels : ℕ) (base : List Record) (p0 : Place) → Reads pool.now m depth levels base p0 (state_view reader) bytes.now → IfErr result (λ e. IfFault e (Told pool.now m depth p0)) }
+{
+    match reader.step {
+        Step::Tag => take_tag(alloc, pool, reader, bytes),
+        Step::Varint(number, purpose) => take_number(
+            alloc, pool, reader, number, 0, purpose, bytes,
+        ),
+        Step::I64(number, purpose) => take_number(alloc, pool, reader, number, 1, purpose, bytes),
+        Step::I32(number, purpose) => take_number(alloc, pool, reader, number, 5, purpose, bytes),
+        Step::Length(number, purpose) => take_length(alloc, pool, reader, number, purpose, bytes),
+        Step::Payload(number, purpose, size) => {
+            take_payload(alloc, pool, reader, number, purpose, size, bytes)
+        }
+        Step::Elements(number, kind, outer) => {
+            take_element(alloc, pool, reader, number, kind, outer, bytes)
+        }
+    }
+}
+
+/// Takes what comes next. What ends before it is closed first.
+fn take_step(
+    alloc: Global,
+    pool: &Pool,
+    reader: Reader,
+    bytes: &[u8],
+) -> Result<(Reader, Option<usize>), DecodeError>
+    requires rules { IsPool pool.now }
+    requires reading { IsReading pool.now (state_view reader) bytes.now }
+    ensures passes { IfOk result (λ r. Passes (state_view reader) bytes.now (state_view r.0) r.1) }
+    ensures taken { (m depth levels : ℕ) (base : List Record) (p0 : Place) → Reads pool.now m depth levels base p0 (state_view reader) bytes.now → IfOk result (λ r. Taken pool.now m depth levels base p0 (state_view r.0) bytes.now r.1) }
+    ensures waits { IfOk result (λ r. IfNone r.1 (Waits (state_view r.0) bytes.now)) }
+    ensures refused { (m depth levels : ℕ) (base : List Record) (p0 : Place) → Reads pool.now m depth levels base p0 (state_view reader) bytes.now → IfErr result (λ e. IfFault e (Told pool.now m depth p0)) }
+{
+    let begun = take_ended(alloc, pool, reader)?;
+    take_open(alloc, pool, begun, bytes)
+}
+
+/// Takes what comes next at the front of the bytes: what stands whole there, and how many bytes that are. There is none
+/// where the bytes end too early, or with the message. A run of whole records or elements is taken at once.
+pub(crate) fn take_next(
+    alloc: Global,
+    pool: &Pool,
+    reader: Reader,
+    bytes: &[u8],
+) -> Result<(Reader, Option<usize>), DecodeError>
+    requires rules { IsPool pool.now }
+    requires reading { IsReading pool.now (state_view reader) bytes.now }
+    ensures passes { IfOk result (λ r. Passes (state_view reader) bytes.now (state_view r.0) r.1) }
+    ensures taken { (m depth levels : ℕ) (base : List Record) (p0 : Place) → Reads pool.now m depth levels base p0 (state_view reader) bytes.now → IfOk result (λ r. Taken pool.now m depth levels base p0 (state_view r.0) bytes.now r.1) }
+    ensures waits { IfOk result (λ r. IfNone r.1 (Waits (state_view r.0) bytes.now)) }
+    ensures refused { (m depth levels : ℕ) (base : List Record) (p0 : Place) → Reads pool.now m depth levels base p0 (state_view reader) bytes.now → IfErr result (λ e. IfFault e (Told pool.now m depth p0)) }
+{
+    let mut reader = reader;
+    let ahead = quick(alloc, pool, &mut reader, bytes)?;
+    let (next, taken) = take_step(alloc, pool, reader, &bytes[ahead..])?;
+    match taken {
+        Some(size) => Ok((next, Some(ahead + size))),
+        None if ahead > 0 => Ok((next, Some(ahead))),
+        None => Ok((next, None)),
+    }
+}

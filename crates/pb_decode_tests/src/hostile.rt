@@ -1,0 +1,146 @@
+//! Texts made to hurt.
+
+use super::answers::{answer_text, is_answered, is_refused};
+use super::sample::Schema;
+use super::words::{bytes_of, word};
+use super::worked::is_finished;
+use pb_decode::{DecodeError, PushDecoder};
+use pb_wire::{Limits, put_varint};
+use std::alloc::Global;
+use std::test::Fail;
+
+/// How often a piece is taken, of so many times, and why no more.
+fn repeat(
+    decoder: &mut PushDecoder<'_>,
+    piece: &[u8],
+    times: u32,
+) -> (u32, Result<(), DecodeError>) {
+    for taken in 0..times {
+        if let Err(error) = decoder.feed(piece) {
+            return (taken, Err(error));
+        }
+    }
+    (times, Ok(()))
+}
+
+/// Whether a piece that comes so often is taken so many times, and then the answer is as told, and the last.
+fn is_taken(
+    alloc: Global,
+    decoder: &mut PushDecoder<'_>,
+    piece: &[u8],
+    times: (u32, u32),
+    told: &str,
+) -> Result<bool, Fail> {
+    let (taken, end) = repeat(decoder, piece, times.0);
+    let is_told = match end {
+        Ok(()) => is_answered(alloc, decoder.finish(), told)?,
+        Err(error) => is_refused(alloc, error, told)?,
+    };
+    Ok(is_told && taken == times.1 && is_finished(decoder))
+}
+
+fn are_taken(alloc: Global, decoder: &mut PushDecoder<'_>, words: &str) -> Result<bool, Fail> {
+    let (piece, words) = word(words);
+    let (times, words) = word(words);
+    let (taken, told) = word(words);
+    let times = (times.parse::<u32>()?, taken.parse::<u32>()?);
+    let piece = bytes_of(alloc, piece)?;
+    is_taken(alloc, decoder, &piece, times, told)
+}
+
+/// Whether a piece that comes again and again is answered as told, and no more is taken behind it.
+pub(crate) fn is_repeated(schema: &Schema, limits: Limits, words: &str) -> Result<bool, Fail> {
+    let mut decoder = schema.decoder(limits)?;
+    are_taken(schema.alloc, &mut decoder, words)
+}
+
+/// The front of the bytes up to a place is a message, or ends there inside a record.
+fn is_front(schema: &Schema, limits: Limits, bytes: &[u8], end: usize) -> Result<bool, Fail> {
+    let front = bytes.get(..end).ok_or("no front")?;
+    let told = answer_text(schema.alloc, schema.decode(front, limits))?;
+    let place = format!(in schema.alloc; "! {end} ")?;
+    let is_cut = told.as_str().starts_with(place.as_str()) && told.as_str().ends_with(" Truncated");
+    Ok(told.as_str().starts_with("= ") || is_cut)
+}
+
+pub(crate) fn are_fronts(schema: &Schema, limits: Limits, words: &str) -> Result<bool, Fail> {
+    let bytes = bytes_of(schema.alloc, words)?;
+    for end in 0..bytes.len() {
+        if !is_front(schema, limits, &bytes, end)? {
+            return Ok(false);
+        }
+    }
+    Ok(true)
+}
+
+/// Feeds a varint of a number.
+fn feed_varint(decoder: &mut PushDecoder<'_>, number: u32) -> Result<(), DecodeError> {
+    decoder.feed(put_varint(u64::from(number) * 8).as_slice())?;
+    decoder.feed(b"\x01")
+}
+
+/// Feeds varints of so many falling numbers.
+fn feed_falling(decoder: &mut PushDecoder<'_>, count: u32) -> Result<(), DecodeError> {
+    for below in 0..count {
+        feed_varint(decoder, 1_000_100 - below % 1_000_000)?;
+    }
+    Ok(())
+}
+
+/// How many unknown records there are, of so many falling numbers.
+fn kept(decoder: &mut PushDecoder<'_>, count: u32) -> Result<usize, DecodeError> {
+    feed_falling(decoder, count)?;
+    Ok(decoder.finish()?.body().unknown.len())
+}
+
+/// Whether unknown records of so many falling numbers are all kept.
+pub(crate) fn are_falling(schema: &Schema, limits: Limits, words: &str) -> Result<bool, Fail> {
+    let count = words.parse::<u32>()?;
+    let mut decoder = schema.decoder(limits)?;
+    Ok(kept(&mut decoder, count)? == count as usize)
+}
+
+/// A decoder that is fed the front of a long text, which it does not hold.
+fn fed_one<'p>(
+    schema: &'p Schema,
+    limits: Limits,
+    piece: &[u8],
+) -> Result<PushDecoder<'p>, DecodeError> {
+    let mut decoder = schema.decoder(limits)?;
+    decoder.feed(piece)?;
+    Ok(decoder)
+}
+
+fn fed<'p>(
+    schema: &'p Schema,
+    limits: Limits,
+    piece: &[u8],
+    count: u32,
+) -> Result<Vec<PushDecoder<'p>>, DecodeError> {
+    let mut decoders = Vec::new(schema.alloc);
+    for _ in 0..count {
+        decoders.push(fed_one(schema, limits, piece)?)?;
+    }
+    Ok(decoders)
+}
+
+/// Whether each decoder holds nothing, and answers as told.
+fn are_told(alloc: Global, decoders: &mut [PushDecoder<'_>], told: &str) -> Result<bool, Fail> {
+    for decoder in decoders {
+        let is_empty = decoder.pending() == 0 && decoder.frames() == 1;
+        if !is_empty || !is_answered(alloc, decoder.finish(), told)? {
+            return Ok(false);
+        }
+    }
+    Ok(true)
+}
+
+/// Whether so many decoders, alive at once, each answer as told.
+pub(crate) fn are_alive(schema: &Schema, limits: Limits, words: &str) -> Result<bool, Fail> {
+    let (piece, words) = word(words);
+    let (count, told) = word(words);
+    let count = count.parse::<u32>()?;
+    let piece = bytes_of(schema.alloc, piece)?;
+    let mut decoders = fed(schema, limits, &piece, count)?;
+    are_told(schema.alloc, &mut decoders, told)
+}

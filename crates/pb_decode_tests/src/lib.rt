@@ -1,0 +1,25 @@
+//! Tests of `pb_decode` by its public calls: the worked rows at once, from an input that gives a byte a call, and in pieces of every
+//! cut; messages that are decoded onto, frames, what is held between pieces, refused reads and growths, and texts made to hurt.
+//! Expected values are those of the worked rows or were worked out by hand.
+#![tactic(auto)]
+
+#[cfg(test)]
+mod answers;
+#[cfg(test)]
+mod devices;
+#[cfg(test)]
+mod hostile;
+#[cfg(test)]
+mod messages;
+#[cfg(test)]
+mod pieces;
+#[cfg(test)]
+mod rows;
+#[cfg(test)]
+mod sample;
+#[cfg(test)]
+mod tests;
+#[cfg(test)]
+mod words;
+#[cfg(test)]
+mod worked;

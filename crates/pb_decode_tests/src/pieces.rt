@@ -1,0 +1,62 @@
+//! What a decoder answers to each piece, and what it holds between pieces.
+
+use super::answers::{is_answered, is_refused};
+use super::sample::Schema;
+use super::words::{bytes_of, is_number, word};
+use pb_decode::PushDecoder;
+use pb_wire::Limits;
+use std::alloc::Global;
+use std::test::Fail;
+
+/// Whether the answer to one piece, or to the end, is as told.
+fn is_taken(
+    alloc: Global,
+    decoder: &mut PushDecoder<'_>,
+    piece: &str,
+    told: &str,
+) -> Result<bool, Fail> {
+    if piece == "finish" {
+        return is_answered(alloc, decoder.finish(), told);
+    }
+    match decoder.feed(&bytes_of(alloc, piece)?) {
+        Ok(()) => Ok(told == "ok"),
+        Err(error) => is_refused(alloc, error, told),
+    }
+}
+
+/// Whether the answers to pieces are as told.
+fn are_taken(
+    alloc: Global,
+    decoder: &mut PushDecoder<'_>,
+    pieces: &str,
+    told: &str,
+) -> Result<bool, Fail> {
+    for (piece, told) in pieces.split(',').zip(told.split(';')) {
+        if !is_taken(alloc, decoder, piece, told)? {
+            return Ok(false);
+        }
+    }
+    Ok(true)
+}
+
+/// Whether so many bytes are held, and so many contexts are open.
+fn holds(decoder: &PushDecoder<'_>, pending: &str, frames: &str) -> Result<bool, Fail> {
+    Ok(is_number(decoder.pending(), pending)? && is_number(decoder.frames(), frames)?)
+}
+
+fn are_taken_and_held(
+    alloc: Global,
+    decoder: &mut PushDecoder<'_>,
+    words: &str,
+) -> Result<bool, Fail> {
+    let (pending, words) = word(words);
+    let (frames, words) = word(words);
+    let (pieces, told) = word(words);
+    Ok(are_taken(alloc, decoder, pieces, told)? && holds(decoder, pending, frames)?)
+}
+
+/// Whether the answers to pieces are as told, and what is held and open behind the last.
+pub(crate) fn is_pushed(schema: &Schema, limits: Limits, words: &str) -> Result<bool, Fail> {
+    let mut decoder = schema.decoder(limits)?;
+    are_taken_and_held(schema.alloc, &mut decoder, words)
+}

@@ -1,0 +1,193 @@
+//! The rows, of the type `T` but where it is said: a verb, a name, the greatest length and depth (`-` for the greatest that there
+//! is), and what the verb takes. Bytes are hexadecimal, `-` stands for none. An answer is written as [`answers`](super::answers) has it.
+
+/// The bytes, and the answer.
+pub(crate) const WORKED: &str = "
+decode example-1 - - - = -
+decode example-2 - - 089601 = 089601
+decode example-3 - - 08968100 = 089601
+decode example-4 - - 08feffffff0f = 08feffffffffffffffff01
+decode example-5a - - 3206038e029ea7053001 = 3207038e029ea70501
+decode example-5b - - 3200 = -
+decode example-6 - - 1a0208011a0312017a = 1a05080112017a
+decode example-7 - - 38054202080142025802 = 420408015802
+decode example-8 - - 42020801380542025802 = 42025802
+decode example-9a - - 08050800 = -
+decode example-10a - - 210000000000000080 = 210000000000000080
+decode example-10b - - 210000000000000000 = -
+decode example-11 - - 4a021007 = 4a040a001007
+decode example-12a - - a3010801a401 = a3010801a401
+decode example-12b - - a3010801ac01 ! 4 20[0] WrongEnd
+decode example-12c - - a301 ! 2 20[0] Truncated
+decode example-12d - - 1a02a301 ! 4 3[0].20[0] PastEnd
+decode example-13a - - 0a0141 = 0a0141
+decode example-13b - - 0c ! 0 - StrayEnd
+decode example-13c - - 00 ! 0 - NumberZero
+decode example-13d - - 07 ! 0 - NumberZero
+decode example-13e - - 0f ! 0 - BadType
+decode example-13f - - 8080808010 ! 0 - TagTooLarge
+decode example-14a - - 1ae9011ae6011ae3011ae0011add011ada011ad7011ad4011ad1011ace011acb011ac8011ac5011ac2011abf011abc011ab9011ab6011ab3011ab0011aad011aaa011aa7011aa4011aa1011a9e011a9b011a98011a95011a92011a8f011a8c011a89011a86011a83011a80011a7e1a7c1a7a1a781a761a741a721a701a6e1a6c1a6a1a681a661a641a621a601a5e1a5c1a5a1a581a561a541a521a501a4e1a4c1a4a1a481a461a441a421a401a3e1a3c1a3a1a381a361a341a321a301a2e1a2c1a2a1a281a261a241a221a201a1e1a1c1a1a1a181a161a141a121a101a0e1a0c1a0a1a081a061a041a021a00 = 1ae9011ae6011ae3011ae0011add011ada011ad7011ad4011ad1011ace011acb011ac8011ac5011ac2011abf011abc011ab9011ab6011ab3011ab0011aad011aaa011aa7011aa4011aa1011a9e011a9b011a98011a95011a92011a8f011a8c011a89011a86011a83011a80011a7e1a7c1a7a1a781a761a741a721a701a6e1a6c1a6a1a681a661a641a621a601a5e1a5c1a5a1a581a561a541a521a501a4e1a4c1a4a1a481a461a441a421a401a3e1a3c1a3a1a381a361a341a321a301a2e1a2c1a2a1a281a261a241a221a201a1e1a1c1a1a1a181a161a141a121a101a0e1a0c1a0a1a081a061a041a021a00
+decode example-14b - - 1aec011ae9011ae6011ae3011ae0011add011ada011ad7011ad4011ad1011ace011acb011ac8011ac5011ac2011abf011abc011ab9011ab6011ab3011ab0011aad011aaa011aa7011aa4011aa1011a9e011a9b011a98011a95011a92011a8f011a8c011a89011a86011a83011a80011a7e1a7c1a7a1a781a761a741a721a701a6e1a6c1a6a1a681a661a641a621a601a5e1a5c1a5a1a581a561a541a521a501a4e1a4c1a4a1a481a461a441a421a401a3e1a3c1a3a1a381a361a341a321a301a2e1a2c1a2a1a281a261a241a221a201a1e1a1c1a1a1a181a161a141a121a101a0e1a0c1a0a1a081a061a041a021a00 ! 237 3[0].3[0].3[0].3[0].3[0].3[0].3[0].3[0].3[0].3[0].3[0].3[0].3[0].3[0].3[0].3[0].3[0].3[0].3[0].3[0].3[0].3[0].3[0].3[0].3[0].3[0].3[0].3[0].3[0].3[0].3[0].3[0].3[0].3[0].3[0].3[0].3[0].3[0].3[0].3[0].3[0].3[0].3[0].3[0].3[0].3[0].3[0].3[0].3[0].3[0].3[0].3[0].3[0].3[0].3[0].3[0].3[0].3[0].3[0].3[0].3[0].3[0].3[0].3[0].3[0].3[0].3[0].3[0].3[0].3[0].3[0].3[0].3[0].3[0].3[0].3[0].3[0].3[0].3[0].3[0].3[0].3[0].3[0].3[0].3[0].3[0].3[0].3[0].3[0].3[0].3[0].3[0].3[0].3[0].3[0].3[0].3[0].3[0].3[0].3[0].3[0] TooDeep
+decode example-14c - - 1ae9011ae6011ae3011ae0011add011ada011ad7011ad4011ad1011ace011acb011ac8011ac5011ac2011abf011abc011ab9011ab6011ab3011ab0011aad011aaa011aa7011aa4011aa1011a9e011a9b011a98011a95011a92011a8f011a8c011a89011a86011a83011a80011a7e1a7c1a7a1a781a761a741a721a701a6e1a6c1a6a1a681a661a641a621a601a5e1a5c1a5a1a581a561a541a521a501a4e1a4c1a4a1a481a461a441a421a401a3e1a3c1a3a1a381a361a341a321a301a2e1a2c1a2a1a281a261a241a221a201a1e1a1c1a1a1a181a161a141a121a101a0e1a0c1a0a1a081a061a041a026200 = 1aef011aec011ae9011ae6011ae3011ae0011add011ada011ad7011ad4011ad1011ace011acb011ac8011ac5011ac2011abf011abc011ab9011ab6011ab3011ab0011aad011aaa011aa7011aa4011aa1011a9e011a9b011a98011a95011a92011a8f011a8c011a89011a86011a83011a80011a7e1a7c1a7a1a781a761a741a721a701a6e1a6c1a6a1a681a661a641a621a601a5e1a5c1a5a1a581a561a541a521a501a4e1a4c1a4a1a481a461a441a421a401a3e1a3c1a3a1a381a361a341a321a301a2e1a2c1a2a1a281a261a241a221a201a1e1a1c1a1a1a181a161a141a121a101a0e1a0c1a0a1a081a06620408001200
+decode example-15a - - 1a050896 ! 4 3[0].1[0] Truncated
+decode example-15b - - 1a02089601 ! 3 3[0].1[0] PastEnd
+decode example-15c - - 1a021205 ! 3 3[0].2[0] PastEnd
+decode example-15d - - 32020396 ! 3 6[0] PastEnd
+decode example-15e - - 120241ff ! 3 2[0] BadText
+decode example-15f - - 120341ff ! 4 2[0] Truncated
+decode example-17a - - 08ffffffffffffffffffff ! 1 1[0] VarintTooLong
+decode example-17b - - 08ffffffffffffffffff7f = 08ffffffffffffffffff01
+decode example-17c - - 12ffffffff0f ! 1 2[0] LengthTooLarge
+decode example-17d - - 12ffffffff07 ! 6 2[0] Truncated
+decode example-17e 2 - 089601 ! 2 - InputTooLarge
+decode example-17f 2 - 0896 ! 2 1[0] Truncated
+decode example-17g 2 - 0f0000 ! 0 - BadType
+decode example-18 - - 08960112017a1a0208012100000000000000803202030438054a050a016b10075000580162020803a3010801a401 = 08960112017a1a0208012100000000000000803202030438054a050a016b100750005801620408031200a3010801a401
+decode nesting-1 - - 62060801120208016206080112025801 = 6206080112025801
+decode nesting-2 - - 620a08011202080112025801 = 62080801120408015801
+decode nesting-3 - - 4a050a016210014a050a01611002 = 4a050a016110024a050a01621001
+decode nesting-4 - - 4a070a016b10071801 = 4a050a016b1007
+decode nesting-5 - - 4a020805 = 4a040a001000
+decode nesting-6 - - 4a031b1007 ! 5 9[0].3[0] PastEnd
+decode nesting-7 - - 4a030a01ff ! 4 9[0].1[0] BadText
+decode nesting-8 - - 4201083805 ! 3 8[0].1[0] PastEnd
+decode nesting-9 - - 420208013805 = 3805
+decode nesting-10 - 0 1a00 ! 0 3[0] TooDeep
+decode occurrences-1 - - 1a050896 ! 4 3[0].1[0] Truncated
+decode occurrences-2 - - 1a0208011a031201ff ! 8 3[1].2[0] BadText
+decode occurrences-3 - - 300132020396 ! 5 6[1] PastEnd
+decode occurrences-4 - - 0801a30108010802ac01 ! 8 20[0] WrongEnd
+";
+
+/// The same of the type `F`.
+pub(crate) const FLAT: &str = "
+decode flat_types-1 - - 72020102 = 70017002
+decode flat_types-2a - - 850100000080 = 850100000080
+decode flat_types-2b - - 850100000000 = -
+decode flat_types-3 - - 8801ffffffff0f = 8801ffffffffffffffffff01
+decode flat_types-4 - - 880105 = 880105
+decode flat_types-5 - - 6a006a0178 = 6a006a0178
+decode flat_types-6 - - 508080808010 = 5001
+decode flat_types-7 - - 58ffffffff1f = 58ffffffff0f
+decode flat_types-8 - - a006010805a00602 = 0805a00601a00602
+decode flat_types-9 - - 1201ff12017a ! 2 2[0] BadText
+decode flat_types-10 - - 92010501000000 ! 7 18[0] PastEnd
+";
+
+/// The bytes of a message, those that come onto it, and the answer. Lengths and places are those of the new bytes alone.
+pub(crate) const ONTO: &str = "
+onto example-9b - - 0805 0800 = -
+onto streams-o1 - - 42020801 42025802 = 420408015802
+onto streams-o2 - - 42020801 380542025802 = 42025802
+onto streams-o3 - - 42020801 08 ! 1 1[0] Truncated
+onto a_last_value_wins - - 0805 0806 = 0806
+onto elements_are_added - - 320101 320102 = 32020102
+onto entries_are_replaced - - 6206080112020801 6206080112025801 = 6206080112025801
+onto entries_are_added - - 4a050a016b1007 4a050a016a1008 = 4a050a016a10084a050a016b1007
+onto unknown_records_are_added - - a00601 a00602 = a00601a00602
+onto messages_go_on - - 1a020801 1a0312017a = 1a05080112017a
+onto nothing_onto_it - - 089601 - = 089601
+onto long_message 2 - 08960112017a 0805 = 080512017a
+onto long_bytes 2 - - 089601 ! 2 - InputTooLarge
+onto occurrences_begin_anew - - 1a0208011a020801 1a0212ff ! 3 3[0].2[0] PastEnd
+";
+
+/// The bytes of a message and of the one that comes over it, and the answer.
+pub(crate) const MERGES: &str = "
+merge example-9c - - 0805 0800 = 0805
+merge streams-m1 - - 42020801 3805 = 3805
+merge streams-m2 - - 42020801 42025802 = 420408015802
+merge streams-m3 - - 320101 320102 = 32020102
+merge streams-m4 - - 6206080112020801 6206080112025801 = 6206080112025801
+merge streams-m5 - - 0805 - = 0805
+";
+
+/// How many bytes are held and how many contexts are open at last (`?` where the row doesn't say), the pieces, and the answer to each.
+pub(crate) const PIECES: &str = "
+push push-1 - - 1 ? 0896 ok
+push push-2 - - 1 ? 120541 ok
+push push-3 - - 0 2 1a0508 ok
+push push-4 - - ? ? 1a020896 ! 3 3[0].1[0] PastEnd
+push push-5 - - ? ? 1a0421 ! 3 3[0].4[0] PastEnd
+push push-6 2 - ? ? 08,96,01 ok;ok;! 2 - InputTooLarge
+push push-7 - - ? ? 0c,08,finish ! 0 - StrayEnd;finished;finished
+push push-8 - - ? ? 08,01,finish,finish ok;ok;= 0801;finished
+push eight_bytes - - 4 1 2100000000 ok
+push varint_of_ten - - 9 1 08ffffffffffffffffff ok
+push tag_of_two - - 1 1 a3 ok
+push length_of_two - - 1 1 12ff ok
+push text_in_three - - 3 1 1205,61,6263 ok;ok;ok
+push whole_text - - 0 1 1203,61,6263 ok;ok;ok
+push unknown_bytes - - 2 1 aa0603,0102 ok;ok
+push packed_list - - 0 2 3203,01 ok;ok
+push element_of_two - - 1 2 32030196 ok
+push packed_list_ends - - 0 1 320201,02 ok;ok
+push message_ends - - 0 1 1a02,0801 ok;ok
+push two_levels - - 0 3 1a061a04,0801 ok;ok
+push entry_and_message - - 0 3 620608011202 ok
+push entry_ends - - 0 1 6204080112,00 ok;ok
+push entry_key - - 1 2 4a050a026b ok
+push group - - 0 2 a301 ok
+push group_in_group - - 0 3 a301a301,0801 ok;ok
+push group_ends - - 0 1 a3010801a4,01 ok;ok
+push list_in_message - - 1 3 1a0532030196 ok
+push empty_pieces - - 1 1 -,08,-,96,- ok;ok;ok;ok;ok
+push told_in_the_second - - 0 0 1a04,21,08 ok;! 3 3[0].4[0] PastEnd;finished
+push text_told_at_its_end - - 0 0 1203,61ff,62 ok;ok;! 3 2[0] BadText
+push finished_in_a_text - - 0 0 1203,61,finish ok;ok;! 3 2[0] Truncated
+push finished_in_a_message - - 0 0 1a04,0801,finish ok;ok;! 4 3[0] Truncated
+push finished_at_once - - 0 0 finish,08,finish = -;finished;finished
+";
+
+/// The place of the frame's first byte, its size, the bytes of the input, how many of them are left (`?` where the row doesn't say), and
+/// the answer.
+pub(crate) const FRAMES: &str = "
+frame first_of_three - - 1 3 0896010002 2 = 089601
+frame second_of_three - - 1 0 0208 2 = -
+frame cut_at_the_end - - 1 2 08 ? ! 2 1[0] Truncated
+frame value_past_its_end - - 1 1 0805 ? ! 2 1[0] PastEnd
+frame group_at_its_end - - 1 2 a301a401 ? ! 3 20[0] PastEnd
+frame inside_a_message - - 1 4 1a02089601 ? ! 4 3[0].1[0] PastEnd
+frame length_past_its_end - - 2 3 1a0208 ? ! 3 3[0] PastEnd
+frame ends_inside_a_message - - 1 4 1a0208 ? ! 4 3[0].1[0] Truncated
+frame longer_length - - 2 3 12017affff 2 = 12017a
+frame starts_at_0 - - 0 2 080500 1 = 0805
+frame starts_at_10 - - 10 2 0c08 ? ! 10 - StrayEnd
+frame second_of_a_number - - 1 4 08050896 ? ! 4 1[1] PastEnd
+";
+
+/// The bytes, and the answer where no growth of memory is refused.
+pub(crate) const GROWTHS: &str = "
+grow example-5a - - 3206038e029ea7053001 = 3207038e029ea70501
+grow example-6 - - 1a0208011a0312017a = 1a05080112017a
+grow example-8 - - 42020801380542025802 = 42025802
+grow example-12b - - a3010801ac01 ! 4 20[0] WrongEnd
+grow example-17e 2 - 089601 ! 2 - InputTooLarge
+grow example-18 - - 08960112017a1a0208012100000000000000803202030438054a050a016b10075000580162020803a3010801a401 = 08960112017a1a0208012100000000000000803202030438054a050a016b100750005801620408031200a3010801a401
+grow nesting-1 - - 62060801120208016206080112025801 = 6206080112025801
+grow nesting-2 - - 620a08011202080112025801 = 62080801120408015801
+grow nesting-4 - - 4a070a016b10071801 = 4a050a016b1007
+grow nesting-7 - - 4a030a01ff ! 4 9[0].1[0] BadText
+grow occurrences-2 - - 1a0208011a031201ff ! 8 3[1].2[0] BadText
+grow occurrences-3 - - 300132020396 ! 5 6[1] PastEnd
+grow occurrences-4 - - 0801a30108010802ac01 ! 8 20[0] WrongEnd
+";
+
+/// A piece, how often it comes, how often it is taken, and the answer.
+pub(crate) const DEEP: &str =
+    "repeat deep_groups - - 0b0b0b0b0b0b0b 142858 14 ! 100 1[0].1[0].1[0].1[0].1[0].1[0].1[0].1[0].1[0].1[0].1[0].1[0].1[0].1[0].1[0].1[0].1[0].1[0].1[0].1[0].1[0].1[0].1[0].1[0].1[0].1[0].1[0].1[0].1[0].1[0].1[0].1[0].1[0].1[0].1[0].1[0].1[0].1[0].1[0].1[0].1[0].1[0].1[0].1[0].1[0].1[0].1[0].1[0].1[0].1[0].1[0].1[0].1[0].1[0].1[0].1[0].1[0].1[0].1[0].1[0].1[0].1[0].1[0].1[0].1[0].1[0].1[0].1[0].1[0].1[0].1[0].1[0].1[0].1[0].1[0].1[0].1[0].1[0].1[0].1[0].1[0].1[0].1[0].1[0].1[0].1[0].1[0].1[0].1[0].1[0].1[0].1[0].1[0].1[0].1[0].1[0].1[0].1[0].1[0].1[0].1[0] TooDeep";
+
+/// Takes as many growths as `ONE_RECORD`.
+pub(crate) const MANY_RECORDS: &str = "repeat many_records - - 0805 100000 100000 = 0805";
+
+pub(crate) const ONE_RECORD: &str = "repeat one_record - - 0805 1 1 = 0805";
+
+/// Bytes, of which each front is a message or cut short.
+pub(crate) const FRONTS: &str =
+    "fronts full_message - - 08960112017a1a0208012100000000000000803202030438054a050a016b10075000580162020803a3010801a401";
+
+/// How many unknown records of falling numbers there are.
+pub(crate) const FALLING: &str = "falling unknown_numbers - - 100000";
+
+/// The front of a text, how many decoders it is fed to, which live at once, and the answer of each.
+pub(crate) const ALIVE: &str = "alive long_texts - - 12ffffffff07 100000 ! 6 2[0] Truncated";

@@ -1,0 +1,150 @@
+//! The schema that the tests speak of:
+//!
+//! enum E { Z = 0; NEG = -1; }
+//! message T { int32 a = 1; string b = 2; T c = 3; double d = 4; repeated int32 e = 6; oneof o { uint32 x = 7; T y = 8; }
+//! map<string, int32> m = 9; optional bool p = 10; sint32 s = 11; map<uint32, T> n = 12; }
+//! message F { int32 a = 1; string b = 2; double d = 4; repeated int32 e = 6; optional bool p = 10; sint32 s = 11;
+//! repeated string u = 13; repeated sint32 v = 14 [packed = false]; bytes w = 15; float g = 16; E k = 17;
+//! repeated fixed32 h = 18; }
+
+ghost use Rattle.std.specs.Prelude.{◌<◌, length};
+
+use pb_decode::{DecodeError, PushDecoder, decode};
+use pb_schema::{EnumId, EnumType, Field, FileInfo, Kind, MessageId, MessageType, Pool, Shape};
+use pb_value::DynamicMessage;
+use pb_wire::Limits;
+use std::alloc::{AllocError, Global};
+use std::test::Fail;
+
+type FieldRow = (&'static str, u32, Kind, Shape);
+
+const T: Kind = Kind::Message(MessageId(0));
+
+const E: Kind = Kind::Enum(EnumId(0));
+
+const PACKED: Shape = Shape::List { packed: true };
+
+const UNPACKED: Shape = Shape::List { packed: false };
+
+const FIELDS_OF_T: &[FieldRow] = &[
+    ("a", 1, Kind::Int32, Shape::Implicit),
+    ("b", 2, Kind::Text, Shape::Implicit),
+    ("c", 3, T, Shape::Explicit),
+    ("d", 4, Kind::Double, Shape::Implicit),
+    ("e", 6, Kind::Int32, PACKED),
+    ("x", 7, Kind::Uint32, Shape::OneofMember(0)),
+    ("y", 8, T, Shape::OneofMember(0)),
+    ("m", 9, Kind::Int32, Shape::Map { key: Kind::Text }),
+    ("p", 10, Kind::Bool, Shape::Explicit),
+    ("s", 11, Kind::Sint32, Shape::Implicit),
+    ("n", 12, T, Shape::Map { key: Kind::Uint32 }),
+];
+
+const FIELDS_OF_F: &[FieldRow] = &[
+    ("a", 1, Kind::Int32, Shape::Implicit),
+    ("b", 2, Kind::Text, Shape::Implicit),
+    ("d", 4, Kind::Double, Shape::Implicit),
+    ("e", 6, Kind::Int32, PACKED),
+    ("p", 10, Kind::Bool, Shape::Explicit),
+    ("s", 11, Kind::Sint32, Shape::Implicit),
+    ("u", 13, Kind::Text, UNPACKED),
+    ("v", 14, Kind::Sint32, UNPACKED),
+    ("w", 15, Kind::Bytes, Shape::Implicit),
+    ("g", 16, Kind::Float, Shape::Implicit),
+    ("k", 17, E, Shape::Implicit),
+    ("h", 18, Kind::Fixed32, PACKED),
+];
+
+/// The types by name, their fields and the names of their oneofs.
+type TypeRow = (&'static str, &'static [FieldRow], &'static [&'static str]);
+
+const TYPES: &[TypeRow] = &[("T", FIELDS_OF_T, &["o"]), ("F", FIELDS_OF_F, &[])];
+
+/// A pool and a message type of it.
+#[derive(Drop)]
+pub(crate) struct Schema {
+    pub(crate) alloc: Global,
+    pub(crate) pool: Pool,
+    pub(crate) kind: MessageId,
+    ghost there: { kind.0 < length pool.messages },
+}
+
+impl Schema {
+    pub(crate) fn decoder(&self, limits: Limits) -> Result<PushDecoder<'_>, DecodeError> {
+        PushDecoder::new(self.alloc, &self.pool, self.kind, limits)
+    }
+
+    pub(crate) fn decode<'p>(
+        &'p self,
+        bytes: &[u8],
+        limits: Limits,
+    ) -> Result<DynamicMessage<'p>, DecodeError> {
+        decode(self.alloc, &self.pool, self.kind, bytes, limits)
+    }
+}
+
+/// The type of a name.
+pub(crate) fn sample(alloc: Global, name: &str) -> Result<Schema, Fail> {
+    let pool = Pool::from_parts(alloc, files(alloc)?, messages(alloc)?, enums(alloc)?)?;
+    let kind = pool.message_by_name(name).ok_or("no type")?;
+    Ok(Schema { alloc, pool, kind })
+}
+
+fn files(alloc: Global) -> Result<Vec<FileInfo>, AllocError> {
+    let mut files = Vec::new(alloc);
+    files.push(FileInfo {
+        name: String::from_str(alloc, "t.proto")?,
+        package: String::new(alloc),
+        imports: Vec::new(alloc),
+    })?;
+    Ok(files)
+}
+
+fn fields_of(alloc: Global, rows: &[FieldRow]) -> Result<Vec<Field>, AllocError> {
+    let mut fields = Vec::new(alloc);
+    for (name, number, kind, shape) in rows {
+        fields.push(Field {
+            name: String::from_str(alloc, name)?,
+            number: *number,
+            kind: *kind,
+            shape: *shape,
+        })?;
+    }
+    Ok(fields)
+}
+
+fn names_of(alloc: Global, rows: &[&str]) -> Result<Vec<String>, AllocError> {
+    let mut names = Vec::new(alloc);
+    for name in rows {
+        names.push(String::from_str(alloc, name)?)?;
+    }
+    Ok(names)
+}
+
+fn messages(alloc: Global) -> Result<Vec<MessageType>, AllocError> {
+    let mut messages = Vec::new(alloc);
+    for (name, fields, oneofs) in TYPES {
+        messages.push(MessageType {
+            name: String::from_str(alloc, name)?,
+            file: 0,
+            parent: None,
+            fields: fields_of(alloc, fields)?,
+            oneofs: names_of(alloc, oneofs)?,
+        })?;
+    }
+    Ok(messages)
+}
+
+fn enums(alloc: Global) -> Result<Vec<EnumType>, AllocError> {
+    let mut values = Vec::new(alloc);
+    values.push((String::from_str(alloc, "Z")?, 0))?;
+    values.push((String::from_str(alloc, "NEG")?, -1))?;
+    let mut enums = Vec::new(alloc);
+    enums.push(EnumType {
+        name: String::from_str(alloc, "E")?,
+        file: 0,
+        parent: None,
+        values,
+    })?;
+    Ok(enums)
+}

@@ -1,0 +1,145 @@
+//! The tests: each reads its rows, in a pool of the sample's types.
+
+use super::devices::{is_framed, is_read};
+use super::hostile::{are_alive, are_falling, are_fronts, is_repeated};
+use super::messages::{is_merged, is_put_onto};
+use super::pieces::is_pushed;
+use super::rows::{
+    ALIVE, DEEP, FALLING, FLAT, FRAMES, FRONTS, GROWTHS, MANY_RECORDS, MERGES, ONE_RECORD, ONTO,
+    PIECES, WORKED,
+};
+use super::sample::{Schema, sample};
+use super::words::{limits_of, word};
+use super::worked::{is_decoded, is_grown};
+use std::alloc::Global;
+use std::test::Fail;
+
+/// Whether a row is answered as it says.
+fn is_told(schema: &Schema, row: &str) -> Result<bool, Fail> {
+    let (verb, words) = word(row);
+    let (_, words) = word(words);
+    let (length, words) = word(words);
+    let (depth, words) = word(words);
+    let limits = limits_of(length, depth)?;
+    match verb {
+        "decode" => { Ok(is_decoded(schema, limits, words)? && is_read(schema, limits, words)?) }
+        "onto" => is_put_onto(schema, limits, words),
+        "merge" => is_merged(schema, words),
+        "push" => is_pushed(schema, limits, words),
+        "frame" => is_framed(schema, limits, words),
+        "grow" => is_grown(schema, limits, words),
+        "repeat" => is_repeated(schema, limits, words),
+        "fronts" => are_fronts(schema, limits, words),
+        "falling" => are_falling(schema, limits, words),
+        "alive" => are_alive(schema, limits, words),
+        _ => Err(Fail::new("no verb")),
+    }
+}
+
+/// The first row that is answered otherwise, or none.
+fn first_wrong<'a>(schema: &Schema, rows: &'a str) -> Result<Option<&'a str>, Fail> {
+    for row in rows.lines() {
+        if !row.is_empty() && !is_told(schema, row)? {
+            return Ok(Some(row));
+        }
+    }
+    Ok(None)
+}
+
+fn wrong_row(alloc: Global, name: &str, rows: &'static str) -> Result<Option<&'static str>, Fail> {
+    let schema = sample(alloc, name)?;
+    first_wrong(&schema, rows)
+}
+
+#[test]
+fn worked_rows(rt: HostRuntime) -> Result<(), Fail> {
+    let wrong = wrong_row(rt.alloc(), "T", WORKED)?;
+    assert!(rt; wrong.is_none(), "{wrong:?}");
+    Ok(())
+}
+
+#[test]
+fn flat_rows(rt: HostRuntime) -> Result<(), Fail> {
+    let wrong = wrong_row(rt.alloc(), "F", FLAT)?;
+    assert!(rt; wrong.is_none(), "{wrong:?}");
+    Ok(())
+}
+
+#[test]
+fn onto(rt: HostRuntime) -> Result<(), Fail> {
+    let wrong = wrong_row(rt.alloc(), "T", ONTO)?;
+    assert!(rt; wrong.is_none(), "{wrong:?}");
+    Ok(())
+}
+
+#[test]
+fn merges(rt: HostRuntime) -> Result<(), Fail> {
+    let wrong = wrong_row(rt.alloc(), "T", MERGES)?;
+    assert!(rt; wrong.is_none(), "{wrong:?}");
+    Ok(())
+}
+
+#[test]
+fn pieces(rt: HostRuntime) -> Result<(), Fail> {
+    let wrong = wrong_row(rt.alloc(), "T", PIECES)?;
+    assert!(rt; wrong.is_none(), "{wrong:?}");
+    Ok(())
+}
+
+#[test]
+fn frames(rt: HostRuntime) -> Result<(), Fail> {
+    let wrong = wrong_row(rt.alloc(), "T", FRAMES)?;
+    assert!(rt; wrong.is_none(), "{wrong:?}");
+    Ok(())
+}
+
+#[test]
+fn fronts(rt: HostRuntime) -> Result<(), Fail> {
+    let wrong = wrong_row(rt.alloc(), "T", FRONTS)?;
+    assert!(rt; wrong.is_none(), "{wrong:?}");
+    Ok(())
+}
+
+#[test]
+fn deep_groups(rt: HostRuntime) -> Result<(), Fail> {
+    let wrong = wrong_row(rt.alloc(), "T", DEEP)?;
+    assert!(rt; wrong.is_none(), "{wrong:?}");
+    Ok(())
+}
+
+#[test]
+fn falling_numbers(rt: HostRuntime) -> Result<(), Fail> {
+    let wrong = wrong_row(rt.alloc(), "T", FALLING)?;
+    assert!(rt; wrong.is_none(), "{wrong:?}");
+    Ok(())
+}
+
+#[test]
+fn many_decoders(rt: HostRuntime) -> Result<(), Fail> {
+    let wrong = wrong_row(rt.alloc(), "T", ALIVE)?;
+    assert!(rt; wrong.is_none(), "{wrong:?}");
+    Ok(())
+}
+
+/// Each answer is that of ample memory or Memory where a growth is refused, which a run with `--fail-alloc` does.
+#[test]
+fn refused_growths(rt: HostRuntime) -> Result<(), Fail> {
+    let wrong = wrong_row(rt.alloc(), "T", GROWTHS)?;
+    assert!(rt; wrong.is_none(), "{wrong:?}");
+    Ok(())
+}
+
+/// Takes as many growths as `one_record`.
+#[test]
+fn many_records(rt: HostRuntime) -> Result<(), Fail> {
+    let wrong = wrong_row(rt.alloc(), "T", MANY_RECORDS)?;
+    assert!(rt; wrong.is_none(), "{wrong:?}");
+    Ok(())
+}
+
+#[test]
+fn one_record(rt: HostRuntime) -> Result<(), Fail> {
+    let wrong = wrong_row(rt.alloc(), "T", ONE_RECORD)?;
+    assert!(rt; wrong.is_none(), "{wrong:?}");
+    Ok(())
+}

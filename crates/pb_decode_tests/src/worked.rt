@@ -1,0 +1,104 @@
+//! One text however its bytes come.
+
+ghost use Rattle.std.specs.Prelude.{◌<◌};
+
+use super::answers::{is_answered, is_answered_or_memory};
+use super::sample::Schema;
+use super::words::{bytes_of, word};
+use pb_decode::{DecodeError, PushDecoder};
+use pb_value::DynamicMessage;
+use pb_wire::Limits;
+use std::test::Fail;
+
+/// A decoder that answered holds nothing, and is finished.
+pub(crate) fn is_finished(decoder: &mut PushDecoder<'_>) -> bool {
+    decoder.pending() == 0
+        && decoder.frames() == 0
+        && matches!(decoder.feed(b"\x08"), Err(DecodeError::Finished))
+        && matches!(decoder.finish(), Err(DecodeError::Finished))
+}
+
+/// The answer to a piece, and to the rest in pieces of so many bytes.
+fn in_pieces<'p>(
+    decoder: &mut PushDecoder<'p>,
+    first: &[u8],
+    rest: &[u8],
+    size: usize,
+) -> Result<DynamicMessage<'p>, DecodeError>
+    requires { 0 < size }
+{
+    decoder.feed(first)?;
+    for piece in rest.chunks(size) {
+        decoder.feed(piece)?;
+    }
+    decoder.finish()
+}
+
+/// Whether the answer to a piece, and to the rest in pieces of so many bytes, is as told, and the last.
+fn is_fed(
+    schema: &Schema,
+    limits: Limits,
+    first: &[u8],
+    rest: &[u8],
+    size: usize,
+    told: &str,
+) -> Result<bool, Fail>
+    requires { 0 < size }
+{
+    let mut decoder = schema.decoder(limits)?;
+    let is_told = is_answered(
+        schema.alloc,
+        in_pieces(&mut decoder, first, rest, size),
+        told,
+    )?;
+    Ok(is_told && is_finished(&mut decoder))
+}
+
+/// Whether the answer is as told at every cut into two.
+fn is_fed_at_cuts(schema: &Schema, limits: Limits, bytes: &[u8], told: &str) -> Result<bool, Fail> {
+    for cut in 0..bytes.len() {
+        let (first, rest) = bytes.split_at(cut);
+        if !is_fed(schema, limits, first, rest, usize::MAX, told)? {
+            return Ok(false);
+        }
+    }
+    Ok(true)
+}
+
+/// Whether the answer is as told at once, byte by byte and at every cut into two.
+pub(crate) fn is_decoded(schema: &Schema, limits: Limits, words: &str) -> Result<bool, Fail> {
+    let (input, told) = word(words);
+    let bytes = bytes_of(schema.alloc, input)?;
+    let at_once = schema.decode(&bytes, limits);
+    Ok(
+        is_answered(schema.alloc, at_once, told)?
+            && is_fed(schema, limits, b"", &bytes, 1, told)?
+            && is_fed_at_cuts(schema, limits, &bytes, told)?,
+    )
+}
+
+/// Whether the answer to pieces of three bytes is as told, or Memory, and the last.
+fn is_fed_or_memory(
+    schema: &Schema,
+    limits: Limits,
+    bytes: &[u8],
+    told: &str,
+) -> Result<bool, Fail> {
+    let Ok(mut decoder) = schema.decoder(limits) else {
+        return Ok(true);
+    };
+    let answer = in_pieces(&mut decoder, b"", bytes, 3);
+    let is_told = is_answered_or_memory(schema.alloc, answer, told)?;
+    Ok(is_told && is_finished(&mut decoder))
+}
+
+/// Whether each answer is as told, or Memory where a growth is refused.
+pub(crate) fn is_grown(schema: &Schema, limits: Limits, words: &str) -> Result<bool, Fail> {
+    let (input, told) = word(words);
+    let bytes = bytes_of(schema.alloc, input)?;
+    let at_once = schema.decode(&bytes, limits);
+    Ok(
+        is_answered_or_memory(schema.alloc, at_once, told)?
+            && is_fed_or_memory(schema, limits, &bytes, told)?,
+    )
+}
