@@ -1,0 +1,5 @@
+pub mod LengthLemmas
+pub mod WritingLemmas
+pub mod FrameLemmas
+pub mod OneFrame
+mod Rows

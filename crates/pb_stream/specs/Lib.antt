@@ -1,0 +1,4 @@
+pub mod Frame
+pub mod Taking
+pub mod Writing
+pub mod Stream

@@ -1,0 +1,45 @@
+-- What is taken of a device where a frame is read from it.
+use Rattle.std.specs.Prelude.{◌≡◌, ◌+◌, ◌-◌, ◌^◌, ◌<◌, ◌≤◌, ℕ, min, List, [], ◌++◌, length, Option}
+use Rattle.std.specs.List.{AllByRecursion}
+use Rattle.std.specs.Io.KnownBytes.{Consumes, IsAtEnd}
+use Rattle.pb_wire.specs.Varint.{EndsOnce, IsVarint}
+use Rattle.pb_wire.specs.Fault.{IsHigh}
+use Rattle.pb_wire.specs.Limits.{Bounds}
+
+-- These bytes don't go past the end of the frame that they begin: they are in its length, or behind a length that is within the limit there are
+-- no more of them than it counts.
+pub data IsInFrame (limits : Bounds) (taken : List ℕ) : Type 0 where
+  in_length : length taken ≤ 10 → AllByRecursion IsHigh taken → IsInFrame limits taken
+  whole_length : {n : ℕ} → IsVarint n taken → IsInFrame limits taken
+  in_text :
+      {n : ℕ} {front : List ℕ} → (text : List ℕ) → taken ≡ front ++ text → IsVarint n front → n ≤ limits.bytes → length text ≤ n → IsInFrame limits taken
+
+-- what was taken of an input goes no further than its frame
+abbrev pub StaysInFrame : Bounds → Option (List ℕ) → Option (List ℕ) → Type 0
+StaysInFrame limits old new = (taken : List ℕ) × Consumes old new taken × IsInFrame limits taken
+
+-- so many bytes were taken
+abbrev pub Takes : ℕ → Option (List ℕ) → Option (List ℕ) → Type 0
+Takes size old new = (taken : List ℕ) × (length taken ≡ size) × Consumes old new taken
+
+-- high bytes were taken, fewer than ten
+abbrev pub TakesHigh : Option (List ℕ) → Option (List ℕ) → Type 0
+TakesHigh old new = (taken : List ℕ) × (length taken < 10) × AllByRecursion IsHigh taken × Consumes old new taken
+
+-- bytes that were taken as those of a varint: the last is below 128, or all are high and there are ten, or no more were left
+pub data EndsVarint (taken : List ℕ) (left : Option (List ℕ)) : Type 0 where
+  low : EndsOnce taken → EndsVarint taken left
+  too_long : length taken ≡ 10 → AllByRecursion IsHigh taken → EndsVarint taken left
+  cut : AllByRecursion IsHigh taken → IsAtEnd left → EndsVarint taken left
+
+-- the bytes of a length were taken
+abbrev pub TakesLength : ℕ → ℕ → Option (List ℕ) → Option (List ℕ) → Type 0
+TakesLength start size old new = (front : List ℕ) × IsVarint size front × (length front ≡ start) × Consumes old new front
+
+-- nothing was taken, since nothing was left
+abbrev pub TakesNone : Option (List ℕ) → Option (List ℕ) → Type 0
+TakesNone old new = Consumes old new [] × IsAtEnd new
+
+-- how many bytes were taken is counted, up to the greatest u64
+abbrev pub Counts : ℕ → ℕ → Option (List ℕ) → Option (List ℕ) → Type 0
+Counts before after old new = (taken : List ℕ) × Consumes old new taken × (after ≡ min (before + length taken) (2 ^ 64 - 1))

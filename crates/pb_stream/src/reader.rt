@@ -1,0 +1,119 @@
+//! The messages of one input, in turn.
+
+use crate::reading::read_frame;
+use pb_decode::DecodeError;
+use pb_schema::{MessageId, Pool};
+use pb_value::DynamicMessage;
+use pb_wire::{Input, Limits};
+use std::alloc::Global;
+use std::marker::Model;
+
+/// Reads the messages of one input in turn, each behind its length. All are of one type.
+#[derive(Drop)]
+pub struct DelimitedReader<'p, I: Drop> {
+    alloc: Global,
+    pool: &'p Pool,
+    kind: MessageId,
+    limits: Limits,
+    input: I,
+    taken: u64,
+    finished: bool,
+}
+
+impl<'p, I: Drop> Model for DelimitedReader<'p, I> {
+    ghost use Rattle.std.specs.Prelude.{length, ◌<◌};
+    ghost use Rattle.pb_stream.specs.Stream.{Stream};
+
+    ghost Value = { Stream I };
+
+    ghost view = { λ r. record { pool = r.pool.now; kind = r.kind.0; limits = r.limits; input = r.input; taken = r.taken; finished = r.finished } };
+
+    ghost invariant = { λ r. r.kind.0 < length r.pool.now.messages };
+}
+
+impl<'p, I: Input + Drop> DelimitedReader<'p, I> {
+    ghost use Rattle.std.specs.Prelude.{◌≡◌, ◌≢◌, ◌<◌, ℕ, List, [], true, false, Some, None, Err, length, IfOk, IfErr, IfSome, IfNone, IsSomeAnd, IsErrAnd, MatchResult, OnOk, OnErr};
+    ghost use Rattle.pb_wire.specs.Fault.{Fault};
+    ghost use Rattle.pb_value.specs.Data.{Message};
+    ghost use Rattle.pb_decode.specs.declared.error.DecodeError.TheVariants.{Device, Finished};
+    ghost use Rattle.pb_decode.specs.FromDevice.{IfRefused, IsNoFault, TellsFailures};
+    ghost use Rattle.pb_stream.specs.Frame.{Frame, FrameFault};
+    ghost use Rattle.pb_stream.specs.Taking.{StaysInFrame, TakesNone, Counts};
+
+    /// A reader that has taken no byte. `kind` is a type of the pool.
+    pub fn new(
+        alloc: Global,
+        pool: &'p Pool,
+        kind: MessageId,
+        input: I,
+        limits: Limits,
+    ) -> DelimitedReader<'p, I>
+        requires { kind.0 < length pool.now.messages }
+        ensures { result ≡ record { pool = pool.now; kind = kind.0; limits = limits; input = input; taken = 0; finished = false } }
+    {
+        DelimitedReader {
+            alloc,
+            pool,
+            kind,
+            limits,
+            input,
+            taken: 0,
+            finished: false,
+        }
+    }
+
+    /// The next message, or nothing where nothing is left, as [`read_delimited`] reads it. After nothing a further call
+    /// reads again; after a refusal each call answers [`DecodeError::Finished`].
+    ///
+    /// [`read_delimited`]: crate::read_delimited
+    pub fn next(&mut self) -> Result<Option<DynamicMessage<'p>>, DecodeError>
+        ensures same { (self.new.pool ≡ self.old.pool) × (self.new.kind ≡ self.old.kind) × (self.new.limits ≡ self.old.limits) }
+        ensures finished { self.old.finished ≡ true → (result ≡ Err Finished) × (self.new ≡ self.old) }
+        ensures closes { OnErr result (self.new.finished ≡ true) }
+        ensures goes_on { OnOk result (self.new.finished ≡ false) }
+        ensures counted { OnOk result (Counts self.old.taken self.new.taken (I.left self.old.input) (I.left self.new.input)) }
+
+        ensures of_type { IfOk result (λ o. IfSome o (λ m. (m.pool ≡ self.old.pool) × (m.kind ≡ self.old.kind))) }
+        ensures end { IfOk result (λ o. IfNone o (TakesNone (I.left self.old.input) (I.left self.new.input))) }
+        ensures message { IfSome (I.left self.old.input) (λ left. IfOk result (λ o. IfSome o (λ m. IsSomeAnd (I.left self.new.input) (Frame self.old.pool self.old.kind self.old.limits left m.body)))) }
+        ensures fault { self.old.finished ≡ false → IfErr result (λ e. IfRefused e (λ f. IfSome (I.left self.old.input) (λ left. FrameFault self.old.pool self.old.kind self.old.limits left f))) }
+
+        // Until it has refused, whatever is right is answered, but where memory or the input fails.
+        ensures ended { self.old.finished ≡ false → I.left self.old.input ≡ Some [] → MatchResult result (λ o. o ≡ None) (λ e. e ≡ Device) }
+        ensures accepted { self.old.finished ≡ false → IfSome (I.left self.old.input) (λ left. (v : Message) (rest : List ℕ) → Frame self.old.pool self.old.kind self.old.limits left v rest → MatchResult result (λ o. IsSomeAnd o (λ m. m.body ≡ v)) IsNoFault) }
+        ensures refused { self.old.finished ≡ false → IfSome (I.left self.old.input) (λ left. (f : Fault) → FrameFault self.old.pool self.old.kind self.old.limits left f → IsErrAnd result (λ e. IfRefused e (λ g. g ≡ f))) }
+
+        ensures within { StaysInFrame self.old.limits (I.left self.old.input) (I.left self.new.input) }
+        ensures failures { TellsFailures result (I.failures self.old.input) (I.failures self.new.input) }
+        ensures steady { I.is_steady self.old.input ≡ true → result ≢ Err Device }
+        ensures stays { I.is_steady self.old.input ≡ true → I.is_steady self.new.input ≡ true }
+    {
+        if self.finished {
+            return Err(DecodeError::Finished);
+        }
+        match read_frame(
+            self.alloc,
+            self.pool,
+            self.kind,
+            &mut self.input,
+            self.limits,
+        ) {
+            Ok(None) => Ok(None),
+            Ok(Some(framed)) => {
+                self.taken = self.taken.saturating_add(framed.size);
+                Ok(Some(framed.message))
+            }
+            Err(error) => {
+                self.finished = true;
+                Err(error)
+            }
+        }
+    }
+
+    /// How many bytes the calls of `next` took that answered no refusal. The greatest u64 stands for more.
+    pub fn taken(&self) -> u64
+        ensures { result ≡ self.now.taken }
+    {
+        self.taken
+    }
+}

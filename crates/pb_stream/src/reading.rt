@@ -1,0 +1,115 @@
+//! Frames from a device.
+
+ghost use Rattle.std.specs.Prelude.{◌≡◌, ◌≢◌, ◌<◌, ℕ, List, [], true, Some, None, Err, length, IfOk, IfErr, IfSome, IfNone, IsSomeAnd, IsErrAnd, MatchResult, OnOk};
+ghost use Rattle.pb_wire.specs.Fault.{Fault};
+ghost use Rattle.pb_value.specs.Data.{Message};
+ghost use Rattle.pb_decode.specs.declared.error.DecodeError.TheVariants.{Memory, Device, Finished};
+ghost use Rattle.pb_decode.specs.FromDevice.{IfRefused, IsNoFault, TellsFailures};
+ghost use Rattle.pb_stream.specs.Frame.{Frame, FrameFault};
+ghost use Rattle.pb_stream.specs.Taking.{StaysInFrame, Takes, TakesNone};
+
+use crate::length::read_length;
+use pb_decode::{DecodeError, decode_frame};
+use pb_schema::{MessageId, Pool};
+use pb_value::DynamicMessage;
+use pb_wire::{Input, Limits};
+use std::alloc::Global;
+
+/// A message, and how many bytes its frame has.
+#[derive(Drop)]
+pub(crate) struct Framed<'p> {
+    pub(crate) message: DynamicMessage<'p>,
+    pub(crate) size: u64,
+}
+
+/// Takes the frame that the input begins with, or nothing where nothing is left.
+fn take_frame<'p, I: Input>(
+    alloc: Global,
+    pool: &'p Pool,
+    kind: MessageId,
+    input: &mut I,
+    limits: Limits,
+) -> Result<Option<Framed<'p>>, DecodeError>
+    requires { kind.0 < length pool.now.messages }
+    ensures of_type { IfOk result (λ o. IfSome o (λ r. (r.message.pool ≡ pool.now) × (r.message.kind ≡ kind.0))) }
+    ensures end { IfOk result (λ o. IfNone o (TakesNone (I.left input.old) (I.left input.new))) }
+    ensures message { IfSome (I.left input.old) (λ left. IfOk result (λ o. IfSome o (λ r. IsSomeAnd (I.left input.new) (Frame pool.now kind.0 limits left r.message.body)))) }
+    ensures counted { IfOk result (λ o. IfSome o (λ r. Takes r.size (I.left input.old) (I.left input.new))) }
+    ensures fault { IfErr result (λ e. IfRefused e (λ f. IfSome (I.left input.old) (λ left. FrameFault pool.now kind.0 limits left f))) }
+    ensures within { StaysInFrame limits (I.left input.old) (I.left input.new) }
+    ensures failures { TellsFailures result (I.failures input.old) (I.failures input.new) }
+    ensures none_left { I.left input.old ≡ Some [] → result ≢ Err Memory }
+    ensures steady { I.is_steady input.old ≡ true → result ≢ Err Device }
+    ensures stays { I.is_steady input.old ≡ true → I.is_steady input.new ≡ true }
+{
+    let Some(header) = read_length(alloc, input, limits)? else {
+        return Ok(None);
+    };
+    let start = header.start as u64;
+    let message = decode_frame(alloc, pool, kind, input, start, header.size, limits)?;
+    Ok(Some(Framed {
+        message,
+        size: start + u64::from(header.size),
+    }))
+}
+
+/// Reads the frame that the input begins with, as [`read_delimited`] does.
+pub(crate) fn read_frame<'p, I: Input>(
+    alloc: Global,
+    pool: &'p Pool,
+    kind: MessageId,
+    input: &mut I,
+    limits: Limits,
+) -> Result<Option<Framed<'p>>, DecodeError>
+    requires { kind.0 < length pool.now.messages }
+    ensures of_type { IfOk result (λ o. IfSome o (λ r. (r.message.pool ≡ pool.now) × (r.message.kind ≡ kind.0))) }
+    ensures end { IfOk result (λ o. IfNone o (TakesNone (I.left input.old) (I.left input.new))) }
+    ensures message { IfSome (I.left input.old) (λ left. IfOk result (λ o. IfSome o (λ r. IsSomeAnd (I.left input.new) (Frame pool.now kind.0 limits left r.message.body)))) }
+    ensures counted { IfOk result (λ o. IfSome o (λ r. Takes r.size (I.left input.old) (I.left input.new))) }
+    ensures fault { IfErr result (λ e. IfRefused e (λ f. IfSome (I.left input.old) (λ left. FrameFault pool.now kind.0 limits left f))) }
+
+    ensures ended { I.left input.old ≡ Some [] → MatchResult result (λ o. o ≡ None) (λ e. e ≡ Device) }
+    ensures accepted { IfSome (I.left input.old) (λ left. (v : Message) (rest : List ℕ) → Frame pool.now kind.0 limits left v rest → MatchResult result (λ o. IsSomeAnd o (λ r. r.message.body ≡ v)) IsNoFault) }
+    ensures refused { IfSome (I.left input.old) (λ left. (f : Fault) → FrameFault pool.now kind.0 limits left f → IsErrAnd result (λ e. IfRefused e (λ g. g ≡ f))) }
+
+    ensures within { StaysInFrame limits (I.left input.old) (I.left input.new) }
+    ensures failures { TellsFailures result (I.failures input.old) (I.failures input.new) }
+    ensures steady { I.is_steady input.old ≡ true → result ≢ Err Device }
+    ensures stays { I.is_steady input.old ≡ true → I.is_steady input.new ≡ true }
+{
+    take_frame(alloc, pool, kind, input, limits)
+}
+
+/// Reads a message of a type behind its length, or nothing where nothing is left.
+///
+/// Just the frame is read: the length byte by byte, and then the bytes that it counts. Where the input begins with no frame,
+/// [`DecodeError::Fault`] tells the place from the first byte of the length on, and no byte past the frame is read. A length
+/// above `max_bytes` of the limits is too large. `kind` is a type of the pool.
+pub fn read_delimited<'p, I: Input>(
+    alloc: Global,
+    pool: &'p Pool,
+    kind: MessageId,
+    input: &mut I,
+    limits: Limits,
+) -> Result<Option<DynamicMessage<'p>>, DecodeError>
+    requires { kind.0 < length pool.now.messages }
+    ensures of_type { IfOk result (λ o. IfSome o (λ m. (m.pool ≡ pool.now) × (m.kind ≡ kind.0))) }
+    ensures end { IfOk result (λ o. IfNone o (TakesNone (I.left input.old) (I.left input.new))) }
+    ensures message { IfSome (I.left input.old) (λ left. IfOk result (λ o. IfSome o (λ m. IsSomeAnd (I.left input.new) (Frame pool.now kind.0 limits left m.body)))) }
+    ensures fault { IfErr result (λ e. IfRefused e (λ f. IfSome (I.left input.old) (λ left. FrameFault pool.now kind.0 limits left f))) }
+
+    // Whatever is right is answered, but where memory or the input fails.
+    ensures ended { I.left input.old ≡ Some [] → MatchResult result (λ o. o ≡ None) (λ e. e ≡ Device) }
+    ensures accepted { IfSome (I.left input.old) (λ left. (v : Message) (rest : List ℕ) → Frame pool.now kind.0 limits left v rest → MatchResult result (λ o. IsSomeAnd o (λ m. m.body ≡ v)) IsNoFault) }
+    ensures refused { IfSome (I.left input.old) (λ left. (f : Fault) → FrameFault pool.now kind.0 limits left f → IsErrAnd result (λ e. IfRefused e (λ g. g ≡ f))) }
+
+    ensures within { StaysInFrame limits (I.left input.old) (I.left input.new) }
+    ensures failures { TellsFailures result (I.failures input.old) (I.failures input.new) }
+    ensures steady { I.is_steady input.old ≡ true → result ≢ Err Device }
+    ensures stays { I.is_steady input.old ≡ true → I.is_steady input.new ≡ true }
+{
+    match read_frame(alloc, pool, kind, input, limits)? {
+        None => Ok(None),
+        Some(framed) => Ok(Some(framed.message)),
+    }
+}

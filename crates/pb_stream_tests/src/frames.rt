@@ -1,0 +1,270 @@
+//! What streams hold, by worked rows.
+
+ghost use Rattle.std.specs.Prelude.{◌<◌};
+
+use super::sample::{Schema, sample};
+use pb_decode::DecodeError;
+use pb_encode::encode;
+use pb_stream::{DelimitedReader, read_delimited};
+use pb_wire::{Cause, FailurePlan, Input, Limits, MemInput, PathStep};
+use std::alloc::Global;
+use std::test::Fail;
+
+/// A refusal: its place, the number of the record that it stands in, the first of that number, if there is one, and its cause.
+struct Refusal {
+    byte: u64,
+    number: Option<u32>,
+    cause: Cause,
+}
+
+/// A stream: its bytes, the longest text that is read, for each message its canonical bytes and how many bytes were taken
+/// so far, and the refusal behind them, if there is one.
+struct Row {
+    input: &'static str,
+    most: u32,
+    messages: &'static [(&'static str, u64)],
+    refusal: Option<Refusal>,
+}
+
+const ROWS: &[Row] = &[
+    Row {
+        input: "03089601000208",
+        most: 100,
+        messages: &[("089601", 4), ("", 5)],
+        refusal: Some(Refusal {
+            byte: 2,
+            number: Some(1),
+            cause: Cause::Truncated,
+        }),
+    },
+    Row {
+        input: "010805",
+        most: 100,
+        messages: &[],
+        refusal: Some(Refusal {
+            byte: 2,
+            number: Some(1),
+            cause: Cause::PastEnd,
+        }),
+    },
+    Row {
+        input: "80",
+        most: 100,
+        messages: &[],
+        refusal: Some(Refusal {
+            byte: 1,
+            number: None,
+            cause: Cause::Truncated,
+        }),
+    },
+    Row {
+        input: "",
+        most: 100,
+        messages: &[],
+        refusal: None,
+    },
+    Row {
+        input: "ffffffff0f",
+        most: 0x7fff_ffff,
+        messages: &[],
+        refusal: Some(Refusal {
+            byte: 0,
+            number: None,
+            cause: Cause::LengthTooLarge,
+        }),
+    },
+    Row {
+        input: "ffffffffffffffffffff",
+        most: 100,
+        messages: &[],
+        refusal: Some(Refusal {
+            byte: 0,
+            number: None,
+            cause: Cause::VarintTooLong,
+        }),
+    },
+    Row {
+        input: "03089601000408960100",
+        most: 3,
+        messages: &[("089601", 4), ("", 5)],
+        refusal: Some(Refusal {
+            byte: 0,
+            number: None,
+            cause: Cause::LengthTooLarge,
+        }),
+    },
+    Row {
+        input: "83000896010208960c",
+        most: 100,
+        messages: &[("089601", 5)],
+        refusal: Some(Refusal {
+            byte: 2,
+            number: Some(1),
+            cause: Cause::PastEnd,
+        }),
+    },
+    Row {
+        input: "020c00",
+        most: 100,
+        messages: &[],
+        refusal: Some(Refusal {
+            byte: 1,
+            number: None,
+            cause: Cause::StrayEnd,
+        }),
+    },
+];
+
+fn is_path(path: &[PathStep], number: Option<u32>) -> bool {
+    match number {
+        None => path.is_empty(),
+        Some(number) => {
+            let step = PathStep {
+                number,
+                occurrence: 0,
+            };
+            path == [step].as_slice()
+        }
+    }
+}
+
+fn is_refusal(error: &DecodeError, refusal: &Refusal) -> bool {
+    match error {
+        DecodeError::Fault { byte, path, cause } => {
+            *byte == refusal.byte && *cause == refusal.cause && is_path(path, refusal.number)
+        }
+        _ => false,
+    }
+}
+
+/// Whether the reader tells the end, or the refusal and from then on that it is finished.
+fn ends_so(reader: &mut DelimitedReader<'_, MemInput<'_>>, refusal: Option<&Refusal>) -> bool {
+    let taken = reader.taken();
+    let is_told = match (&reader.next(), refusal) {
+        (Ok(None), None) => reader.taken() == taken,
+        (Err(error), Some(refusal)) => is_refusal(error, refusal),
+        _ => false,
+    };
+    let again = reader.next();
+    is_told
+        && match refusal {
+            None => matches!(again, Ok(None)),
+            Some(_) => matches!(again, Err(DecodeError::Finished)),
+        }
+}
+
+/// Whether the next message has these canonical bytes, and so many bytes are taken then.
+fn is_next(
+    alloc: Global,
+    reader: &mut DelimitedReader<'_, MemInput<'_>>,
+    text: &str,
+    taken: u64,
+) -> Result<bool, Fail> {
+    let wanted = hex::decode(alloc, text)?;
+    match reader.next()? {
+        None => Ok(false),
+        Some(message) => {
+            Ok(encode(&message)?.as_slice() == wanted.as_slice() && reader.taken() == taken)
+        }
+    }
+}
+
+/// Whether a row is read so, at so many bytes a read.
+fn is_read(alloc: Global, schema: &Schema, row: &Row, piece: usize) -> Result<bool, Fail>
+    requires { 0 < piece }
+{
+    let limits = Limits::new(row.most, 100).ok_or("limits")?;
+    let bytes = hex::decode(alloc, row.input)?;
+    let input = MemInput::new(&bytes, piece, FailurePlan::NEVER);
+    let mut reader = DelimitedReader::new(alloc, &schema.pool, schema.kind, input, limits);
+    for (text, taken) in row.messages {
+        if !is_next(alloc, &mut reader, text, *taken)? {
+            return Ok(false);
+        }
+    }
+    Ok(ends_so(&mut reader, row.refusal.as_ref()))
+}
+
+/// Reads each row, and fails with the bytes of one that is read otherwise.
+fn read_rows(alloc: Global, schema: &Schema) -> Result<(), Fail> {
+    for row in ROWS {
+        if !is_read(alloc, schema, row, 1)? || !is_read(alloc, schema, row, 100)? {
+            return Err(Fail::new(row.input));
+        }
+    }
+    Ok(())
+}
+
+#[test]
+fn rows(rt: HostRuntime) -> Result<(), Fail> {
+    let schema = sample(rt.alloc())?;
+    read_rows(rt.alloc(), &schema)
+}
+
+/// How many bytes are left of an input after one read of a frame that is refused.
+fn left_after(alloc: Global, schema: &Schema, bytes: &[u8]) -> Result<usize, Fail> {
+    let mut input = MemInput::new(bytes, 100, FailurePlan::NEVER);
+    let read = read_delimited(alloc, &schema.pool, schema.kind, &mut input, Limits::FULL);
+    if !matches!(
+        read,
+        Err(DecodeError::Fault {
+            byte: _,
+            path: _,
+            cause: _
+        })
+    ) {
+        return Err(Fail::new("no fault"));
+    }
+    let mut rest = [0u8; 16];
+    Ok(input.read(&mut rest)?)
+}
+
+/// Frames that are refused, and how many bytes come after each.
+const REFUSED: &[(&[u8], usize)] = &[
+    (b"\x01\x08\x05\x00", 2),
+    (b"\xff\xff\xff\xff\x0f\x00\x00\x00", 3),
+    (b"\xff\xff\xff\xff\xff\xff\xff\xff\xff\xff\x00", 1),
+];
+
+/// Whether what comes after each frame that is refused is left.
+fn leaves_the_rest(alloc: Global, schema: &Schema) -> Result<bool, Fail> {
+    for (bytes, after) in REFUSED {
+        if left_after(alloc, schema, bytes)? != *after {
+            return Ok(false);
+        }
+    }
+    Ok(true)
+}
+
+#[test]
+fn what_is_left(rt: HostRuntime) -> Result<(), Fail> {
+    let schema = sample(rt.alloc())?;
+    assert!(rt; leaves_the_rest(rt.alloc(), &schema)?);
+    Ok(())
+}
+
+/// Whether there are so many messages.
+fn has_messages(reader: &mut DelimitedReader<'_, MemInput<'_>>, count: u64) -> Result<bool, Fail> {
+    for _ in 0..count {
+        if reader.next()?.is_none() {
+            return Ok(false);
+        }
+    }
+    Ok(reader.next()?.is_none())
+}
+
+/// Many empty messages.
+#[test]
+fn a_thousand_frames(rt: HostRuntime) -> Result<(), Fail> {
+    let schema = sample(rt.alloc())?;
+    let input = MemInput::new(&[0; 1000], 4096, FailurePlan::NEVER);
+    let mut reader = DelimitedReader::new(
+        rt.alloc(),
+        &schema.pool,
+        schema.kind,
+        input,
+        Limits::FULL,
+    );
+    assert!(rt; has_messages(&mut reader, 1000)? && reader.taken() == 1000);
+    Ok(())
+}
