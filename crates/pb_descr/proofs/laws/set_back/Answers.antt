@@ -1,0 +1,13 @@
+use Rattle.std.proofs.Common.{refl}
+use Rattle.pb_descr.specs.Sets.{set_bytes}
+use Rattle.pb_descr.proofs.PoolRules.{descriptor_is_pool}
+use Rattle.pb_descr.proofs.RoundTrip.{set_back}
+use Rattle.pb_descr.proofs.WriteLemmas.{written_is_set}
+use Rattle.pb_descr.proofs.laws.set_back.Goals as goal
+
+pub returns : goal.returns
+returns c = record {
+  files = set_back;
+  bytes = λ files. written_is_set files (set_bytes files) refl;
+  pool = descriptor_is_pool;
+}

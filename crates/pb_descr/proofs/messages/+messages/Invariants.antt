@@ -1,0 +1,8 @@
+use Rattle.std.proofs.Common.{◌≡◌, map, take}
+use Rattle.pb_value.specs.View.{value_view}
+use Rattle.pb_descr.specs.View.{message_view}
+use Rattle.pb_descr.specs.Writing.{message_body}
+use Rattle.pb_descr.proofs.messages.+messages.Given as goal
+
+abbrev pub invariant-message_values-loop-declared : goal.invariant-message_values-loop-declared
+invariant-message_values-loop-declared l = map value_view l.values.items ≡ map message_body (map message_view (take l.declared-index l.messages.items))

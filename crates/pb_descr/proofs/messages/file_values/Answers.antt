@@ -1,0 +1,14 @@
+use Rattle.std.proofs.Common.{map, arith}
+use Rattle.std.proofs.lemmas.Result.{err_from_is_err_and}
+use Rattle.pb_value.specs.Data.{levels_of, datums_depth, datums_of}
+use Rattle.pb_descr.specs.View.{file_view}
+use Rattle.pb_descr.specs.Writing.{file_body}
+use Rattle.pb_descr.proofs.DepthLemmas.{element_below, cut_further}
+use Rattle.pb_descr.proofs.messages.file_values.Goals as goal
+
+pub returns-in_err-value-clause-refused : goal.returns-in_err-value-clause-refused
+returns-in_err-value-clause-refused c =
+    let p = err_from_is_err_and c.from_residual-in_err-value.result c.from_residual-in_err-value.ensures.1 in
+    let below = element_below file_view file_body c.args.files.now c.loop-file.file-index c.file-item.result (omega arith) c.file-item.is in
+    rw (p.1, p.2) (cut_further c.in_err-value.field-0.0 100 (levels_of (file_body (file_view c.file-item.result))) 100
+    (datums_depth (datums_of (map file_body (map file_view c.args.files.now)))) (λ deep. omega arith) c.in_err-value.ensures.refused)

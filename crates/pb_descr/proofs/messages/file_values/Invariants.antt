@@ -1,0 +1,8 @@
+use Rattle.std.proofs.Common.{◌≡◌, map, take}
+use Rattle.pb_value.specs.View.{value_view}
+use Rattle.pb_descr.specs.View.{file_view}
+use Rattle.pb_descr.specs.Writing.{file_body}
+use Rattle.pb_descr.proofs.messages.file_values.Given as goal
+
+abbrev pub invariant-loop-file : goal.invariant-loop-file
+invariant-loop-file l = map value_view l.values.items ≡ map file_body (map file_view (take l.file-index l.files))

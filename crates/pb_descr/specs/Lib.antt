@@ -1,0 +1,12 @@
+pub mod CauseName
+pub mod Causes
+pub mod Contents
+pub mod Decls
+pub mod ErrorNumber
+pub mod Held
+pub mod Pool
+pub mod PoolRows
+pub mod Reading
+pub mod Sets
+pub mod View
+pub mod Writing

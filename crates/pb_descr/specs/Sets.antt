@@ -1,0 +1,70 @@
+-- Which bytes are a set of declared files, and why sets are not read or written.
+use Rattle.std.specs.Prelude.{◌≡◌, ◌≤◌, ◌<◌, ◌^◌, ⊤, ℕ, List, [], length, slice_get, Some}
+use Rattle.pb_wire.specs.Limits.{Bounds}
+use Rattle.pb_wire.specs.Fault.{Fault, fault}
+use Rattle.pb_wire.specs.Grammar.{HasFault}
+use Rattle.pb_schema.specs.Context.{a_message, schema_of}
+use Rattle.pb_value.specs.Data.{Message, message_depth}
+use Rattle.pb_value.specs.Derives.{Text}
+use Rattle.pb_value.specs.Canon.{canon_bytes}
+use Rattle.pb_descr.specs.declared.cause.DeclCause.{DeclCause}
+use Rattle.pb_descr.specs.declared.error.DescrError.{DescrError}
+use Rattle.pb_descr.specs.declared.error.DescrError.TheVariants as descr
+use Rattle.pb_descr.specs.declared.error.WriteSetError.{WriteSetError}
+use Rattle.pb_descr.specs.declared.error.WriteSetError.TheVariants.{TooDeep, TooLarge, Memory}
+use Rattle.pb_descr.specs.Decls.{DeclaredFile}
+use Rattle.pb_descr.specs.Pool.{the_set, descriptor_types}
+use Rattle.pb_descr.specs.Reading.{files_in}
+use Rattle.pb_descr.specs.Causes.{set_causes}
+use Rattle.pb_descr.specs.Writing.{set_body}
+
+-- the canonical bytes of the set of some files
+abbrev pub set_bytes : List DeclaredFile → List ℕ
+set_bytes files = canon_bytes descriptor_types the_set (set_body files)
+
+-- bytes are a text of a set's message within the limits
+abbrev pub IsSetText : Bounds → List ℕ → Message → Type 0
+IsSetText limits b set = Text descriptor_types the_set limits b set
+
+-- bytes are a text of a set that shows no cause, and that has these files
+pub record IsSetOf (limits : Bounds) (b : List ℕ) (files : List DeclaredFile) : Type 0 where
+  pub set : Message
+  pub text : IsSetText limits b set
+  pub silent : set_causes set ≡ []
+  pub declared : files ≡ files_in set
+
+-- bytes are not the text of a set, or are that of one whose first cause is told, or there is no memory
+abbrev pub IsUnread : Bounds → List ℕ → DescrError → Type 0
+IsUnread limits b (descr.Fault byte path cause) = HasFault (schema_of descriptor_types) (a_message the_set) limits b (fault byte path.items cause)
+IsUnread limits b (descr.Decl file cause) = (set : Message) × IsSetText limits b set × (slice_get (set_causes set) 0 ≡ Some (file, cause))
+IsUnread limits b descr.Memory = ⊤
+
+-- a set's message is refused for its first cause, or for want of memory
+abbrev pub IsRefusedSet : Message → DescrError → Type 0
+IsRefusedSet set (descr.Fault byte path cause) = ⊥
+IsRefusedSet set (descr.Decl file cause) = slice_get (set_causes set) 0 ≡ Some (file, cause)
+IsRefusedSet set descr.Memory = ⊤
+
+-- an error tells this fault, or want of memory
+abbrev pub TellsFault : Fault → DescrError → Type 0
+TellsFault f (descr.Fault byte path cause) = fault byte path.items cause ≡ f
+TellsFault f (descr.Decl file cause) = ⊥
+TellsFault f descr.Memory = ⊤
+
+-- an error tells this cause of this file, or want of memory
+abbrev pub TellsCause : ℕ → DeclCause → DescrError → Type 0
+TellsCause i c (descr.Fault byte path cause) = ⊥
+TellsCause i c (descr.Decl file cause) = (file ≡ i) × (cause ≡ c)
+TellsCause i c descr.Memory = ⊤
+
+-- the set of some files nests too deep, or its bytes are too many, or there is no memory
+abbrev pub IsUnwritten : List DeclaredFile → WriteSetError → Type 0
+IsUnwritten files TooDeep = 100 < message_depth (set_body files)
+IsUnwritten files TooLarge = (message_depth (set_body files) ≤ 100) × (2 ^ 31 ≤ length (set_bytes files))
+IsUnwritten files Memory = ⊤
+
+-- something that takes so many levels is not written where there is room for fewer, or for want of memory
+abbrev pub CutAt : ℕ → ℕ → WriteSetError → Type 0
+CutAt room levels TooDeep = room < levels
+CutAt room levels TooLarge = ⊥
+CutAt room levels Memory = ⊤

@@ -1,0 +1,24 @@
+//! Descriptor sets: what the files of a set declare, read and written.
+#![tactic(auto)]
+
+mod bodies;
+mod cause;
+mod checking;
+mod contents;
+mod decl;
+mod declaring;
+mod error;
+mod held;
+mod laws;
+mod messages;
+mod pool;
+mod reading;
+mod writing;
+
+pub use cause::DeclCause;
+pub use decl::{EnumDecl, FieldDecl, FileDecl, MessageDecl, MethodDecl, ServiceDecl, TypeCode};
+pub use error::{DescrError, WriteSetError};
+pub use laws::set_back;
+pub use pool::descriptor_pool;
+pub use reading::read_set;
+pub use writing::write_set;

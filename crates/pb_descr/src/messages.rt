@@ -1,0 +1,150 @@
+//! Messages and files, as they are written.
+
+ghost use Rattle.std.specs.Prelude.{◌≡◌, map, option_map, IfOk, IfErr};
+ghost use Rattle.pb_value.specs.Data.{levels_of, datums_depth, datums_of, message_depth};
+ghost use Rattle.pb_value.specs.View.{content_view, value_view, body_view};
+ghost use Rattle.pb_descr.specs.Decls.{inner_of, messages_of};
+ghost use Rattle.pb_descr.specs.View.{message_view, file_view};
+ghost use Rattle.pb_descr.specs.Writing.{a_list, package_text, message_body, message_bodies, file_body, set_body};
+ghost use Rattle.pb_descr.specs.Sets.{CutAt};
+
+use crate::bodies::{enums, fields, numbers, oneofs, options, ranges, services, texts};
+use crate::contents::{body, list, message, text};
+use crate::decl::{FileDecl, MessageDecl};
+use crate::error::WriteSetError;
+use pb_value::{Body, Content, Value};
+use std::alloc::{AllocError, Global};
+
+/// The most levels that a file may take below its set, the file's own with them.
+const FILE_LEVELS: u8 = 100;
+
+/// A message beside the messages that are declared in it.
+fn message_with(
+    alloc: Global,
+    declared: &MessageDecl,
+    messages: Option<Content>,
+) -> Result<Value, AllocError>
+    requires { option_map content_view messages ≡ a_list (message_bodies (inner_of (message_view declared.now))) }
+    ensures { IfOk result (λ v. value_view v ≡ message_body (message_view declared.now)) }
+{
+    let name = text(alloc, &declared.name)?;
+    let fields = fields(alloc, &declared.fields)?;
+    let enums = enums(alloc, &declared.enums)?;
+    let options = options(alloc, 7, declared.map_entry)?;
+    let oneofs = oneofs(alloc, &declared.oneofs)?;
+    let reserved = ranges(alloc, &declared.reserved)?;
+    let reserved_names = texts(alloc, &declared.reserved_names)?;
+    message(
+        alloc,
+        [
+            (1, Some(name)),
+            (2, fields),
+            (3, messages),
+            (4, enums),
+            (7, options),
+            (8, oneofs),
+            (9, reserved),
+            (10, reserved_names),
+        ],
+    )
+}
+
+/// A message, where it takes at most `room` levels, its own with them.
+#[cycle(messages)]
+fn message_value(alloc: Global, declared: &MessageDecl, room: u8) -> Result<Value, WriteSetError>
+    ensures written { IfOk result (λ v. value_view v ≡ message_body (message_view declared.now)) }
+    ensures refused { IfErr result (CutAt room (levels_of (message_body (message_view declared.now)))) }
+{
+    if room == 0 {
+        return Err(WriteSetError::TooDeep);
+    }
+    let inner = message_values(alloc, &declared.messages, room - 1)?;
+    let value = message_with(alloc, declared, list(inner))?;
+    Ok(value)
+}
+
+/// Messages, where each takes at most `room` levels.
+#[cycle(messages)]
+fn message_values(
+    alloc: Global,
+    messages: &Vec<MessageDecl>,
+    room: u8,
+) -> Result<Vec<Value>, WriteSetError>
+    ensures written { IfOk result (λ v. map value_view v.items ≡ message_bodies (messages_of (map message_view messages.now.items))) }
+    ensures refused { IfErr result (CutAt room (datums_depth (datums_of (message_bodies (messages_of (map message_view messages.now.items)))))) }
+{
+    let mut values = Vec::with_capacity(alloc, messages.len())?;
+    for declared in messages {
+        let value = message_value(alloc, declared, room)?;
+        values.push(value)?;
+    }
+    Ok(values)
+}
+
+fn package_content(alloc: Global, name: &str) -> Result<Option<Content>, AllocError>
+    ensures { IfOk result (λ c. option_map content_view c ≡ package_text name.now) }
+{
+    if name.is_empty() {
+        return Ok(None);
+    }
+    let written = text(alloc, name)?;
+    Ok(Some(written))
+}
+
+/// A file beside its messages.
+fn file_with(alloc: Global, file: &FileDecl, messages: Option<Content>) -> Result<Value, AllocError>
+    requires { option_map content_view messages ≡ a_list (message_bodies (file_view file.now).messages) }
+    ensures { IfOk result (λ v. value_view v ≡ file_body (file_view file.now)) }
+{
+    let name = text(alloc, &file.name)?;
+    let package = package_content(alloc, &file.package)?;
+    let imports = texts(alloc, &file.imports)?;
+    let enums = enums(alloc, &file.enums)?;
+    let services = services(alloc, &file.services)?;
+    let public = numbers(alloc, &file.public)?;
+    let syntax = text(alloc, "proto3")?;
+    message(
+        alloc,
+        [
+            (1, Some(name)),
+            (2, package),
+            (3, imports),
+            (4, messages),
+            (5, enums),
+            (6, services),
+            (10, public),
+            (12, Some(syntax)),
+        ],
+    )
+}
+
+fn file_value(alloc: Global, file: &FileDecl) -> Result<Value, WriteSetError>
+    ensures written { IfOk result (λ v. value_view v ≡ file_body (file_view file.now)) }
+    ensures refused { IfErr result (CutAt FILE_LEVELS (levels_of (file_body (file_view file.now)))) }
+{
+    let messages = message_values(alloc, &file.messages, FILE_LEVELS - 1)?;
+    let value = file_with(alloc, file, list(messages))?;
+    Ok(value)
+}
+
+fn file_values(alloc: Global, files: &[FileDecl]) -> Result<Vec<Value>, WriteSetError>
+    ensures written { IfOk result (λ v. map value_view v.items ≡ map file_body (map file_view files.now)) }
+    ensures refused { IfErr result (CutAt FILE_LEVELS (datums_depth (datums_of (map file_body (map file_view files.now))))) }
+{
+    let mut values = Vec::with_capacity(alloc, files.len())?;
+    for file in files {
+        let value = file_value(alloc, file)?;
+        values.push(value)?;
+    }
+    Ok(values)
+}
+
+/// The message that the files of a set are written as. It is not made where it would nest too deep.
+pub(crate) fn set_body(alloc: Global, files: &[FileDecl]) -> Result<Body, WriteSetError>
+    ensures written { IfOk result (λ b. body_view b ≡ set_body (map file_view files.now)) }
+    ensures refused { IfErr result (CutAt FILE_LEVELS (message_depth (set_body (map file_view files.now)))) }
+{
+    let files = file_values(alloc, files)?;
+    let set = body(alloc, [(1, list(files))])?;
+    Ok(set)
+}

@@ -1,0 +1,9 @@
+//! Tests of descriptor sets, by their public calls alone.
+#![tactic(auto)]
+
+#[cfg(test)]
+mod deep;
+#[cfg(test)]
+mod faults;
+#[cfg(test)]
+mod rows;
