@@ -1,0 +1,7 @@
+//! Tests of sources, by the public calls alone.
+#![tactic(auto)]
+
+#[cfg(test)]
+mod calls;
+#[cfg(test)]
+mod rows;
