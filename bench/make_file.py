@@ -5,22 +5,7 @@ KIND is `log` or `small`. The records of `log` are like those of a log: an entry
 body, some of them in groups. Those of `small` take two bytes each, which is the least that a record takes."""
 import sys
 
-
-def varint(n):
-    out = bytearray()
-    while n >= 0x80:
-        out.append(n & 0x7F | 0x80)
-        n >>= 7
-    out.append(n)
-    return bytes(out)
-
-
-def tag(number, wire_type):
-    return varint(number * 8 + wire_type)
-
-
-def length_delimited(number, payload):
-    return tag(number, 2) + varint(len(payload)) + payload
+from spelling import length_delimited, tag, varint
 
 
 def entry(i):

@@ -6,22 +6,8 @@ record. So what a codec encodes again is the text itself."""
 import os
 import sys
 
-
-def varint(n):
-    out = bytearray()
-    while n >= 0x80:
-        out.append(n & 0x7F | 0x80)
-        n >>= 7
-    out.append(n)
-    return bytes(out)
-
-
-def tag(number, wire_type):
-    return varint(number * 8 + wire_type)
-
-
-def length_delimited(number, payload):
-    return tag(number, 2) + varint(len(payload)) + payload
+sys.path.insert(0, os.path.join(os.path.dirname(os.path.abspath(__file__)), ".."))
+from spelling import length_delimited, tag, varint
 
 
 def zigzag(n):
