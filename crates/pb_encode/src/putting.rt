@@ -12,7 +12,8 @@ ghost use Rattle.pb_encode.specs.Sink.{Puts};
 
 use crate::scalar::scalar_payload;
 use crate::sink::Sink;
-use pb_schema::{Kind, ScalarPayload};
+use pb_schema::Kind;
+use pb_schema::scalars::ScalarPayload;
 use pb_value::Value;
 use pb_wire::{Output, Unknown, put_varint};
 

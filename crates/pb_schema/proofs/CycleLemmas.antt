@@ -13,7 +13,7 @@ use Rattle.pb_schema.specs.View.{file_view}
 use Rattle.pb_schema.specs.Types.{FileView}
 use Rattle.pb_schema.specs.Rules.{ImportsNameFiles}
 use Rattle.pb_schema.specs.Imports.{imports_of, Reaches, directly, further}
-use Rattle.pb_schema.specs.Cycles.{progress_of, AreDone, AreSettled, AnswersWalk}
+use Rattle.pb_schema.specs.Imports.Cycles.{progress_of, AreDone, AreSettled, AnswersWalk}
 use Rattle.pb_schema.proofs.ImportLemmas.{Contains-none, imports_within}
 use Rattle.pb_schema.proofs.NameSetLemmas.{Contains-first, Contains-later, Contains-cases}
 

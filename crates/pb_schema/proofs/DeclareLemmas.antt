@@ -16,9 +16,9 @@ use Rattle.pb_schema.specs.View.{message_view, enum_view, parent_view}
 use Rattle.pb_schema.specs.Types.{FieldView, FileView, MessageView, Types}
 use Rattle.pb_schema.specs.Nesting.{parent_of, ParentsStandBefore}
 use Rattle.pb_schema.specs.Names.{is_word, in_scope, name_at, package_of, scope_by_names, scope_of, names_of_field, entry_name, names_in_message, names_of_enum, message_name, declared_by_message, declared_by_enum, declared_names, packages_of, AllDiffer}
-use Rattle.pb_schema.specs.NameTree.{IsTree, IsScope, scope_name, full_names_of, Keeps, IsAddedAt, NameAdded, ArePackages, PackagesAdded}
+use Rattle.pb_schema.specs.Names.Tree.{IsTree, IsScope, scope_name, full_names_of, Keeps, IsAddedAt, NameAdded, ArePackages, PackagesAdded}
 use Rattle.pb_schema.specs.Rules.{AreWords, MessageIsOfWords, EnumIsOfWords, FullNamesDiffer, PackagesAreFree}
-use Rattle.pb_schema.specs.Declarations.{IsDeclared, Added, named_in, Adds, AddedAt, AddsOne, names_by_message, AddsMessage, scope_id, HaveNames, MayAddMessages, MessagesAdded, MayAddEnums}
+use Rattle.pb_schema.specs.Names.Declared.{IsDeclared, Added, named_in, Adds, AddedAt, AddsOne, names_by_message, AddsMessage, scope_id, HaveNames, MayAddMessages, MessagesAdded, MayAddEnums}
 use Rattle.pb_schema.specs.declared.names.tree.NameTree.{NameTree}
 use Rattle.pb_schema.proofs.ImportLemmas.{Contains-none}
 use Rattle.pb_schema.proofs.OrderLemmas.{iff_trans}

@@ -9,7 +9,8 @@ use Rattle.pb_schema.specs.declared.types.FileInfo.{FileInfo}
 use Rattle.pb_schema.specs.View.{file_view}
 use Rattle.pb_schema.specs.Types.{FileView}
 use Rattle.pb_schema.specs.Rules.{ImportsNameFiles}
-use Rattle.pb_schema.specs.Imports.{imports_of, Reaches, directly, further, AreReached, Marks, clear_count}
+use Rattle.pb_schema.specs.Imports.{imports_of, Reaches, directly, further, AreReached}
+use Rattle.pb_schema.specs.Loops.Imports.{Marks, clear_count}
 
 pub Contains-none : {X : Type 0} {P : Type 0} (x : X) → Contains {X = X} [] x → P
 Contains-none x h = absurd (omega (arith, h.1))

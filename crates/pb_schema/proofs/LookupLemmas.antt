@@ -13,7 +13,7 @@ use Rattle.pb_schema.specs.Types.{FieldView, MessageView, EnumView, Types, messa
 use Rattle.pb_schema.specs.declared.names.set.NameSet.{NameSet}
 use Rattle.pb_schema.specs.Nesting.{ParentsStandBefore}
 use Rattle.pb_schema.specs.Names.{AllDiffer, in_scope, scope_of, scope_by_names, message_name, enum_name, message_names, enum_names, names_in_message, declared_by_message, declared_by_enum}
-use Rattle.pb_schema.specs.NameSet.{IsSetOf}
+use Rattle.pb_schema.specs.Names.Set.{IsSetOf}
 use Rattle.pb_schema.specs.Tables.{IsNumbered, AreNumberTables, AreMemberTables, AreNameTables, HasTables, place_of, field_named}
 use Rattle.pb_schema.specs.Rules.{IsPool, IsFieldOf, NamesOneof}
 use Rattle.pb_schema.proofs.NameSetLemmas.{all_back, AllDiffer-front, AllDiffer-back}

@@ -9,7 +9,7 @@ use Rattle.pb_schema.specs.declared.types.Field.{Field}
 use Rattle.pb_schema.specs.View.{field_view}
 use Rattle.pb_schema.specs.Types.{FieldView, MessageView, Types, message_fields, fields_of_message}
 use Rattle.pb_schema.specs.Oneofs.{is_member, members, member_numbers}
-use Rattle.pb_schema.specs.Marks.{AddsMember}
+use Rattle.pb_schema.specs.Loops.Members.{AddsMember}
 use Rattle.pb_schema.specs.Tables.{IsMemberTable, AreMemberTables}
 use Rattle.pb_schema.specs.Rules.{NamesOneof, IsPool}
 use Rattle.pb_schema.proofs.TableLemmas.{found_table}

@@ -9,7 +9,7 @@ use Rattle.std.proofs.lemmas.List.Elements.{Contains-push, Contains-push_cases, 
 use Rattle.pb_schema.specs.declared.names.set.NameSet.{NameSet}
 use Rattle.pb_schema.specs.View.{bytes_of}
 use Rattle.pb_schema.specs.Names.{AllDiffer}
-use Rattle.pb_schema.specs.NameSet.{IsSetOf}
+use Rattle.pb_schema.specs.Names.Set.{IsSetOf}
 use Rattle.pb_schema.proofs.ImportLemmas.{Contains-none, Contains-one}
 
 pub Contains-first : {X : Type 0} (x : X) (xs : List X) → Contains (x ∷ xs) x

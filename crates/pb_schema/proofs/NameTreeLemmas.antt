@@ -13,7 +13,7 @@ use Rattle.std.proofs.lemmas.List.Elements.{Contains-append_left}
 use Rattle.pb_schema.specs.Names.{begins_word, continues_word, is_word, in_scope, name_at, AllDiffer}
 use Rattle.pb_schema.specs.declared.names.tree.NameTree.{NameTree}
 use Rattle.pb_schema.specs.View.{bytes_of}
-use Rattle.pb_schema.specs.NameTree.{scope_name, names_behind, full_names, full_names_of, IsScope, AreNamed, IsTree, IsInTree, NameAdded}
+use Rattle.pb_schema.specs.Names.Tree.{scope_name, names_behind, full_names, full_names_of, IsScope, AreNamed, IsTree, IsInTree, NameAdded}
 use Rattle.pb_schema.proofs.ImportLemmas.{Contains-none}
 use Rattle.pb_schema.proofs.NameSetLemmas.{Contains-first, Contains-later, Contains-cases, All-at, AllDiffer-push, bytes_of-append, has_name, or_true}
 

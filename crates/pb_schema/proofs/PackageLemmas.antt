@@ -10,7 +10,7 @@ use Rattle.std.proofs.lemmas.Option.{slice_get_within}
 use Rattle.std.proofs.lemmas.List.Elements.{Contains-push, Contains-push_cases, Contains-append_left, Contains-append_right, Contains-append_cases}
 use Rattle.pb_schema.specs.declared.names.tree.NameTree.{NameTree}
 use Rattle.pb_schema.specs.Names.{is_word, is_package, onto_first, onto_parts, parts_of, with_front, fronts_from, packages_of, in_scope, name_at}
-use Rattle.pb_schema.specs.NameTree.{IsTree, IsScope, IsInTree, scope_name, full_names_of, Keeps, IsAddedAt, NameAdded, IsSplit, PackageAdded, AddsPackage, ArePackages, PackagesAdded}
+use Rattle.pb_schema.specs.Names.Tree.{IsTree, IsScope, IsInTree, scope_name, full_names_of, Keeps, IsAddedAt, NameAdded, IsSplit, PackageAdded, AddsPackage, ArePackages, PackagesAdded}
 use Rattle.pb_schema.specs.declared.types.FileInfo.{FileInfo}
 use Rattle.pb_schema.specs.View.{file_view}
 use Rattle.pb_schema.specs.Types.{FileView}

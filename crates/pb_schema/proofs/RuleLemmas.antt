@@ -13,8 +13,8 @@ use Rattle.pb_schema.specs.declared.types.Field.{Field}
 use Rattle.pb_schema.specs.View.{field_view}
 use Rattle.pb_schema.specs.Types.{FieldView, MessageView, EnumView, Types}
 use Rattle.pb_schema.specs.Imports.{IsSeen}
-use Rattle.pb_schema.specs.Sight.{file_of_kind}
-use Rattle.pb_schema.specs.Marks.{NotesMember, AreMembers}
+use Rattle.pb_schema.specs.Imports.Sight.{file_of_kind}
+use Rattle.pb_schema.specs.Loops.Members.{NotesMember, AreMembers}
 use Rattle.pb_schema.specs.Rules.{IsMemberOf, HasMember, TypeIsSeen}
 
 defaults : {X : Type 0} (xs : List X) (i : ℕ) (d e : X) → i < length xs → get_or xs i d ≡ get_or xs i e

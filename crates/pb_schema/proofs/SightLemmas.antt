@@ -5,7 +5,7 @@ use Rattle.std.proofs.lemmas.List.Elements.{Contains-push, Contains-push_cases, 
 use Rattle.std.proofs.lemmas.Bool.{cases_eq, false≢true}
 use Rattle.pb_schema.specs.Types.{FileView}
 use Rattle.pb_schema.specs.Imports.{Reaches}
-use Rattle.pb_schema.specs.Sight.{mark_of, MarksAll, KnowsReached}
+use Rattle.pb_schema.specs.Imports.Sight.{mark_of, MarksAll, KnowsReached}
 
 pub whole_none : {x : ℕ} → ◌≡◌ {A = Option ℕ} None (Some x) → ⊥
 whole_none p = cc

@@ -9,15 +9,10 @@ pub mod ReadBack
 pub mod PayloadView
 pub mod Names
 pub mod Imports
-pub mod Cycles
-pub mod Sight
 pub mod Nesting
 pub mod Rules
-pub mod NameSet
-pub mod NameTree
-pub mod Declarations
-pub mod Marks
 pub mod ErrorNumber
 pub mod Oneofs
 pub mod EnumValues
 pub mod Tables
+pub mod Loops

@@ -1,4 +1,7 @@
 -- Names: words, packages, and the full names of what files declare (language specification, "Identifiers", "Package"; descriptor.proto).
+pub mod Set
+pub mod Tree
+pub mod Declared
 use Rattle.std.specs.Prelude.{◌≢◌, ℕ, zero, suc, ◌-◌, List, [], ◌∷◌, ◌++◌, length, map, flat_map, codes, Bool, true, false, not, ◌&&◌, ◌||◌, ◌==◌, if◌then◌else◌, Option, Some, None, slice_get}
 use Rattle.std.specs.List.{AllByRecursion, list_all}
 use Rattle.std.specs.Char.{is_ascii_alphabetic, is_ascii_digit, is_ascii_lowercase}

@@ -19,5 +19,4 @@ pub use laws::{packed_numbers, reads_back};
 pub use names::entry_name;
 pub use names::words::{is_package, is_word};
 pub use pool::Pool;
-pub use scalars::{Scalar, ScalarPayload};
 pub use types::{EnumId, EnumType, Field, FileInfo, Kind, MessageId, MessageType, Shape};

@@ -104,6 +104,7 @@ bad 24 value HZ 1 | a first value other than 0
 bad 25 value H-Y 1 | no word
 bad 25 value HZ 1 | the same name twice
 bad 25 value M 1 | the name of a message
+good 25 value GZ 1 | the name of a value in another scope
 ";
 
 fn is_told(alloc: Global, case: &str) -> Result<bool, Fail> {

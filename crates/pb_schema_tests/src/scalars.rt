@@ -1,7 +1,6 @@
 //! Payloads that are written and read, by the table of kinds.
 
 use pb_schema::scalars::*;
-use pb_schema::{Scalar, ScalarPayload};
 use std::alloc::Global;
 use std::test::Fail;
 

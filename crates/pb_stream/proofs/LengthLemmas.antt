@@ -15,7 +15,8 @@ use Rattle.pb_schema.specs.Types.{Types}
 use Rattle.std.specs.Io.KnownBytes.{Consumes}
 use Rattle.pb_stream.specs.Frame.{FrameFault}
 use Rattle.pb_stream.specs.Taking as taking
-use Rattle.pb_stream.specs.Taking.{IsInFrame, EndsVarint, low, too_long, cut}
+use Rattle.pb_stream.specs.Taking.{IsInFrame}
+use Rattle.pb_stream.specs.Loops.{EndsVarint, low, too_long, cut}
 
 -- a varint that stands first is read from the input
 pub reads_first : (n : ℕ) (front rest : List ℕ) → IsVarint n front → Reads (text_at (front ++ rest)) n (after (text_at (front ++ rest)) front rest)

@@ -2,3 +2,4 @@ pub mod Frame
 pub mod Taking
 pub mod Writing
 pub mod Stream
+pub mod Loops

@@ -1,8 +1,8 @@
 -- What is taken of a device where a frame is read from it.
-use Rattle.std.specs.Prelude.{◌≡◌, ◌+◌, ◌-◌, ◌^◌, ◌<◌, ◌≤◌, ℕ, min, List, [], ◌++◌, length, Option}
+use Rattle.std.specs.Prelude.{◌≡◌, ◌+◌, ◌-◌, ◌^◌, ◌≤◌, ℕ, min, List, [], ◌++◌, length, Option}
 use Rattle.std.specs.List.{AllByRecursion}
 use Rattle.std.specs.Io.KnownBytes.{Consumes, IsAtEnd}
-use Rattle.pb_wire.specs.Varint.{EndsOnce, IsVarint}
+use Rattle.pb_wire.specs.Varint.{IsVarint}
 use Rattle.pb_wire.specs.Fault.{IsHigh}
 use Rattle.pb_wire.specs.Limits.{Bounds}
 
@@ -21,16 +21,6 @@ StaysInFrame limits old new = (taken : List ℕ) × Consumes old new taken × Is
 -- so many bytes were taken
 abbrev pub Takes : ℕ → Option (List ℕ) → Option (List ℕ) → Type 0
 Takes size old new = (taken : List ℕ) × (length taken ≡ size) × Consumes old new taken
-
--- high bytes were taken, fewer than ten
-abbrev pub TakesHigh : Option (List ℕ) → Option (List ℕ) → Type 0
-TakesHigh old new = (taken : List ℕ) × (length taken < 10) × AllByRecursion IsHigh taken × Consumes old new taken
-
--- bytes that were taken as those of a varint: the last is below 128, or all are high and there are ten, or no more were left
-pub data EndsVarint (taken : List ℕ) (left : Option (List ℕ)) : Type 0 where
-  low : EndsOnce taken → EndsVarint taken left
-  too_long : length taken ≡ 10 → AllByRecursion IsHigh taken → EndsVarint taken left
-  cut : AllByRecursion IsHigh taken → IsAtEnd left → EndsVarint taken left
 
 -- the bytes of a length were taken
 abbrev pub TakesLength : ℕ → ℕ → Option (List ℕ) → Option (List ℕ) → Type 0

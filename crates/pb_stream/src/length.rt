@@ -6,7 +6,8 @@ ghost use Rattle.pb_schema.specs.Types.{Types};
 ghost use Rattle.pb_decode.specs.declared.error.DecodeError.TheVariants.{Memory, Device};
 ghost use Rattle.pb_decode.specs.FromDevice.{IfRefused, TellsFailures};
 ghost use Rattle.pb_stream.specs.Frame.{FrameFault};
-ghost use Rattle.pb_stream.specs.Taking.{StaysInFrame, TakesHigh, EndsVarint, TakesLength, TakesNone};
+ghost use Rattle.pb_stream.specs.Taking.{StaysInFrame, TakesLength, TakesNone};
+ghost use Rattle.pb_stream.specs.Loops.{TakesHigh, EndsVarint};
 
 use pb_decode::DecodeError;
 use pb_wire::{Cause, DeviceFault, Input, Limits, read_varint};

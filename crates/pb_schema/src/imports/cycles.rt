@@ -4,7 +4,7 @@ ghost use Rattle.std.specs.Prelude.{◌≡◌, ◌↔◌, ◌<◌, ℕ, IsTrue, 
 ghost use Rattle.std.specs.List.{slice_index_or};
 ghost use Rattle.pb_schema.specs.View.{file_view};
 ghost use Rattle.pb_schema.specs.Imports.{imports_of, Reaches};
-ghost use Rattle.pb_schema.specs.Cycles.{AreSettled, AnswersWalk};
+ghost use Rattle.pb_schema.specs.Imports.Cycles.{AreSettled, AnswersWalk};
 ghost use Rattle.pb_schema.specs.declared.imports.cycles.Progress.TheVariants.{Unseen};
 ghost use Rattle.pb_schema.specs.Rules.{ImportsNameFiles, NoFileReachesItself};
 

@@ -4,7 +4,7 @@ ghost use Rattle.std.specs.Prelude.{◌≡◌, ◌↔◌, ◌<◌, ℕ, List, Al
 ghost use Rattle.std.specs.List.{slice_index_or};
 ghost use Rattle.pb_schema.specs.View.{file_view};
 ghost use Rattle.pb_schema.specs.Imports.{imports_of, Reaches, IsSeen, AreReached};
-ghost use Rattle.pb_schema.specs.Sight.{MarksAll, KnowsReached, KnowsAll};
+ghost use Rattle.pb_schema.specs.Imports.Sight.{MarksAll, KnowsReached, KnowsAll};
 ghost use Rattle.pb_schema.specs.Rules.{ImportsNameFiles};
 
 use crate::imports::reached_from;

@@ -3,7 +3,7 @@
 ghost use Rattle.std.specs.Prelude.{◌≡◌, [], ◌∷◌, ℕ, IfOk, OnOk, map, string_bytes, flat_map};
 ghost use Rattle.pb_schema.specs.View.{message_view, enum_view, field_view, parent_view};
 ghost use Rattle.pb_schema.specs.Names.{names_of_field, names_of_enum};
-ghost use Rattle.pb_schema.specs.Declarations.{scope_id, AddsOne, Adds, AddsMessage, AddsMessages, AddsEnums};
+ghost use Rattle.pb_schema.specs.Names.Declared.{scope_id, AddsOne, Adds, AddsMessage, AddsMessages, AddsEnums};
 
 use crate::names::entry_name;
 use crate::names::tree::NameTree;

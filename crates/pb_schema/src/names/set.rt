@@ -3,7 +3,7 @@
 ghost use Rattle.std.specs.Prelude.{◌≡◌, [], ◌∷◌, IfOk, OnOk};
 ghost use Rattle.pb_schema.specs.View.{bytes_of};
 ghost use Rattle.pb_schema.specs.Names.{in_scope};
-ghost use Rattle.pb_schema.specs.NameSet.{IsSetOf, Adds};
+ghost use Rattle.pb_schema.specs.Names.Set.{IsSetOf, Adds};
 
 use indexmap::IndexSet;
 use std::alloc::{AllocError, Global};

@@ -2,7 +2,7 @@
 
 ghost use Rattle.std.specs.Prelude.{◌≡◌, [], IfOk, map, option_map};
 ghost use Rattle.pb_schema.specs.View.{file_view};
-ghost use Rattle.pb_schema.specs.NameTree.{IsTree, AddsName, AddsPackage, AddsPackages, IsSplit, full_names_of};
+ghost use Rattle.pb_schema.specs.Names.Tree.{IsTree, AddsName, AddsPackage, AddsPackages, IsSplit, full_names_of};
 
 use crate::types::FileInfo;
 use indexmap::IndexSet;

@@ -19,12 +19,7 @@ fn continues_word(byte: u8) -> bool
 fn all_continue_word(bytes: &[u8]) -> bool
     ensures { result ≡ list_all continues_word bytes.now }
 {
-    for byte in bytes {
-        if !continues_word(*byte) {
-            return false;
-        }
-    }
-    true
+    bytes.iter().all(|byte| continues_word(*byte))
 }
 
 /// The name is a word: a letter or `_`, and then letters, digits and `_`.

@@ -4,8 +4,8 @@ ghost use Rattle.std.specs.Prelude.{◌≡◌, ◌↔◌, ◌<◌, ◌⊎◌, fa
 ghost use Rattle.std.specs.List.{AllByRecursion, slice_index_or};
 ghost use Rattle.pb_schema.specs.View.{file_view, message_view, enum_view, field_view, types_of};
 ghost use Rattle.pb_schema.specs.Names.{AllDiffer};
-ghost use Rattle.pb_schema.specs.Sight.{KnowsAll, file_of_kind};
-ghost use Rattle.pb_schema.specs.Marks.{NotesMember, AreMembers};
+ghost use Rattle.pb_schema.specs.Imports.Sight.{KnowsAll, file_of_kind};
+ghost use Rattle.pb_schema.specs.Loops.Members.{NotesMember, AreMembers};
 ghost use Rattle.pb_schema.specs.Rules.{ImportsNameFiles, MessagesHaveFiles, FieldNumbersDiffer, NumbersDiffer, IsMemberOf, HasMember, EachOneofHasMember, OneofsHaveMembers, TypeIsSeen, TypesAreSeen};
 
 use crate::imports::sight::Sight;
@@ -63,12 +63,7 @@ fn members_of(alloc: Global, fields: &[Field], oneofs: usize) -> Result<Vec<bool
 fn all_set(bits: &[bool]) -> bool
     ensures { IsTrue result ↔ AllByRecursion IsTrue bits.now }
 {
-    for bit in bits {
-        if !*bit {
-            return false;
-        }
-    }
-    true
+    bits.iter().all(|bit| *bit)
 }
 
 fn each_oneof_has_member(alloc: Global, message: &MessageType) -> Result<bool, AllocError>

@@ -4,7 +4,7 @@ ghost use Rattle.std.specs.Prelude.{◌≡◌, ◌<◌, [], ℕ, IfOk, OnOk, Vec
 ghost use Rattle.std.specs.declared.alloc.Global.{Global};
 ghost use Rattle.pb_schema.specs.View.{field_view, message_view};
 ghost use Rattle.pb_schema.specs.Tables.{IsMemberTable, AreMemberTables};
-ghost use Rattle.pb_schema.specs.Marks.{AddsMember};
+ghost use Rattle.pb_schema.specs.Loops.Members.{AddsMember};
 
 use crate::types::{Field, MessageType, Shape};
 use std::alloc::{AllocError, Global};

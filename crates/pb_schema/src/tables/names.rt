@@ -2,7 +2,7 @@
 
 ghost use Rattle.std.specs.Prelude.{◌≡◌, IfOk, map, option_map};
 ghost use Rattle.pb_schema.specs.View.{field_view, message_view};
-ghost use Rattle.pb_schema.specs.NameSet.{IsSetOf};
+ghost use Rattle.pb_schema.specs.Names.Set.{IsSetOf};
 ghost use Rattle.pb_schema.specs.Tables.{IsNameTable, AreNameTables, field_named as named_field};
 
 use crate::names::set::NameSet;

@@ -1,5 +1,5 @@
 use Rattle.std.proofs.Common.{take}
-use Rattle.pb_schema.specs.Imports.{Marks}
+use Rattle.pb_schema.specs.Loops.Imports.{Marks}
 use Rattle.pb_schema.proofs.imports.mark_all.Given as goal
 
 abbrev pub invariant-loop-index : goal.invariant-loop-index

@@ -1,6 +1,6 @@
 use Rattle.std.proofs.Common.{◌+◌, ◌*◌, map, vec_len}
 use Rattle.pb_schema.specs.View.{file_view}
-use Rattle.pb_schema.specs.Imports.{clear_count}
+use Rattle.pb_schema.specs.Loops.Imports.{clear_count}
 use Rattle.pb_schema.proofs.ImportLemmas.{Walk}
 use Rattle.pb_schema.proofs.imports.reached_from.Given as goal
 

@@ -4,8 +4,8 @@ use Rattle.pb_schema.specs.declared.names.declared.Declarations.{Declarations}
 use Rattle.pb_schema.specs.View.{file_view, message_view, types_of}
 use Rattle.pb_schema.specs.Nesting.{ParentsStandBefore}
 use Rattle.pb_schema.specs.Names.{message_name}
-use Rattle.pb_schema.specs.NameTree.{full_names_of, ArePackages}
-use Rattle.pb_schema.specs.Declarations.{HaveNames}
+use Rattle.pb_schema.specs.Names.Tree.{full_names_of, ArePackages}
+use Rattle.pb_schema.specs.Names.Declared.{HaveNames}
 use Rattle.pb_schema.proofs.PackageLemmas.{packages_kept}
 use Rattle.pb_schema.proofs.DeclareLemmas.{declared_rules}
 use Rattle.pb_schema.proofs.rules.full_names_meet_rules.Goals as goal

@@ -1,7 +1,7 @@
 use Rattle.std.proofs.Common.{◌<◌, length, arith}
 use Rattle.std.proofs.lemmas.List.{take_more_set}
 use Rattle.pb_wire.proofs.VarintLemmas.{EndsOnce-push}
-use Rattle.pb_stream.specs.Taking.{low}
+use Rattle.pb_stream.specs.Loops.{low}
 use Rattle.pb_stream.proofs.length.take_varint.Goals as goal
 
 pub returns-then-byte-lt128-clause-ends : goal.returns-then-byte-lt128-clause-ends

@@ -1,7 +1,7 @@
 use Rattle.std.proofs.Common.{◌≡◌, ℕ, ◌<◌, map}
 use Rattle.pb_schema.specs.declared.imports.cycles.Progress.TheVariants.{Done}
 use Rattle.pb_schema.specs.View.{file_view}
-use Rattle.pb_schema.specs.Cycles.{AreSettled, progress_of}
+use Rattle.pb_schema.specs.Imports.Cycles.{AreSettled, progress_of}
 use Rattle.pb_schema.proofs.imports.cycles.no_file_reaches_itself.Given as goal
 
 abbrev pub invariant-loop-index : goal.invariant-loop-index

@@ -4,7 +4,7 @@ use Rattle.std.proofs.lemmas.List.{length-map, get_or_read}
 use Rattle.pb_schema.specs.declared.imports.cycles.Progress.TheVariants.{Unseen, Open, Done}
 use Rattle.pb_schema.specs.View.{file_view}
 use Rattle.pb_schema.specs.Imports.{imports_of}
-use Rattle.pb_schema.specs.Cycles.{progress_of}
+use Rattle.pb_schema.specs.Imports.Cycles.{progress_of}
 use Rattle.pb_schema.proofs.CycleLemmas.{Walk, becomes-set, top_of, walk-start, walk-push, walk-advance, walk-pop, walk-reaches, walk-cycle, walk-answers, work-push, work-advance, work-pop, onward-start, onward-push, onward-pop, import_is_there, next_fits}
 use Rattle.pb_schema.proofs.imports.cycles.walk_from.Goals as goal
 

@@ -1,5 +1,5 @@
 use Rattle.std.proofs.Common.{Contains, take}
-use Rattle.pb_schema.specs.Sight.{MarksAll}
+use Rattle.pb_schema.specs.Imports.Sight.{MarksAll}
 use Rattle.pb_schema.proofs.imports.sight.mark_all.Given as goal
 
 abbrev pub invariant-loop-index : goal.invariant-loop-index

@@ -1,4 +1,4 @@
-use Rattle.pb_schema.specs.Sight.{MarksAll}
+use Rattle.pb_schema.specs.Imports.Sight.{MarksAll}
 use Rattle.pb_schema.proofs.SightLemmas.{IsSetBefore}
 use Rattle.pb_schema.proofs.imports.sight.mark_set.Given as goal
 

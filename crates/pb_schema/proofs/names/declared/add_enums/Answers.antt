@@ -1,7 +1,7 @@
 use Rattle.std.proofs.Common.{subst, arith}
 use Rattle.pb_schema.specs.View.{enum_view}
 use Rattle.pb_schema.specs.Names.{names_of_enum}
-use Rattle.pb_schema.specs.Declarations.{Adds}
+use Rattle.pb_schema.specs.Names.Declared.{Adds}
 use Rattle.pb_schema.proofs.DeclareLemmas.{Added-none, enums-more, enums-all}
 use Rattle.pb_schema.proofs.names.declared.add_enums.Goals as goal
 

@@ -3,7 +3,7 @@ use Rattle.std.specs.List.{flat_map}
 use Rattle.pb_schema.specs.Types.{FileView, MessageView}
 use Rattle.pb_schema.specs.View.{enum_view}
 use Rattle.pb_schema.specs.Names.{declared_by_enum}
-use Rattle.pb_schema.specs.Declarations.{MayAddEnums, Added}
+use Rattle.pb_schema.specs.Names.Declared.{MayAddEnums, Added}
 use Rattle.pb_schema.proofs.names.declared.add_enums.Given as goal
 
 abbrev pub invariant-loop-entry : goal.invariant-loop-entry

@@ -1,6 +1,6 @@
 use Rattle.std.proofs.Common.{map, ap, ◌∙◌, subst, arith}
 use Rattle.pb_schema.specs.View.{message_view, parent_view}
-use Rattle.pb_schema.specs.Declarations.{scope_id, AddsMessage}
+use Rattle.pb_schema.specs.Names.Declared.{scope_id, AddsMessage}
 use Rattle.pb_schema.proofs.DeclareLemmas.{messages-none, messages-more, messages-all}
 use Rattle.pb_schema.proofs.names.declared.add_messages.Goals as goal
 

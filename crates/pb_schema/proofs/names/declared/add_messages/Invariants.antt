@@ -1,7 +1,7 @@
 use Rattle.std.proofs.Common.{List, map, take}
 use Rattle.pb_schema.specs.Types.{FileView}
 use Rattle.pb_schema.specs.View.{message_view}
-use Rattle.pb_schema.specs.Declarations.{MayAddMessages}
+use Rattle.pb_schema.specs.Names.Declared.{MayAddMessages}
 use Rattle.pb_schema.proofs.DeclareLemmas.{SoFar}
 use Rattle.pb_schema.proofs.names.declared.add_messages.Given as goal
 

@@ -1,6 +1,6 @@
 use Rattle.std.proofs.Common.{map, take}
 use Rattle.pb_schema.specs.View.{file_view}
-use Rattle.pb_schema.specs.NameTree.{IsTree, PackagesAdded}
+use Rattle.pb_schema.specs.Names.Tree.{IsTree, PackagesAdded}
 use Rattle.pb_schema.specs.Rules.{PackagesAreWords}
 use Rattle.pb_schema.proofs.names.tree.add_packages.Given as goal
 

@@ -2,7 +2,7 @@ use Rattle.std.proofs.Common.{◌≡◌, ◌<◌, ◌↔◌, ℕ, IsTrue, List, 
 use Rattle.std.specs.List.{AllByRecursion}
 use Rattle.std.proofs.lemmas.List.{length-map}
 use Rattle.pb_schema.specs.declared.types.Field.{Field}
-use Rattle.pb_schema.specs.Marks.{AreMembers}
+use Rattle.pb_schema.specs.Loops.Members.{AreMembers}
 use Rattle.pb_schema.specs.View.{field_view}
 use Rattle.pb_schema.specs.Rules.{HasMember}
 use Rattle.pb_schema.proofs.OrderLemmas.{iff_trans}

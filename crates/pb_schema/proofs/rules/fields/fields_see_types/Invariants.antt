@@ -2,7 +2,7 @@ use Rattle.std.proofs.Common.{◌↔◌, map, drop}
 use Rattle.std.specs.List.{AllByRecursion}
 use Rattle.pb_schema.specs.View.{file_view, field_view, types_of}
 use Rattle.pb_schema.specs.Rules.{TypeIsSeen}
-use Rattle.pb_schema.specs.Sight.{KnowsAll}
+use Rattle.pb_schema.specs.Imports.Sight.{KnowsAll}
 use Rattle.pb_schema.proofs.rules.fields.fields_see_types.Given as goal
 
 abbrev pub invariant-loop-field : goal.invariant-loop-field

@@ -1,7 +1,7 @@
 use Rattle.std.proofs.Common.{◌↔◌, map, drop}
 use Rattle.pb_schema.specs.View.{file_view, message_view, types_of}
 use Rattle.pb_schema.specs.Rules.{EachField, TypeIsSeen}
-use Rattle.pb_schema.specs.Sight.{KnowsAll}
+use Rattle.pb_schema.specs.Imports.Sight.{KnowsAll}
 use Rattle.pb_schema.proofs.rules.fields.types_are_seen.Given as goal
 
 abbrev pub invariant-loop-message : goal.invariant-loop-message

@@ -2,7 +2,7 @@ use Rattle.std.proofs.Common.{List, map, subst, arith}
 use Rattle.pb_schema.specs.declared.types.Field.{Field}
 use Rattle.pb_schema.specs.Types.{FieldView}
 use Rattle.pb_schema.specs.View.{field_view}
-use Rattle.pb_schema.specs.NameSet.{IsSetOf}
+use Rattle.pb_schema.specs.Names.Set.{IsSetOf}
 use Rattle.pb_schema.proofs.NumberLemmas.{all_taken}
 use Rattle.pb_schema.proofs.tables.names.simple_names.Goals as goal
 

@@ -1,5 +1,5 @@
 use Rattle.std.proofs.Common.{refl}
-use Rattle.pb_schema.specs.Declarations.{named_in}
+use Rattle.pb_schema.specs.Names.Declared.{named_in}
 use Rattle.pb_schema.proofs.DeclareLemmas.{added_one}
 use Rattle.pb_schema.proofs.names.declared.Declarations.add.Goals as goal
 

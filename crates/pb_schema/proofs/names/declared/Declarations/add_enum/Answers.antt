@@ -1,5 +1,5 @@
 use Rattle.std.proofs.Common.{ℤ, List, [], ◌∷◌, String, Global, ◌∙◌, map, sym, subst, string_bytes}
-use Rattle.pb_schema.specs.Declarations.{Adds}
+use Rattle.pb_schema.specs.Names.Declared.{Adds}
 use Rattle.pb_schema.proofs.AddLemmas.{map-map}
 use Rattle.pb_schema.proofs.DeclareLemmas.{Adds-append}
 use Rattle.pb_schema.proofs.names.declared.Declarations.add_enum.Goals as goal

@@ -1,7 +1,7 @@
 use Rattle.std.proofs.Common.{[], ◌∷◌, ◌∙◌, sym, ap, subst, string_bytes}
 use Rattle.pb_schema.specs.View.{field_view}
 use Rattle.pb_schema.specs.Names.{entry_name}
-use Rattle.pb_schema.specs.Declarations.{Adds}
+use Rattle.pb_schema.specs.Names.Declared.{Adds}
 use Rattle.pb_schema.proofs.DeclareLemmas.{Adds-append, map_names}
 use Rattle.pb_schema.proofs.names.declared.Declarations.add_field.Goals as goal
 

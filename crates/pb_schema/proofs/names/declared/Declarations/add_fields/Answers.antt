@@ -1,7 +1,7 @@
 use Rattle.std.proofs.Common.{subst, arith}
 use Rattle.pb_schema.specs.View.{field_view}
 use Rattle.pb_schema.specs.Names.{names_of_field}
-use Rattle.pb_schema.specs.Declarations.{Adds}
+use Rattle.pb_schema.specs.Names.Declared.{Adds}
 use Rattle.pb_schema.proofs.AddLemmas.{added_all}
 use Rattle.pb_schema.proofs.DeclareLemmas.{Adds-none, adds_more}
 use Rattle.pb_schema.proofs.names.declared.Declarations.add_fields.Goals as goal

@@ -2,7 +2,7 @@ use Rattle.std.proofs.Common.{take}
 use Rattle.std.specs.List.{flat_map}
 use Rattle.pb_schema.specs.View.{field_view}
 use Rattle.pb_schema.specs.Names.{names_of_field}
-use Rattle.pb_schema.specs.Declarations.{Adds}
+use Rattle.pb_schema.specs.Names.Declared.{Adds}
 use Rattle.pb_schema.proofs.names.declared.Declarations.add_fields.Given as goal
 
 abbrev pub invariant-loop-field : goal.invariant-loop-field

@@ -3,7 +3,7 @@ use Rattle.std.specs.List.{flat_map}
 use Rattle.pb_schema.specs.View.{field_view, message_view}
 use Rattle.pb_schema.specs.declared.types.Field.{Field}
 use Rattle.pb_schema.specs.Names.{names_of_field}
-use Rattle.pb_schema.specs.Declarations.{Adds, AddsOne}
+use Rattle.pb_schema.specs.Names.Declared.{Adds, AddsOne}
 use Rattle.pb_schema.proofs.DeclareLemmas.{message_added}
 use Rattle.pb_schema.proofs.names.declared.Declarations.add_message.Goals as goal
 

@@ -1,6 +1,6 @@
 use Rattle.std.proofs.Common.{[], ◌∷◌, take, string_bytes}
 use Rattle.std.specs.List.{flat_map}
-use Rattle.pb_schema.specs.Declarations.{Adds}
+use Rattle.pb_schema.specs.Names.Declared.{Adds}
 use Rattle.pb_schema.proofs.names.declared.Declarations.add_oneofs.Given as goal
 
 abbrev pub invariant-loop-name : goal.invariant-loop-name

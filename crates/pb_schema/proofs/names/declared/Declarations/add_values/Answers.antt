@@ -1,5 +1,5 @@
 use Rattle.std.proofs.Common.{[], ◌∷◌, ◌∙◌, subst, arith, string_bytes}
-use Rattle.pb_schema.specs.Declarations.{Adds}
+use Rattle.pb_schema.specs.Names.Declared.{Adds}
 use Rattle.pb_schema.proofs.DeclareLemmas.{Adds-none, adds_more, words_added}
 use Rattle.pb_schema.proofs.names.declared.Declarations.add_values.Goals as goal
 

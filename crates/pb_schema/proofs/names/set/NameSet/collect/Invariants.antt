@@ -1,5 +1,5 @@
 use Rattle.pb_schema.specs.View.{bytes_of}
-use Rattle.pb_schema.specs.NameSet.{IsSetOf}
+use Rattle.pb_schema.specs.Names.Set.{IsSetOf}
 use Rattle.pb_schema.proofs.names.set.NameSet.collect.Given as goal
 
 abbrev pub invariant-loop-name : goal.invariant-loop-name

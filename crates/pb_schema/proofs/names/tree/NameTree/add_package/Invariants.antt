@@ -1,6 +1,6 @@
 use Rattle.std.proofs.Common.{IsTrue, option_map}
 use Rattle.pb_schema.specs.Names.{is_package}
-use Rattle.pb_schema.specs.NameTree.{IsTree}
+use Rattle.pb_schema.specs.Names.Tree.{IsTree}
 use Rattle.pb_schema.proofs.PackageLemmas.{PackageSoFar, length_left}
 use Rattle.pb_schema.proofs.names.tree.NameTree.add_package.Given as goal
 

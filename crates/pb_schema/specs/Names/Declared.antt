@@ -5,7 +5,7 @@ use Rattle.pb_schema.specs.declared.names.declared.Declarations.{Declarations}
 use Rattle.pb_schema.specs.Types.{MessageView, EnumView, FileView}
 use Rattle.pb_schema.specs.Nesting.{ParentsStandBefore}
 use Rattle.pb_schema.specs.Names.{in_scope, names_in_message, message_name, declared_by_message, declared_by_enum, AllDiffer}
-use Rattle.pb_schema.specs.NameTree.{IsTree, IsInTree, scope_name, full_names_of, Keeps, ArePackages}
+use Rattle.pb_schema.specs.Names.Tree.{IsTree, IsInTree, scope_name, full_names_of, Keeps, ArePackages}
 use Rattle.pb_schema.specs.Rules.{AreWords, MessageNamesAreWords, EnumNamesAreWords}
 
 -- these names were added

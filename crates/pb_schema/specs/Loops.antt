@@ -1,0 +1,3 @@
+-- Facts that only loops need: no public contract rests on them.
+pub mod Members
+pub mod Imports
