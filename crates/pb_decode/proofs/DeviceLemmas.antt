@@ -22,7 +22,8 @@ use Rattle.pb_decode.specs.declared.error.DecodeError.TheVariants as error
 use Rattle.pb_decode.specs.declared.push.Reading.{Reading}
 use Rattle.pb_decode.specs.Reader.{state_view, IfFault}
 use Rattle.pb_decode.specs.Origin.{Origin, origin, further, TookFrom, IsWhole, BadFrom, ToldFrom}
-use Rattle.pb_decode.specs.FromDevice.{IfRefused, TakesAtMost, ReadsOn, ToldOf}
+use Rattle.pb_decode.specs.FromDevice.{IfRefused, TakesAtMost}
+use Rattle.pb_decode.specs.Loops.{ReadsOn, ToldOf}
 use Rattle.pb_decode.proofs.PushLemmas.{beyond_settled, front_within}
 use Rattle.pb_decode.proofs.OntoText.{text_from, whole_fault, beyond_told}
 

@@ -14,13 +14,15 @@ use Rattle.pb_schema.specs.Scalar.{Scalar}
 use Rattle.pb_schema.specs.Context.{Context, a_message as in_message, schema_of}
 use Rattle.pb_value.specs.Data.{Datum}
 use Rattle.pb_decode.specs.declared.part.Frame.{Frame as FrameKept}
+use Rattle.pb_decode.specs.declared.part.Part.{Part as PartKept}
 use Rattle.pb_decode.specs.declared.part.Slot.{Slot}
 use Rattle.pb_decode.specs.declared.part.Slot.TheVariants as slot
 use Rattle.pb_decode.specs.declared.step.Step.{Step}
 use Rattle.pb_decode.specs.declared.step.Step.TheVariants as step
-use Rattle.pb_decode.specs.Frames.{Part, message_part, entry_part, group_part, CanHold, Scope, Frame, one_more_in, up_to, path_of, Held, inside, Stands}
-use Rattle.pb_decode.specs.PartView.{frame_view}
+use Rattle.pb_decode.specs.Frames.{Part, message_part, entry_part, group_part, CanHold, Scope, Frame, frame_of, one_more_in, up_to, path_of, Held, at_top, inside, Stands}
+use Rattle.pb_decode.specs.PartView.{part_view, scope_view, frame_view}
 use Rattle.pb_decode.specs.Closing.{HasRoomFor}
+use Rattle.pb_decode.specs.Openings.{IsGroup}
 use Rattle.pb_decode.specs.After.{After}
 use Rattle.pb_decode.specs.Reader.{State, frames_view, left_of, here, own_step, path_here, Reads, StandsAt, Told}
 use Rattle.pb_decode.proofs.AfterLemmas.{after_record, at_record}
@@ -33,6 +35,10 @@ use Rattle.pb_decode.proofs.ListHolds.{list_can_hold}
 -- frames are kept outermost first, so the last is the innermost
 pub frames_split : (fs gs : List FrameKept) (f : FrameKept) → fs ≡ gs ++ f ∷ [] → frames_view fs ≡ frame_view f ∷ frames_view gs
 frames_split fs gs f is = ap frames_view is ∙ ap reverse (map-append frame_view gs (f ∷ [])) ∙ reverse-append (map frame_view gs) (frame_view f ∷ [])
+
+-- and so where its part is taken out of it
+pub frames_popped : (fs gs : List FrameKept) (f : FrameKept) (p : PartKept) → fs ≡ gs ++ f ∷ [] → p ≡ f.part → frames_view fs ≡ frame_of (part_view p) f.number f.slot (scope_view f.scope) ∷ frames_view gs
+frames_popped fs gs f p is same = frames_split fs gs f is ∙ ap (λ (z : PartKept). frame_of (part_view z) f.number f.slot (scope_view f.scope) ∷ frames_view gs) (sym same)
 
 -- AT A TAG one stands behind a whole record of the innermost part
 pub standing :
@@ -80,13 +86,28 @@ entry_has_room {pool} {m} {depth} {levels} {base} {p0} {frame} {frames} {scope} 
     by_slot (slot.Unknown n) p is_slot is_part = tt
 
 -- A GROUP at a known end
-pub group_past_end :
-    {pool : Types} {m depth levels : ℕ} {base : List Record} {p0 : Place} (t : State) (frame : Frame) (frames : List Frame) (scope : Scope) (us : List Record) (q : Place) → t.frames ≡ frame ∷ frames → t.next ≡ step.Tag
-    → Stands pool m depth levels base p0 (frame ∷ frames) (group_part us) scope q → q.known ≡ Some 0 → Told pool m depth p0 (fault q.at (path_here t) PastEnd)
-group_past_end {pool} {m} {depth} {p0 = p0} t frame frames scope us q around tag s end =
-    let path : path_of (frame ∷ frames) ≡ path_here t =
-    sym (append-nil (path_of (frame ∷ frames))) ∙ ap (λ (z : List Frame). path_of z ++ []) (sym around) ∙ ap (λ (z : Step). path_of t.frames ++ own_step z t.scope) (sym tag) in
-    record { bad = subst (λ (z : List PathStep). Bad (schema_of pool) (records (in_message m)) depth p0 (fault q.at z PastEnd)) path (past_end_told s end); settled = λ same. absurd (cc) }
+no_group_at_top : {pool : Types} {m depth levels room inner : ℕ} {base earlier : List Record} {p0 p : Place} {us : List Record} {o : Open Context} {path : List PathStep} → Held pool m depth levels base p0 [] (group_part us) o room inner path p earlier → ⊥
+no_group_at_top (at_top v form is_open is_room is_inner is_path is_place is_base goes_on) = form
+
+group_told :
+    {pool : Types} {m depth levels : ℕ} {base : List Record} {p0 : Place} {frames : List Frame} {scope : Scope} {us : List Record} {q : Place}
+    → Stands pool m depth levels base p0 frames (group_part us) scope q → q.known ≡ Some 0 → Bad (schema_of pool) (records (in_message m)) depth p0 (fault q.at (path_of frames) PastEnd)
+group_told {frames = []} s end = absurd (no_group_at_top s.held)
+group_told {frames = frame ∷ frames} s end = past_end_told s end
+
+pub group_at_end :
+    {pool : Types} {m depth levels : ℕ} {base : List Record} {p0 : Place} (s : State) (rest : List ℕ) → Reads pool m depth levels base p0 s rest → s.next ≡ step.Tag → IsGroup s.now → left_of s ≡ Some 0
+    → Told pool m depth p0 (fault s.at (path_here s) PastEnd)
+group_at_end {pool} {m} {depth} {levels} {base} {p0} s rest begun tag group end = by_part s.now refl group
+  where
+    path : path_of s.frames ≡ path_here s
+    path = sym (append-nil (path_of s.frames)) ∙ ap (λ (z : Step). path_of s.frames ++ own_step z s.scope) (sym tag)
+
+    by_part : (now : Part) → s.now ≡ now → IsGroup now → Told pool m depth p0 (fault s.at (path_here s) PastEnd)
+    by_part (group_part us) is group =
+        record { bad = subst (λ (z : List PathStep). Bad (schema_of pool) (records (in_message m)) depth p0 (fault s.at z PastEnd)) path (group_told (standing s rest s.frames (group_part us) begun tag refl is) end); settled = λ same. absurd (cc) }
+    by_part (message_part k v) is group = absurd group
+    by_part (entry_part key k x d) is group = absurd group
 
 -- A PACKED LIST at its end
 pub list_few :

@@ -20,7 +20,8 @@ use Rattle.pb_value.specs.Derives.{Text}
 use Rattle.pb_decode.specs.Origin.{origin, further, IsWhole, BadFrom}
 use Rattle.pb_decode.specs.declared.error.DecodeError.{DecodeError}
 use Rattle.pb_decode.specs.declared.error.DecodeError.TheVariants as error
-use Rattle.pb_decode.specs.FromDevice.{IfRefused, ToldOf}
+use Rattle.pb_decode.specs.FromDevice.{IfRefused}
+use Rattle.pb_decode.specs.Loops.{ToldOf}
 use Rattle.pb_decode.specs.Frame.{IsFrameOf, BadFrame, error_later}
 use Rattle.pb_decode.proofs.PushLemmas.{no_bytes}
 use Rattle.pb_decode.proofs.GivenLemmas.{never_cut}

@@ -10,7 +10,6 @@ use Rattle.pb_decode.specs.declared.step.Step.TheVariants as step
 use Rattle.pb_decode.specs.Frames.{Part, Frame, Scope, Stands}
 use Rattle.pb_decode.specs.PartView.{part_view, scope_view, frame_view}
 use Rattle.pb_decode.specs.After.{After}
-use Rattle.pb_decode.specs.declared.open.Opening.{Opening}
 use Rattle.pb_decode.specs.declared.part.Part.{Part as PartKept}
 use Rattle.pb_decode.specs.declared.part.Scope.{Scope as ScopeKept}
 use Rattle.pb_decode.specs.declared.reader.Reader.{Reader}
@@ -43,11 +42,11 @@ stands_here {pool} {m} {depth} {levels} {base} {p0} s rest u h tag at same =
 
 -- a reader in what is opened stands where it begins
 pub entered :
-    {pool : Types} {m depth levels : ℕ} {base : List Record} {p0 : Place} (r : Reader) (o : Opening) (frames : List Frame) (q : Place) → frames_view r.frames.items ≡ frame_view o.frame ∷ frames → r.part ≡ o.part → r.scope ≡ o.scope
-    → r.step ≡ step.Tag → q.at ≡ r.at → Stands pool m depth levels base p0 (frame_view o.frame ∷ frames) (part_view o.part) (scope_view o.scope) q → Reads pool m depth levels base p0 (state_view r) q.rest
-entered {pool} {m} {depth} {levels} {base} {p0} r o frames q is_frames is_part is_scope tag at h =
+    {pool : Types} {m depth levels : ℕ} {base : List Record} {p0 : Place} (r : Reader) (part : PartKept) (scope : ScopeKept) (frame : FrameKept) (frames : List Frame) (q : Place) → frames_view r.frames.items ≡ frame_view frame ∷ frames
+    → r.part ≡ part → r.scope ≡ scope → r.step ≡ step.Tag → q.at ≡ r.at → Stands pool m depth levels base p0 (frame_view frame ∷ frames) (part_view part) (scope_view scope) q → Reads pool m depth levels base p0 (state_view r) q.rest
+entered {pool} {m} {depth} {levels} {base} {p0} r part scope frame frames q is_frames is_part is_scope tag at h =
     stands_here (state_view r) q.rest q
     (subst (λ (z : List Frame). Stands pool m depth levels base p0 z (part_view r.part) (scope_view r.scope) q) (sym is_frames)
-    (subst (λ (z : PartKept). Stands pool m depth levels base p0 (frame_view o.frame ∷ frames) (part_view z) (scope_view r.scope) q) (sym is_part)
-    (subst (λ (z : ScopeKept). Stands pool m depth levels base p0 (frame_view o.frame ∷ frames) (part_view o.part) (scope_view z) q) (sym is_scope) h)))
+    (subst (λ (z : PartKept). Stands pool m depth levels base p0 (frame_view frame ∷ frames) (part_view z) (scope_view r.scope) q) (sym is_part)
+    (subst (λ (z : ScopeKept). Stands pool m depth levels base p0 (frame_view frame ∷ frames) (part_view part) (scope_view z) q) (sym is_scope) h)))
     tag at refl

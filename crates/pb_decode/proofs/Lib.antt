@@ -50,3 +50,4 @@ pub mod DeviceLemmas
 pub mod LaterLemmas
 pub mod GivenLemmas
 pub mod InFrame
+pub mod RunLemmas

@@ -15,7 +15,7 @@ use Rattle.pb_decode.specs.declared.step.Step.TheVariants as step
 use Rattle.pb_decode.specs.PayloadValue.{IsBytesPurpose}
 use Rattle.pb_decode.specs.Purposes.{Means, part_context}
 use Rattle.pb_decode.specs.Frames.{Part, CanHold, Scope, Frame, EndsAt, Stands}
-use Rattle.pb_decode.specs.After.{tag, awaited, goes_down, After}
+use Rattle.pb_decode.specs.After.{tag, awaited, goes_down, IsRoomFor, After}
 use Rattle.pb_decode.specs.Reader.{State, here, Reads}
 use Rattle.pb_decode.proofs.FrameLemmas.{ends_along}
 use Rattle.pb_decode.proofs.AfterLemmas.{after_tag, after_length}
@@ -102,6 +102,12 @@ number_next {pool} {m} {depth} {levels} {base} {p0} {frames} {scope} {now} {q} {
     by_type (inl e) = by_step (step.Varint k meant) (ap (λ (z : ℕ). Some (tag k z meant)) (sym e))
     by_type (inr (inl e)) = by_step (step.I64 k meant) (ap (λ (z : ℕ). Some (tag k z meant)) (sym e))
     by_type (inr (inr e)) = by_step (step.I32 k meant) (ap (λ (z : ℕ). Some (tag k z meant)) (sym e))
+
+-- behind the tag of a record that opens something, where a level is left for it
+pub opening_next :
+    {pool : Types} {m depth levels : ℕ} {base : List Record} {p0 : Place} {frames : List Frame} {scope : Scope} {now : Part} {q u : Place} (k : ℕ) (meant : Purpose)
+    → Stands pool m depth levels base p0 frames now scope q → HasTag q k 2 u → Means pool (part_context now) k 2 meant → IsRoomFor scope.room meant → After pool m depth levels base p0 frames (step.Length k meant) now scope u
+opening_next k meant s has means room = after_tag (step.Length k meant) (tag k 2 meant) s refl has means room
 
 -- A PAYLOAD of bytes behind its tag and its length
 pub payload_ends :

@@ -94,6 +94,9 @@ pub record Frame : Type 0 where
   pub slot : Slot
   pub scope : Scope
 
+abbrev pub frame_of : Part → ℕ → Slot → Scope → Frame
+frame_of p n s scope = record { part = p; number = n; slot = s; scope = scope }
+
 -- the steps into the records that are open, outermost first
 abbrev pub path_of : List Frame → List PathStep
 path_of [] = []

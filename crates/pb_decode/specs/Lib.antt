@@ -22,3 +22,5 @@ pub mod Origin
 pub mod Onto
 pub mod FromDevice
 pub mod Frame
+pub mod Loops
+pub mod Run

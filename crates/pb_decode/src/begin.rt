@@ -18,19 +18,15 @@ use crate::step::Step;
 use pb_schema::Kind;
 
 /// Behind the length of a packed list its elements come next, up to its end.
-pub(crate) fn begin_list(scope: Scope, number: u32, kind: Kind, end: u32) -> (Step, Scope)
-    ensures step { result.0 ≡ steps.Elements number kind scope.end }
-    ensures end { result.1.end ≡ Some end }
-    ensures after { (pool : Types) (m depth levels n : ℕ) (base : List Record) (p0 u t : Place) (frames : List FrameView) (now : PartView) → After pool m depth levels base p0 frames (steps.Length number (purposes.Packed kind)) now (scope_view scope) u → HasLength u n t → end ≡ t.at + n
-        → After pool m depth levels base p0 frames result.0 now (scope_view result.1) (payload_at t n) }
+pub(crate) fn begin_list(scope: &mut Scope, number: u32, kind: Kind, end: u32) -> Step
+    ensures step { result ≡ steps.Elements number kind scope.old.end }
+    ensures end { scope.new.end ≡ Some end }
+    ensures after { (pool : Types) (m depth levels n : ℕ) (base : List Record) (p0 u t : Place) (frames : List FrameView) (now : PartView) → After pool m depth levels base p0 frames (steps.Length number (purposes.Packed kind)) now (scope_view scope.old) u → HasLength u n t → end ≡ t.at + n
+        → After pool m depth levels base p0 frames result now (scope_view scope.new) (payload_at t n) }
 {
-    let step = Step::Elements(number, kind, scope.end);
-    let inside = Scope {
-        room: scope.room,
-        end: Some(end),
-        occurrences: scope.occurrences,
-    };
-    (step, inside)
+    let outer = scope.end;
+    scope.end = Some(end);
+    Step::Elements(number, kind, outer)
 }
 
 /// Behind a length whose record opens nothing its payload comes next.

@@ -9,15 +9,15 @@ ghost use Rattle.pb_schema.specs.Kinds.{default_of, is_key_kind};
 ghost use Rattle.pb_value.specs.View.{body_view, key_view, value_view};
 ghost use Rattle.pb_value.specs.Value.{missing};
 ghost use Rattle.pb_value.specs.Data.{empty};
-ghost use Rattle.pb_decode.specs.Frames.{put_entry as put_entry_view, put_group as put_group_view, entry_part, group_part, Frame as FrameView, Scope as ScopeView, one_more_in, up_to, Stands};
+ghost use Rattle.pb_decode.specs.Frames.{put_entry as put_entry_view, put_group as put_group_view, entry_part, group_part, Frame as FrameView, frame_of, Scope as ScopeView, up_to, Stands};
 ghost use Rattle.pb_decode.specs.Closing.{HasRoomFor};
 ghost use Rattle.pb_decode.specs.Occurrences.{counts_view};
-ghost use Rattle.pb_decode.specs.PartView.{part_view, frame_view, scope_view};
+ghost use Rattle.pb_decode.specs.PartView.{part_view, scope_view};
 ghost use Rattle.pb_decode.specs.declared.error.DecodeError.TheVariants.{Memory};
 
 use crate::error::DecodeError;
-use crate::part::{Frame, Part, Scope, Slot};
-use crate::put::one_more;
+use crate::part::{Part, Scope, Slot};
+use crate::put::count_one;
 use crate::put_unknown::put_unknown;
 use pb_schema::Kind;
 use pb_value::{Body, MapKey, Value, default_value, insert_entry};
@@ -126,44 +126,47 @@ pub(crate) fn put_group(
     }
 }
 
-/// An entry whose known end is reached goes into its map, and one stands in what holds it.
+/// An entry whose known end is reached goes into its map, and its record is counted: one stands in what holds it.
 pub(crate) fn close_entry(
     alloc: Global,
-    frame: Frame,
+    outer: &mut Part,
+    scope: &mut Scope,
+    number: u32,
+    slot: Slot,
     key_kind: Kind,
     value_kind: Kind,
     key: Option<MapKey>,
     value: Option<Value>,
-) -> Result<(Part, Scope), DecodeError>
+) -> Result<(), DecodeError>
     requires key { IsTrue (is_key_kind key_kind) }
-    requires fits { HasRoomFor frame.slot (part_view frame.part) key_kind (option_map key_view key) }
-    requires few { counts_view frame.scope.occurrences frame.number < 2 ^ 32 - 1 }
-    ensures scope { IfOk result (λ r. scope_view r.1 ≡ one_more_in frame.number (scope_view frame.scope)) }
-    ensures stands { (pool : Types) (m depth levels : ℕ) (base : List Record) (p0 q : Place) (frames : List FrameView) (scope : ScopeView) → Stands pool m depth levels base p0 (frame_view frame ∷ frames) (entry_part key_kind value_kind (option_map key_view key) (option_map value_view value)) scope q
-        → q.known ≡ Some 0 → IfOk result (λ r. Stands pool m depth levels base p0 frames (part_view r.0) (scope_view r.1) (up_to frame.scope.end q)) }
+    requires fits { HasRoomFor slot (part_view outer.old) key_kind (option_map key_view key) }
+    requires few { counts_view scope.old.occurrences number < 2 ^ 32 - 1 }
+    ensures same_end { OnOk result (scope.new.end ≡ scope.old.end) }
+    ensures stands { (pool : Types) (m depth levels : ℕ) (base : List Record) (p0 q : Place) (frames : List FrameView) (inner : ScopeView) → Stands pool m depth levels base p0 (frame_of (part_view outer.old) number slot (scope_view scope.old) ∷ frames) (entry_part key_kind value_kind (option_map key_view key) (option_map value_view value)) inner q
+        → q.known ≡ Some 0 → OnOk result (Stands pool m depth levels base p0 frames (part_view outer.new) (scope_view scope.new) (up_to scope.old.end q)) }
     ensures memory { IfErr result (λ e. e ≡ Memory) }
 {
-    let slot = frame.slot;
-    let mut outer = frame.part;
-    put_entry(alloc, slot, &mut outer, key_kind, value_kind, key, value)?;
-    let scope = one_more(frame.scope, frame.number)?;
-    Ok((outer, scope))
+    put_entry(alloc, slot, outer, key_kind, value_kind, key, value)?;
+    count_one(scope, number)?;
+    Ok(())
 }
 
-/// A group whose end tag is there goes among the unknown records of what holds it, and one stands in that.
+/// A group whose end tag is there goes among the unknown records of what holds it, and its record is counted: one stands in
+/// that.
 pub(crate) fn close_group(
-    frame: Frame,
+    outer: &mut Part,
+    scope: &mut Scope,
+    number: u32,
+    slot: Slot,
     records: Vec<(u32, Unknown)>,
-) -> Result<(Part, Scope), DecodeError>
-    requires few { counts_view frame.scope.occurrences frame.number < 2 ^ 32 - 1 }
-    ensures scope { IfOk result (λ r. scope_view r.1 ≡ one_more_in frame.number (scope_view frame.scope)) }
-    ensures stands { (pool : Types) (m depth levels : ℕ) (base : List Record) (p0 q w : Place) (frames : List FrameView) (scope : ScopeView) → Stands pool m depth levels base p0 (frame_view frame ∷ frames) (group_part (records_of records.items)) scope q
-        → HasTag q frame.number 4 w → IfOk result (λ r. Stands pool m depth levels base p0 frames (part_view r.0) (scope_view r.1) w) }
+) -> Result<(), DecodeError>
+    requires few { counts_view scope.old.occurrences number < 2 ^ 32 - 1 }
+    ensures same_end { OnOk result (scope.new.end ≡ scope.old.end) }
+    ensures stands { (pool : Types) (m depth levels : ℕ) (base : List Record) (p0 q w : Place) (frames : List FrameView) (inner : ScopeView) → Stands pool m depth levels base p0 (frame_of (part_view outer.old) number slot (scope_view scope.old) ∷ frames) (group_part (records_of records.items)) inner q
+        → HasTag q number 4 w → OnOk result (Stands pool m depth levels base p0 frames (part_view outer.new) (scope_view scope.new) w) }
     ensures memory { IfErr result (λ e. e ≡ Memory) }
 {
-    let slot = frame.slot;
-    let mut outer = frame.part;
-    put_group(slot, &mut outer, records)?;
-    let scope = one_more(frame.scope, frame.number)?;
-    Ok((outer, scope))
+    put_group(slot, outer, records)?;
+    count_one(scope, number)?;
+    Ok(())
 }

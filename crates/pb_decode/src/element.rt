@@ -1,6 +1,6 @@
 //! Elements of a packed list.
 
-ghost use Rattle.std.specs.Prelude.{◌≡◌, ◌≢◌, ◌+◌, ◌<◌, ◌^◌, ℕ, List, Option, Some, IfOk, IfErr, IfNone};
+ghost use Rattle.std.specs.Prelude.{◌≡◌, ◌≢◌, ◌+◌, ◌<◌, ◌^◌, ℕ, List, Option, Some, OnOk, IfOk, IfErr, IfNone};
 ghost use Rattle.pb_wire.specs.Record.{Record, wire_type as type_of};
 ghost use Rattle.pb_wire.specs.Fault.{Place};
 ghost use Rattle.pb_schema.specs.Rules.{IsPool};
@@ -27,63 +27,50 @@ use std::alloc::Global;
 fn pass_element(
     alloc: Global,
     pool: &Pool,
-    reader: Reader,
+    reader: &mut Reader,
     number: u32,
     kind: Kind,
     value: Number,
     size: usize,
-) -> Result<Reader, DecodeError>
-    requires can { CanHold pool.now (part_view reader.part) }
-    requires fits { reader.at + size < 2 ^ 32 }
-    ensures at { IfOk result (λ r. (r.at ≡ reader.at + size) × (r.step ≡ reader.step)) }
-    ensures same_end { IfOk result (λ r. r.scope.end ≡ reader.scope.end) }
-    ensures goes_on { (m depth levels : ℕ) (base : List Record) (p0 w : Place) (rest : List ℕ) (outer : Option ℕ) → Reads pool.now m depth levels base p0 (state_view reader) rest → reader.step ≡ Elements number kind outer
-        → type_of (number_view value) ≡ wire_type_of kind → Follows (here (state_view reader) rest) (number_view value) w → IfOk result (λ r. AfterAt pool.now m depth levels base p0 (state_view r) w) }
+) -> Result<(), DecodeError>
+    requires can { CanHold pool.now (part_view reader.old.part) }
+    requires fits { reader.old.at + size < 2 ^ 32 }
+    ensures at { OnOk result ((reader.new.at ≡ reader.old.at + size) × (reader.new.step ≡ reader.old.step)) }
+    ensures same_end { OnOk result (reader.new.scope.end ≡ reader.old.scope.end) }
+    ensures goes_on { (m depth levels : ℕ) (base : List Record) (p0 w : Place) (rest : List ℕ) (outer : Option ℕ) → Reads pool.now m depth levels base p0 (state_view reader.old) rest → reader.old.step ≡ Elements number kind outer
+        → type_of (number_view value) ≡ wire_type_of kind → Follows (here (state_view reader.old) rest) (number_view value) w → OnOk result (AfterAt pool.now m depth levels base p0 (state_view reader.new) w) }
     ensures memory { IfErr result (λ e. e ≡ Memory) }
 {
-    let Reader {
-        at,
-        part,
-        scope,
-        frames,
-        step,
-    } = reader;
-    let mut part = part;
-    put_element(alloc, pool, &mut part, number, kind, value)?;
-    Ok(Reader {
-        at: at + size as u32,
-        part,
-        scope,
-        frames,
-        step,
-    })
+    put_element(alloc, pool, &mut reader.part, number, kind, value)?;
+    reader.at += size as u32;
+    Ok(())
 }
 
 /// Takes an element of a packed list.
 pub(crate) fn take_element(
     alloc: Global,
     pool: &Pool,
-    reader: Reader,
+    reader: &mut Reader,
     number: u32,
     kind: Kind,
     outer: Option<u32>,
     bytes: &[u8],
-) -> Result<(Reader, Option<usize>), DecodeError>
+) -> Result<Option<usize>, DecodeError>
     requires rules { IsPool pool.now }
-    requires reading { IsReading pool.now (state_view reader) bytes.now }
-    requires step { reader.step ≡ Elements number kind outer }
-    requires goes_on { left_of (state_view reader) ≢ Some 0 }
-    ensures passes { IfOk result (λ r. Passes (state_view reader) bytes.now (state_view r.0) r.1) }
-    ensures taken { (m depth levels : ℕ) (base : List Record) (p0 : Place) → Reads pool.now m depth levels base p0 (state_view reader) bytes.now → IfOk result (λ r. Taken pool.now m depth levels base p0 (state_view r.0) bytes.now r.1) }
-    ensures waits { IfOk result (λ r. IfNone r.1 (Waits (state_view r.0) bytes.now)) }
-    ensures refused { (m depth levels : ℕ) (base : List Record) (p0 : Place) → Reads pool.now m depth levels base p0 (state_view reader) bytes.now → IfErr result (λ e. IfFault e (Told pool.now m depth p0)) }
+    requires reading { IsReading pool.now (state_view reader.old) bytes.now }
+    requires step { reader.old.step ≡ Elements number kind outer }
+    requires goes_on { left_of (state_view reader.old) ≢ Some 0 }
+    ensures passes { IfOk result (λ o. Passes (state_view reader.old) bytes.now (state_view reader.new) o) }
+    ensures taken { (m depth levels : ℕ) (base : List Record) (p0 : Place) → Reads pool.now m depth levels base p0 (state_view reader.old) bytes.now → IfOk result (λ o. Taken pool.now m depth levels base p0 (state_view reader.new) bytes.now o) }
+    ensures waits { IfOk result (λ o. IfNone o (Waits (state_view reader.new) bytes.now)) }
+    ensures refused { (m depth levels : ℕ) (base : List Record) (p0 : Place) → Reads pool.now m depth levels base p0 (state_view reader.old) bytes.now → IfErr result (λ e. IfFault e (Told pool.now m depth p0)) }
 {
-    match number_at(kind.wire_type(), bytes, left(&reader)) {
+    match number_at(kind.wire_type(), bytes, left(reader)) {
         NumberToken::Whole(value, size) => {
-            let next = pass_element(alloc, pool, reader, number, kind, value, size)?;
-            Ok((next, Some(size)))
+            pass_element(alloc, pool, reader, number, kind, value, size)?;
+            Ok(Some(size))
         }
-        NumberToken::Short => Ok((reader, None)),
-        NumberToken::Fault(cause) => Err(fault_at(alloc, &reader, reader.at, cause)),
+        NumberToken::Short => Ok(None),
+        NumberToken::Fault(cause) => Err(fault_at(alloc, reader, reader.at, cause)),
     }
 }

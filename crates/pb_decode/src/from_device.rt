@@ -12,7 +12,8 @@ ghost use Rattle.pb_value.specs.Derives.{Text};
 ghost use Rattle.pb_decode.specs.declared.error.DecodeError.TheVariants.{Device};
 ghost use Rattle.pb_decode.specs.Reader.{state_view};
 ghost use Rattle.pb_decode.specs.Origin.{Origin, origin, TookFrom};
-ghost use Rattle.pb_decode.specs.FromDevice.{IfRefused, IsNoFault, TellsFailures, TakesAtMost, ReadsOn, ToldOf};
+ghost use Rattle.pb_decode.specs.FromDevice.{IfRefused, IsNoFault, TellsFailures, TakesAtMost};
+ghost use Rattle.pb_decode.specs.Loops.{ReadsOn, ToldOf};
 
 use crate::error::DecodeError;
 use crate::fault::too_large;

@@ -20,14 +20,7 @@ use crate::part::{Frame, Part, Scope, Slot};
 use pb_schema::{Kind, MessageId};
 use pb_value::{Body, Content, Value, empty_body, take_field};
 use std::alloc::Global;
-
-/// What is opened: the frame of what holds it, and what there is of it so far.
-#[derive(Drop)]
-pub(crate) struct Opening {
-    pub frame: Frame,
-    pub part: Part,
-    pub scope: Scope,
-}
+use std::mem;
 
 /// The message that a value is, or an empty one.
 fn message_of(alloc: Global, value: Option<Value>) -> Body
@@ -112,79 +105,74 @@ fn new_scope(alloc: Global, room: u8, end: Option<u32>) -> Scope
     }
 }
 
-/// Behind the length of a record of a message the message is open, up to its end. It goes on from what its slot holds.
+/// Behind the length of a record of a message the message is open, up to its end. It goes on from what its slot holds, and
+/// the frame is that of what holds it.
 pub(crate) fn open_message(
     alloc: Global,
-    part: Part,
-    scope: Scope,
+    part: &mut Part,
+    scope: &mut Scope,
     number: u32,
     kind: MessageId,
     slot: Slot,
     end: u32,
-) -> Opening
-    ensures { (pool : Types) (m depth levels n : ℕ) (base : List Record) (p0 u t : Place) (frames : List FrameView) → IsPool pool → CanHold pool (part_view part) → After pool m depth levels base p0 frames (step.Length number (purpose.Message kind slot)) (part_view part) (scope_view scope) u
-        → HasLength u n t → end ≡ t.at + n → Stands pool m depth levels base p0 (frame_view result.frame ∷ frames) (part_view result.part) (scope_view result.scope) (payload_at t n) }
+) -> Frame
+    ensures { (pool : Types) (m depth levels n : ℕ) (base : List Record) (p0 u t : Place) (frames : List FrameView) → IsPool pool → CanHold pool (part_view part.old) → After pool m depth levels base p0 frames (step.Length number (purpose.Message kind slot)) (part_view part.old) (scope_view scope.old) u
+        → HasLength u n t → end ≡ t.at + n → Stands pool m depth levels base p0 (frame_view result ∷ frames) (part_view part.new) (scope_view scope.new) (payload_at t n) }
 {
-    let mut outer = part;
-    let message = take_message(alloc, slot, &mut outer);
+    let message = take_message(alloc, slot, part);
     let inner = new_scope(alloc, room_in(slot, scope.room), Some(end));
-    Opening {
-        frame: Frame {
-            part: outer,
-            number,
-            slot,
-            scope,
-        },
-        part: Part::Message(kind, message),
-        scope: inner,
+    let outer = mem::replace(part, Part::Message(kind, message));
+    let around = mem::replace(scope, inner);
+    Frame {
+        part: outer,
+        number,
+        slot,
+        scope: around,
     }
 }
 
 /// Behind the length of a record of a map an entry is open, up to its end.
 pub(crate) fn open_entry(
     alloc: Global,
-    part: Part,
-    scope: Scope,
+    part: &mut Part,
+    scope: &mut Scope,
     number: u32,
     key_kind: Kind,
     value_kind: Kind,
     end: u32,
-) -> Opening
-    ensures { (pool : Types) (m depth levels n : ℕ) (base : List Record) (p0 u t : Place) (frames : List FrameView) → IsPool pool → CanHold pool (part_view part) → After pool m depth levels base p0 frames (step.Length number (purpose.Entry key_kind value_kind)) (part_view part) (scope_view scope) u
-        → HasLength u n t → end ≡ t.at + n → Stands pool m depth levels base p0 (frame_view result.frame ∷ frames) (part_view result.part) (scope_view result.scope) (payload_at t n) }
+) -> Frame
+    ensures { (pool : Types) (m depth levels n : ℕ) (base : List Record) (p0 u t : Place) (frames : List FrameView) → IsPool pool → CanHold pool (part_view part.old) → After pool m depth levels base p0 frames (step.Length number (purpose.Entry key_kind value_kind)) (part_view part.old) (scope_view scope.old) u
+        → HasLength u n t → end ≡ t.at + n → Stands pool m depth levels base p0 (frame_view result ∷ frames) (part_view part.new) (scope_view scope.new) (payload_at t n) }
 {
     let inner = new_scope(alloc, scope.room.saturating_sub(1), Some(end));
-    Opening {
-        frame: Frame {
-            part,
-            number,
-            slot: Slot::Map(number),
-            scope,
-        },
-        part: Part::Entry {
-            key_kind,
-            value_kind,
-            key: None,
-            value: None,
-        },
-        scope: inner,
+    let entry = Part::Entry {
+        key_kind,
+        value_kind,
+        key: None,
+        value: None,
+    };
+    let outer = mem::replace(part, entry);
+    let around = mem::replace(scope, inner);
+    Frame {
+        part: outer,
+        number,
+        slot: Slot::Map(number),
+        scope: around,
     }
 }
 
 /// Behind the first tag of a group, of which no schema knows, the group is open. Its end is known where that of what holds it is.
-pub(crate) fn open_group(alloc: Global, part: Part, scope: Scope, number: u32) -> Opening
-    ensures { (pool : Types) (m depth levels : ℕ) (base : List Record) (p0 q u : Place) (frames : List FrameView) → IsPool pool → CanHold pool (part_view part) → Stands pool m depth levels base p0 frames (part_view part) (scope_view scope) q
-        → 0 < scope.room → HasTag q number 3 u → Stands pool m depth levels base p0 (frame_view result.frame ∷ frames) (part_view result.part) (scope_view result.scope) u }
+pub(crate) fn open_group(alloc: Global, part: &mut Part, scope: &mut Scope, number: u32) -> Frame
+    ensures { (pool : Types) (m depth levels : ℕ) (base : List Record) (p0 q u : Place) (frames : List FrameView) → IsPool pool → CanHold pool (part_view part.old) → Stands pool m depth levels base p0 frames (part_view part.old) (scope_view scope.old) q
+        → 0 < scope.old.room → HasTag q number 3 u → Stands pool m depth levels base p0 (frame_view result ∷ frames) (part_view part.new) (scope_view scope.new) u }
 {
     let inner = new_scope(alloc, scope.room.saturating_sub(1), scope.end);
-    Opening {
-        frame: Frame {
-            part,
-            number,
-            slot: Slot::Unknown(number),
-            scope,
-        },
-        part: Part::Group(Vec::new(alloc)),
-        scope: inner,
+    let outer = mem::replace(part, Part::Group(Vec::new(alloc)));
+    let around = mem::replace(scope, inner);
+    Frame {
+        part: outer,
+        number,
+        slot: Slot::Unknown(number),
+        scope: around,
     }
 }

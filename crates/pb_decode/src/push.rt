@@ -47,7 +47,8 @@ fn take_front(
     ensures waits { IfOk result (λ r. Waits (state_view r.0) r.1.items) }
     ensures refused { (m depth levels : ℕ) (base : List Record) (p0 : Place) → Reads pool.now m depth levels base p0 (state_view reader) bytes.now → IfErr result (λ e. IfFault e (Told pool.now m depth p0)) }
 {
-    let (next, size) = take_all(alloc, pool, reader, bytes)?;
+    let mut next = reader;
+    let size = take_all(alloc, pool, &mut next, bytes)?;
     let held = rest_of(alloc, bytes, size)?;
     Ok((next, held))
 }
@@ -76,7 +77,8 @@ fn take_held(
     ensures waits { IfOk result (λ r. Waits (state_view r.0) r.1.items) }
     ensures refused { (m depth levels : ℕ) (base : List Record) (p0 : Place) → Reads pool.now m depth levels base p0 (state_view reader) held.items → IfErr result (λ e. IfFault e (Told pool.now m depth p0)) }
 {
-    let (next, size) = take_all(alloc, pool, reader, &held)?;
+    let mut next = reader;
+    let size = take_all(alloc, pool, &mut next, &held)?;
     if size == 0 {
         return Ok((next, held));
     }

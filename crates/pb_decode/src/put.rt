@@ -4,13 +4,13 @@ ghost use Rattle.std.specs.Prelude.{◌≡◌, ◌<◌, ◌-◌, ◌^◌, ℕ, L
 ghost use Rattle.pb_wire.specs.Fault.{Place};
 ghost use Rattle.pb_wire.specs.Record.{Record};
 ghost use Rattle.pb_value.specs.View.{body_view};
-ghost use Rattle.pb_decode.specs.Frames.{put_message as put_message_view, CanHold, Frame as FrameView, Scope as ScopeView, message_part, one_more_in, up_to, Stands};
+ghost use Rattle.pb_decode.specs.Frames.{put_message as put_message_view, CanHold, Frame as FrameView, frame_of, Scope as ScopeView, message_part, one_more_in, up_to, Stands};
 ghost use Rattle.pb_decode.specs.declared.error.DecodeError.TheVariants.{Memory};
-ghost use Rattle.pb_decode.specs.PartView.{part_view, scope_view, frame_view};
+ghost use Rattle.pb_decode.specs.PartView.{part_view, scope_view};
 ghost use Rattle.pb_decode.specs.Occurrences.{counts_view};
 
 use crate::error::DecodeError;
-use crate::part::{Frame, Part, Scope, Slot};
+use crate::part::{Part, Scope, Slot};
 use pb_schema::Pool;
 use pb_value::{Body, Content, Value, push_element, store};
 use std::alloc::Global;
@@ -73,35 +73,35 @@ pub(crate) fn put_message(
     }
 }
 
-/// The scope of a part with one more record of a number.
-pub(crate) fn one_more(scope: Scope, number: u32) -> Result<Scope, DecodeError>
-    requires { counts_view scope.occurrences number < 2 ^ 32 - 1 }
-    ensures more { IfOk result (λ s. scope_view s ≡ one_more_in number (scope_view scope)) }
+/// Counts one more record of a number in a part.
+pub(crate) fn count_one(scope: &mut Scope, number: u32) -> Result<(), DecodeError>
+    requires { counts_view scope.old.occurrences number < 2 ^ 32 - 1 }
+    ensures more { OnOk result (scope_view scope.new ≡ one_more_in number (scope_view scope.old)) }
+    ensures same_end { OnOk result (scope.new.end ≡ scope.old.end) }
     ensures memory { IfErr result (λ e. e ≡ Memory) }
 {
-    let mut scope = scope;
     scope.occurrences.add(number)?;
-    Ok(scope)
+    Ok(())
 }
 
-/// A message whose known end is reached goes into its slot, and one stands in what holds it.
+/// A message whose known end is reached goes into its slot, and its record is counted: one stands in what holds it.
 pub(crate) fn close_message(
     alloc: Global,
     pool: &Pool,
-    frame: Frame,
+    outer: &mut Part,
+    scope: &mut Scope,
+    number: u32,
+    slot: Slot,
     message: Body,
-) -> Result<(Part, Scope), DecodeError>
-    requires can { CanHold pool.now (part_view frame.part) }
-    requires few { counts_view frame.scope.occurrences frame.number < 2 ^ 32 - 1 }
-    ensures put { IfOk result (λ r. part_view r.0 ≡ put_message_view pool.now frame.slot (part_view frame.part) (body_view message)) }
-    ensures scope { IfOk result (λ r. scope_view r.1 ≡ one_more_in frame.number (scope_view frame.scope)) }
-    ensures stands { (m depth levels k : ℕ) (base : List Record) (p0 q : Place) (frames : List FrameView) (scope : ScopeView) → Stands pool.now m depth levels base p0 (frame_view frame ∷ frames) (message_part k (body_view message)) scope q
-        → q.known ≡ Some 0 → IfOk result (λ r. Stands pool.now m depth levels base p0 frames (part_view r.0) (scope_view r.1) (up_to frame.scope.end q)) }
+) -> Result<(), DecodeError>
+    requires can { CanHold pool.now (part_view outer.old) }
+    requires few { counts_view scope.old.occurrences number < 2 ^ 32 - 1 }
+    ensures same_end { OnOk result (scope.new.end ≡ scope.old.end) }
+    ensures stands { (m depth levels k : ℕ) (base : List Record) (p0 q : Place) (frames : List FrameView) (inner : ScopeView) → Stands pool.now m depth levels base p0 (frame_of (part_view outer.old) number slot (scope_view scope.old) ∷ frames) (message_part k (body_view message)) inner q
+        → q.known ≡ Some 0 → OnOk result (Stands pool.now m depth levels base p0 frames (part_view outer.new) (scope_view scope.new) (up_to scope.old.end q)) }
     ensures memory { IfErr result (λ e. e ≡ Memory) }
 {
-    let slot = frame.slot;
-    let mut outer = frame.part;
-    put_message(alloc, pool, slot, &mut outer, message)?;
-    let scope = one_more(frame.scope, frame.number)?;
-    Ok((outer, scope))
+    put_message(alloc, pool, slot, outer, message)?;
+    count_one(scope, number)?;
+    Ok(())
 }

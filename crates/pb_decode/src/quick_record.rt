@@ -1,4 +1,4 @@
-//! Records of numbers and of bytes, taken whole.
+//! Records of numbers and of bytes, taken whole, and what opens or ends messages, entries, lists and groups.
 
 ghost use Rattle.std.specs.Prelude.{◌≡◌, ◌⊎◌, ◌+◌, ◌-◌, ◌≤◌, ◌<◌, ◌^◌, true, ℕ, List, drop, length, IfOk, IfErr, IfSome, IfNone, OnOk};
 ghost use Rattle.pb_wire.specs.Record.{Record};
@@ -8,36 +8,27 @@ ghost use Rattle.pb_schema.specs.Rules.{IsPool};
 ghost use Rattle.pb_schema.specs.Types.{Types};
 ghost use Rattle.pb_decode.specs.declared.step.Step.TheVariants.{Tag};
 ghost use Rattle.pb_decode.specs.declared.error.DecodeError.TheVariants.{Memory};
-ghost use Rattle.pb_decode.specs.Frames.{one_more_in};
-ghost use Rattle.pb_decode.specs.Occurrences.{counts_view};
-ghost use Rattle.pb_decode.specs.PartView.{scope_view};
+ghost use Rattle.pb_decode.specs.PartView.{part_view};
+ghost use Rattle.pb_decode.specs.Purposes.{Means, part_context};
 ghost use Rattle.pb_decode.specs.PayloadValue.{IsBytesPurpose};
 ghost use Rattle.pb_decode.specs.Reader.{state_view, here, Reads, IsReading};
 
 use crate::error::DecodeError;
 use crate::front::front_number;
 use crate::number_token::NumberToken;
-use crate::part::Scope;
+use crate::pass_length::pass_length;
 use crate::payload_value::PayloadError;
 use crate::purpose::{Purpose, purpose_of};
+use crate::put::count_one;
 use crate::put_number::put_number;
 use crate::put_payload::put_payload;
 use crate::reader::{Reader, left, number_at};
 use crate::record_tag::{RecordTag, left_behind, record_tag};
-use crate::tag::payload_size;
+use crate::tag::{group_end, payload_size};
+use crate::tag_step::has_room;
+use crate::take_tag::{enter_group, innermost, leave_group};
 use pb_schema::Pool;
 use std::alloc::Global;
-
-/// Counts one more record of a number.
-fn count_one(scope: &mut Scope, number: u32) -> Result<(), DecodeError>
-    requires { counts_view scope.old.occurrences number < 2 ^ 32 - 1 }
-    ensures more { OnOk result (scope_view scope.new ≡ one_more_in number (scope_view scope.old)) }
-    ensures same_end { OnOk result (scope.new.end ≡ scope.old.end) }
-    ensures memory { IfErr result (λ e. e ≡ Memory) }
-{
-    scope.occurrences.add(number)?;
-    Ok(())
-}
 
 /// Takes the record of a number, behind whose tag the number stands whole, and how many bytes the record takes.
 fn take_number_record(
@@ -53,7 +44,6 @@ fn take_number_record(
     requires number { (tag.wire_type ≡ 0) ⊎ (tag.wire_type ≡ 1) ⊎ (tag.wire_type ≡ 5) }
     requires within { tag.size ≤ length bytes.now }
     requires tag { HasTag (here (state_view reader.old) bytes.now) tag.number tag.wire_type (passed (here (state_view reader.old) bytes.now) tag.size) }
-    ensures step { reader.new.step ≡ Tag }
     ensures passes { IfOk result (λ o. IfSome o (λ n. (tag.size ≤ n) × (n ≤ length bytes.now) × (reader.new.at ≡ reader.old.at + n))) }
     ensures none { IfOk result (λ o. IfNone o (reader.new ≡ reader.old)) }
     ensures taken { (m depth levels : ℕ) (base : List Record) (p0 : Place) → Reads pool.now m depth levels base p0 (state_view reader.old) bytes.now → IfOk result (λ o. IfSome o (λ n. Reads pool.now m depth levels base p0 (state_view reader.new) (drop n bytes.now))) }
@@ -90,11 +80,11 @@ fn is_for_bytes(purpose: Purpose) -> bool
     }
 }
 
-/// Where the payload of a record begins whose tag takes so many bytes, and its size, if all of it is here.
-fn payload_behind(reader: &Reader, tag_size: usize, bytes: &[u8]) -> Option<(usize, usize)>
+/// Where the payload of a record begins whose tag takes so many bytes, and its size.
+fn length_behind(reader: &Reader, tag_size: usize, bytes: &[u8]) -> Option<(usize, u32)>
     requires within { tag_size ≤ length bytes.now }
     requires small { reader.now.at + length bytes.now < 2 ^ 31 }
-    ensures within { IfSome result (λ t. (tag_size ≤ t.0) × (t.0 + t.1 ≤ length bytes.now)) }
+    ensures within { IfSome result (λ t. (tag_size ≤ t.0) × (t.0 ≤ length bytes.now) × (t.1 < 2 ^ 31)) }
     ensures whole { (pool : Types) (m depth levels number wire_type : ℕ) (base : List Record) (p0 : Place) → Reads pool m depth levels base p0 (state_view reader.now) bytes.now
         → HasTag (here (state_view reader.now) bytes.now) number wire_type (passed (here (state_view reader.now) bytes.now) tag_size)
         → IfSome result (λ t. HasLength (passed (here (state_view reader.now) bytes.now) tag_size) t.1 (passed (here (state_view reader.now) bytes.now) t.0)) }
@@ -104,14 +94,10 @@ fn payload_behind(reader: &Reader, tag_size: usize, bytes: &[u8]) -> Option<(usi
         return None;
     };
     let start = tag_size + used;
-    let Ok(size) = payload_size(length, reader.at + start as u32, reader.scope.end) else {
-        return None;
-    };
-    let size = size as usize;
-    if bytes.len() - start < size {
-        return None;
+    match payload_size(length, reader.at + start as u32, reader.scope.end) {
+        Ok(size) => Some((start, size)),
+        Err(_) => None,
     }
-    Some((start, size))
 }
 
 /// Takes the record of bytes, behind whose tag its payload stands whole, and how many bytes the record takes.
@@ -120,6 +106,7 @@ fn take_bytes_record(
     pool: &Pool,
     reader: &mut Reader,
     tag: RecordTag,
+    purpose: Purpose,
     bytes: &[u8],
 ) -> Result<Option<usize>, DecodeError>
     requires rules { IsPool pool.now }
@@ -128,19 +115,20 @@ fn take_bytes_record(
     requires bytes { tag.wire_type ≡ 2 }
     requires within { tag.size ≤ length bytes.now }
     requires tag { HasTag (here (state_view reader.old) bytes.now) tag.number tag.wire_type (passed (here (state_view reader.old) bytes.now) tag.size) }
-    ensures step { reader.new.step ≡ Tag }
+    requires means { Means pool.now (part_context (part_view reader.old.part)) tag.number 2 purpose }
+    requires purpose { IsBytesPurpose purpose }
     ensures passes { IfOk result (λ o. IfSome o (λ n. (tag.size ≤ n) × (n ≤ length bytes.now) × (reader.new.at ≡ reader.old.at + n))) }
     ensures none { IfOk result (λ o. IfNone o (reader.new ≡ reader.old)) }
     ensures taken { (m depth levels : ℕ) (base : List Record) (p0 : Place) → Reads pool.now m depth levels base p0 (state_view reader.old) bytes.now → IfOk result (λ o. IfSome o (λ n. Reads pool.now m depth levels base p0 (state_view reader.new) (drop n bytes.now))) }
     ensures memory { IfErr result (λ e. e ≡ Memory) }
 {
-    let purpose = purpose_of(pool, &reader.part, tag.number, 2);
-    if !is_for_bytes(purpose) {
-        return Ok(None);
-    }
-    let Some((start, size)) = payload_behind(reader, tag.size, bytes) else {
+    let Some((start, size)) = length_behind(reader, tag.size, bytes) else {
         return Ok(None);
     };
+    let size = size as usize;
+    if bytes.len() - start < size {
+        return Ok(None);
+    }
     let end = start + size;
     let payload = &bytes[start..end];
     match put_payload(alloc, pool, &mut reader.part, tag.number, purpose, payload) {
@@ -154,8 +142,122 @@ fn take_bytes_record(
     }
 }
 
-/// Takes the record at the front of the bytes, if it is one of a number or of bytes and stands whole there, and how many bytes
-/// it takes.
+/// Opens the message, the entry or the packed list of a record, where a level is left for it, and how many bytes its tag and
+/// its length take.
+fn take_opening(
+    alloc: Global,
+    pool: &Pool,
+    reader: &mut Reader,
+    tag: RecordTag,
+    purpose: Purpose,
+    bytes: &[u8],
+) -> Result<Option<usize>, DecodeError>
+    requires rules { IsPool pool.now }
+    requires reading { IsReading pool.now (state_view reader.old) bytes.now }
+    requires step { reader.old.step ≡ Tag }
+    requires bytes { tag.wire_type ≡ 2 }
+    requires within { tag.size ≤ length bytes.now }
+    requires tag { HasTag (here (state_view reader.old) bytes.now) tag.number tag.wire_type (passed (here (state_view reader.old) bytes.now) tag.size) }
+    requires means { Means pool.now (part_context (part_view reader.old.part)) tag.number 2 purpose }
+    ensures passes { IfOk result (λ o. IfSome o (λ n. (tag.size ≤ n) × (n ≤ length bytes.now) × (reader.new.at ≡ reader.old.at + n))) }
+    ensures none { IfOk result (λ o. IfNone o (reader.new ≡ reader.old)) }
+    ensures taken { (m depth levels : ℕ) (base : List Record) (p0 : Place) → Reads pool.now m depth levels base p0 (state_view reader.old) bytes.now → IfOk result (λ o. IfSome o (λ n. Reads pool.now m depth levels base p0 (state_view reader.new) (drop n bytes.now))) }
+    ensures memory { IfErr result (λ e. e ≡ Memory) }
+{
+    if !has_room(reader.scope.room, purpose) {
+        return Ok(None);
+    }
+    let Some((start, size)) = length_behind(reader, tag.size, bytes) else {
+        return Ok(None);
+    };
+    let begin = reader.at + start as u32;
+    pass_length(alloc, reader, tag.number, purpose, begin, size)?;
+    Ok(Some(start))
+}
+
+/// Takes the record of a length if its bytes are its value and stand whole behind its tag, or opens what it opens, and how many
+/// bytes that takes.
+fn take_length_record(
+    alloc: Global,
+    pool: &Pool,
+    reader: &mut Reader,
+    tag: RecordTag,
+    bytes: &[u8],
+) -> Result<Option<usize>, DecodeError>
+    requires rules { IsPool pool.now }
+    requires reading { IsReading pool.now (state_view reader.old) bytes.now }
+    requires step { reader.old.step ≡ Tag }
+    requires bytes { tag.wire_type ≡ 2 }
+    requires within { tag.size ≤ length bytes.now }
+    requires tag { HasTag (here (state_view reader.old) bytes.now) tag.number tag.wire_type (passed (here (state_view reader.old) bytes.now) tag.size) }
+    ensures passes { IfOk result (λ o. IfSome o (λ n. (tag.size ≤ n) × (n ≤ length bytes.now) × (reader.new.at ≡ reader.old.at + n))) }
+    ensures none { IfOk result (λ o. IfNone o (reader.new ≡ reader.old)) }
+    ensures taken { (m depth levels : ℕ) (base : List Record) (p0 : Place) → Reads pool.now m depth levels base p0 (state_view reader.old) bytes.now → IfOk result (λ o. IfSome o (λ n. Reads pool.now m depth levels base p0 (state_view reader.new) (drop n bytes.now))) }
+    ensures memory { IfErr result (λ e. e ≡ Memory) }
+{
+    let purpose = purpose_of(pool, &reader.part, tag.number, 2);
+    if is_for_bytes(purpose) {
+        take_bytes_record(alloc, pool, reader, tag, purpose, bytes)
+    } else {
+        take_opening(alloc, pool, reader, tag, purpose, bytes)
+    }
+}
+
+/// Opens the group whose first tag is there, where a level is left for it.
+fn take_group_start(
+    alloc: Global,
+    pool: &Pool,
+    reader: &mut Reader,
+    tag: RecordTag,
+    bytes: &[u8],
+) -> Result<Option<usize>, DecodeError>
+    requires rules { IsPool pool.now }
+    requires reading { IsReading pool.now (state_view reader.old) bytes.now }
+    requires step { reader.old.step ≡ Tag }
+    requires start { tag.wire_type ≡ 3 }
+    requires within { tag.size ≤ length bytes.now }
+    requires tag { HasTag (here (state_view reader.old) bytes.now) tag.number tag.wire_type (passed (here (state_view reader.old) bytes.now) tag.size) }
+    ensures passes { IfOk result (λ o. IfSome o (λ n. (n ≡ tag.size) × (reader.new.at ≡ reader.old.at + n))) }
+    ensures none { IfOk result (λ o. IfNone o (reader.new ≡ reader.old)) }
+    ensures taken { (m depth levels : ℕ) (base : List Record) (p0 : Place) → Reads pool.now m depth levels base p0 (state_view reader.old) bytes.now → IfOk result (λ o. IfSome o (λ n. Reads pool.now m depth levels base p0 (state_view reader.new) (drop n bytes.now))) }
+    ensures memory { IfErr result (λ e. e ≡ Memory) }
+{
+    if reader.scope.room == 0 {
+        return Ok(None);
+    }
+    enter_group(alloc, reader, tag.number, tag.size)?;
+    Ok(Some(tag.size))
+}
+
+/// Closes the group whose last tag is there, if it is the innermost one.
+fn take_group_end(
+    pool: &Pool,
+    reader: &mut Reader,
+    tag: RecordTag,
+    bytes: &[u8],
+) -> Result<Option<usize>, DecodeError>
+    requires rules { IsPool pool.now }
+    requires reading { IsReading pool.now (state_view reader.old) bytes.now }
+    requires step { reader.old.step ≡ Tag }
+    requires end { tag.wire_type ≡ 4 }
+    requires within { tag.size ≤ length bytes.now }
+    requires tag { HasTag (here (state_view reader.old) bytes.now) tag.number tag.wire_type (passed (here (state_view reader.old) bytes.now) tag.size) }
+    ensures passes { IfOk result (λ o. IfSome o (λ n. (n ≡ tag.size) × (reader.new.at ≡ reader.old.at + n))) }
+    ensures none { IfOk result (λ o. IfNone o (reader.new ≡ reader.old)) }
+    ensures taken { (m depth levels : ℕ) (base : List Record) (p0 : Place) → Reads pool.now m depth levels base p0 (state_view reader.old) bytes.now → IfOk result (λ o. IfSome o (λ n. Reads pool.now m depth levels base p0 (state_view reader.new) (drop n bytes.now))) }
+    ensures memory { IfErr result (λ e. e ≡ Memory) }
+{
+    match group_end(&reader.part, innermost(&reader.frames), tag.number) {
+        Ok(()) => {
+            leave_group(reader, tag.size)?;
+            Ok(Some(tag.size))
+        }
+        Err(_) => Ok(None),
+    }
+}
+
+/// Takes the record at the front of the bytes, if it is one of a number or of bytes and stands whole there, or opens or closes
+/// what its tag and its length open or close, and how many bytes that takes.
 pub(crate) fn take_record(
     alloc: Global,
     pool: &Pool,
@@ -165,7 +267,6 @@ pub(crate) fn take_record(
     requires rules { IsPool pool.now }
     requires reading { IsReading pool.now (state_view reader.old) bytes.now }
     requires step { reader.old.step ≡ Tag }
-    ensures step { reader.new.step ≡ Tag }
     ensures passes { IfOk result (λ o. IfSome o (λ n. (0 < n) × (n ≤ length bytes.now) × (reader.new.at ≡ reader.old.at + n))) }
     ensures none { IfOk result (λ o. IfNone o (reader.new ≡ reader.old)) }
     ensures taken { (m depth levels : ℕ) (base : List Record) (p0 : Place) → Reads pool.now m depth levels base p0 (state_view reader.old) bytes.now → IfOk result (λ o. IfSome o (λ n. Reads pool.now m depth levels base p0 (state_view reader.new) (drop n bytes.now))) }
@@ -175,9 +276,13 @@ pub(crate) fn take_record(
         return Ok(None);
     };
     if tag.wire_type == 2 {
-        take_bytes_record(alloc, pool, reader, tag, bytes)
+        take_length_record(alloc, pool, reader, tag, bytes)
     } else if tag.wire_type == 0 || tag.wire_type == 1 || tag.wire_type == 5 {
         take_number_record(alloc, pool, reader, tag, bytes)
+    } else if tag.wire_type == 3 {
+        take_group_start(alloc, pool, reader, tag, bytes)
+    } else if tag.wire_type == 4 {
+        take_group_end(pool, reader, tag, bytes)
     } else {
         Ok(None)
     }

@@ -1,6 +1,6 @@
 //! A reader of a message: a stack of what is open, and what comes next.
 
-ghost use Rattle.std.specs.Prelude.{◌≡◌, ◌⊎◌, ◌+◌, ◌-◌, ◌<◌, ◌≤◌, ◌^◌, ℕ, List, Some, drop, length, IfOk, IfErr, IfNone};
+ghost use Rattle.std.specs.Prelude.{◌≡◌, ◌⊎◌, ◌+◌, ◌-◌, ◌<◌, ◌≤◌, ◌^◌, ℕ, List, Some, drop, length, OnOk, IfOk, IfErr, IfNone};
 ghost use Rattle.pb_wire.specs.Record.{Record, wire_type as type_of};
 ghost use Rattle.pb_wire.specs.Fault.{Place};
 ghost use Rattle.pb_wire.specs.Token.{given_at};
@@ -22,7 +22,7 @@ use crate::number::Number;
 use crate::number_token::{NumberToken, eight_byte_number, four_byte_number, varint_number};
 use crate::part::{Frame, Part, Scope};
 use crate::purpose::Purpose;
-use crate::put::one_more;
+use crate::put::count_one;
 use crate::put_number::put_number;
 use crate::step::Step;
 use crate::take_next::take_next;
@@ -68,67 +68,55 @@ pub(crate) fn number_at(wire_type: u8, bytes: &[u8], left: Option<u32>) -> Numbe
 fn pass_number(
     alloc: Global,
     pool: &Pool,
-    reader: Reader,
+    reader: &mut Reader,
     number: u32,
     purpose: Purpose,
     value: Number,
     size: usize,
-) -> Result<Reader, DecodeError>
+) -> Result<(), DecodeError>
     requires rules { IsPool pool.now }
-    requires can { CanHold pool.now (part_view reader.part) }
-    requires few { counts_view reader.scope.occurrences number < 2 ^ 32 - 1 }
-    requires fits { reader.at + size < 2 ^ 32 }
-    ensures at { IfOk result (λ r. (r.at ≡ reader.at + size) × (r.step ≡ Tag)) }
-    ensures same_end { IfOk result (λ r. r.scope.end ≡ reader.scope.end) }
-    ensures stands { (m depth levels : ℕ) (base : List Record) (p0 w : Place) (rest : List ℕ) → Reads pool.now m depth levels base p0 (state_view reader) rest → awaited reader.step ≡ Some (tag number (type_of (number_view value)) purpose)
-        → Follows (here (state_view reader) rest) (number_view value) w → IfOk result (λ r. StandsAt pool.now m depth levels base p0 (state_view r) w) }
+    requires can { CanHold pool.now (part_view reader.old.part) }
+    requires few { counts_view reader.old.scope.occurrences number < 2 ^ 32 - 1 }
+    requires fits { reader.old.at + size < 2 ^ 32 }
+    ensures at { OnOk result ((reader.new.at ≡ reader.old.at + size) × (reader.new.step ≡ Tag)) }
+    ensures same_end { OnOk result (reader.new.scope.end ≡ reader.old.scope.end) }
+    ensures stands { (m depth levels : ℕ) (base : List Record) (p0 w : Place) (rest : List ℕ) → Reads pool.now m depth levels base p0 (state_view reader.old) rest → awaited reader.old.step ≡ Some (tag number (type_of (number_view value)) purpose)
+        → Follows (here (state_view reader.old) rest) (number_view value) w → OnOk result (StandsAt pool.now m depth levels base p0 (state_view reader.new) w) }
     ensures memory { IfErr result (λ e. e ≡ Memory) }
 {
-    let Reader {
-        at,
-        part,
-        scope,
-        frames,
-        step: _,
-    } = reader;
-    let mut part = part;
-    put_number(alloc, pool, &mut part, number, purpose, value)?;
-    let scope = one_more(scope, number)?;
-    Ok(Reader {
-        at: at + size as u32,
-        part,
-        scope,
-        frames,
-        step: Step::Tag,
-    })
+    put_number(alloc, pool, &mut reader.part, number, purpose, value)?;
+    count_one(&mut reader.scope, number)?;
+    reader.at += size as u32;
+    reader.step = Step::Tag;
+    Ok(())
 }
 
 /// Takes the number of a record.
 pub(crate) fn take_number(
     alloc: Global,
     pool: &Pool,
-    reader: Reader,
+    reader: &mut Reader,
     number: u32,
     wire_type: u8,
     purpose: Purpose,
     bytes: &[u8],
-) -> Result<(Reader, Option<usize>), DecodeError>
+) -> Result<Option<usize>, DecodeError>
     requires rules { IsPool pool.now }
-    requires reading { IsReading pool.now (state_view reader) bytes.now }
+    requires reading { IsReading pool.now (state_view reader.old) bytes.now }
     requires number { (wire_type ≡ 0) ⊎ (wire_type ≡ 1) ⊎ (wire_type ≡ 5) }
-    requires step { awaited reader.step ≡ Some (tag number wire_type purpose) }
-    ensures passes { IfOk result (λ r. Passes (state_view reader) bytes.now (state_view r.0) r.1) }
-    ensures taken { (m depth levels : ℕ) (base : List Record) (p0 : Place) → Reads pool.now m depth levels base p0 (state_view reader) bytes.now → IfOk result (λ r. Taken pool.now m depth levels base p0 (state_view r.0) bytes.now r.1) }
-    ensures waits { IfOk result (λ r. IfNone r.1 (Waits (state_view r.0) bytes.now)) }
-    ensures refused { (m depth levels : ℕ) (base : List Record) (p0 : Place) → Reads pool.now m depth levels base p0 (state_view reader) bytes.now → IfErr result (λ e. IfFault e (Told pool.now m depth p0)) }
+    requires step { awaited reader.old.step ≡ Some (tag number wire_type purpose) }
+    ensures passes { IfOk result (λ o. Passes (state_view reader.old) bytes.now (state_view reader.new) o) }
+    ensures taken { (m depth levels : ℕ) (base : List Record) (p0 : Place) → Reads pool.now m depth levels base p0 (state_view reader.old) bytes.now → IfOk result (λ o. Taken pool.now m depth levels base p0 (state_view reader.new) bytes.now o) }
+    ensures waits { IfOk result (λ o. IfNone o (Waits (state_view reader.new) bytes.now)) }
+    ensures refused { (m depth levels : ℕ) (base : List Record) (p0 : Place) → Reads pool.now m depth levels base p0 (state_view reader.old) bytes.now → IfErr result (λ e. IfFault e (Told pool.now m depth p0)) }
 {
-    match number_at(wire_type, bytes, left(&reader)) {
+    match number_at(wire_type, bytes, left(reader)) {
         NumberToken::Whole(value, size) => {
-            let next = pass_number(alloc, pool, reader, number, purpose, value, size)?;
-            Ok((next, Some(size)))
+            pass_number(alloc, pool, reader, number, purpose, value, size)?;
+            Ok(Some(size))
         }
-        NumberToken::Short => Ok((reader, None)),
-        NumberToken::Fault(cause) => Err(fault_at(alloc, &reader, reader.at, cause)),
+        NumberToken::Short => Ok(None),
+        NumberToken::Fault(cause) => Err(fault_at(alloc, reader, reader.at, cause)),
     }
 }
 
@@ -136,23 +124,20 @@ pub(crate) fn take_number(
 pub(crate) fn take_all(
     alloc: Global,
     pool: &Pool,
-    reader: Reader,
+    reader: &mut Reader,
     bytes: &[u8],
-) -> Result<(Reader, usize), DecodeError>
+) -> Result<usize, DecodeError>
     requires rules { IsPool pool.now }
-    requires reading { IsReading pool.now (state_view reader) bytes.now }
-    ensures passes { IfOk result (λ r. (r.1 ≤ length bytes.now) × ((state_view r.0).at ≡ reader.at + r.1)) }
-    ensures taken { (m depth levels : ℕ) (base : List Record) (p0 : Place) → Reads pool.now m depth levels base p0 (state_view reader) bytes.now → IfOk result (λ r. Reads pool.now m depth levels base p0 (state_view r.0) (drop r.1 bytes.now) × Stops pool.now m depth p0 (state_view r.0) (drop r.1 bytes.now)) }
-    ensures waits { IfOk result (λ r. Waits (state_view r.0) (drop r.1 bytes.now)) }
-    ensures refused { (m depth levels : ℕ) (base : List Record) (p0 : Place) → Reads pool.now m depth levels base p0 (state_view reader) bytes.now → IfErr result (λ e. IfFault e (Told pool.now m depth p0)) }
+    requires reading { IsReading pool.now (state_view reader.old) bytes.now }
+    ensures passes { IfOk result (λ n. (n ≤ length bytes.now) × (reader.new.at ≡ reader.old.at + n)) }
+    ensures taken { (m depth levels : ℕ) (base : List Record) (p0 : Place) → Reads pool.now m depth levels base p0 (state_view reader.old) bytes.now → IfOk result (λ n. Reads pool.now m depth levels base p0 (state_view reader.new) (drop n bytes.now) × Stops pool.now m depth p0 (state_view reader.new) (drop n bytes.now)) }
+    ensures waits { IfOk result (λ n. Waits (state_view reader.new) (drop n bytes.now)) }
+    ensures refused { (m depth levels : ℕ) (base : List Record) (p0 : Place) → Reads pool.now m depth levels base p0 (state_view reader.old) bytes.now → IfErr result (λ e. IfFault e (Told pool.now m depth p0)) }
 {
     let mut here = 0;
-    let mut reader = reader;
     loop {
-        let (next, taken) = take_next(alloc, pool, reader, &bytes[here..])?;
-        reader = next;
-        let Some(size) = taken else {
-            return Ok((reader, here));
+        let Some(size) = take_next(alloc, pool, reader, &bytes[here..])? else {
+            return Ok(here);
         };
         here += size;
     }

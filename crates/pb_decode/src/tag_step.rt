@@ -1,6 +1,6 @@
 //! What comes behind a tag.
 
-ghost use Rattle.std.specs.Prelude.{◌≡◌, ◌≢◌, ◌<◌, ◌++◌, ℕ, List, [], ◌∷◌, Some, IfSome, IfNone};
+ghost use Rattle.std.specs.Prelude.{◌≡◌, ◌≢◌, ◌<◌, ◌++◌, true, false, ℕ, List, [], ◌∷◌, Some, IfSome, IfNone};
 ghost use Rattle.pb_wire.specs.Record.{Record};
 ghost use Rattle.pb_wire.specs.Fault.{fault, Place, HasTag};
 ghost use Rattle.pb_wire.specs.Schema.{records};
@@ -9,7 +9,7 @@ ghost use Rattle.pb_wire.specs.declared.fault.Cause.TheVariants.{TooDeep};
 ghost use Rattle.pb_schema.specs.Context.{a_message, schema_of};
 ghost use Rattle.pb_decode.specs.Frames.{CanHold, Frame as FrameView, Scope as ScopeView, path_of, next_step, Stands};
 ghost use Rattle.pb_decode.specs.PartView.{part_view};
-ghost use Rattle.pb_decode.specs.After.{tag, awaited, goes_down as is_below, After};
+ghost use Rattle.pb_decode.specs.After.{tag, awaited, goes_down as is_below, IsRoomFor, After};
 
 use crate::part::{Part, Slot};
 use crate::purpose::{Purpose, purpose_of};
@@ -36,6 +36,14 @@ fn goes_down(purpose: Purpose) -> bool
         Purpose::EntryValue(_) => false,
         Purpose::Unknown => false,
     }
+}
+
+/// Says that there is a level left for what a record of a purpose opens.
+pub(crate) fn has_room(room: u8, purpose: Purpose) -> bool
+    ensures room { result ≡ true → IsRoomFor room purpose }
+    ensures deep { result ≡ false → (is_below purpose ≡ true) × (room ≡ 0) }
+{
+    !goes_down(purpose) || room > 0
 }
 
 /// The step of a value or a length behind its tag.
@@ -75,7 +83,7 @@ pub(crate) fn tag_step(
         → IfNone result (Bad (schema_of pool.now) (records (a_message m)) depth p0 (fault q.at (path_of frames ++ next_step number scope ∷ []) TooDeep)) }
 {
     let purpose = purpose_of(pool, part, number, wire_type);
-    if goes_down(purpose) && room == 0 {
+    if !has_room(room, purpose) {
         return None;
     }
     let next = value_step(number, wire_type, purpose);

@@ -22,29 +22,29 @@ use std::alloc::Global;
 pub(crate) fn take_length(
     alloc: Global,
     pool: &Pool,
-    reader: Reader,
+    reader: &mut Reader,
     number: u32,
     purpose: Purpose,
     bytes: &[u8],
-) -> Result<(Reader, Option<usize>), DecodeError>
+) -> Result<Option<usize>, DecodeError>
     requires rules { IsPool pool.now }
-    requires reading { IsReading pool.now (state_view reader) bytes.now }
-    requires step { reader.step ≡ steps.Length number purpose }
-    ensures passes { IfOk result (λ r. Passes (state_view reader) bytes.now (state_view r.0) r.1) }
-    ensures taken { (m depth levels : ℕ) (base : List Record) (p0 : Place) → Reads pool.now m depth levels base p0 (state_view reader) bytes.now → IfOk result (λ r. Taken pool.now m depth levels base p0 (state_view r.0) bytes.now r.1) }
-    ensures waits { IfOk result (λ r. IfNone r.1 (Waits (state_view r.0) bytes.now)) }
-    ensures refused { (m depth levels : ℕ) (base : List Record) (p0 : Place) → Reads pool.now m depth levels base p0 (state_view reader) bytes.now → IfErr result (λ e. IfFault e (Told pool.now m depth p0)) }
+    requires reading { IsReading pool.now (state_view reader.old) bytes.now }
+    requires step { reader.old.step ≡ steps.Length number purpose }
+    ensures passes { IfOk result (λ o. Passes (state_view reader.old) bytes.now (state_view reader.new) o) }
+    ensures taken { (m depth levels : ℕ) (base : List Record) (p0 : Place) → Reads pool.now m depth levels base p0 (state_view reader.old) bytes.now → IfOk result (λ o. Taken pool.now m depth levels base p0 (state_view reader.new) bytes.now o) }
+    ensures waits { IfOk result (λ o. IfNone o (Waits (state_view reader.new) bytes.now)) }
+    ensures refused { (m depth levels : ℕ) (base : List Record) (p0 : Place) → Reads pool.now m depth levels base p0 (state_view reader.old) bytes.now → IfErr result (λ e. IfFault e (Told pool.now m depth p0)) }
 {
-    match front_number(bytes, left(&reader)) {
-        Err(cause) => Err(fault_at(alloc, &reader, reader.at, cause)),
-        Ok(None) => Ok((reader, None)),
+    match front_number(bytes, left(reader)) {
+        Err(cause) => Err(fault_at(alloc, reader, reader.at, cause)),
+        Ok(None) => Ok(None),
         Ok(Some((length, used))) => {
             let begin = reader.at + used as u32;
             match payload_size(length, begin, reader.scope.end) {
-                Err(cause) => Err(fault_at(alloc, &reader, reader.at, cause)),
+                Err(cause) => Err(fault_at(alloc, reader, reader.at, cause)),
                 Ok(size) => {
-                    let next = pass_length(alloc, reader, number, purpose, begin, size)?;
-                    Ok((next, Some(used)))
+                    pass_length(alloc, reader, number, purpose, begin, size)?;
+                    Ok(Some(used))
                 }
             }
         }

@@ -13,7 +13,6 @@ use crate::error::DecodeError;
 use crate::quick::quick;
 use crate::reader::{Reader, take_number};
 use crate::step::Step;
-use crate::take_ended::take_ended;
 use crate::take_length::take_length;
 use crate::take_payload::take_payload;
 use crate::take_tag::take_tag;
@@ -24,16 +23,16 @@ use std::alloc::Global;
 fn take_open(
     alloc: Global,
     pool: &Pool,
-    reader: Reader,
+    reader: &mut Reader,
     bytes: &[u8],
-) -> Result<(Reader, Option<usize>), DecodeError>
+) -> Result<Option<usize>, DecodeError>
     requires rules { IsPool pool.now }
-    requires reading { IsReading pool.now (state_view reader) bytes.now }
-    requires goes_on { NothingEnds (state_view reader) }
-    ensures passes { IfOk result (λ r. Passes (state_view reader) bytes.now (state_view r.0) r.1) }
-    ensures taken { (m depth levels : ℕ) (base : List Record) (p0 : Place) → Reads pool.now m depth levels base p0 (state_view reader) bytes.now → IfOk result (λ r. Taken pool.now m depth levels base p0 (state_view r.0) bytes.now r.1) }
-    ensures waits { IfOk result (λ r. IfNone r.1 (Waits (state_view r.0) bytes.now)) }
-    ensures refused { (m depth levels : ℕ) (base : List Record) (p0 : Place) → Reads pool.now m depth levels base p0 (state_view reader) bytes.now → IfErr result (λ e. IfFault e (Told pool.now m depth p0)) }
+    requires reading { IsReading pool.now (state_view reader.old) bytes.now }
+    requires goes_on { NothingEnds (state_view reader.old) }
+    ensures passes { IfOk result (λ o. Passes (state_view reader.old) bytes.now (state_view reader.new) o) }
+    ensures taken { (m depth levels : ℕ) (base : List Record) (p0 : Place) → Reads pool.now m depth levels base p0 (state_view reader.old) bytes.now → IfOk result (λ o. Taken pool.now m depth levels base p0 (state_view reader.new) bytes.now o) }
+    ensures waits { IfOk result (λ o. IfNone o (Waits (state_view reader.new) bytes.now)) }
+    ensures refused { (m depth levels : ℕ) (base : List Record) (p0 : Place) → Reads pool.now m depth levels base p0 (state_view reader.old) bytes.now → IfErr result (λ e. IfFault e (Told pool.now m depth p0)) }
 {
     match reader.step {
         Step::Tag => take_tag(alloc, pool, reader, bytes),
@@ -52,45 +51,26 @@ fn take_open(
     }
 }
 
-/// Takes what comes next. What ends before it is closed first.
-fn take_step(
-    alloc: Global,
-    pool: &Pool,
-    reader: Reader,
-    bytes: &[u8],
-) -> Result<(Reader, Option<usize>), DecodeError>
-    requires rules { IsPool pool.now }
-    requires reading { IsReading pool.now (state_view reader) bytes.now }
-    ensures passes { IfOk result (λ r. Passes (state_view reader) bytes.now (state_view r.0) r.1) }
-    ensures taken { (m depth levels : ℕ) (base : List Record) (p0 : Place) → Reads pool.now m depth levels base p0 (state_view reader) bytes.now → IfOk result (λ r. Taken pool.now m depth levels base p0 (state_view r.0) bytes.now r.1) }
-    ensures waits { IfOk result (λ r. IfNone r.1 (Waits (state_view r.0) bytes.now)) }
-    ensures refused { (m depth levels : ℕ) (base : List Record) (p0 : Place) → Reads pool.now m depth levels base p0 (state_view reader) bytes.now → IfErr result (λ e. IfFault e (Told pool.now m depth p0)) }
-{
-    let begun = take_ended(alloc, pool, reader)?;
-    take_open(alloc, pool, begun, bytes)
-}
-
 /// Takes what comes next at the front of the bytes: what stands whole there, and how many bytes that are. There is none
-/// where the bytes end too early, or with the message. A run of whole records or elements is taken at once.
+/// where the bytes end too early, or with the message. All records and elements that stand whole one behind another are
+/// taken at once, and what ends is closed.
 pub(crate) fn take_next(
     alloc: Global,
     pool: &Pool,
-    reader: Reader,
+    reader: &mut Reader,
     bytes: &[u8],
-) -> Result<(Reader, Option<usize>), DecodeError>
+) -> Result<Option<usize>, DecodeError>
     requires rules { IsPool pool.now }
-    requires reading { IsReading pool.now (state_view reader) bytes.now }
-    ensures passes { IfOk result (λ r. Passes (state_view reader) bytes.now (state_view r.0) r.1) }
-    ensures taken { (m depth levels : ℕ) (base : List Record) (p0 : Place) → Reads pool.now m depth levels base p0 (state_view reader) bytes.now → IfOk result (λ r. Taken pool.now m depth levels base p0 (state_view r.0) bytes.now r.1) }
-    ensures waits { IfOk result (λ r. IfNone r.1 (Waits (state_view r.0) bytes.now)) }
-    ensures refused { (m depth levels : ℕ) (base : List Record) (p0 : Place) → Reads pool.now m depth levels base p0 (state_view reader) bytes.now → IfErr result (λ e. IfFault e (Told pool.now m depth p0)) }
+    requires reading { IsReading pool.now (state_view reader.old) bytes.now }
+    ensures passes { IfOk result (λ o. Passes (state_view reader.old) bytes.now (state_view reader.new) o) }
+    ensures taken { (m depth levels : ℕ) (base : List Record) (p0 : Place) → Reads pool.now m depth levels base p0 (state_view reader.old) bytes.now → IfOk result (λ o. Taken pool.now m depth levels base p0 (state_view reader.new) bytes.now o) }
+    ensures waits { IfOk result (λ o. IfNone o (Waits (state_view reader.new) bytes.now)) }
+    ensures refused { (m depth levels : ℕ) (base : List Record) (p0 : Place) → Reads pool.now m depth levels base p0 (state_view reader.old) bytes.now → IfErr result (λ e. IfFault e (Told pool.now m depth p0)) }
 {
-    let mut reader = reader;
-    let ahead = quick(alloc, pool, &mut reader, bytes)?;
-    let (next, taken) = take_step(alloc, pool, reader, &bytes[ahead..])?;
-    match taken {
-        Some(size) => Ok((next, Some(ahead + size))),
-        None if ahead > 0 => Ok((next, Some(ahead))),
-        None => Ok((next, None)),
+    let ahead = quick(alloc, pool, reader, bytes)?;
+    match take_open(alloc, pool, reader, &bytes[ahead..])? {
+        Some(size) => Ok(Some(ahead + size)),
+        None if ahead > 0 => Ok(Some(ahead)),
+        None => Ok(None),
     }
 }

@@ -1,6 +1,6 @@
 //! Whole payloads of bytes.
 
-ghost use Rattle.std.specs.Prelude.{◌≡◌, ◌+◌, ◌-◌, ◌<◌, ◌^◌, ℕ, List, length, IfOk, IfErr, IfNone};
+ghost use Rattle.std.specs.Prelude.{◌≡◌, ◌+◌, ◌-◌, ◌<◌, ◌^◌, ℕ, List, length, OnOk, IfOk, IfErr, IfNone};
 ghost use Rattle.pb_wire.specs.Record.{Record};
 ghost use Rattle.pb_wire.specs.Fault.{Place, Moves};
 ghost use Rattle.pb_schema.specs.Rules.{IsPool};
@@ -16,7 +16,7 @@ use crate::error::DecodeError;
 use crate::fault::fault_at;
 use crate::payload_value::PayloadError;
 use crate::purpose::Purpose;
-use crate::put::one_more;
+use crate::put::count_one;
 use crate::put_payload::put_payload;
 use crate::reader::Reader;
 use crate::step::Step;
@@ -28,52 +28,34 @@ use std::alloc::Global;
 fn pass_payload(
     alloc: Global,
     pool: &Pool,
-    reader: Reader,
+    reader: &mut Reader,
     number: u32,
     purpose: Purpose,
     bytes: &[u8],
-) -> Result<Reader, DecodeError>
+) -> Result<(), DecodeError>
     requires rules { IsPool pool.now }
-    requires can { CanHold pool.now (part_view reader.part) }
+    requires can { CanHold pool.now (part_view reader.old.part) }
     requires purpose { IsBytesPurpose purpose }
-    requires step { reader.step ≡ Payload number purpose (length bytes.now) }
-    requires few { counts_view reader.scope.occurrences number < 2 ^ 32 - 1 }
-    requires fits { reader.at + length bytes.now < 2 ^ 32 }
-    ensures at { IfOk result (λ r. (r.at ≡ reader.at + length bytes.now) × (r.step ≡ Tag)) }
-    ensures same_end { IfOk result (λ r. r.scope.end ≡ reader.scope.end) }
-    ensures stands { (m depth levels : ℕ) (base : List Record) (p0 w : Place) (rest : List ℕ) → Reads pool.now m depth levels base p0 (state_view reader) rest → Moves (here (state_view reader) rest) bytes.now w
-        → IfOk result (λ r. StandsAt pool.now m depth levels base p0 (state_view r) w) }
-    ensures refused { (m depth levels : ℕ) (base : List Record) (p0 w : Place) (rest : List ℕ) → Reads pool.now m depth levels base p0 (state_view reader) rest → Moves (here (state_view reader) rest) bytes.now w
+    requires step { reader.old.step ≡ Payload number purpose (length bytes.now) }
+    requires few { counts_view reader.old.scope.occurrences number < 2 ^ 32 - 1 }
+    requires fits { reader.old.at + length bytes.now < 2 ^ 32 }
+    ensures at { OnOk result ((reader.new.at ≡ reader.old.at + length bytes.now) × (reader.new.step ≡ Tag)) }
+    ensures same_end { OnOk result (reader.new.scope.end ≡ reader.old.scope.end) }
+    ensures stands { (m depth levels : ℕ) (base : List Record) (p0 w : Place) (rest : List ℕ) → Reads pool.now m depth levels base p0 (state_view reader.old) rest → Moves (here (state_view reader.old) rest) bytes.now w
+        → OnOk result (StandsAt pool.now m depth levels base p0 (state_view reader.new) w) }
+    ensures refused { (m depth levels : ℕ) (base : List Record) (p0 w : Place) (rest : List ℕ) → Reads pool.now m depth levels base p0 (state_view reader.old) rest → Moves (here (state_view reader.old) rest) bytes.now w
         → IfErr result (λ e. IfFault e (Told pool.now m depth p0)) }
 {
-    let Reader {
-        at,
-        part,
-        scope,
-        frames,
-        step,
-    } = reader;
-    let mut part = part;
-    match put_payload(alloc, pool, &mut part, number, purpose, bytes) {
+    match put_payload(alloc, pool, &mut reader.part, number, purpose, bytes) {
         Ok(()) => {
-            let scope = one_more(scope, number)?;
-            Ok(Reader {
-                at: at + bytes.len() as u32,
-                part,
-                scope,
-                frames,
-                step: Step::Tag,
-            })
+            count_one(&mut reader.scope, number)?;
+            reader.at += bytes.len() as u32;
+            reader.step = Step::Tag;
+            Ok(())
         }
         Err(PayloadError::BadText(valid)) => {
-            let reader = Reader {
-                at,
-                part,
-                scope,
-                frames,
-                step,
-            };
-            Err(fault_at(alloc, &reader, at + valid as u32, Cause::BadText))
+            let byte = reader.at + valid as u32;
+            Err(fault_at(alloc, reader, byte, Cause::BadText))
         }
         Err(PayloadError::Memory) => Err(DecodeError::Memory),
     }
@@ -83,24 +65,24 @@ fn pass_payload(
 pub(crate) fn take_payload(
     alloc: Global,
     pool: &Pool,
-    reader: Reader,
+    reader: &mut Reader,
     number: u32,
     purpose: Purpose,
     size: u32,
     bytes: &[u8],
-) -> Result<(Reader, Option<usize>), DecodeError>
+) -> Result<Option<usize>, DecodeError>
     requires rules { IsPool pool.now }
-    requires reading { IsReading pool.now (state_view reader) bytes.now }
-    requires step { reader.step ≡ Payload number purpose size }
-    ensures passes { IfOk result (λ r. Passes (state_view reader) bytes.now (state_view r.0) r.1) }
-    ensures taken { (m depth levels : ℕ) (base : List Record) (p0 : Place) → Reads pool.now m depth levels base p0 (state_view reader) bytes.now → IfOk result (λ r. Taken pool.now m depth levels base p0 (state_view r.0) bytes.now r.1) }
-    ensures waits { IfOk result (λ r. IfNone r.1 (Waits (state_view r.0) bytes.now)) }
-    ensures refused { (m depth levels : ℕ) (base : List Record) (p0 : Place) → Reads pool.now m depth levels base p0 (state_view reader) bytes.now → IfErr result (λ e. IfFault e (Told pool.now m depth p0)) }
+    requires reading { IsReading pool.now (state_view reader.old) bytes.now }
+    requires step { reader.old.step ≡ Payload number purpose size }
+    ensures passes { IfOk result (λ o. Passes (state_view reader.old) bytes.now (state_view reader.new) o) }
+    ensures taken { (m depth levels : ℕ) (base : List Record) (p0 : Place) → Reads pool.now m depth levels base p0 (state_view reader.old) bytes.now → IfOk result (λ o. Taken pool.now m depth levels base p0 (state_view reader.new) bytes.now o) }
+    ensures waits { IfOk result (λ o. IfNone o (Waits (state_view reader.new) bytes.now)) }
+    ensures refused { (m depth levels : ℕ) (base : List Record) (p0 : Place) → Reads pool.now m depth levels base p0 (state_view reader.old) bytes.now → IfErr result (λ e. IfFault e (Told pool.now m depth p0)) }
 {
     let wanted = size as usize;
     if bytes.len() < wanted {
-        return Ok((reader, None));
+        return Ok(None);
     }
-    let next = pass_payload(alloc, pool, reader, number, purpose, &bytes[..wanted])?;
-    Ok((next, Some(wanted)))
+    pass_payload(alloc, pool, reader, number, purpose, &bytes[..wanted])?;
+    Ok(Some(wanted))
 }

@@ -1,6 +1,6 @@
 //! Tags, where one may come.
 
-ghost use Rattle.std.specs.Prelude.{◌≡◌, ◌≢◌, ◌⊎◌, ◌+◌, ◌<◌, ◌^◌, ℕ, List, [], Some, drop, vec_len, MatchBool, IfOk, IfErr, IfNone};
+ghost use Rattle.std.specs.Prelude.{◌≡◌, ◌≢◌, ◌⊎◌, ◌+◌, ◌<◌, ◌^◌, ℕ, List, [], Some, drop, vec_len, MatchBool, OnOk, IfOk, IfErr, IfNone};
 ghost use Rattle.pb_wire.specs.Record.{Record};
 ghost use Rattle.pb_wire.specs.Fault.{Place, HasTag, Reads as HasNumber};
 ghost use Rattle.pb_wire.specs.Token.{passed};
@@ -28,9 +28,10 @@ use crate::tag_step::tag_step;
 use pb_schema::Pool;
 use pb_wire::Cause;
 use std::alloc::Global;
+use std::mem;
 
 /// The number of the record that is open innermost.
-fn innermost(frames: &[Frame]) -> Option<u32>
+pub(crate) fn innermost(frames: &[Frame]) -> Option<u32>
     ensures { result ≡ innermost_number (frames_view frames.now) }
 {
     frames.last().map(|frame| frame.number)
@@ -40,134 +41,132 @@ fn innermost(frames: &[Frame]) -> Option<u32>
 fn pass_record_tag(
     alloc: Global,
     pool: &Pool,
-    reader: Reader,
+    reader: &mut Reader,
     number: u32,
     wire_type: u8,
     size: usize,
-) -> Result<Reader, DecodeError>
-    requires can { CanHold pool.now (part_view reader.part) }
+) -> Result<(), DecodeError>
+    requires can { CanHold pool.now (part_view reader.old.part) }
     requires known { wire_type < 6 }
     requires no_start { wire_type ≢ 3 }
     requires no_end { wire_type ≢ 4 }
-    requires step { reader.step ≡ Tag }
-    requires fits { reader.at + size < 2 ^ 32 }
-    ensures at { IfOk result (λ r. r.at ≡ reader.at + size) }
-    ensures reads { (m depth levels : ℕ) (base : List Record) (p0 : Place) (rest : List ℕ) → Reads pool.now m depth levels base p0 (state_view reader) rest → HasTag (here (state_view reader) rest) number wire_type (passed (here (state_view reader) rest) size)
-        → IfOk result (λ r. Reads pool.now m depth levels base p0 (state_view r) (drop size rest)) }
-    ensures refused { (m depth levels : ℕ) (base : List Record) (p0 : Place) (rest : List ℕ) → Reads pool.now m depth levels base p0 (state_view reader) rest → HasTag (here (state_view reader) rest) number wire_type (passed (here (state_view reader) rest) size)
+    requires step { reader.old.step ≡ Tag }
+    requires fits { reader.old.at + size < 2 ^ 32 }
+    ensures at { OnOk result (reader.new.at ≡ reader.old.at + size) }
+    ensures reads { (m depth levels : ℕ) (base : List Record) (p0 : Place) (rest : List ℕ) → Reads pool.now m depth levels base p0 (state_view reader.old) rest → HasTag (here (state_view reader.old) rest) number wire_type (passed (here (state_view reader.old) rest) size)
+        → OnOk result (Reads pool.now m depth levels base p0 (state_view reader.new) (drop size rest)) }
+    ensures refused { (m depth levels : ℕ) (base : List Record) (p0 : Place) (rest : List ℕ) → Reads pool.now m depth levels base p0 (state_view reader.old) rest → HasTag (here (state_view reader.old) rest) number wire_type (passed (here (state_view reader.old) rest) size)
         → IfErr result (λ e. IfFault e (Told pool.now m depth p0)) }
 {
     match tag_step(pool, &reader.part, reader.scope.room, number, wire_type) {
         Some(step) => {
-            let Reader {
-                at,
-                part,
-                scope,
-                frames,
-                step: _,
-            } = reader;
-            Ok(Reader {
-                at: at + size as u32,
-                part,
-                scope,
-                frames,
-                step,
-            })
+            reader.at += size as u32;
+            reader.step = step;
+            Ok(())
         }
-        None => Err(fault_inside(alloc, &reader, number, reader.at, Cause::TooDeep)),
+        None => Err(fault_inside(alloc, reader, number, reader.at, Cause::TooDeep)),
     }
+}
+
+/// Behind the first tag of a group, where a level is left, the group is open.
+pub(crate) fn enter_group(
+    alloc: Global,
+    reader: &mut Reader,
+    number: u32,
+    size: usize,
+) -> Result<(), DecodeError>
+    requires step { reader.old.step ≡ Tag }
+    requires room { 0 < reader.old.scope.room }
+    requires fits { reader.old.at + size < 2 ^ 32 }
+    ensures at { OnOk result (reader.new.at ≡ reader.old.at + size) }
+    ensures step { OnOk result (reader.new.step ≡ Tag) }
+    ensures reads { (pool : Types) (m depth levels : ℕ) (base : List Record) (p0 : Place) (rest : List ℕ) → IsPool pool → CanHold pool (part_view reader.old.part) → Reads pool m depth levels base p0 (state_view reader.old) rest
+        → HasTag (here (state_view reader.old) rest) number 3 (passed (here (state_view reader.old) rest) size) → OnOk result (Reads pool m depth levels base p0 (state_view reader.new) (drop size rest)) }
+    ensures memory { IfErr result (λ e. e ≡ Memory) }
+{
+    let begin = reader.at + size as u32;
+    let frame = open_group(alloc, &mut reader.part, &mut reader.scope, number);
+    enter(reader, frame, begin)?;
+    Ok(())
 }
 
 /// Behind the first tag of a group the group is open.
 fn pass_group_start(
     alloc: Global,
-    reader: Reader,
+    reader: &mut Reader,
     number: u32,
     size: usize,
-) -> Result<Reader, DecodeError>
-    requires step { reader.step ≡ Tag }
-    requires fits { reader.at + size < 2 ^ 32 }
-    ensures at { IfOk result (λ r. r.at ≡ reader.at + size) }
-    ensures reads { (pool : Types) (m depth levels : ℕ) (base : List Record) (p0 : Place) (rest : List ℕ) → IsPool pool → CanHold pool (part_view reader.part) → Reads pool m depth levels base p0 (state_view reader) rest
-        → HasTag (here (state_view reader) rest) number 3 (passed (here (state_view reader) rest) size) → IfOk result (λ r. Reads pool m depth levels base p0 (state_view r) (drop size rest)) }
-    ensures refused { (pool : Types) (m depth levels : ℕ) (base : List Record) (p0 : Place) (rest : List ℕ) → Reads pool m depth levels base p0 (state_view reader) rest
-        → HasTag (here (state_view reader) rest) number 3 (passed (here (state_view reader) rest) size) → IfErr result (λ e. IfFault e (Told pool m depth p0)) }
+) -> Result<(), DecodeError>
+    requires step { reader.old.step ≡ Tag }
+    requires fits { reader.old.at + size < 2 ^ 32 }
+    ensures at { OnOk result (reader.new.at ≡ reader.old.at + size) }
+    ensures reads { (pool : Types) (m depth levels : ℕ) (base : List Record) (p0 : Place) (rest : List ℕ) → IsPool pool → CanHold pool (part_view reader.old.part) → Reads pool m depth levels base p0 (state_view reader.old) rest
+        → HasTag (here (state_view reader.old) rest) number 3 (passed (here (state_view reader.old) rest) size) → OnOk result (Reads pool m depth levels base p0 (state_view reader.new) (drop size rest)) }
+    ensures refused { (pool : Types) (m depth levels : ℕ) (base : List Record) (p0 : Place) (rest : List ℕ) → Reads pool m depth levels base p0 (state_view reader.old) rest
+        → HasTag (here (state_view reader.old) rest) number 3 (passed (here (state_view reader.old) rest) size) → IfErr result (λ e. IfFault e (Told pool m depth p0)) }
 {
     match group_refusal(reader.scope.room) {
-        Some(cause) => Err(fault_inside(alloc, &reader, number, reader.at, cause)),
+        Some(cause) => Err(fault_inside(alloc, reader, number, reader.at, cause)),
         None => {
-            let Reader {
-                at,
-                part,
-                scope,
-                frames,
-                step: _,
-            } = reader;
-            let opening = open_group(alloc, part, scope, number);
-            let next = enter(frames, opening, at + size as u32)?;
-            Ok(next)
+            enter_group(alloc, reader, number, size)?;
+            Ok(())
         }
     }
 }
 
 /// A group that ends goes among the unknown records of what holds it, where the reader then stands.
-fn leave_group(reader: Reader, size: usize) -> Result<Reader, DecodeError>
-    requires reading { (pool : Types) × (rest : List ℕ) × IsReading pool (state_view reader) rest }
-    requires step { reader.step ≡ Tag }
-    requires group { IsGroup (part_view reader.part) }
-    requires inside { 0 < vec_len reader.frames }
-    requires fits { reader.at + size < 2 ^ 32 }
-    ensures at { IfOk result (λ r. r.at ≡ reader.at + size) }
-    ensures reads { (pool : Types) (m depth levels number : ℕ) (base : List Record) (p0 : Place) (rest : List ℕ) → Reads pool m depth levels base p0 (state_view reader) rest → innermost_number (frames_view reader.frames.items) ≡ Some number
-        → HasTag (here (state_view reader) rest) number 4 (passed (here (state_view reader) rest) size) → IfOk result (λ r. Reads pool m depth levels base p0 (state_view r) (drop size rest)) }
+pub(crate) fn leave_group(reader: &mut Reader, size: usize) -> Result<(), DecodeError>
+    requires reading { (pool : Types) × (rest : List ℕ) × IsReading pool (state_view reader.old) rest }
+    requires step { reader.old.step ≡ Tag }
+    requires group { IsGroup (part_view reader.old.part) }
+    requires inside { 0 < vec_len reader.old.frames }
+    requires fits { reader.old.at + size < 2 ^ 32 }
+    ensures at { OnOk result (reader.new.at ≡ reader.old.at + size) }
+    ensures step { OnOk result (reader.new.step ≡ Tag) }
+    ensures reads { (pool : Types) (m depth levels number : ℕ) (base : List Record) (p0 : Place) (rest : List ℕ) → Reads pool m depth levels base p0 (state_view reader.old) rest → innermost_number (frames_view reader.old.frames.items) ≡ Some number
+        → HasTag (here (state_view reader.old) rest) number 4 (passed (here (state_view reader.old) rest) size) → OnOk result (Reads pool m depth levels base p0 (state_view reader.new) (drop size rest)) }
     ensures memory { IfErr result (λ e. e ≡ Memory) }
 {
-    let Reader {
-        at,
-        part,
-        scope: _,
-        frames,
-        step,
-    } = reader;
-    let mut frames = frames;
-    let Some(frame) = frames.pop() else {
+    let Some(frame) = reader.frames.pop() else {
         unreachable!();
     };
-    let Part::Group(records) = part else {
-        unreachable!();
-    };
-    let (part, scope) = close_group(frame, records)?;
-    Ok(Reader {
-        at: at + size as u32,
+    let Frame {
         part,
+        number,
+        slot,
         scope,
-        frames,
-        step,
-    })
+    } = frame;
+    let Part::Group(records) = mem::replace(&mut reader.part, part) else {
+        unreachable!();
+    };
+    reader.scope = scope;
+    close_group(&mut reader.part, &mut reader.scope, number, slot, records)?;
+    reader.at += size as u32;
+    Ok(())
 }
 
 /// Behind the last tag of a group the reader stands in what holds the group.
 fn pass_group_end(
     alloc: Global,
-    reader: Reader,
+    reader: &mut Reader,
     number: u32,
     size: usize,
-) -> Result<Reader, DecodeError>
-    requires reading { (pool : Types) × (rest : List ℕ) × IsReading pool (state_view reader) rest }
-    requires step { reader.step ≡ Tag }
-    requires fits { reader.at + size < 2 ^ 32 }
-    ensures at { IfOk result (λ r. r.at ≡ reader.at + size) }
-    ensures reads { (pool : Types) (m depth levels : ℕ) (base : List Record) (p0 : Place) (rest : List ℕ) → Reads pool m depth levels base p0 (state_view reader) rest
-        → HasTag (here (state_view reader) rest) number 4 (passed (here (state_view reader) rest) size) → IfOk result (λ r. Reads pool m depth levels base p0 (state_view r) (drop size rest)) }
-    ensures refused { (pool : Types) (m depth levels : ℕ) (base : List Record) (p0 : Place) (rest : List ℕ) → Reads pool m depth levels base p0 (state_view reader) rest
-        → HasTag (here (state_view reader) rest) number 4 (passed (here (state_view reader) rest) size) → IfErr result (λ e. IfFault e (Told pool m depth p0)) }
+) -> Result<(), DecodeError>
+    requires reading { (pool : Types) × (rest : List ℕ) × IsReading pool (state_view reader.old) rest }
+    requires step { reader.old.step ≡ Tag }
+    requires fits { reader.old.at + size < 2 ^ 32 }
+    ensures at { OnOk result (reader.new.at ≡ reader.old.at + size) }
+    ensures reads { (pool : Types) (m depth levels : ℕ) (base : List Record) (p0 : Place) (rest : List ℕ) → Reads pool m depth levels base p0 (state_view reader.old) rest
+        → HasTag (here (state_view reader.old) rest) number 4 (passed (here (state_view reader.old) rest) size) → OnOk result (Reads pool m depth levels base p0 (state_view reader.new) (drop size rest)) }
+    ensures refused { (pool : Types) (m depth levels : ℕ) (base : List Record) (p0 : Place) (rest : List ℕ) → Reads pool m depth levels base p0 (state_view reader.old) rest
+        → HasTag (here (state_view reader.old) rest) number 4 (passed (here (state_view reader.old) rest) size) → IfErr result (λ e. IfFault e (Told pool m depth p0)) }
 {
     match group_end(&reader.part, innermost(&reader.frames), number) {
         Ok(()) => {
-            let next = leave_group(reader, size)?;
-            Ok(next)
+            leave_group(reader, size)?;
+            Ok(())
         }
-        Err(cause) => Err(fault_at(alloc, &reader, reader.at, cause)),
+        Err(cause) => Err(fault_at(alloc, reader, reader.at, cause)),
     }
 }
 
@@ -175,33 +174,33 @@ fn pass_group_end(
 fn pass_tag(
     alloc: Global,
     pool: &Pool,
-    reader: Reader,
+    reader: &mut Reader,
     tag: u64,
     size: usize,
-) -> Result<Reader, DecodeError>
+) -> Result<(), DecodeError>
     requires rules { IsPool pool.now }
-    requires reading { (rest : List ℕ) × IsReading pool.now (state_view reader) rest }
-    requires step { reader.step ≡ Tag }
-    requires fits { reader.at + size < 2 ^ 32 }
-    ensures at { IfOk result (λ r. r.at ≡ reader.at + size) }
-    ensures reads { (m depth levels : ℕ) (base : List Record) (p0 : Place) (rest : List ℕ) → Reads pool.now m depth levels base p0 (state_view reader) rest → HasNumber (here (state_view reader) rest) tag (passed (here (state_view reader) rest) size)
-        → IfOk result (λ r. Reads pool.now m depth levels base p0 (state_view r) (drop size rest)) }
-    ensures refused { (m depth levels : ℕ) (base : List Record) (p0 : Place) (rest : List ℕ) → Reads pool.now m depth levels base p0 (state_view reader) rest → HasNumber (here (state_view reader) rest) tag (passed (here (state_view reader) rest) size)
+    requires reading { (rest : List ℕ) × IsReading pool.now (state_view reader.old) rest }
+    requires step { reader.old.step ≡ Tag }
+    requires fits { reader.old.at + size < 2 ^ 32 }
+    ensures at { OnOk result (reader.new.at ≡ reader.old.at + size) }
+    ensures reads { (m depth levels : ℕ) (base : List Record) (p0 : Place) (rest : List ℕ) → Reads pool.now m depth levels base p0 (state_view reader.old) rest → HasNumber (here (state_view reader.old) rest) tag (passed (here (state_view reader.old) rest) size)
+        → OnOk result (Reads pool.now m depth levels base p0 (state_view reader.new) (drop size rest)) }
+    ensures refused { (m depth levels : ℕ) (base : List Record) (p0 : Place) (rest : List ℕ) → Reads pool.now m depth levels base p0 (state_view reader.old) rest → HasNumber (here (state_view reader.old) rest) tag (passed (here (state_view reader.old) rest) size)
         → IfErr result (λ e. IfFault e (Told pool.now m depth p0)) }
 {
     let (number, wire_type) = match tag_parts(tag) {
         Ok(parts) => parts,
-        Err(cause) => return Err(fault_at(alloc, &reader, reader.at, cause)),
+        Err(cause) => return Err(fault_at(alloc, reader, reader.at, cause)),
     };
     if wire_type == 3 {
-        let next = pass_group_start(alloc, reader, number, size)?;
-        Ok(next)
+        pass_group_start(alloc, reader, number, size)?;
+        Ok(())
     } else if wire_type == 4 {
-        let next = pass_group_end(alloc, reader, number, size)?;
-        Ok(next)
+        pass_group_end(alloc, reader, number, size)?;
+        Ok(())
     } else {
-        let next = pass_record_tag(alloc, pool, reader, number, wire_type, size)?;
-        Ok(next)
+        pass_record_tag(alloc, pool, reader, number, wire_type, size)?;
+        Ok(())
     }
 }
 
@@ -216,27 +215,27 @@ fn is_spent(bytes: &[u8], left: Option<u32>) -> bool
 pub(crate) fn take_tag(
     alloc: Global,
     pool: &Pool,
-    reader: Reader,
+    reader: &mut Reader,
     bytes: &[u8],
-) -> Result<(Reader, Option<usize>), DecodeError>
+) -> Result<Option<usize>, DecodeError>
     requires rules { IsPool pool.now }
-    requires reading { IsReading pool.now (state_view reader) bytes.now }
-    requires step { reader.step ≡ Tag }
-    requires goes_on { NothingEnds (state_view reader) }
-    ensures passes { IfOk result (λ r. Passes (state_view reader) bytes.now (state_view r.0) r.1) }
-    ensures taken { (m depth levels : ℕ) (base : List Record) (p0 : Place) → Reads pool.now m depth levels base p0 (state_view reader) bytes.now → IfOk result (λ r. Taken pool.now m depth levels base p0 (state_view r.0) bytes.now r.1) }
-    ensures waits { IfOk result (λ r. IfNone r.1 (Waits (state_view r.0) bytes.now)) }
-    ensures refused { (m depth levels : ℕ) (base : List Record) (p0 : Place) → Reads pool.now m depth levels base p0 (state_view reader) bytes.now → IfErr result (λ e. IfFault e (Told pool.now m depth p0)) }
+    requires reading { IsReading pool.now (state_view reader.old) bytes.now }
+    requires step { reader.old.step ≡ Tag }
+    requires goes_on { NothingEnds (state_view reader.old) }
+    ensures passes { IfOk result (λ o. Passes (state_view reader.old) bytes.now (state_view reader.new) o) }
+    ensures taken { (m depth levels : ℕ) (base : List Record) (p0 : Place) → Reads pool.now m depth levels base p0 (state_view reader.old) bytes.now → IfOk result (λ o. Taken pool.now m depth levels base p0 (state_view reader.new) bytes.now o) }
+    ensures waits { IfOk result (λ o. IfNone o (Waits (state_view reader.new) bytes.now)) }
+    ensures refused { (m depth levels : ℕ) (base : List Record) (p0 : Place) → Reads pool.now m depth levels base p0 (state_view reader.old) bytes.now → IfErr result (λ e. IfFault e (Told pool.now m depth p0)) }
 {
-    if is_spent(bytes, left(&reader)) {
-        return Ok((reader, None));
+    if is_spent(bytes, left(reader)) {
+        return Ok(None);
     }
-    match front_number(bytes, left(&reader)) {
+    match front_number(bytes, left(reader)) {
         Ok(Some((tag, size))) => {
-            let next = pass_tag(alloc, pool, reader, tag, size)?;
-            Ok((next, Some(size)))
+            pass_tag(alloc, pool, reader, tag, size)?;
+            Ok(Some(size))
         }
-        Ok(None) => Ok((reader, None)),
-        Err(cause) => Err(fault_at(alloc, &reader, reader.at, cause)),
+        Ok(None) => Ok(None),
+        Err(cause) => Err(fault_at(alloc, reader, reader.at, cause)),
     }
 }

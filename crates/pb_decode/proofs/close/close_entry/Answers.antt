@@ -7,6 +7,6 @@ use Rattle.pb_decode.proofs.close.close_entry.Goals as goal
 
 pub returns-clause-stands : goal.returns-clause-stands
 returns-clause-stands c =
-    λ pool m depth levels base p0 q frames scope s end.
-    subst (λ (z : Scope). Stands pool m depth levels base p0 frames (part_view c.put_entry.new.outer) z (up_to c.args.frame.scope.end q)) (sym c.in_ok-scope.ensures.more)
+    λ pool m depth levels base p0 q frames inner s end.
+    subst (λ (z : Scope). Stands pool m depth levels base p0 frames (part_view c.put_entry.new.outer) z (up_to c.args.scope.now.end q)) (sym c.in_ok-count_one.ensures.more)
     (entry_closes (part_view c.put_entry.new.outer) s end c.in_ok-put_entry.ensures.put)

@@ -7,6 +7,6 @@ use Rattle.pb_decode.proofs.close.close_group.Goals as goal
 
 pub returns-clause-stands : goal.returns-clause-stands
 returns-clause-stands c =
-    λ pool m depth levels base p0 q w frames scope s end.
-    subst (λ (z : Scope). Stands pool m depth levels base p0 frames (part_view c.put_group.new.outer) z w) (sym c.in_ok-scope.ensures.more)
+    λ pool m depth levels base p0 q w frames inner s end.
+    subst (λ (z : Scope). Stands pool m depth levels base p0 frames (part_view c.put_group.new.outer) z w) (sym c.in_ok-count_one.ensures.more)
     (group_closes (part_view c.put_group.new.outer) s end c.in_ok-put_group.ensures.put)

@@ -10,6 +10,6 @@ use Rattle.pb_decode.proofs.element.pass_element.Goals as goal
 pub returns-clause-goes_on : goal.returns-clause-goes_on
 returns-clause-goes_on c =
     λ m depth levels base p0 w rest outer begun is type follows.
-    subst (λ (z : Step). After c.args.pool.now m depth levels base p0 (frames_view c.args.reader.frames.items) z (part_view c.put_element.new.part) (scope_view c.args.reader.scope) w) (sym is)
-    (c.in_ok-put_element.ensures.stands m depth levels outer base p0 (here (state_view c.args.reader) rest) w (frames_view c.args.reader.frames.items) (scope_view c.args.reader.scope)
-    (subst (λ (z : Step). After c.args.pool.now m depth levels base p0 (frames_view c.args.reader.frames.items) z (part_view c.args.reader.part) (scope_view c.args.reader.scope) (here (state_view c.args.reader) rest)) is begun) type follows)
+    subst (λ (z : Step). After c.args.pool.now m depth levels base p0 (frames_view c.args.reader.now.frames.items) z (part_view c.put_element.new.part) (scope_view c.args.reader.now.scope) w) (sym is)
+    (c.in_ok-put_element.ensures.stands m depth levels outer base p0 (here (state_view c.args.reader.now) rest) w (frames_view c.args.reader.now.frames.items) (scope_view c.args.reader.now.scope)
+    (subst (λ (z : Step). After c.args.pool.now m depth levels base p0 (frames_view c.args.reader.now.frames.items) z (part_view c.args.reader.now.part) (scope_view c.args.reader.now.scope) (here (state_view c.args.reader.now) rest)) is begun) type follows)

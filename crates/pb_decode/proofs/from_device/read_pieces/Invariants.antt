@@ -1,5 +1,5 @@
 use Rattle.std.proofs.Common.{◌≡◌, true, ◌≤◌, ◌-◌}
-use Rattle.pb_decode.specs.FromDevice.{ReadsOn}
+use Rattle.pb_decode.specs.Loops.{ReadsOn}
 use Rattle.pb_decode.proofs.from_device.read_pieces.Given as goal
 
 abbrev pub invariant-reading : goal.invariant-reading

@@ -2,7 +2,7 @@
 use Rattle.std.proofs.Common.{◌≡◌, ◌+◌, [], arith, refl, sym, subst}
 use Rattle.std.specs.Prelude.{IfSome}
 use Rattle.std.proofs.lemmas.Result.{err_from_is_err_and}
-use Rattle.pb_decode.specs.FromDevice.{ReadsOn}
+use Rattle.pb_decode.specs.Loops.{ReadsOn}
 use Rattle.pb_wire.specs.Fault.{Fault, fault}
 use Rattle.pb_wire.specs.declared.fault.Cause.TheVariants.{InputTooLarge}
 use Rattle.pb_wire.specs.Grammar.{HasFault}

@@ -5,4 +5,4 @@ use Rattle.pb_decode.proofs.LengthSteps.{frames_pushed}
 use Rattle.pb_decode.proofs.pass_length.enter.Goals as goal
 
 pub returns-clause-frames : goal.returns-clause-frames
-returns-clause-frames c = ap frames_view c.in_ok-push.ensures.items ∙ frames_pushed c.args.frames.items c.args.opening.frame
+returns-clause-frames c = ap frames_view c.in_ok-push.ensures.items ∙ frames_pushed c.args.reader.now.frames.items c.args.frame

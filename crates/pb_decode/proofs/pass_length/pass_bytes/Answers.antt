@@ -5,9 +5,9 @@ use Rattle.pb_decode.proofs.LengthSteps.{after_here}
 use Rattle.pb_decode.proofs.pass_length.pass_bytes.Goals as goal
 
 pub returns-clause-step : goal.returns-clause-step
-returns-clause-step c = ap weight c.begin_payload.ensures.step
+returns-clause-step c = ap weight c.begin_payload-reader.ensures.step
 
 pub returns-clause-reads : goal.returns-clause-reads
 returns-clause-reads c =
     λ pool m depth levels base p0 u t begun l at.
-    after_here _ _ t (c.begin_payload.ensures.after pool m depth levels base p0 u t _ _ _ c.requires begun l) at refl
+    after_here _ _ t (c.begin_payload-reader.ensures.after pool m depth levels base p0 u t _ _ _ c.requires begun l) at refl

@@ -6,10 +6,10 @@ use Rattle.pb_decode.proofs.LengthSteps.{entered}
 use Rattle.pb_decode.proofs.pass_length.pass_message.Goals as goal
 
 pub returns-clause-step : goal.returns-clause-step
-returns-clause-step c = ap weight c.in_ok-next.ensures.step
+returns-clause-step c = ap weight c.in_ok-enter.ensures.step
 
 pub returns-clause-reads : goal.returns-clause-reads
 returns-clause-reads c =
     λ pool m depth levels base p0 u t ok can begun l at.
-    entered c.in_ok-next.next c.open_message-opening.result (frames_view c.args.reader.frames.items) (payload_at t c.args.size) c.in_ok-next.ensures.frames c.in_ok-next.ensures.part c.in_ok-next.ensures.scope c.in_ok-next.ensures.step (at ∙ sym c.in_ok-next.ensures.at)
-    (c.open_message-opening.ensures pool m depth levels c.args.size base p0 u t (frames_view c.args.reader.frames.items) ok can begun l (ap (λ (z : ℕ). z + c.args.size) (sym at)))
+    entered c.enter.new.reader c.open_message-frame.new.part c.open_message-frame.new.scope c.open_message-frame.result (frames_view c.args.reader.now.frames.items) (payload_at t c.args.size) c.in_ok-enter.ensures.frames c.in_ok-enter.ensures.part c.in_ok-enter.ensures.scope c.in_ok-enter.ensures.step (at ∙ sym c.in_ok-enter.ensures.at)
+    (c.open_message-frame.ensures pool m depth levels c.args.size base p0 u t (frames_view c.args.reader.now.frames.items) ok can begun l (ap (λ (z : ℕ). z + c.args.size) (sym at)))

@@ -4,13 +4,13 @@ use Rattle.pb_decode.specs.Reader.{state_view}
 use Rattle.pb_decode.proofs.PushLemmas.{held_rest}
 use Rattle.pb_decode.proofs.push.take_front.Goals as goal
 
-pub returns-in_err-next-clause-refused : goal.returns-in_err-next-clause-refused
-returns-in_err-next-clause-refused c =
+pub returns-in_err-size-clause-refused : goal.returns-in_err-size-clause-refused
+returns-in_err-size-clause-refused c =
     λ m depth levels base p0 begun.
     let p = err_from_is_err_and c.from_residual.result c.from_residual.ensures.1 in
-    rw (p.1, p.2) (c.in_err-next.ensures.refused m depth levels base p0 begun)
+    rw (p.1, p.2) (c.in_err-size.ensures.refused m depth levels base p0 begun)
 
 pub returns-clause-taken : goal.returns-clause-taken
 returns-clause-taken c =
     λ m depth levels base p0 begun.
-    held_rest c.args.pool.now m depth levels base p0 (state_view c.in_ok-next.next) c.in_ok-next.size c.args.bytes.now c.in_ok-held.held.items c.in_ok-held.ensures.rest (c.in_ok-next.ensures.taken m depth levels base p0 begun)
+    held_rest c.args.pool.now m depth levels base p0 (state_view c.take_all.new.reader) c.in_ok-size.size c.args.bytes.now c.in_ok-held.held.items c.in_ok-held.ensures.rest (c.in_ok-size.ensures.taken m depth levels base p0 begun)

@@ -7,6 +7,6 @@ use Rattle.pb_decode.proofs.put.close_message.Goals as goal
 
 pub returns-clause-stands : goal.returns-clause-stands
 returns-clause-stands c =
-    λ m depth levels k base p0 q frames scope s end.
-    subst (λ (z : Scope). Stands c.args.pool.now m depth levels base p0 frames (part_view c.put_message.new.outer) z (up_to c.args.frame.scope.end q)) (sym c.in_ok-scope.ensures.more)
+    λ m depth levels k base p0 q frames inner s end.
+    subst (λ (z : Scope). Stands c.args.pool.now m depth levels base p0 frames (part_view c.put_message.new.outer) z (up_to c.args.scope.now.end q)) (sym c.in_ok-count_one.ensures.more)
     (message_closes (part_view c.put_message.new.outer) s end c.in_ok-put_message.ensures.put)

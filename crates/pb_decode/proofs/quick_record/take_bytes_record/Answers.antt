@@ -1,5 +1,5 @@
 -- The payload goes into the part, and its record is counted.
-use Rattle.std.proofs.Common.{◌≡◌, ℕ, ◌+◌, ◌-◌, refl, sym, subst, arith, take, drop, length, length-drop}
+use Rattle.std.proofs.Common.{◌≡◌, ◌≤◌, ℕ, ◌+◌, ◌-◌, refl, sym, subst, arith, take, drop, length, length-drop}
 use Rattle.std.proofs.lemmas.List.{length-take-le}
 use Rattle.pb_wire.specs.Fault.{HasTag}
 use Rattle.pb_wire.specs.Token.{passed}
@@ -9,9 +9,6 @@ use Rattle.pb_decode.specs.Reader.{state_view, frames_view, here}
 use Rattle.pb_decode.proofs.ReaderLemmas.{stands_reads}
 use Rattle.pb_decode.proofs.QuickLemmas.{tag_stands, tag_can, tag_few, bytes_next, payload_leads}
 use Rattle.pb_decode.proofs.quick_record.take_bytes_record.Goals as goal
-
-pub purpose_of-purpose-requires : goal.purpose_of-purpose-requires
-purpose_of-purpose-requires c = tag_can (state_view c.args.reader.now) c.args.bytes.now c.requires.rules c.requires.reading.reads c.requires.step
 
 pub put_payload-requires-clause-can : goal.put_payload-requires-clause-can
 put_payload-requires-clause-can c = tag_can (state_view c.args.reader.now) c.args.bytes.now c.requires.rules c.requires.reading.reads c.requires.step
@@ -28,9 +25,10 @@ returns-in_ok-count_one-in-Ok-clause-taken c =
     let p = here (state_view c.args.reader.now) c.args.bytes.now in
     let has = subst (λ (z : ℕ). HasTag (here (state_view c.args.reader.now) c.args.bytes.now) c.args.tag.number z (passed (here (state_view c.args.reader.now) c.args.bytes.now) c.args.tag.size)) c.requires.bytes c.requires.tag in
     let l = c.in-Some.ensures.whole c.args.pool.now m depth levels c.args.tag.number c.args.tag.wire_type base p0 begun c.requires.tag in
-    let bytes = c.if-not-is_for_bytes.ensures refl in
-    let within = c.in-Some.ensures.within.1 in
-    let next = bytes_next c.args.tag.number c.in-Some.size c.purpose_of-purpose.result (tag_stands (state_view c.args.reader.now) c.args.bytes.now begun c.requires.step) has c.purpose_of-purpose.ensures bytes l in
+    let begins = c.in-Some.ensures.within.1 in
+    let enough = c.if-bytes-start.false in
+    let within : c.in-Some.start + c.in-Some.size ≤ length c.args.bytes.now = omega (arith, begins, enough) in
+    let next = bytes_next c.args.tag.number c.in-Some.size c.args.purpose (tag_stands (state_view c.args.reader.now) c.args.bytes.now begun c.requires.step) has c.requires.means c.requires.purpose l in
     let size : length (take ((c.in-Some.start + c.in-Some.size) - c.in-Some.start) (drop c.in-Some.start c.args.bytes.now)) ≡ c.in-Some.size =
     (let left = length-drop c.in-Some.start c.args.bytes.now in
     let fits = length-take-le ((c.in-Some.start + c.in-Some.size) - c.in-Some.start) (drop c.in-Some.start c.args.bytes.now) (omega (arith, left, within)) in omega (arith, fits)) in

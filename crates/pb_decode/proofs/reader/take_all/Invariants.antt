@@ -4,8 +4,8 @@ use Rattle.pb_wire.specs.Fault.{Place}
 use Rattle.pb_decode.specs.Reader.{state_view, Reads, weight}
 use Rattle.pb_decode.proofs.reader.take_all.Given as goal
 
-abbrev pub invariant-loop-next : goal.invariant-loop-next
-invariant-loop-next l = record {
+abbrev pub invariant-loop-size : goal.invariant-loop-size
+invariant-loop-size l = record {
   within : l.here ≤ length l.bytes;
   at : l.reader.at ≡ l.fn.reader.at + l.here;
   reads :
@@ -13,5 +13,5 @@ invariant-loop-next l = record {
       → Reads l.pool m depth levels base p0 (state_view l.reader) (drop l.here l.bytes);
 }
 
-abbrev pub decreases-loop-next : goal.decreases-loop-next
-decreases-loop-next l = 2 * (length l.bytes - l.here) + weight l.reader.step
+abbrev pub decreases-loop-size : goal.decreases-loop-size
+decreases-loop-size l = 2 * (length l.bytes - l.here) + weight l.reader.step

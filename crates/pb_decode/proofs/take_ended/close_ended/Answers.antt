@@ -1,6 +1,10 @@
 -- Part by part the reader has read what it had.
 use Rattle.std.proofs.Common.{arith}
-use Rattle.std.proofs.lemmas.Result.{err_from_is_err_and}
+use Rattle.pb_decode.specs.Reader.{state_view, here, path_here}
+use Rattle.pb_wire.specs.Fault.{fault}
+use Rattle.pb_wire.specs.declared.fault.Cause.TheVariants.{PastEnd}
+use Rattle.pb_decode.proofs.ReaderLemmas.{fault_told}
+use Rattle.pb_decode.proofs.EndedLemmas.{group_at_end}
 use Rattle.pb_decode.proofs.take_ended.close_ended.Goals as goal
 
 pub close_innermost-requires-clause-reading : goal.close_innermost-requires-clause-reading
@@ -18,8 +22,8 @@ close_innermost-requires-clause-reading c =
       },
     )
 
-pub returns-in_err-closed-clause-refused : goal.returns-in_err-closed-clause-refused
-returns-in_err-closed-clause-refused c =
+pub returns-then-is_group-clause-refused : goal.returns-then-is_group-clause-refused
+returns-then-is_group-clause-refused c =
     λ m depth levels base p0 rest begun.
-    let p = err_from_is_err_and c.from_residual.result c.from_residual.ensures.1 in
-    rw (p.1, p.2) (c.in_err-closed.ensures.refused m depth levels base p0 rest (c.loop-alloc.invariant.reads m depth levels base p0 rest begun))
+    fault_told c.fault_at.result (fault c.loop-alloc.reader.at (path_here (state_view c.loop-alloc.reader)) PastEnd) c.fault_at.ensures
+    (group_at_end (state_view c.loop-alloc.reader) rest (c.loop-alloc.invariant.reads m depth levels base p0 rest begun) c.loop-alloc.invariant.tag c.if-is_group.ensures c.loop-alloc-test.ensures.1)

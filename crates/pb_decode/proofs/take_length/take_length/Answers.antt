@@ -13,21 +13,21 @@ use Rattle.pb_decode.proofs.take_length.take_length.Goals as goal
 
 pub overflow_cast-begin : goal.overflow_cast-begin
 overflow_cast-begin c =
-    let there = number_there (state_view c.args.reader) c.left.result c.args.bytes.now c.in-Ok-Some.field-0 c.in-Ok-Some.length c.in-Ok-Some.used c.left.ensures c.in-Ok-Some.field-0-is (c.in-Ok-Some.ensures.whole c.args.reader.at) in
+    let there = number_there (state_view c.args.reader.now) c.left.result c.args.bytes.now c.in-Ok-Some.field-0 c.in-Ok-Some.length c.in-Ok-Some.used c.left.ensures c.in-Ok-Some.field-0-is (c.in-Ok-Some.ensures.whole c.args.reader.now.at) in
     let within = there.0 in
     let small = c.requires.reading.small in
     omega (arith, within, small)
 
 pub overflow_add-begin : goal.overflow_add-begin
 overflow_add-begin c =
-    let there = number_there (state_view c.args.reader) c.left.result c.args.bytes.now c.in-Ok-Some.field-0 c.in-Ok-Some.length c.in-Ok-Some.used c.left.ensures c.in-Ok-Some.field-0-is (c.in-Ok-Some.ensures.whole c.args.reader.at) in
+    let there = number_there (state_view c.args.reader.now) c.left.result c.args.bytes.now c.in-Ok-Some.field-0 c.in-Ok-Some.length c.in-Ok-Some.used c.left.ensures c.in-Ok-Some.field-0-is (c.in-Ok-Some.ensures.whole c.args.reader.now.at) in
     let within = there.0 in
     let small = c.requires.reading.small in
     omega (arith, within, small)
 
 pub pass_length-requires : goal.pass_length-requires
 pass_length-requires c =
-    let there = number_there (state_view c.args.reader) c.left.result c.args.bytes.now c.in-Ok-Some.field-0 c.in-Ok-Some.length c.in-Ok-Some.used c.left.ensures c.in-Ok-Some.field-0-is (c.in-Ok-Some.ensures.whole c.args.reader.at) in
+    let there = number_there (state_view c.args.reader.now) c.left.result c.args.bytes.now c.in-Ok-Some.field-0 c.in-Ok-Some.length c.in-Ok-Some.used c.left.ensures c.in-Ok-Some.field-0-is (c.in-Ok-Some.ensures.whole c.args.reader.now.at) in
     let within = there.0 in
     let small = c.requires.reading.small in
     let size = c.in-Ok.ensures.small in
@@ -36,46 +36,46 @@ pass_length-requires c =
 pub returns-in-Err-clause-refused : goal.returns-in-Err-clause-refused
 returns-in-Err-clause-refused c =
     λ m depth levels base p0 begun.
-    fault_told c.fault_at.result (fault c.args.reader.at (path_here (state_view c.args.reader)) c.in-Err.cause) c.fault_at.ensures
-    (length_fault_told c.args.pool.now m depth p0 (state_view c.args.reader) c.args.number c.args.purpose c.in-Err.cause c.requires.step c.in-Err.ensures.settled
-    (c.in-Err.ensures.length c.args.pool.now m depth levels c.args.reader.at c.args.number base p0 (frames_view c.args.reader.frames.items) (scope_view c.args.reader.scope) (part_view c.args.reader.part) c.args.reader.step c.args.purpose
-    (subst (λ (z : Option ℕ). After c.args.pool.now m depth levels base p0 (frames_view c.args.reader.frames.items) c.args.reader.step (part_view c.args.reader.part) (scope_view c.args.reader.scope) (given_at c.args.reader.at z c.args.bytes.now)) (sym c.left.ensures) begun)
+    fault_told c.fault_at.result (fault c.args.reader.now.at (path_here (state_view c.args.reader.now)) c.in-Err.cause) c.fault_at.ensures
+    (length_fault_told c.args.pool.now m depth p0 (state_view c.args.reader.now) c.args.number c.args.purpose c.in-Err.cause c.requires.step c.in-Err.ensures.settled
+    (c.in-Err.ensures.length c.args.pool.now m depth levels c.args.reader.now.at c.args.number base p0 (frames_view c.args.reader.now.frames.items) (scope_view c.args.reader.now.scope) (part_view c.args.reader.now.part) c.args.reader.now.step c.args.purpose
+    (subst (λ (z : Option ℕ). After c.args.pool.now m depth levels base p0 (frames_view c.args.reader.now.frames.items) c.args.reader.now.step (part_view c.args.reader.now.part) (scope_view c.args.reader.now.scope) (given_at c.args.reader.now.at z c.args.bytes.now)) (sym c.left.ensures) begun)
     (ap awaited c.requires.step)))
 
 pub returns-in-Ok-None-clause-taken : goal.returns-in-Ok-None-clause-taken
 returns-in-Ok-None-clause-taken c =
     λ m depth levels base p0 begun.
-    let told = number_cut (state_view c.args.reader) c.left.result c.args.bytes.now c.in-Ok-None.field-0 c.left.ensures c.in-Ok-None.field-0-is (c.in-Ok-None.ensures.short c.args.reader.at) in
-    (begun, length_short (state_view c.args.reader) c.args.bytes.now c.args.number c.args.purpose begun c.requires.step told)
+    let told = number_cut (state_view c.args.reader.now) c.left.result c.args.bytes.now c.in-Ok-None.field-0 c.left.ensures c.in-Ok-None.field-0-is (c.in-Ok-None.ensures.short c.args.reader.now.at) in
+    (begun, length_short (state_view c.args.reader.now) c.args.bytes.now c.args.number c.args.purpose begun c.requires.step told)
 
 pub returns-in-Err-payload_size-clause-refused : goal.returns-in-Err-payload_size-clause-refused
 returns-in-Err-payload_size-clause-refused c =
     λ m depth levels base p0 begun.
-    let there = number_there (state_view c.args.reader) c.left.result c.args.bytes.now c.in-Ok-Some.field-0 c.in-Ok-Some.length c.in-Ok-Some.used c.left.ensures c.in-Ok-Some.field-0-is (c.in-Ok-Some.ensures.whole c.args.reader.at) in
-    fault_told c.fault_at-in-Err-payload_size.result (fault c.args.reader.at (path_here (state_view c.args.reader)) c.in-Err-payload_size.cause) c.fault_at-in-Err-payload_size.ensures
-    (length_fault_told c.args.pool.now m depth p0 (state_view c.args.reader) c.args.number c.args.purpose c.in-Err-payload_size.cause c.requires.step c.in-Err-payload_size.ensures.settled
-    (c.in-Err-payload_size.ensures.refused c.args.pool.now m depth levels c.args.number base p0 (here (state_view c.args.reader) c.args.bytes.now) (passed (here (state_view c.args.reader) c.args.bytes.now) c.in-Ok-Some.used)
-    (frames_view c.args.reader.frames.items) (scope_view c.args.reader.scope) (part_view c.args.reader.part) c.args.reader.step c.args.purpose begun (ap awaited c.requires.step) there.1 refl refl))
+    let there = number_there (state_view c.args.reader.now) c.left.result c.args.bytes.now c.in-Ok-Some.field-0 c.in-Ok-Some.length c.in-Ok-Some.used c.left.ensures c.in-Ok-Some.field-0-is (c.in-Ok-Some.ensures.whole c.args.reader.now.at) in
+    fault_told c.fault_at-in-Err-payload_size.result (fault c.args.reader.now.at (path_here (state_view c.args.reader.now)) c.in-Err-payload_size.cause) c.fault_at-in-Err-payload_size.ensures
+    (length_fault_told c.args.pool.now m depth p0 (state_view c.args.reader.now) c.args.number c.args.purpose c.in-Err-payload_size.cause c.requires.step c.in-Err-payload_size.ensures.settled
+    (c.in-Err-payload_size.ensures.refused c.args.pool.now m depth levels c.args.number base p0 (here (state_view c.args.reader.now) c.args.bytes.now) (passed (here (state_view c.args.reader.now) c.args.bytes.now) c.in-Ok-Some.used)
+    (frames_view c.args.reader.now.frames.items) (scope_view c.args.reader.now.scope) (part_view c.args.reader.now.part) c.args.reader.now.step c.args.purpose begun (ap awaited c.requires.step) there.1 refl refl))
 
-pub returns-in_ok-next-in-Ok-clause-passes : goal.returns-in_ok-next-in-Ok-clause-passes
-returns-in_ok-next-in-Ok-clause-passes c =
-    let there = number_there (state_view c.args.reader) c.left.result c.args.bytes.now c.in-Ok-Some.field-0 c.in-Ok-Some.length c.in-Ok-Some.used c.left.ensures c.in-Ok-Some.field-0-is (c.in-Ok-Some.ensures.whole c.args.reader.at) in
+pub returns-in_ok-pass_length-in-Ok-clause-passes : goal.returns-in_ok-pass_length-in-Ok-clause-passes
+returns-in_ok-pass_length-in-Ok-clause-passes c =
+    let there = number_there (state_view c.args.reader.now) c.left.result c.args.bytes.now c.in-Ok-Some.field-0 c.in-Ok-Some.length c.in-Ok-Some.used c.left.ensures c.in-Ok-Some.field-0-is (c.in-Ok-Some.ensures.whole c.args.reader.now.at) in
     let some = number_size there.1 in
-    let weighs = c.in_ok-next-in-Ok.ensures.step in
-    (there.0, c.in_ok-next-in-Ok.ensures.at, omega (arith, some, weighs))
+    let weighs = c.in_ok-pass_length-in-Ok.ensures.step in
+    (there.0, c.in_ok-pass_length-in-Ok.ensures.at, omega (arith, some, weighs))
 
-pub returns-in_ok-next-in-Ok-clause-taken : goal.returns-in_ok-next-in-Ok-clause-taken
-returns-in_ok-next-in-Ok-clause-taken c =
+pub returns-in_ok-pass_length-in-Ok-clause-taken : goal.returns-in_ok-pass_length-in-Ok-clause-taken
+returns-in_ok-pass_length-in-Ok-clause-taken c =
     λ m depth levels base p0 begun.
-    let there = number_there (state_view c.args.reader) c.left.result c.args.bytes.now c.in-Ok-Some.field-0 c.in-Ok-Some.length c.in-Ok-Some.used c.left.ensures c.in-Ok-Some.field-0-is (c.in-Ok-Some.ensures.whole c.args.reader.at) in
+    let there = number_there (state_view c.args.reader.now) c.left.result c.args.bytes.now c.in-Ok-Some.field-0 c.in-Ok-Some.length c.in-Ok-Some.used c.left.ensures c.in-Ok-Some.field-0-is (c.in-Ok-Some.ensures.whole c.args.reader.now.at) in
     let has =
-    c.in-Ok.ensures.whole (here (state_view c.args.reader) c.args.bytes.now) (passed (here (state_view c.args.reader) c.args.bytes.now) c.in-Ok-Some.used) there.1 refl
-    (length_ends (state_view c.args.reader) c.args.bytes.now c.in-Ok-Some.length c.in-Ok-Some.used begun there.1) in
-    c.in_ok-next-in-Ok.ensures.reads c.args.pool.now m depth levels base p0 (here (state_view c.args.reader) c.args.bytes.now) (passed (here (state_view c.args.reader) c.args.bytes.now) c.in-Ok-Some.used) c.requires.rules
+    c.in-Ok.ensures.whole (here (state_view c.args.reader.now) c.args.bytes.now) (passed (here (state_view c.args.reader.now) c.args.bytes.now) c.in-Ok-Some.used) there.1 refl
+    (length_ends (state_view c.args.reader.now) c.args.bytes.now c.in-Ok-Some.length c.in-Ok-Some.used begun there.1) in
+    c.in_ok-pass_length-in-Ok.ensures.reads c.args.pool.now m depth levels base p0 (here (state_view c.args.reader.now) c.args.bytes.now) (passed (here (state_view c.args.reader.now) c.args.bytes.now) c.in-Ok-Some.used) c.requires.rules
     (awaited_can (tag c.args.number 2 c.args.purpose) c.requires.rules begun (ap awaited c.requires.step))
-    (at_length (state_view c.args.reader) c.args.bytes.now c.args.number c.args.purpose begun c.requires.step) has refl
+    (at_length (state_view c.args.reader.now) c.args.bytes.now c.args.number c.args.purpose begun c.requires.step) has refl
 
 pub returns-in-Ok-None-clause-waits : goal.returns-in-Ok-None-clause-waits
 returns-in-Ok-None-clause-waits c =
-    length_waits (state_view c.args.reader) c.args.bytes.now c.args.number c.args.purpose c.requires.step
-    (number_cut (state_view c.args.reader) c.left.result c.args.bytes.now c.in-Ok-None.field-0 c.left.ensures c.in-Ok-None.field-0-is (c.in-Ok-None.ensures.short c.args.reader.at))
+    length_waits (state_view c.args.reader.now) c.args.bytes.now c.args.number c.args.purpose c.requires.step
+    (number_cut (state_view c.args.reader.now) c.left.result c.args.bytes.now c.in-Ok-None.field-0 c.left.ensures c.in-Ok-None.field-0-is (c.in-Ok-None.ensures.short c.args.reader.now.at))

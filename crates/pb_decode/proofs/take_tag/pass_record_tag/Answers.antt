@@ -14,19 +14,19 @@ use Rattle.pb_decode.proofs.take_tag.pass_record_tag.Goals as goal
 pub returns-in-Some-clause-reads : goal.returns-in-Some-clause-reads
 returns-in-Some-clause-reads c =
     λ m depth levels base p0 rest begun has.
-    after_reads (state_view c.args.reader)
-    (state_view (record { at = c.args.reader.at + c.args.size; part = c.args.reader.part; scope = c.args.reader.scope; frames = c.args.reader.frames; step = c.in-Some.step })) c.args.size rest refl refl
-    (c.in-Some.ensures.goes_on m depth levels base p0 (here (state_view c.args.reader) rest) (passed (here (state_view c.args.reader) rest) c.args.size) (frames_view c.args.reader.frames.items) (scope_view c.args.reader.scope)
-    (standing (state_view c.args.reader) rest (frames_view c.args.reader.frames.items) (part_view c.args.reader.part) begun c.requires.step refl refl) refl has)
+    after_reads (state_view c.args.reader.now)
+    (state_view (record { at = c.args.reader.now.at + c.args.size; part = c.args.reader.now.part; scope = c.args.reader.now.scope; frames = c.args.reader.now.frames; step = c.in-Some.step })) c.args.size rest refl refl
+    (c.in-Some.ensures.goes_on m depth levels base p0 (here (state_view c.args.reader.now) rest) (passed (here (state_view c.args.reader.now) rest) c.args.size) (frames_view c.args.reader.now.frames.items) (scope_view c.args.reader.now.scope)
+    (standing (state_view c.args.reader.now) rest (frames_view c.args.reader.now.frames.items) (part_view c.args.reader.now.part) begun c.requires.step refl refl) refl has)
 
 pub returns-in-None-clause-refused : goal.returns-in-None-clause-refused
 returns-in-None-clause-refused c =
     λ m depth levels base p0 rest begun has.
     fault_told c.fault_inside.result
-    (fault c.args.reader.at (path_of (frames_view c.args.reader.frames.items) ++ next_step c.args.number (scope_view c.args.reader.scope) ∷ []) TooDeep) c.fault_inside.ensures
+    (fault c.args.reader.now.at (path_of (frames_view c.args.reader.now.frames.items) ++ next_step c.args.number (scope_view c.args.reader.now.scope) ∷ []) TooDeep) c.fault_inside.ensures
     (record {
       bad =
-          c.in-None.ensures.too_deep m depth levels base p0 (here (state_view c.args.reader) rest) (passed (here (state_view c.args.reader) rest) c.args.size) (frames_view c.args.reader.frames.items) (scope_view c.args.reader.scope)
-          (standing (state_view c.args.reader) rest (frames_view c.args.reader.frames.items) (part_view c.args.reader.part) begun c.requires.step refl refl) refl has;
+          c.in-None.ensures.too_deep m depth levels base p0 (here (state_view c.args.reader.now) rest) (passed (here (state_view c.args.reader.now) rest) c.args.size) (frames_view c.args.reader.now.frames.items) (scope_view c.args.reader.now.scope)
+          (standing (state_view c.args.reader.now) rest (frames_view c.args.reader.now.frames.items) (part_view c.args.reader.now.part) begun c.requires.step refl refl) refl has;
       settled = λ same. absurd (cc);
     })

@@ -14,60 +14,60 @@ use Rattle.pb_decode.proofs.take_tag.pass_tag.Goals as goal
 pub returns-in-Err-clause-refused : goal.returns-in-Err-clause-refused
 returns-in-Err-clause-refused c =
     λ m depth levels base p0 rest begun has.
-    fault_told c.fault_at.result (fault c.args.reader.at (path_here (state_view c.args.reader)) c.in-Err.cause) c.fault_at.ensures
-    (refused_at_tag (state_view c.args.reader) c.in-Err.cause c.requires.step c.in-Err.ensures.settled
-    (c.in-Err.ensures.refused c.args.pool.now m depth levels base p0 (here (state_view c.args.reader) rest) (passed (here (state_view c.args.reader) rest) c.args.size) (frames_view c.args.reader.frames.items)
-    (scope_view c.args.reader.scope) (part_view c.args.reader.part)
-    (standing (state_view c.args.reader) rest (frames_view c.args.reader.frames.items) (part_view c.args.reader.part) begun c.requires.step refl refl) has))
+    fault_told c.fault_at.result (fault c.args.reader.now.at (path_here (state_view c.args.reader.now)) c.in-Err.cause) c.fault_at.ensures
+    (refused_at_tag (state_view c.args.reader.now) c.in-Err.cause c.requires.step c.in-Err.ensures.settled
+    (c.in-Err.ensures.refused c.args.pool.now m depth levels base p0 (here (state_view c.args.reader.now) rest) (passed (here (state_view c.args.reader.now) rest) c.args.size) (frames_view c.args.reader.now.frames.items)
+    (scope_view c.args.reader.now.scope) (part_view c.args.reader.now.part)
+    (standing (state_view c.args.reader.now) rest (frames_view c.args.reader.now.frames.items) (part_view c.args.reader.now.part) begun c.requires.step refl refl) has))
 
-pub returns-in_err-next-clause-refused : goal.returns-in_err-next-clause-refused
-returns-in_err-next-clause-refused c =
+pub returns-in_err-pass_group_start-clause-refused : goal.returns-in_err-pass_group_start-clause-refused
+returns-in_err-pass_group_start-clause-refused c =
     λ m depth levels base p0 rest begun has.
-    let q = here (state_view c.args.reader) rest in
+    let q = here (state_view c.args.reader.now) rest in
     let p = err_from_is_err_and c.from_residual.result c.from_residual.ensures.1 in
     rw (p.1, p.2)
-    (c.in_err-next.ensures.refused c.args.pool.now m depth levels base p0 rest begun
+    (c.in_err-pass_group_start.ensures.refused c.args.pool.now m depth levels base p0 rest begun
     (subst (λ (z : ℕ). HasTag q c.in-Ok.parts.0 z (passed q c.args.size)) c.if-wire_type-eq3.true (c.in-Ok.ensures.whole q (passed q c.args.size) has)))
 
-pub returns-in_err-next-2-clause-refused : goal.returns-in_err-next-2-clause-refused
-returns-in_err-next-2-clause-refused c =
+pub returns-in_err-pass_group_end-clause-refused : goal.returns-in_err-pass_group_end-clause-refused
+returns-in_err-pass_group_end-clause-refused c =
     λ m depth levels base p0 rest begun has.
-    let q = here (state_view c.args.reader) rest in
-    let p = err_from_is_err_and c.from_residual-in_err-next-2.result c.from_residual-in_err-next-2.ensures.1 in
+    let q = here (state_view c.args.reader.now) rest in
+    let p = err_from_is_err_and c.from_residual-in_err-pass_group_end.result c.from_residual-in_err-pass_group_end.ensures.1 in
     rw (p.1, p.2)
-    (c.in_err-next-2.ensures.refused c.args.pool.now m depth levels base p0 rest begun
+    (c.in_err-pass_group_end.ensures.refused c.args.pool.now m depth levels base p0 rest begun
     (subst (λ (z : ℕ). HasTag q c.in-Ok.parts.0 z (passed q c.args.size)) c.if-wire_type-eq4.true (c.in-Ok.ensures.whole q (passed q c.args.size) has)))
 
 pub pass_record_tag-requires-clause-can : goal.pass_record_tag-requires-clause-can
 pass_record_tag-requires-clause-can c =
-    can_hold c.requires.rules (part_view c.args.reader.part)
-    (standing (state_view c.args.reader) c.requires.reading.0 (frames_view c.args.reader.frames.items) (part_view c.args.reader.part) c.requires.reading.1.reads c.requires.step refl refl)
+    can_hold c.requires.rules (part_view c.args.reader.now.part)
+    (standing (state_view c.args.reader.now) c.requires.reading.0 (frames_view c.args.reader.now.frames.items) (part_view c.args.reader.now.part) c.requires.reading.1.reads c.requires.step refl refl)
 
-pub returns-in_err-next-3-clause-refused : goal.returns-in_err-next-3-clause-refused
-returns-in_err-next-3-clause-refused c =
+pub returns-in_err-pass_record_tag-clause-refused : goal.returns-in_err-pass_record_tag-clause-refused
+returns-in_err-pass_record_tag-clause-refused c =
     λ m depth levels base p0 rest begun has.
-    let q = here (state_view c.args.reader) rest in
-    let p = err_from_is_err_and c.from_residual-in_err-next-3.result c.from_residual-in_err-next-3.ensures.1 in
-    rw (p.1, p.2) (c.in_err-next-3.ensures.refused m depth levels base p0 rest begun (c.in-Ok.ensures.whole q (passed q c.args.size) has))
+    let q = here (state_view c.args.reader.now) rest in
+    let p = err_from_is_err_and c.from_residual-in_err-pass_record_tag.result c.from_residual-in_err-pass_record_tag.ensures.1 in
+    rw (p.1, p.2) (c.in_err-pass_record_tag.ensures.refused m depth levels base p0 rest begun (c.in-Ok.ensures.whole q (passed q c.args.size) has))
 
-pub returns-in_ok-next-clause-reads : goal.returns-in_ok-next-clause-reads
-returns-in_ok-next-clause-reads c =
+pub returns-in_ok-pass_group_start-clause-reads : goal.returns-in_ok-pass_group_start-clause-reads
+returns-in_ok-pass_group_start-clause-reads c =
     λ m depth levels base p0 rest begun has.
-    let q = here (state_view c.args.reader) rest in
-    c.in_ok-next.ensures.reads c.args.pool.now m depth levels base p0 rest c.requires.rules
-    (can_hold c.requires.rules (part_view c.args.reader.part)
-    (standing (state_view c.args.reader) rest (frames_view c.args.reader.frames.items) (part_view c.args.reader.part) begun c.requires.step refl refl)) begun
+    let q = here (state_view c.args.reader.now) rest in
+    c.in_ok-pass_group_start.ensures.reads c.args.pool.now m depth levels base p0 rest c.requires.rules
+    (can_hold c.requires.rules (part_view c.args.reader.now.part)
+    (standing (state_view c.args.reader.now) rest (frames_view c.args.reader.now.frames.items) (part_view c.args.reader.now.part) begun c.requires.step refl refl)) begun
     (subst (λ (z : ℕ). HasTag q c.in-Ok.parts.0 z (passed q c.args.size)) c.if-wire_type-eq3.true (c.in-Ok.ensures.whole q (passed q c.args.size) has))
 
-pub returns-in_ok-next-2-clause-reads : goal.returns-in_ok-next-2-clause-reads
-returns-in_ok-next-2-clause-reads c =
+pub returns-in_ok-pass_group_end-clause-reads : goal.returns-in_ok-pass_group_end-clause-reads
+returns-in_ok-pass_group_end-clause-reads c =
     λ m depth levels base p0 rest begun has.
-    let q = here (state_view c.args.reader) rest in
-    c.in_ok-next-2.ensures.reads c.args.pool.now m depth levels base p0 rest begun
+    let q = here (state_view c.args.reader.now) rest in
+    c.in_ok-pass_group_end.ensures.reads c.args.pool.now m depth levels base p0 rest begun
     (subst (λ (z : ℕ). HasTag q c.in-Ok.parts.0 z (passed q c.args.size)) c.if-wire_type-eq4.true (c.in-Ok.ensures.whole q (passed q c.args.size) has))
 
-pub returns-in_ok-next-3-clause-reads : goal.returns-in_ok-next-3-clause-reads
-returns-in_ok-next-3-clause-reads c =
+pub returns-in_ok-pass_record_tag-clause-reads : goal.returns-in_ok-pass_record_tag-clause-reads
+returns-in_ok-pass_record_tag-clause-reads c =
     λ m depth levels base p0 rest begun has.
-    let q = here (state_view c.args.reader) rest in
-    c.in_ok-next-3.ensures.reads m depth levels base p0 rest begun (c.in-Ok.ensures.whole q (passed q c.args.size) has)
+    let q = here (state_view c.args.reader.now) rest in
+    c.in_ok-pass_record_tag.ensures.reads m depth levels base p0 rest begun (c.in-Ok.ensures.whole q (passed q c.args.size) has)

@@ -5,7 +5,7 @@ use Rattle.pb_wire.specs.Token.{passed}
 use Rattle.pb_decode.specs.Reader.{state_view, left_of, here}
 use Rattle.pb_decode.proofs.ReaderLemmas.{slice_from}
 use Rattle.pb_decode.proofs.QuickLemmas.{front_there, there_behind, payload_ends}
-use Rattle.pb_decode.proofs.quick_record.payload_behind.Goals as goal
+use Rattle.pb_decode.proofs.quick_record.length_behind.Goals as goal
 
 pub overflow_add-start : goal.overflow_add-start
 overflow_add-start c =
@@ -30,23 +30,15 @@ overflow_add-reader c =
     let within = c.requires.within in
     omega (arith, is, used, small, within)
 
-pub overflow_sub-bytes : goal.overflow_sub-bytes
-overflow_sub-bytes c =
+pub returns-in-Ok-clause-within : goal.returns-in-Ok-clause-within
+returns-in-Ok-clause-within c =
     let is = ap length (slice_from c.args.tag_size c.args.bytes.now) ∙ length-drop c.args.tag_size c.args.bytes.now in
     let used = (front_there 0 c.left_behind-behind.result (take (length c.args.bytes.now - c.args.tag_size) (drop c.args.tag_size c.args.bytes.now)) c.in-Ok-Some.field-0 c.in-Ok-Some.length c.in-Ok-Some.used c.in-Ok-Some.field-0-is (c.in-Ok-Some.ensures.whole 0)).0 in
     let within = c.requires.within in
-    omega (arith, is, used, within)
+    (omega arith, omega (arith, is, used, within), c.in-Ok.ensures.small)
 
-pub returns-clause-within : goal.returns-clause-within
-returns-clause-within c =
-    let is = ap length (slice_from c.args.tag_size c.args.bytes.now) ∙ length-drop c.args.tag_size c.args.bytes.now in
-    let used = (front_there 0 c.left_behind-behind.result (take (length c.args.bytes.now - c.args.tag_size) (drop c.args.tag_size c.args.bytes.now)) c.in-Ok-Some.field-0 c.in-Ok-Some.length c.in-Ok-Some.used c.in-Ok-Some.field-0-is (c.in-Ok-Some.ensures.whole 0)).0 in
-    let within = c.requires.within in
-    let enough = c.if-bytes-start.false in
-    (omega arith, omega (arith, is, used, within, enough))
-
-pub returns-clause-whole : goal.returns-clause-whole
-returns-clause-whole c =
+pub returns-in-Ok-clause-whole : goal.returns-in-Ok-clause-whole
+returns-in-Ok-clause-whole c =
     λ pool m depth levels number wire_type base p0 begun has.
     let s = state_view c.args.reader.now in
     let first = front_there (c.args.reader.now.at + c.args.tag_size) c.left_behind-behind.result (take (length c.args.bytes.now - c.args.tag_size) (drop c.args.tag_size c.args.bytes.now)) c.in-Ok-Some.field-0 c.in-Ok-Some.length c.in-Ok-Some.used c.in-Ok-Some.field-0-is (c.in-Ok-Some.ensures.whole (c.args.reader.now.at + c.args.tag_size)) in
