@@ -11,4 +11,33 @@ pub mod OneLexing
 pub mod TextMeaning
 pub mod SymbolLemmas
 pub mod OneReading
+pub mod UntilSteps
+pub mod SeparatedSteps
+pub mod NoSymbols
+pub mod SaidSteps
+pub mod NumberSteps
+pub mod NameSteps
+pub mod ReaderLaws
+pub mod Parts
+pub mod Compose
+pub mod Heads
+pub mod SymbolTests
+pub mod Loops
+pub mod Guards
+pub mod KindLemmas
+pub mod ToEnd
+pub mod NameLaws
+pub mod OptionLaws
+pub mod StatementKinds
+pub mod FieldLaws
+pub mod ReservedLaws
+pub mod BodyLaws
+pub mod MessageLaws
+pub mod FileLaws
+pub mod SourceLaws
+pub mod ParseLemmas
+pub mod EndSteps
+pub mod Bridges
+mod GrammarRows
+pub mod FaultLemmas
 mod Rows

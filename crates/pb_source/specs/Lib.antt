@@ -6,3 +6,13 @@ pub mod Texts
 pub mod Lexing
 pub mod Symbols
 pub mod SymbolView
+pub mod Integers
+pub mod Language
+pub mod Meaning
+pub mod Grammar
+pub mod SyntaxFault
+pub mod Source
+pub mod StatementView
+pub mod Digits
+pub mod RangeView
+pub mod Readers

@@ -1,9 +1,10 @@
 -- The tokens of a source, and the fault of a source that has none (Protocol Buffers Language Specification (Proto3), "Lexical Elements").
 use Rattle.std.specs.Prelude.{◌≡◌, ◌≢◌, ℕ, suc, ◌+◌, ◌%◌, ◌<◌, List, [], ◌∷◌, ◌++◌, length, Bool, true, false, not, ◌&&◌, ◌||◌, ◌==◌, if◌then◌else◌, Option, Some, None, ◌⊎◌, encode_utf8}
 use Rattle.std.specs.List.{list_all}
-use Rattle.std.specs.Char.{is_ascii_alphabetic, is_ascii_digit, is_ascii_punctuation, is_digit}
+use Rattle.std.specs.Char.{is_ascii_digit, is_ascii_punctuation, is_digit}
 use Rattle.std.specs.Int.{is_in_range}
 use Rattle.std.specs.Str.Parse.{AllDigits, digits_value}
+pub use Rattle.pb_schema.specs.Names.{begins_word, continues_word}
 use Rattle.pb_source.specs.declared.token.TokenKind.{TokenKind}
 use Rattle.pb_source.specs.declared.token.TokenKind.TheVariants.{Word, Number, Text, Sign}
 use Rattle.pb_source.specs.declared.fault.Cause.{Cause}
@@ -15,14 +16,7 @@ pub record PlacedToken : Type 0 where
   pub at : ℕ
   pub text : List ℕ
 
--- ---- bytes ("Letters and Digits", "Identifiers")
-
--- a letter or `_`
-abbrev pub begins_word : ℕ → Bool
-begins_word c = is_ascii_alphabetic c || (c == 95)
-
-abbrev pub continues_word : ℕ → Bool
-continues_word c = begins_word c || is_ascii_digit c
+-- ---- bytes ("Letters and Digits", "Identifiers"); what begins and goes on a word is what it is in names that are declared
 
 -- `"` or `'`
 abbrev pub is_quote : ℕ → Bool

@@ -1,10 +1,14 @@
-//! Sources of proto3: their tokens.
+//! Sources of proto3: their tokens, and readers of the lines of their grammar.
 #![tactic(auto)]
 
 mod bytes;
 mod fault;
+mod kind;
 mod lexing;
 mod meaning;
+mod parsing;
+mod refusal;
+mod rule;
 mod symbol;
 mod symbols;
 mod text;

@@ -1,5 +1,10 @@
 //! The symbols of the grammar.
 
+ghost use Rattle.std.specs.Prelude.{◌≡◌};
+ghost use Rattle.pb_source.specs.SymbolView.{symbol_of};
+ghost use Rattle.pb_source.specs.Readers.Forms.{is_keyword, is_mark};
+ghost use Rattle.pb_source.specs.Readers.Lines.{is_text, is_number};
+
 /// A token, or texts that follow one another, joined.
 #[derive(Drop)]
 pub(crate) enum Symbol<'a> {
@@ -15,4 +20,44 @@ pub(crate) enum Symbol<'a> {
 pub(crate) struct Placed<'a> {
     pub at: u64,
     pub symbol: Symbol<'a>,
+}
+
+/// Whether the symbol is this word.
+pub(crate) fn is_keyword(symbol: &Symbol, word: &str) -> bool
+    ensures { result ≡ is_keyword word.now (symbol_of symbol.now) }
+{
+    match symbol {
+        Symbol::Word(text) => *text == word,
+        _ => false,
+    }
+}
+
+/// Whether the symbol is this sign.
+pub(crate) fn is_mark(symbol: &Symbol, sign: &str) -> bool
+    ensures { result ≡ is_mark sign.now (symbol_of symbol.now) }
+{
+    match symbol {
+        Symbol::Sign(text) => *text == sign,
+        _ => false,
+    }
+}
+
+/// Whether the symbol is a text.
+pub(crate) fn is_text(symbol: &Symbol) -> bool
+    ensures { result ≡ is_text (symbol_of symbol.now) }
+{
+    match symbol {
+        Symbol::Text(_) => true,
+        _ => false,
+    }
+}
+
+/// Whether the symbol is a number word.
+pub(crate) fn is_number(symbol: &Symbol) -> bool
+    ensures { result ≡ is_number (symbol_of symbol.now) }
+{
+    match symbol {
+        Symbol::Number(_) => true,
+        _ => false,
+    }
 }

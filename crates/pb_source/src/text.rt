@@ -5,7 +5,7 @@ ghost use Rattle.pb_source.specs.Tokens.{is_plain, is_closed, short_escape};
 ghost use Rattle.pb_source.specs.Texts.{digit_of, number_from, is_scalar, escape_len, units_len};
 
 /// What a digit of a base counts.
-fn digit_of(base: u32, byte: u8) -> Option<u32>
+pub(crate) fn digit_of(base: u32, byte: u8) -> Option<u32>
     requires two { 2 ≤ base }
     requires base { base ≤ 16 }
     ensures { result ≡ digit_of base byte }

@@ -1,0 +1,307 @@
+-- The reader of files reads them.
+use Rattle.std.proofs.Common.{◌≡◌, ℕ, ◌+◌, ◌≤◌, List, [], ◌∷◌, ◌++◌, length, Bool, true, false, ◌||◌, codes, refl, ap, sym, ◌∙◌, subst, length-append, Some, arith, ◌⊎◌, inl, inr}
+use Rattle.std.specs.Prelude.{if◌then◌else◌}
+use Rattle.std.specs.Str.{bytes_eq}
+use Rattle.std.proofs.lemmas.Bool.{false≢true, or_parts}
+use Rattle.std.proofs.lemmas.Slice.Eq.{bytes_eq-Decides}
+use Rattle.pb_source.specs.declared.kind.FileKind.{FileKind}
+use Rattle.pb_source.specs.declared.kind.FileKind.TheVariants as kind
+use Rattle.pb_source.specs.declared.rule.Rule.TheVariants.{SyntaxFirst as syntax_first}
+use Rattle.pb_source.specs.Symbols.{Symbol, word, number, text, sign}
+use Rattle.pb_source.specs.Language.{Language, ◌▸◌, ◌or◌, one, nothing, Rules}
+use Rattle.pb_source.specs.Meaning.{FileStatement, joined, all_said, packages_said}
+use Rattle.pb_source.specs.Grammar.{keyword, mark, fullname, Until, option, enum_line, message, room, service, access, utf8_text, file_statement, syntax_line, file}
+use Rattle.pb_source.specs.Readers.Forms.{first_passes, is_keyword, symbol, judged}
+use Rattle.pb_source.specs.Readers.Lines.{access_reader, import_reader, package_reader, file_kind, file_line, file_statement_reader, syntax_word_in, syntax_text_in, syntax_reader, is_package, file_reader}
+use Rattle.pb_source.proofs.ReaderLaws.{Reads, IsStop}
+use Rattle.pb_source.proofs.Parts.{Answered, reads_answer}
+use Rattle.pb_source.proofs.Compose.{never, Mapped, Both, Behind, Before, reads_mapped, reads_both_so, reads_behind, reads_before, reads_before_so, reads_either, said_so}
+use Rattle.pb_source.proofs.Heads.{headed_one, stops_rest, front_of, front_of_one}
+use Rattle.pb_source.proofs.SymbolTests.{is_the_word, Keeps, reads_judged, reads_mark, reads_keyword}
+use Rattle.pb_source.proofs.KindLemmas.{ByKind, Offers, kinds_filled, reads_kinds}
+use Rattle.pb_source.proofs.StatementKinds.{kind_one, kind_then, kind_front}
+use Rattle.pb_source.proofs.ToEnd.{always, Each, reads_to_end}
+use Rattle.pb_source.proofs.NameLaws.{reads_fullname}
+use Rattle.pb_source.proofs.OptionLaws.{end_stops}
+use Rattle.pb_source.proofs.ReservedLaws.{reads_utf8}
+use Rattle.pb_source.proofs.BodyLaws.{Silent, reads_silent_end, reads_silent_option, not_empty_then, reads_enum, reads_service}
+use Rattle.pb_source.proofs.MessageLaws.{reads_message, file_message_first}
+
+-- ---- imports and packages
+
+-- the words before an import's text
+abbrev marks_access : Symbol → Bool
+marks_access s = is_keyword (codes "public") s || is_keyword (codes "weak") s
+
+not_public : (rest : List Symbol) → IsStop marks_access rest → first_passes (is_keyword (codes "public")) rest ≡ false
+not_public [] s = refl
+not_public (t ∷ rest) s = (or_parts (is_keyword (codes "public") t) (is_keyword (codes "weak") t) s).0
+
+not_weak : (rest : List Symbol) → IsStop marks_access rest → first_passes (is_keyword (codes "weak")) rest ≡ false
+not_weak [] s = refl
+not_weak (t ∷ rest) s = (or_parts (is_keyword (codes "public") t) (is_keyword (codes "weak") t) s).1
+
+abbrev Public : Rules → Bool → Language
+Public = Silent true (λ rules. keyword "public")
+
+abbrev NotPublic : Rules → Bool → Language
+NotPublic rules b = Silent false (λ rules. keyword "weak") rules b or Answered false rules b
+
+reads_access : {n : ℕ} → Reads n marks_access (λ rules. access) access_reader
+unfolding access_reader
+reads_access {n} =
+    said_so {Q = λ rules. access}
+    (reads_either (is_keyword (codes "public")) (reads_mapped {A = Unit {0}} {R = λ rules u. keyword "public"} (λ _. true) (reads_keyword (codes "public")))
+    (reads_either (is_keyword (codes "weak")) (reads_mapped {A = Unit {0}} {R = λ rules u. keyword "weak"} (λ _. false) (reads_keyword (codes "weak"))) (reads_answer n marks_access false)
+    (λ rules v c d. headed_one (is_keyword (codes "weak")) (word (codes "weak")) refl c d.2)
+    (λ rules v c rest d s. ap (λ c. first_passes (is_keyword (codes "weak")) (c ++ rest)) d.1 ∙ not_weak rest s))
+    (λ rules v c d. headed_one (is_keyword (codes "public")) (word (codes "public")) refl c d.2)
+    no_public)
+    to from
+  where
+    no_public : (rules : Rules) (b : Bool) (c rest : List Symbol) → NotPublic rules b c → IsStop marks_access rest → first_passes (is_keyword (codes "public")) (c ++ rest) ≡ false
+    no_public rules b c rest (inl d) s = front_of (is_keyword (codes "public")) (word (codes "weak")) c rest d.2
+    no_public rules b c rest (inr d) s = ap (λ c. first_passes (is_keyword (codes "public")) (c ++ rest)) d.1 ∙ not_public rest s
+
+    to : (rules : Rules) (b : Bool) (c : List Symbol) → Public rules b c ⊎ NotPublic rules b c → access b c
+    to rules b c (inl (u, e, d)) = subst (λ b. access b c) (sym e) d
+    to rules b c (inr (inl (u, e, d))) = subst (λ b. access b c) (sym e) (inl d)
+    to rules b c (inr (inr (e, d))) = subst (λ b. access b c) (sym e) (inr d)
+
+    from : (rules : Rules) (b : Bool) (c : List Symbol) → access b c → Public rules b c ⊎ NotPublic rules b c
+    from rules true c d = inl (tt, refl, d)
+    from rules false c (inl d) = inr (inl (tt, refl, d))
+    from rules false c (inr d) = inr (inr (refl, d))
+
+abbrev Import : Rules → Bool × List ℕ → Language
+Import = Behind (λ rules. keyword "import") (Both (λ rules. access) (Before utf8_text (λ rules. mark ";")))
+
+reads_import : {n : ℕ} → Reads n never Import import_reader
+unfolding import_reader
+reads_import =
+    reads_behind {L = λ rules. keyword "import"} (reads_keyword (codes "import"))
+    (reads_both_so reads_access (reads_before {L = λ rules. mark ";"} reads_utf8 (reads_mark (codes ";")))
+    (λ rules v c rest d s. text_stops rules v c rest d))
+  where
+    text_stops : (rules : Rules) (v : List ℕ) (c rest : List Symbol) → (utf8_text rules v ▸ mark ";") c → IsStop marks_access (c ++ rest)
+    text_stops rules v c rest (a, b, (k, ha), hb, j) = stops_rest marks_access (c ++ rest) (front_of_one {S = mark ";"} marks_access (text v) c rest (a, b, ha, hb, j))
+
+abbrev Package : Rules → List ℕ → Language
+Package = Mapped joined (Behind (λ rules. keyword "package") (Before (λ rules. fullname) (λ rules. mark ";")))
+
+reads_package : (n : ℕ) → Reads n never Package (package_reader n)
+unfolding package_reader
+reads_package n =
+    reads_mapped joined
+    (reads_behind {L = λ rules. keyword "package"} (reads_keyword (codes "package"))
+    (reads_before_so {L = λ rules. mark ";"} (reads_fullname n) (reads_mark (codes ";")) (λ rules u c rest d s. end_stops (codes ";") c rest refl d)))
+
+-- ---- statements, by whether a package has been said
+
+-- a package is not said twice
+abbrev pub Once : Bool → FileStatement → Type 0
+Once said s = (said ≡ false) ⊎ (is_package s ≡ false)
+
+abbrev pub StatementOnce : Bool → Rules → FileStatement → Language
+StatementOnce said rules s ts = Once said s × file_statement rules s ts
+
+abbrev FileLine : Bool → FileKind → Rules → FileStatement → Language
+FileLine said kind.Empty = Silent FileStatement.nothing_said (λ rules. mark ";")
+FileLine said kind.Option = Silent FileStatement.nothing_said option
+FileLine said kind.Import = Mapped {A = Bool × List ℕ} (λ x. FileStatement.an_import x.0 x.1) Import
+FileLine true kind.Package = λ rules s ts. ⊥
+FileLine false kind.Package = Mapped FileStatement.a_package Package
+FileLine said kind.Message = Mapped FileStatement.a_message (λ rules. message rules (room rules))
+FileLine said kind.Enum = Mapped FileStatement.an_enum enum_line
+FileLine said kind.Service = Mapped FileStatement.a_service service
+
+file_offers : (n : ℕ) (said : Bool) (k : FileKind) → Offers n never (FileLine said k) (file_line n said k)
+file_offers n said kind.Empty = reads_silent_end FileStatement.nothing_said
+file_offers n said kind.Option = reads_silent_option FileStatement.nothing_said
+file_offers n said kind.Import = reads_mapped {A = Bool × List ℕ} (λ x. FileStatement.an_import x.0 x.1) reads_import
+file_offers n true kind.Package = λ rules s c d. d
+file_offers n false kind.Package = reads_mapped FileStatement.a_package (reads_package n)
+file_offers n said kind.Message = reads_mapped FileStatement.a_message (reads_message n)
+file_offers n said kind.Enum = reads_mapped FileStatement.an_enum (reads_enum n)
+file_offers n said kind.Service = reads_mapped FileStatement.a_service (reads_service n)
+
+file_filled : (said : Bool) (k : FileKind) (rules : Rules) (s : FileStatement) → FileLine said k rules s [] → ⊥
+file_filled said kind.Empty rules s d = cc d.2
+file_filled said kind.Option rules s d = not_empty_then (word (codes "option")) d.2
+file_filled said kind.Import rules s d = not_empty_then (word (codes "import")) d.2
+file_filled true kind.Package rules s d = d
+file_filled false kind.Package rules s d = not_empty_then (word (codes "package")) d.2.2
+file_filled said kind.Message rules s d = false≢true (file_message_first rules d.0 [] d.2)
+file_filled said kind.Enum rules s d = not_empty_then (word (codes "enum")) d.2.3
+file_filled said kind.Service rules s d = not_empty_then (word (codes "service")) d.2.2
+
+package_so : (said : Bool) (rules : Rules) (s : FileStatement) (c : List Symbol) → FileLine said kind.Package rules s c → StatementOnce said rules s c
+package_so true rules s c d = absurd d
+package_so false rules s c (p, e, (ws, i, d)) = subst (λ s. StatementOnce false rules s c) (sym e) (inl refl, (ws, i, d))
+
+to_file : (said : Bool) (rules : Rules) (s : FileStatement) (c : List Symbol) → ByKind file_kind (FileLine said) rules s c → StatementOnce said rules s c
+to_file said rules s c (kind.Empty, h, (u, e, d)) = subst (λ s. StatementOnce said rules s c) (sym e) (inr refl, inr d)
+to_file said rules s c (kind.Option, h, (u, e, d)) = subst (λ s. StatementOnce said rules s c) (sym e) (inr refl, inl d)
+to_file said rules s c (kind.Import, h, (x, e, d)) = subst (λ s. StatementOnce said rules s c) (sym e) (inr refl, d)
+to_file said rules s c (kind.Package, h, d) = package_so said rules s c d
+to_file said rules s c (kind.Message, h, (m, e, d)) = subst (λ s. StatementOnce said rules s c) (sym e) (inr refl, d)
+to_file said rules s c (kind.Enum, h, (m, e, d)) = subst (λ s. StatementOnce said rules s c) (sym e) (inr refl, d)
+to_file said rules s c (kind.Service, h, (m, e, d)) = subst (λ s. StatementOnce said rules s c) (sym e) (inr refl, d)
+
+of_package : (said : Bool) (rules : Rules) (p : List ℕ) (c : List Symbol) → Once said (FileStatement.a_package p) → Package rules p c → FileLine said kind.Package rules (FileStatement.a_package p) c
+of_package true rules p c (inl h) d = absurd (false≢true (sym h))
+of_package true rules p c (inr h) d = absurd (false≢true (sym h))
+of_package false rules p c o d = (p, refl, d)
+
+of_file : (said : Bool) (rules : Rules) (s : FileStatement) (c : List Symbol) → StatementOnce said rules s c → ByKind file_kind (FileLine said) rules s c
+of_file said rules FileStatement.nothing_said c (o, inl d) = (kind.Option, kind_then file_kind (word (codes "option")) c d, (tt, refl, d))
+of_file said rules FileStatement.nothing_said c (o, inr d) = (kind.Empty, kind_one file_kind (sign (codes ";")) c d, (tt, refl, d))
+of_file said rules (FileStatement.an_import p f) c (o, d) = (kind.Import, kind_then file_kind (word (codes "import")) c d, ((p, f), refl, d))
+of_file said rules (FileStatement.a_package p) c (o, d) = (kind.Package, kind_then file_kind (word (codes "package")) c d.2, of_package said rules p c o d)
+of_file said rules (FileStatement.a_message m) c (o, d) =
+    (kind.Message, kind_front file_kind kind.Message (is_keyword (codes "message")) (λ s h. ap file_kind (is_the_word (codes "message") s h)) c (file_message_first rules m c d), (m, refl, d))
+of_file said rules (FileStatement.an_enum e) c (o, d) = (kind.Enum, kind_then file_kind (word (codes "enum")) c d.3, (e, refl, d))
+of_file said rules (FileStatement.a_service s) c (o, d) = (kind.Service, kind_then file_kind (word (codes "service")) c d.2, (s, refl, d))
+
+reads_file_statement : (n : ℕ) (said : Bool) → Reads n never (StatementOnce said) (file_statement_reader n said)
+unfolding file_statement_reader
+reads_file_statement n said =
+    said_so {Q = StatementOnce said}
+    (reads_kinds n never file_kind (FileLine said) (file_line n said) (file_offers n said) (file_filled said)
+    (λ rules. (FileStatement.nothing_said, sign (codes ";") ∷ [], (kind.Empty, refl, (tt, refl, refl)))))
+    (to_file said) (of_file said)
+
+-- ---- the syntax
+
+abbrev SyntaxWord : Rules → Unit {0} → Language
+SyntaxWord rules u ts = (s : Symbol) × Keeps syntax_first rules (is_keyword (codes "syntax") s) × one s ts
+
+abbrev SyntaxText : Rules → Unit {0} → Language
+SyntaxText rules u ts = (b : List ℕ) × Keeps syntax_first rules (bytes_eq b (codes "proto3")) × one (text b) ts
+
+reads_syntax_word : {n : ℕ} {e : Symbol → Bool} → Reads n e SyntaxWord (symbol (judged syntax_first syntax_word_in))
+reads_syntax_word = reads_judged syntax_first syntax_word_in (word (codes "syntax")) tt refl to (λ rules u c d. (d.0, is_keyword (codes "syntax") d.0, refl, d.1, d.2))
+  where
+    to : (rules : Rules) (s : Symbol) (u : Unit {0}) (ok : Bool) → syntax_word_in s ≡ Some (u, ok) → Keeps syntax_first rules ok → SyntaxWord rules u (s ∷ [])
+    to rules s u ok h k =
+        let p : ◌≡◌ {A = Unit {0} × Bool} (tt, is_keyword (codes "syntax") s) (u, ok) = cc h in
+        (s, subst (λ b. Keeps syntax_first rules b) (sym (ap (λ x. x.1) p)) k, refl)
+
+reads_syntax_text : {n : ℕ} {e : Symbol → Bool} → Reads n e SyntaxText (symbol (judged syntax_first syntax_text_in))
+reads_syntax_text = reads_judged syntax_first syntax_text_in (text (codes "proto3")) tt refl to (λ rules u c d. (text d.0, bytes_eq d.0 (codes "proto3"), refl, d.1, d.2))
+  where
+    to : (rules : Rules) (s : Symbol) (u : Unit {0}) (ok : Bool) → syntax_text_in s ≡ Some (u, ok) → Keeps syntax_first rules ok → SyntaxText rules u (s ∷ [])
+    to rules (text b) u ok h k =
+        let p : ◌≡◌ {A = Unit {0} × Bool} (tt, bytes_eq b (codes "proto3")) (u, ok) = cc h in
+        (b, subst (λ b. Keeps syntax_first rules b) (sym (ap (λ x. x.1) p)) k, refl)
+    to rules (word b) u ok h k = absurd (cc h)
+    to rules (number b) u ok h k = absurd (cc h)
+    to rules (sign b) u ok h k = absurd (cc h)
+
+abbrev Syntax : Rules → Language
+Syntax rules = SyntaxWord rules tt ▸ mark "=" ▸ SyntaxText rules tt ▸ mark ";"
+
+to_syntax : (rules : Rules) (c : List Symbol) → Syntax rules c → syntax_line rules c
+to_syntax rules c (a, b, (s, inr r, ha), (p, q, hp, (x, y, (t, k, hx), hy, l), i), j) = inr (r, s, t, (a, b, ha, (p, q, hp, (x, y, hx, hy, l), i), j))
+to_syntax rules c (a, b, (s, inl h, ha), (p, q, hp, (x, y, (t, inr r, hx), hy, l), i), j) = inr (r, s, t, (a, b, ha, (p, q, hp, (x, y, hx, hy, l), i), j))
+to_syntax rules c (a, b, (s, inl h, ha), (p, q, hp, (x, y, (t, inl k, hx), hy, l), i), j) =
+    let e : s ≡ word (codes "syntax") = is_the_word (codes "syntax") s h in
+    let f : t ≡ codes "proto3" = (bytes_eq-Decides t (codes "proto3")).0 k in
+    inl (a, b, ha ∙ ap (λ s. s ∷ []) e, (p, q, hp, (x, y, hx ∙ ap (λ t. text t ∷ []) f, hy, l), i), j)
+
+of_syntax : (rules : Rules) (c : List Symbol) → syntax_line rules c → Syntax rules c
+of_syntax rules c (inl (a, b, ha, (p, q, hp, (x, y, hx, hy, l), i), j)) = (a, b, (word (codes "syntax"), inl refl, ha), (p, q, hp, (x, y, (codes "proto3", inl refl, hx), hy, l), i), j)
+of_syntax rules c (inr (r, s, t, (a, b, ha, (p, q, hp, (x, y, hx, hy, l), i), j))) = (a, b, (s, inr r, ha), (p, q, hp, (x, y, (t, inr r, hx), hy, l), i), j)
+
+reads_syntax : {n : ℕ} → Reads n never (λ rules (u : Unit {0}). syntax_line rules) syntax_reader
+unfolding syntax_reader
+reads_syntax =
+    said_so {Q = λ rules (u : Unit {0}). syntax_line rules}
+    (reads_behind {L = λ rules. SyntaxWord rules tt} reads_syntax_word
+    (reads_behind {L = λ rules. mark "="} (reads_mark (codes "="))
+    (reads_behind {L = λ rules. SyntaxText rules tt} {S = λ rules u. mark ";"} reads_syntax_text (reads_mark (codes ";")))))
+    (λ rules u c d. to_syntax rules c d) (λ rules u c d. of_syntax rules c d)
+
+-- ---- the whole file
+
+abbrev count : Bool → ℕ
+count b = if b then 1 else 0
+
+module _ (n : ℕ) where
+  statement_full : (said : Bool) (rules : Rules) (s : FileStatement) (c : List Symbol) → StatementOnce said rules s c → 1 ≤ length c
+  statement_full said rules s c d = kinds_filled file_kind (FileLine said) rules s c (of_file said rules s c d)
+
+  abbrev All : Bool → Rules → List FileStatement → Language
+  All = Each n is_package StatementOnce (file_statement_reader n) (reads_file_statement n) statement_full
+
+  abbrev said_behind : Bool → FileStatement → Bool
+  said_behind said s = if said then true else is_package s
+
+  -- what a statement adds
+  counted : (said : Bool) (s : FileStatement) → Once said s → count (said_behind said s) ≡ count said + length (packages_said s)
+  counted true (FileStatement.a_package p) (inl h) = absurd (false≢true (sym h))
+  counted true (FileStatement.a_package p) (inr h) = absurd (false≢true (sym h))
+  counted true FileStatement.nothing_said o = refl
+  counted true (FileStatement.an_import p f) o = refl
+  counted true (FileStatement.a_message m) o = refl
+  counted true (FileStatement.an_enum e) o = refl
+  counted true (FileStatement.a_service s) o = refl
+  counted false FileStatement.nothing_said o = refl
+  counted false (FileStatement.an_import p f) o = refl
+  counted false (FileStatement.a_package p) o = refl
+  counted false (FileStatement.a_message m) o = refl
+  counted false (FileStatement.an_enum e) o = refl
+  counted false (FileStatement.a_service s) o = refl
+
+  once : (said : Bool) (s : FileStatement) → count said + length (packages_said s) ≤ 1 → Once said s
+  once false s l = inl refl
+  once true (FileStatement.a_package p) l = absurd (omega arith)
+  once true FileStatement.nothing_said l = inr refl
+  once true (FileStatement.an_import p f) l = inr refl
+  once true (FileStatement.a_message m) l = inr refl
+  once true (FileStatement.an_enum e) l = inr refl
+  once true (FileStatement.a_service s) l = inr refl
+
+  at_most_one : (said : Bool) → count said ≤ 1
+  at_most_one true = omega arith
+  at_most_one false = omega arith
+
+  few : (rules : Rules) (said : Bool) (ss : List FileStatement) (c : List Symbol) → All said rules ss c → count said + length (all_said packages_said ss) ≤ 1
+  few rules said [] c d = let l = at_most_one said in omega arith
+  few rules said (s ∷ ss) c (a, b, ha, hb, j) =
+      let l = few rules (said_behind said s) ss b hb in
+      let e = counted said s ha.0 in
+      let k = length-append (packages_said s) (all_said packages_said ss) in
+      omega arith
+
+  to_until : (rules : Rules) (said : Bool) (ss : List FileStatement) (c : List Symbol) → All said rules ss c → Until (file_statement rules) nothing ss c
+  to_until rules said [] c d = d
+  to_until rules said (s ∷ ss) c (a, b, ha, hb, j) = (a, b, ha.1, to_until rules (said_behind said s) ss b hb, j)
+
+  of_until : (rules : Rules) (said : Bool) (ss : List FileStatement) (c : List Symbol) → count said + length (all_said packages_said ss) ≤ 1 → Until (file_statement rules) nothing ss c → All said rules ss c
+  of_until rules said [] c l d = d
+  of_until rules said (s ∷ ss) c l (a, b, ha, hb, j) =
+      let k = length-append (packages_said s) (all_said packages_said ss) in
+      let o : Once said s = once said s (omega arith) in
+      let e = counted said s o in
+      (a, b, (o, ha), of_until rules (said_behind said s) ss b (omega arith) hb, j)
+
+  -- the reader of files reads files, exactly
+  pub reads_file : Reads n always file (file_reader n)
+  unfolding file_reader
+  reads_file =
+      said_so {Q = file}
+      (reads_behind {L = syntax_line} reads_syntax (reads_to_end n is_package StatementOnce (file_statement_reader n) (reads_file_statement n) statement_full n (omega arith) false))
+      (λ rules ss c d. (let l = few rules false ss d.1 d.3 in omega arith, (d.0, d.1, d.2, to_until rules false ss d.1 d.3, d.4)))
+      (λ rules ss c d. (d.1.0, d.1.1, d.1.2, of_until rules false ss d.1.1 (let l = d.0 in omega arith) d.1.3, d.1.4))
+
+-- a file has a symbol
+pub file_not_empty : (rules : Rules) (ss : List FileStatement) → file rules ss [] → ⊥
+file_not_empty rules ss (l, (a, b, ha, hb, j)) = by_syntax a ha j
+  where
+    no_symbol : (s : Symbol) (x y z : List Symbol) → x ≡ s ∷ [] → [] ≡ (x ++ y) ++ z → ⊥
+    no_symbol s x y z e j = let f : [] ≡ s ∷ (y ++ z) = j ∙ ap (λ x. (x ++ y) ++ z) e in absurd (cc f)
+
+    by_syntax : (a : List Symbol) → syntax_line rules a → [] ≡ a ++ b → ⊥
+    by_syntax a (inl (x, y, hx, hy, i)) j = no_symbol (word (codes "syntax")) x y b hx (j ∙ ap (λ a. a ++ b) i)
+    by_syntax a (inr (r, s, t, (x, y, hx, hy, i))) j = no_symbol s x y b hx (j ∙ ap (λ a. a ++ b) i)

@@ -1,0 +1,372 @@
+-- Small files by their symbols: what they declare, or their fault, worked out by the rules.
+use Prim.Native.String.{String}
+use Rattle.std.proofs.Common.{◌≡◌, ℕ, zero, suc, ◌≤◌, List, [], ◌∷◌, ◌++◌, codes, refl, Option, Some, None, Err, lit≤, arith, false, true, pos, neg_ℤ}
+use Rattle.pb_schema.specs.Names.{entry_name}
+use Rattle.pb_descr.specs.Decls.{DeclaredField, DeclaredEnum, DeclaredMethod, DeclaredFile, DeclaredMessages, message as message_decl, no_messages, more_messages}
+use Rattle.pb_descr.specs.declared.decl.TypeCode.TheVariants as code
+use Rattle.pb_source.specs.declared.fault.Cause.TheVariants.{Unexpected, NumberTooLarge, CustomOption, NotProto3, NestedTooDeep}
+use Rattle.pb_source.specs.declared.kind.Label.TheVariants.{Unlabelled, Optional}
+use Rattle.pb_source.specs.declared.rule.Rule.{Rule}
+use Rattle.pb_source.specs.declared.rule.Rule.TheVariants.{NumbersFit as numbers_fit, OptionsKnown as options_known, SyntaxFirst as syntax_first, NestsBounded as nests_bounded}
+use Rattle.pb_source.specs.Symbols.{Symbol, word, number, text, sign}
+use Rattle.pb_source.specs.Integers.{integer_of}
+use Rattle.pb_source.specs.Language.{all_rules}
+use Rattle.pb_source.specs.Meaning.{FileStatement, MessageStatement, a_scalar, a_name, MapDecl, field_of, message_of}
+use Rattle.pb_source.specs.Grammar.{file, FileSyntax}
+use Rattle.pb_source.specs.SyntaxFault.{Fault, SyntaxFault}
+use Rattle.pb_source.specs.Readers.Forms.{Outcome}
+use Rattle.pb_source.specs.Readers.Lines.{name_reader, fullname_reader, typename_reader, limited_reader, signed_reader, plus_or_minus_reader, constant_reader, optname_reader, assignment_reader, option_reader, setting_reader, field_option_reader, options_reader, field_end_reader, value_end_reader, type_reader, key_reader, field_tail_reader, field_reader, map_tail_reader, dotted_reader, of_map_reader, map_reader, oneof_statement_reader, oneof_reader, range_reader, utf8_reader, reserved_reader, value_reader, enum_statement_reader, enum_reader, message_statement_reader, message_line_reader, last_statement_reader, room_statement_reader, streamed_reader, method_statement_reader, method_end_reader, parameter_reader, method_reader, service_statement_reader, service_reader, access_reader, import_reader, package_reader, file_statement_reader, syntax_reader, file_reader}
+use Rattle.pb_source.proofs.ToEnd.{always}
+use Rattle.pb_source.proofs.FaultLemmas.{refused_so, read_words}
+use Rattle.pb_source.proofs.FileLaws.{reads_file}
+
+-- ---- integers and names
+
+octal : integer_of (codes "010") ≡ Some 8
+octal = refl
+
+hexadecimal : integer_of (codes "0x1F") ≡ Some 31
+hexadecimal = refl
+
+only_zero : integer_of (codes "0") ≡ Some 0
+only_zero = refl
+
+no_octal_digit : integer_of (codes "08") ≡ None
+no_octal_digit = refl
+
+no_digits : integer_of (codes "0x") ≡ None
+no_digits = refl
+
+no_decimal : integer_of (codes "1a") ≡ None
+no_decimal = refl
+
+one_too_large : integer_of (codes "2147483648") ≡ Some 2147483648
+one_too_large = refl
+
+camel_case : entry_name (codes "my_map") ≡ codes "MyMapEntry"
+camel_case = refl
+
+-- ---- how files are read
+
+abbrev w : String → Symbol
+w s = word (codes s)
+
+abbrev m : String → Symbol
+m s = sign (codes s)
+
+abbrev d : String → Symbol
+d s = number (codes s)
+
+abbrev proto3 : List Symbol
+proto3 = w "syntax" ∷ m "=" ∷ text (codes "proto3") ∷ m ";" ∷ []
+
+-- the reader of files, with those of its lines
+opened : ℕ → List Symbol → Outcome (List FileStatement)
+unfolding
+    name_reader fullname_reader typename_reader limited_reader signed_reader plus_or_minus_reader constant_reader optname_reader assignment_reader option_reader setting_reader
+    field_option_reader options_reader field_end_reader value_end_reader type_reader key_reader field_tail_reader field_reader map_tail_reader dotted_reader of_map_reader map_reader
+    oneof_statement_reader oneof_reader range_reader utf8_reader reserved_reader value_reader enum_statement_reader enum_reader message_statement_reader message_line_reader
+    last_statement_reader room_statement_reader streamed_reader method_statement_reader method_end_reader parameter_reader method_reader service_statement_reader service_reader
+    access_reader import_reader package_reader file_statement_reader syntax_reader file_reader
+opened n ts = file_reader n all_rules ts
+
+abbrev sucs : ℕ → ℕ → ℕ
+sucs zero n = n
+sucs (suc k) n = suc (sucs k n)
+
+at_least : (P : ℕ → Type 0) (k : ℕ) → ((n : ℕ) → P (sucs k n)) → (n : ℕ) → k ≤ n → P n
+at_least P zero f n l = f n
+at_least P (suc k) f zero l = absurd (omega arith)
+at_least P (suc k) f (suc n) l = at_least (λ n. P (suc n)) k f n (omega arith)
+
+-- ---- files
+
+-- int32 NAME = 1;
+abbrev int_field : String → List Symbol
+int_field name = w "int32" ∷ w name ∷ m "=" ∷ d "1" ∷ m ";" ∷ []
+
+abbrev plain_field : String → DeclaredField
+plain_field name = field_of Unlabelled (a_scalar code.Int32) (codes name) 1 None
+
+-- message M { .. }, with these fields
+abbrev of_fields : List DeclaredField → DeclaredMessages → DeclaredFile
+of_fields fs inner = record {
+  name = codes "m.proto";
+  package_name = [];
+  imports = [];
+  public_indexes = [];
+  messages = more_messages (message_decl (record { name = codes "M"; fields = fs; enums = []; oneofs = []; reserved = []; reserved_names = []; is_entry = false }) inner) no_messages;
+  enums = [];
+  services = [];
+}
+
+abbrev in_message : List Symbol → List Symbol
+in_message ts = proto3 ++ w "message" ∷ w "M" ∷ m "{" ∷ (ts ++ m "}" ∷ [])
+
+-- syntax = "proto3"; message M { int32 a = 1; }
+one_field : FileSyntax (codes "m.proto") (in_message (int_field "a")) (of_fields (plain_field "a" ∷ []) no_messages)
+unfolding opened
+one_field = (
+  FileStatement.a_message (message_of (codes "M") (MessageStatement.a_field (plain_field "a") ∷ [])) ∷ [],
+  read_words always file file_reader reads_file (in_message (int_field "a")) (FileStatement.a_message (message_of (codes "M") (MessageStatement.a_field (plain_field "a") ∷ [])) ∷ []) 20 (lit≤ tt) refl,
+  refl,
+)
+
+-- a field may be named by any word: int32 message = 1;
+named_message : FileSyntax (codes "m.proto") (in_message (int_field "message")) (of_fields (plain_field "message" ∷ []) no_messages)
+unfolding opened
+named_message = (
+  FileStatement.a_message (message_of (codes "M") (MessageStatement.a_field (plain_field "message") ∷ [])) ∷ [],
+  read_words always file file_reader reads_file (in_message (int_field "message")) (FileStatement.a_message (message_of (codes "M") (MessageStatement.a_field (plain_field "message") ∷ [])) ∷ []) 20 (lit≤ tt) refl,
+  refl,
+)
+
+-- optional int32 a = 1; stands in a oneof of its own
+an_optional : FileSyntax (codes "m.proto") (in_message (w "optional" ∷ int_field "a")) (record {
+  name = codes "m.proto";
+  package_name = [];
+  imports = [];
+  public_indexes = [];
+  messages = more_messages
+      (message_decl
+      (record {
+        name = codes "M";
+        fields = record { name = codes "a"; number = pos 1; is_repeated = false; type_code = Some code.Int32; type_name = None; packed = None; oneof = Some (pos 0); is_optional = true } ∷ [];
+        enums = [];
+        oneofs = codes "_a" ∷ [];
+        reserved = [];
+        reserved_names = [];
+        is_entry = false;
+      })
+      no_messages)
+      no_messages;
+  enums = [];
+  services = [];
+})
+unfolding opened
+an_optional = (
+  FileStatement.a_message (message_of (codes "M") (MessageStatement.a_field (field_of Optional (a_scalar code.Int32) (codes "a") 1 None) ∷ [])) ∷ [],
+  read_words always file file_reader reads_file (in_message (w "optional" ∷ int_field "a"))
+      (FileStatement.a_message (message_of (codes "M") (MessageStatement.a_field (field_of Optional (a_scalar code.Int32) (codes "a") 1 None) ∷ [])) ∷ []) 20 (lit≤ tt) refl,
+  refl,
+)
+
+abbrev my_map : MapDecl
+my_map = record { key = code.Text; value = a_scalar code.Int32; name = codes "my_map"; number = 9; packed = None }
+
+abbrev map_symbols : List Symbol
+map_symbols = w "map" ∷ m "<" ∷ w "string" ∷ m "," ∷ w "int32" ∷ m ">" ∷ w "my_map" ∷ m "=" ∷ d "9" ∷ m ";" ∷ []
+
+-- map<string, int32> my_map = 9; has the entry M.MyMapEntry
+a_map : FileSyntax (codes "m.proto") (in_message map_symbols)
+    (of_fields
+    (record { name = codes "my_map"; number = pos 9; is_repeated = true; type_code = Some code.Message; type_name = Some (codes ".M.MyMapEntry"); packed = None; oneof = None; is_optional = false } ∷ [])
+    (more_messages
+    (message_decl
+    (record {
+      name = codes "MyMapEntry";
+      fields = field_of Unlabelled (a_scalar code.Text) (codes "key") 1 None ∷ field_of Unlabelled (a_scalar code.Int32) (codes "value") 2 None ∷ [];
+      enums = [];
+      oneofs = [];
+      reserved = [];
+      reserved_names = [];
+      is_entry = true;
+    })
+    no_messages)
+    no_messages))
+unfolding opened
+a_map = (
+  FileStatement.a_message (message_of (codes "M") (MessageStatement.a_map my_map ∷ [])) ∷ [],
+  read_words always file file_reader reads_file (in_message map_symbols) (FileStatement.a_message (message_of (codes "M") (MessageStatement.a_map my_map ∷ [])) ∷ []) 30 (lit≤ tt) refl,
+  refl,
+)
+
+-- a field of a type named by the word `map`: map.a b = 1;
+abbrev of_map : List Symbol
+of_map = w "map" ∷ m "." ∷ w "a" ∷ w "b" ∷ m "=" ∷ d "1" ∷ m ";" ∷ []
+
+a_type_map : FileSyntax (codes "m.proto") (in_message of_map) (of_fields (field_of Unlabelled (a_name (codes "map.a")) (codes "b") 1 None ∷ []) no_messages)
+unfolding opened
+a_type_map = (
+  FileStatement.a_message (message_of (codes "M") (MessageStatement.a_field (field_of Unlabelled (a_name (codes "map.a")) (codes "b") 1 None) ∷ [])) ∷ [],
+  read_words always file file_reader reads_file (in_message of_map)
+      (FileStatement.a_message (message_of (codes "M") (MessageStatement.a_field (field_of Unlabelled (a_name (codes "map.a")) (codes "b") 1 None) ∷ [])) ∷ []) 20 (lit≤ tt) refl,
+  refl,
+)
+
+-- reserved 5, 7 to 9, max stands for the greatest end
+abbrev ranges : List Symbol
+ranges = w "reserved" ∷ d "5" ∷ m "," ∷ d "7" ∷ w "to" ∷ d "9" ∷ m "," ∷ d "12" ∷ w "to" ∷ w "max" ∷ m ";" ∷ []
+
+reserved_ranges : FileSyntax (codes "m.proto") (in_message ranges) (record {
+  name = codes "m.proto";
+  package_name = [];
+  imports = [];
+  public_indexes = [];
+  messages = more_messages
+      (message_decl
+      (record {
+        name = codes "M";
+        fields = [];
+        enums = [];
+        oneofs = [];
+        reserved = (pos 5, pos 6) ∷ (pos 7, pos 10) ∷ (pos 12, pos 536870912) ∷ [];
+        reserved_names = [];
+        is_entry = false;
+      })
+      no_messages)
+      no_messages;
+  enums = [];
+  services = [];
+})
+unfolding opened
+reserved_ranges = (
+  FileStatement.a_message (message_of (codes "M") (MessageStatement.reserved_ranges ((pos 5, pos 6) ∷ (pos 7, pos 10) ∷ (pos 12, pos 536870912) ∷ []) ∷ [])) ∷ [],
+  read_words always file file_reader reads_file (in_message ranges)
+      (FileStatement.a_message (message_of (codes "M") (MessageStatement.reserved_ranges ((pos 5, pos 6) ∷ (pos 7, pos 10) ∷ (pos 12, pos 536870912) ∷ []) ∷ [])) ∷ []) 30 (lit≤ tt) refl,
+  refl,
+)
+
+-- ---- faults, told by the reader and so by the definitions
+
+-- the reader refuses so, however far it may go
+abbrev Refuses : List Symbol → List Symbol → Option Rule → ℕ → Type 0
+Refuses ts rest why n = file_reader n all_rules ts ≡ Err (rest, why)
+
+-- syntax = "proto2";
+abbrev proto2 : List Symbol
+proto2 = w "syntax" ∷ m "=" ∷ text (codes "proto2") ∷ m ";" ∷ []
+
+another_syntax : SyntaxFault proto2 2 NotProto3
+unfolding opened
+another_syntax =
+    refused_so always file file_reader reads_file proto2 (text (codes "proto2") ∷ m ";" ∷ []) (Some syntax_first) (λ e. cc e)
+    (at_least (Refuses proto2 (text (codes "proto2") ∷ m ";" ∷ []) (Some syntax_first)) 4 (λ n. refl))
+
+no_symbols : SyntaxFault [] 0 NotProto3
+no_symbols = Fault.no_symbols refl
+
+-- int32 a = 1 [(x) = 1];
+abbrev custom : List Symbol
+custom = m "(" ∷ w "x" ∷ m ")" ∷ m "=" ∷ d "1" ∷ m "]" ∷ m ";" ∷ m "}" ∷ []
+
+abbrev with_custom : List Symbol
+with_custom = proto3 ++ w "message" ∷ w "M" ∷ m "{" ∷ w "int32" ∷ w "a" ∷ m "=" ∷ d "1" ∷ m "[" ∷ custom
+
+a_parenthesis : SyntaxFault with_custom 12 CustomOption
+unfolding opened
+a_parenthesis =
+    refused_so always file file_reader reads_file with_custom custom (Some options_known) (λ e. cc e) (at_least (Refuses with_custom custom (Some options_known)) 20 (λ n. refl))
+
+-- int32 a = NUMBER;
+abbrev numbered : String → List Symbol
+numbered s = proto3 ++ w "message" ∷ w "M" ∷ m "{" ∷ w "int32" ∷ w "a" ∷ m "=" ∷ d s ∷ m ";" ∷ m "}" ∷ []
+
+too_large : SyntaxFault (numbered "2147483648") 10 NumberTooLarge
+unfolding opened
+too_large =
+    refused_so always file file_reader reads_file (numbered "2147483648") (d "2147483648" ∷ m ";" ∷ m "}" ∷ []) (Some numbers_fit) (λ e. cc e)
+    (at_least (Refuses (numbered "2147483648") (d "2147483648" ∷ m ";" ∷ m "}" ∷ []) (Some numbers_fit)) 13 (λ n. refl))
+
+no_integer : SyntaxFault (numbered "08") 10 Unexpected
+unfolding opened
+no_integer =
+    refused_so always file file_reader reads_file (numbered "08") (d "08" ∷ m ";" ∷ m "}" ∷ []) None (λ e. cc e)
+    (at_least (Refuses (numbered "08") (d "08" ∷ m ";" ∷ m "}" ∷ []) None) 13 (λ n. refl))
+
+-- message M { required int32 a = 1; }
+abbrev labelled : List Symbol
+labelled = w "required" ∷ (int_field "a" ++ m "}" ∷ [])
+
+no_label : SyntaxFault (proto3 ++ w "message" ∷ w "M" ∷ m "{" ∷ labelled) 7 Unexpected
+unfolding opened
+no_label =
+    refused_so always file file_reader reads_file (proto3 ++ w "message" ∷ w "M" ∷ m "{" ∷ labelled) labelled None (λ e. cc e)
+    (at_least (Refuses (proto3 ++ w "message" ∷ w "M" ∷ m "{" ∷ labelled) labelled None) 14 (λ n. refl))
+
+-- a second package
+abbrev package_a : List Symbol
+package_a = w "package" ∷ w "a" ∷ m ";" ∷ []
+
+two_packages : SyntaxFault (proto3 ++ package_a ++ package_a) 7 Unexpected
+unfolding opened
+two_packages =
+    refused_so always file file_reader reads_file (proto3 ++ package_a ++ package_a) package_a None (λ e. cc e) (at_least (Refuses (proto3 ++ package_a ++ package_a) package_a None) 10 (λ n. refl))
+
+-- a message that is not closed
+open_message : SyntaxFault (proto3 ++ w "message" ∷ w "M" ∷ m "{" ∷ []) 7 Unexpected
+unfolding opened
+open_message =
+    refused_so always file file_reader reads_file (proto3 ++ w "message" ∷ w "M" ∷ m "{" ∷ []) [] None (λ e. cc e) (at_least (Refuses (proto3 ++ w "message" ∷ w "M" ∷ m "{" ∷ []) [] None) 7 (λ n. refl))
+
+-- `default` begins no option of a field
+abbrev defaults : List Symbol
+defaults = w "default" ∷ m "=" ∷ d "1" ∷ m "]" ∷ m ";" ∷ m "}" ∷ []
+
+abbrev with_default : List Symbol
+with_default = proto3 ++ w "message" ∷ w "M" ∷ m "{" ∷ w "int32" ∷ w "a" ∷ m "=" ∷ d "1" ∷ m "[" ∷ defaults
+
+no_default : SyntaxFault with_default 12 Unexpected
+unfolding opened
+no_default = refused_so always file file_reader reads_file with_default defaults None (λ e. cc e) (at_least (Refuses with_default defaults None) 18 (λ n. refl))
+
+-- so many messages, each in the one before
+abbrev nested : ℕ → List Symbol → List Symbol
+nested zero ts = ts
+nested (suc k) ts = w "message" ∷ w "A" ∷ m "{" ∷ nested k ts
+
+-- the 65th message of a nest
+a_deep_nest : SyntaxFault (proto3 ++ nested 64 (nested 1 [])) 196 NestedTooDeep
+unfolding opened
+a_deep_nest =
+    refused_so always file file_reader reads_file (proto3 ++ nested 64 (nested 1 [])) (nested 1 []) (Some nests_bounded) (λ e. cc e)
+    (at_least (Refuses (proto3 ++ nested 64 (nested 1 [])) (nested 1 []) (Some nests_bounded)) 199 (λ n. refl))
+
+-- service S { rpc r(stream A) returns (.p.B) { ; } }
+abbrev a_service : List Symbol
+a_service =
+    w "service" ∷ w "S" ∷ m "{" ∷ w "rpc" ∷ w "r" ∷ m "(" ∷ w "stream" ∷ w "A" ∷ m ")" ∷ w "returns" ∷ m "(" ∷ m "." ∷ w "p" ∷ m "." ∷ w "B" ∷ m ")" ∷ m "{" ∷ m ";" ∷ m "}" ∷ m "}" ∷ []
+
+abbrev a_method : DeclaredMethod
+a_method = record { name = codes "r"; input = codes "A"; output = codes ".p.B"; client_streams = true; server_streams = false }
+
+streams : FileSyntax (codes "m.proto") (proto3 ++ package_a ++ a_service) (record {
+  name = codes "m.proto";
+  package_name = codes "a";
+  imports = [];
+  public_indexes = [];
+  messages = no_messages;
+  enums = [];
+  services = record { name = codes "S"; methods = a_method ∷ [] } ∷ [];
+})
+unfolding opened
+streams = (
+  FileStatement.a_package (codes "a") ∷ FileStatement.a_service (record { name = codes "S"; methods = a_method ∷ [] }) ∷ [],
+  read_words always file file_reader reads_file (proto3 ++ package_a ++ a_service)
+      (FileStatement.a_package (codes "a") ∷ FileStatement.a_service (record { name = codes "S"; methods = a_method ∷ [] }) ∷ []) 40 (lit≤ tt) refl,
+  refl,
+)
+
+-- enum E { option allow_alias = true; A = 0; B = -0x80000000; }
+abbrev an_enum : List Symbol
+an_enum =
+    w "enum" ∷ w "E" ∷ m "{" ∷ w "option" ∷ w "allow_alias" ∷ m "=" ∷ w "true" ∷ m ";" ∷ w "A" ∷ m "=" ∷ d "0" ∷ m ";" ∷ w "B" ∷ m "=" ∷ m "-" ∷ d "0x80000000" ∷ m ";" ∷ m "}" ∷ []
+
+abbrev values : DeclaredEnum
+values = record { name = codes "E"; values = (codes "A", pos 0) ∷ (codes "B", neg_ℤ (pos 2147483648)) ∷ []; allows_alias = true; reserved = []; reserved_names = [] }
+
+aliases : FileSyntax (codes "m.proto") (proto3 ++ an_enum) (record {
+  name = codes "m.proto";
+  package_name = [];
+  imports = [];
+  public_indexes = [];
+  messages = no_messages;
+  enums = values ∷ [];
+  services = [];
+})
+unfolding opened
+aliases = (
+  FileStatement.an_enum values ∷ [],
+  read_words always file file_reader reads_file (proto3 ++ an_enum) (FileStatement.an_enum values ∷ []) 40 (lit≤ tt) refl,
+  refl,
+)

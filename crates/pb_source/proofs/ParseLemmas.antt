@@ -1,0 +1,96 @@
+-- What is told of a source is its declaration, or its fault and no other.
+use Rattle.std.proofs.Common.{◌≡◌, ℕ, zero, suc, ◌^◌, ◌-◌, ◌<◌, ◌≤◌, List, [], ◌∷◌, length, get_or, refl, ap, sym, ◌∙◌, subst, Ok, arith, ◌⊎◌, inl, inr, IsUtf8}
+use Rattle.pb_descr.specs.Decls.{DeclaredFile}
+use Rattle.pb_source.specs.declared.fault.Cause.{Cause}
+use Rattle.pb_source.specs.declared.fault.SourceFault.{SourceFault}
+use Rattle.pb_source.specs.declared.refusal.Refusal.{Refusal}
+use Rattle.pb_source.specs.declared.refusal.Refusal.TheVariants as refusal
+use Rattle.pb_source.specs.declared.symbol.Placed.{Placed}
+use Rattle.pb_source.specs.Fault.{fault, out_of_memory}
+use Rattle.pb_source.specs.Tokens.{LexFault}
+use Rattle.pb_source.specs.SymbolView.{symbols_of, HasSymbols}
+use Rattle.pb_source.specs.Language.{all_rules}
+use Rattle.pb_source.specs.Meaning.{file_of}
+use Rattle.pb_source.specs.Source.{place_in, IsSource, HasFault}
+use Rattle.pb_source.specs.Readers.Forms.{mapped}
+use Rattle.pb_source.specs.Readers.Lines.{file_reader}
+use Rattle.pb_source.specs.Readers.Given.{symbols_from, Fails, fault_at}
+use Rattle.pb_source.proofs.SourceLaws.{reads_all, refuses_at, is_source, only_source, no_fault, has_fault, only_fault, no_source, token_only, token_no_source}
+
+-- ---- what is told
+
+-- the declaration of the bytes, which have no other, and no fault
+pub record Declared (name bytes : List ℕ) (d : DeclaredFile) : Type 0 where
+  pub source : IsSource name bytes d
+  pub only : (e : DeclaredFile) → IsSource name bytes e → d ≡ e
+  pub none : (place : ℕ) (c : Cause) → HasFault bytes place c → ⊥
+
+-- the fault of the bytes, which have no other, and declare nothing
+pub record Faulty (bytes : List ℕ) (e : SourceFault) : Type 0 where
+  pub fault : HasFault bytes e.byte e.cause
+  pub only : (place : ℕ) (c : Cause) → HasFault bytes place c → (place ≡ e.byte) × (c ≡ e.cause)
+  pub none : (name : List ℕ) (d : DeclaredFile) → IsSource name bytes d → ⊥
+
+abbrev pub Told : List ℕ → SourceFault → Type 0
+Told bytes e = (e ≡ out_of_memory) ⊎ Faulty bytes e
+
+module _ (bytes : List ℕ) (e : SourceFault) where
+  pub told_fault : Told bytes e → (e ≡ out_of_memory) ⊎ HasFault bytes e.byte e.cause
+  told_fault (inl m) = inl m
+  told_fault (inr f) = inr f.fault
+
+  pub told_nothing : (name : List ℕ) (d : DeclaredFile) → IsSource name bytes d → Told bytes e → e ≡ out_of_memory
+  told_nothing name d s (inl m) = m
+  told_nothing name d s (inr f) = absurd (f.none name d s)
+
+  pub told_only : (place : ℕ) (c : Cause) → HasFault bytes place c → Told bytes e → (e ≡ fault place c) ⊎ (e ≡ out_of_memory)
+  told_only place c h (inl m) = inr m
+  told_only place c h (inr f) = let x = f.only place c h in inl (ap (λ p. fault p e.cause) (sym x.0) ∙ ap (λ c. fault place c) (sym x.1))
+
+-- ---- by the parts of `parse`
+
+module _ (bytes t : List ℕ) (same : t ≡ bytes) (size : length bytes ≤ 2 ^ 31 - 1) (valid : IsUtf8 bytes) where
+  pub token_told : (e : SourceFault) → (e ≡ out_of_memory) ⊎ LexFault t e.byte e.cause → Told bytes e
+  token_told e (inl m) = inl m
+  token_told e (inr f) =
+      let g : LexFault bytes e.byte e.cause = subst (λ t. LexFault t e.byte e.cause) same f in
+      inr (record {
+        fault = HasFault.in_token size valid g;
+        only = token_only bytes size valid e.byte e.cause g;
+        none = token_no_source bytes e.byte e.cause g;
+      })
+
+  pub declared : (name : List ℕ) (ps : List Placed) (d : DeclaredFile) → HasSymbols t (symbols_of ps)
+      → mapped (file_of name) (file_reader (length ps)) all_rules (symbols_from ps 0) ≡ Ok (d, symbols_from ps (length ps)) → Declared name bytes d
+  declared name ps d has h =
+      let there : HasSymbols bytes (symbols_of ps) = subst (λ t. HasSymbols t (symbols_of ps)) same has in
+      let r = reads_all name ps d h in
+      record {
+        source = subst (IsSource name bytes) (sym r.2) (is_source bytes size valid ps there name r.0 r.1);
+        only = λ e s. r.2 ∙ sym (only_source bytes size valid ps there name r.0 r.1 e s);
+        none = no_fault bytes size valid ps there r.0 r.1;
+      }
+
+  pub refusal_told : (name : List ℕ) (ps : List Placed) (r : Refusal) → HasSymbols t (symbols_of ps)
+      → ((n : ℕ) → length ps ≤ n → Fails ps r (mapped (file_of name) (file_reader n) all_rules (symbols_from ps 0))) → Told bytes (fault_at ps (length bytes) r)
+  refusal_told name ps refusal.Memory has h = inl refl
+  refusal_told name ps (refusal.At at rule) has h =
+      let there : HasSymbols bytes (symbols_of ps) = subst (λ t. HasSymbols t (symbols_of ps)) same has in
+      let r = refuses_at name ps at rule h in
+      inr (record {
+        fault = has_fault bytes size valid ps there at rule r;
+        only = only_fault bytes size valid ps there at rule r;
+        none = λ name d s. no_source bytes size valid ps there name at rule r d s;
+      })
+
+-- ---- where a placed symbol stands
+
+pub place_there : (ps : List Placed) (end k : ℕ) (d p : Placed) → k < length ps → p ≡ get_or ps k d → p.at ≡ place_in (symbols_of ps) end k
+place_there [] end k d p l h = absurd (omega arith)
+place_there (q ∷ ps) end zero d p l h = ap (λ p. p.at) h
+place_there (q ∷ ps) end (suc k) d p l h = place_there ps end k d p (omega arith) h
+
+pub place_past : (ps : List Placed) (end k : ℕ) → length ps ≤ k → end ≡ place_in (symbols_of ps) end k
+place_past [] end k l = refl
+place_past (q ∷ ps) end zero l = absurd (omega arith)
+place_past (q ∷ ps) end (suc k) l = place_past ps end k (omega arith)

@@ -1,0 +1,260 @@
+-- What the reader of files gives on the symbols of a source is the source's declaration or its fault, and nothing else is.
+use Rattle.std.proofs.Common.{◌≡◌, ℕ, zero, suc, ◌^◌, ◌-◌, ◌<◌, ◌≤◌, List, [], ◌∷◌, length, drop, refl, ap, sym, ◌∙◌, subst, length-drop, take, Option, Ok, Err, arith, inl, inr, IsUtf8}
+use Rattle.std.proofs.lemmas.Bool.{cases_lt}
+use Rattle.std.proofs.lemmas.List.{length-map, take-append-drop}
+use Rattle.std.specs.Str.Lossy.{utf8_valid_len}
+use Rattle.pb_descr.specs.Decls.{DeclaredFile}
+use Rattle.pb_source.specs.declared.fault.Cause.{Cause}
+use Rattle.pb_source.specs.declared.fault.Cause.TheVariants.{SourceTooLarge, BadUtf8, NotProto3}
+use Rattle.pb_source.specs.declared.rule.Rule.{Rule}
+use Rattle.pb_source.specs.declared.symbol.Placed.{Placed}
+use Rattle.pb_source.specs.Tokens.{LexFault}
+use Rattle.pb_source.specs.Symbols.{Symbol, PlacedSymbol}
+use Rattle.pb_source.specs.SymbolView.{symbol_of, placed_of, symbols_of, HasSymbols}
+use Rattle.pb_source.specs.Language.{all_rules, Begins}
+use Rattle.pb_source.specs.Meaning.{FileStatement, file_of}
+use Rattle.pb_source.specs.Grammar.{file}
+use Rattle.pb_source.specs.SyntaxFault.{Fault, SyntaxFault}
+use Rattle.pb_source.specs.Source.{symbols_alone, place_in, IsSource, HasFault}
+use Rattle.pb_source.specs.Readers.Forms.{Outcome, on_outcome, answer, mapped}
+use Rattle.pb_source.specs.Readers.Lines.{file_reader}
+use Rattle.pb_source.specs.Readers.Given.{symbols_from, cause_at}
+use Rattle.pb_source.proofs.ToEnd.{always}
+use Rattle.pb_source.proofs.FaultLemmas.{refused_so, only_so, words_read, read_words}
+use Rattle.pb_source.proofs.FileLaws.{reads_file, file_not_empty}
+use Rattle.pb_source.proofs.OneLexing.{one_fault, not_both}
+use Rattle.pb_source.proofs.OneReading.{one_source, no_symbols}
+
+-- ---- symbols and their places
+
+alone_is : (ps : List Placed) → symbols_alone (symbols_of ps) ≡ symbols_from ps 0
+alone_is [] = refl
+alone_is (p ∷ ps) = ap (λ ts. symbol_of p.symbol ∷ ts) (alone_is ps)
+
+length_from : (ps : List Placed) (at : ℕ) → length (symbols_from ps at) ≡ length ps - at
+length_from ps at = length-map (drop at ps) (λ p. symbol_of p.symbol) ∙ length-drop at ps
+
+-- behind the last symbol is the end
+place_behind : (ss : List PlacedSymbol) (end k : ℕ) → length ss ≤ k → place_in ss end k ≡ end
+place_behind [] end k l = refl
+place_behind (s ∷ ss) end zero l = absurd (omega arith)
+place_behind (s ∷ ss) end (suc k) l = place_behind ss end k (omega arith)
+
+same_place : (ps : List Placed) (end at : ℕ) → place_in (symbols_of ps) end (length (symbols_from ps 0) - length (symbols_from ps at)) ≡ place_in (symbols_of ps) end at
+same_place ps end at = by_order (length ps) (length-map ps placed_of) (length_from ps 0) (length_from ps at)
+  where
+    by_order : (n : ℕ) → length (symbols_of ps) ≡ n → length (symbols_from ps 0) ≡ n - 0 → length (symbols_from ps at) ≡ n - at
+        → place_in (symbols_of ps) end (length (symbols_from ps 0) - length (symbols_from ps at)) ≡ place_in (symbols_of ps) end at
+    by_order n a b c =
+        elim (cases_lt at n) [
+          | inl l ↦ ap (place_in (symbols_of ps) end) (let e : length (symbols_from ps 0) - length (symbols_from ps at) ≡ at = omega arith in e)
+          | inr l ↦ place_behind (symbols_of ps) end (length (symbols_from ps 0) - length (symbols_from ps at)) (omega arith) ∙ sym (place_behind (symbols_of ps) end at (omega arith))
+        ]
+
+abbrev Bytes : Type 0
+Bytes = List ℕ
+
+-- a source has one list of symbols
+same_symbols : (bytes : Bytes) (ps : List Placed) (ss : List PlacedSymbol) → HasSymbols bytes (symbols_of ps) → HasSymbols bytes ss → symbols_alone ss ≡ symbols_from ps 0
+same_symbols bytes ps ss (ts, a, b) h = ap symbols_alone (sym (one_source bytes ts (symbols_of ps) ss a b h)) ∙ alone_is ps
+
+-- ---- sources that are read
+
+-- however far the reader may go, it reads these statements, and nothing is left
+abbrev pub ReadsAll : List Placed → List FileStatement → Type 0
+ReadsAll ps ss = (n : ℕ) → length ps ≤ n → file_reader n all_rules (symbols_from ps 0) ≡ Ok (ss, [])
+
+-- or it refuses the symbol of this index
+abbrev pub RefusesAt : List Placed → ℕ → Option Rule → Type 0
+RefusesAt ps at rule = (n : ℕ) → length ps ≤ n → file_reader n all_rules (symbols_from ps 0) ≡ Err (symbols_from ps at, rule)
+
+module _ (bytes : Bytes) (size : length bytes ≤ 2 ^ 31 - 1) (valid : IsUtf8 bytes) (ps : List Placed) (has : HasSymbols bytes (symbols_of ps)) where
+  enough : (n : ℕ) → length (symbols_from ps 0) ≤ n → length ps ≤ n
+  enough n l = let e = length_from ps 0 in omega arith
+
+  room : length (symbols_from ps 0) ≤ length ps
+  room = let e = length_from ps 0 in omega arith
+
+  pub is_source : (name : Bytes) (ss : List FileStatement) → ReadsAll ps ss → IsSource name bytes (file_of name ss)
+  is_source name ss h = record {
+    size = size;
+    valid = valid;
+    tokens = has.0;
+    lexed = has.1;
+    symbols = symbols_of ps;
+    read = has.2;
+    means = (
+      ss,
+      subst (file all_rules ss) (sym (alone_is ps)) (read_words always file file_reader reads_file (symbols_from ps 0) ss (length ps) room (h (length ps) (omega arith))),
+      refl,
+    );
+  }
+
+  -- what a source means was read
+  was_read : (name : Bytes) (d : DeclaredFile) → IsSource name bytes d → (ss : List FileStatement) × (file_reader (length ps) all_rules (symbols_from ps 0) ≡ Ok (ss, [])) × (d ≡ file_of name ss)
+  was_read name d s =
+      let e = same_symbols bytes ps s.symbols has (s.tokens, s.lexed, s.read) in
+      (s.means.0, words_read always file file_reader reads_file (symbols_from ps 0) s.means.0 (length ps) room (subst (file all_rules s.means.0) e s.means.1), s.means.2)
+
+  pub only_source : (name : Bytes) (ss : List FileStatement) → ReadsAll ps ss → (d : DeclaredFile) → IsSource name bytes d → d ≡ file_of name ss
+  only_source name ss h d s =
+      let w = was_read name d s in
+      let e : w.0 ≡ ss = same (w.1) (h (length ps) (omega arith)) in
+      w.2 ∙ ap (file_of name) e
+    where
+      same : {o : Outcome (List FileStatement)} {x y : List FileStatement} → o ≡ Ok (x, []) → o ≡ Ok (y, []) → x ≡ y
+      same {o} {x} {y} h k = let e : ◌≡◌ {A = List FileStatement × List Symbol} (x, []) (y, []) = cc (h, k) in ap (λ z. z.0) e
+
+  pub no_source : (name : Bytes) (at : ℕ) (rule : Option Rule) → RefusesAt ps at rule → (d : DeclaredFile) → IsSource name bytes d → ⊥
+  no_source name at rule h d s = let w = was_read name d s in apart w.1 (h (length ps) (omega arith))
+    where
+      apart : {o : Outcome (List FileStatement)} {x : List FileStatement × List Symbol} {y : List Symbol × Option Rule} → o ≡ Ok x → o ≡ Err y → ⊥
+      apart h k = cc (h, k)
+
+  -- ---- faults
+
+  -- the fault of a source that has symbols is that of its symbols
+  data InSymbols (place : ℕ) (c : Cause) : Type 0 where
+    in_symbols : (k : ℕ) → place ≡ place_in (symbols_of ps) (length bytes) k → SyntaxFault (symbols_from ps 0) k c → InSymbols place c
+
+  symbols_fault : (place : ℕ) (c : Cause) → HasFault bytes place c → InSymbols place c
+  symbols_fault place c (HasFault.too_large l) = absurd (omega arith)
+  symbols_fault place c (HasFault.bad_utf8 l h) = absurd (h valid)
+  symbols_fault place c (HasFault.in_token l v f) = absurd (no_symbols bytes place c (symbols_of ps) f has)
+  symbols_fault place c (HasFault.in_syntax {ts} {ss} {k} l v a b f) =
+      let e : symbols_of ps ≡ ss = sym (one_source bytes ts ss (symbols_of ps) a b has) in
+      InSymbols.in_symbols k (ap (λ ss. place_in ss (length bytes) k) (sym e)) (subst (λ ts. SyntaxFault ts k c) (same_symbols bytes ps ss has (ts, a, b)) f)
+
+  no_end : (ss : List FileStatement) → ReadsAll ps ss → ((v : List FileStatement) → ¬ file all_rules v (symbols_from ps 0)) → ⊥
+  no_end ss h none = none ss (read_words always file file_reader reads_file (symbols_from ps 0) ss (length ps) room (h (length ps) (omega arith)))
+
+  -- what is read begins a file, with each of its symbols
+  begins_all : (ss : List FileStatement) → ReadsAll ps ss → (k : ℕ) → Begins (file all_rules) (take k (symbols_from ps 0))
+  begins_all ss h k = (
+    ss,
+    drop k (symbols_from ps 0),
+    subst (file all_rules ss) (sym (take-append-drop k (symbols_from ps 0)))
+        (read_words always file file_reader reads_file (symbols_from ps 0) ss (length ps) room (h (length ps) (omega arith))),
+  )
+
+  no_syntax_fault : (ss : List FileStatement) → ReadsAll ps ss → (k : ℕ) (c : Cause) → SyntaxFault (symbols_from ps 0) k c → ⊥
+  no_syntax_fault ss h k c (Fault.no_symbols e) = no_end_of (symbols_from ps 0) e (read_words always file file_reader reads_file (symbols_from ps 0) ss (length ps) room (h (length ps) (omega arith)))
+    where
+      -- a file has a symbol
+      no_end_of : (ts : List Symbol) → ts ≡ [] → file all_rules ss ts → ⊥
+      no_end_of ts e d = not_empty (subst (file all_rules ss) e d)
+        where
+          not_empty : file all_rules ss [] → ⊥
+          not_empty d = file_not_empty all_rules ss d
+  no_syntax_fault ss h k c (Fault.at_end some b none) = no_end ss h none
+  no_syntax_fault ss h k c (Fault.at_symbol l b never w) = never (begins_all ss h (suc k))
+
+  pub no_fault : (ss : List FileStatement) → ReadsAll ps ss → (place : ℕ) (c : Cause) → HasFault bytes place c → ⊥
+  no_fault ss h place c f = on_symbols (symbols_fault place c f)
+    where
+      on_symbols : InSymbols place c → ⊥
+      on_symbols (InSymbols.in_symbols k e g) = no_syntax_fault ss h k c g
+
+  -- the refusal's fault, and no other
+  pub syntax_fault : (at : ℕ) (rule : Option Rule) → RefusesAt ps at rule → SyntaxFault (symbols_from ps 0) (length (symbols_from ps 0) - length (symbols_from ps at)) (cause_at ps rule)
+  syntax_fault at rule h = by_symbols ps h
+    where
+      by_symbols : (qs : List Placed) → RefusesAt qs at rule → SyntaxFault (symbols_from qs 0) (length (symbols_from qs 0) - length (symbols_from qs at)) (cause_at qs rule)
+      by_symbols [] h = subst (λ k. SyntaxFault [] k NotProto3) (let e = length_from [] at in omega arith) (Fault.no_symbols refl)
+      by_symbols (q ∷ qs) h =
+          refused_so always file file_reader reads_file (symbols_from (q ∷ qs) 0) (symbols_from (q ∷ qs) at) rule (λ e. cc e)
+          (λ n l. h n (let e = length_from (q ∷ qs) 0 in omega arith))
+
+  pub only_syntax_fault : (at : ℕ) (rule : Option Rule) → RefusesAt ps at rule → (k : ℕ) (c : Cause) → SyntaxFault (symbols_from ps 0) k c
+      → (k ≡ length (symbols_from ps 0) - length (symbols_from ps at)) × (c ≡ cause_at ps rule)
+  only_syntax_fault at rule h k c f = by_symbols ps h f
+    where
+      no_symbols_so : (k : ℕ) (c : Cause) → SyntaxFault [] k c → (k ≡ 0) × (c ≡ NotProto3)
+      no_symbols_so k c (Fault.no_symbols e) = (refl, refl)
+      no_symbols_so k c (Fault.at_end some b none) = absurd (some refl)
+      no_symbols_so k c (Fault.at_symbol l b never w) = absurd (omega arith)
+
+      by_symbols : (qs : List Placed) → RefusesAt qs at rule → SyntaxFault (symbols_from qs 0) k c → (k ≡ length (symbols_from qs 0) - length (symbols_from qs at)) × (c ≡ cause_at qs rule)
+      by_symbols [] h f = let x = no_symbols_so k c f in let e = length_from [] at in (let y = x.0 in omega arith, x.1)
+      by_symbols (q ∷ qs) h f =
+          only_so always file file_reader reads_file (symbols_from (q ∷ qs) 0) (symbols_from (q ∷ qs) at) rule k c (λ e. cc e)
+          (λ n l. h n (let e = length_from (q ∷ qs) 0 in omega arith)) f
+
+  pub has_fault : (at : ℕ) (rule : Option Rule) → RefusesAt ps at rule → HasFault bytes (place_in (symbols_of ps) (length bytes) at) (cause_at ps rule)
+  has_fault at rule h =
+      subst (λ place. HasFault bytes place (cause_at ps rule)) (same_place ps (length bytes) at)
+      (HasFault.in_syntax {ts = has.0} {ss = symbols_of ps} size valid has.1 has.2
+      (subst (λ ts. SyntaxFault ts (length (symbols_from ps 0) - length (symbols_from ps at)) (cause_at ps rule)) (sym (alone_is ps)) (syntax_fault at rule h)))
+
+  pub only_fault : (at : ℕ) (rule : Option Rule) → RefusesAt ps at rule → (place : ℕ) (c : Cause) → HasFault bytes place c
+      → (place ≡ place_in (symbols_of ps) (length bytes) at) × (c ≡ cause_at ps rule)
+  only_fault at rule h place c f = on_symbols (symbols_fault place c f)
+    where
+      on_symbols : InSymbols place c → (place ≡ place_in (symbols_of ps) (length bytes) at) × (c ≡ cause_at ps rule)
+      on_symbols (InSymbols.in_symbols k e g) =
+          let x = only_syntax_fault at rule h k c g in
+          (e ∙ ap (place_in (symbols_of ps) (length bytes)) x.0 ∙ same_place ps (length bytes) at, x.1)
+
+-- ---- sources without symbols
+
+module _ (bytes : Bytes) where
+  pub too_large_no_source : 2 ^ 31 - 1 < length bytes → (name : Bytes) (d : DeclaredFile) → IsSource name bytes d → ⊥
+  too_large_no_source l name d s = let k = s.size in omega arith
+
+  pub too_large_only : 2 ^ 31 - 1 < length bytes → (place : ℕ) (c : Cause) → HasFault bytes place c
+      → (place ≡ 2 ^ 31 - 1) × (c ≡ SourceTooLarge)
+  too_large_only l place c (HasFault.too_large k) = (refl, refl)
+  too_large_only l place c (HasFault.bad_utf8 k h) = absurd (omega arith)
+  too_large_only l place c (HasFault.in_token k v f) = absurd (omega arith)
+  too_large_only l place c (HasFault.in_syntax k v a b f) = absurd (omega arith)
+
+  pub bad_utf8_no_source : ¬ IsUtf8 bytes → (name : Bytes) (d : DeclaredFile) → IsSource name bytes d → ⊥
+  bad_utf8_no_source h name d s = h s.valid
+
+  pub bad_utf8_only : length bytes ≤ 2 ^ 31 - 1 → ¬ IsUtf8 bytes → (place : ℕ) (c : Cause) → HasFault bytes place c
+      → (place ≡ utf8_valid_len bytes) × (c ≡ BadUtf8)
+  bad_utf8_only l h place c (HasFault.too_large k) = absurd (omega arith)
+  bad_utf8_only l h place c (HasFault.bad_utf8 k i) = (refl, refl)
+  bad_utf8_only l h place c (HasFault.in_token k v f) = absurd (h v)
+  bad_utf8_only l h place c (HasFault.in_syntax k v a b f) = absurd (h v)
+
+  pub token_no_source : (at : ℕ) (why : Cause) → LexFault bytes at why → (name : Bytes) (d : DeclaredFile) → IsSource name bytes d → ⊥
+  token_no_source at why f name d s = not_both bytes s.tokens at why s.lexed f
+
+  pub token_only : length bytes ≤ 2 ^ 31 - 1 → IsUtf8 bytes → (at : ℕ) (why : Cause) → LexFault bytes at why → (place : ℕ) (c : Cause) → HasFault bytes place c → (place ≡ at) × (c ≡ why)
+  token_only l u at why g place c (HasFault.too_large k) = absurd (omega arith)
+  token_only l u at why g place c (HasFault.bad_utf8 k h) = absurd (h u)
+  token_only l u at why g place c (HasFault.in_token k v f) = one_fault bytes place at c why f g
+  token_only l u at why g place c (HasFault.in_syntax {ts} k v a b f) = absurd (not_both bytes ts at why a g)
+
+-- ---- from the reader of a file's declaration to that of its statements
+
+none_behind : (ps : List Placed) → symbols_from ps (length ps) ≡ []
+none_behind [] = refl
+none_behind (p ∷ ps) = none_behind ps
+
+-- what is read as one declaration is one list of statements, however far the reader may go
+pub reads_all : (name : Bytes) (ps : List Placed) (d : DeclaredFile) → mapped (file_of name) (file_reader (length ps)) all_rules (symbols_from ps 0) ≡ Ok (d, symbols_from ps (length ps))
+    → (ss : List FileStatement) × ReadsAll ps ss × (d ≡ file_of name ss)
+reads_all name ps d h = by_outcome (file_reader (length ps) all_rules (symbols_from ps 0)) refl
+  where
+    on_pair : (x : List FileStatement × List Symbol) → ◌≡◌ {A = Outcome DeclaredFile} (Ok (file_of name x.0, x.1)) (Ok (d, symbols_from ps (length ps))) → (d ≡ file_of name x.0) × (x.1 ≡ [])
+    on_pair x e = let p : ◌≡◌ {A = DeclaredFile × List Symbol} (file_of name x.0, x.1) (d, symbols_from ps (length ps)) = cc e in (sym (ap (λ z. z.0) p), ap (λ z. z.1) p ∙ none_behind ps)
+
+    all_of : (x : List FileStatement × List Symbol) → file_reader (length ps) all_rules (symbols_from ps 0) ≡ Ok x → x.1 ≡ [] → ReadsAll ps x.0
+    all_of x e r n l =
+        let k = length_from ps 0 in
+        words_read always file file_reader reads_file (symbols_from ps 0) x.0 n (omega arith)
+        (read_words always file file_reader reads_file (symbols_from ps 0) x.0 (length ps) (omega arith) (e ∙ ap (λ r. Ok (x.0, r)) r))
+
+    by_outcome : (o : Outcome (List FileStatement)) → file_reader (length ps) all_rules (symbols_from ps 0) ≡ o → (ss : List FileStatement) × ReadsAll ps ss × (d ≡ file_of name ss)
+    by_outcome (Ok x) e = let p = on_pair x (ap (λ o. on_outcome o (λ ss r. answer (file_of name ss) all_rules r)) (sym e) ∙ h) in (x.0, all_of x e p.1, p.0)
+    by_outcome (Err x) e = absurd (let k = ap (λ o. on_outcome o (λ ss r. answer (file_of name ss) all_rules r)) (sym e) ∙ h in cc k)
+
+pub refuses_at : (name : Bytes) (ps : List Placed) (at : ℕ) (rule : Option Rule)
+    → ((n : ℕ) → length ps ≤ n → mapped (file_of name) (file_reader n) all_rules (symbols_from ps 0) ≡ Err (symbols_from ps at, rule)) → RefusesAt ps at rule
+refuses_at name ps at rule h n l = by_outcome (file_reader n all_rules (symbols_from ps 0)) (h n l)
+  where
+    by_outcome : (o : Outcome (List FileStatement)) → on_outcome o (λ ss r. answer (file_of name ss) all_rules r) ≡ Err (symbols_from ps at, rule) → o ≡ Err (symbols_from ps at, rule)
+    by_outcome (Ok x) e = absurd (cc e)
+    by_outcome (Err x) e = let p : ◌≡◌ {A = List Symbol × Option Rule} x (symbols_from ps at, rule) = cc e in ap Err p

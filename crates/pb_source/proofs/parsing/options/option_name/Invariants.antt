@@ -1,0 +1,13 @@
+use Rattle.std.proofs.Common.{◌-◌, length, codes, map, string_bytes}
+use Rattle.pb_source.specs.declared.rule.Rule.TheVariants.{OptionsKnown}
+use Rattle.pb_source.specs.Readers.Forms.{mark_reader, symbol, judged}
+use Rattle.pb_source.specs.Readers.Lines.{is_dot, part_in, optname_reader}
+use Rattle.pb_source.specs.StatementView.{words_view}
+use Rattle.pb_source.proofs.SeparatedSteps.{HasRead}
+use Rattle.pb_source.proofs.parsing.options.option_name.Given as goal
+
+abbrev pub invariant-loop-parts : goal.invariant-loop-parts
+invariant-loop-parts l = HasRead is_dot (λ _. symbol (judged OptionsKnown part_in)) (mark_reader (codes ".")) l.symbols l.at (words_view l.parts.items) l.here
+
+abbrev pub decreases-loop-parts : goal.decreases-loop-parts
+decreases-loop-parts l = length l.symbols - l.here

@@ -1,0 +1,38 @@
+-- What a function of the code that reads symbols gives.
+use Rattle.std.specs.Prelude.{◌≡◌, ℕ, List, [], ◌∷◌, map, drop, Option, Result, Ok, Err}
+use Rattle.pb_source.specs.declared.fault.Cause.{Cause}
+use Rattle.pb_source.specs.declared.fault.Cause.TheVariants.{NotProto3}
+use Rattle.pb_source.specs.declared.rule.Rule.{Rule}
+use Rattle.pb_source.specs.declared.symbol.Placed.{Placed}
+use Rattle.pb_source.specs.declared.refusal.Refusal.{Refusal}
+use Rattle.pb_source.specs.declared.refusal.Refusal.TheVariants as refusal
+use Rattle.pb_source.specs.Symbols.{Symbol}
+use Rattle.pb_source.specs.SymbolView.{symbol_of, symbols_of}
+use Rattle.pb_source.specs.Source.{place_in}
+use Rattle.pb_source.specs.Fault.{fault, out_of_memory}
+use Rattle.pb_source.specs.declared.fault.SourceFault.{SourceFault}
+use Rattle.pb_source.specs.Language.{told}
+use Rattle.pb_source.specs.Readers.Forms.{Outcome}
+
+-- the symbols from an index on
+abbrev pub symbols_from : List Placed → ℕ → List Symbol
+symbols_from ps at = map (λ p. symbol_of p.symbol) (drop at ps)
+
+abbrev pub Fails : {A : Type 0} → List Placed → Refusal → Outcome A → Type 0
+Fails ps refusal.Memory read = Unit {0}
+Fails ps (refusal.At at rule) read = read ≡ Err (symbols_from ps at, rule)
+
+-- What the code gives, by a value and the index after it, is what the reader gives, unless memory ran out.
+abbrev pub Gives : {X A : Type 0} → List Placed → (X → A × ℕ) → Result X Refusal → Outcome A → Type 0
+Gives ps view (Ok x) read = read ≡ Ok ((view x).0, symbols_from ps (view x).1)
+Gives ps view (Err e) read = Fails ps e read
+
+-- the cause of symbols that are refused so: a file without symbols does not begin with its syntax
+abbrev pub cause_at : List Placed → Option Rule → Cause
+cause_at [] rule = NotProto3
+cause_at (p ∷ ps) rule = told rule
+
+-- the fault of symbols that are refused so, where the source ends at this byte
+abbrev pub fault_at : List Placed → ℕ → Refusal → SourceFault
+fault_at ps end refusal.Memory = out_of_memory
+fault_at ps end (refusal.At at rule) = fault (place_in (symbols_of ps) end at) (cause_at ps rule)

@@ -1,0 +1,484 @@
+-- The readers of the grammar's lines: of each line of `Grammar` one.
+use Rattle.std.specs.Prelude.{ℕ, zero, suc, nat_le, ℤ, pos, neg_ℤ, List, [], ◌∷◌, codes, Bool, true, false, if◌then◌else◌, Option, Some, None, option_map}
+use Rattle.std.specs.Str.{bytes_eq, is_utf8}
+use Rattle.pb_descr.specs.Decls.{DeclaredField, DeclaredEnum, DeclaredMessage, DeclaredMethod, DeclaredService}
+use Rattle.pb_descr.specs.declared.decl.TypeCode.{TypeCode}
+use Rattle.pb_source.specs.declared.kind.Label.{Label}
+use Rattle.pb_source.specs.declared.kind.Label.TheVariants.{Unlabelled, Repeated, Optional}
+use Rattle.pb_source.specs.declared.kind.FileKind.{FileKind}
+use Rattle.pb_source.specs.declared.kind.FileKind.TheVariants as in_file
+use Rattle.pb_source.specs.declared.kind.MessageKind.{MessageKind}
+use Rattle.pb_source.specs.declared.kind.MessageKind.TheVariants as in_message
+use Rattle.pb_source.specs.declared.kind.EnumKind.{EnumKind}
+use Rattle.pb_source.specs.declared.kind.EnumKind.TheVariants as in_enum
+use Rattle.pb_source.specs.declared.kind.OneofKind.{OneofKind}
+use Rattle.pb_source.specs.declared.kind.OneofKind.TheVariants as in_a_oneof
+use Rattle.pb_source.specs.declared.kind.ServiceKind.{ServiceKind}
+use Rattle.pb_source.specs.declared.kind.ServiceKind.TheVariants as in_service
+use Rattle.pb_source.specs.declared.kind.MethodKind.{MethodKind}
+use Rattle.pb_source.specs.declared.kind.MethodKind.TheVariants as in_method
+use Rattle.pb_source.specs.declared.rule.Rule.TheVariants.{NumbersFit as numbers_fit, OptionsKnown as options_known, SyntaxFirst as syntax_first, NestsBounded as nests_bounded, TextsValid as texts_valid}
+use Rattle.pb_source.specs.Symbols.{Symbol, word, number, text, sign}
+use Rattle.pb_source.specs.Integers.{integer_of}
+use Rattle.pb_source.specs.Meaning.{TypeSaid, a_scalar, a_name, MapDecl, MessageStatement, EnumStatement, FileStatement, joined, those_said, last_said, field_of, message_of, enum_of}
+use Rattle.pb_source.specs.Grammar.{is_the_name, found_in, key_words, scalar_code, end_behind}
+use Rattle.pb_source.specs.Readers.Forms.{Reader, answer, chain, mapped, both, behind, before, choice, by_kind, guarded, symbol, plain, judged, is_keyword, is_mark, tested, keyword_reader, mark_reader, until, separated, to_end}
+
+abbrev pub is_dot : Symbol → Bool
+is_dot = is_mark (codes ".")
+
+abbrev pub is_comma : Symbol → Bool
+is_comma = is_mark (codes ",")
+
+abbrev pub is_closing : Symbol → Bool
+is_closing = is_mark (codes "}")
+
+-- item { "," item }
+abbrev pub listed : {I : Type 0} → ℕ → Reader I → Reader (List I)
+listed n item = separated n is_comma item (mark_reader (codes ","))
+
+-- "{" { item } "}"
+abbrev pub braced : {I : Type 0} → ℕ → Reader I → Reader (List I)
+braced n item = behind (mark_reader (codes "{")) (until n is_closing item (mark_reader (codes "}")) [])
+
+-- ---- names
+
+abbrev pub word_in : Symbol → Option (List ℕ)
+word_in (word w) = Some w
+word_in (number w) = None
+word_in (text b) = None
+word_in (sign c) = None
+
+-- a name: any word
+unfoldable pub name_reader : Reader (List ℕ)
+name_reader = symbol (plain word_in)
+
+-- word { "." word }
+unfoldable pub fullname_reader : ℕ → Reader (List (List ℕ))
+fullname_reader n = separated n is_dot name_reader (mark_reader (codes "."))
+
+-- [ "." ] fullname, as it is written
+unfoldable pub typename_reader : ℕ → Reader (List ℕ)
+typename_reader n =
+    choice is_dot (behind (mark_reader (codes ".")) (mapped (λ ws. 46 ∷ joined ws) (fullname_reader n))) (mapped joined (fullname_reader n))
+
+-- ---- integers
+
+abbrev pub integer_in : Symbol → Option ℕ
+integer_in (number w) = integer_of w
+integer_in (word w) = None
+integer_in (text b) = None
+integer_in (sign c) = None
+
+abbrev pub limited_in : ℕ → Symbol → Option (ℕ × Bool)
+limited_in limit s = option_map (λ n. (n, nat_le n limit)) (integer_in s)
+
+-- an integer up to a limit
+unfoldable pub limited_reader : ℕ → Reader ℕ
+limited_reader limit = symbol (judged numbers_fit (limited_in limit))
+
+abbrev pub counted_reader : Reader ℕ
+counted_reader = limited_reader 2147483647
+
+-- [ "-" ] integer
+unfoldable pub signed_reader : Reader ℤ
+signed_reader =
+    choice (is_mark (codes "-")) (behind (mark_reader (codes "-")) (mapped (λ n. neg_ℤ (pos n)) (limited_reader 2147483648))) (mapped pos counted_reader)
+
+-- ---- options
+
+abbrev pub text_in : Symbol → Option (List ℕ)
+text_in (text b) = Some b
+text_in (word w) = None
+text_in (number w) = None
+text_in (sign c) = None
+
+abbrev pub is_text : Symbol → Bool
+is_text (text b) = true
+is_text (word w) = false
+is_text (number w) = false
+is_text (sign c) = false
+
+abbrev pub is_number : Symbol → Bool
+is_number (number w) = true
+is_number (word w) = false
+is_number (text b) = false
+is_number (sign c) = false
+
+-- [ "-" | "+" ]
+unfoldable pub plus_or_minus_reader : Reader (Unit {0})
+plus_or_minus_reader =
+    choice (is_mark (codes "-")) (mark_reader (codes "-")) (choice (is_mark (codes "+")) (mark_reader (codes "+")) (answer tt))
+
+-- constant  = [ "-" | "+" ] integer | [ "-" | "+" ] fullname | text
+unfoldable pub constant_reader : ℕ → Reader (Unit {0})
+constant_reader n =
+    choice is_text (tested is_text) (behind plus_or_minus_reader (choice is_number (mapped (λ _. tt) (symbol (plain integer_in))) (mapped (λ _. tt) (fullname_reader n))))
+
+abbrev pub part_in : Symbol → Option (List ℕ × Bool)
+part_in (word w) = Some (w, true)
+part_in (sign c) = if bytes_eq c (codes "(") then Some (codes "(", false) else None
+part_in (number w) = None
+part_in (text b) = None
+
+-- optname   = word { "." word }
+unfoldable pub optname_reader : ℕ → Reader (List (List ℕ))
+optname_reader n = separated n is_dot (symbol (judged options_known part_in)) (mark_reader (codes "."))
+
+-- optname "=" constant
+unfoldable pub assignment_reader : ℕ → Reader (Unit {0})
+assignment_reader n = behind (mapped (λ _. tt) (optname_reader n)) (behind (mark_reader (codes "=")) (constant_reader n))
+
+-- option    = "option" optname "=" constant ";"
+unfoldable pub option_reader : ℕ → Reader (Unit {0})
+option_reader n = behind (keyword_reader (codes "option")) (before (assignment_reader n) (mark_reader (codes ";")))
+
+abbrev pub truth_in : Symbol → Option Bool
+truth_in (word w) = found_in ((codes "true", true) ∷ (codes "false", false) ∷ []) w
+truth_in (number w) = None
+truth_in (text b) = None
+truth_in (sign c) = None
+
+-- the constant, which is true or false where the option is the one that counts
+abbrev pub said_reader : ℕ → Bool → Reader (Option Bool)
+said_reader n true = mapped Some (symbol (plain truth_in))
+said_reader n false = mapped (λ _. None) (constant_reader n)
+
+-- optname "=" constant, and what is said of the option of this name
+unfoldable pub setting_reader : ℕ → List ℕ → Reader (Option Bool)
+setting_reader n v = chain (optname_reader n) (λ name. behind (mark_reader (codes "=")) (said_reader n (is_the_name v name)))
+
+abbrev pub no_default : Symbol → Option (Unit {0})
+no_default s = if is_keyword (codes "default") s then None else Some tt
+
+unfoldable pub field_option_reader : ℕ → Reader (Option Bool)
+field_option_reader n = by_kind no_default (λ _. Some (setting_reader n (codes "packed")))
+
+-- opts ";"
+unfoldable pub options_reader : {I : Type 0} → ℕ → Reader I → Reader (List I)
+options_reader n item =
+    behind (mark_reader (codes "[")) (before (listed n item) (behind (mark_reader (codes "]")) (mark_reader (codes ";"))))
+
+-- [ opts ] ";"
+unfoldable pub field_end_reader : ℕ → Reader (Option Bool)
+field_end_reader n =
+    choice (is_mark (codes "[")) (mapped (last_said None) (options_reader n (field_option_reader n))) (mapped (λ _. None) (mark_reader (codes ";")))
+
+unfoldable pub value_end_reader : ℕ → Reader (Unit {0})
+value_end_reader n = choice (is_mark (codes "[")) (mapped (λ _. tt) (options_reader n (assignment_reader n))) (mark_reader (codes ";"))
+
+-- ---- types
+
+abbrev pub type_of_word : List ℕ → Option TypeCode → TypeSaid
+type_of_word w None = a_name w
+type_of_word w (Some c) = a_scalar c
+
+-- the type of these words, which no dot stands before
+abbrev pub type_of : List (List ℕ) → TypeSaid
+type_of [] = a_name []
+type_of (w ∷ []) = type_of_word w (scalar_code w)
+type_of (w ∷ v ∷ ws) = a_name (joined (w ∷ v ∷ ws))
+
+-- type      = scalar word | typename
+unfoldable pub type_reader : ℕ → Reader TypeSaid
+type_reader n =
+    choice is_dot (behind (mark_reader (codes ".")) (mapped (λ ws. a_name (46 ∷ joined ws)) (fullname_reader n))) (mapped type_of (fullname_reader n))
+
+abbrev pub key_in : Symbol → Option TypeCode
+key_in (word w) = found_in key_words w
+key_in (number w) = None
+key_in (text b) = None
+key_in (sign c) = None
+
+-- keytype
+unfoldable pub key_reader : Reader TypeCode
+key_reader = symbol (plain key_in)
+
+-- ---- fields
+
+-- word "=" integer [ opts ] ";"
+unfoldable pub field_tail_reader : ℕ → Reader (List ℕ × (ℕ × Option Bool))
+field_tail_reader n = both name_reader (behind (mark_reader (codes "=")) (both counted_reader (field_end_reader n)))
+
+abbrev pub field_from : Label → TypeSaid × (List ℕ × (ℕ × Option Bool)) → DeclaredField
+field_from l x = field_of l x.0 x.1.0 x.1.1.0 x.1.1.1
+
+-- type word "=" integer [ opts ] ";"
+unfoldable pub field_reader : ℕ → Label → Reader DeclaredField
+field_reader n l = mapped (field_from l) (both (type_reader n) (field_tail_reader n))
+
+abbrev pub map_from : TypeCode × (TypeSaid × (List ℕ × (ℕ × Option Bool))) → MapDecl
+map_from x = record { key = x.0; value = x.1.0; name = x.1.1.0; number = x.1.1.1.0; packed = x.1.1.1.1 }
+
+-- "<" keytype "," type ">" word "=" integer [ opts ] ";"
+unfoldable pub map_tail_reader : ℕ → Reader MapDecl
+map_tail_reader n =
+    behind (mark_reader (codes "<")) (mapped map_from
+    (both key_reader (behind (mark_reader (codes ",")) (both (type_reader n) (behind (mark_reader (codes ">")) (field_tail_reader n))))))
+
+-- { "." word }
+unfoldable pub dotted_reader : ℕ → Reader (List (List ℕ))
+dotted_reader n = choice is_dot (behind (mark_reader (codes ".")) (fullname_reader n)) (answer [])
+
+-- a field of a type whose name begins with the word `map`, from behind that word
+unfoldable pub of_map_reader : ℕ → Reader DeclaredField
+of_map_reader n = mapped (field_from Unlabelled) (both (mapped (λ ws. type_of (codes "map" ∷ ws)) (dotted_reader n)) (field_tail_reader (suc n)))
+
+-- a map field, or a field of a type whose name begins with the word `map`
+unfoldable pub map_reader : ℕ → Reader MessageStatement
+map_reader n =
+    behind (keyword_reader (codes "map"))
+    (choice (is_mark (codes "<")) (mapped MessageStatement.a_map (map_tail_reader (suc n))) (mapped MessageStatement.a_field (of_map_reader n)))
+
+-- ---- kinds of statements
+
+abbrev pub kind_in : {K : Type 0} → List (List ℕ × Option K) → Option K → List ℕ → Option K
+kind_in [] other w = other
+kind_in (e ∷ es) other w = if bytes_eq w e.0 then e.1 else kind_in es other w
+
+-- by tables of words and of signs, and the kind of the other words
+abbrev pub kind_of : {K : Type 0} → List (List ℕ × Option K) → Option K → List (List ℕ × Option K) → Symbol → Option K
+kind_of words other signs (word w) = kind_in words other w
+kind_of words other signs (sign c) = kind_in signs None c
+kind_of words other signs (number w) = None
+kind_of words other signs (text b) = None
+
+-- ---- oneofs
+
+abbrev pub oneof_kind : Symbol → Option OneofKind
+oneof_kind =
+    kind_of ((codes "option", Some in_a_oneof.Option) ∷ []) (Some in_a_oneof.Field) ((codes ";", Some in_a_oneof.Empty) ∷ (codes ".", Some in_a_oneof.Field) ∷ [])
+
+abbrev pub oneof_line : ℕ → OneofKind → Option (Reader (Option DeclaredField))
+oneof_line n in_a_oneof.Empty = Some (mapped (λ _. None) (mark_reader (codes ";")))
+oneof_line n in_a_oneof.Option = Some (mapped (λ _. None) (option_reader n))
+oneof_line n in_a_oneof.Field = Some (mapped Some (field_reader n Unlabelled))
+
+unfoldable pub oneof_statement_reader : ℕ → Reader (Option DeclaredField)
+oneof_statement_reader n = by_kind oneof_kind (oneof_line n)
+
+-- the name, and the fields
+unfoldable pub oneof_reader : ℕ → Reader (List ℕ × List DeclaredField)
+oneof_reader n = behind (keyword_reader (codes "oneof")) (both name_reader (mapped those_said (braced n (oneof_statement_reader n))))
+
+-- ---- reserved
+
+-- bound [ "to" ( bound | "max" ) ]
+unfoldable pub range_reader : Reader ℤ → (ℤ → ℤ) → ℤ → Reader (ℤ × ℤ)
+range_reader bound end greatest =
+    chain bound (λ a. choice (is_keyword (codes "to"))
+    (behind (keyword_reader (codes "to")) (choice (is_keyword (codes "max")) (mapped (λ _. (a, greatest)) (keyword_reader (codes "max"))) (mapped (λ z. (a, end z)) bound)))
+    (answer (a, end a)))
+
+abbrev pub message_range_reader : Reader (ℤ × ℤ)
+message_range_reader = range_reader (mapped pos counted_reader) end_behind (pos 536870912)
+
+abbrev pub enum_range_reader : Reader (ℤ × ℤ)
+enum_range_reader = range_reader signed_reader (λ z. z) (pos 2147483647)
+
+abbrev pub utf8_in : Symbol → Option (List ℕ × Bool)
+utf8_in (text b) = Some (b, is_utf8 b)
+utf8_in (word w) = None
+utf8_in (number w) = None
+utf8_in (sign c) = None
+
+unfoldable pub utf8_reader : Reader (List ℕ)
+utf8_reader = symbol (judged texts_valid utf8_in)
+
+-- reserved  = "reserved" ( range { "," range } | text { "," text } ) ";"
+unfoldable pub reserved_reader : {A : Type 0} → ℕ → Reader (ℤ × ℤ) → (List (ℤ × ℤ) → A) → (List (List ℕ) → A) → Reader A
+reserved_reader n range of_ranges of_names =
+    behind (keyword_reader (codes "reserved"))
+    (choice is_text (mapped of_names (before (listed n utf8_reader) (mark_reader (codes ";")))) (mapped of_ranges (before (listed n range) (mark_reader (codes ";")))))
+
+-- ---- enums
+
+abbrev pub said_of_alias : Option Bool → EnumStatement
+said_of_alias None = EnumStatement.nothing_said
+said_of_alias (Some b) = EnumStatement.allows_alias b
+
+abbrev pub enum_kind : Symbol → Option EnumKind
+enum_kind =
+    kind_of ((codes "option", Some in_enum.Option) ∷ (codes "reserved", Some in_enum.Reserved) ∷ []) (Some in_enum.Value) ((codes ";", Some in_enum.Empty) ∷ [])
+
+-- word "=" [ "-" ] integer [ opts ] ";"
+unfoldable pub value_reader : ℕ → Reader EnumStatement
+value_reader n =
+    mapped (λ x. EnumStatement.a_value x.0 x.1) (both name_reader (behind (mark_reader (codes "=")) (before signed_reader (value_end_reader n))))
+
+abbrev pub enum_statement_line : ℕ → EnumKind → Option (Reader EnumStatement)
+enum_statement_line n in_enum.Empty = Some (mapped (λ _. EnumStatement.nothing_said) (mark_reader (codes ";")))
+enum_statement_line n in_enum.Option =
+    Some (mapped said_of_alias (behind (keyword_reader (codes "option")) (before (setting_reader n (codes "allow_alias")) (mark_reader (codes ";")))))
+enum_statement_line n in_enum.Reserved = Some (reserved_reader n enum_range_reader EnumStatement.reserved_ranges EnumStatement.reserved_names)
+enum_statement_line n in_enum.Value = Some (value_reader n)
+
+unfoldable pub enum_statement_reader : ℕ → Reader EnumStatement
+enum_statement_reader n = by_kind enum_kind (enum_statement_line n)
+
+unfoldable pub enum_reader : ℕ → Reader DeclaredEnum
+enum_reader n = mapped (λ x. enum_of x.0 x.1) (behind (keyword_reader (codes "enum")) (both name_reader (braced n (enum_statement_reader n))))
+
+-- ---- messages
+
+abbrev pub message_kind : Symbol → Option MessageKind
+message_kind =
+    kind_of
+    ((codes "message", Some in_message.Message) ∷ (codes "enum", Some in_message.Enum) ∷ (codes "option", Some in_message.Option) ∷ (codes "oneof", Some in_message.Oneof)
+    ∷ (codes "reserved", Some in_message.Reserved) ∷ (codes "optional", Some in_message.Optional) ∷ (codes "repeated", Some in_message.Repeated)
+    ∷ (codes "required", None) ∷ (codes "extend", None) ∷ (codes "extensions", None) ∷ (codes "map", Some in_message.Map) ∷ [])
+    (Some in_message.Field)
+    ((codes ";", Some in_message.Empty) ∷ (codes ".", Some in_message.Field) ∷ [])
+
+-- where the messages that may stand in this one, if any, have a reader
+abbrev pub message_statement_line : ℕ → Option (Reader DeclaredMessage) → MessageKind → Option (Reader MessageStatement)
+message_statement_line n inner in_message.Empty = Some (mapped (λ _. MessageStatement.nothing_said) (mark_reader (codes ";")))
+message_statement_line n inner in_message.Option = Some (mapped (λ _. MessageStatement.nothing_said) (option_reader n))
+message_statement_line n inner in_message.Message = option_map (mapped MessageStatement.a_message) inner
+message_statement_line n inner in_message.Enum = Some (mapped MessageStatement.an_enum (enum_reader n))
+message_statement_line n inner in_message.Oneof = Some (mapped (λ x. MessageStatement.a_oneof x.0 x.1) (oneof_reader n))
+message_statement_line n inner in_message.Reserved = Some (reserved_reader n message_range_reader MessageStatement.reserved_ranges MessageStatement.reserved_names)
+message_statement_line n inner in_message.Repeated = Some (mapped MessageStatement.a_field (behind (keyword_reader (codes "repeated")) (field_reader n Repeated)))
+message_statement_line n inner in_message.Optional = Some (mapped MessageStatement.a_field (behind (keyword_reader (codes "optional")) (field_reader n Optional)))
+message_statement_line n inner in_message.Map = Some (map_reader n)
+message_statement_line n inner in_message.Field = Some (mapped MessageStatement.a_field (field_reader n Unlabelled))
+
+unfoldable pub message_statement_reader : ℕ → Option (Reader DeclaredMessage) → Reader MessageStatement
+message_statement_reader n inner = by_kind message_kind (message_statement_line n inner)
+
+-- "message" word "{" { statement } "}", by the reader of the statements
+unfoldable pub message_line_reader : ℕ → Reader MessageStatement → Reader DeclaredMessage
+message_line_reader n statement = mapped (λ x. message_of x.0 x.1) (behind (keyword_reader (codes "message")) (both name_reader (braced n statement)))
+
+-- In a message that is the last of its nest, the rule on nests forbids what begins one more.
+unfoldable pub last_statement_reader : ℕ → Reader MessageStatement
+last_statement_reader n =
+    guarded nests_bounded (is_keyword (codes "message")) (mapped MessageStatement.a_message (message_line_reader n (message_statement_reader n None)))
+    (message_statement_reader n None)
+
+-- a statement of a message with room for so many nested ones, each in the one before
+unfoldable pub room_statement_reader : ℕ → ℕ → Reader MessageStatement
+room_statement_reader n zero = last_statement_reader n
+room_statement_reader n (suc room) = message_statement_reader n (Some (message_line_reader n (room_statement_reader n room)))
+
+-- a message with that room
+abbrev pub message_reader : ℕ → ℕ → Reader DeclaredMessage
+message_reader n room = message_line_reader n (room_statement_reader n room)
+
+-- ---- services
+
+abbrev pub streams : Symbol → Bool
+streams = is_keyword (codes "stream")
+
+-- [ "stream" ] typename, and whether it is streamed
+unfoldable pub streamed_reader : ℕ → Reader (Bool × List ℕ)
+streamed_reader n =
+    choice streams (mapped (λ t. (true, t)) (behind (keyword_reader (codes "stream")) (typename_reader n))) (mapped (λ t. (false, t)) (typename_reader n))
+
+abbrev pub method_kind : Symbol → Option MethodKind
+method_kind = kind_of ((codes "option", Some in_method.Option) ∷ []) None ((codes ";", Some in_method.Empty) ∷ [])
+
+abbrev pub method_line : ℕ → MethodKind → Option (Reader (Unit {0}))
+method_line n in_method.Empty = Some (mark_reader (codes ";"))
+method_line n in_method.Option = Some (option_reader n)
+
+-- { option | ";" }, each
+unfoldable pub method_statement_reader : ℕ → Reader (Unit {0})
+method_statement_reader n = by_kind method_kind (method_line n)
+
+-- ( ";" | "{" { option | ";" } "}" )
+unfoldable pub method_end_reader : ℕ → Reader (Unit {0})
+method_end_reader n = choice (is_mark (codes "{")) (mapped (λ _. tt) (braced n (method_statement_reader n))) (mark_reader (codes ";"))
+
+abbrev pub method_from : List ℕ × ((Bool × List ℕ) × (Bool × List ℕ)) → DeclaredMethod
+method_from x = record { name = x.0; input = x.1.0.1; output = x.1.1.1; client_streams = x.1.0.0; server_streams = x.1.1.0 }
+
+-- "(" [ "stream" ] typename ")"
+unfoldable pub parameter_reader : ℕ → Reader (Bool × List ℕ)
+parameter_reader n = behind (mark_reader (codes "(")) (before (streamed_reader n) (mark_reader (codes ")")))
+
+unfoldable pub method_reader : ℕ → Reader DeclaredMethod
+method_reader n =
+    mapped method_from (behind (keyword_reader (codes "rpc"))
+    (both name_reader (both (parameter_reader n) (behind (keyword_reader (codes "returns")) (before (parameter_reader n) (method_end_reader n))))))
+
+abbrev pub service_kind : Symbol → Option ServiceKind
+service_kind = kind_of ((codes "option", Some in_service.Option) ∷ (codes "rpc", Some in_service.Method) ∷ []) None ((codes ";", Some in_service.Empty) ∷ [])
+
+abbrev pub service_line : ℕ → ServiceKind → Option (Reader (Option DeclaredMethod))
+service_line n in_service.Empty = Some (mapped (λ _. None) (mark_reader (codes ";")))
+service_line n in_service.Option = Some (mapped (λ _. None) (option_reader n))
+service_line n in_service.Method = Some (mapped Some (method_reader n))
+
+unfoldable pub service_statement_reader : ℕ → Reader (Option DeclaredMethod)
+service_statement_reader n = by_kind service_kind (service_line n)
+
+abbrev pub service_from : List ℕ × List (Option DeclaredMethod) → DeclaredService
+service_from x = record { name = x.0; methods = those_said x.1 }
+
+unfoldable pub service_reader : ℕ → Reader DeclaredService
+service_reader n = mapped service_from (behind (keyword_reader (codes "service")) (both name_reader (braced n (service_statement_reader n))))
+
+-- ---- files
+
+-- [ "weak" | "public" ], and whether it is public
+unfoldable pub access_reader : Reader Bool
+access_reader =
+    choice (is_keyword (codes "public")) (mapped (λ _. true) (keyword_reader (codes "public")))
+    (choice (is_keyword (codes "weak")) (mapped (λ _. false) (keyword_reader (codes "weak"))) (answer false))
+
+-- import    = "import" [ "weak" | "public" ] text ";"
+unfoldable pub import_reader : Reader (Bool × List ℕ)
+import_reader = behind (keyword_reader (codes "import")) (both access_reader (before utf8_reader (mark_reader (codes ";"))))
+
+-- package   = "package" fullname ";"
+unfoldable pub package_reader : ℕ → Reader (List ℕ)
+package_reader n = mapped joined (behind (keyword_reader (codes "package")) (before (fullname_reader n) (mark_reader (codes ";"))))
+
+abbrev pub file_kind : Symbol → Option FileKind
+file_kind =
+    kind_of
+    ((codes "import", Some in_file.Import) ∷ (codes "package", Some in_file.Package) ∷ (codes "option", Some in_file.Option) ∷ (codes "message", Some in_file.Message)
+    ∷ (codes "enum", Some in_file.Enum) ∷ (codes "service", Some in_file.Service) ∷ [])
+    None
+    ((codes ";", Some in_file.Empty) ∷ [])
+
+-- no package, where one has been said
+abbrev pub file_line : ℕ → Bool → FileKind → Option (Reader FileStatement)
+file_line n said in_file.Empty = Some (mapped (λ _. FileStatement.nothing_said) (mark_reader (codes ";")))
+file_line n said in_file.Option = Some (mapped (λ _. FileStatement.nothing_said) (option_reader n))
+file_line n said in_file.Import = Some (mapped (λ x. FileStatement.an_import x.0 x.1) import_reader)
+file_line n true in_file.Package = None
+file_line n false in_file.Package = Some (mapped FileStatement.a_package (package_reader n))
+file_line n said in_file.Message = Some (mapped FileStatement.a_message (message_reader n 63))
+file_line n said in_file.Enum = Some (mapped FileStatement.an_enum (enum_reader n))
+file_line n said in_file.Service = Some (mapped FileStatement.a_service (service_reader n))
+
+unfoldable pub file_statement_reader : ℕ → Bool → Reader FileStatement
+file_statement_reader n said = by_kind file_kind (file_line n said)
+
+abbrev pub syntax_word_in : Symbol → Option (Unit {0} × Bool)
+syntax_word_in s = Some (tt, is_keyword (codes "syntax") s)
+
+abbrev pub syntax_text_in : Symbol → Option (Unit {0} × Bool)
+syntax_text_in (text b) = Some (tt, bytes_eq b (codes "proto3"))
+syntax_text_in (word w) = None
+syntax_text_in (number w) = None
+syntax_text_in (sign c) = None
+
+-- syntax    = "syntax" "=" text ";"
+unfoldable pub syntax_reader : Reader (Unit {0})
+syntax_reader =
+    behind (symbol (judged syntax_first syntax_word_in)) (behind (mark_reader (codes "=")) (behind (symbol (judged syntax_first syntax_text_in)) (mark_reader (codes ";"))))
+
+abbrev pub is_package : FileStatement → Bool
+is_package FileStatement.nothing_said = false
+is_package (FileStatement.an_import is_public f) = false
+is_package (FileStatement.a_package p) = true
+is_package (FileStatement.a_message m) = false
+is_package (FileStatement.an_enum e) = false
+is_package (FileStatement.a_service s) = false
+
+-- file      = syntax { statement }, with at most one package
+unfoldable pub file_reader : ℕ → Reader (List FileStatement)
+file_reader n = behind syntax_reader (to_end n is_package (file_statement_reader n) false [])

@@ -1,0 +1,38 @@
+-- A source as its declaration, or as its one fault.
+use Rattle.std.specs.Prelude.{ℕ, zero, suc, ◌^◌, ◌-◌, ◌<◌, ◌≤◌, List, [], ◌∷◌, length, map, IsUtf8}
+use Rattle.std.specs.Str.Lossy.{utf8_valid_len}
+use Rattle.pb_descr.specs.Decls.{DeclaredFile}
+use Rattle.pb_source.specs.Tokens.{PlacedToken, AreTokens, LexFault}
+use Rattle.pb_source.specs.Symbols.{Symbol, PlacedSymbol, AreSymbols}
+use Rattle.pb_source.specs.Grammar.{FileSyntax}
+use Rattle.pb_source.specs.SyntaxFault.{SyntaxFault}
+use Rattle.pb_source.specs.declared.fault.Cause.{Cause}
+use Rattle.pb_source.specs.declared.fault.Cause.TheVariants.{SourceTooLarge, BadUtf8}
+
+abbrev pub symbols_alone : List PlacedSymbol → List Symbol
+symbols_alone = map (λ p. p.symbol)
+
+-- where the symbol of this index begins; behind the last, the end of the source
+abbrev pub place_in : List PlacedSymbol → ℕ → ℕ → ℕ
+place_in [] end k = end
+place_in (p ∷ ps) end zero = p.at
+place_in (p ∷ ps) end (suc k) = place_in ps end k
+
+-- the bytes are a source of this name that declares d
+pub record IsSource (name bytes : List ℕ) (d : DeclaredFile) : Type 0 where
+  pub size : length bytes ≤ 2 ^ 31 - 1
+  pub valid : IsUtf8 bytes
+  pub tokens : List PlacedToken
+  pub lexed : AreTokens bytes tokens
+  pub symbols : List PlacedSymbol
+  pub read : AreSymbols tokens symbols
+  pub means : FileSyntax name (symbols_alone symbols) d
+
+-- the one fault of bytes that are no source
+pub data HasFault (bytes : List ℕ) : ℕ → Cause → Type 0 where
+  too_large : 2 ^ 31 - 1 < length bytes → HasFault bytes (2 ^ 31 - 1) SourceTooLarge
+  bad_utf8 : length bytes ≤ 2 ^ 31 - 1 → ¬ IsUtf8 bytes → HasFault bytes (utf8_valid_len bytes) BadUtf8
+  in_token : {place : ℕ} {c : Cause} → length bytes ≤ 2 ^ 31 - 1 → IsUtf8 bytes → LexFault bytes place c → HasFault bytes place c
+  in_syntax :
+      {ts : List PlacedToken} {ss : List PlacedSymbol} {k : ℕ} {c : Cause} → length bytes ≤ 2 ^ 31 - 1 → IsUtf8 bytes → AreTokens bytes ts → AreSymbols ts ss
+      → SyntaxFault (symbols_alone ss) k c → HasFault bytes (place_in ss (length bytes) k) c

@@ -1,0 +1,57 @@
+-- Statements and their parts as the code has them.
+use Rattle.std.specs.Prelude.{ℕ, List, [], ◌∷◌, Option, None, map, string_bytes}
+use Rattle.std.specs.Borrow.{Bor}
+use Rattle.pb_descr.specs.View.{field_view, message_view, enum_view, service_view}
+use Rattle.pb_descr.specs.declared.decl.TypeCode.{TypeCode}
+use Rattle.pb_source.specs.Grammar.{scalar_code}
+use Rattle.pb_source.specs.Meaning.{TypeSaid, a_scalar, a_name, MapDecl, MessageStatement, EnumStatement, FileStatement}
+use Rattle.pb_source.specs.declared.parsing.statement.TypeSaid.{TypeSaid as CodeType}
+use Rattle.pb_source.specs.declared.parsing.statement.TypeSaid.TheVariants as type
+use Rattle.pb_source.specs.declared.parsing.statement.MapSaid.{MapSaid}
+use Rattle.pb_source.specs.declared.parsing.statement.MessageSaid.{MessageSaid}
+use Rattle.pb_source.specs.declared.parsing.statement.MessageSaid.TheVariants as in_message
+use Rattle.pb_source.specs.declared.parsing.statement.EnumSaid.{EnumSaid}
+use Rattle.pb_source.specs.declared.parsing.statement.EnumSaid.TheVariants as in_enum
+use Rattle.pb_source.specs.declared.parsing.statement.FileSaid.{FileSaid}
+use Rattle.pb_source.specs.declared.parsing.statement.FileSaid.TheVariants as in_file
+
+abbrev pub words_view : List (Bor (List ℕ)) → List (List ℕ)
+words_view = map (λ w. w.now)
+
+-- the scalar whose word alone the words are
+abbrev pub scalar_of_words : List (List ℕ) → Option TypeCode
+scalar_of_words [] = None
+scalar_of_words (w ∷ []) = scalar_code w
+scalar_of_words (w ∷ v ∷ ws) = None
+
+abbrev pub type_view : CodeType → TypeSaid
+type_view (type.Scalar code) = a_scalar code
+type_view (type.Named name) = a_name (string_bytes name)
+
+abbrev pub map_view : MapSaid → MapDecl
+map_view m = record { key = m.key; value = type_view m.value; name = string_bytes m.name; number = m.number; packed = m.packed }
+
+abbrev pub message_statement_view : MessageSaid → MessageStatement
+message_statement_view in_message.Nothing = MessageStatement.nothing_said
+message_statement_view (in_message.Field f) = MessageStatement.a_field (field_view f)
+message_statement_view (in_message.Map m) = MessageStatement.a_map (map_view m)
+message_statement_view (in_message.Oneof name fields) = MessageStatement.a_oneof (string_bytes name) (map field_view fields.items)
+message_statement_view (in_message.Message m) = MessageStatement.a_message (message_view m)
+message_statement_view (in_message.Enum e) = MessageStatement.an_enum (enum_view e)
+message_statement_view (in_message.Ranges ranges) = MessageStatement.reserved_ranges ranges.items
+message_statement_view (in_message.Names names) = MessageStatement.reserved_names (map string_bytes names.items)
+
+abbrev pub enum_statement_view : EnumSaid → EnumStatement
+enum_statement_view in_enum.Nothing = EnumStatement.nothing_said
+enum_statement_view (in_enum.AllowAlias allow) = EnumStatement.allows_alias allow
+enum_statement_view (in_enum.Value value) = EnumStatement.a_value (string_bytes value.0) value.1
+enum_statement_view (in_enum.Ranges ranges) = EnumStatement.reserved_ranges ranges.items
+enum_statement_view (in_enum.Names names) = EnumStatement.reserved_names (map string_bytes names.items)
+
+abbrev pub file_statement_view : FileSaid → FileStatement
+file_statement_view in_file.Nothing = FileStatement.nothing_said
+file_statement_view (in_file.Import is_public name) = FileStatement.an_import is_public (string_bytes name)
+file_statement_view (in_file.Package name) = FileStatement.a_package (string_bytes name)
+file_statement_view (in_file.Message m) = FileStatement.a_message (message_view m)
+file_statement_view (in_file.Enum e) = FileStatement.an_enum (enum_view e)
+file_statement_view (in_file.Service s) = FileStatement.a_service (service_view s)

@@ -1,0 +1,239 @@
+//! Fields, oneofs and maps.
+
+ghost use Rattle.std.specs.Prelude.{◌≡◌, ◌≤◌, ◌<◌, ◌++◌, ℕ, [], length, map, codes, string_bytes, option_map, option_to_list, IfOk, OnOk};
+ghost use Rattle.pb_descr.specs.View.{field_view};
+ghost use Rattle.pb_source.specs.Language.{all_rules};
+ghost use Rattle.pb_source.specs.Meaning.{is_repeated_label, is_optional_label, field_of, those_said};
+ghost use Rattle.pb_source.specs.Readers.Forms.{mapped, until, mark_reader};
+ghost use Rattle.pb_source.specs.Readers.Lines.{is_closing, field_tail_reader, field_reader, map_tail_reader, map_reader, oneof_statement_reader, oneof_reader};
+ghost use Rattle.pb_source.specs.StatementView.{type_view, map_view, message_statement_view};
+ghost use Rattle.pb_source.specs.Readers.Given.{symbols_from, Gives};
+
+use crate::kind::{Label, OneofKind};
+use crate::parsing::kinds::oneof_kind;
+use crate::parsing::numbers::counted;
+use crate::parsing::options::{field_end, option};
+use crate::parsing::single::{begins_with_mark, keyword, mark, name, symbol_at};
+use crate::parsing::statement::{MapSaid, MessageSaid, TypeSaid};
+use crate::parsing::types::{code_of, key_type, name_of, typed};
+use crate::refusal::Refusal;
+use crate::symbol::Placed;
+use pb_descr::FieldDecl;
+use std::alloc::{AllocError, Global};
+
+/// What stands behind a field's type.
+#[derive(Drop)]
+struct FieldTail<'a> {
+    pub name: &'a str,
+    pub number: u32,
+    pub packed: Option<bool>,
+}
+
+/// Whether the label says that a field is repeated.
+fn is_repeated(label: Label) -> bool
+    ensures { result ≡ is_repeated_label label }
+{
+    match label {
+        Label::Unlabelled => false,
+        Label::Repeated => true,
+        Label::Optional => false,
+    }
+}
+
+/// Whether the label says that a field is optional.
+fn is_optional(label: Label) -> bool
+    ensures { result ≡ is_optional_label label }
+{
+    match label {
+        Label::Unlabelled => false,
+        Label::Repeated => false,
+        Label::Optional => true,
+    }
+}
+
+/// A field of its parts.
+pub(crate) fn field_of(
+    label: Label,
+    ty: TypeSaid,
+    name: String,
+    number: u32,
+    packed: Option<bool>,
+) -> FieldDecl
+    requires { number ≤ 2147483647 }
+    ensures { field_view result ≡ field_of label (type_view ty) (string_bytes name) number packed }
+{
+    let code = code_of(&ty);
+    FieldDecl {
+        name,
+        number: number as i32,
+        repeated: is_repeated(label),
+        ty: code,
+        type_name: name_of(ty),
+        packed,
+        oneof: None,
+        proto3_optional: is_optional(label),
+    }
+}
+
+/// Reads what stands behind a field's type.
+#[tactic(auto, unfolding(crate::specs::Readers::Lines::field_tail_reader))]
+fn field_tail<'a>(
+    alloc: Global,
+    symbols: &[Placed<'a>],
+    at: usize,
+) -> Result<(FieldTail<'a>, usize), Refusal>
+    ensures within { IfOk result (λ x. (at < x.1) × (x.1 ≤ length symbols.now)) }
+    ensures bound { IfOk result (λ x. x.0.number ≤ 2147483647) }
+    ensures read { (n : ℕ) → length symbols.now ≤ n → Gives symbols.now (λ x. ((x.0.name.now, (x.0.number, x.0.packed)), x.1)) result (field_tail_reader n all_rules (symbols_from symbols.now at)) }
+{
+    let (name, after) = name(symbols, at)?;
+    let after = mark("=", symbols, after)?;
+    let (number, after) = counted(symbols, after)?;
+    let (packed, after) = field_end(alloc, symbols, after)?;
+    let tail = FieldTail {
+        name,
+        number,
+        packed,
+    };
+    Ok((tail, after))
+}
+
+/// Reads a field behind its label.
+#[tactic(auto, unfolding(crate::specs::Readers::Lines::field_reader))]
+pub(crate) fn field(
+    alloc: Global,
+    label: Label,
+    symbols: &[Placed],
+    at: usize,
+) -> Result<(FieldDecl, usize), Refusal>
+    ensures within { IfOk result (λ x. (at < x.1) × (x.1 ≤ length symbols.now)) }
+    ensures read { (n : ℕ) → length symbols.now ≤ n → Gives symbols.now (λ x. (field_view x.0, x.1)) result (field_reader n label all_rules (symbols_from symbols.now at)) }
+{
+    let (said, after) = typed(alloc, symbols, at)?;
+    let (tail, after) = field_tail(alloc, symbols, after)?;
+    let name = String::from_str(alloc, tail.name)?;
+    let field = field_of(label, said, name, tail.number, tail.packed);
+    Ok((field, after))
+}
+
+/// Reads a map behind its word.
+#[tactic(auto, unfolding(crate::specs::Readers::Lines::map_tail_reader))]
+fn map_tail(alloc: Global, symbols: &[Placed], at: usize) -> Result<(MapSaid, usize), Refusal>
+    ensures within { IfOk result (λ x. (at < x.1) × (x.1 ≤ length symbols.now)) }
+    ensures bound { IfOk result (λ x. x.0.number ≤ 2147483647) }
+    ensures read { (n : ℕ) → length symbols.now ≤ n → Gives symbols.now (λ x. (map_view x.0, x.1)) result (map_tail_reader n all_rules (symbols_from symbols.now at)) }
+{
+    let after = mark("<", symbols, at)?;
+    let (key, after) = key_type(symbols, after)?;
+    let after = mark(",", symbols, after)?;
+    let (value, after) = typed(alloc, symbols, after)?;
+    let after = mark(">", symbols, after)?;
+    let (tail, after) = field_tail(alloc, symbols, after)?;
+    let name = String::from_str(alloc, tail.name)?;
+    let map = MapSaid {
+        key,
+        value,
+        name,
+        number: tail.number,
+        packed: tail.packed,
+    };
+    Ok((map, after))
+}
+
+/// Reads a map, or a field whose type's name begins with the word `map`.
+#[tactic(auto, unfolding(crate::specs::Readers::Lines::map_reader))]
+pub(crate) fn map_or_field(
+    alloc: Global,
+    symbols: &[Placed],
+    at: usize,
+) -> Result<(MessageSaid, usize), Refusal>
+    ensures within { IfOk result (λ x. (at < x.1) × (x.1 ≤ length symbols.now)) }
+    ensures read { (n : ℕ) → length symbols.now ≤ n → Gives symbols.now (λ x. (message_statement_view x.0, x.1)) result (map_reader n all_rules (symbols_from symbols.now at)) }
+{
+    let after = keyword("map", symbols, at)?;
+    if begins_with_mark("<", symbols, after) {
+        let (map, after) = map_tail(alloc, symbols, after)?;
+        return Ok((MessageSaid::Map(map), after));
+    }
+    let (field, after) = field(alloc, Label::Unlabelled, symbols, at)?;
+    Ok((MessageSaid::Field(field), after))
+}
+
+/// Reads a statement of a oneof: a field, or what says nothing.
+#[tactic(auto, unfolding(crate::specs::Readers::Lines::oneof_statement_reader))]
+fn oneof_statement(
+    alloc: Global,
+    symbols: &[Placed],
+    at: usize,
+) -> Result<(Option<FieldDecl>, usize), Refusal>
+    ensures within { IfOk result (λ x. (at < x.1) × (x.1 ≤ length symbols.now)) }
+    ensures read { (n : ℕ) → length symbols.now ≤ n → Gives symbols.now (λ x. (option_map field_view x.0, x.1)) result (oneof_statement_reader n all_rules (symbols_from symbols.now at)) }
+{
+    let Some(first) = symbol_at(symbols, at) else {
+        return Err(Refusal::At { at, rule: None });
+    };
+    match oneof_kind(&first.symbol) {
+        Some(OneofKind::Empty) => {
+            let after = mark(";", symbols, at)?;
+            Ok((None, after))
+        }
+        Some(OneofKind::Option) => {
+            let after = option(alloc, symbols, at)?;
+            Ok((None, after))
+        }
+        Some(OneofKind::Field) => {
+            let (field, after) = field(alloc, Label::Unlabelled, symbols, at)?;
+            Ok((Some(field), after))
+        }
+        None => Err(Refusal::At { at, rule: None }),
+    }
+}
+
+/// Puts a field behind others, if there is one.
+fn push_said(fields: &mut Vec<FieldDecl>, said: Option<FieldDecl>) -> Result<(), AllocError>
+    ensures { OnOk result (fields.new.items ≡ fields.old.items ++ option_to_list said) }
+{
+    if let Some(field) = said {
+        fields.push(field)?;
+    }
+    Ok(())
+}
+
+/// Reads the statements of a oneof, and the closing brace.
+fn oneof_body(
+    alloc: Global,
+    symbols: &[Placed],
+    at: usize,
+) -> Result<(Vec<FieldDecl>, usize), Refusal>
+    requires { at ≤ length symbols.now }
+    ensures within { IfOk result (λ x. (at < x.1) × (x.1 ≤ length symbols.now)) }
+    ensures read { (n : ℕ) → length symbols.now ≤ n → Gives symbols.now (λ x. (map field_view x.0.items, x.1)) result (mapped those_said (until n is_closing (oneof_statement_reader n) (mark_reader (codes "}")) []) all_rules (symbols_from symbols.now at)) }
+{
+    let mut fields = Vec::new(alloc);
+    let mut here = at;
+    while !begins_with_mark("}", symbols, here) {
+        let (said, after) = oneof_statement(alloc, symbols, here)?;
+        push_said(&mut fields, said)?;
+        here = after;
+    }
+    let after = mark("}", symbols, here)?;
+    Ok((fields, after))
+}
+
+/// Reads a oneof: its name and its fields.
+#[tactic(auto, unfolding(crate::specs::Readers::Lines::oneof_reader))]
+pub(crate) fn oneof(
+    alloc: Global,
+    symbols: &[Placed],
+    at: usize,
+) -> Result<((String, Vec<FieldDecl>), usize), Refusal>
+    ensures within { IfOk result (λ x. (at < x.1) × (x.1 ≤ length symbols.now)) }
+    ensures read { (n : ℕ) → length symbols.now ≤ n → Gives symbols.now (λ x. ((string_bytes x.0.0, map field_view x.0.1.items), x.1)) result (oneof_reader n all_rules (symbols_from symbols.now at)) }
+{
+    let after = keyword("oneof", symbols, at)?;
+    let (name, after) = name(symbols, after)?;
+    let after = mark("{", symbols, after)?;
+    let (fields, after) = oneof_body(alloc, symbols, after)?;
+    let name = String::from_str(alloc, name)?;
+    Ok(((name, fields), after))
+}

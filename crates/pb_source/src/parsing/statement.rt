@@ -1,0 +1,59 @@
+//! Statements, as they were read.
+
+use pb_descr::{EnumDecl, FieldDecl, MessageDecl, ServiceDecl, TypeCode};
+
+/// A type as it is written: a scalar, or the name of a message or an enum.
+#[derive(Drop)]
+pub(crate) enum TypeSaid {
+    Scalar(TypeCode),
+    Named(String),
+}
+
+/// A map: `map < key , value > name = number`.
+#[derive(Drop)]
+pub(crate) struct MapSaid {
+    pub key: TypeCode,
+    pub value: TypeSaid,
+    pub name: String,
+    pub number: u32,
+    pub packed: Option<bool>,
+}
+
+/// A statement of a message.
+#[derive(Drop)]
+pub(crate) enum MessageSaid {
+    /// An option, or `;` alone.
+    Nothing,
+    Field(FieldDecl),
+    Map(MapSaid),
+    Oneof(String, Vec<FieldDecl>),
+    Message(MessageDecl),
+    Enum(EnumDecl),
+    Ranges(Vec<(i32, i32)>),
+    Names(Vec<String>),
+}
+
+/// A statement of an enum.
+#[derive(Drop)]
+pub(crate) enum EnumSaid {
+    /// An option that says nothing of `allow_alias`, or `;` alone.
+    Nothing,
+    AllowAlias(bool),
+    /// Its name and its number.
+    Value((String, i32)),
+    Ranges(Vec<(i32, i32)>),
+    Names(Vec<String>),
+}
+
+/// A statement of a file, behind the first.
+#[derive(Drop)]
+pub(crate) enum FileSaid {
+    /// An option, or `;` alone.
+    Nothing,
+    /// Whether it is public, and the file's name.
+    Import(bool, String),
+    Package(String),
+    Message(MessageDecl),
+    Enum(EnumDecl),
+    Service(ServiceDecl),
+}
