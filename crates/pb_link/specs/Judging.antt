@@ -1,0 +1,14 @@
+-- What a judge reads.
+use Rattle.std.specs.Prelude.{List, [], ◌∷◌, Bool, not, if◌then◌else◌, Option, Some, None}
+use Rattle.pb_link.specs.declared.cause.LinkCause.{LinkCause}
+use Rattle.pb_link.specs.Declarations.{Declaration}
+use Rattle.pb_link.specs.Sees.{Sight}
+use Rattle.pb_link.specs.Rules.{World}
+
+abbrev pub world_of : List Declaration → Sight → World
+world_of ds s = record { declared = ds; sight = s }
+
+-- the first cause whose rule does not hold
+abbrev pub first_failing : List (LinkCause × Bool) → Option LinkCause
+first_failing [] = None
+first_failing (r ∷ rs) = if not r.1 then Some r.0 else first_failing rs

@@ -1,0 +1,457 @@
+-- The rules of linking, each a test of one declaration beside the others. `true` says that the rule holds.
+use Rattle.std.specs.Prelude.{ℕ, ℤ, pos, negsuc, ◌+◌, ◌^◌, List, [], ◌∷◌, length, take, filter, codes, Bool, true, false, not, ◌==◌, ◌&&◌, ◌||◌, nat_lt, nat_le, int_lt, int_le, if◌then◌else◌, Option, Some, None, is_some, is_none, slice_get}
+use Rattle.std.specs.List.{list_any, list_all, enumerate_from}
+use Rattle.std.specs.Option.{option_map_or}
+use Rattle.std.specs.Ordering.{int_eq}
+use Rattle.std.specs.Str.{bytes_eq}
+use Rattle.pb_schema.specs.Names.{is_word, is_package, entry_name}
+use Rattle.pb_descr.specs.declared.decl.TypeCode.{TypeCode}
+use Rattle.pb_descr.specs.declared.decl.TypeCode.TheVariants as code
+use Rattle.pb_descr.specs.Decls.{DeclaredField, DeclaredEnum, MessageHead, DeclaredMessages, no_messages, more_messages, DeclaredFile}
+use Rattle.pb_link.specs.Sees.{Sight}
+use Rattle.pb_link.specs.Declarations.{Item, a_file, a_message, a_field, a_oneof, an_enum, a_value, a_service, a_method, Declaration, simple_name, is_named, full_name, has_name, is_member_of, is_synthetic}
+use Rattle.pb_link.specs.Lookup.{Found, found, not_found, not_visible, not_a_type, looked_up, is_package_name, every_file}
+
+-- WHAT THE RULES SPEAK OF: all declarations, and what files see
+pub record World : Type 0 where
+  pub declared : List Declaration
+  pub sight : Sight
+
+abbrev pub item_of : Option Declaration → Option Item
+item_of None = None
+item_of (Some d) = Some d.item
+
+abbrev pub item_at : World → ℕ → Option Item
+item_at w place = item_of (slice_get w.declared place)
+
+-- what a type name comes to in a declaration's scope
+abbrev pub lookup_at : World → Declaration → List ℕ → Found
+lookup_at w d name = looked_up w.declared (w.sight.sees d.file) d.scope name
+
+abbrev pub lookups_if : World → Declaration → Option (List ℕ) → List Found
+lookups_if w d None = []
+lookups_if w d (Some name) = lookup_at w d name ∷ []
+
+-- what the type names of a field or method come to; other declarations have none
+abbrev pub lookups : World → Declaration → List Found
+lookups w d = by_item d.item
+  where
+    by_item : Item → List Found
+    by_item (a_field head i f) = lookups_if w d f.type_name
+    by_item (a_method m) = lookup_at w d m.input ∷ lookup_at w d m.output ∷ []
+    by_item (a_file f) = []
+    by_item (a_message head inner) = []
+    by_item (a_oneof head i name) = []
+    by_item (an_enum e) = []
+    by_item (a_value e i v) = []
+    by_item (a_service s) = []
+
+-- the place of a type that was found
+abbrev pub place_found : Found → Option ℕ
+place_found (found place) = Some place
+place_found not_found = None
+place_found not_visible = None
+place_found not_a_type = None
+
+-- what was found passes a test; a name that is not found rests on nothing, and passes
+abbrev pub passes : World → (Item → Bool) → Found → Bool
+passes w test (found place) = option_map_or test (item_at w place) true
+passes w test not_found = true
+passes w test not_visible = true
+passes w test not_a_type = true
+
+abbrev pub is_entry : Item → Bool
+is_entry (a_file f) = false
+is_entry (a_message head inner) = head.is_entry
+is_entry (a_field head i f) = false
+is_entry (a_oneof head i name) = false
+is_entry (an_enum e) = false
+is_entry (a_value e i v) = false
+is_entry (a_service s) = false
+is_entry (a_method m) = false
+
+abbrev pub is_not_entry : Item → Bool
+is_not_entry i = not (is_entry i)
+
+abbrev pub is_message : Item → Bool
+is_message (a_file f) = false
+is_message (a_message head inner) = true
+is_message (a_field head i f) = false
+is_message (a_oneof head i name) = false
+is_message (an_enum e) = false
+is_message (a_value e i v) = false
+is_message (a_service s) = false
+is_message (a_method m) = false
+
+abbrev pub is_enum : Item → Bool
+is_enum (a_file f) = false
+is_enum (a_message head inner) = false
+is_enum (a_field head i f) = false
+is_enum (a_oneof head i name) = false
+is_enum (an_enum e) = true
+is_enum (a_value e i v) = false
+is_enum (a_service s) = false
+is_enum (a_method m) = false
+
+abbrev pub is_field : Item → Bool
+is_field (a_file f) = false
+is_field (a_message head inner) = false
+is_field (a_field head i f) = true
+is_field (a_oneof head i name) = false
+is_field (an_enum e) = false
+is_field (a_value e i v) = false
+is_field (a_service s) = false
+is_field (a_method m) = false
+
+-- FILES
+
+-- a file of this name
+abbrev pub is_file_named : List ℕ → Item → Bool
+is_file_named name (a_file f) = bytes_eq name f.name
+is_file_named name (a_message head inner) = false
+is_file_named name (a_field head i f) = false
+is_file_named name (a_oneof head i oneof) = false
+is_file_named name (an_enum e) = false
+is_file_named name (a_value e i v) = false
+is_file_named name (a_service s) = false
+is_file_named name (a_method m) = false
+
+-- TwoFiles: no earlier file has this name
+abbrev pub file_name_is_first : World → ℕ → DeclaredFile → Bool
+file_name_is_first w place f = not (list_any (λ d. is_file_named f.name d.item) (take place w.declared))
+
+-- the index of an import
+abbrev pub is_import_index : DeclaredFile → ℤ → Bool
+is_import_index f (pos i) = nat_lt i (length f.imports)
+is_import_index f (negsuc i) = false
+
+-- MissingImport: there are at most 2 ^ 31 - 1 imports; every import names a file of the list; every public index lies in the imports
+abbrev pub imports_are_there : World → DeclaredFile → Bool
+imports_are_there w f =
+    nat_lt (length f.imports) (2 ^ 31)
+    && list_all (λ name. list_any (λ d. is_file_named name d.item) w.declared) f.imports
+    && list_all (is_import_index f) f.public_indexes
+
+-- ImportCycle: the file does not reach itself by imports
+abbrev pub reaches_no_cycle : World → Declaration → Bool
+reaches_no_cycle w d = not (w.sight.is_cyclic d.file)
+
+-- NAMES
+
+-- BadName: the file's name is not empty; the package is empty or words joined by dots; a declared name is a word
+abbrev pub name_is_right : Item → Bool
+name_is_right (a_file f) = not (length f.name == 0) && is_package f.package_name
+name_is_right (a_message head inner) = not (is_named (a_message head inner)) || is_word (simple_name (a_message head inner))
+name_is_right (a_field head i f) = not (is_named (a_field head i f)) || is_word (simple_name (a_field head i f))
+name_is_right (a_oneof head i name) = not (is_named (a_oneof head i name)) || is_word (simple_name (a_oneof head i name))
+name_is_right (an_enum e) = not (is_named (an_enum e)) || is_word (simple_name (an_enum e))
+name_is_right (a_value e i v) = not (is_named (a_value e i v)) || is_word (simple_name (a_value e i v))
+name_is_right (a_service s) = not (is_named (a_service s)) || is_word (simple_name (a_service s))
+name_is_right (a_method m) = not (is_named (a_method m)) || is_word (simple_name (a_method m))
+
+-- NameTaken: no earlier declaration has this full name, and no package has it
+abbrev pub name_is_free : World → ℕ → Declaration → Bool
+name_is_free w place d =
+    not (is_named d.item)
+    || (not (list_any (has_name (full_name d)) (take place w.declared)) && not (is_package_name w.declared every_file (full_name d)))
+
+-- both are the same fault
+abbrev pub is_same_fault : Found → Found → Bool
+is_same_fault (found p) other = false
+is_same_fault not_found (found q) = false
+is_same_fault not_found not_found = true
+is_same_fault not_found not_visible = false
+is_same_fault not_found not_a_type = false
+is_same_fault not_visible (found q) = false
+is_same_fault not_visible not_found = false
+is_same_fault not_visible not_visible = true
+is_same_fault not_visible not_a_type = false
+is_same_fault not_a_type (found q) = false
+is_same_fault not_a_type not_found = false
+is_same_fault not_a_type not_visible = false
+is_same_fault not_a_type not_a_type = true
+
+-- NotFound, NotVisible, NotAType: the type name is found
+abbrev pub is_looked_up : Found → World → Declaration → Bool
+is_looked_up fault w d = not (list_any (is_same_fault fault) (lookups w d))
+
+-- NUMBERS
+
+-- BadNumber: 1 to 536,870,911, and not 19,000 to 19,999
+abbrev pub is_field_number : ℤ → Bool
+is_field_number (pos n) = nat_le 1 n && nat_lt n (2 ^ 29) && (nat_lt n 19000 || nat_lt 19999 n)
+is_field_number (negsuc n) = false
+
+-- NumberTaken: no earlier field has the number; no earlier value, unless the enum allows that
+abbrev pub number_is_free : Item → Bool
+number_is_free (a_field head i f) = not (list_any (λ g. int_eq f.number g.number) (take i head.fields))
+number_is_free (a_value e i v) = e.allows_alias || not (list_any (λ u. int_eq v.1 u.1) (take i e.values))
+number_is_free (a_file f) = true
+number_is_free (a_message head inner) = true
+number_is_free (a_oneof head i name) = true
+number_is_free (an_enum e) = true
+number_is_free (a_service s) = true
+number_is_free (a_method m) = true
+
+-- a number in a range of a message, whose end is behind it, and in one of an enum, whose end is in it
+abbrev pub is_in_message_range : ℤ → ℤ × ℤ → Bool
+is_in_message_range n r = int_le r.0 n && int_lt n r.1
+
+abbrev pub is_in_enum_range : ℤ → ℤ × ℤ → Bool
+is_in_enum_range n r = int_le r.0 n && int_le n r.1
+
+-- Reserved: neither number nor name is reserved in its message or enum
+abbrev pub is_not_reserved : Item → Bool
+is_not_reserved (a_field head i f) =
+    not (list_any (is_in_message_range f.number) head.reserved) && not (list_any (bytes_eq f.name) head.reserved_names)
+is_not_reserved (a_value e i v) =
+    not (list_any (is_in_enum_range v.1) e.reserved) && not (list_any (bytes_eq v.0) e.reserved_names)
+is_not_reserved (a_file f) = true
+is_not_reserved (a_message head inner) = true
+is_not_reserved (a_oneof head i name) = true
+is_not_reserved (an_enum e) = true
+is_not_reserved (a_service s) = true
+is_not_reserved (a_method m) = true
+
+-- ONEOFS
+
+abbrev pub same_oneof : Option ℤ → Option ℤ → Bool
+same_oneof (Some i) (Some j) = int_eq i j
+same_oneof (Some i) None = false
+same_oneof None other = false
+
+abbrev pub how_many : (DeclaredField → Bool) → List DeclaredField → ℕ
+how_many test [] = 0
+how_many test (g ∷ gs) = (if test g then 1 else 0) + how_many test gs
+
+-- the fields in the oneof of a field, itself too
+abbrev pub members_with : MessageHead → DeclaredField → ℕ
+members_with head f = how_many (λ g. same_oneof f.oneof g.oneof) head.fields
+
+-- BadOneof at a field: the oneof's index lies in the list and the member is not repeated; an optional field is the only member of a oneof
+abbrev pub oneof_of_field_is_right : MessageHead → DeclaredField → Bool
+oneof_of_field_is_right head f = option_map_or is_index f.oneof true && (not f.is_optional || (members_with head f == 1))
+  where
+    is_index : ℤ → Bool
+    is_index (pos o) = nat_lt o (length head.oneofs) && not f.is_repeated
+    is_index (negsuc o) = false
+
+-- BadOneof at a oneof: it has a member; a real one does not follow a synthetic one
+abbrev pub oneof_is_right : MessageHead → ℕ → Bool
+oneof_is_right head o =
+    list_any (is_member_of o) head.fields
+    && (is_synthetic head o || not (list_any (λ e. is_synthetic head e.0) (take o (enumerate_from 0 head.oneofs))))
+
+abbrev pub is_oneof_right : Item → Bool
+is_oneof_right (a_field head i f) = oneof_of_field_is_right head f
+is_oneof_right (a_oneof head o name) = oneof_is_right head o
+is_oneof_right (a_file f) = true
+is_oneof_right (a_message head inner) = true
+is_oneof_right (an_enum e) = true
+is_oneof_right (a_value e i v) = true
+is_oneof_right (a_service s) = true
+is_oneof_right (a_method m) = true
+
+-- MAPS
+
+-- what was found is the type at a place
+abbrev pub is_found_at : ℕ → Found → Bool
+is_found_at p (found q) = p == q
+is_found_at p not_found = false
+is_found_at p not_visible = false
+is_found_at p not_a_type = false
+
+-- the declaration is a field whose type is the one at a place
+abbrev pub uses : World → ℕ → Declaration → Bool
+uses w place d = is_field d.item && list_any (is_found_at place) (lookups w d)
+
+-- a field is repeated and gives an entry its name
+abbrev pub gives_name : Item → Item → Bool
+gives_name (a_field head i f) (a_message e inner) = f.is_repeated && bytes_eq (entry_name f.name) e.name
+gives_name _ _ = false
+
+-- a field is repeated, stands in the message around an entry, and gives it its name
+abbrev pub is_map_field : Declaration → Declaration → Bool
+is_map_field entry d = (d.parent == entry.parent) && gives_name d.item entry.item
+
+abbrev pub is_one_map_field : Declaration → List Declaration → Bool
+is_one_map_field entry [] = false
+is_one_map_field entry (d ∷ []) = is_map_field entry d
+is_one_map_field entry (d ∷ e ∷ ds) = false
+
+-- an entry message is used by exactly one field, and that is a map field of it
+abbrev pub has_one_use : World → ℕ → Declaration → Bool
+has_one_use w place entry = is_one_map_field entry (filter (uses w place) w.declared)
+
+-- the type numbers of key types
+abbrev pub is_key_code : TypeCode → Bool
+is_key_code code.Int64 = true
+is_key_code code.Uint64 = true
+is_key_code code.Int32 = true
+is_key_code code.Fixed64 = true
+is_key_code code.Fixed32 = true
+is_key_code code.Bool = true
+is_key_code code.Text = true
+is_key_code code.Uint32 = true
+is_key_code code.Sfixed32 = true
+is_key_code code.Sfixed64 = true
+is_key_code code.Sint32 = true
+is_key_code code.Sint64 = true
+is_key_code code.Double = false
+is_key_code code.Float = false
+is_key_code code.Group = false
+is_key_code code.Message = false
+is_key_code code.Bytes = false
+is_key_code code.Enum = false
+
+-- a field of an entry, neither repeated nor in a oneof
+abbrev pub is_part : List ℕ → ℕ → DeclaredField → Bool
+is_part name number f = bytes_eq name f.name && int_eq (pos number) f.number && not f.is_repeated && is_none f.oneof
+
+abbrev pub key_name : List ℕ
+key_name = codes "key"
+
+abbrev pub value_name : List ℕ
+value_name = codes "value"
+
+-- a type name in an entry means no entry
+abbrev pub is_no_entry : World → Declaration → List ℕ → Bool
+is_no_entry w entry name = passes w is_not_entry (looked_up w.declared (w.sight.sees entry.file) (full_name entry) name)
+
+-- the fields key = 1, of a key type, and value = 2, which is no entry
+abbrev pub are_key_and_value : World → Declaration → DeclaredField → DeclaredField → Bool
+are_key_and_value w entry k v =
+    is_part key_name 1 k && is_part value_name 2 v && option_map_or is_key_code k.type_code false
+    && option_map_or (is_no_entry w entry) v.type_name true
+
+abbrev pub has_key_and_value : World → Declaration → List DeclaredField → Bool
+has_key_and_value w entry (f ∷ g ∷ []) = are_key_and_value w entry f g || are_key_and_value w entry g f
+has_key_and_value w entry _ = false
+
+abbrev pub has_nothing_inside : MessageHead → DeclaredMessages → Bool
+has_nothing_inside head inner = is_nothing inner && (length head.enums == 0) && (length head.oneofs == 0)
+  where
+    is_nothing : DeclaredMessages → Bool
+    is_nothing no_messages = true
+    is_nothing (more_messages m ms) = false
+
+-- an entry that a field uses is that of the map field
+abbrev pub is_used_rightly : World → Declaration → Found → Bool
+is_used_rightly w d (found q) = option_map_or (λ e. not (is_entry e.item) || is_map_field e d) (slice_get w.declared q) true
+is_used_rightly w d not_found = true
+is_used_rightly w d not_visible = true
+is_used_rightly w d not_a_type = true
+
+-- BadMap. At an entry: it is used by exactly one field, repeated, in the message around it, which gives it its name; it has exactly the
+-- fields key = 1 and value = 2, and nothing inside. At a field that uses an entry: it is repeated, in the message around the entry, and gives
+-- it its name. At a method: it uses no entry.
+abbrev pub is_map_right : World → ℕ → Declaration → Bool
+is_map_right w place d = by_item d.item
+  where
+    by_item : Item → Bool
+    by_item (a_message head inner) =
+        not head.is_entry || (has_one_use w place d && has_key_and_value w d head.fields && has_nothing_inside head inner)
+    by_item (a_field head i f) = list_all (is_used_rightly w d) (lookups w d)
+    by_item (a_method m) = list_all (passes w is_not_entry) (lookups w d)
+    by_item (a_file f) = true
+    by_item (a_oneof head i name) = true
+    by_item (an_enum e) = true
+    by_item (a_value e i v) = true
+    by_item (a_service s) = true
+
+-- KINDS
+
+-- the type numbers of packable kinds
+abbrev pub is_packable_code : TypeCode → Bool
+is_packable_code code.Text = false
+is_packable_code code.Group = false
+is_packable_code code.Message = false
+is_packable_code code.Bytes = false
+is_packable_code code.Double = true
+is_packable_code code.Float = true
+is_packable_code code.Int64 = true
+is_packable_code code.Uint64 = true
+is_packable_code code.Int32 = true
+is_packable_code code.Fixed64 = true
+is_packable_code code.Fixed32 = true
+is_packable_code code.Bool = true
+is_packable_code code.Uint32 = true
+is_packable_code code.Enum = true
+is_packable_code code.Sfixed32 = true
+is_packable_code code.Sfixed64 = true
+is_packable_code code.Sint32 = true
+is_packable_code code.Sint64 = true
+
+abbrev pub is_packable_by : World → Declaration → Option (List ℕ) → Option TypeCode → Bool
+is_packable_by w d name (Some c) = is_packable_code c
+is_packable_by w d name None = is_some name && list_all (passes w is_enum) (lookups w d)
+
+-- the field is of a packable kind, by its type number, or else by what its type name means; a name that is not found passes
+abbrev pub is_packable : World → Declaration → DeclaredField → Bool
+is_packable w d f = is_packable_by w d f.type_name f.type_code
+
+-- BadPacked: `packed = true` stands only on a repeated field of a packable kind
+abbrev pub is_packed_right : World → Declaration → DeclaredField → Bool
+is_packed_right w d f = not (option_map_or (λ b. b) f.packed false) || (f.is_repeated && is_packable w d f)
+
+-- BadEnum: there is a first value and its number is 0
+abbrev pub begins_at_zero : DeclaredEnum → Bool
+begins_at_zero e = is_zero_first e.values
+  where
+    is_zero_first : List (List ℕ × ℤ) → Bool
+    is_zero_first [] = false
+    is_zero_first (v ∷ vs) = int_eq v.1 (pos 0)
+
+abbrev pub is_type_by : World → Declaration → Option (List ℕ) → Option TypeCode → Bool
+is_type_by w d name None = is_some name
+is_type_by w d name (Some code.Group) = false
+is_type_by w d name (Some code.Message) = is_some name && list_all (passes w is_message) (lookups w d)
+is_type_by w d name (Some code.Enum) = is_some name && list_all (passes w is_enum) (lookups w d)
+is_type_by w d name (Some code.Double) = is_none name
+is_type_by w d name (Some code.Float) = is_none name
+is_type_by w d name (Some code.Int64) = is_none name
+is_type_by w d name (Some code.Uint64) = is_none name
+is_type_by w d name (Some code.Int32) = is_none name
+is_type_by w d name (Some code.Fixed64) = is_none name
+is_type_by w d name (Some code.Fixed32) = is_none name
+is_type_by w d name (Some code.Bool) = is_none name
+is_type_by w d name (Some code.Text) = is_none name
+is_type_by w d name (Some code.Bytes) = is_none name
+is_type_by w d name (Some code.Uint32) = is_none name
+is_type_by w d name (Some code.Sfixed32) = is_none name
+is_type_by w d name (Some code.Sfixed64) = is_none name
+is_type_by w d name (Some code.Sint32) = is_none name
+is_type_by w d name (Some code.Sint64) = is_none name
+
+-- KindMismatch at a field: a type number or a type name is given; a given number is not GROUP and agrees with what the name means; a scalar has
+-- no type name; MESSAGE and ENUM have one
+abbrev pub is_type_right : World → Declaration → DeclaredField → Bool
+is_type_right w d f = is_type_by w d f.type_name f.type_code
+
+-- two ranges have a number in common
+abbrev pub message_ranges_overlap : ℤ × ℤ → ℤ × ℤ → Bool
+message_ranges_overlap r s = int_lt r.0 s.1 && int_lt s.0 r.1
+
+abbrev pub enum_ranges_overlap : ℤ × ℤ → ℤ × ℤ → Bool
+enum_ranges_overlap r s = int_le r.0 s.1 && int_le s.0 r.1
+
+abbrev pub none_overlap : (ℤ × ℤ → ℤ × ℤ → Bool) → List (ℤ × ℤ) → Bool
+none_overlap overlap [] = true
+none_overlap overlap (r ∷ rs) = not (list_any (overlap r) rs) && none_overlap overlap rs
+
+abbrev pub is_message_range : ℤ × ℤ → Bool
+is_message_range r = int_le (pos 1) r.0 && int_lt r.0 r.1 && int_le r.1 (pos 536870912)
+
+abbrev pub is_enum_range : ℤ × ℤ → Bool
+is_enum_range r = int_le r.0 r.1
+
+-- BadRange: in a message 1 <= start < end <= 536,870,912, in an enum start <= end; no two ranges overlap
+abbrev pub ranges_are_right : Item → Bool
+ranges_are_right (a_message head inner) = list_all is_message_range head.reserved && none_overlap message_ranges_overlap head.reserved
+ranges_are_right (an_enum e) = list_all is_enum_range e.reserved && none_overlap enum_ranges_overlap e.reserved
+ranges_are_right (a_file f) = true
+ranges_are_right (a_field head i f) = true
+ranges_are_right (a_oneof head i name) = true
+ranges_are_right (a_value e i v) = true
+ranges_are_right (a_service s) = true
+ranges_are_right (a_method m) = true

@@ -1,0 +1,24 @@
+-- What the row of declarations stands for, and what type names in it come to.
+use Rattle.std.specs.Prelude.{List, [], ◌∷◌, take, string_bytes}
+use Rattle.pb_link.specs.Declarations.{Declaration}
+use Rattle.pb_link.specs.ItemView.{item_view}
+use Rattle.pb_link.specs.Lookup.{Found, found, not_found, not_visible, not_a_type}
+use Rattle.pb_link.specs.declared.declaration.Declaration.{Declaration as DeclarationValue}
+use Rattle.pb_link.specs.declared.found.Found.{Found as FoundValue}
+use Rattle.pb_link.specs.declared.found.Found.TheVariants as value
+use Rattle.pb_link.specs.declared.found.TypeNames.{TypeNames}
+use Rattle.pb_link.specs.declared.found.TypeNames.TheVariants as names
+
+abbrev pub declaration_view : DeclarationValue → Declaration
+declaration_view d = record { file = d.file; parent = d.parent; scope = take d.scope_len (string_bytes d.full_name); item = item_view d.item }
+
+abbrev pub found_view : FoundValue → Found
+found_view (value.Type place) = found place
+found_view value.NotFound = not_found
+found_view value.NotVisible = not_visible
+found_view value.NotAType = not_a_type
+
+abbrev pub type_names_view : TypeNames → List Found
+type_names_view names.None = []
+type_names_view (names.One f) = found_view f ∷ []
+type_names_view (names.Two f g) = found_view f ∷ found_view g ∷ []

@@ -1,0 +1,35 @@
+//! Names and rules of declarations, and the pools that they make.
+#![tactic(auto)]
+
+mod cause;
+mod cycles;
+mod declaration;
+mod declared;
+mod declaring;
+mod error;
+mod firsts;
+mod flags;
+mod found;
+mod imports;
+mod item;
+mod judge;
+mod laws;
+mod marks;
+mod name_set;
+mod names;
+mod naming;
+mod packages;
+mod parts;
+mod places;
+mod reach;
+mod rules;
+mod scene;
+mod scopes;
+mod sight;
+mod type_refs;
+mod walk;
+
+pub use cause::LinkCause;
+pub use declaring::{declared_order, to_decls};
+pub use error::LinkError;
+pub use laws::linked_types;

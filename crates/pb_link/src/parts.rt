@@ -1,0 +1,76 @@
+//! The pool of linked declarations.
+
+pub(crate) mod fields;
+pub(crate) mod files;
+pub(crate) mod tables;
+pub(crate) mod types;
+
+ghost use Rattle.std.specs.Prelude.{◌≡◌, map, length, IfOk, IfErr};
+ghost use Rattle.pb_schema.specs.declared.error.PoolError.TheVariants.{Memory};
+ghost use Rattle.pb_descr.specs.View.{file_view};
+ghost use Rattle.pb_link.specs.Sees.{files_of};
+ghost use Rattle.pb_link.specs.Declarations.{declarations};
+ghost use Rattle.pb_link.specs.Rules.{World, lookups};
+ghost use Rattle.pb_link.specs.Link.{IsWorldOf, NothingFails};
+ghost use Rattle.pb_link.specs.PoolOf.{pool_of};
+ghost use Rattle.pb_link.specs.View.{declaration_view, type_names_view};
+ghost use Rattle.pb_link.specs.Tables.{AreNamesOf};
+
+use crate::declaration::Declaration;
+use crate::found::TypeNames;
+use crate::imports::Imports;
+use crate::names::Names;
+use crate::parts::files::files_of;
+use crate::parts::tables::{Tables, kinds};
+use crate::parts::types::{enums_of, messages_of};
+use pb_descr::FileDecl;
+use pb_schema::{Pool, PoolError};
+use std::alloc::Global;
+
+/// The pool of declarations that link, of which `found` says what their type names came to, and `imports` which files each file imports.
+pub(crate) fn linked_pool(
+    alloc: Global,
+    files: &[FileDecl],
+    imports: &[Vec<usize>],
+    row: &[Declaration<'_>],
+    found: &[TypeNames],
+) -> Result<Pool, PoolError>
+    requires imports { map (λ v. v.items) imports.now ≡ map (λ f. f.imports) (files_of (map file_view files.now)) }
+    requires sizes { length found.now ≡ length row.now }
+    ensures made { (w : World) → IsWorldOf (map file_view files.now) w → NothingFails w → w.declared ≡ map declaration_view row.now → map type_names_view found.now ≡ map (lookups w) w.declared → IfOk result (λ p. p ≡ pool_of (map file_view files.now) w) }
+    ensures refused { (w : World) → IsWorldOf (map file_view files.now) w → NothingFails w → w.declared ≡ map declaration_view row.now → map type_names_view found.now ≡ map (lookups w) w.declared → IfErr result (λ e. e ≡ Memory) }
+{
+    let tables = Tables {
+        row,
+        found,
+        kinds: kinds(alloc, row)?,
+    };
+    let infos = files_of(alloc, files, imports)?;
+    let messages = messages_of(alloc, &tables)?;
+    let enums = enums_of(alloc, &tables)?;
+    match Pool::from_parts(alloc, infos, messages, enums) {
+        Ok(pool) => Ok(pool),
+        Err(error) => Err(error),
+    }
+}
+
+/// The pool of declarations that link, by what files, names and type names came to.
+pub(crate) fn pool_of_names(
+    alloc: Global,
+    files: &[FileDecl],
+    row: &[Declaration<'_>],
+    names: &Names,
+) -> Result<Pool, PoolError>
+    requires row { map declaration_view row.now ≡ declarations (map file_view files.now) }
+    requires sizes { length names.now.found.items ≡ length row.now }
+    ensures made { (w : World) → IsWorldOf (map file_view files.now) w → NothingFails w → AreNamesOf w names.now → IfOk result (λ p. p ≡ pool_of (map file_view files.now) w) }
+    ensures refused { (w : World) → IsWorldOf (map file_view files.now) w → NothingFails w → AreNamesOf w names.now → IfErr result (λ e. e ≡ Memory) }
+{
+    let imports = Imports::new(alloc, files)?;
+    let all = imports.all.as_slice();
+    let found = names.found.as_slice();
+    match linked_pool(alloc, files, all, row, found) {
+        Ok(pool) => Ok(pool),
+        Err(error) => Err(error),
+    }
+}

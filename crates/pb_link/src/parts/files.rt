@@ -1,0 +1,38 @@
+//! Files of a pool.
+
+ghost use Rattle.std.specs.Prelude.{◌≡◌, map, length, IfOk};
+ghost use Rattle.pb_schema.specs.View.{file_view};
+ghost use Rattle.pb_descr.specs.View.{file_view as declared_view};
+ghost use Rattle.pb_link.specs.Sees.{files_of};
+
+use pb_descr::FileDecl;
+use pb_schema::FileInfo;
+use std::alloc::{AllocError, Global};
+
+/// A file, with the indexes of the files that it imports.
+fn file_of(alloc: Global, file: &FileDecl, imports: &Vec<usize>) -> Result<FileInfo, AllocError>
+    ensures { IfOk result (λ i. file_view i ≡ record { name = (declared_view file.now).name; package_name = (declared_view file.now).package_name; imports = imports.now.items }) }
+{
+    Ok(FileInfo {
+        name: file.name.clone()?,
+        package: file.package.clone()?,
+        imports: imports.as_slice().to_vec(alloc)?,
+    })
+}
+
+/// The files, each with the files that it imports, by their indexes.
+pub(crate) fn files_of(
+    alloc: Global,
+    files: &[FileDecl],
+    imports: &[Vec<usize>],
+) -> Result<Vec<FileInfo>, AllocError>
+    requires { map (λ v. v.items) imports.now ≡ map (λ f. f.imports) (files_of (map declared_view files.now)) }
+    ensures { IfOk result (λ v. map file_view v.items ≡ files_of (map declared_view files.now)) }
+{
+    let mut infos: Vec<FileInfo> = Vec::new(alloc);
+    for (index, file) in files.iter().enumerate() {
+        let info = file_of(alloc, file, &imports[index])?;
+        infos.push(info)?;
+    }
+    Ok(infos)
+}

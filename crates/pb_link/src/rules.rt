@@ -1,0 +1,7 @@
+//! The rules of linking, a check each.
+
+pub(crate) mod kinds;
+pub(crate) mod numbers;
+pub(crate) mod oneofs;
+pub(crate) mod ranges;
+pub(crate) mod uses;

@@ -1,0 +1,5 @@
+//! Tests of the declarations of pools, by public calls alone.
+#![tactic(auto)]
+
+#[cfg(test)]
+mod declarations;
