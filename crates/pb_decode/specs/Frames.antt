@@ -28,24 +28,40 @@ pub data Part : Type 0 where
   entry_part : Kind → Kind → Option Scalar → Option Datum → Part
   group_part : List Record → Part
 
--- a message into a slot of a part
+-- A message into a slot of a part. A slot of another part takes none, and neither does a map or the unknown records.
 abbrev pub put_message : Types → Slot → Part → Message → Part
 put_message pool (slot.One s n) (message_part m v) w = message_part m (with_fields v (stored_at (message_fields pool m) s n (one (message w)) (fields_of v)))
+put_message pool (slot.One s n) (entry_part key k x d) w = entry_part key k x d
+put_message pool (slot.One s n) (group_part us) w = group_part us
 put_message pool (slot.List n) (message_part m v) w = message_part m (with_fields v (push_at n (message w) (fields_of v)))
+put_message pool (slot.List n) (entry_part key k x d) w = entry_part key k x d
+put_message pool (slot.List n) (group_part us) w = group_part us
+put_message pool slot.Entry (message_part m v) w = message_part m v
 put_message pool slot.Entry (entry_part key k x d) w = entry_part key k x (Some (message w))
-put_message pool _ p w = p
+put_message pool slot.Entry (group_part us) w = group_part us
+put_message pool (slot.Map n) p w = p
+put_message pool (slot.Unknown n) p w = p
 
--- a group among the unknown records of a part; those of an entry are dropped
+-- A group among the unknown records of a part; those of an entry are dropped. No other slot takes one.
 abbrev pub put_group : Slot → Part → List Record → Part
 put_group (slot.Unknown n) (message_part m v) us = message_part m (body (fields_of v) (unknown_of v ++ record { number = n; payload = group (group_of us) } ∷ []))
+put_group (slot.Unknown n) (entry_part key k x d) us = entry_part key k x d
 put_group (slot.Unknown n) (group_part vs) us = group_part (vs ++ record { number = n; payload = group (group_of us) } ∷ [])
-put_group _ p us = p
+put_group (slot.One s n) p us = p
+put_group (slot.List n) p us = p
+put_group (slot.Map n) p us = p
+put_group slot.Entry p us = p
 
--- an entry into a map. Where its key or value is missing the default stands there.
+-- An entry into a map. Where its key or value is missing the default stands there. Messages alone have maps, and no other slot takes an entry.
 abbrev pub put_entry : Slot → Part → Kind → Kind → Option Scalar → Option Datum → Part
 put_entry (slot.Map n) (message_part m v) key k x d =
     message_part m (with_fields v (insert_at n (unwrap_or x (default_of key)) (unwrap_or d (missing (λ _ _. empty) k)) (fields_of v)))
-put_entry _ p key k x d = p
+put_entry (slot.Map n) (entry_part key2 k2 y e) key k x d = entry_part key2 k2 y e
+put_entry (slot.Map n) (group_part us) key k x d = group_part us
+put_entry (slot.One s n) p key k x d = p
+put_entry (slot.List n) p key k x d = p
+put_entry slot.Entry p key k x d = p
+put_entry (slot.Unknown n) p key k x d = p
 
 abbrev pub put_child : Types → Slot → Part → Part → Part
 put_child pool s p (message_part k w) = put_message pool s p w
@@ -68,9 +84,14 @@ IsWorth pool levels (group_part us) rs = us ≡ rs
 -- the part has this form
 abbrev pub IsSameForm : Part → Part → Type 0
 IsSameForm (message_part m v) (message_part k w) = m ≡ k
+IsSameForm (message_part m v) (entry_part key k x d) = ⊥
+IsSameForm (message_part m v) (group_part us) = ⊥
+IsSameForm (entry_part key k x d) (message_part m v) = ⊥
 IsSameForm (entry_part key k x d) (entry_part key2 k2 x2 d2) = (key ≡ key2) × (k ≡ k2)
+IsSameForm (entry_part key k x d) (group_part us) = ⊥
+IsSameForm (group_part us) (message_part m v) = ⊥
+IsSameForm (group_part us) (entry_part key k x d) = ⊥
 IsSameForm (group_part us) (group_part vs) = Unit {0}
-IsSameForm _ _ = ⊥
 
 -- what is kept of an open part beside what there is of it: the levels left, where its known end is, and how many whole records of each number
 -- stand in it so far
@@ -142,13 +163,34 @@ GoesOnFrom pool inner (group_part us) earlier = earlier ≡ []
 -- key, and a group among unknown records.
 abbrev pub Takes : Slot → Part → Part → Type 0
 Takes (slot.One s n) (message_part m v) (message_part k w) = Unit {0}
+Takes (slot.One s n) (message_part m v) (entry_part key k x d) = ⊥
+Takes (slot.One s n) (message_part m v) (group_part us) = ⊥
+Takes (slot.One s n) (entry_part key k x d) q = ⊥
+Takes (slot.One s n) (group_part vs) q = ⊥
 Takes (slot.List n) (message_part m v) (message_part k w) = Unit {0}
+Takes (slot.List n) (message_part m v) (entry_part key k x d) = ⊥
+Takes (slot.List n) (message_part m v) (group_part us) = ⊥
+Takes (slot.List n) (entry_part key k x d) q = ⊥
+Takes (slot.List n) (group_part vs) q = ⊥
+Takes slot.Entry (message_part m v) q = ⊥
 Takes slot.Entry (entry_part key k x d) (message_part m v) = Unit {0}
+Takes slot.Entry (entry_part key k x d) (entry_part key2 k2 y e) = ⊥
+Takes slot.Entry (entry_part key k x d) (group_part us) = ⊥
+Takes slot.Entry (group_part vs) q = ⊥
+Takes (slot.Map n) (message_part m v) (message_part k w) = ⊥
 Takes (slot.Map n) (message_part m v) (entry_part key k x d) = AreKeys key (entries_of (get_field n (fields_of v)))
+Takes (slot.Map n) (message_part m v) (group_part us) = ⊥
+Takes (slot.Map n) (entry_part key k x d) q = ⊥
+Takes (slot.Map n) (group_part vs) q = ⊥
+Takes (slot.Unknown n) (message_part m v) (message_part k w) = ⊥
+Takes (slot.Unknown n) (message_part m v) (entry_part key k x d) = ⊥
 Takes (slot.Unknown n) (message_part m v) (group_part us) = Unit {0}
+Takes (slot.Unknown n) (entry_part key k x d) (message_part m v) = ⊥
+Takes (slot.Unknown n) (entry_part key k x d) (entry_part key2 k2 y e) = ⊥
 Takes (slot.Unknown n) (entry_part key k x d) (group_part us) = Unit {0}
+Takes (slot.Unknown n) (group_part vs) (message_part m v) = ⊥
+Takes (slot.Unknown n) (group_part vs) (entry_part key k x d) = ⊥
 Takes (slot.Unknown n) (group_part vs) (group_part us) = Unit {0}
-Takes _ _ _ = ⊥
 
 -- These frames, innermost first, hold what is open: it has so many levels left and may hold so many levels of values, stands below this path, begins at p,
 -- and goes on from the earlier records.

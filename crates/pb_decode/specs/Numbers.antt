@@ -5,8 +5,8 @@ use Rattle.pb_wire.specs.Spell.{Body}
 use Rattle.pb_wire.specs.Fault.{Fault, fault, Place, input_end, Leads, VarintFault, FixedFault}
 use Rattle.pb_schema.specs.declared.types.Kind.{Kind}
 use Rattle.pb_schema.specs.Types.{Types, message_fields}
-use Rattle.pb_schema.specs.Scalar.{Scalar, int32, int64, uint32, uint64, boolean, text}
-use Rattle.pb_value.specs.Data.{Datum, scalar, one, body, fields_of, unknown_of}
+use Rattle.pb_schema.specs.Scalar.{Scalar, int32, int64, uint32, uint64, boolean, float, double, enum, text, bytes}
+use Rattle.pb_value.specs.Data.{Datum, scalar, message, one, body, fields_of, unknown_of}
 use Rattle.pb_value.specs.Change.{stored_at, push_at, with_fields}
 use Rattle.pb_decode.specs.declared.purpose.Purpose.{Purpose}
 use Rattle.pb_decode.specs.declared.purpose.Purpose.TheVariants as purpose
@@ -36,15 +36,30 @@ key_in (scalar (uint32 n)) = Some (uint32 n)
 key_in (scalar (uint64 n)) = Some (uint64 n)
 key_in (scalar (boolean b)) = Some (boolean b)
 key_in (scalar (text s)) = Some (text s)
-key_in _ = None
+key_in (scalar (float n)) = None
+key_in (scalar (double n)) = None
+key_in (scalar (enum z)) = None
+key_in (scalar (bytes s)) = None
+key_in (message w) = None
 
--- a value into the part that its record stands in
+-- A value into the part that its record stands in. A record of another part, or of another purpose, puts no value.
 abbrev pub put_datum : Types → ℕ → Purpose → Part → Datum → Part
 put_datum pool n (purpose.One k s) (message_part m v) d = message_part m (with_fields v (stored_at (message_fields pool m) s n (one d) (fields_of v)))
+put_datum pool n (purpose.One k s) (entry_part key kd x e) d = entry_part key kd x e
+put_datum pool n (purpose.One k s) (group_part us) d = group_part us
 put_datum pool n (purpose.Element k) (message_part m v) d = message_part m (with_fields v (push_at n d (fields_of v)))
+put_datum pool n (purpose.Element k) (entry_part key kd x e) d = entry_part key kd x e
+put_datum pool n (purpose.Element k) (group_part us) d = group_part us
+put_datum pool n (purpose.Key k) (message_part m v) d = message_part m v
 put_datum pool n (purpose.Key k) (entry_part key kd x e) d = entry_part key kd (key_in d) e
+put_datum pool n (purpose.Key k) (group_part us) d = group_part us
+put_datum pool n (purpose.EntryValue k) (message_part m v) d = message_part m v
 put_datum pool n (purpose.EntryValue k) (entry_part key kd x e) d = entry_part key kd x (Some d)
-put_datum pool n _ p d = p
+put_datum pool n (purpose.EntryValue k) (group_part us) d = group_part us
+put_datum pool n (purpose.Packed k) p d = p
+put_datum pool n (purpose.Message m s) p d = p
+put_datum pool n (purpose.Entry key k) p d = p
+put_datum pool n purpose.Unknown p d = p
 
 -- the bytes of a number lead from u to w
 abbrev pub Follows : Place → Payload → Place → Type 0

@@ -1,6 +1,6 @@
 //! Entries and groups that are whole go where they belong.
 
-ghost use Rattle.std.specs.Prelude.{◌≡◌, ◌<◌, ◌-◌, ◌^◌, ℕ, List, ◌∷◌, Some, IsTrue, option_map, OnOk, IfOk, IfErr};
+ghost use Rattle.std.specs.Prelude.{◌≡◌, ◌<◌, ◌-◌, ◌^◌, ℕ, List, ◌∷◌, Some, IsTrue, unwrap_or, option_map, OnOk, IfOk, IfErr};
 ghost use Rattle.pb_wire.specs.Fault.{Place, HasTag};
 ghost use Rattle.pb_wire.specs.Record.{Record};
 ghost use Rattle.pb_wire.specs.Unknown.{records_of};
@@ -61,6 +61,27 @@ fn missing_value(alloc: Global, kind: Kind) -> Value
     }
 }
 
+/// The key of an entry, which has this one or none.
+fn key_or_default(alloc: Global, kind: Kind, key: Option<MapKey>) -> MapKey
+    requires { IsTrue (is_key_kind kind) }
+    ensures { key_view result ≡ unwrap_or (option_map key_view key) (default_of kind) }
+{
+    match key {
+        Some(key) => key,
+        None => default_key(alloc, kind),
+    }
+}
+
+/// The value of an entry, which has this one or none.
+fn value_or_missing(alloc: Global, kind: Kind, value: Option<Value>) -> Value
+    ensures { value_view result ≡ unwrap_or (option_map value_view value) (missing (λ _ _. empty) kind) }
+{
+    match value {
+        Some(value) => value,
+        None => missing_value(alloc, kind),
+    }
+}
+
 /// Puts an entry into the map of the part that holds it.
 pub(crate) fn put_entry(
     alloc: Global,
@@ -76,32 +97,23 @@ pub(crate) fn put_entry(
     ensures put { OnOk result (part_view outer.new ≡ put_entry_view slot (part_view outer.old) key_kind value_kind (option_map key_view key) (option_map value_view value)) }
     ensures memory { IfErr result (λ e. e ≡ Memory) }
 {
-    let key = match key {
-        Some(key) => key,
-        None => default_key(alloc, key_kind),
-    };
-    let value = match value {
-        Some(value) => value,
-        None => missing_value(alloc, value_kind),
-    };
+    let key = key_or_default(alloc, key_kind, key);
+    let value = value_or_missing(alloc, value_kind, value);
     match outer {
         Part::Message(_, body) => match slot {
             Slot::Map(number) => {
                 drop(insert_entry(alloc, body, number, key, value)?);
                 Ok(())
             }
-            Slot::One(_, _) => Ok(()),
-            Slot::List(_) => Ok(()),
-            Slot::Entry => Ok(()),
-            Slot::Unknown(_) => Ok(()),
+            Slot::One(_, _) | Slot::List(_) | Slot::Entry | Slot::Unknown(_) => Ok(()),
         },
         Part::Entry {
             key_kind: _,
             value_kind: _,
             key: _,
             value: _,
-        } => Ok(()),
-        Part::Group(_) => Ok(()),
+        }
+        | Part::Group(_) => Ok(()),
     }
 }
 

@@ -52,10 +52,7 @@ fn take_message(alloc: Global, slot: Slot, outer: &mut Part) -> Body
     match outer {
         Part::Message(_, body) => match slot {
             Slot::One(_, number) => message_in(alloc, take_field(body, number)),
-            Slot::List(_) => empty_body(alloc),
-            Slot::Map(_) => empty_body(alloc),
-            Slot::Entry => empty_body(alloc),
-            Slot::Unknown(_) => empty_body(alloc),
+            Slot::List(_) | Slot::Map(_) | Slot::Entry | Slot::Unknown(_) => empty_body(alloc),
         },
         Part::Entry {
             key_kind: _,
@@ -64,18 +61,9 @@ fn take_message(alloc: Global, slot: Slot, outer: &mut Part) -> Body
             value,
         } => match slot {
             Slot::Entry => message_of(alloc, value.take()),
-            Slot::One(_, _) => empty_body(alloc),
-            Slot::List(_) => empty_body(alloc),
-            Slot::Map(_) => empty_body(alloc),
-            Slot::Unknown(_) => empty_body(alloc),
+            Slot::One(_, _) | Slot::List(_) | Slot::Map(_) | Slot::Unknown(_) => empty_body(alloc),
         },
-        Part::Group(_) => match slot {
-            Slot::One(_, _) => empty_body(alloc),
-            Slot::List(_) => empty_body(alloc),
-            Slot::Map(_) => empty_body(alloc),
-            Slot::Entry => empty_body(alloc),
-            Slot::Unknown(_) => empty_body(alloc),
-        },
+        Part::Group(_) => empty_body(alloc),
     }
 }
 

@@ -37,20 +37,19 @@ pub(crate) struct Reading {
 fn take_front(
     alloc: Global,
     pool: &Pool,
-    reader: Reader,
+    reader: &mut Reader,
     bytes: &[u8],
-) -> Result<(Reader, Vec<u8>), DecodeError>
+) -> Result<Vec<u8>, DecodeError>
     requires rules { IsPool pool.now }
-    requires reading { IsReading pool.now (state_view reader) bytes.now }
-    ensures at { IfOk result (λ r. (state_view r.0).at + length r.1.items ≡ reader.at + length bytes.now) }
-    ensures taken { (m depth levels : ℕ) (base : List Record) (p0 : Place) → Reads pool.now m depth levels base p0 (state_view reader) bytes.now → IfOk result (λ r. Reads pool.now m depth levels base p0 (state_view r.0) r.1.items × Stops pool.now m depth p0 (state_view r.0) r.1.items) }
-    ensures waits { IfOk result (λ r. Waits (state_view r.0) r.1.items) }
-    ensures refused { (m depth levels : ℕ) (base : List Record) (p0 : Place) → Reads pool.now m depth levels base p0 (state_view reader) bytes.now → IfErr result (λ e. IfFault e (Told pool.now m depth p0)) }
+    requires reading { IsReading pool.now (state_view reader.old) bytes.now }
+    ensures at { IfOk result (λ rest. reader.new.at + length rest.items ≡ reader.old.at + length bytes.now) }
+    ensures taken { (m depth levels : ℕ) (base : List Record) (p0 : Place) → Reads pool.now m depth levels base p0 (state_view reader.old) bytes.now → IfOk result (λ rest. Reads pool.now m depth levels base p0 (state_view reader.new) rest.items × Stops pool.now m depth p0 (state_view reader.new) rest.items) }
+    ensures waits { IfOk result (λ rest. Waits (state_view reader.new) rest.items) }
+    ensures refused { (m depth levels : ℕ) (base : List Record) (p0 : Place) → Reads pool.now m depth levels base p0 (state_view reader.old) bytes.now → IfErr result (λ e. IfFault e (Told pool.now m depth p0)) }
 {
-    let mut next = reader;
-    let size = take_all(alloc, pool, &mut next, bytes)?;
+    let size = take_all(alloc, pool, reader, bytes)?;
     let held = rest_of(alloc, bytes, size)?;
-    Ok((next, held))
+    Ok(held)
 }
 
 /// The bytes from an index on.
@@ -67,40 +66,39 @@ fn rest_of(alloc: Global, bytes: &[u8], from: usize) -> Result<Vec<u8>, DecodeEr
 fn take_held(
     alloc: Global,
     pool: &Pool,
-    reader: Reader,
+    reader: &mut Reader,
     held: Vec<u8>,
-) -> Result<(Reader, Vec<u8>), DecodeError>
+) -> Result<Vec<u8>, DecodeError>
     requires rules { IsPool pool.now }
-    requires reading { IsReading pool.now (state_view reader) held.items }
-    ensures at { IfOk result (λ r. (state_view r.0).at + length r.1.items ≡ reader.at + length held.items) }
-    ensures taken { (m depth levels : ℕ) (base : List Record) (p0 : Place) → Reads pool.now m depth levels base p0 (state_view reader) held.items → IfOk result (λ r. Reads pool.now m depth levels base p0 (state_view r.0) r.1.items × Stops pool.now m depth p0 (state_view r.0) r.1.items) }
-    ensures waits { IfOk result (λ r. Waits (state_view r.0) r.1.items) }
-    ensures refused { (m depth levels : ℕ) (base : List Record) (p0 : Place) → Reads pool.now m depth levels base p0 (state_view reader) held.items → IfErr result (λ e. IfFault e (Told pool.now m depth p0)) }
+    requires reading { IsReading pool.now (state_view reader.old) held.items }
+    ensures at { IfOk result (λ rest. reader.new.at + length rest.items ≡ reader.old.at + length held.items) }
+    ensures taken { (m depth levels : ℕ) (base : List Record) (p0 : Place) → Reads pool.now m depth levels base p0 (state_view reader.old) held.items → IfOk result (λ rest. Reads pool.now m depth levels base p0 (state_view reader.new) rest.items × Stops pool.now m depth p0 (state_view reader.new) rest.items) }
+    ensures waits { IfOk result (λ rest. Waits (state_view reader.new) rest.items) }
+    ensures refused { (m depth levels : ℕ) (base : List Record) (p0 : Place) → Reads pool.now m depth levels base p0 (state_view reader.old) held.items → IfErr result (λ e. IfFault e (Told pool.now m depth p0)) }
 {
-    let mut next = reader;
-    let size = take_all(alloc, pool, &mut next, &held)?;
+    let size = take_all(alloc, pool, reader, &held)?;
     if size == 0 {
-        return Ok((next, held));
+        return Ok(held);
     }
     let rest = rest_of(alloc, &held, size)?;
-    Ok((next, rest))
+    Ok(rest)
 }
 
 /// Takes what stands whole at the front of the bytes that are held and of those behind them, and holds the others.
 fn take_joined(
     alloc: Global,
     pool: &Pool,
-    reader: Reader,
+    reader: &mut Reader,
     held: Vec<u8>,
     more: &[u8],
-) -> Result<(Reader, Vec<u8>), DecodeError>
+) -> Result<Vec<u8>, DecodeError>
     requires rules { IsPool pool.now }
-    requires reading { IsReading pool.now (state_view reader) held.items }
-    requires small { reader.at + length held.items + length more.now < 2 ^ 31 }
-    ensures at { IfOk result (λ r. (state_view r.0).at + length r.1.items ≡ reader.at + length held.items + length more.now) }
-    ensures taken { (m depth levels : ℕ) (base : List Record) (p0 : Place) → Reads pool.now m depth levels base p0 (state_view reader) held.items → IfOk result (λ r. Reads pool.now m depth levels base (longer p0 more.now) (state_view r.0) r.1.items × Stops pool.now m depth (longer p0 more.now) (state_view r.0) r.1.items) }
-    ensures waits { IfOk result (λ r. Waits (state_view r.0) r.1.items) }
-    ensures refused { (m depth levels : ℕ) (base : List Record) (p0 : Place) → Reads pool.now m depth levels base p0 (state_view reader) held.items → IfErr result (λ e. IfFault e (Told pool.now m depth (longer p0 more.now))) }
+    requires reading { IsReading pool.now (state_view reader.old) held.items }
+    requires small { reader.old.at + length held.items + length more.now < 2 ^ 31 }
+    ensures at { IfOk result (λ rest. reader.new.at + length rest.items ≡ reader.old.at + length held.items + length more.now) }
+    ensures taken { (m depth levels : ℕ) (base : List Record) (p0 : Place) → Reads pool.now m depth levels base p0 (state_view reader.old) held.items → IfOk result (λ rest. Reads pool.now m depth levels base (longer p0 more.now) (state_view reader.new) rest.items × Stops pool.now m depth (longer p0 more.now) (state_view reader.new) rest.items) }
+    ensures waits { IfOk result (λ rest. Waits (state_view reader.new) rest.items) }
+    ensures refused { (m depth levels : ℕ) (base : List Record) (p0 : Place) → Reads pool.now m depth levels base p0 (state_view reader.old) held.items → IfErr result (λ e. IfFault e (Told pool.now m depth (longer p0 more.now))) }
 {
     let mut joined = held;
     joined.extend_from_slice(more)?;
@@ -145,15 +143,15 @@ pub(crate) fn take_piece(
     let mut here = 0;
     while !held.is_empty() {
         let more = wanted(reader.step, held.len()).min(piece.len() - here);
-        let (next, rest) = take_joined(alloc, pool, reader, held, &piece[here..here + more])?;
-        reader = next;
+        let rest = take_joined(alloc, pool, &mut reader, held, &piece[here..here + more])?;
         held = rest;
         here += more;
         if here == piece.len() {
             return Ok((reader, held));
         }
     }
-    take_front(alloc, pool, reader, &piece[here..])
+    let left = take_front(alloc, pool, &mut reader, &piece[here..])?;
+    Ok((reader, left))
 }
 
 /// How many more bytes a text may have.

@@ -11,11 +11,38 @@ ghost use Rattle.pb_decode.specs.Occurrences.{counts_view};
 
 use crate::error::DecodeError;
 use crate::part::{Part, Scope, Slot};
-use pb_schema::Pool;
+use pb_schema::{MessageId, Pool};
 use pb_value::{Body, Content, Value, push_element, store};
 use std::alloc::Global;
 
-/// Puts a message into a slot of the part that holds it.
+/// Puts a message into a slot of the message that holds it: into the field of one value, or at the end of a list.
+fn put_in_message(
+    alloc: Global,
+    pool: &Pool,
+    kind: MessageId,
+    body: &mut Body,
+    slot: Slot,
+    message: Body,
+) -> Result<(), DecodeError>
+    requires { CanHold pool.now (message_part kind.0 (body_view body.old)) }
+    ensures put { OnOk result (message_part kind.0 (body_view body.new) ≡ put_message_view pool.now slot (message_part kind.0 (body_view body.old)) (body_view message)) }
+    ensures memory { IfErr result (λ e. e ≡ Memory) }
+{
+    match slot {
+        Slot::One(shape, number) => {
+            let content = Content::One(Value::Message(message));
+            store(pool, kind, body, shape, number, content)?;
+            Ok(())
+        }
+        Slot::List(number) => {
+            push_element(alloc, body, number, Value::Message(message))?;
+            Ok(())
+        }
+        Slot::Map(_) | Slot::Entry | Slot::Unknown(_) => Ok(()),
+    }
+}
+
+/// Puts a message into a slot of the part that holds it: of an entry, as its value.
 pub(crate) fn put_message(
     alloc: Global,
     pool: &Pool,
@@ -28,26 +55,10 @@ pub(crate) fn put_message(
     ensures memory { IfErr result (λ e. e ≡ Memory) }
 {
     match outer {
-        Part::Message(kind, body) => match slot {
-            Slot::One(shape, number) => {
-                store(
-                    pool,
-                    *kind,
-                    body,
-                    shape,
-                    number,
-                    Content::One(Value::Message(message)),
-                )?;
-                Ok(())
-            }
-            Slot::List(number) => {
-                push_element(alloc, body, number, Value::Message(message))?;
-                Ok(())
-            }
-            Slot::Map(_) => Ok(()),
-            Slot::Entry => Ok(()),
-            Slot::Unknown(_) => Ok(()),
-        },
+        Part::Message(kind, body) => {
+            put_in_message(alloc, pool, *kind, body, slot, message)?;
+            Ok(())
+        }
         Part::Entry {
             key_kind: _,
             value_kind: _,
@@ -58,18 +69,9 @@ pub(crate) fn put_message(
                 *value = Some(Value::Message(message));
                 Ok(())
             }
-            Slot::One(_, _) => Ok(()),
-            Slot::List(_) => Ok(()),
-            Slot::Map(_) => Ok(()),
-            Slot::Unknown(_) => Ok(()),
+            Slot::One(_, _) | Slot::List(_) | Slot::Map(_) | Slot::Unknown(_) => Ok(()),
         },
-        Part::Group(_) => match slot {
-            Slot::One(_, _) => Ok(()),
-            Slot::List(_) => Ok(()),
-            Slot::Map(_) => Ok(()),
-            Slot::Entry => Ok(()),
-            Slot::Unknown(_) => Ok(()),
-        },
+        Part::Group(_) => Ok(()),
     }
 }
 

@@ -12,7 +12,7 @@ use Rattle.pb_schema.specs.Types.{FieldView, Types, message_fields, field_number
 use Rattle.pb_schema.specs.Scalar.{Scalar, key_cmp}
 use Rattle.pb_schema.specs.Kinds.{message_of_kind, IsOfKind}
 use Rattle.pb_schema.specs.Fits.{fits_any}
-use Rattle.pb_value.specs.Judge.{is_default_datum}
+use Rattle.pb_value.specs.Judge.Forms.{is_default_datum}
 use Rattle.pb_value.specs.Data.{Datum, scalar, message, Datums, no_datums, datum, Entries, no_entries, entry, Holding, one, list, map, Fields, no_fields, field, Message, body, message_depth}
 
 -- an unknown record of a type with these fields: its numbers and payloads can be written, and it fits no field

@@ -27,36 +27,36 @@ take_joined-requires-clause-reading c =
       small = omega (arith, small, at, within);
     }
 
-pub returns-in_err-next-clause-refused : goal.returns-in_err-next-clause-refused
-returns-in_err-next-clause-refused c =
+pub returns-in_err-rest-clause-refused : goal.returns-in_err-rest-clause-refused
+returns-in_err-rest-clause-refused c =
     λ m depth levels base p0 begun.
     let p = err_from_is_err_and c.from_residual.result c.from_residual.ensures.1 in
     rw (p.1, p.2)
-    (if_fault_weaker c.in_err-next.field-0.0
+    (if_fault_weaker c.in_err-rest.field-0.0
     (Told c.args.pool.now m depth (longer (longer p0 (take c.loop-held.here c.args.piece.now)) (take ((c.loop-held.here + c.min-more.result) - c.loop-held.here) (drop c.loop-held.here c.args.piece.now))))
     (Told c.args.pool.now m depth (longer p0 c.args.piece.now)) (told_on p0 c.loop-held.here c.min-more.result c.args.piece.now)
-    (c.in_err-next.ensures.refused m depth levels base (longer p0 (take c.loop-held.here c.args.piece.now)) (c.loop-held.invariant.reads m depth levels base p0 begun)))
+    (c.in_err-rest.ensures.refused m depth levels base (longer p0 (take c.loop-held.here c.args.piece.now)) (c.loop-held.invariant.reads m depth levels base p0 begun)))
 
 pub returns-then-here-piece-clause-taken : goal.returns-then-here-piece-clause-taken
 returns-then-here-piece-clause-taken c =
     λ m depth levels base p0 begun.
-    subst (λ (z : Place). Reads c.args.pool.now m depth levels base z (state_view c.in_ok-next.next) c.in_ok-next.rest.items × Stops c.args.pool.now m depth z (state_view c.in_ok-next.next) c.in_ok-next.rest.items)
+    subst (λ (z : Place). Reads c.args.pool.now m depth levels base z (state_view c.take_joined.new.reader) c.in_ok-rest.rest.items × Stops c.args.pool.now m depth z (state_view c.take_joined.new.reader) c.in_ok-rest.rest.items)
     (next_given p0 c.loop-held.here c.min-more.result c.args.piece.now ∙ all_given p0 (c.loop-held.here + c.min-more.result) c.args.piece.now c.if-here-piece.true)
-    (c.in_ok-next.ensures.taken m depth levels base (longer p0 (take c.loop-held.here c.args.piece.now)) (c.loop-held.invariant.reads m depth levels base p0 begun))
+    (c.in_ok-rest.ensures.taken m depth levels base (longer p0 (take c.loop-held.here c.args.piece.now)) (c.loop-held.invariant.reads m depth levels base p0 begun))
 
 pub loop-held-preserved : goal.loop-held-preserved
 loop-held-preserved c =
     let more = c.min-more.ensures in
     let within = c.loop-held.invariant.within in
     let at = c.loop-held.invariant.at in
-    let moved = c.in_ok-next.ensures.at in
+    let moved = c.in_ok-rest.ensures.at in
     let size = length-drop c.loop-held.here c.args.piece.now in
     record {
       within = omega (arith, more, within);
       at = search rules;
       reads = λ m depth levels base p0 begun.
-          subst (λ (z : Place). Reads c.args.pool.now m depth levels base z (state_view c.in_ok-next.next) c.in_ok-next.rest.items) (next_given p0 c.loop-held.here c.min-more.result c.args.piece.now)
-          (c.in_ok-next.ensures.taken m depth levels base (longer p0 (take c.loop-held.here c.args.piece.now)) (c.loop-held.invariant.reads m depth levels base p0 begun)).0;
+          subst (λ (z : Place). Reads c.args.pool.now m depth levels base z (state_view c.take_joined.new.reader) c.in_ok-rest.rest.items) (next_given p0 c.loop-held.here c.min-more.result c.args.piece.now)
+          (c.in_ok-rest.ensures.taken m depth levels base (longer p0 (take c.loop-held.here c.args.piece.now)) (c.loop-held.invariant.reads m depth levels base p0 begun)).0;
     }
 
 pub take_front-requires-clause-reading : goal.take_front-requires-clause-reading
@@ -88,19 +88,20 @@ returns-clause-taken c =
     let none : length c.loop-held.held.items ≡ 0 = omega (arith, empty) in
     let bytes : AreBytes c.args.piece.now = recursion_from_All IsByte c.args.piece.now (All-from_get_or IsByte c.args.piece.now 0 (λ i h. let fits = c.type_inv.piece i in search (rules, fits))) in
     let given = last_given p0 c.loop-held.here c.args.piece.now in
-    let there = c.take_front.ensures.taken m depth levels base (longer (longer p0 (take c.loop-held.here c.args.piece.now)) (take (length c.args.piece.now - c.loop-held.here) (drop c.loop-held.here c.args.piece.now)))
+    let there = c.in_ok-left.ensures.taken m depth levels base (longer (longer p0 (take c.loop-held.here c.args.piece.now)) (take (length c.args.piece.now - c.loop-held.here) (drop c.loop-held.here c.args.piece.now)))
     (reads_rest (state_view c.loop-held.reader) c.loop-held.held.items (take (length c.args.piece.now - c.loop-held.here) (drop c.loop-held.here c.args.piece.now)) none
     (part_bytes (length c.args.piece.now - c.loop-held.here) c.loop-held.here c.args.piece.now bytes) (c.loop-held.invariant.reads m depth levels base p0 begun)) in
     rw given at there
 
-pub returns-clause-refused : goal.returns-clause-refused
-returns-clause-refused c =
+pub returns-in_err-left-clause-refused : goal.returns-in_err-left-clause-refused
+returns-in_err-left-clause-refused c =
     λ m depth levels base p0 begun.
     let empty = none_held (vec_len c.loop-held.held) c.loop-held-test.ensures in
     let none : length c.loop-held.held.items ≡ 0 = omega (arith, empty) in
     let bytes : AreBytes c.args.piece.now = recursion_from_All IsByte c.args.piece.now (All-from_get_or IsByte c.args.piece.now 0 (λ i h. let fits = c.type_inv.piece i in search (rules, fits))) in
     let given = last_given p0 c.loop-held.here c.args.piece.now in
-    let there = c.take_front.ensures.refused m depth levels base (longer (longer p0 (take c.loop-held.here c.args.piece.now)) (take (length c.args.piece.now - c.loop-held.here) (drop c.loop-held.here c.args.piece.now)))
+    let there = c.in_err-left.ensures.refused m depth levels base (longer (longer p0 (take c.loop-held.here c.args.piece.now)) (take (length c.args.piece.now - c.loop-held.here) (drop c.loop-held.here c.args.piece.now)))
     (reads_rest (state_view c.loop-held.reader) c.loop-held.held.items (take (length c.args.piece.now - c.loop-held.here) (drop c.loop-held.here c.args.piece.now)) none
     (part_bytes (length c.args.piece.now - c.loop-held.here) c.loop-held.here c.args.piece.now bytes) (c.loop-held.invariant.reads m depth levels base p0 begun)) in
-    rw given at there
+    let p = err_from_is_err_and c.from_residual-in_err-left.result c.from_residual-in_err-left.ensures.1 in
+    rw (p.1, p.2) (rw given at there)

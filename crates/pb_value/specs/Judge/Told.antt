@@ -1,0 +1,26 @@
+-- The first of several causes, and what an answer tells of them.
+use Rattle.std.specs.Prelude.{◌≡◌, ◌⊎◌, Bool, true, false, Option, Some, None, Result, MatchResult}
+use Rattle.pb_value.specs.declared.error.ValueError.{ValueError}
+use Rattle.pb_value.specs.declared.error.ValueError.TheVariants.{Memory}
+
+-- the first cause, or else the second
+abbrev pub or_else : Option ValueError → Option ValueError → Option ValueError
+or_else None c = c
+or_else (Some e) c = Some e
+
+-- the cause where a test fails
+abbrev pub unless : Bool → ValueError → Option ValueError
+unless true e = None
+unless false e = Some e
+
+-- a call is refused for want of memory, or for the cause
+abbrev pub FailsWith : Option ValueError → ValueError → Type 0
+FailsWith cause e = (e ≡ Memory) ⊎ (cause ≡ Some e)
+
+-- an answer tells the cause, and where there is none the judged thing is good
+abbrev pub Judges : {T : Type 0} → Result T ValueError → Option ValueError → Type 0 → Type 0
+Judges r cause Good = MatchResult r (λ _. (cause ≡ None) × Good) (λ e. cause ≡ Some e)
+
+-- the same, up to want of memory
+abbrev pub JudgesOrFails : {T : Type 0} → Result T ValueError → Option ValueError → Type 0 → Type 0
+JudgesOrFails r cause Good = MatchResult r (λ _. (cause ≡ None) × Good) (λ e. FailsWith cause e)
