@@ -1,18 +1,13 @@
 -- What a loop up to the end owes: a turn of it is a step of the reader that goes to the end.
-use Rattle.std.proofs.Common.{◌≡◌, ℕ, zero, suc, ◌-◌, ◌<◌, ◌≤◌, List, [], ◌∷◌, ◌++◌, drop, length, length-drop, Bool, true, false, refl, ap, sym, ◌∙◌, arith, Ok, Err}
+use Rattle.std.proofs.Common.{◌≡◌, ℕ, zero, suc, ◌<◌, ◌≤◌, List, [], ◌∷◌, ◌++◌, length, Bool, true, false, refl, ap, ◌∙◌, arith, Ok, Err}
 use Rattle.std.specs.Prelude.{if◌then◌else◌}
-use Rattle.std.proofs.lemmas.List.{length-map}
 use Rattle.pb_source.specs.declared.symbol.Placed.{Placed}
 use Rattle.pb_source.specs.declared.refusal.Refusal.{Refusal as CodeRefusal}
-use Rattle.pb_source.specs.declared.refusal.Refusal.TheVariants as refusal
 use Rattle.pb_source.specs.Symbols.{Symbol}
-use Rattle.pb_source.specs.SymbolView.{symbol_of}
 use Rattle.pb_source.specs.Language.{all_rules}
-use Rattle.pb_source.specs.Readers.Forms.{Reader, Refusal, Outcome, on_outcome, mapped, to_end}
+use Rattle.pb_source.specs.Readers.Forms.{Reader, Refusal, to_end}
 use Rattle.pb_source.specs.Readers.Given.{symbols_from, Fails}
-
-length_from : (ps : List Placed) (at : ℕ) → length (symbols_from ps at) ≡ length ps - at
-length_from ps at = length-map (drop at ps) (λ p. symbol_of p.symbol) ∙ length-drop at ps
+use Rattle.pb_source.proofs.UntilSteps.{length_from, fails_on}
 
 -- some turns are left for what is left
 pub record TurnedOn {I : Type 0} (marks : I → Bool) (item : Bool → Reader I) (m : ℕ) (ts : List Symbol) (marked : Bool) (front : List I) (rest : List Symbol) : Type 0 where
@@ -55,19 +50,12 @@ module _ {I : Type 0} (marks : I → Bool) (item : ℕ → Bool → Reader I) (p
   fails_there n zero marked front (s ∷ ts) e l k h = absurd (omega arith)
   fails_there n (suc t) marked front (s ∷ ts) e l k h = rw h refl
 
-  fails_on : {A B : Type 0} (e : CodeRefusal) (r : Outcome A) (s : Outcome B) → ((x : Refusal) → r ≡ Err x → s ≡ Err x) → Fails ps e r → Fails ps e s
-  fails_on refusal.Memory r s f h = tt
-  fails_on (refusal.At at rule) r s f h = f (symbols_from ps at, rule) h
-
-  mapped_err : {A : Type 0} (g : List I → A) (o : Outcome (List I)) (e : Refusal) → o ≡ Err e → on_outcome o (λ v rest. Ok (g v, rest)) ≡ Err e
-  mapped_err g o e h = rw h refl
-
-  pub refuses_on : {A : Type 0} (g : List I → A) (at : ℕ) (marked : Bool) (front : List I) (here : ℕ) (e : CodeRefusal) → HasReadOn marks item ps at marked front here → here < length ps
+  pub refuses_on : (at : ℕ) (marked : Bool) (front : List I) (here : ℕ) (e : CodeRefusal) → HasReadOn marks item ps at marked front here → here < length ps
       → ((n : ℕ) → length ps ≤ n → Fails ps e (item n marked all_rules (symbols_from ps here)))
-      → (n : ℕ) → length ps ≤ n → Fails ps e (mapped g (to_end n marks (item n) false []) all_rules (symbols_from ps at))
-  refuses_on g at marked front here e r k h n l =
+      → (n : ℕ) → length ps ≤ n → Fails ps e (to_end n marks (item n) false [] all_rules (symbols_from ps at))
+  refuses_on at marked front here e r k h n l =
       let t = r.turned n l in
-      fails_on e _ _ (λ x j. mapped_err g _ x (t.same ∙ fails_there n t.turns marked front (symbols_from ps here) x t.enough (let a = length_from ps here in omega arith) j)) (h n l)
+      fails_on ps e _ _ (λ x j. t.same ∙ fails_there n t.turns marked front (symbols_from ps here) x t.enough (let a = length_from ps here in omega arith) j) (h n l)
 
   none_behind : (here : ℕ) → length ps ≤ here → symbols_from ps here ≡ []
   none_behind here l = empty (symbols_from ps here) (let a = length_from ps here in omega arith)
@@ -80,12 +68,8 @@ module _ {I : Type 0} (marks : I → Bool) (item : ℕ → Bool → Reader I) (p
   ends_there n zero marked front = refl
   ends_there n (suc t) marked front = refl
 
-  mapped_ok : {A : Type 0} (g : List I → A) (o : Outcome (List I)) (v : List I) (rest : List Symbol) → o ≡ Ok (v, rest) → on_outcome o (λ v rest. Ok (g v, rest)) ≡ Ok (g v, rest)
-  mapped_ok g o v rest h = rw h refl
-
-  pub ends_on : {A : Type 0} (g : List I → A) (at : ℕ) (marked : Bool) (front : List I) (here : ℕ) → HasReadOn marks item ps at marked front here → length ps ≤ here
-      → (n : ℕ) → length ps ≤ n → mapped g (to_end n marks (item n) false []) all_rules (symbols_from ps at) ≡ Ok (g front, symbols_from ps (length ps))
-  ends_on g at marked front here r k n l =
+  pub ends_on : (at : ℕ) (marked : Bool) (front : List I) (here : ℕ) → HasReadOn marks item ps at marked front here → length ps ≤ here
+      → (n : ℕ) → length ps ≤ n → to_end n marks (item n) false [] all_rules (symbols_from ps at) ≡ Ok (front, [])
+  ends_on at marked front here r k n l =
       let t = r.turned n l in
-      mapped_ok g _ front [] (t.same ∙ ap (λ ts. to_end t.turns marks (item n) marked front all_rules ts) (none_behind here k) ∙ ends_there n t.turns marked front)
-      ∙ ap (λ rest. Ok (g front, rest)) (sym (none_behind (length ps) (omega arith)))
+      t.same ∙ ap (λ ts. to_end t.turns marks (item n) marked front all_rules ts) (none_behind here k) ∙ ends_there n t.turns marked front

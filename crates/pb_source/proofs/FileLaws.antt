@@ -163,7 +163,7 @@ of_file said rules (FileStatement.a_message m) c (o, d) =
 of_file said rules (FileStatement.an_enum e) c (o, d) = (kind.Enum, kind_then file_kind (word (codes "enum")) c d.3, (e, refl, d))
 of_file said rules (FileStatement.a_service s) c (o, d) = (kind.Service, kind_then file_kind (word (codes "service")) c d.2, (s, refl, d))
 
-reads_file_statement : (n : ℕ) (said : Bool) → Reads n never (StatementOnce said) (file_statement_reader n said)
+pub reads_file_statement : (n : ℕ) (said : Bool) → Reads n never (StatementOnce said) (file_statement_reader n said)
 unfolding file_statement_reader
 reads_file_statement n said =
     said_so {Q = StatementOnce said}
@@ -224,8 +224,40 @@ reads_syntax =
 
 -- ---- the whole file
 
-abbrev count : Bool → ℕ
+abbrev pub count : Bool → ℕ
 count b = if b then 1 else 0
+
+abbrev pub said_behind : Bool → FileStatement → Bool
+said_behind said s = if said then true else is_package s
+
+-- what a statement adds
+pub counted : (said : Bool) (s : FileStatement) → Once said s → count (said_behind said s) ≡ count said + length (packages_said s)
+counted true (FileStatement.a_package p) (inl h) = absurd (false≢true (sym h))
+counted true (FileStatement.a_package p) (inr h) = absurd (false≢true (sym h))
+counted true FileStatement.nothing_said o = refl
+counted true (FileStatement.an_import p f) o = refl
+counted true (FileStatement.a_message m) o = refl
+counted true (FileStatement.an_enum e) o = refl
+counted true (FileStatement.a_service s) o = refl
+counted false FileStatement.nothing_said o = refl
+counted false (FileStatement.an_import p f) o = refl
+counted false (FileStatement.a_package p) o = refl
+counted false (FileStatement.a_message m) o = refl
+counted false (FileStatement.an_enum e) o = refl
+counted false (FileStatement.a_service s) o = refl
+
+once : (said : Bool) (s : FileStatement) → count said + length (packages_said s) ≤ 1 → Once said s
+once false s l = inl refl
+once true (FileStatement.a_package p) l = absurd (omega arith)
+once true FileStatement.nothing_said l = inr refl
+once true (FileStatement.an_import p f) l = inr refl
+once true (FileStatement.a_message m) l = inr refl
+once true (FileStatement.an_enum e) l = inr refl
+once true (FileStatement.a_service s) l = inr refl
+
+pub at_most_one : (said : Bool) → count said ≤ 1
+at_most_one true = omega arith
+at_most_one false = omega arith
 
 module _ (n : ℕ) where
   statement_full : (said : Bool) (rules : Rules) (s : FileStatement) (c : List Symbol) → StatementOnce said rules s c → 1 ≤ length c
@@ -233,38 +265,6 @@ module _ (n : ℕ) where
 
   abbrev All : Bool → Rules → List FileStatement → Language
   All = Each n is_package StatementOnce (file_statement_reader n) (reads_file_statement n) statement_full
-
-  abbrev said_behind : Bool → FileStatement → Bool
-  said_behind said s = if said then true else is_package s
-
-  -- what a statement adds
-  counted : (said : Bool) (s : FileStatement) → Once said s → count (said_behind said s) ≡ count said + length (packages_said s)
-  counted true (FileStatement.a_package p) (inl h) = absurd (false≢true (sym h))
-  counted true (FileStatement.a_package p) (inr h) = absurd (false≢true (sym h))
-  counted true FileStatement.nothing_said o = refl
-  counted true (FileStatement.an_import p f) o = refl
-  counted true (FileStatement.a_message m) o = refl
-  counted true (FileStatement.an_enum e) o = refl
-  counted true (FileStatement.a_service s) o = refl
-  counted false FileStatement.nothing_said o = refl
-  counted false (FileStatement.an_import p f) o = refl
-  counted false (FileStatement.a_package p) o = refl
-  counted false (FileStatement.a_message m) o = refl
-  counted false (FileStatement.an_enum e) o = refl
-  counted false (FileStatement.a_service s) o = refl
-
-  once : (said : Bool) (s : FileStatement) → count said + length (packages_said s) ≤ 1 → Once said s
-  once false s l = inl refl
-  once true (FileStatement.a_package p) l = absurd (omega arith)
-  once true FileStatement.nothing_said l = inr refl
-  once true (FileStatement.an_import p f) l = inr refl
-  once true (FileStatement.a_message m) l = inr refl
-  once true (FileStatement.an_enum e) l = inr refl
-  once true (FileStatement.a_service s) l = inr refl
-
-  at_most_one : (said : Bool) → count said ≤ 1
-  at_most_one true = omega arith
-  at_most_one false = omega arith
 
   few : (rules : Rules) (said : Bool) (ss : List FileStatement) (c : List Symbol) → All said rules ss c → count said + length (all_said packages_said ss) ≤ 1
   few rules said [] c d = let l = at_most_one said in omega arith

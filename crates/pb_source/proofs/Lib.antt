@@ -15,6 +15,8 @@ pub mod UntilSteps
 pub mod SeparatedSteps
 pub mod NoSymbols
 pub mod SaidSteps
+pub mod EntryNames
+pub mod PartSteps
 pub mod NumberSteps
 pub mod NameSteps
 pub mod ReaderLaws
@@ -36,7 +38,10 @@ pub mod MessageLaws
 pub mod FileLaws
 pub mod SourceLaws
 pub mod ParseLemmas
+pub mod RoomSteps
 pub mod EndSteps
+pub mod ScopeSteps
+pub mod FileSteps
 pub mod Bridges
 mod GrammarRows
 pub mod FaultLemmas

@@ -6,7 +6,7 @@ use Rattle.pb_source.specs.declared.parsing.ranges.Within.{Within}
 use Rattle.pb_source.specs.declared.parsing.ranges.Within.TheVariants.{Message, Enum}
 use Rattle.pb_source.specs.Readers.Forms.{symbol, judged}
 use Rattle.pb_source.specs.RangeView.{range_within}
-use Rattle.pb_source.specs.Readers.Lines.{part_in, range_reader, limited_reader, signed_reader, name_reader, utf8_reader, optname_reader, assignment_reader, setting_reader, field_option_reader, oneof_statement_reader, enum_statement_reader, method_statement_reader, service_statement_reader}
+use Rattle.pb_source.specs.Readers.Lines.{part_in, range_reader, limited_reader, signed_reader, name_reader, utf8_reader, optname_reader, assignment_reader, field_option_reader, oneof_statement_reader, enum_statement_reader, method_statement_reader, service_statement_reader}
 
 pub no_name : (n : ℕ) → name_reader all_rules [] ≡ Err ([], None)
 unfolding name_reader

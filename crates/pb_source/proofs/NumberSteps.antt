@@ -1,10 +1,10 @@
 -- What is read of a number word, by the integer as the code counts it.
-use Rattle.std.proofs.Common.{◌≡◌, ℕ, ◌^◌, ◌<◌, ◌≤◌, min, nat_le, List, ◌∷◌, Bool, true, false, refl, ap, sym, ◌∙◌, arith, Option, Some, None, Ok, Err, option_map}
+use Rattle.std.proofs.Common.{◌≡◌, ℕ, ◌^◌, ◌<◌, ◌≤◌, min, nat_le, List, ◌∷◌, true, false, refl, ap, ◌∙◌, arith, Option, Some, None, Ok, Err, option_map}
 use Rattle.std.proofs.lemmas.Bool.Decides.{nat_tests}
 use Rattle.pb_source.specs.Symbols.{Symbol}
 use Rattle.pb_source.specs.Language.{all_rules}
 use Rattle.pb_source.specs.declared.rule.Rule.TheVariants.{NumbersFit}
-use Rattle.pb_source.specs.Readers.Forms.{Outcome, on_verdict, by_rule, mapped, symbol, plain, or_unexpected, answer, on_outcome}
+use Rattle.pb_source.specs.Readers.Forms.{Outcome, on_verdict, by_rule, mapped, symbol, plain, or_unexpected, on_outcome}
 use Rattle.pb_source.specs.Readers.Lines.{integer_in, limited_reader}
 use Rattle.pb_source.specs.Digits.{capped}
 

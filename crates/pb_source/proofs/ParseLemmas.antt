@@ -1,5 +1,5 @@
 -- What is told of a source is its declaration, or its fault and no other.
-use Rattle.std.proofs.Common.{◌≡◌, ℕ, zero, suc, ◌^◌, ◌-◌, ◌<◌, ◌≤◌, List, [], ◌∷◌, length, get_or, refl, ap, sym, ◌∙◌, subst, Ok, arith, ◌⊎◌, inl, inr, IsUtf8}
+use Rattle.std.proofs.Common.{◌≡◌, ℕ, zero, suc, ◌^◌, ◌-◌, ◌<◌, ◌≤◌, List, [], ◌∷◌, length, get_or, refl, ap, sym, ◌∙◌, subst, arith, ◌⊎◌, inl, inr, IsUtf8}
 use Rattle.pb_descr.specs.Decls.{DeclaredFile}
 use Rattle.pb_source.specs.declared.fault.Cause.{Cause}
 use Rattle.pb_source.specs.declared.fault.SourceFault.{SourceFault}
@@ -10,12 +10,11 @@ use Rattle.pb_source.specs.Fault.{fault, out_of_memory}
 use Rattle.pb_source.specs.Tokens.{LexFault}
 use Rattle.pb_source.specs.SymbolView.{symbols_of, HasSymbols}
 use Rattle.pb_source.specs.Language.{all_rules}
-use Rattle.pb_source.specs.Meaning.{file_of}
+use Rattle.pb_source.specs.Meaning.{FileStatement, file_of}
 use Rattle.pb_source.specs.Source.{place_in, IsSource, HasFault}
-use Rattle.pb_source.specs.Readers.Forms.{mapped}
 use Rattle.pb_source.specs.Readers.Lines.{file_reader}
 use Rattle.pb_source.specs.Readers.Given.{symbols_from, Fails, fault_at}
-use Rattle.pb_source.proofs.SourceLaws.{reads_all, refuses_at, is_source, only_source, no_fault, has_fault, only_fault, no_source, token_only, token_no_source}
+use Rattle.pb_source.proofs.SourceLaws.{ReadsAll, is_source, only_source, no_fault, has_fault, only_fault, no_source, token_only, token_no_source}
 
 -- ---- what is told
 
@@ -60,27 +59,24 @@ module _ (bytes t : List ℕ) (same : t ≡ bytes) (size : length bytes ≤ 2 ^ 
         none = token_no_source bytes e.byte e.cause g;
       })
 
-  pub declared : (name : List ℕ) (ps : List Placed) (d : DeclaredFile) → HasSymbols t (symbols_of ps)
-      → mapped (file_of name) (file_reader (length ps)) all_rules (symbols_from ps 0) ≡ Ok (d, symbols_from ps (length ps)) → Declared name bytes d
-  declared name ps d has h =
+  pub declared : (name : List ℕ) (ps : List Placed) (ss : List FileStatement) → HasSymbols t (symbols_of ps) → ReadsAll ps ss → Declared name bytes (file_of name ss)
+  declared name ps ss has r =
       let there : HasSymbols bytes (symbols_of ps) = subst (λ t. HasSymbols t (symbols_of ps)) same has in
-      let r = reads_all name ps d h in
       record {
-        source = subst (IsSource name bytes) (sym r.2) (is_source bytes size valid ps there name r.0 r.1);
-        only = λ e s. r.2 ∙ sym (only_source bytes size valid ps there name r.0 r.1 e s);
-        none = no_fault bytes size valid ps there r.0 r.1;
+        source = is_source bytes size valid ps there name ss r;
+        only = λ e s. sym (only_source bytes size valid ps there name ss r e s);
+        none = no_fault bytes size valid ps there ss r;
       }
 
-  pub refusal_told : (name : List ℕ) (ps : List Placed) (r : Refusal) → HasSymbols t (symbols_of ps)
-      → ((n : ℕ) → length ps ≤ n → Fails ps r (mapped (file_of name) (file_reader n) all_rules (symbols_from ps 0))) → Told bytes (fault_at ps (length bytes) r)
-  refusal_told name ps refusal.Memory has h = inl refl
-  refusal_told name ps (refusal.At at rule) has h =
+  pub refusal_told : (ps : List Placed) (r : Refusal) → HasSymbols t (symbols_of ps)
+      → ((n : ℕ) → length ps ≤ n → Fails ps r (file_reader n all_rules (symbols_from ps 0))) → Told bytes (fault_at ps (length bytes) r)
+  refusal_told ps refusal.Memory has h = inl refl
+  refusal_told ps (refusal.At at rule) has h =
       let there : HasSymbols bytes (symbols_of ps) = subst (λ t. HasSymbols t (symbols_of ps)) same has in
-      let r = refuses_at name ps at rule h in
       inr (record {
-        fault = has_fault bytes size valid ps there at rule r;
-        only = only_fault bytes size valid ps there at rule r;
-        none = λ name d s. no_source bytes size valid ps there name at rule r d s;
+        fault = has_fault bytes size valid ps there at rule h;
+        only = only_fault bytes size valid ps there at rule h;
+        none = λ name d s. no_source bytes size valid ps there name at rule h d s;
       })
 
 -- ---- where a placed symbol stands

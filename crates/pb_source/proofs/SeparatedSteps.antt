@@ -1,9 +1,9 @@
 -- What a loop over items with a separator between owes: a turn of it is a step of the reader of such items.
-use Rattle.std.proofs.Common.{◌≡◌, ℕ, zero, suc, ◌<◌, ◌≤◌, List, [], ◌∷◌, ◌++◌, length, Bool, true, false, if◌then◌else◌, refl, ap, sym, ◌∙◌, append_assoc, append-nil, arith, Result, None, Ok, Err}
+use Rattle.std.proofs.Common.{◌≡◌, ℕ, zero, suc, ◌<◌, ◌≤◌, List, [], ◌∷◌, ◌++◌, length, Bool, true, false, if◌then◌else◌, refl, ap, sym, ◌∙◌, append_assoc, append-nil, arith, None, Ok, Err}
 use Rattle.std.proofs.lemmas.Bool.{false≢true}
 use Rattle.pb_source.specs.Symbols.{Symbol}
 use Rattle.pb_source.specs.Language.{all_rules}
-use Rattle.pb_source.specs.Readers.Forms.{Reader, Refusal, Outcome, on_outcome, answer, first_passes, choice, behind, mapped, separated}
+use Rattle.pb_source.specs.Readers.Forms.{Reader, Refusal, Outcome, on_outcome, answer, first_passes, choice, behind, separated}
 use Rattle.pb_source.specs.Readers.Given.{symbols_from, Fails}
 use Rattle.pb_source.specs.declared.symbol.Placed.{Placed}
 use Rattle.pb_source.specs.declared.refusal.Refusal.{Refusal as CodeRefusal}

@@ -16,7 +16,7 @@ use Rattle.pb_source.specs.Meaning.{FileStatement, file_of}
 use Rattle.pb_source.specs.Grammar.{file}
 use Rattle.pb_source.specs.SyntaxFault.{Fault, SyntaxFault}
 use Rattle.pb_source.specs.Source.{symbols_alone, place_in, IsSource, HasFault}
-use Rattle.pb_source.specs.Readers.Forms.{Outcome, on_outcome, answer, mapped}
+use Rattle.pb_source.specs.Readers.Forms.{Outcome}
 use Rattle.pb_source.specs.Readers.Lines.{file_reader}
 use Rattle.pb_source.specs.Readers.Given.{symbols_from, cause_at}
 use Rattle.pb_source.proofs.ToEnd.{always}
@@ -226,35 +226,3 @@ module _ (bytes : Bytes) where
   token_only l u at why g place c (HasFault.bad_utf8 k h) = absurd (h u)
   token_only l u at why g place c (HasFault.in_token k v f) = one_fault bytes place at c why f g
   token_only l u at why g place c (HasFault.in_syntax {ts} k v a b f) = absurd (not_both bytes ts at why a g)
-
--- ---- from the reader of a file's declaration to that of its statements
-
-none_behind : (ps : List Placed) → symbols_from ps (length ps) ≡ []
-none_behind [] = refl
-none_behind (p ∷ ps) = none_behind ps
-
--- what is read as one declaration is one list of statements, however far the reader may go
-pub reads_all : (name : Bytes) (ps : List Placed) (d : DeclaredFile) → mapped (file_of name) (file_reader (length ps)) all_rules (symbols_from ps 0) ≡ Ok (d, symbols_from ps (length ps))
-    → (ss : List FileStatement) × ReadsAll ps ss × (d ≡ file_of name ss)
-reads_all name ps d h = by_outcome (file_reader (length ps) all_rules (symbols_from ps 0)) refl
-  where
-    on_pair : (x : List FileStatement × List Symbol) → ◌≡◌ {A = Outcome DeclaredFile} (Ok (file_of name x.0, x.1)) (Ok (d, symbols_from ps (length ps))) → (d ≡ file_of name x.0) × (x.1 ≡ [])
-    on_pair x e = let p : ◌≡◌ {A = DeclaredFile × List Symbol} (file_of name x.0, x.1) (d, symbols_from ps (length ps)) = cc e in (sym (ap (λ z. z.0) p), ap (λ z. z.1) p ∙ none_behind ps)
-
-    all_of : (x : List FileStatement × List Symbol) → file_reader (length ps) all_rules (symbols_from ps 0) ≡ Ok x → x.1 ≡ [] → ReadsAll ps x.0
-    all_of x e r n l =
-        let k = length_from ps 0 in
-        words_read always file file_reader reads_file (symbols_from ps 0) x.0 n (omega arith)
-        (read_words always file file_reader reads_file (symbols_from ps 0) x.0 (length ps) (omega arith) (e ∙ ap (λ r. Ok (x.0, r)) r))
-
-    by_outcome : (o : Outcome (List FileStatement)) → file_reader (length ps) all_rules (symbols_from ps 0) ≡ o → (ss : List FileStatement) × ReadsAll ps ss × (d ≡ file_of name ss)
-    by_outcome (Ok x) e = let p = on_pair x (ap (λ o. on_outcome o (λ ss r. answer (file_of name ss) all_rules r)) (sym e) ∙ h) in (x.0, all_of x e p.1, p.0)
-    by_outcome (Err x) e = absurd (let k = ap (λ o. on_outcome o (λ ss r. answer (file_of name ss) all_rules r)) (sym e) ∙ h in cc k)
-
-pub refuses_at : (name : Bytes) (ps : List Placed) (at : ℕ) (rule : Option Rule)
-    → ((n : ℕ) → length ps ≤ n → mapped (file_of name) (file_reader n) all_rules (symbols_from ps 0) ≡ Err (symbols_from ps at, rule)) → RefusesAt ps at rule
-refuses_at name ps at rule h n l = by_outcome (file_reader n all_rules (symbols_from ps 0)) (h n l)
-  where
-    by_outcome : (o : Outcome (List FileStatement)) → on_outcome o (λ ss r. answer (file_of name ss) all_rules r) ≡ Err (symbols_from ps at, rule) → o ≡ Err (symbols_from ps at, rule)
-    by_outcome (Ok x) e = absurd (cc e)
-    by_outcome (Err x) e = let p : ◌≡◌ {A = List Symbol × Option Rule} x (symbols_from ps at, rule) = cc e in ap Err p

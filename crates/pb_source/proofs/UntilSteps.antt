@@ -1,5 +1,5 @@
 -- What a loop up to a closing sign owes: a turn of it is a step of the reader of repetition.
-use Rattle.std.proofs.Common.{◌≡◌, ℕ, zero, suc, ◌-◌, ◌<◌, ◌≤◌, List, [], ◌∷◌, ◌++◌, drop, length, length-drop, Bool, true, false, refl, ap, sym, ◌∙◌, arith, Result, None, Ok, Err}
+use Rattle.std.proofs.Common.{◌≡◌, ℕ, zero, suc, ◌-◌, ◌<◌, ◌≤◌, List, [], ◌∷◌, ◌++◌, drop, length, length-drop, Bool, true, false, refl, ap, sym, ◌∙◌, arith, None, Ok, Err}
 use Rattle.std.proofs.lemmas.Bool.{false≢true}
 use Rattle.std.proofs.lemmas.List.{length-map}
 use Rattle.pb_source.specs.Symbols.{Symbol}

@@ -1,5 +1,5 @@
 -- Integers as the code counts them.
-use Rattle.std.specs.Prelude.{ℕ, ◌^◌, min, List, [], ◌∷◌, if◌then◌else◌, Option, Some, None}
+use Rattle.std.specs.Prelude.{ℕ, ◌^◌, min, List, if◌then◌else◌, Option, Some, None}
 use Rattle.std.specs.List.{list_all}
 use Rattle.std.specs.Char.{is_digit}
 use Rattle.std.specs.Str.Parse.{digits_value}

@@ -13,6 +13,7 @@ pub mod Grammar
 pub mod SyntaxFault
 pub mod Source
 pub mod StatementView
+pub mod PartsView
 pub mod Digits
 pub mod RangeView
 pub mod Readers

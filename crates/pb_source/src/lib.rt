@@ -9,6 +9,7 @@ mod meaning;
 mod parsing;
 mod refusal;
 mod rule;
+mod source;
 mod symbol;
 mod symbols;
 mod text;
@@ -16,4 +17,5 @@ mod token;
 
 pub use fault::{Cause, SourceFault};
 pub use lexing::lex;
+pub use source::parse;
 pub use token::{Token, TokenKind};

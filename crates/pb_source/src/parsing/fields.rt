@@ -7,6 +7,7 @@ ghost use Rattle.pb_source.specs.Meaning.{is_repeated_label, is_optional_label, 
 ghost use Rattle.pb_source.specs.Readers.Forms.{mapped, until, mark_reader};
 ghost use Rattle.pb_source.specs.Readers.Lines.{is_closing, field_tail_reader, field_reader, map_tail_reader, map_reader, oneof_statement_reader, oneof_reader};
 ghost use Rattle.pb_source.specs.StatementView.{type_view, map_view, message_statement_view};
+ghost use Rattle.pb_source.specs.PartsView.{IsCounted};
 ghost use Rattle.pb_source.specs.Readers.Given.{symbols_from, Gives};
 
 use crate::kind::{Label, OneofKind};
@@ -148,6 +149,7 @@ pub(crate) fn map_or_field(
     at: usize,
 ) -> Result<(MessageSaid, usize), Refusal>
     ensures within { IfOk result (λ x. (at < x.1) × (x.1 ≤ length symbols.now)) }
+    ensures bound { IfOk result (λ x. IsCounted x.0) }
     ensures read { (n : ℕ) → length symbols.now ≤ n → Gives symbols.now (λ x. (message_statement_view x.0, x.1)) result (map_reader n all_rules (symbols_from symbols.now at)) }
 {
     let after = keyword("map", symbols, at)?;

@@ -4,6 +4,7 @@ use Rattle.pb_source.specs.TokenView.{tokens_of}
 use Rattle.pb_source.specs.Symbols.{IsMeant, AreSymbols}
 use Rattle.pb_source.specs.SymbolView.{symbols_of}
 use Rattle.pb_source.proofs.SymbolLemmas.{tokens_meant}
+use Rattle.pb_source.proofs.OneLexing.{not_both}
 use Rattle.pb_source.proofs.OneReading.{one_source}
 use Rattle.pb_source.proofs.symbols.source_symbols.Goals as goal
 
@@ -19,3 +20,6 @@ pub returns-clause-accepted : goal.returns-clause-accepted
 returns-clause-accepted c ss h =
     one_source c.args.source.now (tokens_of c.in_ok-tokens.tokens.items) (symbols_of c.in_ok-symbols.symbols.items) ss c.in_ok-tokens.ensures.tokens
     (subst (λ ts. AreSymbols (tokens_of ts) (symbols_of c.in_ok-symbols.symbols.items)) c.deref.ensures.value c.in_ok-symbols.ensures) h
+
+pub returns-clause-refused : goal.returns-clause-refused
+returns-clause-refused c place cause h = absurd (not_both c.args.source.now (tokens_of c.in_ok-tokens.tokens.items) place cause c.in_ok-tokens.ensures.tokens h)

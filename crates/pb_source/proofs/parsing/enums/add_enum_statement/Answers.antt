@@ -1,4 +1,4 @@
-use Rattle.std.proofs.Common.{[], ◌∷◌, map, refl, ap, sym, ◌∙◌, append-nil, string_bytes}
+use Rattle.std.proofs.Common.{map, refl, ap, sym, ◌∙◌, append-nil, string_bytes}
 use Rattle.std.proofs.lemmas.List.{map_push, map-append}
 use Rattle.pb_descr.specs.View.{numbered_view}
 use Rattle.pb_source.specs.Meaning.{EnumStatement}

@@ -1,7 +1,6 @@
-use Rattle.std.proofs.Common.{◌≡◌, [], ◌∷◌, ◌++◌, List, codes, map, option_map, option_to_list, string_bytes, refl, ap, sym, ◌∙◌, arith}
+use Rattle.std.proofs.Common.{[], ◌∷◌, ◌++◌, codes, sym, ◌∙◌, arith}
 use Rattle.std.proofs.lemmas.Result.{err_from_is_err_and}
-use Rattle.pb_descr.specs.View.{enum_view}
-use Rattle.pb_source.specs.Meaning.{EnumStatement, enum_of}
+use Rattle.pb_source.specs.Meaning.{enum_of}
 use Rattle.pb_source.specs.StatementView.{enum_statement_view}
 use Rattle.pb_source.specs.Readers.Forms.{mark_reader}
 use Rattle.pb_source.specs.Readers.Lines.{is_closing, enum_statement_reader}

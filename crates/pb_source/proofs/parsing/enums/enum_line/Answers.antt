@@ -1,4 +1,4 @@
-use Rattle.std.proofs.Common.{refl, ap, sym, ◌∙◌, Ok}
+use Rattle.std.proofs.Common.{refl, ap, Ok}
 use Rattle.std.proofs.lemmas.Result.{err_from_is_err_and}
 use Rattle.pb_source.specs.Meaning.{enum_of}
 use Rattle.pb_source.specs.Readers.Lines.{enum_reader}

@@ -1,6 +1,5 @@
 use Rattle.std.proofs.Common.{suc, sym, ◌∙◌, arith}
 use Rattle.std.proofs.lemmas.Result.{err_from_is_err_and}
-use Rattle.pb_descr.specs.View.{field_view}
 use Rattle.pb_source.specs.Language.{all_rules}
 use Rattle.pb_source.specs.Meaning.{MessageStatement}
 use Rattle.pb_source.specs.Readers.Given.{symbols_from}

@@ -1,4 +1,4 @@
-use Rattle.std.proofs.Common.{map, codes, ap, ◌∙◌, ◌∷◌, [], ◌++◌, ◌≡◌, List, ℕ, sym}
+use Rattle.std.proofs.Common.{codes, ap, ◌∙◌, ◌∷◌, [], ◌++◌, ◌≡◌, sym}
 use Rattle.std.proofs.lemmas.Result.{err_from_is_err_and}
 use Rattle.std.proofs.lemmas.List.{map_push}
 use Rattle.pb_source.specs.Readers.Forms.{mark_reader}

@@ -1,5 +1,5 @@
-use Rattle.std.proofs.Common.{◌-◌, length, codes, map, string_bytes}
-use Rattle.pb_source.specs.Readers.Forms.{mark_reader, symbol, judged}
+use Rattle.std.proofs.Common.{◌-◌, length, codes}
+use Rattle.pb_source.specs.Readers.Forms.{mark_reader}
 use Rattle.pb_source.specs.Readers.Lines.{is_comma, field_option_reader}
 use Rattle.pb_source.proofs.SeparatedSteps.{HasRead}
 use Rattle.pb_source.proofs.parsing.options.field_options.Given as goal

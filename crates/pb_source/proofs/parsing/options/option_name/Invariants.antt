@@ -1,7 +1,7 @@
-use Rattle.std.proofs.Common.{◌-◌, length, codes, map, string_bytes}
+use Rattle.std.proofs.Common.{◌-◌, length, codes}
 use Rattle.pb_source.specs.declared.rule.Rule.TheVariants.{OptionsKnown}
 use Rattle.pb_source.specs.Readers.Forms.{mark_reader, symbol, judged}
-use Rattle.pb_source.specs.Readers.Lines.{is_dot, part_in, optname_reader}
+use Rattle.pb_source.specs.Readers.Lines.{is_dot, part_in}
 use Rattle.pb_source.specs.StatementView.{words_view}
 use Rattle.pb_source.proofs.SeparatedSteps.{HasRead}
 use Rattle.pb_source.proofs.parsing.options.option_name.Given as goal

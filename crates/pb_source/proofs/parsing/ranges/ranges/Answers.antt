@@ -1,7 +1,6 @@
-use Rattle.std.proofs.Common.{◌≡◌, [], ◌∷◌, ◌++◌, codes, map, string_bytes, ap, sym, ◌∙◌}
+use Rattle.std.proofs.Common.{codes, sym, ◌∙◌}
 use Rattle.std.proofs.lemmas.Result.{err_from_is_err_and}
-use Rattle.std.proofs.lemmas.List.{map_push}
-use Rattle.pb_source.specs.Readers.Forms.{mark_reader, symbol, judged}
+use Rattle.pb_source.specs.Readers.Forms.{mark_reader}
 use Rattle.pb_source.specs.Readers.Lines.{is_comma}
 use Rattle.pb_source.specs.RangeView.{range_within}
 use Rattle.pb_source.proofs.SeparatedSteps.{starts, goes_on, refuses_first, refuses, ends}

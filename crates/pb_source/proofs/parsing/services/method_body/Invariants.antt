@@ -1,4 +1,4 @@
-use Rattle.std.proofs.Common.{◌≡◌, ◌-◌, List, Option, length, codes, map, string_bytes}
+use Rattle.std.proofs.Common.{◌-◌, List, length, codes}
 use Rattle.pb_source.specs.Readers.Forms.{mark_reader}
 use Rattle.pb_source.specs.Readers.Lines.{is_closing, method_statement_reader}
 use Rattle.pb_source.proofs.UntilSteps.{HasRead}

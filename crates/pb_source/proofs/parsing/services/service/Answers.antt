@@ -1,4 +1,4 @@
-use Rattle.std.proofs.Common.{ℕ, List, map, refl, ap, sym, ◌∙◌, Ok}
+use Rattle.std.proofs.Common.{ℕ, List, map, refl, ap, sym, Ok}
 use Rattle.std.proofs.lemmas.Result.{err_from_is_err_and}
 use Rattle.pb_descr.specs.Decls.{DeclaredService}
 use Rattle.pb_descr.specs.View.{method_view}

@@ -1,6 +1,5 @@
-use Rattle.std.proofs.Common.{◌≡◌, [], ◌∷◌, ◌++◌, List, codes, map, option_map, option_to_list, string_bytes, refl, ap, sym, ◌∙◌, arith}
+use Rattle.std.proofs.Common.{[], ◌∷◌, ◌++◌, codes, option_map, refl, sym, ◌∙◌, arith}
 use Rattle.std.proofs.lemmas.Result.{err_from_is_err_and}
-use Rattle.pb_descr.specs.Decls.{DeclaredMethod}
 use Rattle.pb_descr.specs.View.{method_view}
 use Rattle.pb_source.specs.Meaning.{those_said}
 use Rattle.pb_source.proofs.SaidSteps.{said_more}

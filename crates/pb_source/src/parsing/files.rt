@@ -1,0 +1,223 @@
+//! Files.
+
+ghost use Rattle.std.specs.Prelude.{◌≡◌, ◌≤◌, ◌<◌, ℕ, [], false, length, map, codes, string_bytes, IfOk, IfErr, Ok, List};
+ghost use Rattle.std.specs.Str.{bytes_eq};
+ghost use Rattle.pb_descr.specs.View.{file_view};
+ghost use Rattle.pb_source.specs.Language.{all_rules};
+ghost use Rattle.pb_source.specs.Meaning.{FileStatement, file_of};
+ghost use Rattle.pb_source.specs.declared.rule.Rule.TheVariants.{SyntaxFirst};
+ghost use Rattle.pb_source.specs.Readers.Forms.{symbol, judged, to_end};
+ghost use Rattle.pb_source.specs.Readers.Lines.{access_reader, import_reader, package_reader, file_statement_reader, file_reader, is_package, syntax_reader, syntax_word_in, syntax_text_in};
+ghost use Rattle.pb_source.specs.StatementView.{file_statement_view};
+ghost use Rattle.pb_source.specs.Readers.Given.{symbols_from, Fails, Gives};
+
+use crate::kind::FileKind;
+use crate::parsing::declared::{FileParts, add_file_statement};
+use crate::parsing::enums::enum_line;
+use crate::parsing::kinds::file_kind;
+use crate::parsing::messages::message;
+use crate::parsing::names::{joined, words};
+use crate::parsing::options::option;
+use crate::parsing::scopes::file_of;
+use crate::parsing::services::service;
+use crate::parsing::single::{begins_with, keyword, mark, symbol_at, utf8_text};
+use crate::parsing::statement::FileSaid;
+use crate::refusal::Refusal;
+use crate::rule::Rule;
+use crate::symbol::{Placed, Symbol, is_keyword};
+use pb_descr::FileDecl;
+use std::alloc::Global;
+
+/// How many messages may nest in one of a file.
+const ROOM: u8 = 63;
+
+/// Reads the word `syntax`.
+fn syntax_word(symbols: &[Placed], at: usize) -> Result<usize, Refusal>
+    ensures within { IfOk result (λ after. (at < after) × (after ≤ length symbols.now)) }
+    ensures read { Gives symbols.now (λ after. (tt, after)) result (symbol (judged SyntaxFirst syntax_word_in) all_rules (symbols_from symbols.now at)) }
+{
+    let Some(first) = symbol_at(symbols, at) else {
+        return Err(Refusal::At { at, rule: None });
+    };
+    if is_keyword(&first.symbol, "syntax") {
+        return Ok(at + 1);
+    }
+    Err(Refusal::At {
+        at,
+        rule: Some(Rule::SyntaxFirst),
+    })
+}
+
+/// Whether the bytes are `proto3`.
+fn is_proto3(bytes: &[u8]) -> bool
+    ensures { result ≡ bytes_eq bytes.now (codes "proto3") }
+{
+    bytes == b"proto3".as_slice()
+}
+
+/// Reads the text `proto3`.
+fn syntax_text(symbols: &[Placed], at: usize) -> Result<usize, Refusal>
+    ensures within { IfOk result (λ after. (at < after) × (after ≤ length symbols.now)) }
+    ensures read { Gives symbols.now (λ after. (tt, after)) result (symbol (judged SyntaxFirst syntax_text_in) all_rules (symbols_from symbols.now at)) }
+{
+    if let Some(first) = symbol_at(symbols, at) {
+        if let Symbol::Text(bytes) = &first.symbol {
+            if is_proto3(bytes.as_slice()) {
+                return Ok(at + 1);
+            }
+            return Err(Refusal::At {
+                at,
+                rule: Some(Rule::SyntaxFirst),
+            });
+        }
+    }
+    Err(Refusal::At { at, rule: None })
+}
+
+/// Reads the first statement of a file.
+#[tactic(auto, unfolding(crate::specs::Readers::Lines::syntax_reader))]
+fn syntax(symbols: &[Placed], at: usize) -> Result<usize, Refusal>
+    ensures within { IfOk result (λ after. (at < after) × (after ≤ length symbols.now)) }
+    ensures read { Gives symbols.now (λ after. (tt, after)) result (syntax_reader all_rules (symbols_from symbols.now at)) }
+{
+    let after = syntax_word(symbols, at)?;
+    let after = mark("=", symbols, after)?;
+    let after = syntax_text(symbols, after)?;
+    let after = mark(";", symbols, after)?;
+    Ok(after)
+}
+
+/// Reads whether an import is public.
+#[tactic(auto, unfolding(crate::specs::Readers::Lines::access_reader))]
+fn access(symbols: &[Placed], at: usize) -> Result<(bool, usize), Refusal>
+    ensures on { IfOk result (λ x. at ≤ x.1) }
+    ensures read { Gives symbols.now (λ x. x) result (access_reader all_rules (symbols_from symbols.now at)) }
+{
+    if begins_with("public", symbols, at) {
+        let after = keyword("public", symbols, at)?;
+        return Ok((true, after));
+    }
+    if begins_with("weak", symbols, at) {
+        let after = keyword("weak", symbols, at)?;
+        return Ok((false, after));
+    }
+    Ok((false, at))
+}
+
+/// Reads an import: whether it is public, and which file it names.
+#[tactic(auto, unfolding(crate::specs::Readers::Lines::import_reader))]
+fn import(alloc: Global, symbols: &[Placed], at: usize) -> Result<((bool, String), usize), Refusal>
+    ensures within { IfOk result (λ x. (at < x.1) × (x.1 ≤ length symbols.now)) }
+    ensures read { Gives symbols.now (λ x. ((x.0.0, string_bytes x.0.1), x.1)) result (import_reader all_rules (symbols_from symbols.now at)) }
+{
+    let after = keyword("import", symbols, at)?;
+    let (is_public, after) = access(symbols, after)?;
+    let (name, after) = utf8_text(symbols, after)?;
+    let after = mark(";", symbols, after)?;
+    let name = String::from_str(alloc, name)?;
+    Ok(((is_public, name), after))
+}
+
+/// Reads a package.
+#[tactic(auto, unfolding(crate::specs::Readers::Lines::package_reader))]
+fn package(alloc: Global, symbols: &[Placed], at: usize) -> Result<(String, usize), Refusal>
+    ensures within { IfOk result (λ x. (at < x.1) × (x.1 ≤ length symbols.now)) }
+    ensures read { (n : ℕ) → length symbols.now ≤ n → Gives symbols.now (λ x. (string_bytes x.0, x.1)) result (package_reader n all_rules (symbols_from symbols.now at)) }
+{
+    let after = keyword("package", symbols, at)?;
+    let (words, after) = words(alloc, symbols, after)?;
+    let after = mark(";", symbols, after)?;
+    let name = joined(alloc, words.as_slice())?;
+    Ok((name, after))
+}
+
+/// Reads a statement of a file: no package, where one has been said.
+#[tactic(auto, unfolding(crate::specs::Readers::Lines::file_statement_reader))]
+fn file_statement(
+    alloc: Global,
+    packaged: bool,
+    symbols: &[Placed],
+    at: usize,
+) -> Result<(FileSaid, usize), Refusal>
+    ensures within { IfOk result (λ x. (at < x.1) × (x.1 ≤ length symbols.now)) }
+    ensures read { (n : ℕ) → length symbols.now ≤ n → Gives symbols.now (λ x. (file_statement_view x.0, x.1)) result (file_statement_reader n packaged all_rules (symbols_from symbols.now at)) }
+{
+    let Some(first) = symbol_at(symbols, at) else {
+        return Err(Refusal::At { at, rule: None });
+    };
+    match file_kind(&first.symbol) {
+        Some(FileKind::Empty) => {
+            let after = mark(";", symbols, at)?;
+            Ok((FileSaid::Nothing, after))
+        }
+        Some(FileKind::Option) => {
+            let after = option(alloc, symbols, at)?;
+            Ok((FileSaid::Nothing, after))
+        }
+        Some(FileKind::Import) => {
+            let ((is_public, name), after) = import(alloc, symbols, at)?;
+            Ok((FileSaid::Import(is_public, name), after))
+        }
+        Some(FileKind::Package) => {
+            if packaged {
+                return Err(Refusal::At { at, rule: None });
+            }
+            let (package, after) = package(alloc, symbols, at)?;
+            Ok((FileSaid::Package(package), after))
+        }
+        Some(FileKind::Message) => {
+            let (message, after) = message(alloc, ROOM, symbols, at)?;
+            Ok((FileSaid::Message(message), after))
+        }
+        Some(FileKind::Enum) => {
+            let (decl, after) = enum_line(alloc, symbols, at)?;
+            Ok((FileSaid::Enum(decl), after))
+        }
+        Some(FileKind::Service) => {
+            let (service, after) = service(alloc, symbols, at)?;
+            Ok((FileSaid::Service(service), after))
+        }
+        None => Err(Refusal::At { at, rule: None }),
+    }
+}
+
+/// Whether the statement is a package.
+fn is_package(statement: &FileSaid) -> bool
+    ensures { result ≡ is_package (file_statement_view statement.now) }
+{
+    match statement {
+        FileSaid::Package(_) => true,
+        _ => false,
+    }
+}
+
+/// Reads statements up to the end, of which at most one is a package.
+fn file_body(alloc: Global, name: &str, symbols: &[Placed], at: usize) -> Result<FileDecl, Refusal>
+    requires { at ≤ length symbols.now }
+    ensures read { IfOk result (λ d. (ss : List FileStatement) × (file_view d ≡ file_of name.now ss)
+        × ((n : ℕ) → length symbols.now ≤ n → to_end n is_package (file_statement_reader n) false [] all_rules (symbols_from symbols.now at) ≡ Ok (ss, []))) }
+    ensures refused { IfErr result (λ e. (n : ℕ) → length symbols.now ≤ n → Fails symbols.now e (to_end n is_package (file_statement_reader n) false [] all_rules (symbols_from symbols.now at))) }
+{
+    let mut parts = FileParts::new(alloc);
+    let mut here = at;
+    let mut packaged = false;
+    while here < symbols.len() {
+        let (statement, after) = file_statement(alloc, packaged, symbols, here)?;
+        packaged |= is_package(&statement);
+        add_file_statement(&mut parts, statement)?;
+        here = after;
+    }
+    let decl = file_of(alloc, name, parts)?;
+    Ok(decl)
+}
+
+/// Reads a file of this name.
+#[tactic(auto, unfolding(crate::specs::Readers::Lines::file_reader))]
+pub(crate) fn file(alloc: Global, name: &str, symbols: &[Placed]) -> Result<FileDecl, Refusal>
+    ensures read { IfOk result (λ d. (ss : List FileStatement) × (file_view d ≡ file_of name.now ss) × ((n : ℕ) → length symbols.now ≤ n → file_reader n all_rules (symbols_from symbols.now 0) ≡ Ok (ss, []))) }
+    ensures refused { IfErr result (λ e. (n : ℕ) → length symbols.now ≤ n → Fails symbols.now e (file_reader n all_rules (symbols_from symbols.now 0))) }
+{
+    let after = syntax(symbols, 0)?;
+    let decl = file_body(alloc, name, symbols, after)?;
+    Ok(decl)
+}

@@ -1,0 +1,215 @@
+//! Messages.
+
+ghost use Rattle.std.specs.Prelude.{◌≡◌, ◌≢◌, ◌≤◌, ◌<◌, ◌∷◌, ℕ, [], length, map, codes, IfOk, Option, Some, true};
+ghost use Rattle.pb_descr.specs.View.{message_view, field_view};
+ghost use Rattle.pb_descr.specs.Decls.{DeclaredMessage};
+ghost use Rattle.pb_source.specs.Language.{all_rules};
+ghost use Rattle.pb_source.specs.Meaning.{MessageStatement, message_of};
+ghost use Rattle.pb_source.specs.Readers.Forms.{Reader, if_some, behind, mapped, until, keyword_reader, mark_reader};
+ghost use Rattle.pb_source.specs.Readers.Lines.{is_closing, field_reader, message_range_reader, reserved_reader, message_statement_line, room_statement_reader, message_reader};
+ghost use Rattle.pb_source.specs.StatementView.{message_statement_view};
+ghost use Rattle.pb_source.specs.PartsView.{is_member, is_plain, IsCounted};
+ghost use Rattle.pb_source.specs.Readers.Given.{symbols_from, Gives};
+
+use crate::kind::{Label, MessageKind};
+use crate::parsing::declared::{MessageParts, add_statement, message_of};
+use crate::parsing::enums::enum_line;
+use crate::parsing::fields::{field, map_or_field, oneof};
+use crate::parsing::kinds::message_kind;
+use crate::parsing::options::option;
+use crate::parsing::ranges::{Within, names_line, ranges_line};
+use crate::parsing::single::{begins_with_mark, begins_with_text, keyword, mark, name, symbol_at};
+use crate::parsing::statement::MessageSaid;
+use crate::refusal::Refusal;
+use crate::rule::Rule;
+use crate::symbol::Placed;
+use pb_descr::{FieldDecl, MessageDecl};
+use std::alloc::Global;
+
+/// Reads what is reserved.
+#[tactic(auto, unfolding(crate::specs::Readers::Lines::reserved_reader))]
+fn reserved(alloc: Global, symbols: &[Placed], at: usize) -> Result<(MessageSaid, usize), Refusal>
+    ensures within { IfOk result (λ x. (at < x.1) × (x.1 ≤ length symbols.now)) }
+    ensures bound { IfOk result (λ x. IsCounted x.0) }
+    ensures read { (n : ℕ) → length symbols.now ≤ n → Gives symbols.now (λ x. (message_statement_view x.0, x.1)) result (reserved_reader n message_range_reader MessageStatement.reserved_ranges MessageStatement.reserved_names all_rules (symbols_from symbols.now at)) }
+{
+    let after = keyword("reserved", symbols, at)?;
+    if begins_with_text(symbols, after) {
+        let (names, after) = names_line(alloc, symbols, after)?;
+        return Ok((MessageSaid::Names(names), after));
+    }
+    let (ranges, after) = ranges_line(alloc, Within::Message, symbols, after)?;
+    Ok((MessageSaid::Ranges(ranges), after))
+}
+
+/// Reads a field behind the word of its label.
+fn labelled_field(
+    alloc: Global,
+    word: &str,
+    label: Label,
+    symbols: &[Placed],
+    at: usize,
+) -> Result<(FieldDecl, usize), Refusal>
+    ensures within { IfOk result (λ x. (at < x.1) × (x.1 ≤ length symbols.now)) }
+    ensures read { (n : ℕ) → length symbols.now ≤ n → Gives symbols.now (λ x. (field_view x.0, x.1)) result (behind (keyword_reader word.now) (field_reader n label) all_rules (symbols_from symbols.now at)) }
+{
+    let after = keyword(word, symbols, at)?;
+    let (field, after) = field(alloc, label, symbols, after)?;
+    Ok((field, after))
+}
+
+/// Reads a field of this kind, or a map.
+fn member(
+    alloc: Global,
+    kind: MessageKind,
+    symbols: &[Placed],
+    at: usize,
+) -> Result<(MessageSaid, usize), Refusal>
+    requires { is_member kind ≡ true }
+    ensures within { IfOk result (λ x. (at < x.1) × (x.1 ≤ length symbols.now)) }
+    ensures bound { IfOk result (λ x. IsCounted x.0) }
+    ensures read { (inner : Option (Reader DeclaredMessage)) (n : ℕ) → length symbols.now ≤ n → Gives symbols.now (λ x. (message_statement_view x.0, x.1)) result (if_some (message_statement_line n inner kind) all_rules (symbols_from symbols.now at)) }
+{
+    match kind {
+        MessageKind::Repeated => {
+            let (field, after) = labelled_field(alloc, "repeated", Label::Repeated, symbols, at)?;
+            Ok((MessageSaid::Field(field), after))
+        }
+        MessageKind::Optional => {
+            let (field, after) = labelled_field(alloc, "optional", Label::Optional, symbols, at)?;
+            Ok((MessageSaid::Field(field), after))
+        }
+        MessageKind::Map => {
+            let (member, after) = map_or_field(alloc, symbols, at)?;
+            Ok((member, after))
+        }
+        MessageKind::Field => {
+            let (field, after) = field(alloc, Label::Unlabelled, symbols, at)?;
+            Ok((MessageSaid::Field(field), after))
+        }
+        MessageKind::Empty
+        | MessageKind::Option
+        | MessageKind::Message
+        | MessageKind::Enum
+        | MessageKind::Oneof
+        | MessageKind::Reserved => unreachable!(),
+    }
+}
+
+/// Reads a statement of this kind, which is no message.
+fn plain_statement(
+    alloc: Global,
+    kind: MessageKind,
+    symbols: &[Placed],
+    at: usize,
+) -> Result<(MessageSaid, usize), Refusal>
+    requires { is_plain kind ≡ true }
+    ensures within { IfOk result (λ x. (at < x.1) × (x.1 ≤ length symbols.now)) }
+    ensures bound { IfOk result (λ x. IsCounted x.0) }
+    ensures read { (inner : Option (Reader DeclaredMessage)) (n : ℕ) → length symbols.now ≤ n → Gives symbols.now (λ x. (message_statement_view x.0, x.1)) result (if_some (message_statement_line n inner kind) all_rules (symbols_from symbols.now at)) }
+{
+    match kind {
+        MessageKind::Message => unreachable!(),
+        MessageKind::Empty => {
+            let after = mark(";", symbols, at)?;
+            Ok((MessageSaid::Nothing, after))
+        }
+        MessageKind::Option => {
+            let after = option(alloc, symbols, at)?;
+            Ok((MessageSaid::Nothing, after))
+        }
+        MessageKind::Enum => {
+            let (inner, after) = enum_line(alloc, symbols, at)?;
+            Ok((MessageSaid::Enum(inner), after))
+        }
+        MessageKind::Oneof => {
+            let ((name, fields), after) = oneof(alloc, symbols, at)?;
+            Ok((MessageSaid::Oneof(name, fields), after))
+        }
+        MessageKind::Reserved => {
+            let (reserved, after) = reserved(alloc, symbols, at)?;
+            Ok((reserved, after))
+        }
+        MessageKind::Repeated | MessageKind::Optional | MessageKind::Map | MessageKind::Field => {
+            let (member, after) = member(alloc, kind, symbols, at)?;
+            Ok((member, after))
+        }
+    }
+}
+
+/// Reads a statement of a message with room for so many nested ones, each in the one before.
+#[cycle(message)]
+fn message_statement(
+    alloc: Global,
+    room: u8,
+    symbols: &[Placed],
+    at: usize,
+) -> Result<(MessageSaid, usize), Refusal>
+    ensures within { IfOk result (λ x. (at < x.1) × (x.1 ≤ length symbols.now)) }
+    ensures bound { IfOk result (λ x. IsCounted x.0) }
+    ensures read { (n : ℕ) → length symbols.now ≤ n → Gives symbols.now (λ x. (message_statement_view x.0, x.1)) result (room_statement_reader n room all_rules (symbols_from symbols.now at)) }
+{
+    let Some(first) = symbol_at(symbols, at) else {
+        return Err(Refusal::At { at, rule: None });
+    };
+    match message_kind(&first.symbol) {
+        Some(MessageKind::Message) => {
+            if room == 0 {
+                return Err(Refusal::At {
+                    at,
+                    rule: Some(Rule::NestsBounded),
+                });
+            }
+            let (inner, after) = message(alloc, room - 1, symbols, at)?;
+            Ok((MessageSaid::Message(inner), after))
+        }
+        Some(kind) => {
+            let (statement, after) = plain_statement(alloc, kind, symbols, at)?;
+            Ok((statement, after))
+        }
+        None => Err(Refusal::At { at, rule: None }),
+    }
+}
+
+/// Reads the statements of a message of this name, and the closing brace.
+#[cycle(message)]
+fn message_body(
+    alloc: Global,
+    room: u8,
+    name: &str,
+    symbols: &[Placed],
+    at: usize,
+) -> Result<(MessageDecl, usize), Refusal>
+    requires { at ≤ length symbols.now }
+    ensures within { IfOk result (λ x. (at < x.1) × (x.1 ≤ length symbols.now)) }
+    ensures read { (n : ℕ) → length symbols.now ≤ n → Gives symbols.now (λ x. (message_view x.0, x.1)) result (mapped (message_of name.now) (until n is_closing (room_statement_reader n room) (mark_reader (codes "}")) []) all_rules (symbols_from symbols.now at)) }
+{
+    let mut parts = MessageParts::new(alloc);
+    let mut here = at;
+    while !begins_with_mark("}", symbols, here) {
+        let (statement, after) = message_statement(alloc, room, symbols, here)?;
+        add_statement(alloc, &mut parts, statement)?;
+        here = after;
+    }
+    let after = mark("}", symbols, here)?;
+    let decl = message_of(alloc, name, parts)?;
+    Ok((decl, after))
+}
+
+/// Reads a message with that room.
+#[cycle(message)]
+pub(crate) fn message(
+    alloc: Global,
+    room: u8,
+    symbols: &[Placed],
+    at: usize,
+) -> Result<(MessageDecl, usize), Refusal>
+    ensures within { IfOk result (λ x. (at < x.1) × (x.1 ≤ length symbols.now)) }
+    ensures read { (n : ℕ) → length symbols.now ≤ n → Gives symbols.now (λ x. (message_view x.0, x.1)) result (message_reader n room all_rules (symbols_from symbols.now at)) }
+{
+    let after = keyword("message", symbols, at)?;
+    let (name, after) = name(symbols, after)?;
+    let after = mark("{", symbols, after)?;
+    let (decl, after) = message_body(alloc, room, name, symbols, after)?;
+    Ok((decl, after))
+}

@@ -1,0 +1,112 @@
+//! A source as its declaration.
+
+ghost use Rattle.std.specs.Prelude.{◌≡◌, ◌^◌, ◌-◌, ◌≤◌, ◌⊎◌, ℕ, List, length, IfOk, IfErr, MatchResult, IsUtf8};
+ghost use Rattle.pb_descr.specs.Decls.{DeclaredFile};
+ghost use Rattle.pb_descr.specs.View.{file_view};
+ghost use Rattle.pb_source.specs.declared.fault.Cause.{Cause};
+ghost use Rattle.pb_source.specs.Fault.{fault, out_of_memory};
+ghost use Rattle.pb_source.specs.Language.{told};
+ghost use Rattle.pb_source.specs.SymbolView.{symbols_of};
+ghost use Rattle.pb_source.specs.Source.{place_in, IsSource, HasFault};
+ghost use Rattle.pb_source.specs.Readers.Given.{fault_at};
+
+use crate::fault::{Cause, SourceFault};
+use crate::parsing::file;
+use crate::refusal::Refusal;
+use crate::rule::Rule;
+use crate::symbol::Placed;
+use crate::symbols::source_symbols;
+use pb_descr::FileDecl;
+use std::alloc::Global;
+
+/// The greatest number of bytes that a source may have.
+const MAX_BYTES: usize = 2147483647;
+
+/// The cause that is told where a rule is broken, or where a symbol was not expected.
+fn cause_of(rule: Option<Rule>) -> Cause
+    ensures { result ≡ told rule }
+{
+    match rule {
+        None => Cause::Unexpected,
+        Some(Rule::NumbersFit) => Cause::NumberTooLarge,
+        Some(Rule::OptionsKnown) => Cause::CustomOption,
+        Some(Rule::SyntaxFirst) => Cause::NotProto3,
+        Some(Rule::NestsBounded) => Cause::NestedTooDeep,
+        Some(Rule::TextsValid) => Cause::BadUtf8,
+    }
+}
+
+/// Where the symbol of this index begins; behind the last, the end of the source.
+fn place_in(symbols: &[Placed], end: u64, index: usize) -> u64
+    ensures { result ≡ place_in (symbols_of symbols.now) end index }
+{
+    match symbols.get(index) {
+        Some(placed) => placed.at,
+        None => end,
+    }
+}
+
+/// The fault of symbols that are refused.
+fn fault_of(symbols: &[Placed], end: u64, refusal: Refusal) -> SourceFault
+    ensures { result ≡ fault_at symbols.now end refusal }
+{
+    let Refusal::At { at, rule } = refusal else {
+        return SourceFault {
+            byte: 0,
+            cause: Cause::Memory,
+        };
+    };
+    let cause = if symbols.is_empty() {
+        Cause::NotProto3
+    } else {
+        cause_of(rule)
+    };
+    SourceFault {
+        byte: place_in(symbols, end, at),
+        cause,
+    }
+}
+
+/// The source as text.
+fn text_of(source: &[u8]) -> Result<&str, SourceFault>
+    ensures size { IfOk result (λ t. length source.now ≤ 2 ^ 31 - 1) }
+    ensures valid { IfOk result (λ t. IsUtf8 source.now) }
+    ensures text { IfOk result (λ t. t.now ≡ source.now) }
+    ensures fault { IfErr result (λ e. HasFault source.now e.byte e.cause) }
+    ensures only_fault { IfErr result (λ e. (place : ℕ) (cause : Cause) → HasFault source.now place cause → (place ≡ e.byte) × (cause ≡ e.cause)) }
+    ensures no_source { IfErr result (λ e. (name : List ℕ) (d : DeclaredFile) → IsSource name source.now d → ⊥) }
+{
+    if source.len() > MAX_BYTES {
+        return Err(SourceFault {
+            byte: MAX_BYTES as u64,
+            cause: Cause::SourceTooLarge,
+        });
+    }
+    match simdutf8::compat::from_utf8(source) {
+        Ok(text) => Ok(text),
+        Err(error) => Err(SourceFault {
+            byte: error.valid_up_to() as u64,
+            cause: Cause::BadUtf8,
+        }),
+    }
+}
+
+/// What a source of proto3 declares, as the file of this name.
+///
+/// The fault is that of the source's size or of its UTF-8, else the first of its tokens, else the first of its grammar, or `Memory`. (Protocol
+/// Buffers Language Specification (Proto3))
+pub fn parse(alloc: Global, name: &str, source: &[u8]) -> Result<FileDecl, SourceFault>
+    ensures source { IfOk result (λ f. IsSource name.now source.now (file_view f)) }
+    ensures fault { IfErr result (λ e. (e ≡ out_of_memory) ⊎ HasFault source.now e.byte e.cause) }
+
+    // The declaration of a source is answered, and the fault of what is none, unless memory runs out.
+    ensures accepted { (d : DeclaredFile) → IsSource name.now source.now d → MatchResult result (λ f. file_view f ≡ d) (λ e. e ≡ out_of_memory) }
+    ensures refused { (place : ℕ) (cause : Cause) → HasFault source.now place cause → MatchResult result (λ f. ⊥) (λ e. (e ≡ fault place cause) ⊎ (e ≡ out_of_memory)) }
+{
+    let text = text_of(source)?;
+    let symbols = source_symbols(alloc, text)?;
+    match file(alloc, name, &symbols) {
+        Ok(decl) => Ok(decl),
+        Err(refusal) => Err(fault_of(&symbols, source.len() as u64, refusal)),
+    }
+}
