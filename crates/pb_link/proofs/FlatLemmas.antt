@@ -22,7 +22,7 @@ none_is a p q = absurd (none-some a (sym p ∙ q))
 abbrev pub Stands : Types → ℕ × MessageView → Type 0
 Stands ts m = slice_get ts.messages m.0 ≡ Some m.1
 
-all_numbered : {X : Type 0} (whole : List X) (k : ℕ) (xs : List X) → ((j : ℕ) → slice_get xs j ≡ slice_get whole (k + j)) → AllByRecursion (λ m. slice_get whole m.0 ≡ Some m.1) (enumerate_from k xs)
+pub all_numbered : {X : Type 0} (whole : List X) (k : ℕ) (xs : List X) → ((j : ℕ) → slice_get xs j ≡ slice_get whole (k + j)) → AllByRecursion (λ m. slice_get whole m.0 ≡ Some m.1) (enumerate_from k xs)
 all_numbered whole k [] same = tt
 all_numbered whole k (x ∷ xs) same = let e : k ≡ k + 0 = omega arith in (ap (slice_get whole) e ∙ sym (same 0), all_numbered whole (k + 1) xs (λ j. let f : k + suc j ≡ k + 1 + j = omega arith in same (suc j) ∙ ap (slice_get whole) f))
 
@@ -48,11 +48,11 @@ all_filtered {X = X} P t (x ∷ xs) all = by (t x) refl (all_filtered P t xs all
 false_true : ◌≡◌ {A = Bool} false true → ⊥
 false_true e = cc
 
-parent_is : (p : ℕ) (o : Option ℕ) → is_parent p o ≡ true → o ≡ Some p
+pub parent_is : (p : ℕ) (o : Option ℕ) → is_parent p o ≡ true → o ≡ Some p
 parent_is p None h = absurd (false_true h)
 parent_is p (Some q) h = ap Some (sym ((Decides-eqb p q).0 h))
 
-is_parent_of : (p : ℕ) (o : Option ℕ) → o ≡ Some p → is_parent p o ≡ true
+pub is_parent_of : (p : ℕ) (o : Option ℕ) → o ≡ Some p → is_parent p o ≡ true
 is_parent_of p o is = ap (is_parent p) is ∙ (Decides-eqb p p).1 refl
 
 pub outermost_is : (o : Option ℕ) → is_outermost o ≡ true → o ≡ None
@@ -112,7 +112,7 @@ module _ (ts : Types) (pool : IsPool ts) where
   pub before : (m p : ℕ) → parent_of ts.messages m ≡ Some p → p < m
   before m p e = parents_before ts.messages (suc m) (λ i less. pool.messages_in_order.1 i) m p (omega arith) e
 
-  children : (m : ℕ × MessageView) → AllByRecursion (λ c. Stands ts c × (parent_of ts.messages c.0 ≡ Some m.0)) (messages_in ts m.0)
+  pub children : (m : ℕ × MessageView) → AllByRecursion (λ c. Stands ts c × (parent_of ts.messages c.0 ≡ Some m.0)) (messages_in ts m.0)
   children m = all_each (λ c. Stands ts c × (is_parent m.0 c.1.parent ≡ true)) (λ c. Stands ts c × (parent_of ts.messages c.0 ≡ Some m.0)) (messages_in ts m.0) (λ c h. (h.0, parent_there ts.messages c.0 c.1 h.0 ∙ parent_is m.0 c.1.parent h.1)) (all_filtered (Stands ts) (λ c. is_parent m.0 c.1.parent) (numbered ts) (each_stands ts))
 
   abbrev pub Under : ℕ → ℕ × MessageView → Type 0

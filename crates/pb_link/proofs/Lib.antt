@@ -14,6 +14,7 @@ pub mod TypeLemmas
 pub mod MemberLemmas
 pub mod EntryLemmas
 pub mod KindLemmas
+pub mod LinkLemmas
 pub mod OneofLemmas
 pub mod WordLemmas
 pub mod IndexLemmas
@@ -35,6 +36,7 @@ pub mod ScopeSteps
 pub mod PlacesLemmas
 pub mod NamesLemmas
 pub mod UseLemmas
+pub mod MapLemmas
 pub mod MarkLemmas
 pub mod RangeLemmas
 pub mod OneofCountLemmas
@@ -52,3 +54,12 @@ pub mod WholeLemmas
 pub mod HeadLemmas
 pub mod DeclaredFileLemmas
 pub mod EnumOrderLemmas
+pub mod EnumWholeLemmas
+pub mod EnumHeadLemmas
+pub mod EachItemLemmas
+pub mod DeclaredOneofLemmas
+pub mod DeclaredRulesLemmas
+pub mod VerdictLemmas
+pub mod ResolvedLemmas
+pub mod ResolvingLemmas
+pub mod TypedLemmas

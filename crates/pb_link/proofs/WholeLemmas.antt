@@ -15,12 +15,12 @@ use Rattle.pb_link.proofs.FlatLemmas.{Stands, Key, each_stands, in_numbered_from
 some_same : {A : Type 0} {o : Option A} (a b : A) → o ≡ Some a → o ≡ Some b → a ≡ b
 some_same a b h k = cc
 
-all_at : {X : Type 0} (P : X → Type 0) (xs : List X) (i : ℕ) (x : X) → AllByRecursion P xs → slice_get xs i ≡ Some x → P x
+pub all_at : {X : Type 0} (P : X → Type 0) (xs : List X) (i : ℕ) (x : X) → AllByRecursion P xs → slice_get xs i ≡ Some x → P x
 all_at P [] i x all h = absurd (none-some x h)
 all_at P (y ∷ xs) zero x all h = subst P (some_same y x refl h) all.0
 all_at P (y ∷ xs) (suc i) x all h = all_at P xs i x all.1 h
 
-get_there : {X : Type 0} (xs : List X) (i : ℕ) → i < length xs → (x : X) × (slice_get xs i ≡ Some x)
+pub get_there : {X : Type 0} (xs : List X) (i : ℕ) → i < length xs → (x : X) × (slice_get xs i ≡ Some x)
 get_there [] i h = absurd (omega (arith, h))
 get_there (x ∷ xs) zero h = (x, refl)
 get_there (x ∷ xs) (suc i) h = get_there xs i (omega (arith, h))
@@ -43,7 +43,7 @@ file_no_later (x ∷ xs) h (suc i) (suc j) t u less first second = file_no_later
 
 module _ (ts : Types) (pool : IsPool ts) where
   -- what is in a message is in its file
-  share : (p m : ℕ) (t u : MessageView) → IsWithin ts.messages p m → slice_get ts.messages p ≡ Some t → slice_get ts.messages m ≡ Some u → t.file ≡ u.file
+  pub share : (p m : ℕ) (t u : MessageView) → IsWithin ts.messages p m → slice_get ts.messages p ≡ Some t → slice_get ts.messages m ≡ Some u → t.file ≡ u.file
   share p m t u w first second = step p m w t u first second
     where
       up : (m q : ℕ) (u v : MessageView) → slice_get ts.messages m ≡ Some u → slice_get ts.messages q ≡ Some v → parent_of ts.messages m ≡ Some q → v.file ≡ u.file
@@ -62,10 +62,10 @@ module _ (ts : Types) (pool : IsPool ts) where
   abbrev pub in_file : ℕ → List (ℕ × MessageView)
   in_file i = flat_map (under ts (length ts.messages)) (outermost_messages ts i)
 
-  abbrev Outermost : ℕ → ℕ × MessageView → Type 0
+  abbrev pub Outermost : ℕ → ℕ × MessageView → Type 0
   Outermost i m = Stands ts m × (m.1.file ≡ i) × (parent_of ts.messages m.0 ≡ None)
 
-  outermost : (i : ℕ) → AllByRecursion (Outermost i) (outermost_messages ts i)
+  pub outermost : (i : ℕ) → AllByRecursion (Outermost i) (outermost_messages ts i)
   outermost i = all_each (λ m. Stands ts m × (((i == m.1.file) && is_outermost m.1.parent) ≡ true)) (Outermost i) (outermost_messages ts i)
       (λ m h. (h.0, sym ((Decides-eqb i m.1.file).0 (and_left (i == m.1.file) (is_outermost m.1.parent) h.1)), parent_there ts.messages m.0 m.1 h.0 ∙ outermost_is m.1.parent (and_right (i == m.1.file) (is_outermost m.1.parent) h.1)))
       (all_filtered (Stands ts) (λ m. (i == m.1.file) && is_outermost m.1.parent) (numbered ts) (each_stands ts))

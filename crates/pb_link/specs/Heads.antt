@@ -1,7 +1,8 @@
--- The messages that files declare, in declaration order: a message, and then those in it. Entry messages are left out.
+-- The messages and the enums that files declare, in declaration order: a message, and then those in it, and behind those its enums. Entry
+-- messages are left out.
 use Rattle.std.specs.Prelude.{List, [], ◌∷◌, ◌++◌, if◌then◌else◌}
 use Rattle.std.specs.List.{flat_map}
-use Rattle.pb_descr.specs.Decls.{MessageHead, DeclaredMessage, message, DeclaredMessages, no_messages, more_messages, DeclaredFile}
+use Rattle.pb_descr.specs.Decls.{DeclaredEnum, MessageHead, DeclaredMessage, message, DeclaredMessages, no_messages, more_messages, DeclaredFile}
 
 abbrev pub unless_entry : MessageHead → List MessageHead
 unless_entry head = if head.is_entry then [] else head ∷ []
@@ -16,3 +17,15 @@ abbrev mutual
 
 abbrev pub declared_heads : List DeclaredFile → List MessageHead
 declared_heads files = flat_map (λ f. heads_among f.messages) files
+
+abbrev mutual
+  pub enums_in : DeclaredMessage → List DeclaredEnum
+  enums_in (message head inner) = enums_among inner ++ head.enums
+
+  pub enums_among : DeclaredMessages → List DeclaredEnum
+  enums_among no_messages = []
+  enums_among (more_messages m ms) = enums_in m ++ enums_among ms
+
+-- the enums outside messages stand last in each file
+abbrev pub declared_enums : List DeclaredFile → List DeclaredEnum
+declared_enums files = flat_map (λ f. enums_among f.messages ++ f.enums) files

@@ -17,6 +17,7 @@ pub mod ToDecls
 pub mod Declarable
 pub mod Nested
 pub mod Heads
+pub mod OwnRules
 pub mod Law
 pub mod Reach
 pub mod Firsts
@@ -28,4 +29,7 @@ pub mod Places
 pub mod Scene
 pub mod TypeNames
 pub mod Uses
+pub mod Maps
 pub mod Parts
+pub mod Resolved
+pub mod Resolving

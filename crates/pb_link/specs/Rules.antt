@@ -268,7 +268,20 @@ uses w place d = is_field d.item && list_any (is_found_at place) (lookups w d)
 -- a field is repeated and gives an entry its name
 abbrev pub gives_name : Item → Item → Bool
 gives_name (a_field head i f) (a_message e inner) = f.is_repeated && bytes_eq (entry_name f.name) e.name
-gives_name _ _ = false
+gives_name (a_field head i f) (a_file g) = false
+gives_name (a_field head i f) (a_field h j g) = false
+gives_name (a_field head i f) (a_oneof h j name) = false
+gives_name (a_field head i f) (an_enum e) = false
+gives_name (a_field head i f) (a_value e j v) = false
+gives_name (a_field head i f) (a_service s) = false
+gives_name (a_field head i f) (a_method m) = false
+gives_name (a_file f) entry = false
+gives_name (a_message head inner) entry = false
+gives_name (a_oneof head i name) entry = false
+gives_name (an_enum e) entry = false
+gives_name (a_value e i v) entry = false
+gives_name (a_service s) entry = false
+gives_name (a_method m) entry = false
 
 -- a field is repeated, stands in the message around an entry, and gives it its name
 abbrev pub is_map_field : Declaration → Declaration → Bool
@@ -326,7 +339,9 @@ are_key_and_value w entry k v =
 
 abbrev pub has_key_and_value : World → Declaration → List DeclaredField → Bool
 has_key_and_value w entry (f ∷ g ∷ []) = are_key_and_value w entry f g || are_key_and_value w entry g f
-has_key_and_value w entry _ = false
+has_key_and_value w entry [] = false
+has_key_and_value w entry (f ∷ []) = false
+has_key_and_value w entry (f ∷ g ∷ h ∷ fs) = false
 
 abbrev pub has_nothing_inside : MessageHead → DeclaredMessages → Bool
 has_nothing_inside head inner = is_nothing inner && (length head.enums == 0) && (length head.oneofs == 0)

@@ -1,10 +1,10 @@
 //! The declarations of a pool's types.
 
-mod enums;
+pub(crate) mod enums;
 mod fields;
 mod nesting;
 mod order;
-mod text;
+pub(crate) mod text;
 
 ghost use Rattle.std.specs.Prelude.{◌≡◌, ◌<◌, ◌^◌, [], pos, length, map, drop, string_bytes, Some, slice_get, IfOk, IfErr};
 ghost use Rattle.std.specs.List.{enumerate_from};
@@ -18,7 +18,7 @@ ghost use Rattle.pb_link.specs.Nested.{inside_view, inside_file, AreInside};
 
 use crate::declaring::nesting::{Inside, nested};
 use crate::error::LinkError;
-pub use order::declared_order;
+pub use order::{declared_order, declared_rules};
 use pb_descr::FileDecl;
 use pb_schema::{FileInfo, Pool};
 use std::alloc::{AllocError, Global};

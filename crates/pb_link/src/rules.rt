@@ -1,6 +1,7 @@
 //! The rules of linking, a check each.
 
 pub(crate) mod kinds;
+pub(crate) mod maps;
 pub(crate) mod numbers;
 pub(crate) mod oneofs;
 pub(crate) mod ranges;

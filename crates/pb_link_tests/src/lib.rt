@@ -2,4 +2,10 @@
 #![tactic(auto)]
 
 #[cfg(test)]
+mod chains;
+#[cfg(test)]
 mod declarations;
+#[cfg(test)]
+mod resolved;
+#[cfg(test)]
+mod rows;

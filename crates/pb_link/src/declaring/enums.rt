@@ -25,7 +25,10 @@ fn shares_numbers(alloc: Global, values: &[(String, i32)]) -> Result<bool, Alloc
     Ok(false)
 }
 
-fn value_decls(alloc: Global, values: &[(String, i32)]) -> Result<Vec<(String, i32)>, AllocError>
+pub(crate) fn value_decls(
+    alloc: Global,
+    values: &[(String, i32)],
+) -> Result<Vec<(String, i32)>, AllocError>
     ensures { IfOk result (λ v. map numbered_view v.items ≡ map numbered_view values.now) }
 {
     let mut decls = Vec::with_capacity(alloc, values.len())?;

@@ -43,7 +43,7 @@ fn is_enum(row: &[Declaration], found: Found) -> bool
 }
 
 /// Whether a declaration is an entry message.
-fn is_entry(declaration: &Declaration) -> bool
+pub(crate) fn is_entry(declaration: &Declaration) -> bool
     ensures { result ≡ is_entry (item_view declaration.now.item) }
 {
     match declaration.item {

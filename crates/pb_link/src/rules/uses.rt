@@ -73,7 +73,11 @@ fn gives_name(alloc: Global, user: Item, entry: Item) -> Result<bool, AllocError
     Ok(wanted.as_slice() == name.as_str().as_bytes())
 }
 
-fn is_map_field(alloc: Global, entry: &Declaration, user: &Declaration) -> Result<bool, AllocError>
+pub(crate) fn is_map_field(
+    alloc: Global,
+    entry: &Declaration,
+    user: &Declaration,
+) -> Result<bool, AllocError>
     ensures { IfOk result (λ b. b ≡ is_map_field (declaration_view entry.now) (declaration_view user.now)) }
 {
     if user.parent != entry.parent {
@@ -114,7 +118,7 @@ fn is_field(item: Item) -> bool
     matches!(item, Item::Field(_, _, _))
 }
 
-fn names_at(found: &[TypeNames], place: usize) -> TypeNames
+pub(crate) fn names_at(found: &[TypeNames], place: usize) -> TypeNames
     ensures { result ≡ slice_index_or found.now place type_names.None }
 {
     match found.get(place) {

@@ -1,0 +1,45 @@
+//! What type names came to, one declaration after another.
+
+ghost use Rattle.std.specs.Prelude.{◌≡◌, drop};
+ghost use Rattle.pb_link.specs.View.{type_names_view};
+ghost use Rattle.pb_link.specs.Resolving.{coming, names_here};
+
+use crate::found::TypeNames;
+
+/// What the type names of the declarations that come next came to, in declaration order.
+#[derive(Drop)]
+pub(crate) struct Upcoming<'a> {
+    pub(crate) rest: &'a [TypeNames],
+}
+
+/// What is left behind so many.
+#[tactic(auto, using(std::proofs::lemmas::List::drop_all))]
+fn behind(found: &[TypeNames], count: usize) -> &[TypeNames]
+    ensures { result.now ≡ drop count found.now }
+{
+    if count < found.len() {
+        return &found[count..];
+    }
+    &found[found.len()..]
+}
+
+impl<'a> Upcoming<'a> {
+    /// What those of the next declaration came to, which is then gone past.
+    pub(crate) fn next(&mut self) -> TypeNames
+        ensures names { type_names_view result ≡ names_here (coming self.old) }
+        ensures rest { coming self.new ≡ drop 1 (coming self.old) }
+    {
+        let Some((first, rest)) = self.rest.split_first() else {
+            return TypeNames::None;
+        };
+        self.rest = rest;
+        *first
+    }
+
+    /// Goes past so many declarations.
+    pub(crate) fn skip(&mut self, count: usize)
+        ensures { coming self.new ≡ drop count (coming self.old) }
+    {
+        self.rest = behind(self.rest, count);
+    }
+}
