@@ -1,62 +1,56 @@
 -- How a run ends, from what its command came to and what was told.
-use Rattle.std.proofs.Common.{◌≡◌, ◌+◌, ℕ, List, [], Bool, Option, inl, inr, ap, subst, arith}
-use Rattle.std.specs.Borrow.{Bor}
+use Rattle.std.proofs.Common.{◌≡◌, ◌+◌, ℕ, List, [], Bool, Option, None, Some, inl, inr, ap, sym, ◌∙◌, subst, arith}
 use Rattle.std.specs.Prelude.{Result, Ok, Err, MatchResult, OnOk}
-use Rattle.pb_wire.specs.Limits.{full}
-use Rattle.pbtool.specs.Answer.{Answer, done, refused, device_failed, Ends, Does, RawAnswer}
-use Rattle.pbtool.specs.FileMap.{FileMap, IsHonest}
-use Rattle.pbtool.specs.Report.{fault_line, device_line}
-use Rattle.pbtool.specs.Refusal.{refusal_line, refusal_status}
-use Rattle.pbtool.specs.Steps.{Comes, IsReadOf}
-use Rattle.pbtool.specs.declared.command.Command.TheVariants.{Raw}
-use Rattle.pbtool.proofs.Judged.{answer_whole}
-use Rattle.pbtool.proofs.RawSteps.{IsRight}
+use Rattle.pbtool.specs.Answer.{Answer, stopped, broken, Ends, delivered, output_failed, file_failed, out_of_memory}
+use Rattle.pbtool.specs.Report.{device_line, memory_line}
+use Rattle.pbtool.specs.Refusal.{ByRefusal, refusal_line, refusal_status}
+use Rattle.pbtool.specs.Steps.{Comes, FailsAt}
 use Rattle.pbtool.specs.declared.report.Refusal.{Refusal}
-use Rattle.pbtool.specs.declared.report.Refusal.TheVariants.{Fault, Device, Memory}
-use Rattle.pb_wire.specs.Fault.{fault}
+use Rattle.pbtool.specs.declared.report.Refusal.TheVariants.{Fault, Set, SetFile, Link, UnknownType, TooLarge, Frame, Device, Memory}
 
-module _ (Out OutCut Told : List ℕ → Type 0) (status : ℕ) where
+module _
+    (Out Cut Told : List ℕ → Type 0) (Saved : Option (List ℕ × List ℕ) → Type 0) (Unsaved : List ℕ → Type 0) (status : ℕ)
+    (P : Answer → Type 0) (B : List ℕ → Type 0) where
+  abbrev Ended : Type 0
+  Ended = Ends Out Cut Told Saved Unsaved status P B
+
+  stop_ends : (line : List ℕ) → (text : List ℕ) × P (stopped text line) × Out text × Saved None → (status ≡ 1) × Told line → Ended
+  stop_ends line h told = delivered h.1 told.0 h.2 told.1 h.3
+
+  fail_ends : (path : List ℕ) → FailsAt Out Cut Saved Unsaved P B path → (status ≡ 3) × Told (device_line path) → Ended
+  fail_ends path (inl h) told = delivered h.1 told.0 h.2 told.1 h.3
+  fail_ends path (inr (inl h)) told = output_failed h.2 told.0 h.3 (subst Told (ap device_line h.1) told.1) h.4
+  fail_ends path (inr (inr h)) told = file_failed h.2 h.3 told.0 h.4 told.1 h.5
+
   -- the line of a refusal was told, and the status answered
   pub ends_from :
-      (Quiet : Type 0) (P : Answer → Type 0) (r : Result Unit Refusal) → (Quiet → Told []) → Comes Out OutCut P r
-      → MatchResult r (λ _. (status ≡ 0) × Quiet) (λ e. (status ≡ refusal_status e) × Told (refusal_line e))
-      → Ends Out OutCut Told status P
-  ends_from Quiet P (Ok u) quiet comes told = inl (done comes.0, comes.1, inl (told.0, comes.2, quiet told.1))
-  ends_from Quiet P (Err (Fault byte steps cause)) quiet comes told =
-      inl (refused (fault_line (fault byte steps.items cause)), comes.0, inl (told.0, comes.1, told.1))
-  ends_from Quiet P (Err (Device device)) quiet comes told =
-      elim comes [
-        | inl whole ↦ inl (device_failed device.now, whole.0, inl (told.0, whole.1, told.1))
-        | inr cut ↦ inl (cut.1.0, cut.1.1, inr (told.0, cut.1.2, subst Told (ap device_line cut.0) told.1))
-      ]
-  ends_from Quiet P (Err Memory) quiet comes told = inr (told.0, comes, told.1)
-
-  -- the same end, of answers that more can be said of
-  pub ends_weaker : (P Q : Answer → Type 0) → ((a : Answer) → P a → Q a) → Ends Out OutCut Told status P → Ends Out OutCut Told status Q
-  ends_weaker P Q more (inl e) = inl (e.0, more e.0 e.1, e.2)
-  ends_weaker P Q more (inr out) = inr out
-
-  -- `raw` was done
-  pub does_raw :
-      {F : Type 0} (contents : F → Option FileMap) (is_steady : F → Bool) (files : F) (short : Bool) (file : Bor (List ℕ)) (Quiet : Type 0)
-      (r : Result Unit Refusal) → (Quiet → Told [])
-      → Comes Out OutCut (IsRight full short file.now (IsReadOf contents is_steady files (full.bytes + 1) file.now)) r
-      → MatchResult r (λ _. (status ≡ 0) × Quiet) (λ e. (status ≡ refusal_status e) × Told (refusal_line e))
-      → Does Out OutCut Told status (IsHonest contents is_steady files) (Raw short file)
-  does_raw contents is_steady files short file Quiet r quiet comes told =
-      let right = IsRight full short file.now (IsReadOf contents is_steady files (full.bytes + 1) file.now) in
-      let ends = ends_from Quiet right r quiet comes told in (
-        λ map honest. ends_weaker right (RawAnswer full short file.now (map file.now))
-            (λ a h. answer_whole full short file.now (map file.now) a
-            (subst (λ (o : Option (List ℕ)). RawAnswer full short file.now o a) (h.1 map honest) h.2)) ends,
-        ends_weaker right (λ a. (map : FileMap) × RawAnswer full short file.now (map file.now) a) (λ a h. (λ _. h.0, h.2)) ends,
-      )
+      (Quiet : Type 0) (r : Result Unit Refusal) → (Quiet → Told []) → Comes Out Cut Saved Unsaved P B r
+      → MatchResult r (λ _. (status ≡ 0) × Quiet) (λ e. (status ≡ refusal_status e) × Told (refusal_line e)) → Ended
+  ends_from Quiet (Ok u) quiet h told = delivered h.1 (told.0 ∙ sym h.2) h.4 (subst Told (sym h.3) (quiet told.1)) h.5
+  ends_from Quiet (Err (Fault byte path cause)) quiet h told = stop_ends _ h told
+  ends_from Quiet (Err (Set byte path cause)) quiet h told = stop_ends _ h told
+  ends_from Quiet (Err (SetFile file cause)) quiet h told = stop_ends _ h told
+  ends_from Quiet (Err (Link file full_name cause)) quiet h told = stop_ends _ h told
+  ends_from Quiet (Err (UnknownType name)) quiet h told = stop_ends _ h told
+  ends_from Quiet (Err TooLarge) quiet h told = stop_ends _ h told
+  ends_from Quiet (Err (Frame index byte path cause)) quiet h told = stop_ends _ h told
+  ends_from Quiet (Err (Device path)) quiet h told = fail_ends path.now h told
+  ends_from Quiet (Err Memory) quiet h told = out_of_memory h.1 told.0 h.2 told.1 h.3
 
 -- what holds of a command that succeeds holds where the status is 0
 pub kept_at_zero :
     (Quiet : Type 0) (Told : Refusal → Type 0) (r : Result Unit Refusal) (status : ℕ) (Kept : Type 0)
     → MatchResult r (λ _. (status ≡ 0) × Quiet) (λ e. (status ≡ refusal_status e) × Told e) → OnOk r Kept → status ≡ 0 → Kept
 kept_at_zero Quiet Told (Ok u) status Kept concluded kept zero = kept
-kept_at_zero Quiet Told (Err (Fault byte steps cause)) status Kept concluded kept zero = absurd (let e = concluded.0 in omega (arith, e, zero))
-kept_at_zero Quiet Told (Err (Device device)) status Kept concluded kept zero = absurd (let e = concluded.0 in omega (arith, e, zero))
-kept_at_zero Quiet Told (Err Memory) status Kept concluded kept zero = absurd (let e = concluded.0 in omega (arith, e, zero))
+kept_at_zero Quiet Told (Err e) status Kept concluded kept zero = absurd (no_zero e (sym concluded.0 ∙ zero))
+  where
+    no_zero : (e : Refusal) → refusal_status e ≡ 0 → ⊥
+    no_zero (Fault byte path cause) e = omega (arith, e)
+    no_zero (Set byte path cause) e = omega (arith, e)
+    no_zero (SetFile file cause) e = omega (arith, e)
+    no_zero (Link file full_name cause) e = omega (arith, e)
+    no_zero (UnknownType name) e = omega (arith, e)
+    no_zero TooLarge e = omega (arith, e)
+    no_zero (Frame index byte path cause) e = omega (arith, e)
+    no_zero (Device path) e = omega (arith, e)
+    no_zero Memory e = omega (arith, e)

@@ -4,14 +4,15 @@ use Rattle.std.specs.Prelude.{option_map}
 use Rattle.std.proofs.lemmas.List.{length-take, take-take, take_all}
 use Rattle.pb_wire.specs.Record.{Record}
 use Rattle.pb_wire.specs.Fault.{Fault}
-use Rattle.pb_wire.specs.Schema.{blank}
+use Rattle.pb_wire.specs.Schema.{Schema, blank}
 use Rattle.pb_wire.specs.Grammar.{IsText, HasFault, bad, bad_front, too_large}
 use Rattle.pb_wire.specs.Limits.{Bounds}
-use Rattle.pbtool.specs.Answer.{Answer, RawAnswer, missing, shown, faulty, done, refused, shown_as}
+use Rattle.pbtool.specs.Answer.{Answer, done, refused}
+use Rattle.pbtool.specs.RawAnswer.{RawAnswer, missing, shown, faulty, shown_as}
 use Rattle.pbtool.specs.Report.{fault_line}
 
 -- the first bytes of a text within the limit are all of it
-front_whole : (m : ℕ) (b : List ℕ) → length (take (m + 1) b) ≤ m → take (m + 1) b ≡ b
+pub front_whole : (m : ℕ) (b : List ℕ) → length (take (m + 1) b) ≤ m → take (m + 1) b ≡ b
 front_whole m b small =
     let size = length-take (m + 1) b in
     take_all (m + 1) b (omega (arith, size, small))
@@ -22,13 +23,14 @@ front_long m b long = let size = length-take (m + 1) b in omega (arith, size, lo
 text_whole : (limits : Bounds) (b : List ℕ) (rs : List Record) → IsText blank tt limits (take (limits.bytes + 1) b) rs → IsText blank tt limits b rs
 text_whole limits b rs is_text = subst (λ (t : List ℕ). IsText blank tt limits t rs) (front_whole limits.bytes b is_text.size) is_text
 
-fault_whole : (limits : Bounds) (b : List ℕ) (f : Fault) → HasFault blank tt limits (take (limits.bytes + 1) b) f → HasFault blank tt limits b f
-fault_whole limits b f (bad small h) =
-    subst (λ (t : List ℕ). HasFault blank tt limits t f) (front_whole limits.bytes b small) (bad small h)
-fault_whole limits b f (bad_front long h e) =
+pub fault_whole :
+    (S : Schema) (c : S.Context) (limits : Bounds) (b : List ℕ) (f : Fault) → HasFault S c limits (take (limits.bytes + 1) b) f → HasFault S c limits b f
+fault_whole S c limits b f (bad small h) =
+    subst (λ (t : List ℕ). HasFault S c limits t f) (front_whole limits.bytes b small) (bad small h)
+fault_whole S c limits b f (bad_front long h e) =
     let front = take-take limits.bytes (limits.bytes + 1) b (omega arith) in
     bad_front (front_long limits.bytes b long) (rw front at h) e
-fault_whole limits b f (too_large long h e) =
+fault_whole S c limits b f (too_large long h e) =
     let front = take-take limits.bytes (limits.bytes + 1) b (omega arith) in
     too_large (front_long limits.bytes b long) (rw front at h) e
 
@@ -48,9 +50,9 @@ faulty_whole :
 faulty_whole limits short path a None t f there has_fault e = absurd (cc)
 faulty_whole limits short path a (Some b) t f there has_fault e =
     let front : t ≡ take (limits.bytes + 1) b = cc in
-    faulty refl (fault_whole limits b f (subst (λ (u : List ℕ). HasFault blank tt limits u f) front has_fault)) e
+    faulty refl (fault_whole blank tt limits b f (subst (λ (u : List ℕ). HasFault blank tt limits u f) front has_fault)) e
 
-none_whole : (n : ℕ) (o : Option (List ℕ)) → option_map (take n) o ≡ None → o ≡ None
+pub none_whole : (n : ℕ) (o : Option (List ℕ)) → option_map (take n) o ≡ None → o ≡ None
 none_whole n None nothing = refl
 none_whole n (Some b) nothing = absurd (cc)
 

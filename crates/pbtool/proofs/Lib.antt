@@ -3,10 +3,20 @@ pub mod HexParts
 pub mod Digits
 pub mod Borrowing
 pub mod Lines
+pub mod PuttingLemmas
+pub mod ListingLemmas
+mod ListingRows
 pub mod Paths
 pub mod Judged
+pub mod SetWhole
+pub mod Coming
+pub mod FileSteps
+pub mod TypeSteps
+pub mod MessageSteps
+pub mod Streams
 pub mod RawSteps
 pub mod Endings
+pub mod Honest
+pub mod Commands
 pub mod Matches
 pub mod Refusals
-pub mod Commands

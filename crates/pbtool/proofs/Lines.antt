@@ -18,14 +18,24 @@ shown_bytes-some (x ∷ xs) some = refl
 pub line-parts : (level : ℕ) (text value : List ℕ) → line level (text ++ value) ≡ (indent level ++ text) ++ value ++ line_feed
 line-parts level text value = ap (λ (l : List ℕ). l ++ line_feed) (sym (append_assoc (indent level) text value))
 
+-- a label, and what opens the lines of a message
+pub start-parts : (level : ℕ) (label : List ℕ) → line level (label ++ codes " {") ≡ (indent level ++ label) ++ codes " {\n"
+start-parts level label = simp append_assoc
+
+-- a label and a value
+pub scalar-parts :
+    (level : ℕ) (label value : List ℕ) → line level (label ++ codes ": " ++ value) ≡ (indent level ++ label) ++ codes ": " ++ value ++ codes "\n"
+scalar-parts level label value = simp append_assoc
+
 -- the lines of a group
 pub record_lines-group :
-    (level number : ℕ) (r : Record) (rs : List Record) → number ≡ r.number → r.payload ≡ wire.group (group_of rs)
-    → record_lines level r.number r.payload ≡ line level (decimal number ++ codes " group {") ++ group_lines (level + 1) (group_of rs) ++ line level (codes "}")
-record_lines-group level number r rs same payload =
-    ap (record_lines level r.number) payload
-    ∙ ap (λ (k : ℕ). line level (decimal k ++ codes " group {") ++ group_lines (suc level) (group_of rs) ++ line level (codes "}")) (sym same)
-    ∙ ap (λ (l : ℕ). line level (decimal number ++ codes " group {") ++ group_lines l (group_of rs) ++ line level (codes "}")) (sym (add-one level))
+    (mark : List ℕ) (level number : ℕ) (r : Record) (rs : List Record) → number ≡ r.number → r.payload ≡ wire.group (group_of rs)
+    → record_lines mark level r.number r.payload
+    ≡ line level (mark ++ decimal number ++ codes " group {") ++ group_lines (level + 1) (group_of rs) ++ line level (codes "}")
+record_lines-group mark level number r rs same payload =
+    ap (record_lines mark level r.number) payload
+    ∙ ap (λ (k : ℕ). line level (mark ++ decimal k ++ codes " group {") ++ group_lines (suc level) (group_of rs) ++ line level (codes "}")) (sym same)
+    ∙ ap (λ (l : ℕ). line level (mark ++ decimal number ++ codes " group {") ++ group_lines l (group_of rs) ++ line level (codes "}")) (sym (add-one level))
 
 -- the shortest spelling of a group, in hexadecimal
 pub shortest-group :
@@ -77,15 +87,15 @@ lines-append :
     (level : ℕ) (rs ss : List Record) → group_lines level (group_of (rs ++ ss)) ≡ group_lines level (group_of rs) ++ group_lines level (group_of ss)
 lines-append level [] ss = refl
 lines-append level (r ∷ rs) ss =
-    ap (λ (l : List ℕ). record_lines level r.number r.payload ++ l) (lines-append level rs ss)
-    ∙ sym (append_assoc (record_lines level r.number r.payload) (group_lines level (group_of rs)) (group_lines level (group_of ss)))
+    ap (λ (l : List ℕ). record_lines [] level r.number r.payload ++ l) (lines-append level rs ss)
+    ∙ sym (append_assoc (record_lines [] level r.number r.payload) (group_lines level (group_of rs)) (group_lines level (group_of ss)))
 
 -- the lines of some records, and of the next
 pub lines-more :
     (level : ℕ) (rs : List Record) (r : Record)
-    → group_lines level (group_of (rs ++ r ∷ [])) ≡ group_lines level (group_of rs) ++ record_lines level r.number r.payload
+    → group_lines level (group_of (rs ++ r ∷ [])) ≡ group_lines level (group_of rs) ++ record_lines [] level r.number r.payload
 lines-more level rs r =
-    lines-append level rs (r ∷ []) ∙ ap (λ (l : List ℕ). group_lines level (group_of rs) ++ l) (append-nil (record_lines level r.number r.payload))
+    lines-append level rs (r ∷ []) ∙ ap (λ (l : List ℕ). group_lines level (group_of rs) ++ l) (append-nil (record_lines [] level r.number r.payload))
 
 -- the lines of some records, and of the rest
 pub lines-parts :

@@ -1,68 +1,55 @@
 -- What a command comes to, and what a run of it leaves.
-use Rattle.std.specs.Prelude.{◌≡◌, ◌⊎◌, ℕ, List, [], ◌++◌, Bool, true, false, Option, None, Some}
-use Rattle.hex.specs.Hex.{encode_lower}
-use Rattle.pb_wire.specs.Record.{Record}
-use Rattle.pb_wire.specs.Spell.{shortest_records}
-use Rattle.pb_wire.specs.Fault.{Fault}
-use Rattle.pb_wire.specs.Schema.{blank}
-use Rattle.pb_wire.specs.Grammar.{IsText, HasFault}
-use Rattle.pb_wire.specs.Limits.{Bounds, full}
-use Rattle.pbtool.specs.FileMap.{FileMap}
-use Rattle.pbtool.specs.RawListing.{line_feed, raw_listing}
-use Rattle.pbtool.specs.Report.{fault_line, device_line, memory_line, output_name}
-use Rattle.pbtool.specs.declared.command.Command.{Command}
-use Rattle.pbtool.specs.declared.command.Command.TheVariants.{Raw}
+use Rattle.std.specs.Prelude.{◌≡◌, ◌⊎◌, ℕ, List, [], Option, None, Some}
+use Rattle.pbtool.specs.Report.{device_line, memory_line, output_name}
 
--- the text for standard output, the line for standard error (empty where there is none), and the exit status
+-- the text for standard output, the file that is written (its path and its bytes), the line for standard error (empty where there is none), and
+-- the exit status
 pub record Answer : Type 0 where
   pub text : List ℕ
+  pub saved : Option (List ℕ × List ℕ)
   pub line : List ℕ
   pub status : ℕ
 
 abbrev pub done : List ℕ → Answer
-done text = record { text = text; line = []; status = 0 }
+done text = record { text = text; saved = None; line = []; status = 0 }
+
+abbrev pub saves : List ℕ → List ℕ → Answer
+saves path bytes = record { text = []; saved = Some (path, bytes); line = []; status = 0 }
+
+-- an input is refused, behind what was printed before
+abbrev pub stopped : List ℕ → List ℕ → Answer
+stopped text line = record { text = text; saved = None; line = line; status = 1 }
 
 abbrev pub refused : List ℕ → Answer
-refused line = record { text = []; line = line; status = 1 }
+refused line = stopped [] line
+
+-- a device failed, or a file is not there
+abbrev pub broken : List ℕ → List ℕ → Answer
+broken text path = record { text = text; saved = None; line = device_line path; status = 3 }
 
 abbrev pub device_failed : List ℕ → Answer
-device_failed path = record { text = []; line = device_line path; status = 3 }
+device_failed path = broken [] path
 
--- what is shown of records: their shortest spelling as a line of hexadecimal, or their listing
-abbrev pub shown_as : Bool → List Record → List ℕ
-shown_as true records = encode_lower (shortest_records records) ++ line_feed
-shown_as false records = raw_listing records
+-- a text that is printed: that of an answer, or what is printed before one is known
+abbrev pub IsPrinted : (Answer → Type 0) → (List ℕ → Type 0) → List ℕ → Type 0
+IsPrinted IsRight IsBegun text = ((a : Answer) × IsRight a × (a.text ≡ text)) ⊎ IsBegun text
 
--- what `raw` comes to, where this stands at the path
-pub data RawAnswer (limits : Bounds) (short : Bool) (path : List ℕ) (content : Option (List ℕ)) (answer : Answer) : Type 0 where
-  missing : content ≡ None → answer ≡ device_failed path → RawAnswer limits short path content answer
-  shown :
-      {text : List ℕ} {records : List Record} → content ≡ Some text → IsText blank tt limits text records
-      → answer ≡ done (shown_as short records) → RawAnswer limits short path content answer
-  faulty :
-      {text : List ℕ} {f : Fault} → content ≡ Some text → HasFault blank tt limits text f → answer ≡ refused (fault_line f)
-      → RawAnswer limits short path content answer
+-- How a command ends. Out says that bytes went to standard output, Cut that a beginning of them did before it failed, Told that a line went to
+-- standard error unless that failed, Saved that no file was written or this one, and Unsaved that writing the file of a path failed.
+pub data Ends
+    (Out Cut Told : List ℕ → Type 0) (Saved : Option (List ℕ × List ℕ) → Type 0) (Unsaved : List ℕ → Type 0) (status : ℕ)
+    (IsRight : Answer → Type 0) (IsBegun : List ℕ → Type 0) : Type 0 where
+  delivered :
+      {a : Answer} → IsRight a → status ≡ a.status → Out a.text → Told a.line → Saved a.saved → Ends Out Cut Told Saved Unsaved status IsRight IsBegun
+  output_failed :
+      {text : List ℕ} → IsPrinted IsRight IsBegun text → status ≡ 3 → Cut text → Told (device_line output_name) → Saved None
+      → Ends Out Cut Told Saved Unsaved status IsRight IsBegun
+  file_failed :
+      {a : Answer} {path bytes : List ℕ} → IsRight a → a.saved ≡ Some (path, bytes) → status ≡ 3 → Out [] → Told (device_line path) → Unsaved path
+      → Ends Out Cut Told Saved Unsaved status IsRight IsBegun
+  out_of_memory :
+      {text : List ℕ} → IsBegun text → status ≡ 3 → Out text → Told memory_line → Saved None → Ends Out Cut Told Saved Unsaved status IsRight IsBegun
 
--- what a command comes to over these files
-abbrev pub Answers : Bounds → FileMap → Command → Answer → Type 0
-Answers limits map (Raw short file) = RawAnswer limits short file.now (map file.now)
-
--- what a run leaves: Out says that bytes went to standard output, OutCut that a beginning of them did before it failed,
--- and Told that a line went to standard error unless that failed
-module _ (Out OutCut Told : List ℕ → Type 0) (status : ℕ) where
-  -- the answer is delivered; or standard output failed, and the line says so
-  abbrev pub Delivers : Answer → Type 0
-  Delivers a = ((status ≡ a.status) × Out a.text × Told a.line) ⊎ ((status ≡ 3) × OutCut a.text × Told (device_line output_name))
-
-  -- memory ran out before anything was written
-  abbrev pub RunsOut : Type 0
-  RunsOut = (status ≡ 3) × Out [] × Told memory_line
-
-  -- an answer that P describes is delivered, unless memory runs out
-  abbrev pub Ends : (Answer → Type 0) → Type 0
-  Ends P = ((a : Answer) × P a × Delivers a) ⊎ RunsOut
-
-  -- The command is done: over files of which IsMap tells what they hold the answer is the one of their bytes, and over any
-  -- files it is the answer of some bytes.
-  abbrev pub Does : (FileMap → Type 0) → Command → Type 0
-  Does IsMap command = ((map : FileMap) → IsMap map → Ends (Answers full map command)) × Ends (λ a. (map : FileMap) × Answers full map command a)
+-- memory ran out before anything was printed
+abbrev pub RunsOut : (List ℕ → Type 0) → (List ℕ → Type 0) → (Option (List ℕ × List ℕ) → Type 0) → ℕ → Type 0
+RunsOut Out Told Saved status = (status ≡ 3) × Out [] × Told memory_line × Saved None

@@ -1,5 +1,5 @@
 -- Named files, as a map from paths to bytes.
-use Rattle.std.specs.Prelude.{Bool, true, ◌≡◌, ◌≢◌, ℕ, List, Option, None, Some, Result, IfSome, IfOk, OnOk, ⊤}
+use Rattle.std.specs.Prelude.{Bool, true, ◌≡◌, ◌≢◌, ℕ, List, [], Option, None, Some, Result, Ok, Err, IfSome, IfOk, OnOk, ⊤}
 
 -- the bytes at each path, or none where no file is there
 abbrev pub FileMap : Type 0
@@ -36,3 +36,12 @@ WritesWhole (Some map) (Some after) path bytes r = SameBut path map after × OnO
 pub record IsHonest {F : Type 0} (contents : F → Option FileMap) (is_steady : F → Bool) (files : F) (map : FileMap) : Type 0 where
   pub steady : is_steady files ≡ true
   pub told : contents files ≡ Some map
+
+-- nothing was written, or the file of this path whole
+abbrev pub IsSaved : {F : Type 0} → (F → Option FileMap) → F → F → Option (List ℕ × List ℕ) → Type 0
+IsSaved contents old new None = KeepsMap (contents old) (contents new)
+IsSaved contents old new (Some file) = WritesWhole {E = Unit {0}} (contents old) (contents new) file.0 file.1 (Ok tt)
+
+-- writing the file of this path failed
+abbrev pub IsUnsaved : {F : Type 0} → (F → Option FileMap) → (F → ℕ) → F → F → List ℕ → Type 0
+IsUnsaved contents failures old new path = (failures new ≢ failures old) × WritesWhole {E = Unit {0}} (contents old) (contents new) path [] (Err tt)

@@ -20,18 +20,18 @@ shown_bytes [] = []
 shown_bytes (b ∷ bs) = codes " " ++ encode_lower (b ∷ bs)
 
 abbrev mutual
-  -- the lines of a record
-  pub record_lines : ℕ → ℕ → Payload → List ℕ
-  record_lines level k (varint n) = line level (decimal k ++ codes " varint " ++ decimal n)
-  record_lines level k (fixed64 n) = line level (decimal k ++ codes " i64 " ++ encode_lower (to_be_bytes w64 n))
-  record_lines level k (len s) = line level (decimal k ++ codes " len " ++ decimal (length s) ++ shown_bytes s)
-  record_lines level k (group g) = line level (decimal k ++ codes " group {") ++ group_lines (suc level) g ++ line level (codes "}")
-  record_lines level k (fixed32 n) = line level (decimal k ++ codes " i32 " ++ encode_lower (to_be_bytes w32 n))
+  -- the lines of a record, with a mark before the first
+  pub record_lines : List ℕ → ℕ → ℕ → Payload → List ℕ
+  record_lines mark level k (varint n) = line level (mark ++ decimal k ++ codes " varint " ++ decimal n)
+  record_lines mark level k (fixed64 n) = line level (mark ++ decimal k ++ codes " i64 " ++ encode_lower (to_be_bytes w64 n))
+  record_lines mark level k (len s) = line level (mark ++ decimal k ++ codes " len " ++ decimal (length s) ++ shown_bytes s)
+  record_lines mark level k (group g) = line level (mark ++ decimal k ++ codes " group {") ++ group_lines (suc level) g ++ line level (codes "}")
+  record_lines mark level k (fixed32 n) = line level (mark ++ decimal k ++ codes " i32 " ++ encode_lower (to_be_bytes w32 n))
 
   -- the lines of the records in a group
   pub group_lines : ℕ → Group → List ℕ
   group_lines level no_more = []
-  group_lines level (more k p g) = record_lines level k p ++ group_lines level g
+  group_lines level (more k p g) = record_lines [] level k p ++ group_lines level g
 
 abbrev pub raw_listing : List Record → List ℕ
 raw_listing records = group_lines 0 (group_of records)

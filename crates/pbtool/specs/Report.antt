@@ -1,13 +1,50 @@
 -- The lines that tell why a command was refused.
-use Rattle.std.specs.Prelude.{ℕ, List, ◌++◌, codes, decimal}
+use Rattle.std.specs.Prelude.{ℕ, List, [], ◌∷◌, ◌++◌, codes, decimal}
 use Rattle.pb_wire.specs.Fault.{Fault}
 use Rattle.pb_wire.specs.CauseName.{name_of}
 use Rattle.pb_wire.specs.PathText.{path_text}
+use Rattle.pb_descr.specs.CauseName as descr
+use Rattle.pb_descr.specs.declared.cause.DeclCause.{DeclCause}
+use Rattle.pb_link.specs.CauseName.{cause_name}
+use Rattle.pb_link.specs.declared.cause.LinkCause.{LinkCause}
+
+-- what ends a line: the name of a cause
+abbrev pub cause_end : List ℕ → List ℕ
+cause_end name = codes " cause " ++ name ++ codes "\n"
 
 -- where a message's bytes are refused, and why
 abbrev pub fault_line : Fault → List ℕ
-fault_line f =
-    codes "byte " ++ decimal f.byte ++ codes " path " ++ path_text f.path ++ codes " cause " ++ name_of f.cause ++ codes "\n"
+fault_line f = codes "byte " ++ decimal f.byte ++ codes " path " ++ path_text f.path ++ cause_end (name_of f.cause)
+
+-- where a set's bytes are refused
+abbrev pub set_fault_line : Fault → List ℕ
+set_fault_line f = codes "set " ++ fault_line f
+
+-- which file of a set is refused
+abbrev pub set_cause_line : ℕ → DeclCause → List ℕ
+set_cause_line file c = codes "set file " ++ decimal file ++ cause_end (descr.name_of c)
+
+-- a name, or a dash where it is empty, as at a file itself
+abbrev pub shown_name : List ℕ → List ℕ
+shown_name [] = codes "-"
+shown_name (b ∷ bs) = b ∷ bs
+
+-- which declaration does not link
+abbrev pub link_line : List ℕ → List ℕ → LinkCause → List ℕ
+link_line file full_name c =
+    codes "link " ++ shown_name file ++ codes " at " ++ shown_name full_name ++ cause_end (cause_name c)
+
+-- no message type has this name
+abbrev pub type_line : List ℕ → List ℕ
+type_line name = codes "type " ++ name ++ codes " unknown\n"
+
+-- an encoding has more than 2^31 - 1 bytes
+abbrev pub too_large_line : List ℕ
+too_large_line = codes "output cause TooLarge\n"
+
+-- where a stream is refused, behind so many frames
+abbrev pub frame_fault_line : ℕ → Fault → List ℕ
+frame_fault_line index f = codes "frame " ++ decimal index ++ codes " " ++ fault_line f
 
 -- a device failed, or a file is not there
 abbrev pub device_line : List ℕ → List ℕ

@@ -1,47 +1,117 @@
 -- What the steps of a command leave.
-use Rattle.std.specs.Prelude.{◌≡◌, ◌⊎◌, ℕ, List, [], Bool, true, Option, None, Some, Result, Ok, Err, Vec, option_map, take}
+use Rattle.std.specs.Prelude.{◌≡◌, ◌⊎◌, ◌+◌, ℕ, List, [], Bool, true, Option, None, Some, Result, Ok, Err, Vec, option_map, take}
 use Rattle.std.specs.declared.alloc.Global.{Global}
-use Rattle.pb_wire.specs.Fault.{fault}
 use Rattle.pb_wire.specs.Schema.{blank}
-use Rattle.pb_wire.specs.Grammar.{HasFault}
 use Rattle.pb_wire.specs.Exact.{IsSomeText}
-use Rattle.pb_wire.specs.Limits.{Bounds}
+use Rattle.pb_wire.specs.Limits.{Bounds, full}
+use Rattle.pb_schema.specs.Types.{Types}
+use Rattle.pb_value.specs.WellFormed.{IsWellFormed}
+use Rattle.pbtool.specs.Answer.{Answer, stopped, broken, IsPrinted}
+use Rattle.pbtool.specs.Answers.{FaultAt, TextAt, FramesAt, FrameFaultAt, FramesBegunAt, AnyFrames, canonical_form}
 use Rattle.pbtool.specs.FileMap.{FileMap, IsHonest}
-use Rattle.pbtool.specs.Report.{fault_line, output_name}
-use Rattle.pbtool.specs.Answer.{Answer, done, refused, device_failed}
+use Rattle.pbtool.specs.FramesAnswer.{AreFrames, FramesAnswer}
+use Rattle.pbtool.specs.MessageAnswer.{MessageAnswer}
+use Rattle.pbtool.specs.RawAnswer.{RawAnswer}
+use Rattle.pbtool.specs.Refusal.{ByRefusal, Refuses}
+use Rattle.pbtool.specs.Report.{output_name}
+use Rattle.pbtool.specs.TypeAnswer.{HasType, TypeAnswer}
+use Rattle.pbtool.specs.declared.command.Command.{Command}
+use Rattle.pbtool.specs.declared.command.Command.TheVariants.{Raw, Check, Show, Canon, Frames}
+use Rattle.pbtool.specs.declared.command.Source.{Source}
+use Rattle.pbtool.specs.declared.form.Form.{Form}
+use Rattle.pbtool.specs.declared.form.Form.TheVariants as form
 use Rattle.pbtool.specs.declared.report.Refusal.{Refusal}
-use Rattle.pbtool.specs.declared.report.Refusal.TheVariants.{Fault, Device, Memory}
+
+-- WHAT IS KNOWN OF FILES
+
+-- this holds of what stands at a path, where the files are honest
+abbrev pub OfFiles : {F : Type 0} → (F → Option FileMap) → (F → Bool) → F → List ℕ → (Option (List ℕ) → Type 0) → Type 0
+OfFiles contents is_steady files path P = (map : FileMap) → IsHonest contents is_steady files map → P (map path)
+
+-- this holds of the bytes that are left of an input, where it doesn't fail and tells them
+abbrev pub OfInput : {I : Type 0} → (I → Option (List ℕ)) → (I → Bool) → I → (Option (List ℕ) → Type 0) → Type 0
+OfInput left is_steady input P = (bytes : List ℕ) → is_steady input ≡ true → left input ≡ Some bytes → P (Some bytes)
 
 -- what was read is what honest files have at the path, up to so many bytes
 abbrev pub IsReadOf : {F : Type 0} → (F → Option FileMap) → (F → Bool) → F → ℕ → List ℕ → Option (List ℕ) → Type 0
-IsReadOf contents is_steady files limit path read =
-    (map : FileMap) → IsHonest contents is_steady files map → read ≡ option_map (take limit) (map path)
+IsReadOf contents is_steady files limit path read = OfFiles contents is_steady files path (λ content. read ≡ option_map (take limit) content)
 
--- the same of one input that doesn't fail and tells its bytes
+-- the same of one input
 abbrev pub IsReadFrom : {I : Type 0} → (I → Option (List ℕ)) → (I → Bool) → I → ℕ → Option (List ℕ) → Type 0
-IsReadFrom left is_steady input limit read =
-    (bytes : List ℕ) → is_steady input ≡ true → left input ≡ Some bytes → read ≡ Some (take limit bytes)
+IsReadFrom left is_steady input limit read = OfInput left is_steady input (λ content. read ≡ option_map (take limit) content)
+
+-- RECORDS WITHOUT A SCHEMA
 
 -- a text, or why its bytes are refused, of what IsRead says was read
 abbrev pub Judges :
     Bounds → List ℕ → (Option (List ℕ) → Type 0) → Result (Vec ℕ Global) Refusal → Type 0
 Judges limits path IsRead (Ok v) = IsRead (Some v.items) × IsSomeText blank tt limits v.items
-Judges limits path IsRead (Err (Fault byte steps cause)) =
-    (text : List ℕ) × IsRead (Some text) × HasFault blank tt limits text (fault byte steps.items cause)
-Judges limits path IsRead (Err (Device device)) = IsRead None × (device.now ≡ path)
-Judges limits path IsRead (Err Memory) = Unit {0}
+Judges limits path IsRead (Err e) =
+    (short : Bool) → Refuses (λ a. (content : Option (List ℕ)) × IsRead content × RawAnswer limits short path content a) e
 
--- the text went out; or memory ran out before; or standard output failed
-abbrev pub Shows : (List ℕ → Type 0) → (List ℕ → Type 0) → List ℕ → Result Unit Refusal → Type 0
-Shows Out OutCut text (Ok u) = Out text
-Shows Out OutCut text (Err (Fault byte steps cause)) = ⊥
-Shows Out OutCut text (Err (Device device)) = (device.now ≡ output_name) × OutCut text
-Shows Out OutCut text (Err Memory) = Out []
+-- THE STEPS OF A COMMAND
 
--- an answer that P describes went out, or is refused; or memory ran out before anything went out; or standard output failed
-abbrev pub Comes : (List ℕ → Type 0) → (List ℕ → Type 0) → (Answer → Type 0) → Result Unit Refusal → Type 0
-Comes Out OutCut P (Ok u) = (text : List ℕ) × P (done text) × Out text
-Comes Out OutCut P (Err (Fault byte steps cause)) = P (refused (fault_line (fault byte steps.items cause))) × Out []
-Comes Out OutCut P (Err (Device device)) =
-    (P (device_failed device.now) × Out []) ⊎ ((device.now ≡ output_name) × ((a : Answer) × P a × OutCut a.text))
-Comes Out OutCut P (Err Memory) = Out []
+module _ (Out Cut : List ℕ → Type 0) (Saved : Option (List ℕ × List ℕ) → Type 0) (Unsaved : List ℕ → Type 0) (IsRight : Answer → Type 0)
+    (IsBegun : List ℕ → Type 0) where
+  -- a device failed: that of an input, standard output, or that of a file that is written
+  abbrev pub FailsAt : List ℕ → Type 0
+  FailsAt path =
+      ((text : List ℕ) × IsRight (broken text path) × Out text × Saved None)
+      ⊎ (((text : List ℕ) × (path ≡ output_name) × IsPrinted IsRight IsBegun text × Cut text × Saved None)
+      ⊎ ((a : Answer) × (bytes : List ℕ) × IsRight a × (a.saved ≡ Some (path, bytes)) × Out [] × Unsaved path))
+
+  -- a right answer went out or is refused; or a device failed, or memory ran out, behind what is printed before
+  abbrev pub Comes : Result Unit Refusal → Type 0
+  Comes (Ok u) = (a : Answer) × IsRight a × (a.status ≡ 0) × (a.line ≡ []) × Out a.text × Saved a.saved
+  Comes (Err e) =
+      ByRefusal (λ line. (text : List ℕ) × IsRight (stopped text line) × Out text × Saved None) FailsAt
+      ((text : List ℕ) × IsBegun text × Out text × Saved None) e
+
+-- nothing is printed before an answer is known
+abbrev pub IsNothing : List ℕ → Type 0
+IsNothing text = text ≡ []
+
+-- no file is written
+abbrev pub NoFile : Option (List ℕ × List ℕ) → Type 0
+NoFile saved = saved ≡ None
+
+module _ {F : Type 0} (contents : F → Option FileMap) (is_steady : F → Bool) (files : F) where
+  -- what a command comes to that makes something of the message of a file
+  abbrev pub MessageOf : Form → Source → Answer → Type 0
+  MessageOf form s =
+      TypeAnswer (IsReadOf contents is_steady files (full.bytes + 1) s.set.now) (OfFiles contents is_steady files s.file.now (λ content. content ≡ None))
+      (MessageAnswer (λ pool m f. OfFiles contents is_steady files s.file.now (λ content. FaultAt content pool m f))
+      (λ pool m v. IsWellFormed pool m v × OfFiles contents is_steady files s.file.now (λ content. TextAt content pool m v)) form)
+      s.type_name.now s.set.now s.file.now
+
+  -- what `frames` comes to
+  abbrev pub StreamOf : Source → Answer → Type 0
+  StreamOf s =
+      TypeAnswer (IsReadOf contents is_steady files (full.bytes + 1) s.set.now) (OfFiles contents is_steady files s.file.now (λ content. content ≡ None))
+      (FramesAnswer (λ pool m text. AnyFrames pool m text × OfFiles contents is_steady files s.file.now (λ content. FramesAt content pool m text))
+      (λ pool m count text f. AreFrames pool m count text × OfFiles contents is_steady files s.file.now (λ content. FrameFaultAt content pool m count text f))
+      (λ pool m text. AnyFrames pool m text × OfFiles contents is_steady files s.file.now (λ content. ⊥)) s.file.now)
+      s.type_name.now s.set.now s.file.now
+
+  -- what `frames` prints before that is known
+  abbrev pub StreamBegun : Source → List ℕ → Type 0
+  StreamBegun s text =
+      (text ≡ [])
+      ⊎ ((set : List ℕ) × (pool : Types) × (m : ℕ) × IsReadOf contents is_steady files (full.bytes + 1) s.set.now (Some set)
+      × HasType s.type_name.now set pool m × AnyFrames pool m text × OfFiles contents is_steady files s.file.now (λ content. FramesBegunAt content pool m text))
+
+  -- a command's right answers, and what is printed before they are known
+  abbrev pub RightOf : Command → Answer → Type 0
+  RightOf (Raw short file) a =
+      (content : Option (List ℕ)) × IsReadOf contents is_steady files (full.bytes + 1) file.now content × RawAnswer full short file.now content a
+  RightOf (Check source) a = MessageOf form.Check source a
+  RightOf (Show source) a = MessageOf form.Listing source a
+  RightOf (Canon to source) a = MessageOf (canonical_form to) source a
+  RightOf (Frames source) a = StreamOf source a
+
+  abbrev pub BegunOf : Command → List ℕ → Type 0
+  BegunOf (Raw short file) text = IsNothing text
+  BegunOf (Check source) text = IsNothing text
+  BegunOf (Show source) text = IsNothing text
+  BegunOf (Canon to source) text = IsNothing text
+  BegunOf (Frames source) text = StreamBegun source text

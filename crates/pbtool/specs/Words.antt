@@ -1,24 +1,46 @@
 -- The command line, and the commands that its words name.
-use Rattle.std.specs.Prelude.{◌≡◌, List, [], ◌∷◌, Bool, true, false, Option, Some, codes, unwrap_or, string_bytes, map, IsSomeAnd}
+use Rattle.std.specs.Prelude.{◌≡◌, List, [], ◌∷◌, Bool, true, false, Option, Some, codes, unwrap_or, string_bytes, map, option_map, IsSomeAnd}
 use Rattle.std.specs.Str.{bytes_eq}
 use Rattle.std.specs.Option.{option_map_or}
 use Rattle.std.specs.declared.string.String.{String}
 use Rattle.std.specs.declared.alloc.Global.{Global}
 use Rattle.clap.specs.Words.{App, Row, Rule, Text, Shape, first_of, new_app, new_rule, with_rule, with_subcommand}
 use Rattle.clap.specs.Simple.{on_top}
-use Rattle.clap.specs.declared.builder.ArgAction.TheVariants.{SetTrue}
+use Rattle.clap.specs.declared.builder.ArgAction.TheVariants.{Set, SetTrue}
 use Rattle.pbtool.specs.declared.command.Command.{Command}
-use Rattle.pbtool.specs.declared.command.Command.TheVariants.{Raw}
+use Rattle.pbtool.specs.declared.command.Command.TheVariants.{Raw, Check, Show, Canon, Frames}
+use Rattle.pbtool.specs.declared.command.Source.{Source}
 
 abbrev pub short_rule : Rule
 short_rule = record (new_rule (codes "short")) { long = Some (codes "short"); action = Some SetTrue }
 
-abbrev pub file_rule : Rule
-file_rule = record (new_rule (codes "FILE")) { required = true }
+-- an argument that is required
+abbrev pub wanted : Text → Rule
+wanted id = record (new_rule id) { required = true }
 
 -- `raw [--short] FILE`
 abbrev pub raw_command : App
-raw_command = with_rule (with_rule (new_app (codes "raw")) short_rule) file_rule
+raw_command = with_rule (with_rule (new_app (codes "raw")) short_rule) (wanted (codes "FILE"))
+
+-- with `SET TYPE FILE`
+abbrev pub of_source : App → App
+of_source a = with_rule (with_rule (with_rule a (wanted (codes "SET"))) (wanted (codes "TYPE"))) (wanted (codes "FILE"))
+
+abbrev pub check_command : App
+check_command = of_source (new_app (codes "check"))
+
+abbrev pub show_command : App
+show_command = of_source (new_app (codes "show"))
+
+abbrev pub out_rule : Rule
+out_rule = record (new_rule (codes "out")) { long = Some (codes "out"); action = Some Set }
+
+-- `canon [--out OUT] SET TYPE FILE`
+abbrev pub canon_command : App
+canon_command = of_source (with_rule (new_app (codes "canon")) out_rule)
+
+abbrev pub frames_command : App
+frames_command = of_source (new_app (codes "frames"))
 
 -- a subcommand is wanted, and `help` is none
 abbrev pub wants_subcommand : Shape → Shape
@@ -29,10 +51,12 @@ tool_top = on_top wants_subcommand (new_app (codes "pbtool"))
 
 -- the whole command line
 abbrev pub tool : App
-tool = with_subcommand tool_top raw_command.top
+tool =
+    with_subcommand (with_subcommand (with_subcommand (with_subcommand (with_subcommand tool_top raw_command.top) check_command.top) show_command.top)
+    canon_command.top) frames_command.top
 
 abbrev pub tool_names : List Text
-tool_names = codes "raw" ∷ []
+tool_names = codes "raw" ∷ codes "check" ∷ codes "show" ∷ codes "canon" ∷ codes "frames" ∷ []
 
 abbrev pub words_of : List (String Global) → List Text
 words_of = map string_bytes
@@ -45,9 +69,23 @@ flag_of id rows = option_map_or (λ text. bytes_eq text (codes "true")) (first_o
 abbrev pub value_of : Text → List Row → Text
 value_of id rows = unwrap_or (first_of id rows) []
 
+-- the value of an option
+abbrev pub option_of : Text → List Row → Option Text
+option_of id rows = first_of id rows
+
+-- the values that name a message and its type
+abbrev pub IsSource : List Row → Source → Type 0
+IsSource rows s =
+    (s.set.now ≡ value_of (codes "SET") rows) × (s.type_name.now ≡ value_of (codes "TYPE") rows) × (s.file.now ≡ value_of (codes "FILE") rows)
+
 -- the command has this name, these flags and these values
 abbrev pub IsNamed : Text → List Row → Command → Type 0
 IsNamed name rows (Raw short file) = (name ≡ codes "raw") × (short ≡ flag_of (codes "short") rows) × (file.now ≡ value_of (codes "FILE") rows)
+IsNamed name rows (Check source) = (name ≡ codes "check") × IsSource rows source
+IsNamed name rows (Show source) = (name ≡ codes "show") × IsSource rows source
+IsNamed name rows (Canon to source) =
+    (name ≡ codes "canon") × (option_map (λ path. path.now) to ≡ option_of (codes "out") rows) × IsSource rows source
+IsNamed name rows (Frames source) = (name ≡ codes "frames") × IsSource rows source
 
 -- the command is what clap's matches say
 abbrev pub IsMatched : Option (Text × List Row) → Command → Type 0

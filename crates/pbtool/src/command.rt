@@ -1,8 +1,37 @@
 //! The commands.
 
+/// Where messages and their type are read: the file of the messages, and the type's name in the descriptor set of another
+/// file.
+#[derive(Clone, Copy, Debug, PartialEq, Eq)]
+pub struct Source<'a> {
+    pub set: &'a str,
+    pub type_name: &'a str,
+    pub file: &'a str,
+}
+
 /// A command with its values.
 #[derive(Clone, Copy, Debug, PartialEq, Eq)]
 pub enum Command<'a> {
     /// Shows the records of a file: a line each, or with `short` their shortest spelling in hexadecimal.
-    Raw { short: bool, file: &'a str },
+    Raw {
+        short: bool,
+        file: &'a str,
+    },
+    /// Says that a file is a message of a type.
+    Check {
+        source: Source<'a>,
+    },
+    /// Shows the message of a file.
+    Show {
+        source: Source<'a>,
+    },
+    /// Writes the canonical bytes of a file's message: as a line of hexadecimal, or to the file `out`.
+    Canon {
+        out: Option<&'a str>,
+        source: Source<'a>,
+    },
+    /// Shows the messages of a file, each behind its length.
+    Frames {
+        source: Source<'a>,
+    },
 }

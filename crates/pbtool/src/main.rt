@@ -3,16 +3,24 @@
 
 mod buffer;
 mod buffered;
+mod by_type;
 mod command;
 mod execute;
 mod files;
+mod form;
+mod frames;
 mod host;
 mod listing;
 mod memory;
+mod message;
+mod messages;
 mod raw;
+mod reading;
 mod report;
 mod run;
 mod shortest;
+mod unknown;
+mod values;
 mod words;
 
 use crate::host::HostFiles;

@@ -1,24 +1,23 @@
 //! The records of a file, without a schema.
 
-ghost use Rattle.std.specs.Prelude.{◌≡◌, ◌+◌, ◌^◌, ◌<◌, ◌≤◌, ℕ, List, Option, None, Some, drop, IfSome, OnOk};
+ghost use Rattle.std.specs.Prelude.{◌≡◌, ◌+◌, ◌^◌, ◌<◌, ◌≤◌, ℕ, List, Option, OnOk};
 ghost use Rattle.pb_wire.specs.Record.{Record};
 ghost use Rattle.pb_wire.specs.Schema.{blank};
 ghost use Rattle.pb_wire.specs.Grammar.{IsText};
 ghost use Rattle.pb_wire.specs.Limits.{full};
-ghost use Rattle.pbtool.specs.Answer.{RawAnswer, shown_as};
-ghost use Rattle.pbtool.specs.FileMap.{KeepsMap};
+ghost use Rattle.pbtool.specs.Answer.{done};
+ghost use Rattle.pbtool.specs.FileMap.{IsSaved, IsUnsaved, KeepsMap};
+ghost use Rattle.pbtool.specs.RawAnswer.{RawAnswer, shown_as};
 ghost use Rattle.pbtool.specs.Sending.{Cut, Sent};
-ghost use Rattle.pbtool.specs.Steps.{Comes, IsReadFrom, IsReadOf, Judges, Shows};
+ghost use Rattle.pbtool.specs.Steps.{Comes, IsNothing, IsReadOf, Judges, NoFile};
 
 use crate::files::Files;
 use crate::listing::write_listing;
-use crate::report::Refusal;
+use crate::reading::read_file;
+use crate::report::{OUTPUT, Refusal};
 use crate::shortest::write_shortest;
-use pb_wire::{Input, Limits, Output, ReadFault, judge_raw, read_up_to};
+use pb_wire::{Limits, Output, judge_raw};
 use std::alloc::Global;
-
-/// The name that a report gives standard output.
-const OUTPUT: &str = "-";
 
 /// Shows the records of the file at a path: all of the file is judged before anything is written.
 pub fn raw<'a, F: Files, O: Output>(
@@ -32,18 +31,19 @@ pub fn raw<'a, F: Files, O: Output>(
     requires bytes { limits.bytes < 2 ^ 31 }
     requires depth { limits.depth ≤ 100 }
     ensures comes { Comes (Sent O.written O.failures out.old out.new) (Cut O.written O.failures out.old out.new)
-        (λ a. (read : Option (List ℕ)) × IsReadOf F.contents F.is_steady files.old (limits.bytes + 1) path.entry.now read
-        × RawAnswer limits short path.entry.now read a) result }
+        (IsSaved F.contents files.old files.new) (IsUnsaved F.contents F.failures files.old files.new)
+        (λ a. (content : Option (List ℕ)) × IsReadOf F.contents F.is_steady files.old (limits.bytes + 1) path.entry.now content
+        × RawAnswer limits short path.entry.now content a) IsNothing result }
     ensures kept { OnOk result (F.failures files.new ≡ F.failures files.old) }
     ensures files { KeepsMap (F.contents files.old) (F.contents files.new) }
 {
-    let text = read_file(alloc, limits, path, files)?;
+    let text = read_judged(alloc, limits, path, files)?;
     show(short, text.as_slice(), out)?;
     Ok(())
 }
 
-/// The bytes of a file, which are judged. One that is not there is told as a device that failed.
-fn read_file<'a, F: Files>(
+/// The bytes of a file, which are judged: at most one byte is read behind those that the limits allow.
+fn read_judged<'a, F: Files>(
     alloc: Global,
     limits: Limits,
     path: &'a str,
@@ -53,29 +53,7 @@ fn read_file<'a, F: Files>(
     ensures kept { OnOk result (F.failures files.new ≡ F.failures files.old) }
     ensures files { KeepsMap (F.contents files.old) (F.contents files.new) }
 {
-    let Ok(Some(mut input)) = files.open(path) else {
-        return Err(Refusal::Device(path));
-    };
-    let text = read_text(alloc, limits, path, &mut input)?;
-    Ok(text)
-}
-
-/// The bytes of an input, which are judged. At most one byte is read behind those that the limits allow.
-fn read_text<'a, I: Input>(
-    alloc: Global,
-    limits: Limits,
-    path: &'a str,
-    input: &mut I,
-) -> Result<Vec<u8>, Refusal<'a>>
-    ensures judged { Judges limits path.entry.now (IsReadFrom I.left I.is_steady input.old (limits.bytes + 1)) result }
-    ensures rest { IfSome (I.left input.old) (λ left. OnOk result (I.left input.new ≡ Some (drop (limits.bytes + 1) left))) }
-{
-    let most = limits.max_bytes() as usize + 1;
-    let text = match read_up_to(alloc, input, most) {
-        Ok(text) => text,
-        Err(ReadFault::Device) => return Err(Refusal::Device(path)),
-        Err(ReadFault::Memory) => return Err(Refusal::Memory),
-    };
+    let text = read_file(alloc, limits, path, files)?;
     judge_raw(alloc, text.as_slice(), limits)?;
     Ok(text)
 }
@@ -83,7 +61,8 @@ fn read_text<'a, I: Input>(
 /// Writes the listing of the records that the bytes spell, or their shortest spelling.
 fn show<'a, O: Output>(short: bool, text: &[u8], out: &mut O) -> Result<(), Refusal<'a>>
     ensures { (rs : List Record) → IsText blank tt full text.now rs
-        → Shows (Sent O.written O.failures out.old out.new) (Cut O.written O.failures out.old out.new) (shown_as short rs) result }
+        → Comes (Sent O.written O.failures out.old out.new) (Cut O.written O.failures out.old out.new) NoFile (λ _. ⊥)
+        (λ a. a ≡ done (shown_as short rs)) IsNothing result }
 {
     let shown = if short {
         write_shortest(out, text)

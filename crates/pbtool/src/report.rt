@@ -3,18 +3,51 @@
 ghost use Rattle.std.specs.Prelude.{◌≡◌, ◌≤◌, ◌++◌, codes, decimal, length, MatchResult};
 ghost use Rattle.pb_wire.specs.Fault.{fault};
 ghost use Rattle.pb_wire.specs.PathText.{dotted, path_text, step_text};
-ghost use Rattle.pbtool.specs.Report.{device_line, fault_line};
+ghost use Rattle.pbtool.specs.Report.{cause_end, device_line, fault_line, frame_fault_line, link_line, set_cause_line, set_fault_line, shown_name, type_line};
 ghost use Rattle.pbtool.specs.Refusal.{refusal_line, refusal_status};
 ghost use Rattle.pbtool.specs.Sending.{Cut, Puts, Sent, SentOrCut};
 
 use crate::buffered::Buffered;
+use pb_descr::{DeclCause, DescrError};
+use pb_link::{LinkCause, LinkError};
 use pb_wire::{Cause, DeviceFault, Output, PathStep, RawError};
+
+/// The name that a report gives standard output.
+pub const OUTPUT: &str = "-";
 
 /// Why a command is refused.
 #[derive(Debug, Drop)]
 pub enum Refusal<'a> {
     /// The bytes of a message: where they fail, the steps to the open records outermost first, and why.
     Fault {
+        byte: u64,
+        path: Vec<PathStep>,
+        cause: Cause,
+    },
+    /// The bytes of a descriptor set.
+    Set {
+        byte: u64,
+        path: Vec<PathStep>,
+        cause: Cause,
+    },
+    /// A declaration of the file with this index in a descriptor set.
+    SetFile {
+        file: usize,
+        cause: DeclCause,
+    },
+    /// The first rule that the files of a set break: the file, the full name of the declaration, and the rule's cause.
+    Link {
+        file: String,
+        full_name: String,
+        cause: LinkCause,
+    },
+    /// No message type has this name.
+    UnknownType(&'a str),
+    /// An encoding has more than 2^31 - 1 bytes.
+    TooLarge,
+    /// The frame of this index: where it fails, counted from its first byte.
+    Frame {
+        index: u64,
         byte: u64,
         path: Vec<PathStep>,
         cause: Cause,
@@ -38,19 +71,55 @@ impl From<RawError> for Refusal<'_> {
     }
 }
 
+impl From<DescrError> for Refusal<'_> {
+    ghost use Rattle.pbtool.specs.Refusal.{IsToldOfSet};
+
+    ghost from_gives = { IsToldOfSet };
+
+    fn from(error: DescrError) -> Self {
+        match error {
+            DescrError::Fault { byte, path, cause } => Refusal::Set { byte, path, cause },
+            DescrError::Decl { file, cause } => Refusal::SetFile { file, cause },
+            DescrError::Memory => Refusal::Memory,
+        }
+    }
+}
+
+impl From<LinkError> for Refusal<'_> {
+    ghost use Rattle.pbtool.specs.Refusal.{IsToldOfLink};
+
+    ghost from_gives = { IsToldOfLink };
+
+    fn from(error: LinkError) -> Self {
+        match error {
+            LinkError::Fault {
+                file,
+                full_name,
+                cause,
+            } => Refusal::Link {
+                file,
+                full_name,
+                cause,
+            },
+            LinkError::Memory => Refusal::Memory,
+        }
+    }
+}
+
 impl Refusal<'_> {
     /// The exit status: 1 where an input is refused, and 3 for devices and memory.
     fn status(&self) -> u8
         ensures { result ≡ refusal_status self.now }
     {
         match self {
-            Refusal::Fault {
-                byte: _,
-                path: _,
-                cause: _,
-            } => 1,
-            Refusal::Device(_) => 3,
-            Refusal::Memory => 3,
+            Refusal::Fault { .. }
+            | Refusal::Set { .. }
+            | Refusal::SetFile { .. }
+            | Refusal::Link { .. }
+            | Refusal::UnknownType(_)
+            | Refusal::TooLarge
+            | Refusal::Frame { .. } => 1,
+            Refusal::Device(_) | Refusal::Memory => 3,
         }
     }
 
@@ -80,9 +149,96 @@ impl<O: Output> Buffered<'_, O> {
     {
         match refusal {
             Refusal::Fault { byte, path, cause } => self.put_fault(*byte, path, *cause)?,
+            Refusal::Set { byte, path, cause } => self.put_set_fault(*byte, path, *cause)?,
+            Refusal::SetFile { file, cause } => self.put_set_cause(*file, *cause)?,
+            Refusal::Link {
+                file,
+                full_name,
+                cause,
+            } => self.put_link(file.as_str(), full_name.as_str(), *cause)?,
+            Refusal::UnknownType(name) => self.put_type(name)?,
+            Refusal::TooLarge => self.put(b"output cause TooLarge\n")?,
+            Refusal::Frame {
+                index,
+                byte,
+                path,
+                cause,
+            } => self.put_frame_fault(*index, *byte, path, *cause)?,
             Refusal::Device(path) => self.put_device(path)?,
             Refusal::Memory => self.put(b"memory\n")?,
         }
+        Ok(())
+    }
+
+    fn put_set_fault(
+        &mut self,
+        byte: u64,
+        path: &[PathStep],
+        cause: Cause,
+    ) -> Result<(), DeviceFault>
+        ensures { Puts O.written O.failures self.old self.new result (set_fault_line (fault byte path.now cause)) }
+    {
+        self.put(b"set ")?;
+        self.put_fault(byte, path, cause)?;
+        Ok(())
+    }
+
+    fn put_set_cause(&mut self, file: usize, cause: DeclCause) -> Result<(), DeviceFault>
+        ensures { Puts O.written O.failures self.old self.new result (set_cause_line file cause) }
+    {
+        self.make_room(64)?;
+        self.held.push(b"set file ");
+        self.held.push_decimal(file as u64);
+        self.put_cause(cause.name())?;
+        Ok(())
+    }
+
+    fn put_link(&mut self, file: &str, full_name: &str, cause: LinkCause) -> Result<(), DeviceFault>
+        ensures { Puts O.written O.failures self.old self.new result (link_line file.now full_name.now cause) }
+    {
+        self.put(b"link ")?;
+        self.put_name(file)?;
+        self.put(b" at ")?;
+        self.put_name(full_name)?;
+        self.put_cause(cause.name())?;
+        Ok(())
+    }
+
+    /// A name, or a dash where it is empty.
+    fn put_name(&mut self, name: &str) -> Result<(), DeviceFault>
+        ensures { Puts O.written O.failures self.old self.new result (shown_name name.now) }
+    {
+        if name.is_empty() {
+            self.put(b"-")?;
+        } else {
+            self.put(name.as_bytes())?;
+        }
+        Ok(())
+    }
+
+    fn put_type(&mut self, name: &str) -> Result<(), DeviceFault>
+        ensures { Puts O.written O.failures self.old self.new result (type_line name.now) }
+    {
+        self.put(b"type ")?;
+        self.put(name.as_bytes())?;
+        self.put(b" unknown\n")?;
+        Ok(())
+    }
+
+    fn put_frame_fault(
+        &mut self,
+        index: u64,
+        byte: u64,
+        path: &[PathStep],
+        cause: Cause,
+    ) -> Result<(), DeviceFault>
+        ensures { Puts O.written O.failures self.old self.new result (frame_fault_line index (fault byte path.now cause)) }
+    {
+        self.make_room(32)?;
+        self.held.push(b"frame ");
+        self.held.push_decimal(index);
+        self.held.push(b" ");
+        self.put_fault(byte, path, cause)?;
         Ok(())
     }
 
@@ -92,8 +248,16 @@ impl<O: Output> Buffered<'_, O> {
     {
         self.put_byte(byte)?;
         self.put_path(path)?;
+        self.put_cause(cause.name())?;
+        Ok(())
+    }
+
+    /// What ends a line: the name of a cause.
+    fn put_cause(&mut self, name: &str) -> Result<(), DeviceFault>
+        ensures { Puts O.written O.failures self.old self.new result (cause_end name.now) }
+    {
         self.put(b" cause ")?;
-        self.put(cause.name().as_bytes())?;
+        self.put(name.as_bytes())?;
         self.put(b"\n")?;
         Ok(())
     }

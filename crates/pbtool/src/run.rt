@@ -2,14 +2,15 @@
 
 ghost use Rattle.std.specs.Prelude.{◌≡◌, ◌≢◌, ◌⊎◌, [], false, Any, Some};
 ghost use Rattle.clap.specs.Words.{fault_of, found_of, kind_of, rows_of, subcommand_name_of, subcommand_of, subcommand_rows_of, takes};
-ghost use Rattle.pbtool.specs.Answer.{Does, RunsOut};
-ghost use Rattle.pbtool.specs.FileMap.{IsHonest, KeepsMap};
+ghost use Rattle.pbtool.specs.Answer.{RunsOut};
+ghost use Rattle.pbtool.specs.Answers.{Does};
+ghost use Rattle.pbtool.specs.FileMap.{IsHonest, IsSaved, IsUnsaved, KeepsMap};
 ghost use Rattle.pbtool.specs.Report.{memory_line};
 ghost use Rattle.pbtool.specs.Sending.{Cut, Sent, SentOrCut};
-ghost use Rattle.pbtool.specs.Words.{IsMatched, flag_of, value_of, tool, tool_names, words_of};
+ghost use Rattle.pbtool.specs.Words.{IsMatched, IsSource, flag_of, value_of, tool, tool_names, words_of};
 ghost use Rattle.pbtool.specs.declared.command.Command.{Command as Told};
 
-use crate::command::Command;
+use crate::command::{Command, Source};
 use crate::execute::execute;
 use crate::files::Files;
 use crate::report::Refusal;
@@ -30,19 +31,19 @@ pub fn run<F: Files, O: Output, E: Output>(
 ) -> u8
     // Where the words are taken, the command that they name is done, unless memory runs out before.
     ensures taken { fault_of tool (words_of args.now) ≡ []
-        → RunsOut (Sent O.written O.failures out.old out.new) (Cut O.written O.failures out.old out.new)
-        (SentOrCut E.written E.failures err.old err.new) result
+        → RunsOut (Sent O.written O.failures out.old out.new) (SentOrCut E.written E.failures err.old err.new)
+        (IsSaved F.contents files.old files.new) result
         ⊎ ((command : Told) × IsMatched (subcommand_of tool (words_of args.now)) command
         × Does (Sent O.written O.failures out.old out.new) (Cut O.written O.failures out.old out.new)
-        (SentOrCut E.written E.failures err.old err.new) result (IsHonest F.contents F.is_steady files.old) command) }
+        (SentOrCut E.written E.failures err.old err.new) (IsSaved F.contents files.old files.new)
+        (IsUnsaved F.contents F.failures files.old files.new) result (IsHonest F.contents F.is_steady files.old) command) }
 
     // Where they are not taken, nothing goes to standard output.
     ensures refused { fault_of tool (words_of args.now) ≢ []
-        → ((result ≡ 2) × Sent O.written O.failures out.old out.new [])
-        ⊎ RunsOut (Sent O.written O.failures out.old out.new) (Cut O.written O.failures out.old out.new)
-        (SentOrCut E.written E.failures err.old err.new) result }
+        → ((result ≡ 2) × Sent O.written O.failures out.old out.new [] × KeepsMap (F.contents files.old) (F.contents files.new))
+        ⊎ RunsOut (Sent O.written O.failures out.old out.new) (SentOrCut E.written E.failures err.old err.new)
+        (IsSaved F.contents files.old files.new) result }
     ensures usage { result ≡ 2 → (fault_of tool (words_of args.now) ≢ []) × (takes tool (words_of args.now) ≡ false) }
-    ensures files { KeepsMap (F.contents files.old) (F.contents files.new) }
 {
     let Ok(definition) = definition(alloc) else {
         return Refusal::Memory.tell(err);
@@ -80,16 +81,58 @@ fn dispatch<F: Files, O: Output, E: Output>(
     requires { Any (λ name. subcommand_name_of matches.now ≡ Some name) tool_names }
     ensures done { (command : Told) × IsMatched (subcommand_rows_of matches.now) command
         × Does (Sent O.written O.failures out.old out.new) (Cut O.written O.failures out.old out.new)
-        (SentOrCut E.written E.failures err.old err.new) result (IsHonest F.contents F.is_steady files.old) command }
+        (SentOrCut E.written E.failures err.old err.new) (IsSaved F.contents files.old files.new)
+        (IsUnsaved F.contents F.failures files.old files.new) result (IsHonest F.contents F.is_steady files.old) command }
     ensures status { result ≢ 2 }
-    ensures files { KeepsMap (F.contents files.old) (F.contents files.new) }
+{
+    let command = command_of(matches);
+    execute(alloc, &command, files, out, err)
+}
+
+/// The command that the words named.
+fn command_of<'a>(matches: &ArgMatches<'a>) -> Command<'a>
+    requires { Any (λ name. subcommand_name_of matches.now ≡ Some name) tool_names }
+    ensures { IsMatched (subcommand_rows_of matches.now) result }
 {
     if let Some(inner) = matches.subcommand_matches("raw") {
         let short = flag(inner, "short");
         let file = value(inner, "FILE");
-        return execute(alloc, &Command::Raw { short, file }, files, out, err);
+        return Command::Raw { short, file };
+    }
+    if let Some(inner) = matches.subcommand_matches("check") {
+        return Command::Check {
+            source: source(inner),
+        };
+    }
+    if let Some(inner) = matches.subcommand_matches("show") {
+        return Command::Show {
+            source: source(inner),
+        };
+    }
+    if let Some(inner) = matches.subcommand_matches("canon") {
+        let out = inner.get_str("out");
+        return Command::Canon {
+            out,
+            source: source(inner),
+        };
+    }
+    if let Some(inner) = matches.subcommand_matches("frames") {
+        return Command::Frames {
+            source: source(inner),
+        };
     }
     unreachable!()
+}
+
+/// Where a message and its type are read.
+fn source<'a>(matches: &ArgMatches<'a>) -> Source<'a>
+    ensures { IsSource (rows_of (found_of matches.now)) result }
+{
+    Source {
+        set: value(matches, "SET"),
+        type_name: value(matches, "TYPE"),
+        file: value(matches, "FILE"),
+    }
 }
 
 fn flag(matches: &ArgMatches<'_>, id: &str) -> bool

@@ -1,6 +1,8 @@
 //! The command over files in memory: worked rows, usage, and devices that fail. Expected values are those of the
 //! encoding guide's rules, worked out by hand.
 
+mod typed;
+
 use crate::files::Files;
 use crate::host::HostFiles;
 use crate::memory::MemFiles;
@@ -140,18 +142,40 @@ impl Run {
     }
 }
 
-/// Runs the words behind the program's name over a file `f`. Each call of a device moves one byte.
-fn run_over(alloc: Global, words: &[&str], file: &[u8], failures: Failures) -> Result<Run, Fail> {
+/// Files in memory, which give one byte a call.
+fn files_of<'a>(
+    alloc: Global,
+    entries: &[(&str, &'a [u8])],
+    failures: Failures,
+) -> Result<MemFiles<'a>, Fail> {
+    let mut named = Vec::new(alloc);
+    for (path, bytes) in entries {
+        named.push((String::from_str(alloc, path)?, *bytes))?;
+    }
+    Ok(MemFiles::new(alloc, named, 1, failures.input, failures.open))
+}
+
+/// Runs the words behind the program's name over files. The outputs take one byte a call.
+fn run_words(
+    alloc: Global,
+    words: &[&str],
+    files: &mut MemFiles<'_>,
+    failures: Failures,
+) -> Result<Run, Fail> {
     let mut args = vec![in alloc; String::from_str(alloc, "pbtool")?]?;
     for word in words {
         args.push(String::from_str(alloc, word)?)?;
     }
-    let entries = vec![in alloc; (String::from_str(alloc, "f")?, file)]?;
-    let mut files = MemFiles::new(alloc, entries, 1, failures.input, failures.open);
     let mut out = MemOutput::new(alloc, 1, failures.out);
     let mut err = MemOutput::new(alloc, 1, failures.err);
-    let status = run(alloc, args.as_slice(), &mut files, &mut out, &mut err);
+    let status = run(alloc, args.as_slice(), files, &mut out, &mut err);
     Ok(Run { status, out, err })
+}
+
+/// Runs words over a file `f`.
+fn run_over(alloc: Global, words: &[&str], file: &[u8], failures: Failures) -> Result<Run, Fail> {
+    let mut files = files_of(alloc, &[("f", file)], failures)?;
+    run_words(alloc, words, &mut files, failures)
 }
 
 fn is_told(alloc: Global, row: Row) -> Result<bool, Fail> {
@@ -232,6 +256,10 @@ const NO_COMMANDS: &[&[&str]] = &[
     &["raw", "--help"],
     &["raw", "f", "g"],
     &["raw", "--long", "f"],
+    &["check"],
+    &["show", "f", "T"],
+    &["canon", "--out", "f", "T", "f"],
+    &["frames", "--out", "g", "f", "T", "f"],
 ];
 
 #[test]

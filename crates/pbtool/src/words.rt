@@ -2,7 +2,7 @@
 ghost use Rattle.std.specs.Prelude.{◌≡◌, false, IfOk};
 ghost use Rattle.clap.specs.Words.{app_of};
 ghost use Rattle.clap.specs.declared.builder.command.Command.TheViews.{out-Command};
-ghost use Rattle.pbtool.specs.Words.{raw_command, tool, tool_top};
+ghost use Rattle.pbtool.specs.Words.{canon_command, check_command, frames_command, of_source, raw_command, show_command, tool, tool_top};
 
 use clap::{Arg, ArgAction, Command};
 use std::alloc::{AllocError, Global};
@@ -13,7 +13,11 @@ pub fn definition<'a>(alloc: Global) -> Result<Command<'a>, AllocError>
     ensures local { IfOk result (λ c. (out-Command c).has_globals ≡ false) }
     ensures closed { IfOk result (λ c. (out-Command c).allow_external_subcommands ≡ false) }
 {
-    let whole = top(alloc).subcommand(raw(alloc)?)?;
+    let with_raw = top(alloc).subcommand(raw(alloc)?)?;
+    let with_check = with_raw.subcommand(check(alloc)?)?;
+    let with_show = with_check.subcommand(show(alloc)?)?;
+    let with_canon = with_show.subcommand(canon(alloc)?)?;
+    let whole = with_canon.subcommand(frames(alloc)?)?;
     Ok(whole)
 }
 
@@ -44,5 +48,70 @@ fn raw<'a>(alloc: Global) -> Result<Command<'a>, AllocError>
     );
     let with_short = command.arg(short)?;
     let whole = with_short.arg(file)?;
+    Ok(whole)
+}
+
+fn check<'a>(alloc: Global) -> Result<Command<'a>, AllocError>
+    ensures app { IfOk result (λ c. app_of c ≡ check_command) }
+    ensures local { IfOk result (λ c. (out-Command c).has_globals ≡ false) }
+{
+    let command = Command::new(alloc, "check").about("Say that a file is a message of a type");
+    let whole = with_source(alloc, command)?;
+    Ok(whole)
+}
+
+fn show<'a>(alloc: Global) -> Result<Command<'a>, AllocError>
+    ensures app { IfOk result (λ c. app_of c ≡ show_command) }
+    ensures local { IfOk result (λ c. (out-Command c).has_globals ≡ false) }
+{
+    let command = Command::new(alloc, "show").about("Print the fields of a message");
+    let whole = with_source(alloc, command)?;
+    Ok(whole)
+}
+
+fn canon<'a>(alloc: Global) -> Result<Command<'a>, AllocError>
+    ensures app { IfOk result (λ c. app_of c ≡ canon_command) }
+    ensures local { IfOk result (λ c. (out-Command c).has_globals ≡ false) }
+{
+    let out = Arg::new(alloc, "out")
+        .long("out")
+        .action(ArgAction::Set)
+        .help("Write the bytes to this file instead");
+    let command = Command::new(alloc, "canon").about(
+        "Print the canonical bytes of a message as one line of hexadecimal",
+    );
+    let with_out = command.arg(out)?;
+    let whole = with_source(alloc, with_out)?;
+    Ok(whole)
+}
+
+fn frames<'a>(alloc: Global) -> Result<Command<'a>, AllocError>
+    ensures app { IfOk result (λ c. app_of c ≡ frames_command) }
+    ensures local { IfOk result (λ c. (out-Command c).has_globals ≡ false) }
+{
+    let command = Command::new(alloc, "frames").about(
+        "Print the messages of a stream, each behind its length",
+    );
+    let whole = with_source(alloc, command)?;
+    Ok(whole)
+}
+
+/// The command with the arguments that name a message and its type.
+fn with_source<'a>(alloc: Global, command: Command<'a>) -> Result<Command<'a>, AllocError>
+    ensures app { (out-Command command.entry).has_globals ≡ false → IfOk result (λ c. app_of c ≡ of_source (app_of command.entry)) }
+    ensures local { (out-Command command.entry).has_globals ≡ false → IfOk result (λ c. (out-Command c).has_globals ≡ false) }
+{
+    let set = Arg::new(alloc, "SET")
+        .required(true)
+        .help("The file with the descriptor set of the type");
+    let name = Arg::new(alloc, "TYPE")
+        .required(true)
+        .help("The full name of the message type");
+    let file = Arg::new(alloc, "FILE")
+        .required(true)
+        .help("The file with the bytes");
+    let with_set = command.arg(set)?;
+    let with_type = with_set.arg(name)?;
+    let whole = with_type.arg(file)?;
     Ok(whole)
 }

@@ -1,32 +1,44 @@
 use Rattle.std.proofs.Common.{[], inl}
+use Rattle.pbtool.specs.Answers.{Answers, AnyAnswers, AnyBegins, Begins}
+use Rattle.pbtool.specs.FileMap.{IsSaved, IsUnsaved}
 use Rattle.pbtool.specs.Sending.{Cut, Sent, SentOrCut}
-use Rattle.pbtool.proofs.Commands.{only_raw}
-use Rattle.pbtool.proofs.Endings.{does_raw, kept_at_zero}
+use Rattle.pbtool.specs.Steps.{BegunOf, RightOf}
+use Rattle.pbtool.proofs.Coming.{comes_map}
+use Rattle.pbtool.proofs.Endings.{ends_from, kept_at_zero}
+use Rattle.pbtool.proofs.Honest.{begun_of_any, begun_of_map, right_of_any, right_of_map}
 use Rattle.pbtool.proofs.execute.execute.Goals as goal
 
 pub returns-clause-honest : goal.returns-clause-honest
-returns-clause-honest g c =
-    let command = only_raw c.args.command.now in
-    let comes = rw command.1.1 at c.raw-outcome.ensures.comes in
-    rw command.1.1
-    (does_raw (Sent g.O.Output.written g.O.Output.failures c.args.out.now c.raw-outcome.new.out)
-    (Cut g.O.Output.written g.O.Output.failures c.args.out.now c.raw-outcome.new.out)
-    (SentOrCut g.E.Output.written g.E.Output.failures c.args.err.now c.conclude.new.err) c.conclude.result
-    g.F.Files.contents g.F.Files.is_steady c.args.files.now command.0 command.1.0
-    (Sent g.E.Output.written g.E.Output.failures c.args.err.now c.conclude.new.err [])
-    c.raw-outcome.result (λ sent. inl sent) comes c.conclude.ensures).0
+returns-clause-honest g c = λ map honest.
+    let out = Sent g.O.Output.written g.O.Output.failures c.args.out.now c.perform-outcome.new.out in
+    let cut = Cut g.O.Output.written g.O.Output.failures c.args.out.now c.perform-outcome.new.out in
+    let saved = IsSaved g.F.Files.contents c.args.files.now c.perform-outcome.new.files in
+    let unsaved = IsUnsaved g.F.Files.contents g.F.Files.failures c.args.files.now c.perform-outcome.new.files in
+    ends_from out cut (SentOrCut g.E.Output.written g.E.Output.failures c.args.err.now c.conclude.new.err) saved unsaved c.conclude.result
+    (Answers map c.args.command.now) (Begins map c.args.command.now)
+    (Sent g.E.Output.written g.E.Output.failures c.args.err.now c.conclude.new.err []) c.perform-outcome.result (λ sent. inl sent)
+    (comes_map out out cut cut saved saved unsaved unsaved (RightOf g.F.Files.contents g.F.Files.is_steady c.args.files.now c.args.command.now)
+    (Answers map c.args.command.now) (BegunOf g.F.Files.contents g.F.Files.is_steady c.args.files.now c.args.command.now)
+    (Begins map c.args.command.now) c.perform-outcome.result (λ text h. h) (λ text h. h) (λ s h. h) (λ path h. h)
+    (right_of_map g.F.Files.contents g.F.Files.is_steady c.args.files.now map honest c.args.command.now)
+    (begun_of_map g.F.Files.contents g.F.Files.is_steady c.args.files.now map honest c.args.command.now) c.perform-outcome.ensures.comes)
+    c.conclude.ensures
 
 pub returns-clause-any : goal.returns-clause-any
 returns-clause-any g c =
-    let command = only_raw c.args.command.now in
-    let comes = rw command.1.1 at c.raw-outcome.ensures.comes in
-    rw command.1.1
-    (does_raw (Sent g.O.Output.written g.O.Output.failures c.args.out.now c.raw-outcome.new.out)
-    (Cut g.O.Output.written g.O.Output.failures c.args.out.now c.raw-outcome.new.out)
-    (SentOrCut g.E.Output.written g.E.Output.failures c.args.err.now c.conclude.new.err) c.conclude.result
-    g.F.Files.contents g.F.Files.is_steady c.args.files.now command.0 command.1.0
-    (Sent g.E.Output.written g.E.Output.failures c.args.err.now c.conclude.new.err [])
-    c.raw-outcome.result (λ sent. inl sent) comes c.conclude.ensures).1
+    let out = Sent g.O.Output.written g.O.Output.failures c.args.out.now c.perform-outcome.new.out in
+    let cut = Cut g.O.Output.written g.O.Output.failures c.args.out.now c.perform-outcome.new.out in
+    let saved = IsSaved g.F.Files.contents c.args.files.now c.perform-outcome.new.files in
+    let unsaved = IsUnsaved g.F.Files.contents g.F.Files.failures c.args.files.now c.perform-outcome.new.files in
+    ends_from out cut (SentOrCut g.E.Output.written g.E.Output.failures c.args.err.now c.conclude.new.err) saved unsaved c.conclude.result
+    (AnyAnswers c.args.command.now) (AnyBegins c.args.command.now)
+    (Sent g.E.Output.written g.E.Output.failures c.args.err.now c.conclude.new.err []) c.perform-outcome.result (λ sent. inl sent)
+    (comes_map out out cut cut saved saved unsaved unsaved (RightOf g.F.Files.contents g.F.Files.is_steady c.args.files.now c.args.command.now)
+    (AnyAnswers c.args.command.now) (BegunOf g.F.Files.contents g.F.Files.is_steady c.args.files.now c.args.command.now)
+    (AnyBegins c.args.command.now) c.perform-outcome.result (λ text h. h) (λ text h. h) (λ s h. h) (λ path h. h)
+    (right_of_any g.F.Files.contents g.F.Files.is_steady c.args.files.now c.args.command.now)
+    (begun_of_any g.F.Files.contents g.F.Files.is_steady c.args.files.now c.args.command.now) c.perform-outcome.ensures.comes)
+    c.conclude.ensures
 
 pub returns-clause-done : goal.returns-clause-done
-returns-clause-done g c = λ zero. kept_at_zero _ _ c.raw-outcome.result c.conclude.result _ c.conclude.ensures c.raw-outcome.ensures.kept zero
+returns-clause-done g c = λ zero. kept_at_zero _ _ c.perform-outcome.result c.conclude.result _ c.conclude.ensures c.perform-outcome.ensures.kept zero

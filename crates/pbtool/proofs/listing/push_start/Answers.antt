@@ -3,4 +3,4 @@ use Rattle.pbtool.proofs.listing.push_start.Goals as goal
 
 pub returns-clause-after : goal.returns-clause-after
 returns-clause-after c =
-    rw (c.push.ensures.after, c.push_decimal.ensures.after, c.push_indent.ensures.after, c.from.ensures) (simp append_assoc)
+    rw (c.push-2.ensures.after, c.push_decimal.ensures.after, c.push.ensures.after, c.push_indent.ensures.after, c.from.ensures) (simp append_assoc)

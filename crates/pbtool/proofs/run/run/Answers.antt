@@ -1,8 +1,10 @@
-use Rattle.std.proofs.Common.{◌≡◌, refl, inl, inr, ap, ◌∙◌, subst, arith, Option, List}
+use Rattle.std.proofs.Common.{◌≡◌, refl, sym, inl, inr, ap, ◌∙◌, subst, arith, Option, List}
 use Rattle.std.proofs.KnownBytes.{Appends-nil}
 use Rattle.clap.specs.Words.{App, Row, Text, is_simple, is_simple_and_free, fault_of, kind_of, subcommand_of, takes}
 use Rattle.clap.specs.declared.error.kind.ErrorKind.TheVariants.{OutOfMemory}
 use Rattle.pbtool.specs.Words.{IsMatched, tool, words_of}
+use Rattle.pbtool.proofs.FileSteps.{keeps_same}
+use Rattle.pbtool.proofs.Matches.{subcommand_named}
 use Rattle.pbtool.proofs.Refusals.{no_kind, not_true}
 use Rattle.pbtool.proofs.run.run.Goals as goal
 
@@ -20,7 +22,7 @@ returns-in-Err-clause-taken g c = λ taken.
     let app = c.in-Ok.ensures.app in
     let has = c.in-Err.ensures.kinds (ap is_simple_and_free app) in
     let three = c.usage.ensures.out_of_memory (no_kind c.in-Err.error _ (ap (λ (a : App). fault_of a words) app ∙ taken) has) in
-    inl (three, (refl, Appends-nil (g.O.Output.written c.args.out.now)), c.usage.ensures.memory three)
+    inl (three, (refl, Appends-nil (g.O.Output.written c.args.out.now)), c.usage.ensures.memory three, keeps_same (g.F.Files.contents c.args.files.now))
 
 pub returns-in-Err-clause-usage : goal.returns-in-Err-clause-usage
 returns-in-Err-clause-usage g c = λ two.
@@ -31,3 +33,23 @@ returns-in-Err-clause-usage g c = λ two.
       λ taken. ample (no_kind c.in-Err.error _ (ap (λ (a : App). fault_of a words) app ∙ taken) has),
       not_true (takes tool words) (λ taken. ample (c.in-Err.ensures.passes (ap (λ (a : App). takes a words) app ∙ taken))),
     )
+
+pub returns-in_default-clause-taken : goal.returns-in_default-clause-taken
+returns-in_default-clause-taken g c = λ taken.
+    inl
+    (c.tell.ensures.status, (refl, Appends-nil (g.O.Output.written c.args.out.now)), c.tell.ensures.told, keeps_same (g.F.Files.contents c.args.files.now))
+
+pub returns-in-Ok-try_get_matches_from-clause-refused : goal.returns-in-Ok-try_get_matches_from-clause-refused
+returns-in-Ok-try_get_matches_from-clause-refused g c = λ refused.
+    let words = words_of c.args.args.now in
+    let app = c.in-Ok.ensures.app in
+    absurd (refused (sym (ap (λ (a : App). fault_of a words) app) ∙ c.in-Ok-try_get_matches_from.ensures.kinds (ap is_simple_and_free app)))
+
+pub dispatch-requires : goal.dispatch-requires
+dispatch-requires g c =
+    let words = words_of c.args.args.now in
+    let app = c.in-Ok.ensures.app in
+    let e = c.in-Ok-try_get_matches_from.ensures in
+    let built_tool = e.parsed.from in
+    let there = (e.parsed.parsed (built_tool.globals ∙ c.in-Ok.ensures.local)).checked.subcommand (built_tool.needs_subcommand ∙ ap (λ (a : App). a.top.subcommand_required) app) in
+    subcommand_named _ words there ((e.matches (ap is_simple app)).1 ∙ ap (λ (a : App). subcommand_of a words) app)

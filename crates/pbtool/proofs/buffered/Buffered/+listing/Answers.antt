@@ -1,4 +1,4 @@
-use Rattle.std.proofs.Common.{arith}
+use Rattle.std.proofs.Common.{arith, []}
 use Rattle.pbtool.proofs.Borrowing.{full_text, text_inside, none_put, next_put, last_put, no_fault_put}
 use Rattle.pbtool.proofs.Lines.{lines-more, lines-parts, record_lines-group}
 use Rattle.pbtool.proofs.SendingLemmas.{puts_cut, puts_exit, puts_none, puts_then}
@@ -50,27 +50,27 @@ put_record_lines-returns-in-Group g t c = λ r is.
 pub put_record_lines-returns-in_err-put_group_start-in-Group-2 : goal.put_record_lines-returns-in_err-put_group_start-in-Group-2
 put_record_lines-returns-in_err-put_group_start-in-Group-2 g t c = λ r is.
     let inside = text_inside c.args.level c.args.number r c.in-Group-2.inside.now (rw c.in-Group-2.is at is) in
-    rw (record_lines-group c.args.level c.args.number r inside.0 is.shown.number inside.1)
+    rw (record_lines-group [] c.args.level c.args.number r inside.0 is.shown.number inside.1)
     (puts_exit _ c.from_residual-in_err-put_group_start-in-Group-2.ensures.0 (puts_cut (puts_cut c.in_err-put_group_start-in-Group-2.ensures _) _))
 
 pub put_record_lines-returns-in_err-put_listing-in-Group-2 : goal.put_record_lines-returns-in_err-put_listing-in-Group-2
 put_record_lines-returns-in_err-put_listing-in-Group-2 g t c = λ r is.
     let inside = text_inside c.args.level c.args.number r c.in-Group-2.inside.now (rw c.in-Group-2.is at is) in
     let lines = c.in_err-put_listing-in-Group-2.ensures inside.0 inside.3 in
-    rw (record_lines-group c.args.level c.args.number r inside.0 is.shown.number inside.1)
+    rw (record_lines-group [] c.args.level c.args.number r inside.0 is.shown.number inside.1)
     (puts_exit _ c.from_residual-in_err-put_listing-in-Group-2.ensures.0 (puts_cut (puts_then c.in_ok-put_group_start-in-Group-2.ensures lines) _))
 
-pub put_record_lines-returns-in_err-put_group_end-in-Group-2 : goal.put_record_lines-returns-in_err-put_group_end-in-Group-2
-put_record_lines-returns-in_err-put_group_end-in-Group-2 g t c = λ r is.
+pub put_record_lines-returns-in_err-put_end-in-Group-2 : goal.put_record_lines-returns-in_err-put_end-in-Group-2
+put_record_lines-returns-in_err-put_end-in-Group-2 g t c = λ r is.
     let inside = text_inside c.args.level c.args.number r c.in-Group-2.inside.now (rw c.in-Group-2.is at is) in
     let lines = c.in_ok-put_listing-in-Group-2.ensures inside.0 inside.3 in
-    rw (record_lines-group c.args.level c.args.number r inside.0 is.shown.number inside.1)
-    (puts_exit _ c.from_residual-in_err-put_group_end-in-Group-2.ensures.0
-    (puts_then (puts_then c.in_ok-put_group_start-in-Group-2.ensures lines) c.in_err-put_group_end-in-Group-2.ensures))
+    rw (record_lines-group [] c.args.level c.args.number r inside.0 is.shown.number inside.1)
+    (puts_exit _ c.from_residual-in_err-put_end-in-Group-2.ensures.0
+    (puts_then (puts_then c.in_ok-put_group_start-in-Group-2.ensures lines) c.in_err-put_end-in-Group-2.ensures))
 
-pub put_record_lines-returns-in_ok-put_group_end-in-Group-2 : goal.put_record_lines-returns-in_ok-put_group_end-in-Group-2
-put_record_lines-returns-in_ok-put_group_end-in-Group-2 g t c = λ r is.
+pub put_record_lines-returns-in_ok-put_end-in-Group-2 : goal.put_record_lines-returns-in_ok-put_end-in-Group-2
+put_record_lines-returns-in_ok-put_end-in-Group-2 g t c = λ r is.
     let inside = text_inside c.args.level c.args.number r c.in-Group-2.inside.now (rw c.in-Group-2.is at is) in
     let lines = c.in_ok-put_listing-in-Group-2.ensures inside.0 inside.3 in
-    rw (record_lines-group c.args.level c.args.number r inside.0 is.shown.number inside.1)
-    (puts_then (puts_then c.in_ok-put_group_start-in-Group-2.ensures lines) c.in_ok-put_group_end-in-Group-2.ensures)
+    rw (record_lines-group [] c.args.level c.args.number r inside.0 is.shown.number inside.1)
+    (puts_then (puts_then c.in_ok-put_group_start-in-Group-2.ensures lines) c.in_ok-put_end-in-Group-2.ensures)

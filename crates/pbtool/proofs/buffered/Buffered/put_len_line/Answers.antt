@@ -9,7 +9,7 @@ returns-in_err-make_room g c = puts_exit _ c.from_residual.ensures.0 (puts_cut c
 
 pub returns-in_err-put_shown_bytes : goal.returns-in_err-put_shown_bytes
 returns-in_err-put_shown_bytes g c =
-    let text = decimal c.args.number ++ codes " len " ++ decimal (length c.args.bytes.now) in
+    let text = c.args.mark.now ++ decimal c.args.number ++ codes " len " ++ decimal (length c.args.bytes.now) in
     let held : c.push_decimal.new.self ≡ c.make_room.new.self.held ++ (indent c.args.level ++ text) =
     rw (c.push_decimal.ensures.after, c.push_start.ensures.after) (simp append_assoc) in
     rw (line-parts c.args.level text (shown_bytes c.args.bytes.now))
@@ -18,7 +18,7 @@ returns-in_err-put_shown_bytes g c =
 
 pub returns-in_err-put : goal.returns-in_err-put
 returns-in_err-put g c =
-    let text = decimal c.args.number ++ codes " len " ++ decimal (length c.args.bytes.now) in
+    let text = c.args.mark.now ++ decimal c.args.number ++ codes " len " ++ decimal (length c.args.bytes.now) in
     let held : c.push_decimal.new.self ≡ c.make_room.new.self.held ++ (indent c.args.level ++ text) =
     rw (c.push_decimal.ensures.after, c.push_start.ensures.after) (simp append_assoc) in
     rw (line-parts c.args.level text (shown_bytes c.args.bytes.now))
@@ -27,7 +27,7 @@ returns-in_err-put g c =
 
 pub returns : goal.returns
 returns g c =
-    let text = decimal c.args.number ++ codes " len " ++ decimal (length c.args.bytes.now) in
+    let text = c.args.mark.now ++ decimal c.args.number ++ codes " len " ++ decimal (length c.args.bytes.now) in
     let held : c.push_decimal.new.self ≡ c.make_room.new.self.held ++ (indent c.args.level ++ text) =
     rw (c.push_decimal.ensures.after, c.push_start.ensures.after) (simp append_assoc) in
     rw (line-parts c.args.level text (shown_bytes c.args.bytes.now))

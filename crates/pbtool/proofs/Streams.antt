@@ -1,0 +1,256 @@
+-- The frames of a stream, one after another.
+use Rattle.std.proofs.Common.{◌≡◌, ℕ, suc, ◌+◌, ◌-◌, ◌^◌, ◌<◌, ◌≤◌, min, List, [], ◌∷◌, ◌++◌, length, Bool, true, false, Option, None, Some, refl, sym, ap, ◌∙◌, subst, arith, length-append, add-one}
+use Rattle.std.specs.Prelude.{Result, Ok, Err, IfSome, IsSomeAnd, IsErr}
+use Rattle.std.specs.Borrow.{Bor}
+use Rattle.std.specs.Io.KnownBytes.{Consumes, IsAtEnd}
+use Rattle.pb_wire.specs.Fault.{Fault, fault}
+use Rattle.pb_wire.specs.Limits.{Bounds, full}
+use Rattle.pb_wire.specs.Varint.{EndsOnce}
+use Rattle.pb_wire.specs.declared.device.DeviceFault.{DeviceFault}
+use Rattle.pb_schema.specs.Types.{Types}
+use Rattle.pb_value.specs.Data.{Message}
+use Rattle.pb_value.specs.Dynamic.{Dynamic}
+use Rattle.pb_value.specs.WellFormed.{IsWellFormed}
+use Rattle.pb_decode.specs.FromDevice.{IfRefused}
+use Rattle.pb_decode.specs.declared.error.DecodeError.{DecodeError}
+use Rattle.pb_decode.specs.declared.error.DecodeError.TheVariants as decode
+use Rattle.pb_stream.specs.Frame.{Frame, FrameFault}
+use Rattle.pb_stream.specs.Stream.{Stream}
+use Rattle.pb_stream.specs.Taking.{Counts, TakesNone}
+use Rattle.pbtool.specs.Answer.{done, stopped, broken}
+use Rattle.pbtool.specs.FramesAnswer.{AreFrames, none, one_more, BeginsWith, no_frame, frame_more, frame_lines, ended, no_frame_there, input_failed}
+use Rattle.pbtool.specs.Refusal.{ByRefusal}
+use Rattle.pbtool.specs.Sending.{Puts}
+use Rattle.pbtool.specs.Streaming.{FramesBegunIn, FramesIn, IsToldOfFrame, PutsFrames}
+use Rattle.pbtool.specs.declared.buffered.Buffered.{Buffered}
+use Rattle.pbtool.specs.declared.report.Refusal.{Refusal}
+use Rattle.pbtool.proofs.SendingLemmas.{puts_none, puts_then}
+
+-- SIZES
+
+-- the bytes that a frame takes are counted
+taken_size :
+    (before after : ℕ) (old new : Option (List ℕ)) (xs ys : List ℕ) → old ≡ Some xs → new ≡ Some ys → before + length xs < 2 ^ 64 → Counts before after old new
+    → (length xs ≡ (after - before) + length ys) × (before + (after - before) ≡ after)
+taken_size before after old new xs ys is_old is_new small counts =
+    let bytes : List ℕ = counts.0 in
+    let consumed : Consumes (Some xs) (Some ys) bytes =
+    subst (λ (o : Option (List ℕ)). Consumes (Some xs) o bytes) is_new (subst (λ (o : Option (List ℕ)). Consumes o new bytes) is_old counts.1) in
+    let size : length xs ≡ length bytes + length ys = ap length consumed ∙ length-append bytes ys in
+    let total = counts.2 in
+    (omega (arith, size, total, small), omega (arith, size, total, small))
+
+length_has_byte : (b : List ℕ) → EndsOnce b → 1 ≤ length b
+length_has_byte [] ends = absurd ends
+length_has_byte (x ∷ xs) ends = omega arith
+
+-- a frame has a byte
+frame_has_byte : {pool : Types} {m : ℕ} {input rest : List ℕ} {v : Message} → Frame pool m full input v rest → 1 + length rest ≤ length input
+frame_has_byte {rest = rest} frame =
+    let some = length_has_byte frame.front frame.counted.ends in
+    let size = ap length frame.joined ∙ length-append (frame.front ++ frame.text) rest in
+    let inner = length-append frame.front frame.text in
+    omega (arith, some, size, inner)
+
+-- so many frames have no fewer bytes
+frames_size :
+    {pool : Types} {m : ℕ} {input : List ℕ} {count offset : ℕ} {text rest : List ℕ} → BeginsWith pool m input count offset text rest → count ≤ offset
+frames_size no_frame = omega arith
+frames_size (frame_more size before frame is) =
+    let fewer = frames_size before in
+    let one = frame_has_byte frame in
+    omega (arith, fewer, one, is)
+
+no_bytes : (b : List ℕ) → length b ≡ 0 → b ≡ []
+no_bytes [] e = refl
+no_bytes (x ∷ xs) e = absurd (omega (arith, e))
+
+-- WHAT WAS READ
+
+-- so many frames of an input were read, with these lines, and the reader goes on
+pub record AreRead {I : Type 0} (left : I → Option (List ℕ)) (is_steady : I → Bool) (start now : Stream I) (count : ℕ) (text : List ℕ) : Type 0 where
+  pub frames : AreFrames start.pool start.kind count text
+  pub pool : now.pool ≡ start.pool
+  pub kind : now.kind ≡ start.kind
+  pub limits : now.limits ≡ full
+  pub goes_on : now.finished ≡ false
+  pub steady : is_steady start.input ≡ true → is_steady now.input ≡ true
+  pub known :
+      (input : List ℕ) → left start.input ≡ Some input → length input < 2 ^ 64
+      → (rest : List ℕ) × (left now.input ≡ Some rest) × BeginsWith start.pool start.kind input count now.taken text rest
+      × (now.taken + length rest ≡ length input)
+
+-- they were put
+pub record IsStreaming
+    {D I : Type 0} (written : D → Option (List ℕ)) (failures : D → ℕ) (left : I → Option (List ℕ)) (is_steady : I → Bool) (old new : Buffered D)
+    (start now : Stream I) (count : ℕ) : Type 0 where
+  pub text : List ℕ
+  pub put : Puts {E = DeviceFault} written failures old new (Ok tt) text
+  pub read : AreRead left is_steady start now count text
+
+-- one more frame is known
+known_more :
+    {old new : Option (List ℕ)} (pool : Types) (kind : ℕ) (input rest text : List ℕ) (count before after : ℕ) (m : Message) → old ≡ Some rest
+    → IsSomeAnd new (Frame pool kind full rest m) → Counts before after old new → BeginsWith pool kind input count before text rest
+    → before + length rest ≡ length input → length input < 2 ^ 64
+    → (left : List ℕ) × (new ≡ Some left) × BeginsWith pool kind input (suc count) after (text ++ frame_lines pool kind count before (after - before) m) left
+    × (after + length left ≡ length input)
+known_more {new = None} pool kind input rest text count before after m is framed counts begins total small = absurd framed
+known_more {old} {new = Some left} pool kind input rest text count before after m is framed counts begins total small =
+    let sizes = taken_size before after old (Some left) rest left is refl (omega (arith, total, small)) counts in
+    let size = sizes.0 in
+    let end = sizes.1 in (
+      left,
+      refl,
+      subst (λ (n : ℕ). BeginsWith pool kind input (suc count) n (text ++ frame_lines pool kind count before (after - before) m) left) end
+          (frame_more (after - before) begins framed size),
+      omega (arith, size, end, total),
+    )
+
+-- the frame that was read, where the bytes are known
+frame_there :
+    {old : Option (List ℕ)} {pool pool' : Types} {kind kind' : ℕ} {limits : Bounds} (new : Option (List ℕ)) (m : Message) (rest : List ℕ) → pool' ≡ pool
+    → kind' ≡ kind → limits ≡ full → old ≡ Some rest → IfSome old (λ left. IsSomeAnd new (Frame pool' kind' limits left m)) → IsSomeAnd new (Frame pool kind full rest m)
+frame_there new m rest p k l is h = rw (is, p, k, l) at h
+
+-- what is no frame, where the bytes are known
+fault_there :
+    {old : Option (List ℕ)} {pool pool' : Types} {kind kind' : ℕ} {limits : Bounds} {f : Fault} (rest : List ℕ) → pool' ≡ pool → kind' ≡ kind
+    → limits ≡ full → old ≡ Some rest → IfSome old (λ left. FrameFault pool' kind' limits left f) → FrameFault pool kind full rest f
+fault_there rest p k l is h = rw (is, p, k, l) at h
+
+-- nothing was left
+none_left : (old new : Option (List ℕ)) (rest : List ℕ) → old ≡ Some rest → TakesNone old new → rest ≡ []
+none_left None new rest is h = absurd (cc)
+none_left (Some xs) None rest is h = absurd h.0
+none_left (Some xs) (Some ys) rest is h =
+    let same : xs ≡ rest = cc in
+    sym same ∙ h.0 ∙ h.1
+
+module _ {I : Type 0} {left : I → Option (List ℕ)} {is_steady : I → Bool} where
+  pub read_start : (r : Stream I) → r.taken ≡ 0 → r.finished ≡ false → r.limits ≡ full → AreRead left is_steady r r 0 []
+  read_start r first open_ limits = record {
+    frames = none;
+    pool = refl;
+    kind = refl;
+    limits = limits;
+    goes_on = open_;
+    steady = λ s. s;
+    known = λ input is small.
+        (input, is, subst (λ (n : ℕ). BeginsWith r.pool r.kind input 0 n [] input) (sym first) no_frame, omega (arith, first));
+  }
+
+  -- one more frame was read
+  read_more :
+      {start now next : Stream I} {count : ℕ} {text : List ℕ} (m : Message) → AreRead left is_steady start now count text → next.pool ≡ now.pool
+      → next.kind ≡ now.kind → next.limits ≡ now.limits → next.finished ≡ false → (is_steady now.input ≡ true → is_steady next.input ≡ true)
+      → IsWellFormed start.pool start.kind m
+      → IfSome (left now.input) (λ rest. IsSomeAnd (left next.input) (Frame now.pool now.kind now.limits rest m))
+      → Counts now.taken next.taken (left now.input) (left next.input)
+      → AreRead left is_steady start next (suc count) (text ++ frame_lines start.pool start.kind count now.taken (next.taken - now.taken) m)
+  read_more {start = start} {now = now} {next = next} {count = count} {text = text} m h pool kind limits open_ steady well frame counts = record {
+    frames = one_more h.frames well now.taken (next.taken - now.taken);
+    pool = pool ∙ h.pool;
+    kind = kind ∙ h.kind;
+    limits = limits ∙ h.limits;
+    goes_on = open_;
+    steady = λ s. steady (h.steady s);
+    known = λ input is small.
+        let before = h.known input is small in
+        known_more start.pool start.kind input before.0 text count now.taken next.taken m before.1
+        (frame_there (left next.input) m before.0 h.pool h.kind h.limits before.1 frame) counts before.2 before.3 small;
+  }
+
+  -- as the reader tells it
+  pub read_next :
+      {start now next : Stream I} {count : ℕ} {text : List ℕ} (d : Dynamic) (offset size : ℕ) → AreRead left is_steady start now count text
+      → (next.pool ≡ now.pool) × (next.kind ≡ now.kind) × (next.limits ≡ now.limits) → next.finished ≡ false
+      → (is_steady now.input ≡ true → is_steady next.input ≡ true) → (d.pool ≡ now.pool) × (d.kind ≡ now.kind) → IsWellFormed d.pool d.kind d.body
+      → IfSome (left now.input) (λ rest. IsSomeAnd (left next.input) (Frame now.pool now.kind now.limits rest d.body))
+      → Counts now.taken next.taken (left now.input) (left next.input) → offset ≡ now.taken → size ≡ next.taken - offset
+      → AreRead left is_steady start next (count + 1) (text ++ frame_lines d.pool d.kind count offset size d.body)
+  read_next d offset size h same open_ steady typed well frame counts begins sized =
+      let pool = typed.0 ∙ h.pool in
+      let kind = typed.1 ∙ h.kind in
+      let formed = rw (pool, kind) at well in
+      rw (sized, begins, pool, kind, add-one) (read_more d.body h same.0 same.1 same.2 open_ steady formed frame counts)
+
+  -- WHAT IT COMES TO
+
+  -- the lines are printed before more is known
+  pub read_begun : {start now : Stream I} {count : ℕ} {text : List ℕ} → AreRead left is_steady start now count text → FramesBegunIn left is_steady start.input start.pool start.kind text
+  read_begun {now = now} {count = count} h =
+      ((count, h.frames), λ bytes steady is. (bytes, refl, λ small. let before = h.known bytes is small in (count, now.taken, before.0, before.2)))
+
+  -- nothing is left
+  read_all :
+      {start now : Stream I} {count : ℕ} {text : List ℕ} (path : List ℕ) → AreRead left is_steady start now count text
+      → ((rest input : List ℕ) → left now.input ≡ Some rest → length input < 2 ^ 64 → count ≤ now.taken → now.taken + length rest ≡ length input → rest ≡ [])
+      → FramesIn left is_steady start.input path start.pool start.kind (done text)
+  read_all {start = start} {now = now} {count = count} {text = text} path h nothing =
+      ended (
+        (count, h.frames),
+        λ bytes steady is. (
+          bytes,
+          refl,
+          λ small.
+              let before = h.known bytes is small in (
+                count,
+                now.taken,
+                subst (BeginsWith start.pool start.kind bytes count now.taken text)
+                    (nothing before.0 bytes before.1 small (frames_size before.2) before.3) before.2,
+              ),
+        ),
+      )
+      refl
+
+  -- the reader says so
+  pub read_to_end :
+      {start now : Stream I} {count : ℕ} {text : List ℕ} (path : List ℕ) (after : Option (List ℕ)) → AreRead left is_steady start now count text
+      → TakesNone (left now.input) after → FramesIn left is_steady start.input path start.pool start.kind (done text)
+  read_to_end {now = now} path after h takes = read_all path h (λ rest input is small fewer total. none_left (left now.input) after rest is takes)
+
+  -- the frames are as many as bytes can be
+  pub read_most :
+      {start now : Stream I} {count : ℕ} {text : List ℕ} (path : List ℕ) → AreRead left is_steady start now count text → 2 ^ 64 - 1 ≤ count
+      → FramesIn left is_steady start.input path start.pool start.kind (done text)
+  read_most {now = now} path h most = read_all path h (λ rest input is small fewer total. no_bytes rest (omega (arith, most, small, fewer, total)))
+
+  -- what follows is refused
+  pub read_refused :
+      {start now : Stream I} {count : ℕ} {text : List ℕ} (path : Bor (List ℕ)) (e : DecodeError) (r : Refusal)
+      → AreRead left is_steady start now count text → IsToldOfFrame count path e r
+      → IfRefused e (λ f. IfSome (left now.input) (λ rest. FrameFault now.pool now.kind now.limits rest f))
+      → (is_steady now.input ≡ true → e ≡ decode.Device → ⊥)
+      → ByRefusal (λ line. FramesIn left is_steady start.input path.now start.pool start.kind (stopped text line))
+      (λ device. FramesIn left is_steady start.input path.now start.pool start.kind (broken text device))
+      (FramesBegunIn left is_steady start.input start.pool start.kind text) r
+  read_refused {now = now} {count = count} path (decode.Fault byte steps cause) r h told refused steady_input =
+      rw told
+      (no_frame_there {f = fault byte steps.items cause} (
+        h.frames,
+        λ bytes steady is. (
+          bytes,
+          refl,
+          λ small. let before = h.known bytes is small in (now.taken, before.0, before.2, fault_there before.0 h.pool h.kind h.limits before.1 refused),
+        ),
+      )
+      refl)
+  read_refused {count = count} path decode.Device r h told refused steady_input =
+      rw told (input_failed ((count, h.frames), λ bytes steady is. absurd (steady_input (h.steady steady) refl)) refl)
+  read_refused path decode.Memory r h told refused steady_input = rw told (read_begun h)
+  read_refused path decode.Finished r h told refused steady_input = absurd refused
+
+pub streaming_start :
+    {D I : Type 0} {written : D → Option (List ℕ)} {failures : D → ℕ} {left : I → Option (List ℕ)} {is_steady : I → Bool} {b : Buffered D} (r : Stream I)
+    → r.taken ≡ 0 → r.finished ≡ false → r.limits ≡ full → IsStreaming written failures left is_steady b b r r 0
+streaming_start r first open_ limits = record { text = []; put = puts_none; read = read_start r first open_ limits }
+
+-- the output failed in a frame, at the exit of a `?`
+pub frames_cut :
+    {D I : Type 0} {written : D → Option (List ℕ)} {failures : D → ℕ} (left : I → Option (List ℕ)) (is_steady : I → Bool) (input : I) {b0 b1 : Buffered D}
+    (path : List ℕ) (pool : Types) (m : ℕ) {e : DeviceFault} {text : List ℕ} (r : Result (Option Refusal) DeviceFault) → IsErr r
+    → FramesBegunIn left is_steady input pool m text → Puts written failures b0 b1 (Err e) text
+    → PutsFrames left is_steady input written failures b0 b1 path pool m r
+frames_cut left is_steady input path pool m (Ok o) is_err begun put = absurd (cc)
+frames_cut left is_steady input path pool m {text = text} (Err f) is_err begun put = (text, begun, record { same = put.same; follow = put.follow })

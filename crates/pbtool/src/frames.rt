@@ -1,0 +1,142 @@
+//! The messages of a file, each behind its length.
+
+ghost use Rattle.std.specs.Prelude.{◌≡◌, ◌++◌, false, codes, decimal, OnOk};
+ghost use Rattle.pb_wire.specs.Limits.{full};
+ghost use Rattle.pbtool.specs.FileMap.{IsSaved, IsUnsaved};
+ghost use Rattle.pbtool.specs.FramesAnswer.{frame_lines};
+ghost use Rattle.pbtool.specs.RawListing.{line};
+ghost use Rattle.pbtool.specs.Sending.{Cut, Puts, Sent};
+ghost use Rattle.pbtool.specs.Steps.{Comes, NoFile, StreamBegun, StreamOf};
+ghost use Rattle.pbtool.specs.Streaming.{FramesBegunIn, FramesIn, IsToldOfFrame, PutsFrames};
+
+use crate::buffered::Buffered;
+use crate::by_type::find_type;
+use crate::command::Source;
+use crate::files::Files;
+use crate::reading::open_file;
+use crate::report::{OUTPUT, Refusal};
+use pb_decode::DecodeError;
+use pb_stream::DelimitedReader;
+use pb_value::DynamicMessage;
+use pb_wire::{DeviceFault, Input, Limits, Output};
+use std::alloc::Global;
+
+/// Shows the messages of a file up to its end or to what is no message. What was printed before a refusal stands.
+pub fn frames<'a, F: Files, O: Output>(
+    alloc: Global,
+    source: &Source<'a>,
+    files: &mut F,
+    out: &mut O,
+) -> Result<(), Refusal<'a>>
+    ensures comes { Comes (Sent O.written O.failures out.old out.new) (Cut O.written O.failures out.old out.new)
+        (IsSaved F.contents files.old files.new) (IsUnsaved F.contents F.failures files.old files.new)
+        (StreamOf F.contents F.is_steady files.old source.now) (StreamBegun F.contents F.is_steady files.old source.now) result }
+    ensures kept { OnOk result (F.failures files.new ≡ F.failures files.old) }
+{
+    let (pool, kind) = find_type(alloc, source, files)?;
+    let input = open_file(source.file, files)?;
+    let mut reader = DelimitedReader::new(alloc, &pool, kind, input, Limits::FULL);
+    write_frames(&mut reader, source.file, out)?;
+    Ok(())
+}
+
+/// Writes the lines of the frames that are left, and then tells why what follows them is refused, if it is.
+fn write_frames<'a, I: Input + Drop, O: Output>(
+    reader: &mut DelimitedReader<'_, I>,
+    path: &'a str,
+    out: &mut O,
+) -> Result<(), Refusal<'a>>
+    requires first { reader.old.taken ≡ 0 }
+    requires open { reader.old.finished ≡ false }
+    requires full { reader.old.limits ≡ full }
+    ensures { Comes (Sent O.written O.failures out.old out.new) (Cut O.written O.failures out.old out.new) NoFile (λ _. ⊥)
+        (FramesIn I.left I.is_steady reader.old.input path.entry.now reader.old.pool reader.old.kind)
+        (FramesBegunIn I.left I.is_steady reader.old.input reader.old.pool reader.old.kind) result }
+{
+    let mut buffered = Buffered::new(out);
+    let Ok(stop) = buffered.put_frames(reader, path) else {
+        return Err(Refusal::Device(OUTPUT));
+    };
+    let Ok(()) = buffered.flush() else {
+        return Err(Refusal::Device(OUTPUT));
+    };
+    match stop {
+        None => Ok(()),
+        Some(refusal) => Err(refusal),
+    }
+}
+
+impl<O: Output> Buffered<'_, O> {
+    /// The lines of the frames that are left, and why what follows them is refused, if it is.
+    fn put_frames<'a, I: Input + Drop>(
+        &mut self,
+        reader: &mut DelimitedReader<'_, I>,
+        path: &'a str,
+    ) -> Result<Option<Refusal<'a>>, DeviceFault>
+        requires first { reader.old.taken ≡ 0 }
+        requires open { reader.old.finished ≡ false }
+        requires full { reader.old.limits ≡ full }
+        ensures { PutsFrames I.left I.is_steady reader.old.input O.written O.failures self.old self.new path.entry.now reader.old.pool reader.old.kind result }
+    {
+        for index in 0..u64::MAX {
+            let offset = reader.taken();
+            match reader.next() {
+                Ok(None) => return Ok(None),
+                Ok(Some(message)) => {
+                    let _body = message.body();
+                    let size = reader.taken() - offset;
+                    self.put_frame(index, offset, size, &message)?;
+                }
+                Err(error) => return Ok(Some(refusal_at(index, path, error))),
+            }
+        }
+        Ok(None)
+    }
+
+    /// The line of a frame, and the listing of its message one level in.
+    fn put_frame(
+        &mut self,
+        index: u64,
+        offset: u64,
+        size: u64,
+        message: &DynamicMessage<'_>,
+    ) -> Result<(), DeviceFault>
+        ensures { Puts O.written O.failures self.old self.new result
+            (frame_lines message.now.pool message.now.kind index offset size message.now.body) }
+    {
+        self.put_frame_line(index, offset, size)?;
+        self.put_listing_at(1, message)?;
+        Ok(())
+    }
+
+    fn put_frame_line(&mut self, index: u64, offset: u64, size: u64) -> Result<(), DeviceFault>
+        ensures { Puts O.written O.failures self.old self.new result
+            (line 0 (codes "frame " ++ decimal index ++ codes " at " ++ decimal offset ++ codes " size " ++ decimal size)) }
+    {
+        self.make_room(128)?;
+        self.held.push(b"frame ");
+        self.held.push_decimal(index);
+        self.held.push(b" at ");
+        self.held.push_decimal(offset);
+        self.held.push(b" size ");
+        self.held.push_decimal(size);
+        self.held.push(b"\n");
+        Ok(())
+    }
+}
+
+/// Why the frame of an index is refused.
+fn refusal_at<'a>(index: u64, path: &'a str, error: DecodeError) -> Refusal<'a>
+    ensures { IsToldOfFrame index path.entry error result }
+{
+    match error {
+        DecodeError::Fault { byte, path, cause } => Refusal::Frame {
+            index,
+            byte,
+            path,
+            cause,
+        },
+        DecodeError::Device => Refusal::Device(path),
+        DecodeError::Memory | DecodeError::Finished => Refusal::Memory,
+    }
+}

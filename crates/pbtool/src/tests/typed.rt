@@ -1,0 +1,337 @@
+//! The commands that read messages by a type. The sets T, F and M are what protoc writes of these files; what is told is worked out
+//! by the rules of messages, of their canonical form and of listings.
+
+use super::{Failures, NONE, Run, after, files_of, run_words};
+use std::alloc::Global;
+use std::test::Fail;
+
+/// message T {
+///   int32 a = 1; string b = 2; T c = 3; double d = 4; repeated int32 e = 6; oneof o { uint32 x = 7; T y = 8; }
+///   map<string, int32> m = 9; optional bool p = 10; sint32 s = 11; map<uint32, T> n = 12;
+/// }
+const T: &str =
+    "0ad3020a07742e70726f746f22bf020a0154120c0a0161180120012805520161120c0a016218022001280952016212100a016318032001280b32022e54520163120c0a0164180420012801520164120c0a0165180620032805520165120e0a017818072001280d480052017812120a017918082001280b32022e54480052017912170a016d18092003280b32092e542e4d456e74727952016d12110a0170180a200128084801520170880101120c0a0173180b2001281152017312170a016e180c2003280b32092e542e4e456e74727952016e1a340a064d456e74727912100a036b657918012001280952036b657912140a0576616c7565180220012805520576616c75653a0238011a380a064e456e74727912100a036b657918012001280d52036b657912180a0576616c756518022001280b32022e54520576616c75653a02380142030a016f42040a025f70620670726f746f33";
+
+/// enum E { Z = 0; NEG = -1; }
+/// message F {
+///   int32 a = 1; string b = 2; double d = 4; repeated int32 e = 6; optional bool p = 10; sint32 s = 11;
+///   repeated string u = 13; repeated sint32 v = 14 [packed = false]; bytes w = 15; float g = 16; E k = 17;
+///   repeated fixed32 h = 18;
+/// }
+const F: &str =
+    "0af0010a07662e70726f746f22be010a0146120c0a0161180120012805520161120c0a0162180220012809520162120c0a0164180420012801520164120c0a016518062003280552016512110a0170180a200128084800520170880101120c0a0173180b20012811520173120c0a0175180d2003280952017512100a0176180e2003281142021000520176120c0a0177180f2001280c520177120c0a016718102001280252016712100a016b18112001280e32022e4552016b120c0a016818122003280752016842040a025f702a1c0a014512050a015a100012100a034e454710ffffffffffffffffff01620670726f746f33";
+
+/// message M { int32 a = 1; }
+const M: &str = "0a240a076d2e70726f746f22110a014d120c0a0161180120012805520161620670726f746f33";
+
+/// A set, whose message type has its name, and the bytes of a message; behind the first bar its canonical bytes, and behind each
+/// other one a line of its listing.
+const MESSAGES: &str = r#"
+T -|
+T 089601|089601|a: 150
+T 08968100|089601|a: 150
+T 08feffffff0f|08feffffffffffffffff01|a: -2
+T 3206038e029ea7053001|3207038e029ea70501|e: 3|e: 270|e: 86942|e: 1
+T 3200|
+T 1a0208011a0312017a|1a05080112017a|c {|  a: 1|  b: "z"|}
+T 38054202080142025802|420408015802|y {|  a: 1|  s: 1|}
+T 42020801380542025802|42025802|y {|  s: 1|}
+T 08050800|
+T 210000000000000080|210000000000000080|d: 0x8000000000000000
+T 210000000000000000|
+T 4a021007|4a040a001007|m[""]: 7
+T a3010801a401|a3010801a401|? 20 group {|  1 varint 1|}
+T 0a0141|0a0141|? 1 len 1 41
+T 08ffffffffffffffffff7f|08ffffffffffffffffff01|a: -1
+T 08960112017a1a0208012100000000000000803202030438054a050a016b10075000580162020803a3010801a401|08960112017a1a0208012100000000000000803202030438054a050a016b100750005801620408031200a3010801a401|a: 150|b: "z"|c {|  a: 1|}|d: 0x8000000000000000|e: 3|e: 4|x: 5|m["k"]: 7|p: false|s: -1|n[3] {|}|? 20 group {|  1 varint 1|}
+F 72020102|70017002|v: -1|v: 1
+F 850100000080|850100000080|g: 0x80000000
+F 850100000000|
+F 8801ffffffff0f|8801ffffffffffffffffff01|k: NEG
+F 880105|880105|k: 5
+F 6a006a0178|6a006a0178|u: ""|u: "x"
+F 508080808010|5001|p: true
+F 58ffffffff1f|58ffffffff0f|s: -2147483648
+T 62060801120208016206080112025801|6206080112025801|n[1] {|  s: -1|}
+T 620a08011202080112025801|62080801120408015801|n[1] {|  a: 1|  s: -1|}
+T 4a070a016b10071801|4a050a016b1007|m["k"]: 7
+T 4a020805|4a040a001000|m[""]: 0
+T 420208013805|3805|x: 5
+T 4a050a016210024a050a01611001|4a050a016110014a050a01621002|m["a"]: 1|m["b"]: 2
+F 1207225c007fc3a961|1207225c007fc3a961|b: "\"\\\x00\x7féa"
+F 7a02ff00|7a02ff00|w: h'ff00'
+F 92010801000000ffffffff|92010801000000ffffffff|h: 1|h: 4294967295
+"#;
+
+/// A command, a set, a type and the bytes of a file; behind each bar a line that is printed, or behind a mark told.
+const COMMANDS: &str = "
+frames T T 03089601000208|frame 0 at 0 size 4|  a: 150|frame 1 at 4 size 1|!frame 2 byte 2 path 1[0] cause Truncated
+frames T T 010805|!frame 0 byte 2 path 1[0] cause PastEnd
+frames T T 80|!frame 0 byte 1 path - cause Truncated
+frames T T -
+check M M 089601|ok
+show M M 089601|a: 150
+canon M M 089601|089601
+check M N 089601|!type N unknown
+check - M -|!type M unknown
+check 0a M -|!set byte 1 path 1[0] cause Truncated
+check 0a00 M -|!set file 0 cause MissingName
+check 0a030a016d M -|!set file 0 cause NotProto3
+check 0a0b0a016d620670726f746f330a0b0a016d620670726f746f33 M -|!link m at - cause TwoFiles
+check 0a0e0a016d1a016d620670726f746f33 M -|!link m at - cause ImportCycle
+frames T T ffffffff0f|!frame 0 byte 0 path - cause LengthTooLarge
+check T T 120241ff|!byte 3 path 2[0] cause BadText
+show T T 1a050896|!byte 4 path 3[0].1[0] cause Truncated
+canon T T 0b|!byte 1 path 1[0] cause Truncated
+";
+
+/// The first word of a row, and what is behind it.
+fn word(row: &str) -> (&str, &str) {
+    row.split_once(' ').unwrap_or((row, ""))
+}
+
+/// A set by its name, or bytes in hexadecimal. A dash stands for none.
+fn bytes_of(alloc: Global, word: &str) -> Result<Vec<u8>, Fail> {
+    let digits = match word {
+        "T" => T,
+        "F" => F,
+        "M" => M,
+        "-" => "",
+        digits => digits,
+    };
+    Ok(hex::decode(alloc, digits)?)
+}
+
+/// Runs words over a set `s` and a file `f`.
+fn run_on(
+    alloc: Global,
+    words: &[&str],
+    set: &[u8],
+    file: &[u8],
+    failures: Failures,
+) -> Result<Run, Fail> {
+    let mut files = files_of(alloc, &[("s", set), ("f", file)], failures)?;
+    run_words(alloc, words, &mut files, failures)
+}
+
+/// A line that is printed, or without the mark before it one that is told; and which of the two it is.
+fn marked(line: &str) -> (bool, &str) {
+    match line.strip_prefix('!') {
+        Some(line) => (true, line),
+        None => (false, line),
+    }
+}
+
+/// Of lines those that are printed, or those that are told.
+fn lines_of(alloc: Global, lines: &str, are_told: bool) -> Result<String, Fail> {
+    let mut text = String::new(alloc);
+    for line in lines.split('|') {
+        let (is_told, line) = marked(line);
+        if is_told == are_told {
+            text.push_str(line)?;
+            text.push_str("\n")?;
+        }
+    }
+    Ok(text)
+}
+
+/// Whether a run printed and told these lines, or none.
+fn is_told(alloc: Global, run: &Run, lines: Option<&str>) -> Result<bool, Fail> {
+    let Some(lines) = lines else {
+        return Ok(run.is(0, b"", b""));
+    };
+    let printed = lines_of(alloc, lines, false)?;
+    let told = lines_of(alloc, lines, true)?;
+    let status = u8::from(lines.contains('!'));
+    Ok(run.is(status, printed.as_bytes(), told.as_bytes()))
+}
+
+/// Whether a command over a set, a type of it and a file prints and tells these lines.
+fn tells(
+    alloc: Global,
+    command: &str,
+    set: &str,
+    kind: &str,
+    file: &str,
+    lines: Option<&str>,
+) -> Result<bool, Fail> {
+    let set = bytes_of(alloc, set)?;
+    let file = bytes_of(alloc, file)?;
+    let run = run_on(alloc, &[command, "s", kind, "f"], &set, &file, NONE)?;
+    is_told(alloc, &run, lines)
+}
+
+/// What stands before the first bar, and what is behind it, if there is one.
+fn bar(row: &str) -> (&str, Option<&str>) {
+    match row.split_once('|') {
+        Some((words, lines)) => (words, Some(lines)),
+        None => (row, None),
+    }
+}
+
+fn is_answered(alloc: Global, row: &str) -> Result<bool, Fail> {
+    let (words, lines) = bar(row);
+    let (command, words) = word(words);
+    let (set, words) = word(words);
+    let (kind, file) = word(words);
+    tells(alloc, command, set, kind, file, lines)
+}
+
+#[test]
+fn commands(rt: HostRuntime) -> Result<(), Fail> {
+    for row in COMMANDS.lines() {
+        assert!(rt; row.is_empty() || is_answered(rt.alloc(), row)?, "{row}");
+    }
+    Ok(())
+}
+
+fn is_message(alloc: Global, row: &str) -> Result<bool, Fail> {
+    let (words, rest) = row.split_once('|').ok_or("no canonical bytes")?;
+    let (name, text) = word(words);
+    let (canonical, listing) = bar(rest);
+    Ok(
+        tells(alloc, "check", name, name, text, Some("ok"))?
+            && tells(alloc, "show", name, name, text, listing)?
+            && tells(alloc, "canon", name, name, text, Some(canonical))?,
+    )
+}
+
+#[test]
+fn messages(rt: HostRuntime) -> Result<(), Fail> {
+    for row in MESSAGES.lines() {
+        assert!(rt; row.is_empty() || is_message(rt.alloc(), row)?, "{row}");
+    }
+    Ok(())
+}
+
+/// A message of M that is longer than the set.
+const LONG: [u8; 60] = [0x08; 60];
+
+/// How `check` of it ends where this read fails of the set or, where that is read, of the message.
+fn told_at(call: u64, set: usize) -> (u8, &'static [u8], &'static [u8]) {
+    if call <= set as u64 {
+        (3, b"", b"device s\n")
+    } else if call <= LONG.len() as u64 {
+        (3, b"", b"device f\n")
+    } else {
+        (0, b"ok\n", b"")
+    }
+}
+
+fn fails_at(alloc: Global, set: &[u8], call: u64) -> Result<bool, Fail> {
+    let input = Failures {
+        input: after(call),
+        ..NONE
+    };
+    let run = run_on(alloc, &["check", "s", "M", "f"], set, &LONG, input)?;
+    let (status, printed, told) = told_at(call, set.len());
+    Ok(run.is(status, printed, told))
+}
+
+// Each read of the set fails in turn, and then each of the message. At the last byte of an input its end is still to be read.
+#[test]
+fn inputs_fail(rt: HostRuntime) -> Result<(), Fail> {
+    let set = bytes_of(rt.alloc(), M)?;
+    for call in 0..62 {
+        assert!(rt; fails_at(rt.alloc(), &set, call)?, "call {call}");
+    }
+    Ok(())
+}
+
+/// Words, after how many calls the files fail, and the device that is told.
+const UNOPENED: &[(&[&str], u64, &str)] = &[
+    (&["check", "x", "M", "x"], 9, "device x\n"),
+    (&["check", "s", "M", "x"], 9, "device x\n"),
+    (&["show", "s", "M", "f"], 0, "device s\n"),
+    (&["frames", "s", "M", "f"], 1, "device f\n"),
+    (&["canon", "s", "M", "f", "--out", "o"], 2, "device o\n"),
+];
+
+fn is_unopened(alloc: Global, words: &[&str], calls: u64, line: &str) -> Result<bool, Fail> {
+    let set = bytes_of(alloc, M)?;
+    let open = Failures {
+        open: after(calls),
+        ..NONE
+    };
+    let run = run_on(alloc, words, &set, b"\x08\x05", open)?;
+    Ok(run.is(3, b"", line.as_bytes()))
+}
+
+// A file that is not there, and one that can't be opened or written.
+#[test]
+fn files_fail(rt: HostRuntime) -> Result<(), Fail> {
+    for (words, calls, line) in UNOPENED {
+        assert!(rt; is_unopened(rt.alloc(), words, *calls, line)?, "{line}");
+    }
+    Ok(())
+}
+
+/// What each command prints of the bytes of a file; `frames` of two messages, behind which the last one is cut short.
+const PRINTED: &[(&str, &[u8], &[u8])] = &[
+    ("check", b"\x08\x05", b"ok\n"),
+    ("show", b"\x08\x05", b"a: 5\n"),
+    ("canon", b"\x08\x85\x00", b"0805\n"),
+    (
+        "frames",
+        b"\x02\x08\x05\x00\x01",
+        b"frame 0 at 0 size 3\n  a: 5\nframe 1 at 3 size 1\n",
+    ),
+];
+
+/// Whether what went out before a write failed stands, and the device is told.
+fn is_cut(alloc: Global, command: &str, file: &[u8], printed: &[u8]) -> Result<bool, Fail> {
+    let set = bytes_of(alloc, M)?;
+    let out = Failures {
+        out: after(printed.len() as u64),
+        ..NONE
+    };
+    let run = run_on(alloc, &[command, "s", "M", "f"], &set, file, out)?;
+    Ok(run.is(3, printed, b"device -\n"))
+}
+
+// Each write of standard output fails in turn.
+#[test]
+fn outputs_fail(rt: HostRuntime) -> Result<(), Fail> {
+    for (command, file, printed) in PRINTED {
+        for count in 0..printed.len() {
+            assert!(rt;
+                is_cut(rt.alloc(), command, file, &printed[..count])?,
+                "{command} {count}"
+            );
+        }
+    }
+    Ok(())
+}
+
+/// Whether `canon --out` writes the canonical bytes to the file, and prints nothing.
+fn is_saved(alloc: Global) -> Result<bool, Fail> {
+    let set = bytes_of(alloc, M)?;
+    let entries: [(&str, &[u8]); 2] = [("s", &set), ("f", b"\x08\x85\x00")];
+    let mut files = files_of(alloc, &entries, NONE)?;
+    let words = ["canon", "--out", "o", "s", "M", "f"];
+    let run = run_words(alloc, &words, &mut files, NONE)?;
+    Ok(run.is(0, b"", b"") && files.bytes_at("o") == Some(b"\x08\x05".as_slice()))
+}
+
+#[test]
+fn saved(rt: HostRuntime) -> Result<(), Fail> {
+    assert!(rt; is_saved(rt.alloc())?);
+    Ok(())
+}
+
+/// Whether a thousand empty messages are shown, through a buffer that is passed on many times.
+fn are_shown(alloc: Global) -> Result<bool, Fail> {
+    let set = bytes_of(alloc, M)?;
+    let mut lines = String::new(alloc);
+    for index in 0..1000 {
+        lines.push_str(format!(in alloc; "frame {index} at {index} size 1\n")?.as_str())?;
+    }
+    let run = run_on(alloc, &["frames", "s", "M", "f"], &set, &[0; 1000], NONE)?;
+    Ok(run.is(0, lines.as_bytes(), b""))
+}
+
+#[test]
+fn many_frames(rt: HostRuntime) -> Result<(), Fail> {
+    assert!(rt; are_shown(rt.alloc())?);
+    Ok(())
+}
