@@ -1,4 +1,5 @@
 -- How declarations are resolved by what the type names of all came to, in declaration order, and what of it is left behind each.
+-- Words for the contracts of private functions; no public contract rests on them.
 use Rattle.std.specs.Prelude.{List, [], ◌∷◌, length, drop, map, Option, None}
 use Rattle.pb_descr.specs.Decls.{DeclaredField, DeclaredEnum, MessageHead, DeclaredMessage, message, DeclaredMessages, no_messages, more_messages, DeclaredMethod, DeclaredService, DeclaredFile}
 use Rattle.pb_link.specs.Declarations.{Declaration}
