@@ -10,7 +10,7 @@ use Rattle.pb_descr.specs.View.{message_view}
 use Rattle.pb_descr.specs.Writing.{with_field, fields_with, a_list, message_contents, message_body, message_bodies, file_contents, file_body, set_body}
 use Rattle.pb_descr.specs.Sets.{CutAt}
 
-abbrev option_depth : Option Holding → ℕ
+abbrev pub option_depth : Option Holding → ℕ
 option_depth None = 0
 option_depth (Some h) = holding_depth h
 
@@ -23,7 +23,7 @@ rest_below : (n : ℕ) (o : Option Holding) (fs : Fields) → fields_depth fs �
 rest_below n None fs = omega arith
 rest_below n (Some h) fs = omega arith
 
-list_depth : (ds : List Datum) → option_depth (a_list ds) ≡ datums_depth (datums_of ds)
+pub list_depth : (ds : List Datum) → option_depth (a_list ds) ≡ datums_depth (datums_of ds)
 list_depth [] = refl
 list_depth (d ∷ ds) = refl
 

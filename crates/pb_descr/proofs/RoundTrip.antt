@@ -20,7 +20,7 @@ use Rattle.pb_descr.specs.Contents.{is_rising}
 use Rattle.pb_descr.specs.Writing.{field_contents, enum_contents, message_contents, method_contents, service_contents, file_contents, options_with, text_datum, int_datum, enum_body, service_body, message_body, message_bodies, package_text, file_body, set_body, with_field, fields_with, field_body, value_body, range_body, method_body, oneof_body, a_list, a_mark, a_text, a_number, optional, packed_options, number_of_type}
 
 -- what stands at a number of a list
-abbrev option_at : ℕ → List (ℕ × Option Holding) → Option Holding
+abbrev pub option_at : ℕ → List (ℕ × Option Holding) → Option Holding
 option_at n [] = None
 option_at n (e ∷ es) = match_ordering (nat_cmp n e.0) (option_at n es) e.1 (option_at n es)
 

@@ -5,7 +5,7 @@ use Rattle.pb_descr.specs.Decls.{message, messages_of}
 use Rattle.pb_descr.specs.View.{field_view, enum_view, message_view}
 use Rattle.pb_descr.specs.declared.decl.FieldDecl.{FieldDecl}
 use Rattle.pb_descr.specs.declared.decl.EnumDecl.{EnumDecl}
-use Rattle.pb_descr.specs.declared.decl.MessageDecl.{MessageDecl, roll-MessageDecl, the_lemmas as message_lemmas}
+use Rattle.pb_descr.specs.declared.decl.MessageDecl.{MessageDecl, out-MessageDecl, roll-MessageDecl, the_lemmas as message_lemmas}
 
 pub message_view-roll :
     (name : String Global) (fields : Vec FieldDecl Global) (messages : Vec MessageDecl Global) (enums : Vec EnumDecl Global) (oneofs : Vec (String Global) Global) (reserved : Vec (ℤ × ℤ) Global) (reserved_names : Vec (String Global) Global) (entry : Bool) →
@@ -20,3 +20,14 @@ pub message_view-roll :
       is_entry = entry;
     }) (messages_of (map message_view messages.items))
 message_view-roll name fields messages enums oneofs reserved reserved_names entry = search (rules, message_lemmas)
+
+pub message_view-parts : (m : MessageDecl) → message_view m ≡ message (record {
+  name = string_bytes (out-MessageDecl m).name;
+  fields = map field_view (out-MessageDecl m).fields.items;
+  enums = map enum_view (out-MessageDecl m).enums.items;
+  oneofs = map string_bytes (out-MessageDecl m).oneofs.items;
+  reserved = (out-MessageDecl m).reserved.items;
+  reserved_names = map string_bytes (out-MessageDecl m).reserved_names.items;
+  is_entry = (out-MessageDecl m).map_entry;
+}) (messages_of (map message_view (out-MessageDecl m).messages.items))
+message_view-parts m = search (rules, message_lemmas)

@@ -1,29 +1,58 @@
 -- What the fields of a message hold, by number. A message that has no such field, or holds something else there, has no value there.
 use Rattle.std.specs.Prelude.{ℕ, ℤ, pos, List, [], ◌∷◌, Bool, false, Option, Some, None, unwrap_or, option_and_then, filter_map}
 use Rattle.std.specs.Option.{option_map_or}
-use Rattle.pb_schema.specs.Scalar.{int32, boolean, text}
-use Rattle.pb_value.specs.Data.{Datum, scalar, message, Datums, no_datums, datum, Holding, one, list, Fields, no_fields, get_field, fields_of}
+use Rattle.pb_schema.specs.Scalar.{int32, int64, uint32, uint64, boolean, float, double, enum, text, bytes}
+use Rattle.pb_value.specs.Data.{Datum, scalar, message, Datums, no_datums, datum, Holding, one, list, map, Fields, no_fields, get_field, fields_of}
 
 abbrev pub text_in : Datum → Option (List ℕ)
 text_in (scalar (text s)) = Some s
-text_in _ = None
+text_in (scalar (int32 z)) = None
+text_in (scalar (int64 z)) = None
+text_in (scalar (uint32 n)) = None
+text_in (scalar (uint64 n)) = None
+text_in (scalar (boolean b)) = None
+text_in (scalar (float n)) = None
+text_in (scalar (double n)) = None
+text_in (scalar (enum z)) = None
+text_in (scalar (bytes s)) = None
+text_in (message m) = None
 
 abbrev pub int_in : Datum → Option ℤ
 int_in (scalar (int32 z)) = Some z
-int_in _ = None
+int_in (scalar (int64 z)) = None
+int_in (scalar (uint32 n)) = None
+int_in (scalar (uint64 n)) = None
+int_in (scalar (boolean b)) = None
+int_in (scalar (float n)) = None
+int_in (scalar (double n)) = None
+int_in (scalar (enum z)) = None
+int_in (scalar (text s)) = None
+int_in (scalar (bytes s)) = None
+int_in (message m) = None
 
 abbrev pub bool_in : Datum → Option Bool
 bool_in (scalar (boolean b)) = Some b
-bool_in _ = None
+bool_in (scalar (int32 z)) = None
+bool_in (scalar (int64 z)) = None
+bool_in (scalar (uint32 n)) = None
+bool_in (scalar (uint64 n)) = None
+bool_in (scalar (float n)) = None
+bool_in (scalar (double n)) = None
+bool_in (scalar (enum z)) = None
+bool_in (scalar (text s)) = None
+bool_in (scalar (bytes s)) = None
+bool_in (message m) = None
 
 -- the fields of a message
 abbrev pub fields_in : Datum → Fields
 fields_in (message m) = fields_of m
-fields_in _ = no_fields
+fields_in (scalar x) = no_fields
 
 abbrev pub one_held : Option Holding → Option Datum
 one_held (Some (one d)) = Some d
-one_held _ = None
+one_held (Some (list ds)) = None
+one_held (Some (map es)) = None
+one_held None = None
 
 abbrev pub datum_at : ℕ → Fields → Option Datum
 datum_at n fs = one_held (get_field n fs)
@@ -34,7 +63,9 @@ elements (datum d ds) = d ∷ elements ds
 
 abbrev pub list_held : Option Holding → List Datum
 list_held (Some (list ds)) = elements ds
-list_held _ = []
+list_held (Some (one d)) = []
+list_held (Some (map es)) = []
+list_held None = []
 
 abbrev pub data_at : ℕ → Fields → List Datum
 data_at n fs = list_held (get_field n fs)

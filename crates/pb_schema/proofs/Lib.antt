@@ -1,6 +1,7 @@
 pub mod Samples
 pub mod Rows
 pub mod WordLemmas
+pub mod EntryNames
 pub mod Loops
 pub mod ImportLemmas
 pub mod CycleLemmas

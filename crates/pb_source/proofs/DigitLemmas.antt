@@ -1,6 +1,5 @@
 -- Digits by the numbers that they count.
-use Rattle.std.proofs.Common.{◌≡◌, ◌≢◌, ℕ, ◌+◌, ◌-◌, ◌<◌, ◌≤◌, Bool, true, false, Some, None, cond, ltb, ltb-true, lt-ltb, refl, arith, ◌⊎◌, inl, inr}
-use Rattle.std.specs.Prelude.{nat_lt}
+use Rattle.std.proofs.Common.{◌≡◌, ◌≢◌, ℕ, ◌+◌, ◌-◌, ◌<◌, ◌≤◌, Bool, true, false, Some, None, ltb, ltb-true, lt-ltb, refl, arith, ◌⊎◌, inl, inr}
 use Rattle.std.specs.Char.{digit_value, is_digit, IsDigitOf}
 use Rattle.pb_source.specs.Texts.{digit_of}
 

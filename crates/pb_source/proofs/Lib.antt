@@ -15,7 +15,6 @@ pub mod UntilSteps
 pub mod SeparatedSteps
 pub mod NoSymbols
 pub mod SaidSteps
-pub mod EntryNames
 pub mod PartSteps
 pub mod NumberSteps
 pub mod NameSteps
@@ -37,6 +36,7 @@ pub mod BodyLaws
 pub mod MessageLaws
 pub mod FileLaws
 pub mod SourceLaws
+pub mod NestLemmas
 pub mod ParseLemmas
 pub mod RoomSteps
 pub mod EndSteps

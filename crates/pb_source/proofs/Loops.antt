@@ -6,7 +6,7 @@ use Rattle.pb_source.specs.declared.rule.Rule.{Rule}
 use Rattle.pb_source.specs.Grammar.{Until, Separated}
 use Rattle.pb_source.specs.Readers.Forms.{Reader, chain, answer, choice, first_passes, until, separated}
 use Rattle.pb_source.proofs.ReaderLaws.{Reads, IsStop, leaves, Chained, reads_chain}
-use Rattle.pb_source.proofs.Parts.{Answered, reads_answer, reads_as, reads_choice, reads_less, reads_stop}
+use Rattle.pb_source.proofs.Parts.{Answered, reads_answer, reads_as, reads_choice, reads_less}
 use Rattle.pb_source.proofs.Compose.{never, any_stop}
 
 pub nothing_fits : {P : Type 0} (c : List Symbol) (t : Symbol) (x : List Symbol) → length (c ++ t ∷ x) ≤ 0 → P

@@ -1,5 +1,5 @@
 -- The readers of names and types read them.
-use Rattle.std.proofs.Common.{◌≡◌, ℕ, ◌≤◌, List, [], ◌∷◌, ◌++◌, length, Bool, true, false, codes, refl, ap, sym, ◌∙◌, subst, Option, Some, None, arith, inl, inr}
+use Rattle.std.proofs.Common.{◌≡◌, ℕ, List, [], ◌∷◌, ◌++◌, Bool, true, false, codes, refl, ap, sym, ◌∙◌, subst, Option, Some, None, arith, inl, inr}
 use Rattle.std.proofs.lemmas.Bool.{false≢true}
 use Rattle.pb_descr.specs.declared.decl.TypeCode.{TypeCode}
 use Rattle.pb_descr.specs.declared.decl.TypeCode.TheVariants as code

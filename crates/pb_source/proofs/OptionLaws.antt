@@ -8,8 +8,8 @@ use Rattle.pb_source.specs.declared.rule.Rule.TheVariants.{NumbersFit as numbers
 use Rattle.pb_source.specs.Symbols.{Symbol, word, number, text, sign}
 use Rattle.pb_source.specs.Language.{Language, ◌▸◌, ◌or◌, one, Rules}
 use Rattle.pb_source.specs.Meaning.{last_said}
-use Rattle.pb_source.specs.Grammar.{keyword, mark, integer, limited, counted, signed, plus_or_minus, constant, fullname, part, optname, assignment, option, truth, is_the_name, setting, BeginsNot, field_option, Separated, Listed, options, field_end, value_end}
-use Rattle.pb_source.specs.Readers.Forms.{Reader, answer, chain, behind, mapped, first_passes, by_kind, is_keyword, is_mark, tested, if_so, symbol, judged, plain, mark_reader}
+use Rattle.pb_source.specs.Grammar.{keyword, mark, integer, limited, counted, signed, plus_or_minus, constant, fullname, part, optname, assignment, option, truth, is_the_name, setting, field_option, Listed, options, field_end, value_end}
+use Rattle.pb_source.specs.Readers.Forms.{Reader, behind, mapped, first_passes, is_mark, tested, if_so, symbol, judged, plain, mark_reader}
 use Rattle.pb_source.specs.Readers.Lines.{is_dot, is_comma, listed, integer_in, limited_in, limited_reader, counted_reader, signed_reader, is_text, is_number, plus_or_minus_reader, constant_reader, part_in, optname_reader, assignment_reader, option_reader, truth_in, said_reader, setting_reader, no_default, field_option_reader, options_reader, field_end_reader, value_end_reader}
 use Rattle.pb_source.proofs.ReaderLaws.{Reads, IsStop, Chained, reads_chain}
 use Rattle.pb_source.proofs.Parts.{Answered, reads_answer}

@@ -1,5 +1,5 @@
 -- What the code finds at the front of bytes is a blank, a comment or a token there.
-use Rattle.std.proofs.Common.{◌≡◌, ◌≢◌, ℕ, zero, suc, ◌+◌, ◌<◌, ◌≤◌, List, [], ◌∷◌, ◌++◌, ◌-◌, length, take, drop, get_or, Bool, true, false, refl, ap, sym, ◌∙◌, subst, append_assoc, length-append, length-take, arith, ◌⊎◌, inl, inr, take-append-drop, ◌||◌, eqb}
+use Rattle.std.proofs.Common.{◌≡◌, ◌≢◌, ℕ, zero, suc, ◌+◌, ◌<◌, ◌≤◌, List, [], ◌∷◌, ◌++◌, ◌-◌, length, take, drop, get_or, Bool, true, false, refl, ap, sym, ◌∙◌, subst, append_assoc, length-append, arith, ◌⊎◌, inl, inr, take-append-drop, ◌||◌, eqb}
 use Rattle.std.proofs.lemmas.List.{length-take-le, take_all}
 use Rattle.std.specs.List.{list_all}
 use Rattle.std.specs.Char.{is_ascii_digit}

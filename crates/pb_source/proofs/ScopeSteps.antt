@@ -45,9 +45,6 @@ parts_view m = message (record {
   is_entry = m.map_entry;
 }) (messages_of (map message_view m.messages.items))
 
-pub message_view-parts : (m : MessageDecl) → message_view m ≡ parts_view (out-MessageDecl m)
-message_view-parts m = search (rules, message_lemmas)
-
 -- a message whose fields are set, and then its messages
 abbrev pub with_fields : MessageDecl → Vec FieldDecl Global → MessageDecl
 with_fields m fields = roll-MessageDecl record (out-MessageDecl m) { fields = fields }

@@ -1,5 +1,5 @@
 -- A step of each loop over texts.
-use Rattle.std.proofs.Common.{◌≡◌, ◌≢◌, ℕ, zero, suc, ◌+◌, ◌*◌, ◌-◌, ◌^◌, ◌<◌, ◌≤◌, List, [], ◌∷◌, length, take, drop, get_or, Bool, true, false, not, ◌&&◌, ◌||◌, ◌==◌, cond, eqb, Option, Some, None, refl, ap, sym, ◌∙◌, subst, arith, lit≤, mul-le-mul_left, pow-suc, eq-eqb, ne_eqb, ltb, ltb-true, eqb-true, length-drop}
+use Rattle.std.proofs.Common.{◌≡◌, ◌≢◌, ℕ, zero, suc, ◌+◌, ◌*◌, ◌-◌, ◌^◌, ◌<◌, ◌≤◌, List, [], ◌∷◌, length, take, drop, get_or, false, Option, Some, None, refl, ap, sym, ◌∙◌, arith, lit≤, mul-le-mul_left, pow-suc, eq-eqb, ne_eqb, length-drop}
 use Rattle.std.proofs.lemmas.List.{drop_more}
 use Rattle.pb_source.specs.Tokens.{is_plain}
 use Rattle.pb_source.specs.Texts.{digit_of, number_from, escape_len, units_from, units_len}

@@ -15,7 +15,7 @@ use Rattle.pb_decode.specs.FromDevice.{IfRefused, TakesAtMost}
 use Rattle.pb_decode.specs.Frame.{IsFrameOf, BadFrame}
 use Rattle.pb_stream.specs.Frame.{Frame, FrameFault}
 use Rattle.pb_stream.specs.Taking as taking
-use Rattle.pb_stream.specs.Taking.{IsInFrame, StaysInFrame, Takes, TakesLength, TakesNone}
+use Rattle.pb_stream.specs.Taking.{StaysInFrame, Takes, TakesLength, TakesNone}
 use Rattle.pb_stream.proofs.LengthLemmas.{reads_first, AnyFault}
 
 length-replicate : (n : ℕ) → length (replicate {A = ℕ} n 0) ≡ n

@@ -53,7 +53,10 @@ module _ (value : ℕ → List Record → Message) where
   -- The records that count for a field of some: those that fit it. For a member of a oneof, of all that fit a member the unbroken run of its own at the end.
   abbrev pub counting_as : Shape → List FieldView → FieldView → List Record → List Record
   counting_as (shape.OneofMember o) fs f rs = last_run (fits f) (filter (fits_any (members o fs)) rs)
-  counting_as _ fs f rs = fitting f rs
+  counting_as shape.Implicit fs f rs = fitting f rs
+  counting_as shape.Explicit fs f rs = fitting f rs
+  counting_as (shape.List packed) fs f rs = fitting f rs
+  counting_as (shape.Map key) fs f rs = fitting f rs
 
   abbrev pub counting : List FieldView → FieldView → List Record → List Record
   counting fs f rs = counting_as f.shape fs f rs

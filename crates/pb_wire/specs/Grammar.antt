@@ -21,8 +21,11 @@ Begins (in_group k c) p = p.known ≢ Some 0
 
 -- a payload that would be too deep is told before its length is read
 abbrev pub IsAllowed : {C : Type 0} → ℕ → Reading C → Type 0
+IsAllowed room unread = Unit {0}
+IsAllowed room text = Unit {0}
 IsAllowed room (message c) = 0 < room
-IsAllowed room _ = Unit {0}
+IsAllowed room (same_level c) = Unit {0}
+IsAllowed room (packed e) = Unit {0}
 
 -- the place from the payload on, whose end is known
 abbrev pub payload_at : Place → ℕ → Place

@@ -187,7 +187,11 @@ fn is_package(statement: &FileSaid) -> bool
 {
     match statement {
         FileSaid::Package(_) => true,
-        _ => false,
+        FileSaid::Nothing
+        | FileSaid::Import(_, _)
+        | FileSaid::Message(_)
+        | FileSaid::Enum(_)
+        | FileSaid::Service(_) => false,
     }
 }
 

@@ -3,7 +3,8 @@ use Rattle.pb_schema.specs.Names.{in_scope}
 use Rattle.pb_descr.specs.View.{field_view, message_view}
 use Rattle.pb_descr.specs.declared.decl.MessageDecl.{out-MessageDecl}
 use Rattle.pb_source.specs.Meaning.{scoped_field, scoped}
-use Rattle.pb_source.proofs.ScopeSteps.{mapped_all, message_view-parts, same_messages, parts_set, parts_scoped}
+use Rattle.pb_descr.proofs.ViewLemmas.{message_view-parts}
+use Rattle.pb_source.proofs.ScopeSteps.{mapped_all, same_messages, parts_set, parts_scoped}
 use Rattle.pb_source.proofs.parsing.scopes.+scope.Goals as goal
 
 pub scope_message-returns-clause-scoped : goal.scope_message-returns-clause-scoped
