@@ -13,7 +13,6 @@ use Rattle.pb_wire.specs.Fault.{Fault, fault, text_at}
 use Rattle.pb_wire.specs.Grammar.{Bad, HasFault}
 use Rattle.pb_wire.proofs.Longer.{bad_longer}
 use Rattle.pb_schema.specs.Context.{a_message, schema_of}
-use Rattle.pb_wire.specs.Spell.{AreRecords}
 use Rattle.pb_schema.specs.Types.{Types}
 use Rattle.pb_value.specs.Data.{Message}
 use Rattle.pb_value.specs.Derives.{Text}

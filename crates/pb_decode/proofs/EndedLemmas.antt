@@ -27,8 +27,8 @@ use Rattle.pb_decode.specs.After.{After}
 use Rattle.pb_decode.specs.Reader.{State, frames_view, left_of, here, own_step, path_here, Reads, StandsAt, Told}
 use Rattle.pb_decode.proofs.AfterLemmas.{after_record, at_record}
 use Rattle.pb_decode.proofs.GroupLemmas.{past_end_told}
-use Rattle.pb_decode.proofs.WellLemmas.{can_hold, fits_keys}
-use Rattle.pb_decode.proofs.FewRecords.{counts_fit, frame_counts_fit}
+use Rattle.pb_decode.proofs.WellLemmas.{fits_keys}
+use Rattle.pb_decode.proofs.FewRecords.{counts_fit}
 use Rattle.pb_decode.proofs.ListSteps.{at_list, list_over}
 use Rattle.pb_decode.proofs.ListHolds.{list_can_hold}
 

@@ -1,9 +1,9 @@
 -- Where all bytes before a known end are given, no fault says that the input ends too early.
-use Rattle.std.proofs.Common.{◌≡◌, ◌≢◌, ℕ, zero, suc, ◌+◌, ◌-◌, ◌<◌, ◌≤◌, List, [], ◌∷◌, ◌++◌, length, take, refl, sym, ap, subst, ◌∙◌, arith, length-append, Option, Some, None, option_map}
+use Rattle.std.proofs.Common.{◌≡◌, ℕ, ◌-◌, ◌≤◌, List, length, refl, sym, ap, ◌∙◌, arith, length-append, Option, Some, None, option_map}
 use Rattle.std.proofs.lemmas.List.{length-take-le}
 use Rattle.pb_wire.specs.Record.{Record}
 use Rattle.pb_wire.specs.declared.fault.PathStep.{PathStep}
-use Rattle.pb_wire.specs.Fault.{Fault, fault, inside, Place, window, IsWithin, Moves, Leads, HasTag, HasLength, TagFault, VarintFault, FixedFault, LengthFault, CutFault}
+use Rattle.pb_wire.specs.Fault.{Fault, fault, inside, Place, window, IsWithin, Moves, Leads, TagFault, VarintFault, FixedFault, LengthFault, CutFault}
 use Rattle.pb_wire.specs.Schema.{Schema, Element, a_varint, four_bytes, eight_bytes, Open}
 use Rattle.pb_wire.specs.Grammar.{payload_at, Bad, RecordFault, BadElements, ElementFault}
 use Rattle.pb_wire.specs.Exact.{IsCut}

@@ -1,11 +1,9 @@
 -- The same bytes at a later position: their fault stands as much later, and nothing else of it changes.
-use Rattle.std.proofs.Common.{◌≡◌, ℕ, zero, suc, ◌+◌, ◌*◌, ◌<◌, ◌≤◌, List, [], ◌∷◌, ◌++◌, length, take, refl, sym, ap, subst, ◌∙◌, arith, Option, Some, All, IsUtf8}
+use Rattle.std.proofs.Common.{◌≡◌, ℕ, ◌+◌, ◌*◌, List, [], ◌∷◌, take, ap, ◌∙◌, arith, Option}
 use Rattle.std.specs.Str.Lossy.{utf8_valid_len}
 use Rattle.pb_wire.specs.Varint.{IsVarint}
 use Rattle.pb_wire.specs.Record.{Record}
-use Rattle.pb_wire.specs.declared.fault.Cause.{Cause}
-use Rattle.pb_wire.specs.declared.fault.PathStep.{PathStep}
-use Rattle.pb_wire.specs.Fault.{Fault, fault, step, inside, Place, input_end, Moves, Leads, HasTag, HasLength, TagFault, VarintFault, FixedFault, LengthFault, CutFault}
+use Rattle.pb_wire.specs.Fault.{Fault, fault, step, Place, input_end, Moves, Leads, HasTag, HasLength, TagFault, VarintFault, FixedFault, LengthFault, CutFault}
 use Rattle.pb_wire.specs.Schema.{Schema, Element, a_varint, four_bytes, eight_bytes, Open, records, in_group}
 use Rattle.pb_wire.specs.Grammar.{Begins, payload_at, Bad, RecordFault, BadElements, ElementFault}
 use Rattle.pb_wire.specs.declared.fault.Cause.TheVariants.{Truncated, BadText}

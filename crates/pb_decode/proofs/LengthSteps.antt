@@ -1,5 +1,5 @@
 -- A reader that stands where something begins.
-use Rattle.std.proofs.Common.{◌≡◌, ℕ, ◌-◌, List, [], ◌∷◌, ◌++◌, map, reverse, refl, sym, ap, ◌∙◌, subst, Option, option_map}
+use Rattle.std.proofs.Common.{◌≡◌, ℕ, ◌-◌, List, [], ◌∷◌, ◌++◌, map, reverse, refl, sym, ap, ◌∙◌, subst, option_map}
 use Rattle.std.proofs.lemmas.List.{map-append, reverse-append}
 use Rattle.pb_wire.specs.Record.{Record}
 use Rattle.pb_wire.specs.Fault.{Place}
@@ -7,7 +7,7 @@ use Rattle.pb_schema.specs.Types.{Types}
 use Rattle.pb_decode.specs.declared.part.Frame.{Frame as FrameKept}
 use Rattle.pb_decode.specs.declared.step.Step.{Step}
 use Rattle.pb_decode.specs.declared.step.Step.TheVariants as step
-use Rattle.pb_decode.specs.Frames.{Part, Frame, Scope, Stands}
+use Rattle.pb_decode.specs.Frames.{Frame, Stands}
 use Rattle.pb_decode.specs.PartView.{part_view, scope_view, frame_view}
 use Rattle.pb_decode.specs.After.{After}
 use Rattle.pb_decode.specs.declared.part.Part.{Part as PartKept}

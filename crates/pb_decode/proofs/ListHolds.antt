@@ -1,5 +1,5 @@
 -- A part that holds whole elements of a packed list may take more.
-use Rattle.std.proofs.Common.{◌≡◌, ℕ, zero, suc, ◌<◌, List, ◌∷◌, [], ◌++◌, length, refl, sym, ap, ◌∙◌, subst, arith, map, Option, Some}
+use Rattle.std.proofs.Common.{◌≡◌, ℕ, zero, suc, ◌<◌, List, ◌∷◌, [], ◌++◌, refl, sym, ap, ◌∙◌, subst, arith, map, Option, Some}
 use Rattle.pb_wire.specs.Record.{Record, len}
 use Rattle.pb_wire.specs.Fault.{Place}
 use Rattle.pb_schema.specs.declared.types.Kind.{Kind}
@@ -16,7 +16,7 @@ use Rattle.pb_value.proofs.MessageSteps.{message_elements, value_members}
 use Rattle.pb_value.proofs.OneofLemmas.{pool_differ}
 use Rattle.pb_value.proofs.StepLemmas.{found_number}
 use Rattle.pb_decode.specs.declared.step.Step.TheVariants as step
-use Rattle.pb_decode.specs.Frames.{Part, message_part, CanHold, Frame, Scope}
+use Rattle.pb_decode.specs.Frames.{Part, CanHold, Frame, Scope}
 use Rattle.pb_decode.specs.After.{with_elements, After}
 use Rattle.pb_decode.proofs.WellLemmas.{type_in_pool}
 use Rattle.pb_decode.proofs.NumberSteps.{fits_is}

@@ -1,8 +1,8 @@
 -- Where the elements of a list end, and one that is not whole begins, is one place.
-use Rattle.std.proofs.Common.{◌≡◌, ◌≢◌, ℕ, zero, suc, ◌<◌, ◌≤◌, List, [], ◌++◌, take, length, sym, ap, ◌∙◌, subst, arith, Option, Some, None, refl}
+use Rattle.std.proofs.Common.{◌≡◌, ◌≢◌, ℕ, zero, suc, ◌<◌, ◌≤◌, List, [], ◌++◌, length, sym, ap, ◌∙◌, subst, arith, Option, Some, None, refl}
 use Rattle.std.specs.Prelude.{MatchOption}
 use Rattle.pb_wire.specs.declared.fault.Cause.TheVariants.{Truncated, PastEnd, VarintTooLong}
-use Rattle.pb_wire.specs.Fault.{Fault, fault, Place, Moves, window, IsWithin, VarintFault, FixedFault, input_end}
+use Rattle.pb_wire.specs.Fault.{Fault, fault, Place, Moves, window, VarintFault, FixedFault, input_end}
 use Rattle.pb_wire.specs.Schema.{Element, a_varint, four_bytes, eight_bytes}
 use Rattle.pb_wire.specs.Sound.{IsElement, varint_element, four_element, eight_element, AreElements, no_elements, element}
 use Rattle.pb_wire.specs.Grammar.{ElementFault}

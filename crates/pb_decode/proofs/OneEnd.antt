@@ -1,9 +1,9 @@
 -- Where bytes end inside a text, one thing is open, and so much of it is given.
-use Rattle.std.proofs.Common.{◌≡◌, ◌≢◌, ◌⊎◌, ℕ, suc, ◌+◌, ◌-◌, ◌<◌, List, [], ◌∷◌, ◌++◌, length, refl, sym, ap, ◌∙◌, subst, arith, inl, inr, Option, Some, None, length-append, option_map}
+use Rattle.std.proofs.Common.{◌≡◌, ◌≢◌, ◌⊎◌, ℕ, suc, ◌+◌, ◌-◌, List, [], ◌∷◌, length, refl, sym, ap, ◌∙◌, subst, arith, inl, inr, Option, Some, None, length-append, option_map}
 use Rattle.pb_wire.specs.Record.{Record}
 use Rattle.pb_wire.specs.declared.fault.PathStep.{PathStep}
 use Rattle.pb_wire.specs.declared.fault.Cause.TheVariants.{Truncated}
-use Rattle.pb_wire.specs.Fault.{Fault, fault, step, inside, Place, Moves, Reads, HasTag, HasLength, TagFault, LengthFault, text_at, input_end}
+use Rattle.pb_wire.specs.Fault.{Fault, fault, step, Place, Moves, Reads, HasTag, HasLength, TagFault, LengthFault, text_at, input_end}
 use Rattle.pb_wire.specs.Schema.{Schema, Element, Reading, unread, text, message, same_level, packed, Open, records, in_group, context_of, open_group}
 use Rattle.pb_wire.specs.Grammar.{payload_at, Bad, Begins, RecordFault, ElementFault}
 use Rattle.pb_wire.specs.Sound.{AreElements}

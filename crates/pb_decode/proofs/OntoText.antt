@@ -1,6 +1,5 @@
 -- Bytes from position 0 on, with no known end: a text onto what the reader began with, or its fault.
-use Rattle.std.proofs.Common.{◌≡◌, ℕ, zero, suc, ◌+◌, ◌-◌, ◌<◌, ◌≤◌, ◌^◌, List, [], ◌++◌, take, length, refl, sym, ap, ◌∙◌, subst, arith, append-nil, length-append, inl, inr, ◌⊎◌, All, Some, None, option_map}
-use Rattle.std.proofs.lemmas.List.{length-take-le}
+use Rattle.std.proofs.Common.{◌≡◌, ℕ, zero, suc, ◌+◌, ◌<◌, ◌≤◌, ◌^◌, List, [], ◌++◌, take, length, refl, sym, ap, ◌∙◌, subst, arith, append-nil, length-append, inl, inr, ◌⊎◌, All, Some, None}
 use Rattle.pb_wire.specs.Record.{Payload, Record}
 use Rattle.pb_wire.specs.Ranges.{IsByte}
 use Rattle.pb_wire.specs.Spell.{AreRecords}
@@ -16,7 +15,7 @@ use Rattle.pb_wire.proofs.Unique.{same_records}
 use Rattle.pb_schema.specs.Types.{Types}
 use Rattle.pb_schema.specs.Rules.{IsPool}
 use Rattle.pb_schema.specs.Context.{a_message, schema_of}
-use Rattle.pb_value.specs.Data.{Message}
+use Rattle.pb_value.specs.Data.{Message, empty}
 use Rattle.pb_value.specs.Value.{value}
 use Rattle.pb_value.specs.Derives.{Derives, Text}
 use Rattle.pb_value.specs.Canon.{canon, canon_bytes}
@@ -24,11 +23,12 @@ use Rattle.pb_value.specs.Onto.{onto}
 use Rattle.pb_value.specs.Joining.{IsOnto}
 use Rattle.pb_value.specs.WellFormed.{IsWellFormed}
 use Rattle.pb_value.proofs.BodyBack.{value-canon}
+use Rattle.pb_value.proofs.MessageSteps.{value_of_nothing}
 use Rattle.pb_value.proofs.OntoLemmas.{onto_joined}
 use Rattle.pb_value.proofs.RoundTrip.{canonical_text}
 use Rattle.pb_value.proofs.JoinedTexts.{AreRecords-append, AllSound-append, AllSound-behind, records_behind}
 use Rattle.pb_decode.specs.Reader.{State, Stops, over, cut}
-use Rattle.pb_decode.specs.Origin.{Origin, origin, further, TookFrom, IsWhole, BadFrom, ToldFrom}
+use Rattle.pb_decode.specs.Origin.{origin, further, TookFrom, IsWhole, BadFrom, ToldFrom}
 use Rattle.pb_decode.specs.Onto.{IsTextOnto}
 use Rattle.pb_decode.specs.Push.{Took}
 use Rattle.pb_decode.proofs.OriginLemmas.{is_message, whole_there}
@@ -99,6 +99,14 @@ exactly_onto pool m limits v b bytes = record {
     by_text (inl (rs, t)) = inl (onto pool m v rs, record { size = t.size; onto = record { records = rs; spelled = t.spelled; sound = t.sound; valued = refl } })
     by_text (inr bad) = inr bad
 
+-- ONTO NOTHING
+pub nothing_good : (pool : Types) (m : ℕ) (v : Message) → v ≡ empty → IsWellFormed pool m v
+nothing_good pool m v none = subst (IsWellFormed pool m) (sym none) (record { parts = (tt, tt, tt, tt); depth = omega arith })
+
+nothing_derives : (pool : Types) (m depth : ℕ) (v : Message) → v ≡ empty → Derives pool m depth [] v
+unfolding value
+nothing_derives pool m depth v none = record { records = []; spelled = refl; sound = AllSound.none; valued = none ∙ sym (value_of_nothing pool 101 m) }
+
 -- FAULTS
 pub whole_fault :
     (pool : Types) {k : ℕ} {limits : Bounds} (base : List Record) {b : List ℕ} (f : Fault) → length b ≤ limits.bytes → BadFrom pool (further (origin k limits.depth base None) b) f → HasFault (schema_of pool) (a_message k) limits b f
@@ -157,6 +165,13 @@ module _ (pool : Types) (rules : IsPool pool) (m depth : ℕ) (v : Message) (goo
         sound = AllSound-behind h.records behind.0 (subst (AllSound (schema_of pool) (a_message m) depth) behind.1 g.sound);
         valued = g.valued ∙ ap (value pool m) behind.1 ∙ sym (onto_joined pool m v h.records behind.0 rules good (sym h.valued));
       }
+
+-- a text onto the empty message is one of its value
+pub text_onto_none : {pool : Types} {m : ℕ} {limits : Bounds} {b : List ℕ} (rules : IsPool pool) (v w : Message) → v ≡ empty → IsTextOnto pool m limits v b w → Text pool m limits b w
+text_onto_none {pool} {m} {limits} {b} rules v w none t = record {
+  size = t.size;
+  derives = onto_derives pool rules m limits.depth v (nothing_good pool m v none) [] b w (nothing_derives pool m limits.depth v none) t.onto;
+}
 
 -- more levels
 mutual

@@ -30,7 +30,7 @@ use Rattle.pb_value.proofs.StepLemmas.{after_giving_way, is_fellow, self_equal}
 use Rattle.pb_value.proofs.ShapeSteps.{held_message}
 use Rattle.pb_value.proofs.MessageSteps.{earlier, message_within, message_before, value_rises, value_members}
 use Rattle.pb_decode.specs.declared.part.Slot.TheVariants as slot
-use Rattle.pb_decode.specs.Opened.{Behind, Begun}
+use Rattle.pb_decode.specs.Opened.{Begun}
 use Rattle.pb_decode.specs.Opened as opened
 use Rattle.pb_decode.specs.Frames.{message_part, entry_part, group_part, Frame, Completes, Held, inside, Stands, Scope}
 use Rattle.pb_decode.proofs.StepCounts.{counts_of_none}

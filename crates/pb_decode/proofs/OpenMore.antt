@@ -25,7 +25,7 @@ use Rattle.pb_value.specs.WellFormed.{HasOneMemberEach, IsBody}
 use Rattle.pb_value.specs.Change.{push_at, insert_at, with_fields}
 use Rattle.pb_value.proofs.MessageSteps.{message_listed, message_entry, message_unknown, value_of_nothing, value_members}
 use Rattle.pb_decode.specs.declared.part.Slot.TheVariants as slot
-use Rattle.pb_decode.specs.Opened.{Behind, Begun}
+use Rattle.pb_decode.specs.Opened.{Begun}
 use Rattle.pb_decode.specs.Opened as opened
 use Rattle.pb_decode.specs.Frames.{message_part, entry_part, group_part, Frame, Completes, Held, inside, Stands, Scope}
 use Rattle.pb_decode.proofs.StepCounts.{counts_of_none}

@@ -1,15 +1,13 @@
 -- A reader from where it began: the start, more bytes, and the end.
-use Rattle.std.proofs.Common.{◌≡◌, ◌≢◌, ℕ, zero, suc, ◌+◌, ◌-◌, ◌<◌, ◌≤◌, ◌^◌, List, [], ◌++◌, length, refl, sym, ap, ◌∙◌, subst, arith, length-append, inl, inr, Option, Some, None, option_map}
+use Rattle.std.proofs.Common.{◌≡◌, ℕ, zero, suc, ◌+◌, ◌-◌, ◌<◌, ◌≤◌, ◌^◌, List, [], ◌++◌, length, refl, sym, ap, ◌∙◌, subst, arith, length-append, inl, inr, Option, Some, None, option_map}
 use Rattle.pb_wire.specs.Record.{Record}
-use Rattle.pb_wire.specs.Ranges.{AreBytes}
-use Rattle.pb_wire.specs.Spell.{AreRecords}
 use Rattle.pb_wire.specs.Sound.{AllSound}
 use Rattle.pb_wire.specs.declared.fault.Cause.TheVariants.{Truncated}
 use Rattle.pb_wire.specs.declared.fault.PathStep.{PathStep}
-use Rattle.pb_wire.specs.Fault.{Fault, fault, Place, Moves, input_end}
+use Rattle.pb_wire.specs.Fault.{fault, Place, Moves}
 use Rattle.pb_wire.specs.Token.{given_at}
 use Rattle.pb_wire.specs.Schema.{Open, records, context_of}
-use Rattle.pb_wire.specs.Grammar.{Bad, Begins}
+use Rattle.pb_wire.specs.Grammar.{Begins}
 use Rattle.pb_wire.specs.Exact.{IsOver, longer}
 use Rattle.pb_schema.specs.Types.{Types}
 use Rattle.pb_schema.specs.Rules.{IsPool}

@@ -59,3 +59,8 @@ never_device r P bad is = subst (λ (z : Result _ DecodeError). IfErr z (λ e. I
 pub on_ok : {A E : Type 0} (r : Result A E) (P : A → Type 0) (Q : Type 0) → ((a : A) → P a → Q) → IfOk r P → OnOk r Q
 on_ok (Ok a) P Q h good = h a good
 on_ok (Err e) P Q h good = tt
+
+-- of a last call, whose answer is returned as it is
+pub on_ok_both : {A E P Q R : Type 0} (r : Result A E) → (P → Q → R) → OnOk r P → OnOk r Q → OnOk r R
+on_ok_both (Ok a) h p q = h p q
+on_ok_both (Err e) h p q = tt

@@ -1,11 +1,11 @@
 -- What is held where a reader stops, and how much is open there.
-use Rattle.std.proofs.Common.{◌≡◌, ◌≢◌, ◌⊎◌, ℕ, zero, suc, ◌+◌, ◌*◌, ◌<◌, ◌≤◌, List, [], ◌∷◌, ◌++◌, take, length, refl, sym, ap, ◌∙◌, subst, arith, inl, inr, Option, Some, None, length-append, max}
+use Rattle.std.proofs.Common.{◌≡◌, ◌≢◌, ◌⊎◌, ℕ, suc, ◌+◌, ◌*◌, ◌<◌, ◌≤◌, List, [], ◌∷◌, length, refl, sym, ap, ◌∙◌, subst, arith, inl, inr, Option, Some, None, length-append, max}
 use Rattle.std.proofs.lemmas.List.{length-take}
 use Rattle.std.proofs.lemmas.List.Elements.{All-nil}
 use Rattle.pb_wire.specs.Record.{Record}
 use Rattle.pb_wire.specs.declared.fault.PathStep.{PathStep}
-use Rattle.pb_wire.specs.Fault.{Fault, fault, Place, input_end, window, IsHigh, VarintFault, FixedFault, HasTag, HasLength, text_at}
-use Rattle.pb_wire.specs.Schema.{Open, records, context_of, unread, same_level}
+use Rattle.pb_wire.specs.Fault.{Fault, fault, Place, input_end, window, IsHigh, VarintFault, FixedFault, text_at}
+use Rattle.pb_wire.specs.Schema.{Open, context_of, unread, same_level}
 use Rattle.pb_wire.specs.Limits.{Bounds}
 use Rattle.pb_wire.specs.Exact.{IsOver}
 use Rattle.pb_wire.specs.declared.fault.Cause.TheVariants.{Truncated, PastEnd, VarintTooLong}
@@ -20,15 +20,14 @@ use Rattle.pb_schema.specs.declared.types.Shape.TheVariants as shape
 use Rattle.pb_value.specs.Data.{Message}
 use Rattle.pb_decode.specs.declared.part.Slot.{Slot}
 use Rattle.pb_decode.specs.declared.part.Slot.TheVariants as slot
-use Rattle.pb_decode.specs.declared.purpose.Purpose.{Purpose}
 use Rattle.pb_decode.specs.declared.step.Step.{Step}
 use Rattle.pb_decode.specs.declared.step.Step.TheVariants as step
 use Rattle.pb_decode.specs.Opened as opened
 use Rattle.pb_decode.specs.Opened.{Begun}
 use Rattle.pb_decode.specs.Frames.{Part, message_part, entry_part, group_part, IsSameForm, IsPartOf, Takes, Frame, Scope, Held, at_top, inside, Stands}
 use Rattle.pb_decode.specs.Numbers.{a_varint, eight_bytes, four_bytes}
-use Rattle.pb_decode.specs.After.{Tag, tag, awaited, After}
-use Rattle.pb_decode.specs.Reader.{State, here, Reads}
+use Rattle.pb_decode.specs.After.{tag, After}
+use Rattle.pb_decode.specs.Reader.{State}
 use Rattle.pb_decode.specs.Waiting.{IsCutVarint, IsCutNumber, WaitsAt, Waits, lists_in}
 use Rattle.pb_decode.specs.Push.{Took}
 use Rattle.pb_decode.specs.Pending.{Unfinished, in_tag, in_number, in_length, in_payload, in_list, EndsInside}

@@ -1,5 +1,5 @@
 -- A piece is taken part by part.
-use Rattle.std.proofs.Common.{◌≡◌, ℕ, zero, suc, ◌+◌, ◌-◌, ◌≤◌, ◌<◌, ◌^◌, List, [], ◌∷◌, ◌++◌, take, drop, length, refl, sym, ap, ◌∙◌, subst, arith, append_assoc, length-append, length-drop}
+use Rattle.std.proofs.Common.{◌≡◌, ℕ, zero, suc, ◌+◌, ◌-◌, List, [], ◌∷◌, ◌++◌, take, drop, length, sym, ap, ◌∙◌, subst, arith, append_assoc}
 use Rattle.std.specs.Prelude.{true, ◌==◌}
 use Rattle.std.proofs.lemmas.Bool.{eqb-true}
 use Rattle.std.proofs.lemmas.List.{append-nil, take-append-drop, take_all}
@@ -10,7 +10,7 @@ use Rattle.pb_wire.specs.Fault.{Fault, Place}
 use Rattle.pb_wire.specs.Exact.{longer}
 use Rattle.pb_wire.proofs.Longer.{bad_longer}
 use Rattle.pb_schema.specs.Types.{Types}
-use Rattle.pb_decode.specs.Reader.{State, Reads, Stops, IsReading, Told}
+use Rattle.pb_decode.specs.Reader.{State, Reads, Told}
 use Rattle.pb_decode.proofs.PushLemmas.{reads_more, no_bytes}
 use Rattle.pb_decode.proofs.ReaderLemmas.{slice_from}
 

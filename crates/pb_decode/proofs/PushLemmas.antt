@@ -1,5 +1,5 @@
 -- A decoder between pieces: more bytes, too many bytes, and the end.
-use Rattle.std.proofs.Common.{◌≡◌, ◌≢◌, ℕ, ◌+◌, ◌-◌, ◌<◌, ◌≤◌, ◌^◌, List, [], ◌∷◌, ◌++◌, take, drop, length, refl, sym, ap, ◌∙◌, subst, arith, append_assoc, length-append, inl, inr, ◌⊎◌, Option, Some, None, option_map}
+use Rattle.std.proofs.Common.{◌≡◌, ℕ, ◌+◌, ◌-◌, ◌<◌, ◌≤◌, ◌^◌, List, [], ◌∷◌, ◌++◌, take, drop, length, refl, sym, ap, ◌∙◌, subst, arith, length-append, inl, inr, None, option_map}
 use Rattle.std.proofs.lemmas.List.{length-take-le}
 use Rattle.std.proofs.Math.Seq.{take-append-add}
 use Rattle.pb_wire.specs.Record.{Record}
@@ -8,27 +8,23 @@ use Rattle.pb_wire.specs.declared.fault.Cause.{Cause}
 use Rattle.pb_wire.specs.declared.fault.Cause.TheVariants as cause
 use Rattle.pb_wire.specs.declared.fault.Cause.TheVariants.{Truncated, InputTooLarge}
 use Rattle.pb_wire.specs.Fault.{Fault, fault, Place, text_at}
-use Rattle.pb_wire.specs.Schema.{Open, records, context_of}
+use Rattle.pb_wire.specs.Schema.{Open, records}
 use Rattle.pb_wire.specs.Grammar.{Whole, Bad, HasFault, beyond}
 use Rattle.pb_wire.specs.Exact.{IsOver, longer, IsCut}
 use Rattle.pb_wire.specs.Limits.{Bounds}
 use Rattle.pb_schema.specs.Types.{Types}
 use Rattle.pb_schema.specs.Context.{Context, a_message as in_message, schema_of}
 use Rattle.pb_value.specs.Data.{Message, empty}
-use Rattle.pb_value.proofs.MessageSteps.{value_of_nothing}
 use Rattle.pb_value.specs.Derives.{Text}
-use Rattle.pb_value.specs.WellFormed.{IsBody, IsWellFormed}
-use Rattle.pb_schema.specs.Rules.{IsPool}
-use Rattle.pb_decode.proofs.WellLemmas.{message_good}
 use Rattle.pb_decode.specs.declared.step.Step.{Step}
 use Rattle.pb_decode.specs.declared.step.Step.TheVariants as step
-use Rattle.pb_decode.specs.Frames.{Part, message_part, entry_part, group_part, Frame, Scope, EndsAt, Held, at_top, inside, IsSameForm, Stands}
+use Rattle.pb_decode.specs.Frames.{Part, message_part, entry_part, group_part, Frame, Scope, Held, at_top, inside, IsSameForm, Stands}
 use Rattle.pb_decode.specs.After.{After}
 use Rattle.pb_decode.specs.Reader.{State, here, path_here, Reads, IsReading, Stops, over, cut, Told}
 use Rattle.pb_decode.specs.Push.{Took, IsSettled}
-use Rattle.pb_decode.proofs.AfterLemmas.{after_longer, after_record, at_record}
-use Rattle.pb_decode.proofs.FrameLemmas.{stands_at_start}
+use Rattle.pb_decode.proofs.AfterLemmas.{after_longer, at_record}
 use Rattle.pb_decode.proofs.FinishLemmas.{text_read}
+use Rattle.pb_decode.proofs.ReaderLemmas.{slice_from}
 
 -- WHAT IS HELD is the rest of the bytes
 pub held_rest :
@@ -61,6 +57,22 @@ reading_more s held more bytes small h = record {
 pub no_bytes : (l : List ℕ) → length l ≡ 0 → l ≡ []
 no_bytes [] none = refl
 no_bytes (x ∷ l) none = absurd (omega (arith, none))
+
+-- behind nothing
+pub held_behind : (n : ℕ) (held l : List ℕ) → length held ≡ 0 → held ++ take (length l - n) (drop n l) ≡ drop n l
+held_behind n held l none = ap (λ (z : List ℕ). z ++ take (length l - n) (drop n l)) (no_bytes held none) ∙ slice_from n l
+
+-- what is taken of a text, with the next piece behind it
+pub took_more :
+    {pool : Types} {m : ℕ} {limits : Bounds} (b piece : List ℕ) (s t : State) (held rest : List ℕ) → Took pool m limits b s held → length b + length piece ≤ limits.bytes
+    → t.at + length rest ≡ s.at + length held + length piece → Reads pool m limits.depth 101 [] (longer (text_at b) piece) t rest × Stops pool m limits.depth (longer (text_at b) piece) t rest
+    → Took pool m limits (b ++ piece) t rest
+took_more b piece s t held rest h fits at there = record {
+  reads = there.0;
+  stops = there.1;
+  at = let was = h.at in let joined = length-append b piece in omega (arith, at, was, joined);
+  size = let joined = length-append b piece in omega (arith, fits, joined);
+}
 
 -- NOTHING IS OPEN BUT THE TOP: the part is the message, and no end is known
 pub is_top :

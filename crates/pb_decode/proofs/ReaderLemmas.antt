@@ -1,5 +1,5 @@
 -- A reader that takes bytes, and one that has some text read.
-use Rattle.std.proofs.Common.{◌≡◌, ◌≢◌, ℕ, ◌+◌, ◌-◌, ◌≤◌, ◌<◌, List, [], ◌∷◌, ◌++◌, take, drop, length, refl, sym, ap, ◌∙◌, subst, arith, length-drop, drop-drop, Option, Some, None, option_map}
+use Rattle.std.proofs.Common.{◌≡◌, ◌≢◌, ℕ, ◌+◌, ◌-◌, ◌<◌, List, [], ◌∷◌, ◌++◌, take, drop, length, refl, sym, ap, ◌∙◌, subst, arith, length-drop, drop-drop, Option, Some, None, option_map}
 use Rattle.std.proofs.lemmas.List.{take_all}
 use Rattle.pb_wire.specs.Record.{Record}
 use Rattle.pb_wire.specs.declared.fault.Cause.{Cause}
@@ -24,7 +24,7 @@ use Rattle.pb_decode.specs.Numbers.{NumberFault, Follows}
 use Rattle.pb_wire.proofs.Tokens.{ends_some}
 use Rattle.pb_decode.specs.After.{Tag, tag, awaited, After}
 use Rattle.pb_decode.specs.declared.purpose.Purpose.{Purpose}
-use Rattle.pb_decode.specs.Reader.{State, left_of, here, own_step, path_here, Reads, Stops, cut, Taken, Told, StandsAt, IfFault}
+use Rattle.pb_decode.specs.Reader.{State, here, own_step, path_here, Reads, Stops, cut, Taken, Told, StandsAt, IfFault}
 use Rattle.pb_decode.proofs.AfterLemmas.{after_record, number_told}
 
 -- a slice from here on

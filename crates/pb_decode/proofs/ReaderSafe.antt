@@ -1,18 +1,15 @@
 -- What a reader may do wherever it has some text read.
-use Rattle.std.proofs.Common.{◌≡◌, ℕ, ◌+◌, ◌≤◌, List, length, subst, arith, Some}
+use Rattle.std.proofs.Common.{◌≡◌, ℕ, ◌≤◌, List, arith, Some}
 use Rattle.pb_wire.specs.Record.{Record}
 use Rattle.pb_wire.specs.Fault.{Place}
 use Rattle.pb_schema.specs.Types.{Types}
 use Rattle.pb_schema.specs.Rules.{IsPool}
-use Rattle.pb_schema.specs.declared.types.Kind.{Kind}
 use Rattle.pb_decode.specs.declared.step.Step.{Step}
-use Rattle.pb_decode.specs.declared.step.Step.TheVariants as step
 use Rattle.pb_decode.specs.Frames.{Part, CanHold, Frame, Scope}
 use Rattle.pb_decode.specs.After.{Tag, awaited, After}
-use Rattle.pb_decode.proofs.AfterLemmas.{at_record, at_tag, at_payload}
+use Rattle.pb_decode.proofs.AfterLemmas.{at_tag}
 use Rattle.pb_decode.proofs.WellLemmas.{can_hold}
 use Rattle.pb_decode.proofs.FewRecords.{counts_fit}
-use Rattle.pb_decode.proofs.ListHolds.{list_can_hold}
 
 -- THE PART MAY BE CHANGED
 pub awaited_can :

@@ -1,6 +1,5 @@
 -- What a reader has read of the bytes from where it began.
 use Rattle.std.specs.Prelude.{◌≡◌, ℕ, ◌+◌, List, [], ◌++◌, length, Option}
-use Rattle.std.specs.Io.KnownBytes.{Consumes}
 use Rattle.pb_wire.specs.Record.{Record}
 use Rattle.pb_wire.specs.Spell.{AreRecords}
 use Rattle.pb_wire.specs.Sound.{AllSound}

@@ -1,7 +1,6 @@
 -- What a reader of a part has, and what it has told of the bytes at hand.
 use Rattle.std.specs.Prelude.{◌≡◌, ℕ, ◌+◌, ◌*◌, ◌-◌, ◌<◌, ◌≤◌, ◌^◌, List, [], ◌∷◌, ◌++◌, map, reverse, drop, length, Option, Some, None, option_map}
 use Rattle.pb_wire.specs.Record.{Record}
-use Rattle.pb_wire.specs.declared.fault.Cause.{Cause}
 use Rattle.pb_wire.specs.declared.fault.PathStep.{PathStep}
 use Rattle.pb_wire.specs.Fault.{Fault, fault, Place}
 use Rattle.pb_wire.specs.Token.{given_at}

@@ -37,9 +37,9 @@ fn read_frame<'p, I: Input>(
     ensures stays { I.is_steady input.old ≡ true → I.is_steady input.new ≡ true }
 {
     let _types = pool.messages();
-    let begun = begin_empty(alloc, pool, kind, limits, Some(size));
+    let mut reading = begin_empty(alloc, pool, kind, limits, Some(size));
     let _small = limits.max_bytes();
-    let (reading, _count) = read_pieces(alloc, pool, begun, input, size as usize)?;
+    read_pieces(alloc, pool, &mut reading, input, size as usize)?;
     finish_message(alloc, pool, kind, reading)
 }
 

@@ -31,17 +31,17 @@ const PIECE: usize = 4096;
 fn read_piece<I: Input>(
     alloc: Global,
     pool: &Pool,
-    reading: Reading,
+    reading: &mut Reading,
     input: &mut I,
     buffer: &mut [u8],
-) -> Result<(Reading, usize), DecodeError>
+) -> Result<usize, DecodeError>
     requires rules { IsPool pool.now }
-    requires took { (o : Origin) × TookFrom pool.now o (state_view reading.reader) reading.held.items }
-    requires small { reading.reader.at + length reading.held.items + length buffer.old < 2 ^ 31 }
-    ensures count { IfOk result (λ r. r.1 ≤ length buffer.old) }
-    ensures read { IfOk result (λ r. ReadsOn pool.now reading r.0 (I.left input.old) (I.left input.new) r.1) }
-    ensures ends { IfOk result (λ r. r.1 ≡ 0 → 0 < length buffer.old → IsAtEnd (I.left input.new)) }
-    ensures fault { (o : Origin) → TookFrom pool.now o (state_view reading.reader) reading.held.items → IfErr result (λ e. IfRefused e (ToldOf pool.now o (I.left input.old) (I.left input.new) (length buffer.old))) }
+    requires took { (o : Origin) × TookFrom pool.now o (state_view reading.old.reader) reading.old.held.items }
+    requires small { reading.old.reader.at + length reading.old.held.items + length buffer.old < 2 ^ 31 }
+    ensures count { IfOk result (λ n. n ≤ length buffer.old) }
+    ensures read { IfOk result (λ n. ReadsOn pool.now reading.old reading.new (I.left input.old) (I.left input.new) n) }
+    ensures ends { IfOk result (λ n. n ≡ 0 → 0 < length buffer.old → IsAtEnd (I.left input.new)) }
+    ensures fault { (o : Origin) → TookFrom pool.now o (state_view reading.old.reader) reading.old.held.items → IfErr result (λ e. IfRefused e (ToldOf pool.now o (I.left input.old) (I.left input.new) (length buffer.old))) }
     ensures most { TakesAtMost (length buffer.old) (I.left input.old) (I.left input.new) }
     ensures failures { TellsFailures result (I.failures input.old) (I.failures input.new) }
     ensures steady { I.is_steady input.old ≡ true → result ≢ Err Device }
@@ -50,43 +50,41 @@ fn read_piece<I: Input>(
     let Ok(count) = input.read(buffer) else {
         return Err(DecodeError::Device);
     };
-    let next = take_onward(alloc, pool, reading, &buffer[..count])?;
-    Ok((next, count))
+    take_onward(alloc, pool, reading, &buffer[..count])?;
+    Ok(count)
 }
 
 /// Takes what the input gives up to its end, but at most `most` bytes, and tells how many bytes it gave.
 pub(crate) fn read_pieces<I: Input>(
     alloc: Global,
     pool: &Pool,
-    reading: Reading,
+    reading: &mut Reading,
     input: &mut I,
     most: usize,
-) -> Result<(Reading, usize), DecodeError>
+) -> Result<usize, DecodeError>
     requires rules { IsPool pool.now }
-    requires took { (o : Origin) × TookFrom pool.now o (state_view reading.reader) reading.held.items }
-    requires small { reading.reader.at + length reading.held.items + most < 2 ^ 31 }
-    ensures count { IfOk result (λ r. r.1 ≤ most) }
-    ensures read { IfOk result (λ r. ReadsOn pool.now reading r.0 (I.left input.old) (I.left input.new) r.1) }
-    ensures ends { IfOk result (λ r. (r.1 ≡ most) ⊎ IsAtEnd (I.left input.new)) }
-    ensures fault { (o : Origin) → TookFrom pool.now o (state_view reading.reader) reading.held.items → IfErr result (λ e. IfRefused e (ToldOf pool.now o (I.left input.old) (I.left input.new) most)) }
+    requires took { (o : Origin) × TookFrom pool.now o (state_view reading.old.reader) reading.old.held.items }
+    requires small { reading.old.reader.at + length reading.old.held.items + most < 2 ^ 31 }
+    ensures count { IfOk result (λ n. n ≤ most) }
+    ensures read { IfOk result (λ n. ReadsOn pool.now reading.old reading.new (I.left input.old) (I.left input.new) n) }
+    ensures ends { IfOk result (λ n. (n ≡ most) ⊎ IsAtEnd (I.left input.new)) }
+    ensures fault { (o : Origin) → TookFrom pool.now o (state_view reading.old.reader) reading.old.held.items → IfErr result (λ e. IfRefused e (ToldOf pool.now o (I.left input.old) (I.left input.new) most)) }
     ensures taken { TakesAtMost most (I.left input.old) (I.left input.new) }
     ensures failures { TellsFailures result (I.failures input.old) (I.failures input.new) }
     ensures steady { I.is_steady input.old ≡ true → result ≢ Err Device }
     ensures stays { I.is_steady input.old ≡ true → I.is_steady input.new ≡ true }
 {
     let mut buffer = [0u8; PIECE];
-    let mut reading = reading;
     let mut taken = 0;
     'reading: while taken < most {
         let room = buffer.len().min(most - taken);
-        let (next, count) = read_piece(alloc, pool, reading, input, &mut buffer[..room])?;
-        reading = next;
+        let count = read_piece(alloc, pool, reading, input, &mut buffer[..room])?;
         if count == 0 {
-            return Ok((reading, taken));
+            return Ok(taken);
         }
         taken += count;
     }
-    Ok((reading, taken))
+    Ok(taken)
 }
 
 /// Asks the input for one more byte, and says whether there was one.
@@ -116,12 +114,12 @@ fn read_within<I: Input>(
     pool: &Pool,
     kind: MessageId,
     limits: Limits,
-    reading: Reading,
+    reading: &mut Reading,
     input: &mut I,
-) -> Result<Reading, DecodeError>
+) -> Result<(), DecodeError>
     requires rules { IsPool pool.now }
-    requires took { (base : List Record) × TookFrom pool.now (origin kind.0 limits.depth base None) (state_view reading.reader) reading.held.items }
-    ensures read { IfOk result (λ r. (n : ℕ) × (n ≤ limits.bytes) × ReadsOn pool.now reading r (I.left input.old) (I.left input.new) n) }
+    requires took { (base : List Record) × TookFrom pool.now (origin kind.0 limits.depth base None) (state_view reading.old.reader) reading.old.held.items }
+    ensures read { OnOk result ((n : ℕ) × (n ≤ limits.bytes) × ReadsOn pool.now reading.old reading.new (I.left input.old) (I.left input.new) n) }
     ensures ends { OnOk result (IsAtEnd (I.left input.new)) }
     ensures small { limits.bytes < 2 ^ 31 }
     ensures fault { IfErr result (λ e. IfRefused e (λ f. IfSome (I.left input.old) (λ left. HasFault (schema_of pool.now) (a_message kind.0) limits left f))) }
@@ -131,15 +129,15 @@ fn read_within<I: Input>(
     ensures stays { I.is_steady input.old ≡ true → I.is_steady input.new ≡ true }
 {
     let most = limits.max_bytes();
-    let (taken, count) = read_pieces(alloc, pool, reading, input, most as usize)?;
+    let count = read_pieces(alloc, pool, reading, input, most as usize)?;
     if count < most as usize {
-        return Ok(taken);
+        return Ok(());
     }
     let more = has_byte(input)?;
     if more {
         return Err(too_large(alloc, most));
     }
-    Ok(taken)
+    Ok(())
 }
 
 /// The message of what the input gives up to its end.
@@ -161,8 +159,8 @@ fn read_message<'p, I: Input>(
     ensures stays { I.is_steady input.old ≡ true → I.is_steady input.new ≡ true }
 {
     let _types = pool.messages();
-    let begun = begin_empty(alloc, pool, kind, limits, None);
-    let reading = read_within(alloc, pool, kind, limits, begun, input)?;
+    let mut reading = begin_empty(alloc, pool, kind, limits, None);
+    read_within(alloc, pool, kind, limits, &mut reading, input)?;
     finish_message(alloc, pool, kind, reading)
 }
 

@@ -10,7 +10,7 @@ use crate::number::Number;
 use pb_wire::{Cause, Token, fixed32_token, fixed64_token, varint_token};
 
 /// What stands at the front.
-#[derive(Clone, Copy, PartialEq, Eq, Debug)]
+#[derive(Clone, Copy)]
 pub(crate) enum NumberToken {
     /// The number, and how many bytes it takes.
     Whole(Number, usize),

@@ -9,7 +9,7 @@ use std::marker::Model;
 
 /// How many whole records of each number stood in a payload so far. Rising and repeated numbers cost a constant each, any
 /// other order a search.
-#[derive(Debug, Drop)]
+#[derive(Drop)]
 pub(crate) struct Occurrences {
     /// The number added last, with its count.
     latest: Option<(u32, u32)>,

@@ -33,27 +33,26 @@ fn take_within(
     pool: &Pool,
     kind: MessageId,
     limits: Limits,
-    reading: Reading,
+    reading: &mut Reading,
     bytes: &[u8],
-) -> Result<Reading, DecodeError>
+) -> Result<(), DecodeError>
     requires rules { IsPool pool.now }
-    requires took { (base : List Record) × TookFrom pool.now (origin kind.0 limits.depth base None) (state_view reading.reader) reading.held.items }
+    requires took { (base : List Record) × TookFrom pool.now (origin kind.0 limits.depth base None) (state_view reading.old.reader) reading.old.held.items }
     ensures size { OnOk result (length bytes.now ≤ limits.bytes) }
-    ensures at { IfOk result (λ r. r.reader.at + length r.held.items ≡ length bytes.now) }
-    ensures took { (base : List Record) → TookFrom pool.now (origin kind.0 limits.depth base None) (state_view reading.reader) reading.held.items → IfOk result (λ r. TookFrom pool.now (further (origin kind.0 limits.depth base None) bytes.now) (state_view r.reader) r.held.items) }
+    ensures at { OnOk result (reading.new.reader.at + length reading.new.held.items ≡ length bytes.now) }
+    ensures took { (base : List Record) → TookFrom pool.now (origin kind.0 limits.depth base None) (state_view reading.old.reader) reading.old.held.items → OnOk result (TookFrom pool.now (further (origin kind.0 limits.depth base None) bytes.now) (state_view reading.new.reader) reading.new.held.items) }
     ensures fault { IfErr result (λ e. IfFault e (HasFault (schema_of pool.now) (a_message kind.0) limits bytes.now)) }
 {
     let most = limits.max_bytes();
     if bytes.len() > most as usize {
-        let _front = take_onward(alloc, pool, reading, &bytes[..most as usize])?;
+        take_onward(alloc, pool, reading, &bytes[..most as usize])?;
         return Err(too_large(alloc, most));
     }
-    let taken = take_onward(alloc, pool, reading, bytes)?;
-    Ok(taken)
+    take_onward(alloc, pool, reading, bytes)
 }
 
 /// Decodes the bytes of a text onto the body of a message.
-fn read_onto<'p>(
+pub(crate) fn read_onto<'p>(
     alloc: Global,
     pool: &'p Pool,
     kind: MessageId,
@@ -70,8 +69,8 @@ fn read_onto<'p>(
     ensures fault { IfErr result (λ e. IfFault e (HasFault (schema_of pool.now) (a_message kind.0) limits bytes.now)) }
 {
     let room = limits.max_depth();
-    let begun = begin_at(alloc, kind, body, room, None);
-    let reading = take_within(alloc, pool, kind, limits, begun, bytes)?;
+    let mut reading = begin_at(alloc, kind, body, room, None);
+    take_within(alloc, pool, kind, limits, &mut reading, bytes)?;
     finish_message(alloc, pool, kind, reading)
 }
 

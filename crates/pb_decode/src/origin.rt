@@ -1,12 +1,15 @@
 //! A reader from where it begins to the end of its message.
 
-ghost use Rattle.std.specs.Prelude.{◌≡◌, true, false, ◌+◌, ◌<◌, ◌≤◌, ◌^◌, List, [], length, None, IfOk, IfErr};
+ghost use Rattle.std.specs.Prelude.{◌≡◌, true, false, ◌+◌, ◌<◌, ◌≤◌, ◌^◌, ℕ, List, [], length, None, OnOk, OnErr, IfOk, IfErr};
 ghost use Rattle.pb_wire.specs.Record.{Record};
 ghost use Rattle.pb_schema.specs.Types.{Types};
 ghost use Rattle.pb_schema.specs.Rules.{IsPool};
+ghost use Rattle.pb_value.specs.Data.{Message};
 ghost use Rattle.pb_value.specs.Value.{value};
 ghost use Rattle.pb_value.specs.View.{body_view};
 ghost use Rattle.pb_value.specs.WellFormed.{IsWellFormed};
+ghost use Rattle.pb_decode.specs.Frames.{message_part};
+ghost use Rattle.pb_decode.specs.PartView.{part_view};
 ghost use Rattle.pb_decode.specs.Reader.{state_view, IfFault};
 ghost use Rattle.pb_decode.specs.Waiting.{Waits};
 ghost use Rattle.pb_decode.specs.Origin.{Origin, origin, further, TookFrom, IsOverAt, IsWhole, BadFrom, ToldFrom};
@@ -76,18 +79,17 @@ pub(crate) fn begin_empty(
 pub(crate) fn take_onward(
     alloc: Global,
     pool: &Pool,
-    reading: Reading,
+    reading: &mut Reading,
     piece: &[u8],
-) -> Result<Reading, DecodeError>
+) -> Result<(), DecodeError>
     requires rules { IsPool pool.now }
-    requires took { (o : Origin) × TookFrom pool.now o (state_view reading.reader) reading.held.items }
-    requires small { reading.reader.at + length reading.held.items + length piece.now < 2 ^ 31 }
-    ensures at { IfOk result (λ r. r.reader.at + length r.held.items ≡ reading.reader.at + length reading.held.items + length piece.now) }
-    ensures took { (o : Origin) → TookFrom pool.now o (state_view reading.reader) reading.held.items → IfOk result (λ r. TookFrom pool.now (further o piece.now) (state_view r.reader) r.held.items) }
-    ensures fault { (o : Origin) → TookFrom pool.now o (state_view reading.reader) reading.held.items → IfErr result (λ e. IfFault e (ToldFrom pool.now (further o piece.now))) }
+    requires took { (o : Origin) × TookFrom pool.now o (state_view reading.old.reader) reading.old.held.items }
+    requires small { reading.old.reader.at + length reading.old.held.items + length piece.now < 2 ^ 31 }
+    ensures at { OnOk result (reading.new.reader.at + length reading.new.held.items ≡ reading.old.reader.at + length reading.old.held.items + length piece.now) }
+    ensures took { (o : Origin) → TookFrom pool.now o (state_view reading.old.reader) reading.old.held.items → OnOk result (TookFrom pool.now (further o piece.now) (state_view reading.new.reader) reading.new.held.items) }
+    ensures fault { (o : Origin) → TookFrom pool.now o (state_view reading.old.reader) reading.old.held.items → IfErr result (λ e. IfFault e (ToldFrom pool.now (further o piece.now))) }
 {
-    let (reader, held) = take_piece(alloc, pool, reading.reader, reading.held, piece)?;
-    Ok(Reading { reader, held })
+    take_piece(alloc, pool, reading, piece)
 }
 
 /// Says that nothing is open but the message, and that it ends here: at its known end, or if none is known with the bytes.
@@ -110,6 +112,23 @@ fn is_over(reading: &Reading) -> bool
     }
 }
 
+/// The body of a part that is a message.
+fn body_of(part: Part) -> Result<Body, DecodeError>
+    ensures message { IfOk result (λ body. (k : ℕ) × (part_view part ≡ message_part k (body_view body))) }
+    ensures other { OnErr result ((k : ℕ) (v : Message) → part_view part ≡ message_part k v → ⊥) }
+{
+    match part {
+        Part::Message(_, body) => Ok(body),
+        Part::Entry {
+            key_kind: _,
+            value_kind: _,
+            key: _,
+            value: _,
+        } => Err(DecodeError::Finished),
+        Part::Group(_) => Err(DecodeError::Finished),
+    }
+}
+
 /// The body of the message that is read, or the fault that it is cut short.
 fn whole_body(alloc: Global, pool: &Pool, reading: Reading) -> Result<Body, DecodeError>
     requires rules { IsPool pool.now }
@@ -122,18 +141,7 @@ fn whole_body(alloc: Global, pool: &Pool, reading: Reading) -> Result<Body, Deco
     if !is_over(&reading) {
         return Err(cut_short(alloc, &reading));
     }
-    let reader = reading.reader;
-    let part = reader.part;
-    match part {
-        Part::Message(_, body) => Ok(body),
-        Part::Entry {
-            key_kind: _,
-            value_kind: _,
-            key: _,
-            value: _,
-        } => Err(DecodeError::Finished),
-        Part::Group(_) => Err(DecodeError::Finished),
-    }
+    body_of(reading.reader.part)
 }
 
 /// The message that is read, or the fault that it is cut short.

@@ -19,7 +19,7 @@ pub(crate) enum Part {
 }
 
 /// Where a part goes once it is whole.
-#[derive(Clone, Copy, PartialEq, Eq, Debug)]
+#[derive(Clone, Copy)]
 pub(crate) enum Slot {
     /// The field of one value with this number.
     One(Shape, u32),

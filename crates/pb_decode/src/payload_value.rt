@@ -17,7 +17,7 @@ use pb_wire::Unknown;
 use std::alloc::{AllocError, Global};
 
 /// Why a payload gives no value.
-#[derive(Clone, Copy, Debug, PartialEq, Eq)]
+#[derive(Clone, Copy)]
 pub(crate) enum PayloadError {
     /// A text is not UTF-8. So many of its bytes stand before the first wrong one.
     BadText(usize),

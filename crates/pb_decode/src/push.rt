@@ -1,6 +1,6 @@
 //! Decoding, whole and in pieces.
 
-ghost use Rattle.std.specs.Prelude.{◌≡◌, ◌+◌, ◌-◌, ◌<◌, ◌≤◌, ◌^◌, ◌++◌, ℕ, List, [], drop, length, vec_len, IfOk, IfErr, IsErrAnd, MatchResult};
+ghost use Rattle.std.specs.Prelude.{◌≡◌, ◌+◌, ◌-◌, ◌<◌, ◌≤◌, ◌^◌, ◌++◌, ℕ, List, [], drop, length, vec_len, OnOk, IfOk, IfErr, IsErrAnd, MatchResult};
 ghost use Rattle.pb_wire.specs.Record.{Record};
 ghost use Rattle.pb_wire.specs.Fault.{Fault, fault, Place};
 ghost use Rattle.pb_wire.specs.declared.fault.Cause.TheVariants.{Truncated};
@@ -17,11 +17,12 @@ ghost use Rattle.pb_decode.specs.Waiting.{Waits, lists_in};
 
 use crate::error::DecodeError;
 use crate::fault::{fault_at, too_large};
+use crate::onto::read_onto;
 use crate::origin::{begin_empty, finish_message};
 use crate::reader::{Reader, take_all};
 use crate::step::Step;
 use pb_schema::{MessageId, Pool};
-use pb_value::DynamicMessage;
+use pb_value::{DynamicMessage, empty_body};
 use pb_wire::{Cause, Limits};
 use std::alloc::Global;
 
@@ -33,23 +34,24 @@ pub(crate) struct Reading {
     pub held: Vec<u8>,
 }
 
-/// Takes what stands whole at the front of the bytes, and holds the others.
+/// Takes what stands whole at the front of the bytes, where none are held, and holds the others.
 fn take_front(
     alloc: Global,
     pool: &Pool,
-    reader: &mut Reader,
+    reading: &mut Reading,
     bytes: &[u8],
-) -> Result<Vec<u8>, DecodeError>
+) -> Result<(), DecodeError>
     requires rules { IsPool pool.now }
-    requires reading { IsReading pool.now (state_view reader.old) bytes.now }
-    ensures at { IfOk result (λ rest. reader.new.at + length rest.items ≡ reader.old.at + length bytes.now) }
-    ensures taken { (m depth levels : ℕ) (base : List Record) (p0 : Place) → Reads pool.now m depth levels base p0 (state_view reader.old) bytes.now → IfOk result (λ rest. Reads pool.now m depth levels base p0 (state_view reader.new) rest.items × Stops pool.now m depth p0 (state_view reader.new) rest.items) }
-    ensures waits { IfOk result (λ rest. Waits (state_view reader.new) rest.items) }
-    ensures refused { (m depth levels : ℕ) (base : List Record) (p0 : Place) → Reads pool.now m depth levels base p0 (state_view reader.old) bytes.now → IfErr result (λ e. IfFault e (Told pool.now m depth p0)) }
+    requires reading { IsReading pool.now (state_view reading.old.reader) bytes.now }
+    requires none_held { length reading.old.held.items ≡ 0 }
+    ensures at { OnOk result (reading.new.reader.at + length reading.new.held.items ≡ reading.old.reader.at + length bytes.now) }
+    ensures taken { (m depth levels : ℕ) (base : List Record) (p0 : Place) → Reads pool.now m depth levels base p0 (state_view reading.old.reader) bytes.now → OnOk result (Reads pool.now m depth levels base p0 (state_view reading.new.reader) reading.new.held.items × Stops pool.now m depth p0 (state_view reading.new.reader) reading.new.held.items) }
+    ensures waits { OnOk result (Waits (state_view reading.new.reader) reading.new.held.items) }
+    ensures refused { (m depth levels : ℕ) (base : List Record) (p0 : Place) → Reads pool.now m depth levels base p0 (state_view reading.old.reader) bytes.now → IfErr result (λ e. IfFault e (Told pool.now m depth p0)) }
 {
-    let size = take_all(alloc, pool, reader, bytes)?;
-    let held = rest_of(alloc, bytes, size)?;
-    Ok(held)
+    let size = take_all(alloc, pool, &mut reading.reader, bytes)?;
+    reading.held.extend_from_slice(&bytes[size..])?;
+    Ok(())
 }
 
 /// The bytes from an index on.
@@ -63,46 +65,40 @@ fn rest_of(alloc: Global, bytes: &[u8], from: usize) -> Result<Vec<u8>, DecodeEr
 }
 
 /// Takes what stands whole at the front of the bytes that are held, and holds the others.
-fn take_held(
-    alloc: Global,
-    pool: &Pool,
-    reader: &mut Reader,
-    held: Vec<u8>,
-) -> Result<Vec<u8>, DecodeError>
+fn take_held(alloc: Global, pool: &Pool, reading: &mut Reading) -> Result<(), DecodeError>
     requires rules { IsPool pool.now }
-    requires reading { IsReading pool.now (state_view reader.old) held.items }
-    ensures at { IfOk result (λ rest. reader.new.at + length rest.items ≡ reader.old.at + length held.items) }
-    ensures taken { (m depth levels : ℕ) (base : List Record) (p0 : Place) → Reads pool.now m depth levels base p0 (state_view reader.old) held.items → IfOk result (λ rest. Reads pool.now m depth levels base p0 (state_view reader.new) rest.items × Stops pool.now m depth p0 (state_view reader.new) rest.items) }
-    ensures waits { IfOk result (λ rest. Waits (state_view reader.new) rest.items) }
-    ensures refused { (m depth levels : ℕ) (base : List Record) (p0 : Place) → Reads pool.now m depth levels base p0 (state_view reader.old) held.items → IfErr result (λ e. IfFault e (Told pool.now m depth p0)) }
+    requires reading { IsReading pool.now (state_view reading.old.reader) reading.old.held.items }
+    ensures at { OnOk result (reading.new.reader.at + length reading.new.held.items ≡ reading.old.reader.at + length reading.old.held.items) }
+    ensures taken { (m depth levels : ℕ) (base : List Record) (p0 : Place) → Reads pool.now m depth levels base p0 (state_view reading.old.reader) reading.old.held.items → OnOk result (Reads pool.now m depth levels base p0 (state_view reading.new.reader) reading.new.held.items × Stops pool.now m depth p0 (state_view reading.new.reader) reading.new.held.items) }
+    ensures waits { OnOk result (Waits (state_view reading.new.reader) reading.new.held.items) }
+    ensures refused { (m depth levels : ℕ) (base : List Record) (p0 : Place) → Reads pool.now m depth levels base p0 (state_view reading.old.reader) reading.old.held.items → IfErr result (λ e. IfFault e (Told pool.now m depth p0)) }
 {
-    let size = take_all(alloc, pool, reader, &held)?;
+    let size = take_all(alloc, pool, &mut reading.reader, &reading.held)?;
     if size == 0 {
-        return Ok(held);
+        return Ok(());
     }
-    let rest = rest_of(alloc, &held, size)?;
-    Ok(rest)
+    let rest = rest_of(alloc, &reading.held, size)?;
+    reading.held = rest;
+    Ok(())
 }
 
 /// Takes what stands whole at the front of the bytes that are held and of those behind them, and holds the others.
 fn take_joined(
     alloc: Global,
     pool: &Pool,
-    reader: &mut Reader,
-    held: Vec<u8>,
+    reading: &mut Reading,
     more: &[u8],
-) -> Result<Vec<u8>, DecodeError>
+) -> Result<(), DecodeError>
     requires rules { IsPool pool.now }
-    requires reading { IsReading pool.now (state_view reader.old) held.items }
-    requires small { reader.old.at + length held.items + length more.now < 2 ^ 31 }
-    ensures at { IfOk result (λ rest. reader.new.at + length rest.items ≡ reader.old.at + length held.items + length more.now) }
-    ensures taken { (m depth levels : ℕ) (base : List Record) (p0 : Place) → Reads pool.now m depth levels base p0 (state_view reader.old) held.items → IfOk result (λ rest. Reads pool.now m depth levels base (longer p0 more.now) (state_view reader.new) rest.items × Stops pool.now m depth (longer p0 more.now) (state_view reader.new) rest.items) }
-    ensures waits { IfOk result (λ rest. Waits (state_view reader.new) rest.items) }
-    ensures refused { (m depth levels : ℕ) (base : List Record) (p0 : Place) → Reads pool.now m depth levels base p0 (state_view reader.old) held.items → IfErr result (λ e. IfFault e (Told pool.now m depth (longer p0 more.now))) }
+    requires reading { IsReading pool.now (state_view reading.old.reader) reading.old.held.items }
+    requires small { reading.old.reader.at + length reading.old.held.items + length more.now < 2 ^ 31 }
+    ensures at { OnOk result (reading.new.reader.at + length reading.new.held.items ≡ reading.old.reader.at + length reading.old.held.items + length more.now) }
+    ensures taken { (m depth levels : ℕ) (base : List Record) (p0 : Place) → Reads pool.now m depth levels base p0 (state_view reading.old.reader) reading.old.held.items → OnOk result (Reads pool.now m depth levels base (longer p0 more.now) (state_view reading.new.reader) reading.new.held.items × Stops pool.now m depth (longer p0 more.now) (state_view reading.new.reader) reading.new.held.items) }
+    ensures waits { OnOk result (Waits (state_view reading.new.reader) reading.new.held.items) }
+    ensures refused { (m depth levels : ℕ) (base : List Record) (p0 : Place) → Reads pool.now m depth levels base p0 (state_view reading.old.reader) reading.old.held.items → IfErr result (λ e. IfFault e (Told pool.now m depth (longer p0 more.now))) }
 {
-    let mut joined = held;
-    joined.extend_from_slice(more)?;
-    take_held(alloc, pool, reader, joined)
+    reading.held.extend_from_slice(more)?;
+    take_held(alloc, pool, reading)
 }
 
 /// How many more bytes to hold before what comes next is looked at again, at least one: all that are missing of a payload,
@@ -126,32 +122,27 @@ fn wanted(step: Step, count: usize) -> usize
 pub(crate) fn take_piece(
     alloc: Global,
     pool: &Pool,
-    reader: Reader,
-    held: Vec<u8>,
+    reading: &mut Reading,
     piece: &[u8],
-) -> Result<(Reader, Vec<u8>), DecodeError>
+) -> Result<(), DecodeError>
     requires rules { IsPool pool.now }
-    requires reading { IsReading pool.now (state_view reader) held.items }
-    requires small { reader.at + length held.items + length piece.now < 2 ^ 31 }
-    ensures at { IfOk result (λ r. (state_view r.0).at + length r.1.items ≡ reader.at + length held.items + length piece.now) }
-    ensures taken { (m depth levels : ℕ) (base : List Record) (p0 : Place) → Reads pool.now m depth levels base p0 (state_view reader) held.items → IfOk result (λ r. Reads pool.now m depth levels base (longer p0 piece.now) (state_view r.0) r.1.items × Stops pool.now m depth (longer p0 piece.now) (state_view r.0) r.1.items) }
-    ensures waits { IfOk result (λ r. Waits (state_view r.0) r.1.items) }
-    ensures refused { (m depth levels : ℕ) (base : List Record) (p0 : Place) → Reads pool.now m depth levels base p0 (state_view reader) held.items → IfErr result (λ e. IfFault e (Told pool.now m depth (longer p0 piece.now))) }
+    requires reading { IsReading pool.now (state_view reading.old.reader) reading.old.held.items }
+    requires small { reading.old.reader.at + length reading.old.held.items + length piece.now < 2 ^ 31 }
+    ensures at { OnOk result (reading.new.reader.at + length reading.new.held.items ≡ reading.old.reader.at + length reading.old.held.items + length piece.now) }
+    ensures taken { (m depth levels : ℕ) (base : List Record) (p0 : Place) → Reads pool.now m depth levels base p0 (state_view reading.old.reader) reading.old.held.items → OnOk result (Reads pool.now m depth levels base (longer p0 piece.now) (state_view reading.new.reader) reading.new.held.items × Stops pool.now m depth (longer p0 piece.now) (state_view reading.new.reader) reading.new.held.items) }
+    ensures waits { OnOk result (Waits (state_view reading.new.reader) reading.new.held.items) }
+    ensures refused { (m depth levels : ℕ) (base : List Record) (p0 : Place) → Reads pool.now m depth levels base p0 (state_view reading.old.reader) reading.old.held.items → IfErr result (λ e. IfFault e (Told pool.now m depth (longer p0 piece.now))) }
 {
-    let mut reader = reader;
-    let mut held = held;
     let mut here = 0;
-    while !held.is_empty() {
-        let more = wanted(reader.step, held.len()).min(piece.len() - here);
-        let rest = take_joined(alloc, pool, &mut reader, held, &piece[here..here + more])?;
-        held = rest;
+    while !reading.held.is_empty() {
+        let more = wanted(reading.reader.step, reading.held.len()).min(piece.len() - here);
+        take_joined(alloc, pool, reading, &piece[here..here + more])?;
         here += more;
         if here == piece.len() {
-            return Ok((reader, held));
+            return Ok(());
         }
     }
-    let left = take_front(alloc, pool, &mut reader, &piece[here..])?;
-    Ok((reader, left))
+    take_front(alloc, pool, reading, &piece[here..])
 }
 
 /// How many more bytes a text may have.
@@ -167,23 +158,22 @@ pub(crate) fn take_text(
     pool: &Pool,
     kind: MessageId,
     limits: Limits,
-    reading: Reading,
+    reading: &mut Reading,
     piece: &[u8],
-) -> Result<Reading, DecodeError>
+) -> Result<(), DecodeError>
     requires rules { IsPool pool.now }
-    requires took { TookSome pool.now kind.0 limits (state_view reading.reader) reading.held.items }
-    ensures after { (b : List ℕ) → Took pool.now kind.0 limits b (state_view reading.reader) reading.held.items → IfOk result (λ r. Took pool.now kind.0 limits (b ++ piece.now) (state_view r.reader) r.held.items) }
-    ensures waits { IfOk result (λ r. Waits (state_view r.reader) r.held.items) }
-    ensures fault { (b : List ℕ) → Took pool.now kind.0 limits b (state_view reading.reader) reading.held.items → IfErr result (λ e. IfFault e (IsSettled pool.now kind.0 limits (b ++ piece.now))) }
+    requires took { TookSome pool.now kind.0 limits (state_view reading.old.reader) reading.old.held.items }
+    ensures after { (b : List ℕ) → Took pool.now kind.0 limits b (state_view reading.old.reader) reading.old.held.items → OnOk result (Took pool.now kind.0 limits (b ++ piece.now) (state_view reading.new.reader) reading.new.held.items) }
+    ensures waits { OnOk result (Waits (state_view reading.new.reader) reading.new.held.items) }
+    ensures fault { (b : List ℕ) → Took pool.now kind.0 limits b (state_view reading.old.reader) reading.old.held.items → IfErr result (λ e. IfFault e (IsSettled pool.now kind.0 limits (b ++ piece.now))) }
 {
     let most = limits.max_bytes();
-    let room = room_for(most, &reading);
+    let room = room_for(most, reading);
     if piece.len() > room {
-        let _front = take_piece(alloc, pool, reading.reader, reading.held, &piece[..room])?;
+        take_piece(alloc, pool, reading, &piece[..room])?;
         return Err(too_large(alloc, most));
     }
-    let (reader, held) = take_piece(alloc, pool, reading.reader, reading.held, piece)?;
-    Ok(Reading { reader, held })
+    take_piece(alloc, pool, reading, piece)
 }
 
 /// Where no byte is taken yet.
@@ -245,25 +235,6 @@ pub(crate) fn end<'p>(
     finish_message(alloc, pool, kind, reading)
 }
 
-/// Decodes the bytes of a text.
-fn decode_text<'p>(
-    alloc: Global,
-    pool: &'p Pool,
-    kind: MessageId,
-    bytes: &[u8],
-    limits: Limits,
-) -> Result<DynamicMessage<'p>, DecodeError>
-    requires { kind.0 < length pool.now.messages }
-    ensures of_type { IfOk result (λ m. (m.pool ≡ pool.now) × (m.kind ≡ kind.0)) }
-    ensures value { IfOk result (λ m. Text pool.now kind.0 limits bytes.now m.body) }
-    ensures fault { IfErr result (λ e. IfFault e (HasFault (schema_of pool.now) (a_message kind.0) limits bytes.now)) }
-{
-    let _types = pool.messages();
-    let begun = start(alloc, pool, kind, limits);
-    let reading = take_text(alloc, pool, kind, limits, begun, bytes)?;
-    end(alloc, pool, kind, limits, reading)
-}
-
 /// Decodes a message of a type from the bytes of its text (encoding guide, "Message Structure").
 ///
 /// The answer is the message's value, or [`DecodeError::Fault`] with the first byte that no text of the type can have there.
@@ -283,5 +254,6 @@ pub fn decode<'p>(
     ensures refused { (f : Fault) → HasFault (schema_of pool.now) (a_message kind.0) limits bytes.now f → IsErrAnd result (λ e. IfFault e (λ g. g ≡ f)) }
     ensures one { Exactly ((v : Message) × Text pool.now kind.0 limits bytes.now v) (HasFault (schema_of pool.now) (a_message kind.0) limits bytes.now) }
 {
-    decode_text(alloc, pool, kind, bytes, limits)
+    let _types = pool.messages();
+    read_onto(alloc, pool, kind, empty_body(alloc), bytes, limits)
 }

@@ -1,5 +1,7 @@
 //! Decoding from pieces of a text.
 
+ghost use Rattle.std.specs.Prelude.{◌≡◌, None};
+
 use crate::error::DecodeError;
 use crate::push::{Reading, end, open_contexts, start, take_text};
 use pb_schema::{MessageId, Pool};
@@ -18,6 +20,13 @@ pub struct PushDecoder<'p> {
     kind: MessageId,
     limits: Limits,
     reading: Option<Reading>,
+}
+
+/// What was read is given up.
+fn close(reading: &mut Option<Reading>)
+    ensures { reading.new ≡ None }
+{
+    *reading = None;
 }
 
 impl<'p> Model for PushDecoder<'p> {
@@ -86,19 +95,23 @@ impl<'p> PushDecoder<'p> {
         ensures closes { OnErr result (self.new.reading ≡ None) }
         ensures finished { self.old.reading ≡ None → (result ≡ Err Finished) × (self.new ≡ self.old) }
     {
-        let Some(reading) = self.reading.take() else {
+        let Some(reading) = &mut self.reading else {
             return Err(DecodeError::Finished);
         };
-        let next = take_text(
+        match take_text(
             self.alloc,
             self.pool,
             self.kind,
             self.limits,
             reading,
             piece,
-        )?;
-        self.reading = Some(next);
-        Ok(())
+        ) {
+            Ok(()) => Ok(()),
+            Err(error) => {
+                close(&mut self.reading);
+                Err(error)
+            }
+        }
     }
 
     /// The message of all bytes received. Every later call answers [`DecodeError::Finished`].

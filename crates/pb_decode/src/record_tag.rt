@@ -8,7 +8,7 @@ use crate::front::front_number;
 use crate::tag::tag_parts;
 
 /// A whole tag.
-#[derive(Clone, Copy, PartialEq, Eq, Debug)]
+#[derive(Clone, Copy)]
 pub(crate) struct RecordTag {
     pub number: u32,
     pub wire_type: u8,

@@ -4,7 +4,7 @@ use crate::purpose::Purpose;
 use pb_schema::Kind;
 
 /// What comes next. A value and a length have the number of the tag before them, and what their record is for.
-#[derive(Clone, Copy, Debug, PartialEq, Eq)]
+#[derive(Clone, Copy)]
 pub(crate) enum Step {
     /// A tag, or the end of what is open.
     Tag,

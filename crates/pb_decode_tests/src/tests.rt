@@ -121,7 +121,7 @@ fn many_decoders(rt: HostRuntime) -> Result<(), Fail> {
     Ok(())
 }
 
-/// Each answer is that of ample memory or Memory where a growth is refused, which a run with `--fail-alloc` does.
+/// Each answer is that of ample memory or Memory where a growth is refused, which `.ci/growths` does.
 #[test]
 fn refused_growths(rt: HostRuntime) -> Result<(), Fail> {
     let wrong = wrong_row(rt.alloc(), "T", GROWTHS)?;

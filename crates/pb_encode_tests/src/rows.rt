@@ -191,7 +191,7 @@ fn are_growths_told(alloc: Global) -> Result<bool, Fail> {
     is_grown_in(alloc, &pool)
 }
 
-/// What the calls answer where a growth of memory is refused, which a run with `--fail-alloc` does.
+/// What the calls answer where a growth of memory is refused, which `.ci/growths` does.
 #[test]
 fn growths(rt: HostRuntime) -> Result<(), Fail> {
     let are_told = are_growths_told(rt.alloc())?;

@@ -1,7 +1,6 @@
 -- The element goes to the end of the list.
 use Rattle.std.proofs.Common.{subst, sym}
 use Rattle.pb_decode.specs.declared.step.Step.{Step}
-use Rattle.pb_decode.specs.declared.step.Step.TheVariants.{Elements}
 use Rattle.pb_decode.specs.PartView.{part_view, scope_view}
 use Rattle.pb_decode.specs.After.{After}
 use Rattle.pb_decode.specs.Reader.{state_view, frames_view, here}

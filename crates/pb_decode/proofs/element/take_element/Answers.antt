@@ -1,12 +1,9 @@
 -- What is told of the element is told of the text.
-use Rattle.std.proofs.Common.{◌≡◌, ◌⊎◌, ℕ, Option, Some, ◌∙◌, sym, ap, subst, arith}
+use Rattle.std.proofs.Common.{◌≡◌, ◌⊎◌, ℕ, Option, ◌∙◌, sym, ap, subst, arith}
 use Rattle.pb_wire.specs.Fault.{fault}
 use Rattle.pb_wire.specs.Token.{given_at, passed}
-use Rattle.pb_decode.specs.declared.number_token.NumberToken.{NumberToken}
 use Rattle.pb_decode.specs.declared.number_token.NumberToken.TheVariants as token
 use Rattle.pb_decode.specs.declared.step.Step.{Step}
-use Rattle.pb_decode.specs.declared.step.Step.TheVariants.{Elements}
-use Rattle.pb_schema.specs.Kinds.{wire_type_of}
 use Rattle.pb_decode.specs.Numbers.{TellsNumber}
 use Rattle.pb_decode.specs.After.{After}
 use Rattle.pb_decode.specs.Reader.{state_view, here, path_here, weight}

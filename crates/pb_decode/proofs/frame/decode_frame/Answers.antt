@@ -1,6 +1,5 @@
 -- What is right is answered, since there is one value or one fault.
-use Rattle.std.proofs.Common.{◌≡◌, List}
-use Rattle.pb_wire.specs.Fault.{Fault}
+use Rattle.std.proofs.Common.{◌≡◌}
 use Rattle.pb_value.specs.Data.{Message}
 use Rattle.pb_value.specs.Dynamic.{Dynamic}
 use Rattle.pb_decode.specs.Frame.{IsFrameOf, BadFrame}

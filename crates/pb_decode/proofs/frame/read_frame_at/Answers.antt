@@ -1,7 +1,6 @@
 -- The same bytes from `start` on.
-use Rattle.std.proofs.Common.{◌≡◌, List, sym, subst}
+use Rattle.std.proofs.Common.{sym, subst}
 use Rattle.std.specs.Prelude.{IfSome}
-use Rattle.pb_wire.specs.Fault.{Fault}
 use Rattle.pb_decode.specs.declared.error.DecodeError.{DecodeError}
 use Rattle.pb_decode.specs.FromDevice.{IfRefused}
 use Rattle.pb_decode.specs.Frame.{BadFrame}

@@ -1,6 +1,5 @@
 -- What is right is answered, since there is one value or one fault.
-use Rattle.std.proofs.Common.{◌≡◌, List}
-use Rattle.pb_wire.specs.Fault.{Fault}
+use Rattle.std.proofs.Common.{◌≡◌}
 use Rattle.pb_wire.specs.Grammar.{HasFault}
 use Rattle.pb_wire.proofs.ExactLemmas.{text_not_both, one_text_fault}
 use Rattle.pb_schema.specs.Context.{a_message, schema_of}

@@ -1,15 +1,12 @@
 -- What is right is answered, since there is one value or one fault; and onto a message means behind any bytes that it derives from.
-use Rattle.std.proofs.Common.{◌≡◌, ◌≤◌, ℕ, List, ◌++◌, rules, subst, sym, arith}
+use Rattle.std.proofs.Common.{◌≡◌, ◌++◌, rules, subst}
 use Rattle.std.proofs.lemmas.List.Elements.{All-from_get_or}
-use Rattle.pb_wire.specs.Fault.{Fault}
 use Rattle.pb_wire.specs.Grammar.{HasFault}
 use Rattle.pb_wire.specs.Limits.{full}
 use Rattle.pb_wire.specs.Ranges.{IsByte}
-use Rattle.pb_schema.specs.Types.{Types}
 use Rattle.pb_schema.specs.Rules.{IsPool}
 use Rattle.pb_schema.specs.Context.{a_message, schema_of}
 use Rattle.pb_value.specs.Canon.{canon_bytes}
-use Rattle.pb_value.specs.Data.{Message}
 use Rattle.pb_value.specs.Derives.{Derives, Text}
 use Rattle.pb_value.specs.Dynamic.{Dynamic}
 use Rattle.pb_decode.specs.Onto.{IsTextOnto}

@@ -1,13 +1,19 @@
 -- Nothing is open but the message, which ends here, or the input ends too early.
-use Rattle.std.proofs.Common.{◌≡◌, ◌+◌, length, refl, sym, ap, subst}
+use Rattle.std.proofs.Common.{◌≡◌, ℕ, ◌+◌, length, refl, sym, subst}
+use Rattle.std.proofs.lemmas.Result.{IfErr-weaker}
 use Rattle.pb_wire.specs.Fault.{fault}
 use Rattle.pb_wire.specs.declared.fault.Cause.TheVariants.{Truncated}
+use Rattle.pb_value.specs.declared.body.Body.{Body}
+use Rattle.pb_value.specs.Data.{Message}
 use Rattle.pb_value.specs.View.{body_view}
+use Rattle.pb_value.specs.WellFormed.{IsWellFormed}
+use Rattle.pb_decode.specs.declared.error.DecodeError.{DecodeError}
 use Rattle.pb_decode.specs.Frames.{message_part}
 use Rattle.pb_decode.specs.PartView.{part_view}
-use Rattle.pb_decode.specs.Reader.{state_view, path_here}
-use Rattle.pb_decode.specs.Origin.{BadFrom}
+use Rattle.pb_decode.specs.Reader.{state_view, path_here, IfFault}
+use Rattle.pb_decode.specs.Origin.{BadFrom, IsWhole}
 use Rattle.pb_decode.proofs.ReaderLemmas.{if_fault_weaker}
+use Rattle.pb_decode.proofs.Outcomes.{ok_weaker}
 use Rattle.pb_decode.proofs.OriginLemmas.{is_message, whole_there, well_formed_over, cut_over}
 use Rattle.pb_decode.proofs.origin.whole_body.Goals as goal
 
@@ -18,28 +24,21 @@ returns-then-not-is_over-clause-fault c =
     (λ f is. subst (BadFrom c.args.pool.now o) (sym is) (cut_over o (state_view c.args.reading.reader) c.args.reading.held.items (c.if-not-is_over.ensures.goes_on refl) took))
     c.cut_short.ensures
 
-pub returns-in-Message-clause-well_formed : goal.returns-in-Message-clause-well_formed
-returns-in-Message-clause-well_formed c =
+pub returns-clause-well_formed : goal.returns-clause-well_formed
+returns-clause-well_formed c =
     λ o took.
-    well_formed_over o (state_view c.args.reading.reader) c.args.reading.held.items c.in-Message.field-0.0 (body_view c.in-Message.body) c.requires.rules (c.if-not-is_over.ensures.over refl) (ap part_view c.in-Message.is) took
+    ok_weaker c.body_of.result (λ (v : Body). (k : ℕ) × (part_view c.args.reading.reader.part ≡ message_part k (body_view v))) (λ (v : Body). IsWellFormed c.args.pool.now o.kind (body_view v))
+    (λ v is. well_formed_over o (state_view c.args.reading.reader) c.args.reading.held.items is.0 (body_view v) c.requires.rules (c.if-not-is_over.ensures.over refl) is.1 took) c.body_of.ensures.message
 
-pub returns-in-Message-clause-whole : goal.returns-in-Message-clause-whole
-returns-in-Message-clause-whole c =
+pub returns-clause-whole : goal.returns-clause-whole
+returns-clause-whole c =
     λ o took.
-    whole_there o (state_view c.args.reading.reader) c.args.reading.held.items c.in-Message.field-0.0 (body_view c.in-Message.body) (c.if-not-is_over.ensures.over refl) (ap part_view c.in-Message.is) took
-
-pub returns-in-Entry-clause-fault : goal.returns-in-Entry-clause-fault
-returns-in-Entry-clause-fault c =
-    λ o took.
-    let top = is_message o (state_view c.args.reading.reader) c.args.reading.held.items (c.if-not-is_over.ensures.over refl) took in
-    let form : part_view c.args.reading.reader.part ≡ message_part o.kind top.0 = top.1 in
-    let is = ap part_view c.in-Entry.is in
-    absurd (cc)
+    ok_weaker c.body_of.result (λ (v : Body). (k : ℕ) × (part_view c.args.reading.reader.part ≡ message_part k (body_view v))) (λ (v : Body). IsWhole c.args.pool.now o (body_view v))
+    (λ v is. whole_there o (state_view c.args.reading.reader) c.args.reading.held.items is.0 (body_view v) (c.if-not-is_over.ensures.over refl) is.1 took) c.body_of.ensures.message
 
 pub returns-clause-fault : goal.returns-clause-fault
 returns-clause-fault c =
     λ o took.
     let top = is_message o (state_view c.args.reading.reader) c.args.reading.held.items (c.if-not-is_over.ensures.over refl) took in
-    let form : part_view c.args.reading.reader.part ≡ message_part o.kind top.0 = top.1 in
-    let is = ap part_view c.in-Group.is in
-    absurd (cc)
+    IfErr-weaker c.body_of.result (λ (e : DecodeError). (k : ℕ) (v : Message) → part_view c.args.reading.reader.part ≡ message_part k v → ⊥) (λ (e : DecodeError). IfFault e (BadFrom c.args.pool.now o))
+    (λ e never. absurd (never o.kind top.0 top.1)) c.body_of.ensures.other

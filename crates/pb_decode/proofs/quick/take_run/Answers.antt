@@ -1,5 +1,5 @@
 -- The elements go to the end of the list.
-use Rattle.std.proofs.Common.{◌≡◌, ◌+◌, ℕ, Option, refl, sym, map, subst, arith}
+use Rattle.std.proofs.Common.{◌+◌, ℕ, Option, refl, sym, map, subst}
 use Rattle.pb_wire.specs.Token.{given_at, passed}
 use Rattle.pb_value.specs.View.{value_view}
 use Rattle.pb_decode.specs.declared.step.Step.{Step}

@@ -1,5 +1,5 @@
 -- Behind the length what the record opens is open.
-use Rattle.std.proofs.Common.{ℕ, ◌+◌, refl, subst, arith}
+use Rattle.std.proofs.Common.{ℕ, refl, subst}
 use Rattle.pb_wire.specs.Fault.{HasTag}
 use Rattle.pb_wire.specs.Token.{passed}
 use Rattle.pb_decode.specs.Reader.{state_view, here}

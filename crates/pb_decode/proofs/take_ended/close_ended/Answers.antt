@@ -1,6 +1,6 @@
 -- Part by part the reader has read what it had.
 use Rattle.std.proofs.Common.{arith}
-use Rattle.pb_decode.specs.Reader.{state_view, here, path_here}
+use Rattle.pb_decode.specs.Reader.{state_view, path_here}
 use Rattle.pb_wire.specs.Fault.{fault}
 use Rattle.pb_wire.specs.declared.fault.Cause.TheVariants.{PastEnd}
 use Rattle.pb_decode.proofs.ReaderLemmas.{fault_told}

@@ -1,6 +1,5 @@
 -- Where the innermost part ends the reader stands in the part that holds it.
 use Rattle.std.proofs.Common.{◌∷◌, refl, sym, ap, ◌∙◌, arith, option_map}
-use Rattle.pb_wire.specs.Unknown.{records_of}
 use Rattle.pb_value.specs.View.{body_view, key_view, value_view}
 use Rattle.pb_decode.specs.Frames.{frame_of, message_part, entry_part}
 use Rattle.pb_decode.specs.PartView.{part_view, scope_view}

@@ -2,7 +2,6 @@
 use Rattle.std.proofs.Common.{◌≡◌}
 use Rattle.pb_wire.specs.Grammar.{HasFault}
 use Rattle.pb_schema.specs.Context.{a_message, schema_of}
-use Rattle.pb_value.specs.Dynamic.{Dynamic}
 use Rattle.pb_value.specs.Derives.{Text}
 use Rattle.pb_decode.specs.Reader.{state_view}
 use Rattle.pb_decode.proofs.DecodeLemmas.{exactly_value, same_value, accepted_from, refused_from}

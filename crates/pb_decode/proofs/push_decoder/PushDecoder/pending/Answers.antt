@@ -1,5 +1,5 @@
 -- What is held is told, and nothing else is; it is little.
-use Rattle.std.proofs.Common.{◌≡◌, length, sym, arith}
+use Rattle.std.proofs.Common.{sym, arith}
 use Rattle.pb_decode.proofs.DecoderLemmas.{pending_is, pending_one, pending_few}
 use Rattle.pb_decode.proofs.push_decoder.PushDecoder.pending.Goals as goal
 
