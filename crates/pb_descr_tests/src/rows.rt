@@ -61,13 +61,14 @@ fn is_written(alloc: Global, row: &str) -> Result<bool, Fail> {
     Ok(bytes == hex::decode(alloc, written)? && read_set(alloc, &bytes)? == files)
 }
 
-/// Whether a row's set is refused as the row says.
-fn is_refused(alloc: Global, row: &str) -> Result<bool, Fail> {
+/// Whether a row's set is refused as the row says, or for want of memory where that may be.
+fn is_refused(alloc: Global, row: &str, memory: bool) -> Result<bool, Fail> {
     let (set, told) = row.split_once(" | ").ok_or("no bytes")?;
     let (index, name) = told.split_once(' ').ok_or("no cause")?;
     let index = index.parse::<usize>()?;
     Ok(match read_set(alloc, &hex::decode(alloc, set)?) {
         Err(DescrError::Decl { file, cause }) => file == index && cause.name() == name,
+        Err(DescrError::Memory) => memory,
         _ => false,
     })
 }
@@ -83,7 +84,10 @@ fn sets(rt: HostRuntime) -> Result<(), Fail> {
 #[test]
 fn refused(rt: HostRuntime) -> Result<(), Fail> {
     for row in REFUSED.lines() {
-        assert!(rt; row.is_empty() || is_refused(rt.alloc(), row)?, "{row}");
+        assert!(rt;
+            row.is_empty() || is_refused(rt.alloc(), row, false)?,
+            "{row}"
+        );
     }
     Ok(())
 }
@@ -127,12 +131,23 @@ fn is_kept_or_memory(alloc: Global, set: &[u8]) -> bool {
     }
 }
 
-/// What the calls answer where a growth of memory is refused, which a run with `--fail-alloc` does.
+fn is_right(alloc: Global, row: &str) -> Result<bool, Fail> {
+    let (_, written) = row.split_once(" | ").ok_or("no bytes")?;
+    let set = hex::decode(alloc, written)?;
+    Ok(is_kept_or_memory(alloc, &set))
+}
+
+/// What the calls answer where a growth of memory is refused, which `.ci/growths` does.
 #[test]
 fn growths(rt: HostRuntime) -> Result<(), Fail> {
-    let row = SETS.lines().nth(2).ok_or("no row")?;
-    let (set, _written) = row.split_once(" | ").ok_or("no bytes")?;
-    let set = hex::decode(rt.alloc(), set)?;
-    assert!(rt; is_kept_or_memory(rt.alloc(), &set));
+    for row in SETS.lines() {
+        assert!(rt; row.is_empty() || is_right(rt.alloc(), row)?, "{row}");
+    }
+    for row in REFUSED.lines() {
+        assert!(rt;
+            row.is_empty() || is_refused(rt.alloc(), row, true)?,
+            "{row}"
+        );
+    }
     Ok(())
 }

@@ -295,3 +295,10 @@ module _ (ts : Types) (pool : IsPool ts) (m : ℕ × MessageView) (there : Stand
           both_true (list_any (is_member_of o) (declared_head ts m.0 m.1).fields) (is_synthetic (declared_head ts m.0 m.1) o || not (list_any (λ e. is_synthetic (declared_head ts m.0 m.1) e.0) (take o (enumerate_from 0 (declared_head ts m.0 m.1).oneofs))))
           (synthetic_member o (declared_head ts m.0 m.1).fields is)
           (or_first (is_synthetic (declared_head ts m.0 m.1) o) (not (list_any (λ e. is_synthetic (declared_head ts m.0 m.1) e.0) (take o (enumerate_from 0 (declared_head ts m.0 m.1).oneofs)))) is)
+
+  -- a oneof of the message is not synthetic, and each behind those is
+  pub real_oneof : (o : ℕ) → o < length m.1.oneofs → is_synthetic (declared_head ts m.0 m.1) o ≡ false
+  real_oneof o real = real_apart ts Scope o Real m.1.fields real
+
+  pub made_oneof : (o : ℕ) → length m.1.oneofs ≤ o → o < length (declared_head ts m.0 m.1).oneofs → is_synthetic (declared_head ts m.0 m.1) o ≡ true
+  made_oneof o made within = let size = many in made_there ts Scope Real m.1.fields o made (omega (arith, size, within))

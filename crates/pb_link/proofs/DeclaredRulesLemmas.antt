@@ -14,12 +14,11 @@ use Rattle.pb_schema.specs.Names.{AllDiffer, message_names, name_at}
 use Rattle.pb_schema.specs.Types.{FieldView, MessageView, EnumView, Types}
 use Rattle.pb_schema.specs.Rules.{IsPool, IsFieldNumber, BeginsAtZero}
 use Rattle.pb_descr.specs.Decls.{DeclaredField}
-use Rattle.pb_link.specs.declared.cause.LinkCause.TheVariants as cause
 use Rattle.pb_link.specs.Declarations.{Item, a_field, Declaration, head_of}
 use Rattle.pb_link.specs.Rules.{World, is_field_number, oneof_of_field_is_right, is_packable_code, begins_at_zero}
 use Rattle.pb_link.specs.Link.{IsWorldOf}
 use Rattle.pb_link.specs.ToDecls.{is_repeated_shape, code_of_field, packed_of_field, declared_field, declared_fields, is_optional_view, shares_numbers, declared_enum, declared_head, entry_message, decls_of}
-use Rattle.pb_link.specs.OwnRules.{MeetsOwnRules}
+use Rattle.pb_link.proofs.OwnRules.{MeetsOwnRules}
 use Rattle.pb_link.proofs.FlatLemmas.{Stands}
 use Rattle.pb_link.proofs.WholeLemmas.{all_at}
 use Rattle.pb_link.proofs.DeclaredOneofLemmas.{field_oneof, oneof_right}

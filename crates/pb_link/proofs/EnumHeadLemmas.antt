@@ -12,11 +12,11 @@ use Rattle.pb_link.specs.ToDecls.{is_parent, is_outermost, messages_in, enums_in
 use Rattle.pb_link.specs.Heads.{enums_in as enums_declared_in, enums_among, declared_enums}
 use Rattle.pb_link.proofs.EnumWholeLemmas.{own_enums, outer_enums, enums_under, file_enums, in_files, whole_enums}
 
-abbrev declared_one : ℕ × EnumView → DeclaredEnum
+abbrev pub declared_one : ℕ × EnumView → DeclaredEnum
 declared_one e = declared_enum e.1
 
 -- without their indexes
-unnumbered : (t : EnumView → Bool) (k : ℕ) (es : List EnumView) → map declared_one (filter (λ e. t e.1) (enumerate_from k es)) ≡ map declared_enum (filter t es)
+pub unnumbered : (t : EnumView → Bool) (k : ℕ) (es : List EnumView) → map declared_one (filter (λ e. t e.1) (enumerate_from k es)) ≡ map declared_enum (filter t es)
 unnumbered t k [] = refl
 unnumbered t k (e ∷ es) = by (t e) (unnumbered t (k + 1) es)
   where
@@ -28,12 +28,12 @@ all_unnumbered : (k : ℕ) (es : List EnumView) → map declared_one (enumerate_
 all_unnumbered k [] = refl
 all_unnumbered k (e ∷ es) = ap (λ l. declared_enum e ∷ l) (all_unnumbered (k + 1) es)
 
-among_append : (xs ys : List DeclaredMessage) → enums_among (messages_of (xs ++ ys)) ≡ enums_among (messages_of xs) ++ enums_among (messages_of ys)
+pub among_append : (xs ys : List DeclaredMessage) → enums_among (messages_of (xs ++ ys)) ≡ enums_among (messages_of xs) ++ enums_among (messages_of ys)
 among_append [] ys = refl
 among_append (x ∷ xs) ys = ap (λ l. enums_declared_in x ++ l) (among_append xs ys) ∙ sym (append_assoc (enums_declared_in x) (enums_among (messages_of xs)) (enums_among (messages_of ys)))
 
 -- entry messages declare none
-no_enums : (ts : Types) (fs : List FieldView) → enums_among (messages_of (filter_map (entry_of_field ts) fs)) ≡ []
+pub no_enums : (ts : Types) (fs : List FieldView) → enums_among (messages_of (filter_map (entry_of_field ts) fs)) ≡ []
 no_enums ts [] = refl
 no_enums ts (f ∷ fs) = by f.shape (no_enums ts fs)
   where
@@ -44,7 +44,7 @@ no_enums ts (f ∷ fs) = by f.shape (no_enums ts fs)
     by (shape.OneofMember o) rest = rest
     by (shape.List packed) rest = rest
 
-among_map : (g : ℕ × MessageView → DeclaredMessage) (h : ℕ × MessageView → List (ℕ × EnumView)) (ms : List (ℕ × MessageView)) → ((m : ℕ × MessageView) → enums_declared_in (g m) ≡ map declared_one (h m)) → enums_among (messages_of (map g ms)) ≡ map declared_one (flat_map h ms)
+pub among_map : (g : ℕ × MessageView → DeclaredMessage) (h : ℕ × MessageView → List (ℕ × EnumView)) (ms : List (ℕ × MessageView)) → ((m : ℕ × MessageView) → enums_declared_in (g m) ≡ map declared_one (h m)) → enums_among (messages_of (map g ms)) ≡ map declared_one (flat_map h ms)
 among_map g h [] each = refl
 among_map g h (m ∷ ms) each =
     ap (λ l. l ++ enums_among (messages_of (map g ms))) (each m) ∙ ap (λ l. map declared_one (h m) ++ l) (among_map g h ms each) ∙ sym (map-append declared_one (h m) (flat_map h ms))
@@ -52,7 +52,7 @@ among_map g h (m ∷ ms) each =
 own_declared : (ts : Types) (i : ℕ) → map declared_enum (enums_in ts i) ≡ map declared_one (own_enums ts i)
 own_declared ts i = sym (unnumbered (λ e. is_parent i e.parent) 0 ts.enums)
 
-declared_under : (ts : Types) (levels : ℕ) (m : ℕ × MessageView) → enums_declared_in (declared_message levels ts m) ≡ map declared_one (enums_under ts levels m)
+pub declared_under : (ts : Types) (levels : ℕ) (m : ℕ × MessageView) → enums_declared_in (declared_message levels ts m) ≡ map declared_one (enums_under ts levels m)
 declared_under ts zero m = own_declared ts m.0
 declared_under ts (suc levels) m =
     let nested = map (declared_message levels ts) (messages_in ts m.0) in
@@ -65,7 +65,7 @@ declared_under ts (suc levels) m =
     ∙ ap (λ l. map declared_one (flat_map (enums_under ts levels) (messages_in ts m.0)) ++ l) (own_declared ts m.0)
     ∙ sym (map-append declared_one (flat_map (enums_under ts levels) (messages_in ts m.0)) (own_enums ts m.0))
 
-file_declared : (ts : Types) (pool : IsPool ts) (i : ℕ) → enums_among (messages_of (map (declared_message (length ts.messages) ts) (outermost_messages ts i))) ++ map declared_enum (outermost_enums ts i) ≡ map declared_one (file_enums ts pool i)
+pub file_declared : (ts : Types) (pool : IsPool ts) (i : ℕ) → enums_among (messages_of (map (declared_message (length ts.messages) ts) (outermost_messages ts i))) ++ map declared_enum (outermost_enums ts i) ≡ map declared_one (file_enums ts pool i)
 file_declared ts pool i =
     let n = length ts.messages in
     ap (λ l. l ++ map declared_enum (outermost_enums ts i)) (among_map (declared_message n ts) (enums_under ts n) (outermost_messages ts i) (declared_under ts n))

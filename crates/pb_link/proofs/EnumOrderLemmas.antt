@@ -1,12 +1,12 @@
 -- The order of enums is one order: of two enums, one stands before the other, through all between.
-use Rattle.std.proofs.Common.{◌≡◌, ◌≢◌, ℕ, zero, suc, ◌+◌, ◌<◌, ◌≤◌, ◌⊎◌, inl, inr, List, [], ◌∷◌, refl, sym, ap, ◌∙◌, subst, arith, Option, Some, None}
+use Rattle.std.proofs.Common.{◌≡◌, ◌≢◌, ℕ, zero, suc, ◌<◌, ◌≤◌, ◌⊎◌, inl, inr, List, [], ◌∷◌, sym, ◌∙◌, subst, arith, Option, Some, None}
 use Rattle.std.specs.Prelude.{slice_get}
 use Rattle.std.specs.List.{AllByRecursion}
 use Rattle.std.proofs.lemmas.Bool.{cases_eq, cases_lt}
 use Rattle.std.proofs.lemmas.Option.{none-some}
-use Rattle.pb_schema.specs.Types.{MessageView, EnumView, Types}
-use Rattle.pb_schema.specs.Nesting.{parent_of, IsWithin, itself, deeper}
-use Rattle.pb_schema.specs.Rules.{FollowsParent, InOrder, EndsNoLater, StandsBefore, EnumsStandInOrder}
+use Rattle.pb_schema.specs.Types.{MessageView, EnumView}
+use Rattle.pb_schema.specs.Nesting.{parent_of, IsWithin}
+use Rattle.pb_schema.specs.Rules.{FollowsParent, EndsNoLater, StandsBefore, EnumsStandInOrder}
 use Rattle.pb_link.proofs.ForestLemmas.{within_trans, within_least, between, all_each}
 
 module _ (ms : List MessageView) (follow : (i : ℕ) → FollowsParent ms i) (before : (m p : ℕ) → parent_of ms m ≡ Some p → p < m) where

@@ -41,7 +41,7 @@ Index e = e.0
 abbrev Is : Types → ℕ × EnumView → Type 0
 Is ts e = slice_get ts.enums e.0 ≡ Some e.1
 
-each_is : (ts : Types) → AllByRecursion (Is ts) (numbered_enums ts)
+pub each_is : (ts : Types) → AllByRecursion (Is ts) (numbered_enums ts)
 each_is ts = all_numbered ts.enums 0 ts.enums (λ j. let e : j ≡ 0 + j = omega arith in ap (slice_get ts.enums) e)
 
 in_numbered_enums : (ts : Types) (e : ℕ × EnumView) → Is ts e → In e (numbered_enums ts)
@@ -86,7 +86,7 @@ module _ (ts : Types) (pool : IsPool ts) where
       never (inl files) = let a = first.in_file in let b = second.in_file in omega (arith, files, a, b)
       never (inr h) = ends (ends_at y.1.parent x.1.parent second.owner first.owner second.is first.is h.1)
 
-  abbrev Own : ℕ × MessageView → ℕ × EnumView → Type 0
+  abbrev pub Own : ℕ × MessageView → ℕ × EnumView → Type 0
   Own m e = Is ts e × (e.1.file ≡ m.1.file) × (e.1.parent ≡ Some m.0)
 
   -- a message's own enums stand behind those in the messages in it
@@ -117,7 +117,7 @@ module _ (ts : Types) (pool : IsPool ts) where
       let here : IsInFileOfParent ts.messages e.1.file e.1.parent = all_at (λ x. IsInFileOfParent ts.messages x.file x.parent) ts.enums e.0 e.1 pool.indexes.enum_parents at_e in
       sym (subst (λ o. IsSomeAnd o (λ t. t.file ≡ e.1.file)) there (subst (λ o. IsInFileOfParent ts.messages e.1.file o) own here))
 
-  own_held : (m : ℕ × MessageView) → Stands ts m → AllByRecursion (Own m) (own_enums ts m.0)
+  pub own_held : (m : ℕ × MessageView) → Stands ts m → AllByRecursion (Own m) (own_enums ts m.0)
   own_held m there = all_each (λ e. Is ts e × (is_parent m.0 e.1.parent ≡ true)) (Own m) (own_enums ts m.0)
       (λ e h. let own = parent_is m.0 e.1.parent h.1 in (h.0, own_file m e there h.0 own, own))
       (all_filtered (Is ts) (λ e. is_parent m.0 e.1.parent) (numbered_enums ts) (each_is ts))
@@ -197,10 +197,10 @@ module _ (ts : Types) (pool : IsPool ts) where
   abbrev pub file_enums : ℕ → List (ℕ × EnumView)
   file_enums i = flat_map (enums_under ts (length ts.messages)) (outermost_messages ts i) ++ outer_enums ts i
 
-  abbrev Outer : ℕ → ℕ × EnumView → Type 0
+  abbrev pub Outer : ℕ → ℕ × EnumView → Type 0
   Outer i e = Is ts e × (e.1.file ≡ i) × (e.1.parent ≡ None)
 
-  outer : (i : ℕ) → AllByRecursion (Outer i) (outer_enums ts i)
+  pub outer : (i : ℕ) → AllByRecursion (Outer i) (outer_enums ts i)
   outer i = all_each (λ e. Is ts e × (((i == e.1.file) && is_outermost e.1.parent) ≡ true)) (Outer i) (outer_enums ts i)
       (λ e h. (h.0, sym ((Decides-eqb i e.1.file).0 (and_left (i == e.1.file) (is_outermost e.1.parent) h.1)), outermost_is e.1.parent (and_right (i == e.1.file) (is_outermost e.1.parent) h.1)))
       (all_filtered (Is ts) (λ e. (i == e.1.file) && is_outermost e.1.parent) (numbered_enums ts) (each_is ts))

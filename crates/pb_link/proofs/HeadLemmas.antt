@@ -31,12 +31,12 @@ no_heads ts (f ∷ fs) = by f.shape (no_heads ts fs)
     by (shape.OneofMember o) rest = rest
     by (shape.List packed) rest = rest
 
-among_map : (ts : Types) (g : ℕ × MessageView → DeclaredMessage) (h : ℕ × MessageView → List (ℕ × MessageView)) (ms : List (ℕ × MessageView)) → ((m : ℕ × MessageView) → heads_in (g m) ≡ map (head_of ts) (h m)) → heads_among (messages_of (map g ms)) ≡ map (head_of ts) (flat_map h ms)
+pub among_map : (ts : Types) (g : ℕ × MessageView → DeclaredMessage) (h : ℕ × MessageView → List (ℕ × MessageView)) (ms : List (ℕ × MessageView)) → ((m : ℕ × MessageView) → heads_in (g m) ≡ map (head_of ts) (h m)) → heads_among (messages_of (map g ms)) ≡ map (head_of ts) (flat_map h ms)
 among_map ts g h [] each = refl
 among_map ts g h (m ∷ ms) each =
     ap (λ l. l ++ heads_among (messages_of (map g ms))) (each m) ∙ ap (λ l. map (head_of ts) (h m) ++ l) (among_map ts g h ms each) ∙ sym (map-append (head_of ts) (h m) (flat_map h ms))
 
-heads_under : (ts : Types) (levels : ℕ) (m : ℕ × MessageView) → heads_in (declared_message levels ts m) ≡ map (head_of ts) (under ts levels m)
+pub heads_under : (ts : Types) (levels : ℕ) (m : ℕ × MessageView) → heads_in (declared_message levels ts m) ≡ map (head_of ts) (under ts levels m)
 heads_under ts zero m = refl
 heads_under ts (suc levels) m =
     ap (λ l. head_of ts m ∷ l)

@@ -20,7 +20,7 @@ use Rattle.pb_link.specs.Linking.{Links, LinkFault, IsUnlinked, TellsLinkFault}
 use Rattle.pb_link.specs.PoolOf.{pool_of}
 use Rattle.pb_link.specs.View.{declaration_view}
 use Rattle.pb_link.proofs.ExactLemmas.{one_world, first-told}
-use Rattle.pb_link.proofs.FirstLemmas.{first_fault-first, first_fault-none}
+use Rattle.pb_link.proofs.FirstLemmas.{first_fault-first}
 use Rattle.pb_link.proofs.IndexLemmas.{has_file}
 
 some_same : {A : Type 0} (a b : A) → Some a ≡ Some b → a ≡ b

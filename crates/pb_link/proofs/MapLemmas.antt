@@ -24,7 +24,8 @@ use Rattle.pb_link.specs.Rules.{World, lookups, lookups_if, lookup_at, passes, i
 use Rattle.pb_link.specs.Link.{holds, IsWorldOf}
 use Rattle.pb_link.specs.View.{type_names_view}
 use Rattle.pb_link.specs.Maps.{are_right_parts, right_parts, is_right_entry, are_plain, names_of_place, entry_rule, map_rule}
-use Rattle.pb_link.proofs.ViewLemmas.{message_view-out, inner_of-view, fields_of-view, enums_of-view, oneofs_of-view}
+use Rattle.pb_link.proofs.ViewLemmas.{inner_of-view, fields_of-view, enums_of-view, oneofs_of-view}
+use Rattle.pb_descr.proofs.ViewLemmas.{message_view-parts}
 use Rattle.pb_link.proofs.TypeLemmas.{field_there}
 use Rattle.pb_link.proofs.RowLemmas.{grown}
 use Rattle.pb_link.proofs.UseLemmas.{told_at}
@@ -100,7 +101,7 @@ plain_here w ds names at b is all same = of_world ds (λ v. b ≡ are_plain v na
 pub entry_right : (w : World) (all : List TypeNames) (place : ℕ) (m : MessageDecl) (fields : List FieldDecl) (is_used parts bare b : Bool) → fields ≡ (out-MessageDecl m).fields.items → parts ≡ right_parts (map field_view fields) (are_plain w (names_of_place all (place + 1))) (are_plain w (names_of_place all (place + 2))) → bare ≡ has_nothing_inside (head_of (message_view m)) (inner_of (message_view m)) → b ≡ is_right_entry (out-MessageDecl m).map_entry is_used parts bare → b ≡ entry_rule w all place (message_view m) is_used
 entry_right w all place m fields is_used parts bare b fields_is parts_is bare_is is =
     let head : MessageHead = head_of (message_view m) in
-    let flagged : (out-MessageDecl m).map_entry ≡ head.is_entry = ap (λ t. (head_of t).is_entry) (sym (message_view-out m)) in
+    let flagged : (out-MessageDecl m).map_entry ≡ head.is_entry = ap (λ t. (head_of t).is_entry) (sym (message_view-parts m)) in
     let first = are_plain w (names_of_place all (place + 1)) in
     let second = are_plain w (names_of_place all (place + 2)) in
     is ∙ ap (λ x. is_right_entry x is_used parts bare) flagged

@@ -1,5 +1,5 @@
 -- Marks, by the index of what they speak of.
-use Rattle.std.proofs.Common.{◌≡◌, ℕ, ℤ, ◌+◌, ◌<◌, ◌≤◌, List, [], ◌∷◌, ◌++◌, length, map, take, get_or, Bool, true, false, not, ◌||◌, refl, sym, ap, ◌∙◌, subst, zero-add}
+use Rattle.std.proofs.Common.{◌≡◌, ℕ, ℤ, ◌+◌, ◌<◌, ◌≤◌, List, [], ◌∷◌, ◌++◌, length, map, take, get_or, Bool, true, false, ◌||◌, refl, sym, ap, ◌∙◌, subst, zero-add}
 use Rattle.std.specs.Prelude.{cond}
 use Rattle.std.specs.Ordering.{int_eq}
 use Rattle.std.specs.List.{enumerate_from}
@@ -8,8 +8,8 @@ use Rattle.std.proofs.lemmas.List.Folds.{list_any_more}
 use Rattle.std.proofs.lemmas.Cmp.{int_eq_equiv}
 use Rattle.std.specs.List.{list_any}
 use Rattle.pb_link.specs.declared.marks.Marks.{Marks}
-use Rattle.pb_descr.specs.Decls.{DeclaredMessage, message, MessageHead}
-use Rattle.pb_link.specs.Declarations.{head_of, item_of_message}
+use Rattle.pb_descr.specs.Decls.{DeclaredMessage, message}
+use Rattle.pb_link.specs.Declarations.{item_of_message}
 use Rattle.pb_link.specs.Marks.{marks_of}
 use Rattle.pb_link.specs.Rules.{ranges_are_right}
 use Rattle.std.proofs.lemmas.List.FromFn.{length-enumerate_from, get_or-enumerate_from}

@@ -1,20 +1,17 @@
 -- Counted members, and what the rules of oneofs make of them.
-use Rattle.std.proofs.Common.{◌≡◌, ◌≢◌, ℕ, zero, suc, ℤ, pos, negsuc, ◌+◌, ◌<◌, ◌≤◌, List, [], ◌∷◌, ◌++◌, length, map, take, get_or, Bool, true, false, not, ◌&&◌, ◌||◌, ◌==◌, nat_lt, Option, Some, None, refl, sym, ap, ◌∙◌, subst, arith, rules}
+use Rattle.std.proofs.Common.{◌≡◌, ℕ, ℤ, pos, negsuc, ◌+◌, ◌<◌, ◌≤◌, List, [], ◌∷◌, ◌++◌, length, map, take, get_or, Bool, true, false, not, ◌&&◌, ◌||◌, ◌==◌, nat_lt, Option, Some, None, refl, sym, ap, ◌∙◌, subst, arith, rules}
 use Rattle.std.specs.Prelude.{if◌then◌else◌}
 use Rattle.std.specs.List.{list_any, enumerate_from}
-use Rattle.std.specs.Ordering.{int_eq}
-use Rattle.std.specs.Option.{option_map_or}
 use Rattle.pb_descr.specs.Decls.{DeclaredField, MessageHead}
 use Rattle.std.proofs.lemmas.Bool.{ltb-true, ltb-false, eqb-true, eqb-false}
 use Rattle.std.proofs.lemmas.List.{length-set, get_or-set_same, get_or-set_other, get_or-replicate, length-replicate, map_more, length-map, length-take, get_or_default}
 use Rattle.std.proofs.lemmas.List.Folds.{list_any-append}
-use Rattle.std.proofs.lemmas.Bool.Decides.{nat_tests}
 use Rattle.std.specs.Prelude.{slice_set, replicate}
 use Rattle.std.specs.List.{slice_index_or}
 use Rattle.pb_link.specs.Declarations.{a_oneof, is_oneof_index, is_member_of, is_synthetic}
 use Rattle.pb_link.specs.Marks.{marks_of}
 use Rattle.pb_link.proofs.MarkLemmas.{mark_of}
-use Rattle.pb_link.specs.Rules.{how_many, same_oneof, members_with, oneof_of_field_is_right, oneof_is_right}
+use Rattle.pb_link.specs.Rules.{how_many, same_oneof, oneof_of_field_is_right, oneof_is_right}
 use Rattle.pb_link.specs.Oneofs.{index_below, oneof_place, AreCounted, AreOneofsOf}
 use Rattle.pb_link.specs.declared.rules.oneofs.Oneofs.{Oneofs}
 

@@ -54,7 +54,7 @@ package_there files i f there = by_file (slice_get (files_of files) i) refl (get
 -- SCOPES
 
 -- the file at a place is of the list
-file_is : (files : List DeclaredFile) (w : World) → IsWorldOf files w → (p : ℕ) (o : Declaration) (f : DeclaredFile) → slice_get w.declared p ≡ Some o → o.item ≡ a_file f → slice_get files o.file ≡ Some f
+pub file_is : (files : List DeclaredFile) (w : World) → IsWorldOf files w → (p : ℕ) (o : Declaration) (f : DeclaredFile) → slice_get w.declared p ≡ Some o → o.item ≡ a_file f → slice_get files o.file ≡ Some f
 file_is files w world p o f there is = ⊎_elim (λ of. of.2 ∙ ap Some (name_of (sym of.1 ∙ is))) (λ h. absurd (no_place h.1.item (subst (λ x. MayStandIn x h.1.item) is h.4.1.item))) ((built files w world).around p o there)
   where
     name_of : {g : DeclaredFile} → a_file g ≡ a_file f → g ≡ f

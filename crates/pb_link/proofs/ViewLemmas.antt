@@ -1,44 +1,34 @@
--- What a message stands for, part by part.
-use Rattle.std.proofs.Common.{◌≡◌, rules, map, sym, ap}
+-- The parts of what a message stands for.
+use Rattle.std.proofs.Common.{◌≡◌, map, sym, ap}
 use Rattle.std.specs.Prelude.{string_bytes}
-use Rattle.pb_descr.specs.Decls.{message, messages_of}
+use Rattle.pb_descr.specs.Decls.{messages_of}
 use Rattle.pb_descr.specs.View.{field_view, enum_view, message_view}
-use Rattle.pb_descr.specs.declared.decl.MessageDecl.{MessageDecl, out-MessageDecl, the_lemmas as message_lemmas}
+use Rattle.pb_descr.specs.declared.decl.MessageDecl.{MessageDecl, out-MessageDecl}
+use Rattle.pb_descr.proofs.ViewLemmas.{message_view-parts}
 use Rattle.pb_link.specs.Declarations.{head_of, item_of_message}
 use Rattle.pb_link.specs.Rules.{is_entry}
 use Rattle.pb_link.proofs.RowLemmas.{inner_of}
 
-pub message_view-out : (m : MessageDecl) → message_view m ≡ message (record {
-  name = string_bytes (out-MessageDecl m).name;
-  fields = map field_view (out-MessageDecl m).fields.items;
-  enums = map enum_view (out-MessageDecl m).enums.items;
-  oneofs = map string_bytes (out-MessageDecl m).oneofs.items;
-  reserved = (out-MessageDecl m).reserved.items;
-  reserved_names = map string_bytes (out-MessageDecl m).reserved_names.items;
-  is_entry = (out-MessageDecl m).map_entry;
-}) (messages_of (map message_view (out-MessageDecl m).messages.items))
-message_view-out m = search (rules, message_lemmas)
-
 pub inner_of-view : (m : MessageDecl) → messages_of (map message_view (out-MessageDecl m).messages.items) ≡ inner_of (message_view m)
-inner_of-view m = ap inner_of (sym (message_view-out m))
+inner_of-view m = ap inner_of (sym (message_view-parts m))
 
 pub name_of-view : (m : MessageDecl) → string_bytes (out-MessageDecl m).name ≡ (head_of (message_view m)).name
-name_of-view m = ap (λ t. (head_of t).name) (sym (message_view-out m))
+name_of-view m = ap (λ t. (head_of t).name) (sym (message_view-parts m))
 
 pub enums_of-view : (m : MessageDecl) → map enum_view (out-MessageDecl m).enums.items ≡ (head_of (message_view m)).enums
-enums_of-view m = ap (λ t. (head_of t).enums) (sym (message_view-out m))
+enums_of-view m = ap (λ t. (head_of t).enums) (sym (message_view-parts m))
 
 pub fields_of-view : (m : MessageDecl) → map field_view (out-MessageDecl m).fields.items ≡ (head_of (message_view m)).fields
-fields_of-view m = ap (λ t. (head_of t).fields) (sym (message_view-out m))
+fields_of-view m = ap (λ t. (head_of t).fields) (sym (message_view-parts m))
 
 pub oneofs_of-view : (m : MessageDecl) → map string_bytes (out-MessageDecl m).oneofs.items ≡ (head_of (message_view m)).oneofs
-oneofs_of-view m = ap (λ t. (head_of t).oneofs) (sym (message_view-out m))
+oneofs_of-view m = ap (λ t. (head_of t).oneofs) (sym (message_view-parts m))
 
 pub reserved_of-view : (m : MessageDecl) → (out-MessageDecl m).reserved.items ≡ (head_of (message_view m)).reserved
-reserved_of-view m = ap (λ t. (head_of t).reserved) (sym (message_view-out m))
+reserved_of-view m = ap (λ t. (head_of t).reserved) (sym (message_view-parts m))
 
 pub reserved_names_of-view : (m : MessageDecl) → map string_bytes (out-MessageDecl m).reserved_names.items ≡ (head_of (message_view m)).reserved_names
-reserved_names_of-view m = ap (λ t. (head_of t).reserved_names) (sym (message_view-out m))
+reserved_names_of-view m = ap (λ t. (head_of t).reserved_names) (sym (message_view-parts m))
 
 pub is_entry-view : (m : MessageDecl) → (out-MessageDecl m).map_entry ≡ is_entry (item_of_message (message_view m))
-is_entry-view m = ap (λ t. is_entry (item_of_message t)) (sym (message_view-out m))
+is_entry-view m = ap (λ t. is_entry (item_of_message t)) (sym (message_view-parts m))

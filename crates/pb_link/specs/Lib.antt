@@ -17,7 +17,6 @@ pub mod ToDecls
 pub mod Declarable
 pub mod Nested
 pub mod Heads
-pub mod OwnRules
 pub mod Law
 pub mod Reach
 pub mod Firsts

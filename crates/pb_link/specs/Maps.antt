@@ -2,7 +2,7 @@
 use Rattle.std.specs.Prelude.{ℕ, ◌+◌, List, [], ◌∷◌, Bool, true, false, not, ◌&&◌, ◌||◌}
 use Rattle.std.specs.List.{list_all, slice_index_or}
 use Rattle.std.specs.Option.{option_map_or}
-use Rattle.pb_descr.specs.Decls.{DeclaredField, DeclaredMessage, inner_of}
+use Rattle.pb_descr.specs.Decls.{DeclaredField, DeclaredMessage, message, inner_of}
 use Rattle.pb_link.specs.declared.found.TypeNames.{TypeNames}
 use Rattle.pb_link.specs.declared.found.TypeNames.TheVariants as type_names
 use Rattle.pb_link.specs.Declarations.{Item, a_file, a_message, a_field, a_oneof, an_enum, a_value, a_service, a_method, Declaration, head_of}
@@ -37,8 +37,7 @@ entry_rule w all place t is_used =
 
 -- the rules of map fields, by what was found
 abbrev pub map_rule : World → List TypeNames → ℕ → Declaration → Bool → Item → Bool
-map_rule w all place d is_used (a_message head inner) =
-    is_right_entry head.is_entry is_used (right_parts head.fields (are_plain w (names_of_place all (place + 1))) (are_plain w (names_of_place all (place + 2)))) (has_nothing_inside head inner)
+map_rule w all place d is_used (a_message head inner) = entry_rule w all place (message head inner) is_used
 map_rule w all place d is_used (a_field head i f) = list_all (is_used_rightly w d) (type_names_view (names_of_place all place))
 map_rule w all place d is_used (a_method m) = are_plain w (names_of_place all place)
 map_rule w all place d is_used (a_file f) = true

@@ -33,7 +33,7 @@ mod verdict;
 mod walk;
 
 pub use cause::LinkCause;
-pub use declaring::{declared_order, declared_rules, to_decls};
+pub use declaring::{declared_order, declared_pool, to_decls};
 pub use error::LinkError;
 pub use laws::{linked_types, resolved_types};
 pub use linking::link;

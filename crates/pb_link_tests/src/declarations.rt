@@ -1,142 +1,105 @@
-//! The declarations of pools.
+//! What pools are declared as.
 
-use pb_descr::{FileDecl, MessageDecl, TypeCode, descriptor_pool, write_set};
-use pb_link::to_decls;
-use pb_schema::{EnumType, Field, FileInfo, Kind, MessageId, MessageType, Pool, Shape};
-use std::alloc::{AllocError, Global};
+use super::rows::{are_written, files_of};
+use pb_descr::{FileDecl, MessageDecl, descriptor_pool};
+use pb_link::{LinkError, link, to_decls};
+use pb_schema::Pool;
+use std::alloc::Global;
 use std::test::Fail;
 
-fn field(
-    alloc: Global,
-    name: &str,
-    number: u32,
-    kind: Kind,
-    shape: Shape,
-) -> Result<Field, AllocError> {
-    Ok(Field {
-        name: String::from_str(alloc, name)?,
-        number,
-        kind,
-        shape,
-    })
+/// Sets as `protoc` writes them, each with what its pool is declared as: of a message with one field, with an optional field, with a map of
+/// messages, and of one with fields of each shape and with messages and an enum inside. The second were written by `protoc --encode`, without
+/// the names of JSON and with the entry messages behind the other ones.
+const ROWS: &str = "
+0a240a076d2e70726f746f22110a014d120c0a0161180120012805520161620670726f746f33 0a210a076d2e70726f746f220e0a014d12090a0161180120012805620670726f746f33
+0a2f0a076d2e70726f746f221c0a014d12110a0161180120012805480052016188010142040a025f61620670726f746f33 0a2c0a076d2e70726f746f22190a014d120e0a0161180120012805480088010142040a025f61620670726f746f33
+0a690a076d2e70726f746f22560a014d12170a016118012003280b32092e4d2e41456e7472795201611a380a0641456e74727912100a036b657918012001280952036b657912180a0576616c756518022001280b32022e4d520576616c75653a023801620670726f746f33 0a5a0a076d2e70726f746f22470a014d12140a016118012003280b32092e4d2e41456e7472791a2c0a0641456e747279120b0a036b657918012001280912110a0576616c756518022001280b32022e4d3a023801620670726f746f33
+0abb030a07742e70726f746f22a7030a0154120c0a0161180120012805520161120c0a016218022001280952016212100a016318032001280b32022e54520163120c0a0164180420012801520164120c0a0165180620032805520165120e0a017818072001280d480052017812120a017918082001280b32022e54480052017912170a016d18092003280b32092e542e4d456e74727952016d12110a0170180a200128084801520170880101120c0a0173180b2001281152017312170a016e180c2003280b32092e542e4e456e74727952016e12100a0175180d200328054202100052017512120a016b180e2001280e32042e542e4552016b1a340a064d456e74727912100a036b657918012001280952036b657912140a0576616c7565180220012805520576616c75653a0238011a380a064e456e74727912100a036b657918012001280d52036b657912180a0576616c756518022001280b32022e54520576616c75653a0238011a220a02496e12120a016b18012001280e32042e542e4552016b1a080a06446565706572221c0a014512050a015a100012050a0141100112050a014210011a02100142030a016f42040a025f70620670726f746f33 0af9020a07742e70726f746f22e5020a015412090a016118012001280512090a0162180220012809120d0a016318032001280b32022e5412090a016418042001280112090a0165180620032805120b0a017818072001280d4800120f0a017918082001280b32022e54480012140a016d18092003280b32092e542e4d456e747279120e0a0170180a20012808480188010112090a0173180b2001281112140a016e180c2003280b32092e542e4e456e747279120d0a0175180d2003280542021000120f0a016b180e2001280e32042e542e451a1f0a02496e120f0a016b18012001280e32042e542e451a080a064465657065721a280a064d456e747279120b0a036b6579180120012809120d0a0576616c75651802200128053a0238011a2c0a064e456e747279120b0a036b657918012001280d12110a0576616c756518022001280b32022e543a023801221c0a014512050a015a100012050a0141100112050a014210011a02100142030a016f42040a025f70620670726f746f33
+";
+
+/// The pool of a set in hexadecimal.
+fn pool_of(alloc: Global, set: &str) -> Result<Pool, Fail> {
+    let files = files_of(alloc, set)?;
+    Ok(link(alloc, &files)?)
 }
 
-fn message(
-    alloc: Global,
-    parent: Option<MessageId>,
-    fields: Vec<Field>,
-) -> Result<MessageType, AllocError> {
-    Ok(MessageType {
-        name: String::from_str(alloc, "M")?,
-        file: 0,
-        parent,
-        fields,
-        oneofs: Vec::new(alloc),
-    })
+fn is_declared(alloc: Global, pool: &Pool, written: &str) -> Result<bool, Fail> {
+    let files = to_decls(alloc, pool)?;
+    are_written(alloc, &files, written)
 }
 
-/// The declarations of a pool of the file m.proto with these messages.
-fn declared(alloc: Global, messages: Vec<MessageType>) -> Result<Vec<FileDecl>, Fail> {
-    let file = FileInfo {
-        name: String::from_str(alloc, "m.proto")?,
-        package: String::new(alloc),
-        imports: Vec::new(alloc),
-    };
-    let enums: Vec<EnumType> = Vec::new(alloc);
-    let pool = Pool::from_parts(alloc, vec![in alloc; file]?, messages, enums)?;
-    let files = to_decls(alloc, &pool)?;
-    Ok(files)
+/// Whether a set links to a pool that holds the same.
+fn comes_back(alloc: Global, pool: &Pool, written: &str) -> Result<bool, Fail> {
+    let again = pool_of(alloc, written)?;
+    Ok(pool.equals(&again))
 }
 
-/// The declarations of message M with one field.
-fn with_field(alloc: Global, kind: Kind, shape: Shape) -> Result<Vec<FileDecl>, Fail> {
-    let only = field(alloc, "a", 1, kind, shape)?;
-    let outer = message(alloc, None, vec![in alloc; only]?)?;
-    declared(alloc, vec![in alloc; outer]?)
+/// Whether a pool is declared as this set, and the set links to the same.
+fn is_kept(alloc: Global, pool: &Pool, written: &str) -> Result<bool, Fail> {
+    Ok(is_declared(alloc, pool, written)? && comes_back(alloc, pool, written)?)
 }
 
-/// message M { int32 a = 1; }, written as a set.
-const IMPLICIT: &[u8] =
-    b"\x0a\x21\x0a\x07m.proto\x22\x0e\x0a\x01M\x12\x09\x0a\x01a\x18\x01\x20\x01\x28\x05\x62\x06proto3";
-
-/// message M { optional int32 a = 1; }
-const EXPLICIT: &[u8] =
-    b"\x0a\x2c\x0a\x07m.proto\x22\x19\x0a\x01M\x12\x0e\x0a\x01a\x18\x01\x20\x01\x28\x05\x48\x00\x88\x01\x01\x42\x04\x0a\x02_a\x62\x06proto3";
+fn holds(alloc: Global, row: &str) -> Result<bool, Fail> {
+    let (set, written) = row.split_once(' ').ok_or("no bytes")?;
+    let pool = pool_of(alloc, set)?;
+    is_kept(alloc, &pool, written)
+}
 
 #[test]
-fn written(rt: HostRuntime) -> Result<(), Fail> {
-    let implicit = with_field(rt.alloc(), Kind::Int32, Shape::Implicit)?;
-    assert!(rt; write_set(rt.alloc(), &implicit)?.as_slice() == IMPLICIT);
-    let explicit = with_field(rt.alloc(), Kind::Int32, Shape::Explicit)?;
-    assert!(rt; write_set(rt.alloc(), &explicit)?.as_slice() == EXPLICIT);
+fn sets(rt: HostRuntime) -> Result<(), Fail> {
+    for row in ROWS.lines() {
+        assert!(rt; row.is_empty() || holds(rt.alloc(), row)?, "{row}");
+    }
     Ok(())
 }
 
 /// Whether a message has this name and so many messages in it.
-fn is_message(messages: &[MessageDecl], index: usize, name: &str, inner: usize) -> bool {
+pub(crate) fn is_message(messages: &[MessageDecl], index: usize, name: &str, inner: usize) -> bool {
     match messages.get(index) {
         Some(decl) => decl.name.as_str() == name && decl.messages.len() == inner,
         None => false,
     }
 }
 
+/// Whether the third message has messages with these names.
+fn has_ranges(messages: &[MessageDecl]) -> bool {
+    match messages.get(2) {
+        Some(outer) => {
+            is_message(&outer.messages, 0, "ReservedRange", 0)
+                && is_message(&outer.messages, 1, "ExtensionRange", 0)
+        }
+        None => false,
+    }
+}
+
+fn are_descriptors(messages: &[MessageDecl]) -> bool {
+    messages.len() == 12
+        && is_message(messages, 0, "FileDescriptorSet", 0)
+        && is_message(messages, 2, "DescriptorProto", 2)
+        && is_message(messages, 11, "EnumOptions", 0)
+        && has_ranges(messages)
+}
+
+fn hold_descriptors(files: &[FileDecl]) -> bool {
+    match files.get(0) {
+        Some(file) => files.len() == 1 && are_descriptors(&file.messages),
+        None => false,
+    }
+}
+
+fn declares_descriptors(alloc: Global, pool: &Pool) -> Result<bool, LinkError> {
+    let files = to_decls(alloc, pool)?;
+    Ok(hold_descriptors(&files))
+}
+
 /// The fixed pool of descriptor sets, which has messages in messages.
+fn are_declared(alloc: Global) -> Result<bool, Fail> {
+    let pool = descriptor_pool(alloc)?;
+    Ok(declares_descriptors(alloc, &pool)?)
+}
+
 #[test]
 fn nested(rt: HostRuntime) -> Result<(), Fail> {
-    let pool = descriptor_pool(rt.alloc())?;
-    let files = to_decls(rt.alloc(), &pool)?;
-    let file = files.get(0).ok_or("no file")?;
-    assert!(rt; files.len() == 1 && file.messages.len() == 12);
-    assert!(rt; is_message(&file.messages, 0, "FileDescriptorSet", 0));
-    assert!(rt; is_message(&file.messages, 2, "DescriptorProto", 2));
-    assert!(rt; is_message(&file.messages, 11, "EnumOptions", 0));
-    let outer = file.messages.get(2).ok_or("no message")?;
-    assert!(rt; is_message(&outer.messages, 0, "ReservedRange", 0));
-    assert!(rt; is_message(&outer.messages, 1, "ExtensionRange", 0));
-    Ok(())
-}
-
-/// message M { map<string, M> a = 1; }
-#[test]
-fn map(rt: HostRuntime) -> Result<(), Fail> {
-    let shape = Shape::Map { key: Kind::Text };
-    let files = with_field(rt.alloc(), Kind::Message(MessageId(0)), shape)?;
-    let outer = files
-        .get(0)
-        .ok_or("no file")?
-        .messages
-        .get(0)
-        .ok_or("no message")?;
-    let only = outer.fields.get(0).ok_or("no field")?;
-    assert!(rt; is_message(&outer.messages, 0, "AEntry", 0) && only.repeated);
-    assert!(rt; matches!(only.ty, Some(TypeCode::Message)));
-    assert!(rt; matches!(&only.type_name, Some(name) if name.as_str() == ".M.AEntry"));
-    let value = outer
-        .messages
-        .get(0)
-        .ok_or("no entry")?
-        .fields
-        .get(1)
-        .ok_or("no value")?;
-    assert!(rt; value.name.as_str() == "value" && value.number == 2);
-    assert!(rt; matches!(&value.type_name, Some(name) if name.as_str() == ".M"));
-    Ok(())
-}
-
-/// Messages in each other, deeper than any set may nest.
-#[test]
-fn deep(rt: HostRuntime) -> Result<(), Fail> {
-    let mut messages = Vec::new(rt.alloc());
-    for index in 0..1000usize {
-        let parent = match index.checked_sub(1) {
-            Some(outer) => Some(MessageId(outer)),
-            None => None,
-        };
-        let inner = message(rt.alloc(), parent, Vec::new(rt.alloc()))?;
-        messages.push(inner)?;
-    }
-    let files = declared(rt.alloc(), messages)?;
-    let file = files.get(0).ok_or("no file")?;
-    assert!(rt; is_message(&file.messages, 0, "M", 1));
+    assert!(rt; are_declared(rt.alloc())?);
     Ok(())
 }

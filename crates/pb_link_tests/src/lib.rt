@@ -6,6 +6,10 @@ mod chains;
 #[cfg(test)]
 mod declarations;
 #[cfg(test)]
+mod hostile;
+#[cfg(test)]
+mod parts;
+#[cfg(test)]
 mod resolved;
 #[cfg(test)]
 mod rows;

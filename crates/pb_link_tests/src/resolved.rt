@@ -1,7 +1,8 @@
 //! Sets of files as they are written and as they are resolved. A row is the bytes of both in hexadecimal, and what the set is of. The second are
 //! what `protoc` makes of the files' sources, without the names of JSON; in the first, type names are shorter and type numbers are left out.
 
-use pb_descr::{read_set, write_set};
+use super::rows::{are_written, files_of};
+use pb_descr::FileDecl;
 use pb_link::resolve;
 use std::alloc::Global;
 use std::test::Fail;
@@ -15,19 +16,17 @@ const ROWS: &str = "
 0a300a07782e70726f746f221d0a014d120d0a016d18012001280b32022e4d12090a0169180220012805620670726f746f33 0a300a07782e70726f746f221d0a014d120d0a016d18012001280b32022e4d12090a0169180220012805620670726f746f33 | already resolved
 ";
 
-/// The set in hexadecimal, with its files resolved.
-fn resolved(alloc: Global, digits: &str) -> Result<Vec<u8>, Fail> {
-    let bytes = hex::decode(alloc, digits)?;
-    let files = read_set(alloc, &bytes)?;
-    let resolved = resolve(alloc, &files)?;
-    Ok(write_set(alloc, &resolved)?)
+/// Whether files are resolved to those that the set of these digits has.
+fn resolve_to(alloc: Global, files: &[FileDecl], digits: &str) -> Result<bool, Fail> {
+    let resolved = resolve(alloc, files)?;
+    are_written(alloc, &resolved, digits)
 }
 
 fn is_resolved(alloc: Global, row: &str) -> Result<bool, Fail> {
     let (row, _) = row.split_once(" | ").ok_or("no row")?;
     let (written, wanted) = row.split_once(' ').ok_or("no answer")?;
-    let resolved = resolved(alloc, written)?;
-    Ok(resolved.as_slice() == hex::decode(alloc, wanted)?.as_slice())
+    let files = files_of(alloc, written)?;
+    resolve_to(alloc, &files, wanted)
 }
 
 #[test]

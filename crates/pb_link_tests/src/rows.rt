@@ -1,9 +1,9 @@
-//! Sets of files, each with what linking it answers. A row is the set's bytes in hexadecimal, `ok` or the file, the full name (`-` where it
-//! is empty) and the cause that are told, and what the set is of. The bytes were written by `protoc --encode` of descriptor.proto.
+//! Sets of files, each with what linking and resolving it answer. A row is the set's bytes in hexadecimal, `ok` or the file, the full name
+//! (`-` where it is empty) and the cause that are told, and what the set is of. The bytes were written by `protoc --encode` of descriptor.proto.
 
-use pb_descr::{FileDecl, read_set};
-use pb_link::{LinkError, link};
-use std::alloc::Global;
+use pb_descr::{FileDecl, read_set, write_set};
+use pb_link::{LinkError, link, resolve};
+use std::alloc::{AllocError, Global};
 use std::test::Fail;
 
 const ROWS: &str = "
@@ -64,56 +64,96 @@ const ROWS: &str = "
 0a2b0a016d220e0a014112090a0178180020012805220e0a014212090a012d180120012805620670726f746f33 m A.x BadNumber | the earlier declaration is told
 0a1c0a016d220f0a0141120a0a02782d180020012805620670726f746f33 m A.x- BadName | the lesser cause is told
 0a1b0a0161220e0a014112090a0178180020012805620670726f746f330a0e0a01621a0163620670726f746f33 a A.x BadNumber | the earlier file is told
-- ok | nothing
+ ok | nothing
 ";
 
 /// The files of a set in hexadecimal.
 pub(crate) fn files_of(alloc: Global, digits: &str) -> Result<Vec<FileDecl>, Fail> {
-    if digits == "-" {
-        return Ok(Vec::new(alloc));
-    }
     let bytes = hex::decode(alloc, digits)?;
     Ok(read_set(alloc, &bytes)?)
 }
 
-fn is_name(told: &str, wanted: &str) -> bool {
-    if wanted == "-" {
-        told.is_empty()
-    } else {
-        told == wanted
-    }
+/// Whether files are written as a set of these digits.
+pub(crate) fn are_written(alloc: Global, files: &[FileDecl], digits: &str) -> Result<bool, Fail> {
+    let bytes = write_set(alloc, files)?;
+    Ok(has_digits(alloc, &bytes, digits)?)
 }
 
-fn is_fault(error: &LinkError, wanted: &str) -> bool {
-    let LinkError::Fault {
-        file,
-        full_name,
-        cause,
-    } = error
-    else {
-        return false;
-    };
-    let mut words = wanted.split(' ');
-    words.next() == Some(file.as_str())
-        && is_name(full_name.as_str(), words.next().unwrap_or("?"))
-        && words.next() == Some(cause.name())
+fn has_digits(alloc: Global, bytes: &[u8], digits: &str) -> Result<bool, AllocError> {
+    let written = hex::encode(alloc, bytes)?;
+    Ok(written.as_str() == digits)
+}
+
+/// Whether a fault is told by these words.
+fn has_words(
+    alloc: Global,
+    file: &str,
+    full_name: &str,
+    cause: &str,
+    wanted: &str,
+) -> Result<bool, AllocError> {
+    let name = if full_name.is_empty() { "-" } else { full_name };
+    let told = format!(in alloc; "{file} {name} {cause}")?;
+    Ok(told.as_str() == wanted)
+}
+
+/// Whether an error is the fault of these words. Want of memory is handed on.
+fn is_fault(alloc: Global, error: &LinkError, wanted: &str) -> Result<bool, AllocError> {
+    match error {
+        LinkError::Memory => Err(AllocError),
+        LinkError::Fault {
+            file,
+            full_name,
+            cause,
+        } => has_words(
+            alloc,
+            file.as_str(),
+            full_name.as_str(),
+            cause.name(),
+            wanted,
+        ),
+    }
 }
 
 /// The files link, or are refused for this fault.
-pub(crate) fn answers(alloc: Global, files: &[FileDecl], wanted: &str) -> bool {
+fn links(alloc: Global, files: &[FileDecl], wanted: &str) -> Result<bool, AllocError> {
     match link(alloc, files) {
-        Ok(_) => wanted == "ok",
-        Err(error) => is_fault(&error, wanted),
+        Ok(_) => Ok(wanted == "ok"),
+        Err(error) => is_fault(alloc, &error, wanted),
     }
+}
+
+/// The files are resolved, or are refused for this fault.
+fn resolves(alloc: Global, files: &[FileDecl], wanted: &str) -> Result<bool, AllocError> {
+    match resolve(alloc, files) {
+        Ok(_) => Ok(wanted == "ok"),
+        Err(error) => is_fault(alloc, &error, wanted),
+    }
+}
+
+/// The files link and are resolved, or both are refused for this fault.
+pub(crate) fn files_answer(
+    alloc: Global,
+    files: &[FileDecl],
+    wanted: &str,
+) -> Result<bool, AllocError> {
+    Ok(links(alloc, files, wanted)? && resolves(alloc, files, wanted)?)
+}
+
+/// The files of a set link and are resolved, or both are refused for this fault.
+pub(crate) fn answers(alloc: Global, set: &[u8], wanted: &str) -> Result<bool, Fail> {
+    let files = read_set(alloc, set)?;
+    Ok(files_answer(alloc, &files, wanted)?)
 }
 
 fn is_told(alloc: Global, row: &str) -> Result<bool, Fail> {
     let (row, _) = row.split_once(" | ").ok_or("no row")?;
     let (digits, wanted) = row.split_once(' ').ok_or("no answer")?;
-    let files = files_of(alloc, digits)?;
-    Ok(answers(alloc, &files, wanted))
+    let set = hex::decode(alloc, digits)?;
+    answers(alloc, &set, wanted)
 }
 
+// `.ci/growths` refuses each growth of memory in this test, and in those of the sets as they are resolved and as pools are declared.
 #[test]
 fn sets(rt: HostRuntime) -> Result<(), Fail> {
     for row in ROWS.lines() {

@@ -75,7 +75,7 @@ fn long_sources(rt: HostRuntime) -> Result<(), Fail> {
     Ok(())
 }
 
-/// Where a growth of memory is refused, which a run with `--fail-alloc` does, that is told at byte 0.
+/// Where a growth of memory is refused, which `.ci/growths` does, that is told at byte 0.
 #[test]
 fn growths(rt: HostRuntime) -> Result<(), Fail> {
     let is_told = match lex(rt.alloc(), "message M { int32 a = 1; }") {

@@ -1,7 +1,7 @@
 //! The declarations of fields, of their oneofs, and of the entry messages of map fields.
 
 ghost use Rattle.std.specs.Prelude.{◌≡◌, ◌<◌, ◌+◌, ◌++◌, ◌^◌, [], ◌∷◌, length, map, filter_map, option_map, is_none, string_bytes, IfOk, OnOk, IsAscii, if◌then◌else◌};
-ghost use Rattle.pb_schema.specs.Kinds.{is_packable, message_of_kind};
+ghost use Rattle.pb_schema.specs.Kinds.{message_of_kind};
 ghost use Rattle.pb_schema.specs.View.{field_view as view_of_field};
 ghost use Rattle.pb_schema.specs.Names.{entry_name};
 ghost use Rattle.pb_schema.specs.Rules.{IsPool, NamesType, NamesOneof};
@@ -55,7 +55,21 @@ fn name_of_kind(alloc: Global, pool: &Pool, kind: Kind) -> Result<Option<String>
             let name = dotted(alloc, pool.enum_name(id))?;
             Ok(Some(name))
         }
-        _ => Ok(None),
+        Kind::Double
+        | Kind::Float
+        | Kind::Int64
+        | Kind::Uint64
+        | Kind::Int32
+        | Kind::Fixed64
+        | Kind::Fixed32
+        | Kind::Bool
+        | Kind::Text
+        | Kind::Bytes
+        | Kind::Uint32
+        | Kind::Sfixed32
+        | Kind::Sfixed64
+        | Kind::Sint32
+        | Kind::Sint64 => Ok(None),
     }
 }
 
@@ -74,7 +88,22 @@ fn is_scalar(kind: Kind) -> bool
 {
     match kind {
         Kind::Message(_) => false,
-        _ => true,
+        Kind::Double
+        | Kind::Float
+        | Kind::Int64
+        | Kind::Uint64
+        | Kind::Int32
+        | Kind::Fixed64
+        | Kind::Fixed32
+        | Kind::Bool
+        | Kind::Text
+        | Kind::Bytes
+        | Kind::Uint32
+        | Kind::Sfixed32
+        | Kind::Sfixed64
+        | Kind::Sint32
+        | Kind::Sint64
+        | Kind::Enum(_) => true,
     }
 }
 
@@ -84,17 +113,7 @@ pub(crate) fn is_optional(shape: Shape, kind: Kind) -> bool
 {
     match shape {
         Shape::Explicit => is_scalar(kind),
-        _ => false,
-    }
-}
-
-/// Values of the kind may stand in a packed list.
-fn is_packable(kind: Kind) -> bool
-    ensures { result ≡ is_packable kind }
-{
-    match kind {
-        Kind::Text | Kind::Bytes | Kind::Message(_) => false,
-        _ => true,
+        Shape::Implicit | Shape::OneofMember(_) | Shape::List { .. } | Shape::Map { .. } => false,
     }
 }
 
@@ -103,7 +122,9 @@ fn code_of_field(shape: Shape, kind: Kind) -> TypeCode
 {
     match shape {
         Shape::Map { .. } => TypeCode::Message,
-        _ => code_of_kind(kind),
+        Shape::Implicit | Shape::Explicit | Shape::OneofMember(_) | Shape::List { .. } => {
+            code_of_kind(kind)
+        }
     }
 }
 
@@ -124,7 +145,7 @@ fn name_of_type(
             let name = dotted_entry(alloc, scope, field.name.as_str().as_bytes())?;
             Ok(Some(name))
         }
-        _ => {
+        Shape::Implicit | Shape::Explicit | Shape::OneofMember(_) | Shape::List { .. } => {
             let name = name_of_kind(alloc, pool, field.kind)?;
             Ok(name)
         }
@@ -137,13 +158,13 @@ fn packed_of_field(shape: Shape, kind: Kind) -> Option<bool>
 {
     match shape {
         Shape::List { packed } => {
-            if is_packable(kind) && !packed {
+            if kind.is_packable() && !packed {
                 Some(false)
             } else {
                 None
             }
         }
-        _ => None,
+        Shape::Implicit | Shape::Explicit | Shape::OneofMember(_) | Shape::Map { .. } => None,
     }
 }
 
@@ -162,7 +183,7 @@ fn oneof_of_field(synthetic: usize, shape: Shape, kind: Kind) -> Option<i32>
                 None
             }
         }
-        _ => None,
+        Shape::Implicit | Shape::List { .. } | Shape::Map { .. } => None,
     }
 }
 

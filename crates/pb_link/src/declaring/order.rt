@@ -1,13 +1,12 @@
 //! What the declarations of a pool's types make again.
 
-ghost use Rattle.std.specs.Prelude.{◌≡◌, ℕ, map, Some, slice_get};
+ghost use Rattle.std.specs.Prelude.{◌≡◌, map};
 ghost use Rattle.pb_schema.specs.Types.{Types};
 ghost use Rattle.pb_schema.specs.Rules.{IsPool};
 ghost use Rattle.pb_link.specs.Sees.{files_of};
-ghost use Rattle.pb_link.specs.Declarations.{Declaration};
 ghost use Rattle.pb_link.specs.Rules.{World};
-ghost use Rattle.pb_link.specs.Link.{IsWorldOf};
-ghost use Rattle.pb_link.specs.OwnRules.{MeetsOwnRules};
+ghost use Rattle.pb_link.specs.Link.{IsWorldOf, NothingFails, LinkOk};
+ghost use Rattle.pb_link.specs.PoolOf.{pool_of};
 ghost use Rattle.pb_link.specs.ToDecls.{numbered, declared_head, declared_enum, decls_of};
 ghost use Rattle.pb_link.specs.Heads.{declared_heads, declared_enums};
 
@@ -19,7 +18,9 @@ pub fn declared_order()
     ensures files { (ts : Types) → IsPool ts → files_of (decls_of ts) ≡ ts.files }
 {}
 
-/// The declarations of a pool's types meet the rules that rest on no other declaration than the message or the enum around one.
-pub fn declared_rules()
-    ensures own { (ts : Types) → IsPool ts → (w : World) → IsWorldOf (decls_of ts) w → (place : ℕ) (d : Declaration) → slice_get w.declared place ≡ Some d → MeetsOwnRules w place d }
+/// The declarations of a pool's types link: every rule of linking holds of them, and linking them makes the types again.
+pub fn declared_pool()
+    ensures links { (ts : Types) → IsPool ts → LinkOk (decls_of ts) }
+    ensures rules { (ts : Types) → IsPool ts → (w : World) → IsWorldOf (decls_of ts) w → NothingFails w }
+    ensures types { (ts : Types) → IsPool ts → (w : World) → IsWorldOf (decls_of ts) w → pool_of (decls_of ts) w ≡ ts }
 {}

@@ -38,7 +38,22 @@ fn singular_shape(kind: Kind, field: &FieldDecl) -> Shape
     }
     match kind {
         Kind::Message(_) => Shape::Explicit,
-        _ => Shape::Implicit,
+        Kind::Double
+        | Kind::Float
+        | Kind::Int64
+        | Kind::Uint64
+        | Kind::Int32
+        | Kind::Fixed64
+        | Kind::Fixed32
+        | Kind::Bool
+        | Kind::Text
+        | Kind::Bytes
+        | Kind::Uint32
+        | Kind::Sfixed32
+        | Kind::Sfixed64
+        | Kind::Sint32
+        | Kind::Sint64
+        | Kind::Enum(_) => Shape::Implicit,
     }
 }
 

@@ -62,7 +62,12 @@ fn kind_here(declaration: &Declaration<'_>, messages: usize, enums: usize) -> Ki
     match declaration.item {
         Item::Message(_) => Kind::Message(MessageId(messages)),
         Item::Enum(_) => Kind::Enum(EnumId(enums)),
-        _ => Kind::Bool,
+        Item::File(_)
+        | Item::Field(_, _, _)
+        | Item::Oneof(_, _, _)
+        | Item::Value(_, _, _)
+        | Item::Service(_)
+        | Item::Method(_) => Kind::Bool,
     }
 }
 

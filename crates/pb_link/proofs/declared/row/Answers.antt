@@ -1,4 +1,4 @@
-use Rattle.std.proofs.Common.{map, length, ◌++◌, ap, sym, ◌∙◌}
+use Rattle.std.proofs.Common.{map, ◌++◌, ap, sym, ◌∙◌}
 use Rattle.std.proofs.lemmas.List.{length-map}
 use Rattle.pb_descr.specs.View.{file_view}
 use Rattle.pb_link.specs.Declarations.{file_declared}

@@ -38,8 +38,8 @@ loop-inside-preserved c =
       made = more ∙ ap (λ (n : ℕ). reverse (drop n (decls_of ts))) index;
     }
 
-pub returns : goal.returns
-returns c =
+pub returns-clause-decls : goal.returns-clause-decls
+returns-clause-decls c =
     let ts = c.args.pool.now in
     let none : length c.loop-inside.places.items ≡ 0 = omega (arith, c.in_default.ensures.cases.0, c.loop-inside.places.ok.0) in
     ap (map file_view) c.reverse.ensures.items ∙ map-reverse file_view c.loop-inside.decls.items

@@ -1,5 +1,3 @@
-use Rattle.std.proofs.Common.{◌+◌, not, drop, Some, ap, ◌∙◌}
-use Rattle.std.specs.Prelude.{if◌then◌else◌}
 use Rattle.pb_link.specs.Judging.{first_failing}
 use Rattle.pb_link.proofs.JudgeLemmas.{failing_on}
 use Rattle.pb_link.proofs.judge.first_failing.Goals as goal

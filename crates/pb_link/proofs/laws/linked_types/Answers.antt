@@ -1,6 +1,5 @@
 use Rattle.std.proofs.Common.{sym, subst}
 use Rattle.pb_schema.specs.Rules.{IsPool}
-use Rattle.pb_link.specs.Linking.{Links}
 use Rattle.pb_link.proofs.PoolLemmas.{linked_pool}
 use Rattle.pb_link.proofs.laws.linked_types.Goals as goal
 

@@ -9,7 +9,8 @@ use Rattle.pb_link.specs.Declarations.{head_of}
 use Rattle.pb_link.specs.View.{declaration_view}
 use Rattle.pb_link.specs.Resolving.{coming, fields_read, message_read, behind_message}
 use Rattle.pb_link.proofs.ResolvingLemmas.{read_more, read_end, behind_more, behind_end, message_made, message_went, head_went}
-use Rattle.pb_link.proofs.ViewLemmas.{inner_of-view, name_of-view, enums_of-view, fields_of-view, oneofs_of-view, reserved_of-view, reserved_names_of-view, message_view-out}
+use Rattle.pb_link.proofs.ViewLemmas.{inner_of-view, name_of-view, enums_of-view, fields_of-view, oneofs_of-view, reserved_of-view, reserved_names_of-view}
+use Rattle.pb_descr.proofs.ViewLemmas.{message_view-parts}
 use Rattle.pb_link.proofs.resolving.messages.+resolve_message.Goals as goal
 
 pub resolve_messages-loop-message-preserved : goal.resolve_messages-loop-message-preserved
@@ -45,7 +46,7 @@ resolve_message-returns-clause-made t c =
       oneofs = (c.in_ok-oneofs.ensures ∙ ap (map string_bytes) c.deref-5.ensures.value ∙ oneofs_of-view o) k;
       reserved = (c.in_ok-reserved.ensures.items ∙ c.deref-6.ensures.value ∙ reserved_of-view o) k;
       reserved_names = (c.in_ok-reserved_names.ensures ∙ ap (map string_bytes) c.deref-7.ensures.value ∙ reserved_names_of-view o) k;
-      is_entry = ap (λ m. (head_of m).is_entry) (sym (message_view-out o)) k;
+      is_entry = ap (λ m. (head_of m).is_entry) (sym (message_view-parts o)) k;
     })
     (head_went ns (coming c.skip.new.self) (coming c.resolve_fields.new.names) (coming c.skip-2.new.self) (head_of (message_view o)) (map field_view c.deref.result.now) c.len.result c.skip.ensures fields c.in_ok-fields.ensures.behind size c.skip-2.ensures)
     (ap (λ l. messages_of (map message_view l)) c.deref-2.ensures.value ∙ inner_of-view o)
