@@ -1,12 +1,12 @@
 -- What steps come to, from what is known of them.
-use Rattle.std.proofs.Common.{◌≡◌, ◌≢◌, ◌⊎◌, ℕ, List, [], Option, None, Some, refl, inl, inr, subst, sym}
+use Rattle.std.proofs.Common.{◌≢◌, ℕ, List, [], Option, None, Some, refl, inl, inr, subst, sym}
 use Rattle.std.specs.Prelude.{Result, Ok, Err}
-use Rattle.pbtool.specs.Answer.{Answer, done, saves, refused, stopped, broken, device_failed, IsPrinted}
+use Rattle.pbtool.specs.Answer.{Answer, saves, refused, stopped, broken, device_failed, IsPrinted}
 use Rattle.pbtool.specs.FileMap.{FileMap, KeepsMap, WritesWhole, IsSaved, IsUnsaved}
 use Rattle.pbtool.specs.Refusal.{ByRefusal, Refuses}
 use Rattle.pbtool.specs.Steps.{Comes, FailsAt, NoFile}
 use Rattle.pbtool.specs.declared.report.Refusal.{Refusal}
-use Rattle.pbtool.specs.declared.report.Refusal.TheVariants.{Fault, Set, SetFile, Link, UnknownType, TooLarge, Frame, Device, Memory}
+use Rattle.pbtool.specs.declared.report.Refusal.TheVariants.{Fault, Set, SetFile, Link, UnknownType, TooLarge, Frame, Source, Device, File, Memory}
 
 pub by_refusal_map :
     (I J : List ℕ → Type 0) (F G : List ℕ → Type 0) (M N : Type 0) (e : Refusal) → ((line : List ℕ) → I line → J line) → ((path : List ℕ) → F path → G path)
@@ -18,7 +18,9 @@ by_refusal_map I J F G M N (Link file full_name cause) i f m h = i _ h
 by_refusal_map I J F G M N (UnknownType name) i f m h = i _ h
 by_refusal_map I J F G M N TooLarge i f m h = i _ h
 by_refusal_map I J F G M N (Frame index byte path cause) i f m h = i _ h
+by_refusal_map I J F G M N (Source file byte cause) i f m h = i _ h
 by_refusal_map I J F G M N (Device path) i f m h = f _ h
+by_refusal_map I J F G M N (File path) i f m h = f _ h
 by_refusal_map I J F G M N Memory i f m h = m h
 
 -- the same of each
@@ -32,7 +34,9 @@ by_refusal_any X I F M (Link file full_name cause) i f m h = i _ h
 by_refusal_any X I F M (UnknownType name) i f m h = i _ h
 by_refusal_any X I F M TooLarge i f m h = i _ h
 by_refusal_any X I F M (Frame index byte path cause) i f m h = i _ h
+by_refusal_any X I F M (Source file byte cause) i f m h = i _ h
 by_refusal_any X I F M (Device path) i f m h = f _ h
+by_refusal_any X I F M (File path) i f m h = f _ h
 by_refusal_any X I F M Memory i f m h = m h
 
 pub refuses_map : (P Q : Answer → Type 0) (e : Refusal) → ((a : Answer) → P a → Q a) → Refuses P e → Refuses Q e

@@ -9,9 +9,9 @@ use Rattle.pbtool.specs.Answers.{FramesAt, FrameFaultAt, FramesBegunAt}
 use Rattle.pbtool.specs.FileMap.{FileMap, IsOpened, KeepsMap}
 use Rattle.pbtool.specs.Report.{output_name}
 use Rattle.pbtool.specs.Sending.{Cut, Puts, Sent}
-use Rattle.pbtool.specs.Steps.{Comes, FailsAt, IsReadOf, NoFile, OfFiles, OfInput, StreamBegun, StreamOf}
+use Rattle.pbtool.specs.Steps.{Comes, FailsAt, IsReadOf, NoFile, OfFiles, OfInput, StreamAt, StreamBegun, StreamBegunAt, StreamOf}
 use Rattle.pbtool.specs.Streaming.{FramesBegunIn, FramesIn, PutsFrames}
-use Rattle.pbtool.specs.TypeAnswer.{HasType, opened}
+use Rattle.pbtool.specs.TypeAnswer.{HasType, missing, opened}
 use Rattle.pbtool.specs.declared.buffered.Buffered.{Buffered}
 use Rattle.pbtool.specs.declared.command.Source.{Source}
 use Rattle.pbtool.specs.declared.report.Refusal.{Refusal}
@@ -94,19 +94,38 @@ module _
 -- FROM AN INPUT TO ITS FILE
 
 module _
-    {F I : Type 0} (contents : F → Option FileMap) (is_steady : F → Bool) (old mid : F) (left : I → Option (List ℕ)) (stays : I → Bool) (input : I)
-    (s : Source) (set : List ℕ) (pool : Types) (m : ℕ) (is_read : IsReadOf contents is_steady old (full.bytes + 1) s.set.now (Some set))
-    (has : HasType s.type_name.now set pool m) (kept : KeepsMap (contents old) (contents mid)) (steady : is_steady old ≡ true → is_steady mid ≡ true)
-    (is_opened : OfFiles contents is_steady mid s.file.now (λ content. IsOpened left content (Some input) × (stays input ≡ true))) where
+    {F I : Type 0} (contents : F → Option FileMap) (is_steady : F → Bool) (files : F) (left : I → Option (List ℕ)) (stays : I → Bool) (input : I)
+    (path : List ℕ) (pool : Types) (m : ℕ)
+    (is_opened : OfFiles contents is_steady files path (λ content. IsOpened left content (Some input) × (stays input ≡ true))) where
   -- what holds of the input's bytes holds of the file's
-  of_input : (P : Option (List ℕ) → Type 0) → OfInput left stays input P → OfFiles contents is_steady old s.file.now P
-  of_input P of = of_later s.file.now P kept steady (opened_of contents is_steady mid s.file.now left stays input P is_opened of)
+  of_input : (P : Option (List ℕ) → Type 0) → OfInput left stays input P → OfFiles contents is_steady files path P
+  of_input P of = opened_of contents is_steady files path left stays input P is_opened of
 
-  pub stream_right : (a : Answer) → FramesIn left stays input s.file.now pool m a → StreamOf contents is_steady old s a
+  pub stream_right : (a : Answer) → FramesIn left stays input path pool m a → StreamAt contents is_steady files pool m path a
   stream_right a h =
-      opened is_read has
-      (frames_map _ _ _ _ _ _ s.file.now pool m a (λ text k. (k.0, of_input (λ content. FramesAt content pool m text) k.1))
+      inr
+      (frames_map _ _ _ _ _ _ path pool m a (λ text k. (k.0, of_input (λ content. FramesAt content pool m text) k.1))
       (λ count text f k. (k.0, of_input (λ content. FrameFaultAt content pool m count text f) k.1)) (λ text k. (k.0, of_input (λ content. ⊥) k.1)) h)
 
-  pub stream_begun : (text : List ℕ) → FramesBegunIn left stays input pool m text → StreamBegun contents is_steady old s text
-  stream_begun text h = inr (set, pool, m, is_read, has, h.0, of_input (λ content. FramesBegunAt content pool m text) h.1)
+  pub stream_begun : (text : List ℕ) → FramesBegunIn left stays input pool m text → StreamBegunAt contents is_steady files pool m path text
+  stream_begun text h = inr (h.0, of_input (λ content. FramesBegunAt content pool m text) h.1)
+
+-- FROM THE FILE TO THE SET THAT HAS ITS TYPE
+
+module _
+    {F : Type 0} (contents : F → Option FileMap) (is_steady : F → Bool) (old mid : F) (s : Source) (set : List ℕ) (pool : Types) (m : ℕ)
+    (is_read : IsReadOf contents is_steady old (full.bytes + 1) s.set.now (Some set)) (has : HasType s.type_name.now set pool m)
+    (kept : KeepsMap (contents old) (contents mid)) (steady : is_steady old ≡ true → is_steady mid ≡ true) where
+  earlier : (P : Option (List ℕ) → Type 0) → OfFiles contents is_steady mid s.file.now P → OfFiles contents is_steady old s.file.now P
+  earlier P of = of_later s.file.now P kept steady of
+
+  pub stream_of : (a : Answer) → StreamAt contents is_steady mid pool m s.file.now a → StreamOf contents is_steady old s a
+  stream_of a (inl h) = missing is_read has (earlier (λ content. content ≡ None) h.0) h.1
+  stream_of a (inr h) =
+      opened is_read has
+      (frames_map _ _ _ _ _ _ s.file.now pool m a (λ text k. (k.0, earlier (λ content. FramesAt content pool m text) k.1))
+      (λ count text f k. (k.0, earlier (λ content. FrameFaultAt content pool m count text f) k.1)) (λ text k. (k.0, earlier (λ content. ⊥) k.1)) h)
+
+  pub stream_begun_of : (text : List ℕ) → StreamBegunAt contents is_steady mid pool m s.file.now text → StreamBegun contents is_steady old s text
+  stream_begun_of text (inl nothing) = inl nothing
+  stream_begun_of text (inr h) = inr (set, pool, m, is_read, has, h.0, earlier (λ content. FramesBegunAt content pool m text) h.1)

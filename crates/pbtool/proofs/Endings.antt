@@ -1,12 +1,12 @@
 -- How a run ends, from what its command came to and what was told.
-use Rattle.std.proofs.Common.{◌≡◌, ◌+◌, ℕ, List, [], Bool, Option, None, Some, inl, inr, ap, sym, ◌∙◌, subst, arith}
-use Rattle.std.specs.Prelude.{Result, Ok, Err, MatchResult, OnOk}
-use Rattle.pbtool.specs.Answer.{Answer, stopped, broken, Ends, delivered, output_failed, file_failed, out_of_memory}
-use Rattle.pbtool.specs.Report.{device_line, memory_line}
-use Rattle.pbtool.specs.Refusal.{ByRefusal, refusal_line, refusal_status}
+use Rattle.std.proofs.Common.{◌≡◌, ◌≢◌, ℕ, List, [], Option, None, inl, inr, ap, sym, ◌∙◌, subst, arith}
+use Rattle.std.specs.Prelude.{Result, Ok, Err, MatchResult, OnOk, string_bytes}
+use Rattle.pbtool.specs.Answer.{Answer, stopped, Ends, delivered, output_failed, file_failed, out_of_memory}
+use Rattle.pbtool.specs.Report.{device_line}
+use Rattle.pbtool.specs.Refusal.{refusal_line, refusal_status}
 use Rattle.pbtool.specs.Steps.{Comes, FailsAt}
 use Rattle.pbtool.specs.declared.report.Refusal.{Refusal}
-use Rattle.pbtool.specs.declared.report.Refusal.TheVariants.{Fault, Set, SetFile, Link, UnknownType, TooLarge, Frame, Device, Memory}
+use Rattle.pbtool.specs.declared.report.Refusal.TheVariants.{Fault, Set, SetFile, Link, UnknownType, TooLarge, Frame, Source, Device, File, Memory}
 
 module _
     (Out Cut Told : List ℕ → Type 0) (Saved : Option (List ℕ × List ℕ) → Type 0) (Unsaved : List ℕ → Type 0) (status : ℕ)
@@ -34,8 +34,30 @@ module _
   ends_from Quiet (Err (UnknownType name)) quiet h told = stop_ends _ h told
   ends_from Quiet (Err TooLarge) quiet h told = stop_ends _ h told
   ends_from Quiet (Err (Frame index byte path cause)) quiet h told = stop_ends _ h told
+  ends_from Quiet (Err (Source file byte cause)) quiet h told = stop_ends _ h told
   ends_from Quiet (Err (Device path)) quiet h told = fail_ends path.now h told
+  ends_from Quiet (Err (File path)) quiet h told = fail_ends (string_bytes path) h told
   ends_from Quiet (Err Memory) quiet h told = out_of_memory h.1 told.0 h.2 told.1 h.3
+
+-- no command answers the status of words that are none
+pub never_two :
+    (Quiet : Type 0) (Told : Refusal → Type 0) (r : Result Unit Refusal) (status : ℕ)
+    → MatchResult r (λ _. (status ≡ 0) × Quiet) (λ e. (status ≡ refusal_status e) × Told e) → status ≢ 2
+never_two Quiet Told (Ok u) status concluded two = absurd (omega (arith, concluded.0, two))
+never_two Quiet Told (Err e) status concluded two = no_two e (sym concluded.0 ∙ two)
+  where
+    no_two : (e : Refusal) → refusal_status e ≡ 2 → ⊥
+    no_two (Fault byte path cause) is = omega (arith, is)
+    no_two (Set byte path cause) is = omega (arith, is)
+    no_two (SetFile file cause) is = omega (arith, is)
+    no_two (Link file full_name cause) is = omega (arith, is)
+    no_two (UnknownType name) is = omega (arith, is)
+    no_two TooLarge is = omega (arith, is)
+    no_two (Frame index byte path cause) is = omega (arith, is)
+    no_two (Source file byte cause) is = omega (arith, is)
+    no_two (Device path) is = omega (arith, is)
+    no_two (File path) is = omega (arith, is)
+    no_two Memory is = omega (arith, is)
 
 -- what holds of a command that succeeds holds where the status is 0
 pub kept_at_zero :
@@ -52,5 +74,7 @@ kept_at_zero Quiet Told (Err e) status Kept concluded kept zero = absurd (no_zer
     no_zero (UnknownType name) e = omega (arith, e)
     no_zero TooLarge e = omega (arith, e)
     no_zero (Frame index byte path cause) e = omega (arith, e)
+    no_zero (Source file byte cause) e = omega (arith, e)
     no_zero (Device path) e = omega (arith, e)
+    no_zero (File path) e = omega (arith, e)
     no_zero Memory e = omega (arith, e)

@@ -1,8 +1,11 @@
 -- What is known of files after something was opened.
-use Rattle.std.proofs.Common.{◌≡◌, ◌≢◌, ℕ, List, [], Bool, true, Option, None, Some, take, refl, sym, ap, ◌∙◌, subst}
+use Rattle.std.proofs.Common.{◌≡◌, ℕ, List, [], Bool, true, Option, None, Some, take, refl, sym, ap, ◌∙◌, subst}
 use Rattle.std.specs.Prelude.{Result, Ok, Err, IfSome}
-use Rattle.pbtool.specs.FileMap.{FileMap, KeepsMap, IsOpened, WritesWhole, SameBut, IsHonest, IsSaved, IsUnsaved}
-use Rattle.pbtool.specs.Steps.{IsReadFrom, IsReadOf, OfFiles, OfInput}
+use Rattle.pbtool.specs.FileMap.{FileMap, KeepsMap, IsOpened, WritesWhole, IsSaved, IsUnsaved}
+use Rattle.pbtool.specs.Answer.{Answer}
+use Rattle.pbtool.specs.Steps.{Comes, IsReadFrom, IsReadOf, OfFiles, OfInput}
+use Rattle.pbtool.specs.declared.report.Refusal.{Refusal}
+use Rattle.pbtool.proofs.Coming.{comes_map}
 
 pub keeps_same : (o : Option FileMap) → KeepsMap o o
 keeps_same None = tt
@@ -41,6 +44,19 @@ pub unsaved_later :
     → IsUnsaved contents failures old new path
 unsaved_later contents failures old mid new path kept same unsaved =
     (λ e. unsaved.0 (e ∙ sym same), writes_then (contents old) (contents mid) (contents new) path [] (Err tt) kept unsaved.1)
+
+-- what comes of later files comes of the earlier ones, which they are as
+pub later_comes :
+    {F : Type 0} (contents : F → Option FileMap) (failures : F → ℕ) (old mid new : F) (Out Cut : List ℕ → Type 0) (P Q : Answer → Type 0)
+    (B C : List ℕ → Type 0) (r : Result Unit Refusal) → KeepsMap (contents old) (contents mid) → failures mid ≡ failures old
+    → ((a : Answer) → P a → Q a) → ((text : List ℕ) → B text → C text)
+    → Comes Out Cut (IsSaved contents mid new) (IsUnsaved contents failures mid new) P B r
+    → Comes Out Cut (IsSaved contents old new) (IsUnsaved contents failures old new) Q C r
+later_comes contents failures old mid new Out Cut P Q B C r kept same right begun h =
+    comes_map Out Out Cut Cut (IsSaved contents mid new) (IsSaved contents old new) (IsUnsaved contents failures mid new)
+    (IsUnsaved contents failures old new) P Q B C r (λ text sent. sent) (λ text cut. cut)
+    (λ file saved. saved_later contents old mid new file kept saved) (λ path unsaved. unsaved_later contents failures old mid new path kept same unsaved)
+    right begun h
 
 -- nothing was opened, so nothing is there
 pub none_opened : {I : Type 0} (left : I → Option (List ℕ)) (o : Option (List ℕ)) → IsOpened left o None → o ≡ None

@@ -6,20 +6,21 @@ use Rattle.pb_wire.specs.Limits.{full}
 use Rattle.pb_schema.specs.Types.{Types}
 use Rattle.pb_value.specs.Data.{Message}
 use Rattle.pbtool.specs.Answer.{Answer}
-use Rattle.pbtool.specs.Answers.{Answers, AnyAnswers, AnyBegins, Begins, AnyFrames, canonical_form}
+use Rattle.pbtool.specs.Answers.{Answers, AnyAnswers, AnyBegins, Begins, canonical_form}
 use Rattle.pbtool.specs.FileMap.{FileMap, IsHonest}
 use Rattle.pbtool.specs.FramesAnswer.{FramesAnswer, AreFrames, none, ended, no_frame_there, input_failed}
 use Rattle.pbtool.specs.MessageAnswer.{MessageAnswer, faulty, read}
 use Rattle.pbtool.specs.RawAnswer.{RawAnswer}
-use Rattle.pbtool.specs.Steps.{BegunOf, IsReadOf, MessageOf, OfFiles, RightOf, StreamBegun, StreamOf}
+use Rattle.pbtool.specs.Steps.{BegunOf, IsReadOf, OfFiles, RightOf}
 use Rattle.pbtool.specs.TypeAnswer.{HasType, NoType, TypeAnswer, no_type, missing, opened}
 use Rattle.pbtool.specs.declared.command.Command.{Command}
-use Rattle.pbtool.specs.declared.command.Command.TheVariants.{Raw, Check, Show, Canon, Frames}
-use Rattle.pbtool.specs.declared.command.Source.{Source}
+use Rattle.pbtool.specs.declared.command.Command.TheVariants.{Raw, Check, Show, Canon, Frames, Compile}
 use Rattle.pbtool.specs.declared.form.Form.{Form}
 use Rattle.pbtool.specs.declared.form.Form.TheVariants as form
 use Rattle.pbtool.proofs.Judged.{answer_whole}
 use Rattle.pbtool.proofs.SetWhole.{has_type_whole, no_type_whole}
+use Rattle.pbtool.proofs.SourceSteps.{compile_of_any, compile_of_map}
+use Rattle.pbtool.specs.CompileAnswer.{texts_of}
 
 -- a type of the first bytes of a set is one of the set
 type_at :
@@ -29,7 +30,7 @@ type_at name set pool m None e has = absurd (cc)
 type_at name set pool m (Some b) e has =
     let front : set ≡ take (full.bytes + 1) b = cc in (b, refl, has_type_whole name b pool m (subst (λ (x : List ℕ). HasType name x pool m) front has))
 
-message_map :
+pub message_map :
     (H H' : Types → ℕ → Fault → Type 0) (T T' : Types → ℕ → Message → Type 0) (form : Form) (pool : Types) (m : ℕ) (a : Answer)
     → ((f : Fault) → H pool m f → H' pool m f) → ((v : Message) → T pool m v → T' pool m v) → MessageAnswer H T form pool m a → MessageAnswer H' T' form pool m a
 message_map H H' T T' form pool m a fault text (faulty {f} h e) = faulty (fault f h) e
@@ -83,12 +84,14 @@ module _ {F : Type 0} (contents : F → Option FileMap) (is_steady : F → Bool)
         type_of_map _ _ source.type_name.now source.set.now source.file.now a
         (λ pool m. frames_map _ _ _ _ _ _ source.file.now pool m a (λ text known. known.1 map honest) (λ count text f known. known.1 map honest)
         (λ text known. known.1 map honest)) h
+    right_of_map (Compile root out names) a h = compile_of_map contents is_steady files root.now out.now (texts_of names.now) a map honest h
 
     pub begun_of_map : (command : Command) (text : List ℕ) → BegunOf contents is_steady files command text → Begins map command text
     begun_of_map (Raw short file) text h = h
     begun_of_map (Check source) text h = h
     begun_of_map (Show source) text h = h
     begun_of_map (Canon to source) text h = h
+    begun_of_map (Compile root out names) text h = h
     begun_of_map (Frames source) text (inl nothing) = inl nothing
     begun_of_map (Frames source) text (inr h) =
         let at = type_at source.type_name.now h.0 h.1 h.2 (map source.set.now) (h.3 map honest) h.4 in
@@ -109,12 +112,14 @@ module _ {F : Type 0} (contents : F → Option FileMap) (is_steady : F → Bool)
   right_of_any (Frames source) a h =
       type_any _ _ _ _ source.type_name.now source.set.now source.file.now a
       (λ pool m. frames_map _ _ _ _ _ _ source.file.now pool m a (λ text known. known.0) (λ count text f known. known.0) (λ text known. known.0)) h
+  right_of_any (Compile root out names) a h = compile_of_any contents is_steady files root.now out.now (texts_of names.now) a h
 
   pub begun_of_any : (command : Command) (text : List ℕ) → BegunOf contents is_steady files command text → AnyBegins command text
   begun_of_any (Raw short file) text h = h
   begun_of_any (Check source) text h = h
   begun_of_any (Show source) text h = h
   begun_of_any (Canon to source) text h = h
+  begun_of_any (Compile root out names) text h = h
   begun_of_any (Frames source) text (inl nothing) =
       (record { files = []; messages = []; enums = [] }, 0, (0, subst (λ (t : List ℕ). AreFrames (record { files = []; messages = []; enums = [] }) 0 0 t) (sym nothing) none))
   begun_of_any (Frames source) text (inr h) = (h.1, h.2, h.5)

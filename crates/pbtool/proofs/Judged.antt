@@ -17,7 +17,7 @@ front_whole m b small =
     let size = length-take (m + 1) b in
     take_all (m + 1) b (omega (arith, size, small))
 
-front_long : (m : ℕ) (b : List ℕ) → m < length (take (m + 1) b) → m < length b
+pub front_long : (m : ℕ) (b : List ℕ) → m < length (take (m + 1) b) → m < length b
 front_long m b long = let size = length-take (m + 1) b in omega (arith, size, long)
 
 text_whole : (limits : Bounds) (b : List ℕ) (rs : List Record) → IsText blank tt limits (take (limits.bytes + 1) b) rs → IsText blank tt limits b rs

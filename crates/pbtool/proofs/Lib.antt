@@ -16,6 +16,12 @@ pub mod MessageSteps
 pub mod Streams
 pub mod RawSteps
 pub mod Endings
+pub mod NameSetLemmas
+pub mod GatheringLemmas
+pub mod SourceSteps
+pub mod GatherSteps
+pub mod SetLevels
+pub mod CompileSteps
 pub mod Honest
 pub mod Commands
 pub mod Matches

@@ -7,6 +7,9 @@ use Rattle.pb_wire.specs.Record.{Record, Payload, group_of}
 use Rattle.pb_wire.specs.Record as wire
 use Rattle.pb_wire.specs.Varint.{shortest}
 use Rattle.pb_wire.specs.Spell.{shortest_record, shortest_records}
+use Rattle.pb_source.specs.CauseName as source
+use Rattle.pb_source.specs.declared.fault.Cause.{Cause}
+use Rattle.pbtool.specs.Report.{cause_end, source_line}
 use Rattle.pbtool.specs.RawListing.{indent, line, line_feed, record_lines, group_lines, shown_bytes}
 use Rattle.pbtool.proofs.HexParts.{encode_lower-append}
 
@@ -26,6 +29,13 @@ start-parts level label = simp append_assoc
 pub scalar-parts :
     (level : ℕ) (label value : List ℕ) → line level (label ++ codes ": " ++ value) ≡ (indent level ++ label) ++ codes ": " ++ value ++ codes "\n"
 scalar-parts level label value = simp append_assoc
+
+-- which source is refused, and where
+pub source-parts :
+    (name : List ℕ) (byte : ℕ) (c : Cause)
+    → source_line name byte c ≡ (codes "source " ++ name) ++ (codes " byte " ++ decimal byte) ++ cause_end (source.name_of c)
+source-parts name byte c =
+    ap (λ (l : List ℕ). l ++ cause_end (source.name_of c)) (append_assoc (codes "source " ++ name) (codes " byte ") (decimal byte))
 
 -- the lines of a group
 pub record_lines-group :

@@ -1,10 +1,10 @@
 -- The lines of a message, part by part.
-use Rattle.std.proofs.Common.{◌≡◌, ℕ, suc, ◌+◌, ◌<◌, ◌≤◌, max, List, [], ◌∷◌, ◌++◌, length, take, drop, get_or, append_assoc, Option, Some, None, refl, sym, ap, ◌∙◌, arith, codes}
+use Rattle.std.proofs.Common.{◌≡◌, ℕ, suc, ◌+◌, ◌<◌, ◌≤◌, max, List, [], ◌∷◌, ◌++◌, length, take, drop, get_or, append_assoc, Option, Some, sym, ap, ◌∙◌, arith, codes}
 use Rattle.std.proofs.lemmas.Grind.{flat_map-append}
 use Rattle.std.proofs.lemmas.List.{drop_more, take-append-drop}
 use Rattle.std.specs.List.{flat_map}
 use Rattle.std.specs.Option.{option_map_or}
-use Rattle.pb_wire.specs.Record.{Record, depth, group_depth, group_of, records_depth}
+use Rattle.pb_wire.specs.Record.{depth, group_depth, group_of, records_depth}
 use Rattle.pb_wire.specs.Unknown.{payload_of, records_of}
 use Rattle.pb_wire.specs.declared.unknown.Unknown.{Unknown}
 use Rattle.pb_schema.specs.declared.types.Kind.{Kind}

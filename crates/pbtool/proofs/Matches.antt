@@ -1,6 +1,7 @@
 -- What clap's matches name.
-use Rattle.std.proofs.Common.{◌≡◌, Bool, true, false, List, [], ◌∷◌, ◌⊎◌, Option, Some, None, option_map, inl, inr, suc, arith, refl, sym, ap, subst}
-use Rattle.std.specs.Prelude.{Any, find, is_some, map, if◌then◌else◌}
+use Rattle.std.proofs.Common.{◌≡◌, ℕ, Bool, true, false, List, [], ◌∷◌, ◌⊎◌, Option, Some, None, option_map, inl, inr, suc, arith, refl, sym, ap, subst}
+use Rattle.std.specs.Prelude.{Any, find, is_some, map, unwrap_or, if◌then◌else◌}
+use Rattle.std.specs.Borrow.{Bor}
 use Rattle.clap.specs.Walk.{stop_after, rows_of}
 use Rattle.clap.specs.Walk.{answers_to}
 use Rattle.clap.specs.Words.{Row, Text, Shape, subcommand_name_of, subcommand_rows_of}
@@ -13,6 +14,7 @@ use Rattle.std.specs.Box.{box_value}
 use Rattle.std.specs.declared.boxed.Box.{Box}
 use Rattle.std.specs.declared.alloc.Global.{Global}
 use Rattle.pbtool.specs.declared.command.Command.{Command}
+use Rattle.pbtool.specs.CompileAnswer.{texts_of}
 use Rattle.pbtool.specs.Words.{IsMatched, IsNamed, tool, tool_names}
 
 pairs_matched : (s : Option (Text × List Row)) (name : Text) (rows : List Row) (command : Command)
@@ -31,6 +33,13 @@ matched_named m name rows command n r named = pairs_matched (subcommand_rows_of 
     names : (o : Option (Box SubCommand Global)) → option_map (λ b. (out-SubCommand (box_value b)).name.now) o ≡ Some name → option_map (λ p. p.0) (subcommand_rows o) ≡ Some name
     names None e = e
     names (Some b) e = e
+
+-- values, or none where there are none
+pub texts_or_none :
+    (o : Option (Bor (List (Bor (List ℕ))))) (d : Bor (List (Bor (List ℕ)))) → d.now ≡ []
+    → texts_of (unwrap_or o d).now ≡ unwrap_or (option_map (λ s. map (λ v. v.now) s.now) o) []
+texts_or_none None d none = ap texts_of none
+texts_or_none (Some s) d none = refl
 
 -- WHICH SUBCOMMAND WAS MET
 

@@ -1,5 +1,5 @@
 -- A text that is put part by part, of things that stand no deeper than lines may.
-use Rattle.std.proofs.Common.{◌≡◌, ℕ, ◌+◌, ◌≤◌, max, List, [], ◌++◌, length, Option, refl, sym, ap, ◌∙◌, subst, append_assoc, append-nil, arith}
+use Rattle.std.proofs.Common.{◌≡◌, ℕ, ◌+◌, ◌≤◌, max, List, [], ◌++◌, Option, refl, sym, ap, ◌∙◌, subst, append_assoc, arith}
 use Rattle.std.specs.Prelude.{Result, Ok, Err, IsErr}
 use Rattle.pb_wire.specs.declared.device.DeviceFault.{DeviceFault}
 use Rattle.pbtool.specs.declared.buffered.Buffered.{Buffered}

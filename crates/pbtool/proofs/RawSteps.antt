@@ -1,6 +1,6 @@
 -- What `raw` comes to, from what its steps leave.
 use Rattle.std.proofs.Common.{◌≡◌, ℕ, List, Bool, Option, None, Some, refl, sym, subst}
-use Rattle.std.specs.Prelude.{Result, Ok, Err}
+use Rattle.std.specs.Prelude.{Result, Err}
 use Rattle.pb_wire.specs.Record.{Record}
 use Rattle.pb_wire.specs.Schema.{blank}
 use Rattle.pb_wire.specs.Grammar.{HasFault, IsText}
@@ -8,7 +8,7 @@ use Rattle.pb_wire.specs.Reading.{IfRawFault}
 use Rattle.pb_wire.specs.declared.fault.RawError.{RawError}
 use Rattle.pb_wire.specs.declared.fault.RawError.TheVariants as raw
 use Rattle.pb_wire.specs.Limits.{Bounds}
-use Rattle.pbtool.specs.Answer.{Answer, done}
+use Rattle.pbtool.specs.Answer.{done}
 use Rattle.pbtool.specs.RawAnswer.{RawAnswer, faulty, shown, shown_as}
 use Rattle.pbtool.specs.Refusal.{IsTold}
 use Rattle.pbtool.specs.Steps.{Comes, IsNothing, Judges, NoFile}

@@ -1,7 +1,6 @@
 -- The first bytes of a set, one more than may be read, tell what all of them do.
-use Rattle.std.proofs.Common.{◌≡◌, ℕ, ◌+◌, List, length, take, Option, None, Some, refl, subst}
+use Rattle.std.proofs.Common.{ℕ, ◌+◌, List, take, Option, None, Some, refl, subst}
 use Rattle.std.specs.Prelude.{option_map}
-use Rattle.pb_wire.specs.Fault.{Fault}
 use Rattle.pb_wire.specs.Grammar.{HasFault}
 use Rattle.pb_wire.specs.Limits.{full}
 use Rattle.pb_schema.specs.Context.{a_message, schema_of}

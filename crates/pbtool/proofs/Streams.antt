@@ -1,8 +1,8 @@
 -- The frames of a stream, one after another.
-use Rattle.std.proofs.Common.{◌≡◌, ℕ, suc, ◌+◌, ◌-◌, ◌^◌, ◌<◌, ◌≤◌, min, List, [], ◌∷◌, ◌++◌, length, Bool, true, false, Option, None, Some, refl, sym, ap, ◌∙◌, subst, arith, length-append, add-one}
+use Rattle.std.proofs.Common.{◌≡◌, ℕ, suc, ◌+◌, ◌-◌, ◌^◌, ◌<◌, ◌≤◌, List, [], ◌∷◌, ◌++◌, length, Bool, true, false, Option, None, Some, refl, sym, ap, ◌∙◌, subst, arith, length-append, add-one}
 use Rattle.std.specs.Prelude.{Result, Ok, Err, IfSome, IsSomeAnd, IsErr}
 use Rattle.std.specs.Borrow.{Bor}
-use Rattle.std.specs.Io.KnownBytes.{Consumes, IsAtEnd}
+use Rattle.std.specs.Io.KnownBytes.{Consumes}
 use Rattle.pb_wire.specs.Fault.{Fault, fault}
 use Rattle.pb_wire.specs.Limits.{Bounds, full}
 use Rattle.pb_wire.specs.Varint.{EndsOnce}
@@ -11,7 +11,6 @@ use Rattle.pb_schema.specs.Types.{Types}
 use Rattle.pb_value.specs.Data.{Message}
 use Rattle.pb_value.specs.Dynamic.{Dynamic}
 use Rattle.pb_value.specs.WellFormed.{IsWellFormed}
-use Rattle.pb_decode.specs.FromDevice.{IfRefused}
 use Rattle.pb_decode.specs.declared.error.DecodeError.{DecodeError}
 use Rattle.pb_decode.specs.declared.error.DecodeError.TheVariants as decode
 use Rattle.pb_stream.specs.Frame.{Frame, FrameFault}
@@ -21,8 +20,9 @@ use Rattle.pbtool.specs.Answer.{done, stopped, broken}
 use Rattle.pbtool.specs.FramesAnswer.{AreFrames, none, one_more, BeginsWith, no_frame, frame_more, frame_lines, ended, no_frame_there, input_failed}
 use Rattle.pbtool.specs.Refusal.{ByRefusal}
 use Rattle.pbtool.specs.Sending.{Puts}
-use Rattle.pbtool.specs.Streaming.{FramesBegunIn, FramesIn, IsToldOfFrame, PutsFrames}
+use Rattle.pbtool.specs.Streaming.{FramesBegunIn, FramesIn, IsToldOfFrame, PutsFrames, PutsNext, ReadsFrame, RefusesFrame, read_lines}
 use Rattle.pbtool.specs.declared.buffered.Buffered.{Buffered}
+use Rattle.pbtool.specs.declared.frames.Next.{Next}
 use Rattle.pbtool.specs.declared.report.Refusal.{Refusal}
 use Rattle.pbtool.proofs.SendingLemmas.{puts_none, puts_then}
 
@@ -161,19 +161,13 @@ module _ {I : Type 0} {left : I → Option (List ℕ)} {is_steady : I → Bool} 
         (frame_there (left next.input) m before.0 h.pool h.kind h.limits before.1 frame) counts before.2 before.3 small;
   }
 
-  -- as the reader tells it
+  -- as a step tells it
   pub read_next :
-      {start now next : Stream I} {count : ℕ} {text : List ℕ} (d : Dynamic) (offset size : ℕ) → AreRead left is_steady start now count text
-      → (next.pool ≡ now.pool) × (next.kind ≡ now.kind) × (next.limits ≡ now.limits) → next.finished ≡ false
-      → (is_steady now.input ≡ true → is_steady next.input ≡ true) → (d.pool ≡ now.pool) × (d.kind ≡ now.kind) → IsWellFormed d.pool d.kind d.body
-      → IfSome (left now.input) (λ rest. IsSomeAnd (left next.input) (Frame now.pool now.kind now.limits rest d.body))
-      → Counts now.taken next.taken (left now.input) (left next.input) → offset ≡ now.taken → size ≡ next.taken - offset
-      → AreRead left is_steady start next (count + 1) (text ++ frame_lines d.pool d.kind count offset size d.body)
-  read_next d offset size h same open_ steady typed well frame counts begins sized =
-      let pool = typed.0 ∙ h.pool in
-      let kind = typed.1 ∙ h.kind in
-      let formed = rw (pool, kind) at well in
-      rw (sized, begins, pool, kind, add-one) (read_more d.body h same.0 same.1 same.2 open_ steady formed frame counts)
+      {start now next : Stream I} {count : ℕ} {text : List ℕ} (m : Message) → AreRead left is_steady start now count text
+      → ReadsFrame left is_steady now next m → AreRead left is_steady start next (count + 1) (text ++ read_lines count now next m)
+  read_next m h step =
+      let well = rw (h.pool, h.kind) at step.well in
+      rw (h.pool, h.kind, add-one) (read_more m h step.same.0 step.same.1 step.same.2 step.goes_on step.steady well step.frame step.counted)
 
   -- WHAT IT COMES TO
 
@@ -219,27 +213,59 @@ module _ {I : Type 0} {left : I → Option (List ℕ)} {is_steady : I → Bool} 
   -- what follows is refused
   pub read_refused :
       {start now : Stream I} {count : ℕ} {text : List ℕ} (path : Bor (List ℕ)) (e : DecodeError) (r : Refusal)
-      → AreRead left is_steady start now count text → IsToldOfFrame count path e r
-      → IfRefused e (λ f. IfSome (left now.input) (λ rest. FrameFault now.pool now.kind now.limits rest f))
-      → (is_steady now.input ≡ true → e ≡ decode.Device → ⊥)
+      → AreRead left is_steady start now count text → IsToldOfFrame count path e r → RefusesFrame left is_steady now e
       → ByRefusal (λ line. FramesIn left is_steady start.input path.now start.pool start.kind (stopped text line))
       (λ device. FramesIn left is_steady start.input path.now start.pool start.kind (broken text device))
       (FramesBegunIn left is_steady start.input start.pool start.kind text) r
-  read_refused {now = now} {count = count} path (decode.Fault byte steps cause) r h told refused steady_input =
+  read_refused {now = now} {count = count} path (decode.Fault byte steps cause) r h told refused =
       rw told
       (no_frame_there {f = fault byte steps.items cause} (
         h.frames,
         λ bytes steady is. (
           bytes,
           refl,
-          λ small. let before = h.known bytes is small in (now.taken, before.0, before.2, fault_there before.0 h.pool h.kind h.limits before.1 refused),
+          λ small. let before = h.known bytes is small in (now.taken, before.0, before.2, fault_there before.0 h.pool h.kind h.limits before.1 refused.why),
         ),
       )
       refl)
-  read_refused {count = count} path decode.Device r h told refused steady_input =
-      rw told (input_failed ((count, h.frames), λ bytes steady is. absurd (steady_input (h.steady steady) refl)) refl)
-  read_refused path decode.Memory r h told refused steady_input = rw told (read_begun h)
-  read_refused path decode.Finished r h told refused steady_input = absurd refused
+  read_refused {count = count} path decode.Device r h told refused =
+      rw told (input_failed ((count, h.frames), λ bytes steady is. absurd (refused.failed (h.steady steady) refl)) refl)
+  read_refused path decode.Memory r h told refused = rw told (read_begun h)
+  read_refused path decode.Finished r h told refused = absurd refused.why
+
+  -- ONE STEP
+
+  -- the frame that the reader tells
+  pub reads_frame :
+      {old new : Stream I} (d : Dynamic) → (new.pool ≡ old.pool) × (new.kind ≡ old.kind) × (new.limits ≡ old.limits) → new.finished ≡ false
+      → (is_steady old.input ≡ true → is_steady new.input ≡ true) → (d.pool ≡ old.pool) × (d.kind ≡ old.kind) → IsWellFormed d.pool d.kind d.body
+      → IfSome (left old.input) (λ rest. IsSomeAnd (left new.input) (Frame old.pool old.kind old.limits rest d.body))
+      → Counts old.taken new.taken (left old.input) (left new.input) → ReadsFrame left is_steady old new d.body
+  reads_frame d same open_ steady typed well frame counted = record {
+    same = same;
+    goes_on = open_;
+    steady = steady;
+    well = rw (typed.0, typed.1) at well;
+    frame = frame;
+    counted = counted;
+  }
+
+-- its lines, as they were put
+pub lines_read :
+    {D I : Type 0} {written : D → Option (List ℕ)} {failures : D → ℕ} {b0 b1 : Buffered D} {r : Result Unit DeviceFault} (old new : Stream I) (d : Dynamic)
+    (index offset size : ℕ) → (d.pool ≡ old.pool) × (d.kind ≡ old.kind) → offset ≡ old.taken → size ≡ new.taken - offset
+    → Puts written failures b0 b1 r (frame_lines d.pool d.kind index offset size d.body)
+    → Puts written failures b0 b1 r (read_lines index old new d.body)
+lines_read old new d index offset size typed begins sized put = rw (sized, begins, typed.0, typed.1) at put
+
+-- the output failed in them, at the exit of a `?`
+pub next_cut :
+    {D I : Type 0} {written : D → Option (List ℕ)} {failures : D → ℕ} {left : I → Option (List ℕ)} {is_steady : I → Bool} {b0 b1 : Buffered D}
+    {old new : Stream I} (index : ℕ) (path : Bor (List ℕ)) {e : DeviceFault} {m : Message} (r : Result Next DeviceFault) → IsErr r
+    → ReadsFrame left is_steady old new m → Puts written failures b0 b1 (Err e) (read_lines index old new m)
+    → PutsNext written failures left is_steady b0 b1 old new index path r
+next_cut index path (Ok n) is_err reads put = absurd (cc)
+next_cut index path {m = m} (Err f) is_err reads put = (m, reads, record { same = put.same; follow = put.follow })
 
 pub streaming_start :
     {D I : Type 0} {written : D → Option (List ℕ)} {failures : D → ℕ} {left : I → Option (List ℕ)} {is_steady : I → Bool} {b : Buffered D} (r : Stream I)
@@ -248,9 +274,12 @@ streaming_start r first open_ limits = record { text = []; put = puts_none; read
 
 -- the output failed in a frame, at the exit of a `?`
 pub frames_cut :
-    {D I : Type 0} {written : D → Option (List ℕ)} {failures : D → ℕ} (left : I → Option (List ℕ)) (is_steady : I → Bool) (input : I) {b0 b1 : Buffered D}
-    (path : List ℕ) (pool : Types) (m : ℕ) {e : DeviceFault} {text : List ℕ} (r : Result (Option Refusal) DeviceFault) → IsErr r
-    → FramesBegunIn left is_steady input pool m text → Puts written failures b0 b1 (Err e) text
-    → PutsFrames left is_steady input written failures b0 b1 path pool m r
-frames_cut left is_steady input path pool m (Ok o) is_err begun put = absurd (cc)
-frames_cut left is_steady input path pool m {text = text} (Err f) is_err begun put = (text, begun, record { same = put.same; follow = put.follow })
+    {D I : Type 0} {written : D → Option (List ℕ)} {failures : D → ℕ} {left : I → Option (List ℕ)} {is_steady : I → Bool} {b0 b1 b2 : Buffered D}
+    {start now next : Stream I} {count : ℕ} (path : Bor (List ℕ)) {e : DeviceFault} (r : Result (Option Refusal) DeviceFault) → IsErr r
+    → IsStreaming written failures left is_steady b0 b1 start now count
+    → PutsNext written failures left is_steady b1 b2 now next count path (Err e)
+    → PutsFrames left is_steady start.input written failures b0 b2 path.now start.pool start.kind r
+frames_cut path (Ok o) is_err before step = absurd (cc)
+frames_cut path (Err f) is_err before step =
+    let put = puts_then before.put step.2 in
+    (_, read_begun (read_next step.0 before.read step.1), record { same = put.same; follow = put.follow })

@@ -1,5 +1,5 @@
 -- Why a set gives no type, from what its steps leave.
-use Rattle.std.proofs.Common.{◌≡◌, ℕ, List, Some, refl}
+use Rattle.std.proofs.Common.{ℕ, List, Some, refl}
 use Rattle.pb_wire.specs.Limits.{full}
 use Rattle.pb_descr.specs.Decls.{DeclaredFile}
 use Rattle.pb_descr.specs.Sets.{IsSetOf, IsUnread}

@@ -11,13 +11,14 @@ use Rattle.pb_value.specs.Derives.{Text}
 use Rattle.pb_value.specs.WellFormed.{IsWellFormed}
 use Rattle.pb_stream.specs.Frame.{FrameFault}
 use Rattle.pbtool.specs.Answer.{Answer, Ends}
+use Rattle.pbtool.specs.CompileAnswer.{CompileAnswer, texts_of}
 use Rattle.pbtool.specs.FileMap.{FileMap}
 use Rattle.pbtool.specs.FramesAnswer.{AreFrames, BeginsWith, FramesAnswer}
 use Rattle.pbtool.specs.MessageAnswer.{MessageAnswer}
 use Rattle.pbtool.specs.RawAnswer.{RawAnswer}
 use Rattle.pbtool.specs.TypeAnswer.{HasType, TypeAnswer}
 use Rattle.pbtool.specs.declared.command.Command.{Command}
-use Rattle.pbtool.specs.declared.command.Command.TheVariants.{Raw, Check, Show, Canon, Frames}
+use Rattle.pbtool.specs.declared.command.Command.TheVariants.{Raw, Check, Show, Canon, Frames, Compile}
 use Rattle.pbtool.specs.declared.command.Source.{Source}
 use Rattle.pbtool.specs.declared.form.Form.{Form}
 use Rattle.pbtool.specs.declared.form.Form.TheVariants as form
@@ -72,6 +73,7 @@ module _ (map : FileMap) where
   Answers (Show source) = MessageComesTo form.Listing source
   Answers (Canon to source) = MessageComesTo (canonical_form to) source
   Answers (Frames source) = FramesComeTo source
+  Answers (Compile root out names) = CompileAnswer (λ path content. content ≡ map path) (λ path. ⊥) root.now out.now (texts_of names.now)
 
   -- what is printed before the answer is known: of frames those that were read, and else nothing
   abbrev pub Begins : Command → List ℕ → Type 0
@@ -79,6 +81,7 @@ module _ (map : FileMap) where
   Begins (Check source) text = text ≡ []
   Begins (Show source) text = text ≡ []
   Begins (Canon to source) text = text ≡ []
+  Begins (Compile root out names) text = text ≡ []
   Begins (Frames source) text =
       (text ≡ [])
       ⊎ ((set : List ℕ) × (pool : Types) × (m : ℕ) × (map source.set.now ≡ Some set) × HasType source.type_name.now set pool m
@@ -98,19 +101,22 @@ AnyStream s =
     TypeAnswer (λ content. ⊤) ⊤ (FramesAnswer AnyFrames (λ pool m count text f. AreFrames pool m count text) AnyFrames s.file.now)
     s.type_name.now s.set.now s.file.now
 
--- the answer has the form of one: of raw records it is that of some bytes, and else of some set, and of some messages of the type
+-- the answer has the form of one: of raw records it is that of some bytes, of sources that of some at each path, and else of some set, and of some
+-- messages of the type
 abbrev pub AnyAnswers : Command → Answer → Type 0
 AnyAnswers (Raw short file) a = (content : Option (List ℕ)) × RawAnswer full short file.now content a
 AnyAnswers (Check source) a = AnyMessage form.Check source a
 AnyAnswers (Show source) a = AnyMessage form.Listing source a
 AnyAnswers (Canon to source) a = AnyMessage (canonical_form to) source a
 AnyAnswers (Frames source) a = AnyStream source a
+AnyAnswers (Compile root out names) a = CompileAnswer (λ path content. ⊤) (λ path. ⊤) root.now out.now (texts_of names.now) a
 
 abbrev pub AnyBegins : Command → List ℕ → Type 0
 AnyBegins (Raw short file) text = text ≡ []
 AnyBegins (Check source) text = text ≡ []
 AnyBegins (Show source) text = text ≡ []
 AnyBegins (Canon to source) text = text ≡ []
+AnyBegins (Compile root out names) text = text ≡ []
 AnyBegins (Frames source) text = (pool : Types) × (m : ℕ) × AnyFrames pool m text
 
 -- THE END OF A RUN

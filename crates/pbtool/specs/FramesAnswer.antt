@@ -5,7 +5,7 @@ use Rattle.pb_wire.specs.Limits.{full}
 use Rattle.pb_schema.specs.Types.{Types}
 use Rattle.pb_value.specs.Data.{Message}
 use Rattle.pb_value.specs.WellFormed.{IsWellFormed}
-use Rattle.pb_stream.specs.Frame.{Frame, FrameFault}
+use Rattle.pb_stream.specs.Frame.{Frame}
 use Rattle.pbtool.specs.Answer.{Answer, done, stopped, broken}
 use Rattle.pbtool.specs.Listing.{message_lines}
 use Rattle.pbtool.specs.RawListing.{line}

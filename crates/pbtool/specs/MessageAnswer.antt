@@ -1,5 +1,5 @@
 -- What is made of a message, and what comes of bytes that should be one.
-use Rattle.std.specs.Prelude.{◌≡◌, ◌<◌, ◌≤◌, ◌^◌, ◌⊎◌, ℕ, List, ◌++◌, Option, None, Some, codes, length}
+use Rattle.std.specs.Prelude.{◌≡◌, ◌<◌, ◌≤◌, ◌^◌, ℕ, List, ◌++◌, codes, length}
 use Rattle.hex.specs.Hex.{encode_lower}
 use Rattle.pb_wire.specs.Fault.{Fault}
 use Rattle.pb_schema.specs.Types.{Types}

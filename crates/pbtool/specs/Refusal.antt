@@ -8,9 +8,9 @@ use Rattle.pb_descr.specs.declared.error.DescrError.TheVariants as descr
 use Rattle.pb_link.specs.declared.error.LinkError.{LinkError}
 use Rattle.pb_link.specs.declared.error.LinkError.TheVariants as link
 use Rattle.pbtool.specs.Answer.{Answer, refused, device_failed}
-use Rattle.pbtool.specs.Report.{fault_line, set_fault_line, set_cause_line, link_line, type_line, too_large_line, frame_fault_line, device_line, memory_line}
+use Rattle.pbtool.specs.Report.{fault_line, set_fault_line, set_cause_line, link_line, type_line, too_large_line, frame_fault_line, source_line, device_line, memory_line}
 use Rattle.pbtool.specs.declared.report.Refusal.{Refusal}
-use Rattle.pbtool.specs.declared.report.Refusal.TheVariants.{Fault, Set, SetFile, Link, UnknownType, TooLarge, Frame, Device, Memory}
+use Rattle.pbtool.specs.declared.report.Refusal.TheVariants.{Fault, Set, SetFile, Link, UnknownType, TooLarge, Frame, Source, Device, File, Memory}
 
 abbrev pub refusal_line : Refusal → List ℕ
 refusal_line (Fault byte path cause) = fault_line (fault byte path.items cause)
@@ -20,7 +20,9 @@ refusal_line (Link file full_name cause) = link_line (string_bytes file) (string
 refusal_line (UnknownType name) = type_line name.now
 refusal_line TooLarge = too_large_line
 refusal_line (Frame index byte path cause) = frame_fault_line index (fault byte path.items cause)
+refusal_line (Source file byte cause) = source_line (string_bytes file) byte cause
 refusal_line (Device path) = device_line path.now
+refusal_line (File path) = device_line (string_bytes path)
 refusal_line Memory = memory_line
 
 -- 1 where an input is refused, and 3 for devices and memory
@@ -32,7 +34,9 @@ refusal_status (Link file full_name cause) = 1
 refusal_status (UnknownType name) = 1
 refusal_status TooLarge = 1
 refusal_status (Frame index byte path cause) = 1
+refusal_status (Source file byte cause) = 1
 refusal_status (Device path) = 3
+refusal_status (File path) = 3
 refusal_status Memory = 3
 
 -- what a refusal is: an input is refused with this line, a device of this path failed, or memory ran out
@@ -44,7 +48,9 @@ ByRefusal Input Failed OutOfMemory (Link file full_name cause) = Input (link_lin
 ByRefusal Input Failed OutOfMemory (UnknownType name) = Input (type_line name.now)
 ByRefusal Input Failed OutOfMemory TooLarge = Input too_large_line
 ByRefusal Input Failed OutOfMemory (Frame index byte path cause) = Input (frame_fault_line index (fault byte path.items cause))
+ByRefusal Input Failed OutOfMemory (Source file byte cause) = Input (source_line (string_bytes file) byte cause)
 ByRefusal Input Failed OutOfMemory (Device path) = Failed path.now
+ByRefusal Input Failed OutOfMemory (File path) = Failed (string_bytes path)
 ByRefusal Input Failed OutOfMemory Memory = OutOfMemory
 
 -- before anything is printed: the answer that a refusal comes to, unless memory ran out

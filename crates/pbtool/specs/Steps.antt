@@ -6,17 +6,20 @@ use Rattle.pb_wire.specs.Exact.{IsSomeText}
 use Rattle.pb_wire.specs.Limits.{Bounds, full}
 use Rattle.pb_schema.specs.Types.{Types}
 use Rattle.pb_value.specs.WellFormed.{IsWellFormed}
-use Rattle.pbtool.specs.Answer.{Answer, stopped, broken, IsPrinted}
+use Rattle.pb_descr.specs.Decls.{DeclaredFile}
+use Rattle.pbtool.specs.Answer.{Answer, stopped, broken, device_failed, IsPrinted}
 use Rattle.pbtool.specs.Answers.{FaultAt, TextAt, FramesAt, FrameFaultAt, FramesBegunAt, AnyFrames, canonical_form}
+use Rattle.pbtool.specs.CompileAnswer.{CompileAnswer, texts_of, told_of}
 use Rattle.pbtool.specs.FileMap.{FileMap, IsHonest}
 use Rattle.pbtool.specs.FramesAnswer.{AreFrames, FramesAnswer}
+use Rattle.pbtool.specs.Gathering.{Gathered, GathersAt, HasTroubleAt, IsAbsentAt, DeclaresAt, Origin, Outcome, Trouble, stopped_at}
 use Rattle.pbtool.specs.MessageAnswer.{MessageAnswer}
 use Rattle.pbtool.specs.RawAnswer.{RawAnswer}
 use Rattle.pbtool.specs.Refusal.{ByRefusal, Refuses}
 use Rattle.pbtool.specs.Report.{output_name}
 use Rattle.pbtool.specs.TypeAnswer.{HasType, TypeAnswer}
 use Rattle.pbtool.specs.declared.command.Command.{Command}
-use Rattle.pbtool.specs.declared.command.Command.TheVariants.{Raw, Check, Show, Canon, Frames}
+use Rattle.pbtool.specs.declared.command.Command.TheVariants.{Raw, Check, Show, Canon, Frames, Compile}
 use Rattle.pbtool.specs.declared.command.Source.{Source}
 use Rattle.pbtool.specs.declared.form.Form.{Form}
 use Rattle.pbtool.specs.declared.form.Form.TheVariants as form
@@ -76,6 +79,34 @@ abbrev pub NoFile : Option (List ℕ × List ℕ) → Type 0
 NoFile saved = saved ≡ None
 
 module _ {F : Type 0} (contents : F → Option FileMap) (is_steady : F → Bool) (files : F) where
+  -- WHERE A TYPE IS KNOWN: what comes of the file of its messages, that at a path
+
+  -- the file is not there
+  abbrev pub IsMissing : List ℕ → Answer → Type 0
+  IsMissing path a = OfFiles contents is_steady files path (λ content. content ≡ None) × (a ≡ device_failed path)
+
+  -- or something is made of its message
+  abbrev pub MessageAt : Form → Types → ℕ → List ℕ → Answer → Type 0
+  MessageAt form pool m path a =
+      IsMissing path a
+      ⊎ MessageAnswer (λ pool m f. OfFiles contents is_steady files path (λ content. FaultAt content pool m f))
+      (λ pool m v. IsWellFormed pool m v × OfFiles contents is_steady files path (λ content. TextAt content pool m v)) form pool m a
+
+  -- or its frames are shown
+  abbrev pub StreamAt : Types → ℕ → List ℕ → Answer → Type 0
+  StreamAt pool m path a =
+      IsMissing path a
+      ⊎ FramesAnswer (λ pool m text. AnyFrames pool m text × OfFiles contents is_steady files path (λ content. FramesAt content pool m text))
+      (λ pool m count text f. AreFrames pool m count text × OfFiles contents is_steady files path (λ content. FrameFaultAt content pool m count text f))
+      (λ pool m text. AnyFrames pool m text × OfFiles contents is_steady files path (λ content. ⊥)) path pool m a
+
+  -- what is printed of them before that is known
+  abbrev pub StreamBegunAt : Types → ℕ → List ℕ → List ℕ → Type 0
+  StreamBegunAt pool m path text =
+      (text ≡ []) ⊎ (AnyFrames pool m text × OfFiles contents is_steady files path (λ content. FramesBegunAt content pool m text))
+
+  -- COMMANDS
+
   -- what a command comes to that makes something of the message of a file
   abbrev pub MessageOf : Form → Source → Answer → Type 0
   MessageOf form s =
@@ -100,6 +131,34 @@ module _ {F : Type 0} (contents : F → Option FileMap) (is_steady : F → Bool)
       ⊎ ((set : List ℕ) × (pool : Types) × (m : ℕ) × IsReadOf contents is_steady files (full.bytes + 1) s.set.now (Some set)
       × HasType s.type_name.now set pool m × AnyFrames pool m text × OfFiles contents is_steady files s.file.now (λ content. FramesBegunAt content pool m text))
 
+  -- what stands at a path, and that reading there fails, which is never so of honest files
+  abbrev pub IsAt : List ℕ → Option (List ℕ) → Type 0
+  IsAt = IsReadOf contents is_steady files (full.bytes + 1)
+
+  abbrev pub Fails : List ℕ → Type 0
+  Fails path = OfFiles contents is_steady files path (λ content. ⊥)
+
+  -- of the files under a root: which are not there, what their sources declare, and why they are refused
+  abbrev pub AbsentOf : List ℕ → List ℕ → Type 0
+  AbsentOf root = IsAbsentAt IsAt root
+
+  abbrev pub DeclaredOf : List ℕ → List ℕ → DeclaredFile → Type 0
+  DeclaredOf root = DeclaresAt IsAt root
+
+  abbrev pub TroubleOf : List ℕ → Origin → List ℕ → Trouble → Type 0
+  TroubleOf root = HasTroubleAt IsAt Fails root
+
+  abbrev pub GathersOf : List ℕ → Origin → List (List ℕ) → Gathered → Outcome → Type 0
+  GathersOf root = GathersAt IsAt Fails root
+
+  -- reaching names stops at a file that is refused
+  abbrev pub StopsOf : List ℕ → Origin → List (List ℕ) → Gathered → Answer → Type 0
+  StopsOf root o names g a = (name : List ℕ) × (t : Trouble) × GathersOf root o names g (stopped_at name t) × (a ≡ told_of root name t)
+
+  -- what `compile` comes to
+  abbrev pub CompileOf : List ℕ → List ℕ → List (List ℕ) → Answer → Type 0
+  CompileOf = CompileAnswer IsAt Fails
+
   -- a command's right answers, and what is printed before they are known
   abbrev pub RightOf : Command → Answer → Type 0
   RightOf (Raw short file) a =
@@ -108,6 +167,7 @@ module _ {F : Type 0} (contents : F → Option FileMap) (is_steady : F → Bool)
   RightOf (Show source) a = MessageOf form.Listing source a
   RightOf (Canon to source) a = MessageOf (canonical_form to) source a
   RightOf (Frames source) a = StreamOf source a
+  RightOf (Compile root out names) a = CompileOf root.now out.now (texts_of names.now) a
 
   abbrev pub BegunOf : Command → List ℕ → Type 0
   BegunOf (Raw short file) text = IsNothing text
@@ -115,3 +175,4 @@ module _ {F : Type 0} (contents : F → Option FileMap) (is_steady : F → Bool)
   BegunOf (Show source) text = IsNothing text
   BegunOf (Canon to source) text = IsNothing text
   BegunOf (Frames source) text = StreamBegun source text
+  BegunOf (Compile root out names) text = IsNothing text

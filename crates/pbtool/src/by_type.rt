@@ -43,12 +43,26 @@ pub fn find_type<'a, F: Files>(
     ensures steady { F.is_steady files.old ≡ true → F.is_steady files.new ≡ true }
     ensures files { KeepsMap (F.contents files.old) (F.contents files.new) }
 {
-    let set = read_file(alloc, Limits::FULL, source.set, files)?;
-    let pool = read_pool(alloc, &set)?;
+    let pool = pool_at(alloc, source.set, files)?;
     match pool.message_by_name(source.type_name) {
         Some(kind) => Ok((pool, kind)),
         None => Err(Refusal::UnknownType(source.type_name)),
     }
+}
+
+/// The pool of the set at a path.
+fn pool_at<'a, F: Files>(alloc: Global, path: &'a str, files: &mut F) -> Result<Pool, Refusal<'a>>
+    ensures made { IfOk result (λ pool. (set : List ℕ) × IsReadOf F.contents F.is_steady files.old (full.bytes + 1) path.entry.now (Some set)
+        × ((declared : List DeclaredFile) × IsSetOf full set declared × Links declared pool)) }
+    ensures refused { (name : List ℕ) → IfErr result (Refuses (λ a. (content : Option (List ℕ)) × IsReadOf F.contents F.is_steady files.old (full.bytes + 1) path.entry.now content
+        × NoType name path.entry.now content a)) }
+    ensures kept { OnOk result (F.failures files.new ≡ F.failures files.old) }
+    ensures steady { F.is_steady files.old ≡ true → F.is_steady files.new ≡ true }
+    ensures files { KeepsMap (F.contents files.old) (F.contents files.new) }
+{
+    let set = read_file(alloc, Limits::FULL, path, files)?;
+    let pool = read_pool(alloc, &set)?;
+    Ok(pool)
 }
 
 /// The pool of a set.

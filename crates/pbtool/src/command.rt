@@ -34,4 +34,10 @@ pub enum Command<'a> {
     Frames {
         source: Source<'a>,
     },
+    /// Writes the descriptor set of files, which are sources under a root, and of their imports to the file `out`.
+    Compile {
+        root: &'a str,
+        out: &'a str,
+        names: &'a [&'a str],
+    },
 }

@@ -9,6 +9,7 @@ ghost use Rattle.pbtool.specs.Sending.{Cut, Sent, SentOrCut};
 ghost use Rattle.pbtool.specs.Steps.{BegunOf, Comes, RightOf};
 
 use crate::command::Command;
+use crate::compile::compile;
 use crate::files::Files;
 use crate::form::Form;
 use crate::frames::frames;
@@ -63,6 +64,11 @@ fn perform<'a, F: Files, O: Output>(
         Command::Show { source } => message(alloc, Form::Listing, source, files, out),
         Command::Canon { out: to, source } => message(alloc, form_of(*to), source, files, out),
         Command::Frames { source } => frames(alloc, source, files, out),
+        Command::Compile {
+            root,
+            out: to,
+            names,
+        } => compile(alloc, root, to, names, files),
     }
 }
 

@@ -46,12 +46,11 @@ pub fn make<'a, F: Files, O: Output>(
     ensures kept { OnOk result (F.failures files.new ≡ F.failures files.old) }
 {
     match form {
-        Form::Check => print_ok(out)?,
-        Form::Listing => print_listing(message, out)?,
-        Form::Canonical => print_canonical(message, out)?,
-        Form::CanonicalFile(path) => save_canonical(message, path, files)?,
+        Form::Check => print_ok(out),
+        Form::Listing => print_listing(message, out),
+        Form::Canonical => print_canonical(message, out),
+        Form::CanonicalFile(path) => save_canonical(message, path, files),
     }
-    Ok(())
 }
 
 fn print_ok<'a, O: Output>(out: &mut O) -> Result<(), Refusal<'a>>

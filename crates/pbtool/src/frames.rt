@@ -1,13 +1,13 @@
 //! The messages of a file, each behind its length.
 
-ghost use Rattle.std.specs.Prelude.{◌≡◌, ◌++◌, false, codes, decimal, OnOk};
+ghost use Rattle.std.specs.Prelude.{◌≡◌, ◌++◌, ◌<◌, false, codes, decimal, length, OnOk};
 ghost use Rattle.pb_wire.specs.Limits.{full};
 ghost use Rattle.pbtool.specs.FileMap.{IsSaved, IsUnsaved};
 ghost use Rattle.pbtool.specs.FramesAnswer.{frame_lines};
 ghost use Rattle.pbtool.specs.RawListing.{line};
 ghost use Rattle.pbtool.specs.Sending.{Cut, Puts, Sent};
-ghost use Rattle.pbtool.specs.Steps.{Comes, NoFile, StreamBegun, StreamOf};
-ghost use Rattle.pbtool.specs.Streaming.{FramesBegunIn, FramesIn, IsToldOfFrame, PutsFrames};
+ghost use Rattle.pbtool.specs.Steps.{Comes, NoFile, StreamAt, StreamBegun, StreamBegunAt, StreamOf};
+ghost use Rattle.pbtool.specs.Streaming.{FramesBegunIn, FramesIn, IsToldOfFrame, PutsFrames, PutsNext};
 
 use crate::buffered::Buffered;
 use crate::by_type::find_type;
@@ -16,10 +16,22 @@ use crate::files::Files;
 use crate::reading::open_file;
 use crate::report::{OUTPUT, Refusal};
 use pb_decode::DecodeError;
+use pb_schema::{MessageId, Pool};
 use pb_stream::DelimitedReader;
 use pb_value::DynamicMessage;
 use pb_wire::{DeviceFault, Input, Limits, Output};
 use std::alloc::Global;
+
+/// What comes of the frame that follows.
+#[derive(Drop)]
+enum Next<'a> {
+    /// Its lines are put.
+    Put,
+    /// Nothing is left.
+    End,
+    /// It is refused.
+    Refused(Refusal<'a>),
+}
 
 /// Shows the messages of a file up to its end or to what is no message. What was printed before a refusal stands.
 pub fn frames<'a, F: Files, O: Output>(
@@ -34,10 +46,28 @@ pub fn frames<'a, F: Files, O: Output>(
     ensures kept { OnOk result (F.failures files.new ≡ F.failures files.old) }
 {
     let (pool, kind) = find_type(alloc, source, files)?;
-    let input = open_file(source.file, files)?;
-    let mut reader = DelimitedReader::new(alloc, &pool, kind, input, Limits::FULL);
-    write_frames(&mut reader, source.file, out)?;
-    Ok(())
+    frames_at(alloc, &pool, kind, source.file, files, out)
+}
+
+/// Shows the messages of a type that the file at a path holds.
+fn frames_at<'a, F: Files, O: Output>(
+    alloc: Global,
+    pool: &Pool,
+    kind: MessageId,
+    path: &'a str,
+    files: &mut F,
+    out: &mut O,
+) -> Result<(), Refusal<'a>>
+    requires { kind.0 < length pool.now.messages }
+    ensures comes { Comes (Sent O.written O.failures out.old out.new) (Cut O.written O.failures out.old out.new)
+        (IsSaved F.contents files.old files.new) (IsUnsaved F.contents F.failures files.old files.new)
+        (StreamAt F.contents F.is_steady files.old pool.now kind.0 path.entry.now)
+        (StreamBegunAt F.contents F.is_steady files.old pool.now kind.0 path.entry.now) result }
+    ensures kept { OnOk result (F.failures files.new ≡ F.failures files.old) }
+{
+    let input = open_file(path, files)?;
+    let mut reader = DelimitedReader::new(alloc, pool, kind, input, Limits::FULL);
+    write_frames(&mut reader, path, out)
 }
 
 /// Writes the lines of the frames that are left, and then tells why what follows them is refused, if it is.
@@ -79,18 +109,36 @@ impl<O: Output> Buffered<'_, O> {
         ensures { PutsFrames I.left I.is_steady reader.old.input O.written O.failures self.old self.new path.entry.now reader.old.pool reader.old.kind result }
     {
         for index in 0..u64::MAX {
-            let offset = reader.taken();
-            match reader.next() {
-                Ok(None) => return Ok(None),
-                Ok(Some(message)) => {
-                    let _body = message.body();
-                    let size = reader.taken() - offset;
-                    self.put_frame(index, offset, size, &message)?;
-                }
-                Err(error) => return Ok(Some(refusal_at(index, path, error))),
+            match self.put_next(index, reader, path)? {
+                Next::Put => {}
+                Next::End => return Ok(None),
+                Next::Refused(refusal) => return Ok(Some(refusal)),
             }
         }
         Ok(None)
+    }
+
+    /// The lines of the next frame, which has this index.
+    fn put_next<'a, I: Input + Drop>(
+        &mut self,
+        index: u64,
+        reader: &mut DelimitedReader<'_, I>,
+        path: &'a str,
+    ) -> Result<Next<'a>, DeviceFault>
+        requires { reader.old.finished ≡ false }
+        ensures { PutsNext O.written O.failures I.left I.is_steady self.old self.new reader.old reader.new index path.entry result }
+    {
+        let offset = reader.taken();
+        match reader.next() {
+            Ok(None) => Ok(Next::End),
+            Ok(Some(message)) => {
+                let _body = message.body();
+                let size = reader.taken() - offset;
+                self.put_frame(index, offset, size, &message)?;
+                Ok(Next::Put)
+            }
+            Err(error) => Ok(Next::Refused(refusal_at(index, path, error))),
+        }
     }
 
     /// The line of a frame, and the listing of its message one level in.

@@ -1,6 +1,6 @@
 //! The files of the system.
 
-ghost use Rattle.std.specs.Prelude.{None, false};
+ghost use Rattle.std.specs.Prelude.{◌≡◌, None, false};
 
 use crate::files::Files;
 use pb_wire::{DeviceFault, ReadInput};
@@ -15,7 +15,10 @@ pub struct HostFiles<'a, R> {
 }
 
 impl<'a, R: rt::Files> HostFiles<'a, R> {
-    pub fn new(rt: &'a R) -> HostFiles<'a, R> {
+    /// No failure is counted yet.
+    pub fn new(rt: &'a R) -> HostFiles<'a, R>
+        ensures { result.failures ≡ 0 }
+    {
         HostFiles { rt, failures: 0 }
     }
 }

@@ -217,7 +217,22 @@ impl<O: Output> Buffered<'_, O> {
             // No message nests so deep.
             Kind::Message(_) if level == DEEPEST => {}
             Kind::Message(id) => self.put_message(level + 1, pool, id, body)?,
-            _ => {}
+            Kind::Double
+            | Kind::Float
+            | Kind::Int64
+            | Kind::Uint64
+            | Kind::Int32
+            | Kind::Fixed64
+            | Kind::Fixed32
+            | Kind::Bool
+            | Kind::Text
+            | Kind::Bytes
+            | Kind::Uint32
+            | Kind::Sfixed32
+            | Kind::Sfixed64
+            | Kind::Sint32
+            | Kind::Sint64
+            | Kind::Enum(_) => {}
         }
         Ok(())
     }

@@ -3,14 +3,16 @@
 ghost use Rattle.std.specs.Prelude.{◌≡◌, ◌≤◌, ◌++◌, codes, decimal, length, MatchResult};
 ghost use Rattle.pb_wire.specs.Fault.{fault};
 ghost use Rattle.pb_wire.specs.PathText.{dotted, path_text, step_text};
-ghost use Rattle.pbtool.specs.Report.{cause_end, device_line, fault_line, frame_fault_line, link_line, set_cause_line, set_fault_line, shown_name, type_line};
+ghost use Rattle.pbtool.specs.Report.{cause_end, device_line, fault_line, frame_fault_line, link_line, set_cause_line, set_fault_line, shown_name, source_line, type_line};
 ghost use Rattle.pbtool.specs.Refusal.{refusal_line, refusal_status};
 ghost use Rattle.pbtool.specs.Sending.{Cut, Puts, Sent, SentOrCut};
 
 use crate::buffered::Buffered;
 use pb_descr::{DeclCause, DescrError};
 use pb_link::{LinkCause, LinkError};
+use pb_source::Cause as SourceCause;
 use pb_wire::{Cause, DeviceFault, Output, PathStep, RawError};
+use std::alloc::{AllocError, AllocFailed};
 
 /// The name that a report gives standard output.
 pub const OUTPUT: &str = "-";
@@ -52,8 +54,16 @@ pub enum Refusal<'a> {
         path: Vec<PathStep>,
         cause: Cause,
     },
+    /// The source of this name: where it fails, and why.
+    Source {
+        file: String,
+        byte: u64,
+        cause: SourceCause,
+    },
     /// The device of this path failed, or the file is not there.
     Device(&'a str),
+    /// The same, of a path that was put together.
+    File(String),
     /// Memory ran out.
     Memory,
 }
@@ -106,6 +116,26 @@ impl From<LinkError> for Refusal<'_> {
     }
 }
 
+impl From<AllocError> for Refusal<'_> {
+    ghost use Rattle.pbtool.specs.declared.report.Refusal.TheVariants.{Memory};
+
+    ghost from_gives = { λ _ e. e ≡ Memory };
+
+    fn from(_: AllocError) -> Self {
+        Refusal::Memory
+    }
+}
+
+impl<T: Drop> From<AllocFailed<T>> for Refusal<'_> {
+    ghost use Rattle.pbtool.specs.declared.report.Refusal.TheVariants.{Memory};
+
+    ghost from_gives = { λ _ e. e ≡ Memory };
+
+    fn from(_: AllocFailed<T>) -> Self {
+        Refusal::Memory
+    }
+}
+
 impl Refusal<'_> {
     /// The exit status: 1 where an input is refused, and 3 for devices and memory.
     fn status(&self) -> u8
@@ -118,8 +148,9 @@ impl Refusal<'_> {
             | Refusal::Link { .. }
             | Refusal::UnknownType(_)
             | Refusal::TooLarge
-            | Refusal::Frame { .. } => 1,
-            Refusal::Device(_) | Refusal::Memory => 3,
+            | Refusal::Frame { .. }
+            | Refusal::Source { .. } => 1,
+            Refusal::Device(_) | Refusal::File(_) | Refusal::Memory => 3,
         }
     }
 
@@ -148,26 +179,27 @@ impl<O: Output> Buffered<'_, O> {
         ensures { Puts O.written O.failures self.old self.new result (refusal_line refusal.now) }
     {
         match refusal {
-            Refusal::Fault { byte, path, cause } => self.put_fault(*byte, path, *cause)?,
-            Refusal::Set { byte, path, cause } => self.put_set_fault(*byte, path, *cause)?,
-            Refusal::SetFile { file, cause } => self.put_set_cause(*file, *cause)?,
+            Refusal::Fault { byte, path, cause } => self.put_fault(*byte, path, *cause),
+            Refusal::Set { byte, path, cause } => self.put_set_fault(*byte, path, *cause),
+            Refusal::SetFile { file, cause } => self.put_set_cause(*file, *cause),
             Refusal::Link {
                 file,
                 full_name,
                 cause,
-            } => self.put_link(file.as_str(), full_name.as_str(), *cause)?,
-            Refusal::UnknownType(name) => self.put_type(name)?,
-            Refusal::TooLarge => self.put(b"output cause TooLarge\n")?,
+            } => self.put_link(file.as_str(), full_name.as_str(), *cause),
+            Refusal::UnknownType(name) => self.put_type(name),
+            Refusal::TooLarge => self.put(b"output cause TooLarge\n"),
             Refusal::Frame {
                 index,
                 byte,
                 path,
                 cause,
-            } => self.put_frame_fault(*index, *byte, path, *cause)?,
-            Refusal::Device(path) => self.put_device(path)?,
-            Refusal::Memory => self.put(b"memory\n")?,
+            } => self.put_frame_fault(*index, *byte, path, *cause),
+            Refusal::Source { file, byte, cause } => self.put_source(file.as_str(), *byte, *cause),
+            Refusal::Device(path) => self.put_device(path),
+            Refusal::File(path) => self.put_device(path.as_str()),
+            Refusal::Memory => self.put(b"memory\n"),
         }
-        Ok(())
     }
 
     fn put_set_fault(
@@ -209,11 +241,10 @@ impl<O: Output> Buffered<'_, O> {
         ensures { Puts O.written O.failures self.old self.new result (shown_name name.now) }
     {
         if name.is_empty() {
-            self.put(b"-")?;
+            self.put(b"-")
         } else {
-            self.put(name.as_bytes())?;
+            self.put(name.as_bytes())
         }
-        Ok(())
     }
 
     fn put_type(&mut self, name: &str) -> Result<(), DeviceFault>
@@ -239,6 +270,25 @@ impl<O: Output> Buffered<'_, O> {
         self.held.push_decimal(index);
         self.held.push(b" ");
         self.put_fault(byte, path, cause)?;
+        Ok(())
+    }
+
+    fn put_source(&mut self, file: &str, byte: u64, cause: SourceCause) -> Result<(), DeviceFault>
+        ensures { Puts O.written O.failures self.old self.new result (source_line file.now byte cause) }
+    {
+        self.put(b"source ")?;
+        self.put(file.as_bytes())?;
+        self.put_at(byte)?;
+        self.put_cause(cause.name())?;
+        Ok(())
+    }
+
+    fn put_at(&mut self, byte: u64) -> Result<(), DeviceFault>
+        ensures { Puts O.written O.failures self.old self.new result (codes " byte " ++ decimal byte) }
+    {
+        self.make_room(32)?;
+        self.held.push(b" byte ");
+        self.held.push_decimal(byte);
         Ok(())
     }
 

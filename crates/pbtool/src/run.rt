@@ -4,10 +4,11 @@ ghost use Rattle.std.specs.Prelude.{◌≡◌, ◌≢◌, ◌⊎◌, [], false, 
 ghost use Rattle.clap.specs.Words.{fault_of, found_of, kind_of, rows_of, subcommand_name_of, subcommand_of, subcommand_rows_of, takes};
 ghost use Rattle.pbtool.specs.Answer.{RunsOut};
 ghost use Rattle.pbtool.specs.Answers.{Does};
+ghost use Rattle.pbtool.specs.CompileAnswer.{texts_of};
 ghost use Rattle.pbtool.specs.FileMap.{IsHonest, IsSaved, IsUnsaved, KeepsMap};
 ghost use Rattle.pbtool.specs.Report.{memory_line};
 ghost use Rattle.pbtool.specs.Sending.{Cut, Sent, SentOrCut};
-ghost use Rattle.pbtool.specs.Words.{IsMatched, IsSource, flag_of, value_of, tool, tool_names, words_of};
+ghost use Rattle.pbtool.specs.Words.{IsMatched, IsSource, flag_of, value_of, values_of, tool, tool_names, words_of};
 ghost use Rattle.pbtool.specs.declared.command.Command.{Command as Told};
 
 use crate::command::{Command, Source};
@@ -90,7 +91,7 @@ fn dispatch<F: Files, O: Output, E: Output>(
 }
 
 /// The command that the words named.
-fn command_of<'a>(matches: &ArgMatches<'a>) -> Command<'a>
+fn command_of<'m>(matches: &'m ArgMatches<'_>) -> Command<'m>
     requires { Any (λ name. subcommand_name_of matches.now ≡ Some name) tool_names }
     ensures { IsMatched (subcommand_rows_of matches.now) result }
 {
@@ -119,6 +120,13 @@ fn command_of<'a>(matches: &ArgMatches<'a>) -> Command<'a>
     if let Some(inner) = matches.subcommand_matches("frames") {
         return Command::Frames {
             source: source(inner),
+        };
+    }
+    if let Some(inner) = matches.subcommand_matches("compile") {
+        return Command::Compile {
+            root: value(inner, "ROOT"),
+            out: value(inner, "OUT"),
+            names: values(inner, "FILE"),
         };
     }
     unreachable!()
@@ -152,4 +160,11 @@ fn value<'a>(matches: &ArgMatches<'a>, id: &str) -> &'a str
         Some(text) => text,
         None => "",
     }
+}
+
+// The values of an argument that `clap` requires and that takes several.
+fn values<'m>(matches: &'m ArgMatches<'_>, id: &str) -> &'m [&'m str]
+    ensures { texts_of result.now ≡ values_of id.now (rows_of (found_of matches.now)) }
+{
+    matches.get_strs(id).unwrap_or(&[])
 }

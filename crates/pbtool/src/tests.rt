@@ -1,6 +1,7 @@
 //! The command over files in memory: worked rows, usage, and devices that fail. Expected values are those of the
 //! encoding guide's rules, worked out by hand.
 
+mod compiled;
 mod typed;
 
 use crate::files::Files;
@@ -260,6 +261,7 @@ const NO_COMMANDS: &[&[&str]] = &[
     &["show", "f", "T"],
     &["canon", "--out", "f", "T", "f"],
     &["frames", "--out", "g", "f", "T", "f"],
+    &["compile", "f", "g"],
 ];
 
 #[test]

@@ -23,19 +23,18 @@ impl<O: Output> Buffered<'_, O> {
             (datum_text (names_of_kind pool.now kind) (value_view value.now)) }
     {
         match value {
-            Value::I32(number) => self.put_integer(i64::from(*number))?,
-            Value::I64(number) => self.put_integer(*number)?,
-            Value::U32(number) => self.put_natural(u64::from(*number))?,
-            Value::U64(number) => self.put_natural(*number)?,
-            Value::Bool(flag) => self.put_bool(*flag)?,
-            Value::F32(bits) => self.put_bits(&bits.to_be_bytes())?,
-            Value::F64(bits) => self.put_bits(&bits.to_be_bytes())?,
-            Value::Enum(number) => self.put_enum(pool, kind, *number)?,
-            Value::Text(text) => self.put_text(text.as_str().as_bytes())?,
-            Value::Bytes(bytes) => self.put_bytes(bytes)?,
-            Value::Message(_) => {}
+            Value::I32(number) => self.put_integer(i64::from(*number)),
+            Value::I64(number) => self.put_integer(*number),
+            Value::U32(number) => self.put_natural(u64::from(*number)),
+            Value::U64(number) => self.put_natural(*number),
+            Value::Bool(flag) => self.put_bool(*flag),
+            Value::F32(bits) => self.put_bits(&bits.to_be_bytes()),
+            Value::F64(bits) => self.put_bits(&bits.to_be_bytes()),
+            Value::Enum(number) => self.put_enum(pool, kind, *number),
+            Value::Text(text) => self.put_text(text.as_str().as_bytes()),
+            Value::Bytes(bytes) => self.put_bytes(bytes),
+            Value::Message(_) => Ok(()),
         }
-        Ok(())
     }
 
     /// A key, which is written like a value.
@@ -43,14 +42,13 @@ impl<O: Output> Buffered<'_, O> {
         ensures { Puts O.written O.failures self.old self.new result (scalar_text [] (key_view key.now)) }
     {
         match key {
-            MapKey::I32(number) => self.put_integer(i64::from(*number))?,
-            MapKey::I64(number) => self.put_integer(*number)?,
-            MapKey::U32(number) => self.put_natural(u64::from(*number))?,
-            MapKey::U64(number) => self.put_natural(*number)?,
-            MapKey::Bool(flag) => self.put_bool(*flag)?,
-            MapKey::Text(text) => self.put_text(text.as_str().as_bytes())?,
+            MapKey::I32(number) => self.put_integer(i64::from(*number)),
+            MapKey::I64(number) => self.put_integer(*number),
+            MapKey::U32(number) => self.put_natural(u64::from(*number)),
+            MapKey::U64(number) => self.put_natural(*number),
+            MapKey::Bool(flag) => self.put_bool(*flag),
+            MapKey::Text(text) => self.put_text(text.as_str().as_bytes()),
         }
-        Ok(())
     }
 
     fn put_natural(&mut self, number: u64) -> Result<(), DeviceFault>
@@ -73,11 +71,10 @@ impl<O: Output> Buffered<'_, O> {
         ensures { Puts O.written O.failures self.old self.new result (bool_text flag) }
     {
         if flag {
-            self.put(b"true")?;
+            self.put(b"true")
         } else {
-            self.put(b"false")?;
+            self.put(b"false")
         }
-        Ok(())
     }
 
     /// The bits of a float, the highest first.
@@ -97,10 +94,9 @@ impl<O: Output> Buffered<'_, O> {
         ensures { Puts O.written O.failures self.old self.new result (enum_text (names_of_kind pool.now kind) number) }
     {
         match value_name(pool, kind, number) {
-            Some(name) => self.put(name.as_bytes())?,
-            None => self.put_integer(i64::from(number))?,
+            Some(name) => self.put(name.as_bytes()),
+            None => self.put_integer(i64::from(number)),
         }
-        Ok(())
     }
 
     /// A text between quotes.
@@ -157,6 +153,21 @@ fn value_name(pool: &Pool, kind: Kind, number: i32) -> Option<&str>
 {
     match kind {
         Kind::Enum(id) => pool.value_name(id, number),
-        _ => None,
+        Kind::Double
+        | Kind::Float
+        | Kind::Int64
+        | Kind::Uint64
+        | Kind::Int32
+        | Kind::Fixed64
+        | Kind::Fixed32
+        | Kind::Bool
+        | Kind::Text
+        | Kind::Bytes
+        | Kind::Uint32
+        | Kind::Sfixed32
+        | Kind::Sfixed64
+        | Kind::Sint32
+        | Kind::Sint64
+        | Kind::Message(_) => None,
     }
 }

@@ -1,8 +1,8 @@
 //! The words of the command line.
 ghost use Rattle.std.specs.Prelude.{◌≡◌, false, IfOk};
-ghost use Rattle.clap.specs.Words.{app_of};
+ghost use Rattle.clap.specs.Words.{app_of, rule_of};
 ghost use Rattle.clap.specs.declared.builder.command.Command.TheViews.{out-Command};
-ghost use Rattle.pbtool.specs.Words.{canon_command, check_command, frames_command, of_source, raw_command, show_command, tool, tool_top};
+ghost use Rattle.pbtool.specs.Words.{canon_command, check_command, compile_command, frames_command, of_source, raw_command, show_command, tool, tool_top, wanted};
 
 use clap::{Arg, ArgAction, Command};
 use std::alloc::{AllocError, Global};
@@ -17,7 +17,8 @@ pub fn definition<'a>(alloc: Global) -> Result<Command<'a>, AllocError>
     let with_check = with_raw.subcommand(check(alloc)?)?;
     let with_show = with_check.subcommand(show(alloc)?)?;
     let with_canon = with_show.subcommand(canon(alloc)?)?;
-    let whole = with_canon.subcommand(frames(alloc)?)?;
+    let with_frames = with_canon.subcommand(frames(alloc)?)?;
+    let whole = with_frames.subcommand(compile(alloc)?)?;
     Ok(whole)
 }
 
@@ -96,22 +97,47 @@ fn frames<'a>(alloc: Global) -> Result<Command<'a>, AllocError>
     Ok(whole)
 }
 
+fn compile<'a>(alloc: Global) -> Result<Command<'a>, AllocError>
+    ensures app { IfOk result (λ c. app_of c ≡ compile_command) }
+    ensures local { IfOk result (λ c. (out-Command c).has_globals ≡ false) }
+{
+    let root = Arg::new(alloc, "ROOT")
+        .required(true)
+        .help("The folder of the sources");
+    let out = Arg::new(alloc, "OUT")
+        .required(true)
+        .help("The file to write");
+    let file = Arg::new(alloc, "FILE")
+        .required(true)
+        .action(ArgAction::Append)
+        .help("A source under the folder");
+    let command = Command::new(alloc, "compile").about(
+        "Write the descriptor set of sources and their imports",
+    );
+    let with_root = command.arg(root)?;
+    let with_out = with_root.arg(out)?;
+    let whole = with_out.arg(file)?;
+    Ok(whole)
+}
+
 /// The command with the arguments that name a message and its type.
 fn with_source<'a>(alloc: Global, command: Command<'a>) -> Result<Command<'a>, AllocError>
     ensures app { (out-Command command.entry).has_globals ≡ false → IfOk result (λ c. app_of c ≡ of_source (app_of command.entry)) }
     ensures local { (out-Command command.entry).has_globals ≡ false → IfOk result (λ c. (out-Command c).has_globals ≡ false) }
 {
-    let set = Arg::new(alloc, "SET")
-        .required(true)
-        .help("The file with the descriptor set of the type");
-    let name = Arg::new(alloc, "TYPE")
-        .required(true)
-        .help("The full name of the message type");
-    let file = Arg::new(alloc, "FILE")
-        .required(true)
-        .help("The file with the bytes");
+    let set = wanted(alloc, "SET", "The file with the descriptor set of the type");
     let with_set = command.arg(set)?;
+    let name = wanted(alloc, "TYPE", "The full name of the message type");
     let with_type = with_set.arg(name)?;
+    let file = wanted(alloc, "FILE", "The file with the bytes");
     let whole = with_type.arg(file)?;
     Ok(whole)
+}
+
+/// An argument that is required.
+fn wanted<'a>(alloc: Global, id: &'a str, help: &'a str) -> Arg<'a>
+    ensures rule { rule_of result ≡ wanted id.now }
+    ensures local { result.global ≡ false }
+{
+    Arg::new(alloc, id).required(true).help(help)
 }

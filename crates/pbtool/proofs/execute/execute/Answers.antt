@@ -4,7 +4,7 @@ use Rattle.pbtool.specs.FileMap.{IsSaved, IsUnsaved}
 use Rattle.pbtool.specs.Sending.{Cut, Sent, SentOrCut}
 use Rattle.pbtool.specs.Steps.{BegunOf, RightOf}
 use Rattle.pbtool.proofs.Coming.{comes_map}
-use Rattle.pbtool.proofs.Endings.{ends_from, kept_at_zero}
+use Rattle.pbtool.proofs.Endings.{ends_from, kept_at_zero, never_two}
 use Rattle.pbtool.proofs.Honest.{begun_of_any, begun_of_map, right_of_any, right_of_map}
 use Rattle.pbtool.proofs.execute.execute.Goals as goal
 
@@ -39,6 +39,9 @@ returns-clause-any g c =
     (right_of_any g.F.Files.contents g.F.Files.is_steady c.args.files.now c.args.command.now)
     (begun_of_any g.F.Files.contents g.F.Files.is_steady c.args.files.now c.args.command.now) c.perform-outcome.ensures.comes)
     c.conclude.ensures
+
+pub returns-clause-status : goal.returns-clause-status
+returns-clause-status g c = never_two _ _ c.perform-outcome.result c.conclude.result c.conclude.ensures
 
 pub returns-clause-done : goal.returns-clause-done
 returns-clause-done g c = λ zero. kept_at_zero _ _ c.perform-outcome.result c.conclude.result _ c.conclude.ensures c.perform-outcome.ensures.kept zero

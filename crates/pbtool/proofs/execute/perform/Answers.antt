@@ -1,3 +1,7 @@
+use Rattle.pbtool.specs.FileMap.{IsSaved, IsUnsaved}
+use Rattle.pbtool.specs.Steps.{IsNothing, RightOf}
+use Rattle.pbtool.specs.declared.command.Command.TheVariants.{Compile}
+use Rattle.pbtool.proofs.CompileSteps.{nothing_out}
 use Rattle.pbtool.proofs.execute.perform.Goals as goal
 
 pub returns-in-Raw-clause-comes : goal.returns-in-Raw-clause-comes
@@ -14,3 +18,11 @@ returns-in-Canon-clause-comes g c = rw c.in-Canon.is (rw c.form_of.ensures at c.
 
 pub returns-in-Frames-clause-comes : goal.returns-in-Frames-clause-comes
 returns-in-Frames-clause-comes g c = rw c.in-Frames.is c.frames.ensures.comes
+
+pub returns-in-Compile-clause-comes : goal.returns-in-Compile-clause-comes
+returns-in-Compile-clause-comes g c =
+    rw c.in-Compile.is
+    (nothing_out g.O.Output.written g.O.Output.failures c.args.out.now (IsSaved g.F.Files.contents c.args.files.now c.compile.new.files)
+    (IsUnsaved g.F.Files.contents g.F.Files.failures c.args.files.now c.compile.new.files)
+    (RightOf g.F.Files.contents g.F.Files.is_steady c.args.files.now (Compile c.in-Compile.root c.in-Compile.to c.in-Compile.names)) IsNothing
+    c.compile.result c.compile.ensures.comes)

@@ -1,4 +1,4 @@
-use Rattle.std.proofs.Common.{refl, arith, Some, None}
+use Rattle.std.proofs.Common.{refl, arith}
 use Rattle.pbtool.proofs.Commands.{stream_cut, stream_ended, stream_stopped, stream_unflushed}
 use Rattle.pbtool.proofs.frames.write_frames.Goals as goal
 

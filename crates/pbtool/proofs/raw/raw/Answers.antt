@@ -1,4 +1,4 @@
-use Rattle.std.proofs.Common.{◌+◌, ℕ, List, [], Option, Ok, Err, refl, arith}
+use Rattle.std.proofs.Common.{◌+◌, ℕ, List, Option, Ok, Err, refl, arith}
 use Rattle.std.proofs.KnownBytes.{Appends-nil}
 use Rattle.std.proofs.lemmas.Result.{err_from_is_err_and}
 use Rattle.pbtool.specs.FileMap.{IsSaved, IsUnsaved}

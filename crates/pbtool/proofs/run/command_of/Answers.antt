@@ -1,4 +1,4 @@
-use Rattle.std.proofs.Common.{refl, codes, sym, ◌∙◌}
+use Rattle.std.proofs.Common.{refl, codes, ◌∙◌}
 use Rattle.clap.specs.Words.{rows_of, found_of}
 use Rattle.clap.proofs.WalkLemmas.{first_value-rows}
 use Rattle.pbtool.specs.declared.command.Command.TheVariants.{Canon}

@@ -1,0 +1,22 @@
+-- The set of sources that link nests at most 100 levels deep.
+use Rattle.std.proofs.Common.{ℕ, ◌≤◌, List, [], ◌∷◌, arith}
+use Rattle.std.specs.List.{AllByRecursion}
+use Rattle.pb_value.specs.Data.{message_depth}
+use Rattle.pb_descr.specs.Decls.{DeclaredFile}
+use Rattle.pb_descr.specs.Writing.{set_body}
+use Rattle.pb_descr.proofs.NestLemmas.{all_nest, set_levels}
+use Rattle.pb_link.specs.Resolved.{Resolves}
+use Rattle.pb_link.proofs.ResolvedNestLemmas.{resolved_within}
+use Rattle.pb_source.specs.Source.{IsSource}
+use Rattle.pb_source.proofs.NestLemmas.{source_nests}
+
+-- some bytes are a source of the file
+abbrev pub HasSource : DeclaredFile → Type 0
+HasSource f = (name : List ℕ) × (bytes : List ℕ) × IsSource name bytes f
+
+each_nests : (fs : List DeclaredFile) → AllByRecursion HasSource fs → AllByRecursion (λ f. all_nest f.messages ≤ 65) fs
+each_nests [] h = tt
+each_nests (f ∷ fs) h = (source_nests h.0.0 h.0.1 f h.0.2, each_nests fs h.1)
+
+pub set_fits : (files answer : List DeclaredFile) → AllByRecursion HasSource files → Resolves files answer → message_depth (set_body answer) ≤ 100
+set_fits files answer h r = let levels = set_levels answer 65 (resolved_within files answer 65 r (each_nests files h)) in omega arith

@@ -1,0 +1,114 @@
+-- Which sources `compile` gathers: each file in turn, before it its imports in order, each the same way and once. A file is read as it is
+-- reached, before its imports.
+use Rattle.std.specs.Prelude.{◌≡◌, ◌⊎◌, ⊤, ℕ, List, [], ◌∷◌, ◌++◌, codes, Bool, true, false, ◌==◌, ◌||◌, Option, None, Some}
+use Rattle.std.specs.List.{list_any, slice_split}
+use Rattle.std.specs.Str.{bytes_eq}
+use Rattle.pb_descr.specs.Decls.{DeclaredFile}
+use Rattle.pb_source.specs.Source.{IsSource, HasFault}
+use Rattle.pb_source.specs.declared.fault.Cause.{Cause}
+
+-- NAMES OF FILES
+
+-- the path of a file under a root
+abbrev pub path_under : List ℕ → List ℕ → List ℕ
+path_under root name = root ++ codes "/" ++ name
+
+-- a part of the name between its slashes is `..`
+abbrev pub climbs : List ℕ → Bool
+climbs name = list_any (λ part. bytes_eq part (codes "..")) (slice_split (λ b. b == 47) name)
+
+-- an import of this name is no file under the root: the name is empty, begins with a slash, or has a part `..`
+abbrev pub leaves_root : List ℕ → Bool
+leaves_root [] = true
+leaves_root (b ∷ bs) = (b == 47) || climbs (b ∷ bs)
+
+-- WHAT IS GATHERED
+
+-- whether a file was given on the command line, or is the import of another
+pub data Origin : Type 0 where
+  given : Origin
+  imported : Origin
+
+-- the names that were reached, and the files behind whose imports nothing is left to reach
+pub record Gathered : Type 0 where
+  pub names : List (List ℕ)
+  pub files : List DeclaredFile
+
+abbrev pub nothing_yet : Gathered
+nothing_yet = record { names = []; files = [] }
+
+abbrev pub with_name : List ℕ → Gathered → Gathered
+with_name name g = record g { names = g.names ++ name ∷ [] }
+
+abbrev pub with_file : DeclaredFile → Gathered → Gathered
+with_file f g = record g { files = g.files ++ f ∷ [] }
+
+abbrev pub is_known : Gathered → List ℕ → Bool
+is_known g name = list_any (bytes_eq name) g.names
+
+-- why a file is refused: it can't be read, or is no source, for this fault
+pub data Trouble : Type 0 where
+  unread : Trouble
+  faulty : ℕ → Cause → Trouble
+
+-- what comes of reaching names: all that was gathered, or the first file that is refused
+pub data Outcome : Type 0 where
+  gathered : Gathered → Outcome
+  stopped_at : List ℕ → Trouble → Outcome
+
+-- a given file is read wherever its name leads
+abbrev pub IsTaken : Origin → List ℕ → Type 0
+IsTaken given name = ⊤
+IsTaken imported name = leaves_root name ≡ false
+
+-- an import is left out that leaves the root or is not there
+abbrev pub IsLeftOut : (List ℕ → Type 0) → Origin → List ℕ → Type 0
+IsLeftOut IsAbsent given name = ⊥
+IsLeftOut IsAbsent imported name = (leaves_root name ≡ true) ⊎ IsAbsent name
+
+-- Where these say of names which files are not there, what their sources declare, and why they are refused: from these names on, having gathered
+-- this, one comes to this.
+pub data Gathers
+    (IsAbsent : List ℕ → Type 0) (Declares : List ℕ → DeclaredFile → Type 0) (HasTrouble : Origin → List ℕ → Trouble → Type 0) :
+    Origin → List (List ℕ) → Gathered → Outcome → Type 0 where
+  none_left : {o : Origin} {g : Gathered} → Gathers IsAbsent Declares HasTrouble o [] g (gathered g)
+  known :
+      {o : Origin} {name : List ℕ} {names : List (List ℕ)} {g : Gathered} {out : Outcome} → is_known g name ≡ true
+      → Gathers IsAbsent Declares HasTrouble o names g out → Gathers IsAbsent Declares HasTrouble o (name ∷ names) g out
+  left_out :
+      {o : Origin} {name : List ℕ} {names : List (List ℕ)} {g : Gathered} {out : Outcome} → IsLeftOut IsAbsent o name
+      → Gathers IsAbsent Declares HasTrouble o names g out → Gathers IsAbsent Declares HasTrouble o (name ∷ names) g out
+  read :
+      {o : Origin} {name : List ℕ} {names : List (List ℕ)} {g h : Gathered} {f : DeclaredFile} {out : Outcome} → is_known g name ≡ false → IsTaken o name
+      → Declares name f → Gathers IsAbsent Declares HasTrouble imported f.imports (with_name name g) (gathered h)
+      → Gathers IsAbsent Declares HasTrouble o names (with_file f h) out → Gathers IsAbsent Declares HasTrouble o (name ∷ names) g out
+  refused_inside :
+      {o : Origin} {name met : List ℕ} {names : List (List ℕ)} {g : Gathered} {f : DeclaredFile} {t : Trouble} → is_known g name ≡ false
+      → IsTaken o name → Declares name f → Gathers IsAbsent Declares HasTrouble imported f.imports (with_name name g) (stopped_at met t)
+      → Gathers IsAbsent Declares HasTrouble o (name ∷ names) g (stopped_at met t)
+  refused_here :
+      {o : Origin} {name : List ℕ} {names : List (List ℕ)} {g : Gathered} {t : Trouble} → is_known g name ≡ false → IsTaken o name
+      → HasTrouble o name t → Gathers IsAbsent Declares HasTrouble o (name ∷ names) g (stopped_at name t)
+
+-- UNDER A ROOT, of what IsAt says that stands at paths, and Fails that reading there fails
+
+module _ (IsAt : List ℕ → Option (List ℕ) → Type 0) (root : List ℕ) where
+  abbrev pub IsAbsentAt : List ℕ → Type 0
+  IsAbsentAt name = IsAt (path_under root name) None
+
+  abbrev pub DeclaresAt : List ℕ → DeclaredFile → Type 0
+  DeclaresAt name f = (bytes : List ℕ) × IsAt (path_under root name) (Some bytes) × IsSource name bytes f
+
+  abbrev pub IsFaultyAt : List ℕ → ℕ → Cause → Type 0
+  IsFaultyAt name place c = (bytes : List ℕ) × IsAt (path_under root name) (Some bytes) × HasFault bytes place c
+
+module _ (IsAt : List ℕ → Option (List ℕ) → Type 0) (Fails : List ℕ → Type 0) (root : List ℕ) where
+  -- a given file that is not there is refused
+  abbrev pub HasTroubleAt : Origin → List ℕ → Trouble → Type 0
+  HasTroubleAt given name unread = IsAbsentAt IsAt root name ⊎ Fails (path_under root name)
+  HasTroubleAt imported name unread = Fails (path_under root name)
+  HasTroubleAt given name (faulty place c) = IsFaultyAt IsAt root name place c
+  HasTroubleAt imported name (faulty place c) = IsFaultyAt IsAt root name place c
+
+  abbrev pub GathersAt : Origin → List (List ℕ) → Gathered → Outcome → Type 0
+  GathersAt = Gathers (IsAbsentAt IsAt root) (DeclaresAt IsAt root) HasTroubleAt
