@@ -409,7 +409,3 @@ IsWellFormed-set pool m n s h v ok w =
 pub either_way : {T F : Type 0} (r : Result T F) (P : Message → Type 0) (new changed old : Message) → OnOk r (new ≡ changed) → OnErr r (new ≡ old) → P changed → P old → P new
 either_way (Ok x) P new changed old a b p q = subst P (sym a) p
 either_way (Err e) P new changed old a b p q = subst P (sym b) q
-
-pub on_err_always : {T F : Type 0} (r : Result T F) (P : Type 0) → P → OnErr r P
-on_err_always (Ok x) P p = tt
-on_err_always (Err e) P p = p

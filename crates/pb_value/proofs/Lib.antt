@@ -6,6 +6,7 @@ pub mod Views
 pub mod JudgeLemmas
 pub mod OrderLemmas
 pub mod CheckLemmas
+pub mod DepthLemmas
 pub mod NoCause
 pub mod ChangeLemmas
 pub mod OneofLemmas

@@ -3,8 +3,9 @@
 ghost use Rattle.std.specs.Prelude.{◌≡◌, ◌<◌, length, option_map, slice_get, Some, IfSome};
 ghost use Rattle.pb_schema.specs.Nesting.{parent_of};
 ghost use Rattle.pb_schema.specs.Rules.{IsPool};
+ghost use Rattle.pb_schema.specs.View.{message_view};
 
-use pb_schema::{MessageId, Pool};
+use pb_schema::{MessageId, MessageType, Pool};
 use std::fmt;
 
 /// A message type, which prints as its full name.
@@ -51,7 +52,7 @@ fn write_package<W: fmt::Write>(
 ) -> fmt::Result
     requires { kind.0 < length pool.now.messages }
 {
-    let Some(file) = pool.files().get(pool.messages()[kind.0].file) else {
+    let Some(file) = pool.files().get(type_of(pool, kind).file) else {
         return Ok(());
     };
     if file.package.is_empty() {
@@ -61,12 +62,21 @@ fn write_package<W: fmt::Write>(
     f.write_str(".")
 }
 
+/// What a pool says of a message type.
+fn type_of(pool: &Pool, kind: MessageId) -> &MessageType
+    requires { kind.0 < length pool.now.messages }
+    ensures found { slice_get pool.now.messages kind.0 ≡ Some (message_view result.now) }
+    ensures rules { IsPool pool.now }
+{
+    &pool.messages()[kind.0]
+}
+
 /// The simple name of a message type.
 fn name_of(pool: &Pool, kind: MessageId) -> &str
     requires { kind.0 < length pool.now.messages }
     ensures { option_map (λ t. t.name) (slice_get pool.now.messages kind.0) ≡ Some result.now }
 {
-    pool.messages()[kind.0].name.as_str()
+    type_of(pool, kind).name.as_str()
 }
 
 /// The message that a message type is declared in.
@@ -75,7 +85,7 @@ fn declared_in(pool: &Pool, kind: MessageId) -> Option<MessageId>
     ensures parent { option_map (λ p. p.0) result ≡ parent_of pool.now.messages kind.0 }
     ensures rules { IsPool pool.now }
 {
-    pool.messages()[kind.0].parent
+    type_of(pool, kind).parent
 }
 
 /// The same, which stands before the type.

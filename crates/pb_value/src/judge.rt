@@ -6,7 +6,8 @@ pub(crate) mod unknown;
 
 ghost use Rattle.std.specs.Prelude.{◌≡◌, IsTrue};
 ghost use Rattle.pb_value.specs.Judge.{is_value_of, are_values_of, is_key_of, are_entries_of, holds_kind, has_shape, is_absence, is_scalar_of, is_default_datum, IsWithin, IsKeyWithin};
-ghost use Rattle.pb_schema.specs.Scalar.{bytes as scalar_bytes};
+ghost use Rattle.std.specs.Prelude.{string_bytes};
+ghost use Rattle.pb_schema.specs.Scalar.{int32, int64, uint32, uint64, boolean, float, double, enum, text as scalar_text, bytes as scalar_bytes};
 ghost use Rattle.pb_schema.specs.Kinds.{IsOfKind};
 ghost use Rattle.pb_value.specs.View.{key_view, value_view, content_view, values_view, entries_view};
 
@@ -19,41 +20,84 @@ pub(crate) fn is_value_of(kind: Kind, value: &Value) -> bool
     ensures test { result ≡ is_value_of kind (value_view value.now) }
     ensures in_range { IsTrue result → IsWithin kind (value_view value.now) }
 {
-    // A number that is read is known to be in its type's range.
     match value {
-        Value::I32(number) => {
-            let _number = *number;
-            matches!(kind, Kind::Int32 | Kind::Sint32 | Kind::Sfixed32)
-        }
-        Value::I64(number) => {
-            let _number = *number;
-            matches!(kind, Kind::Int64 | Kind::Sint64 | Kind::Sfixed64)
-        }
-        Value::U32(number) => {
-            let _number = *number;
-            matches!(kind, Kind::Uint32 | Kind::Fixed32)
-        }
-        Value::U64(number) => {
-            let _number = *number;
-            matches!(kind, Kind::Uint64 | Kind::Fixed64)
-        }
-        Value::Bool(_) => matches!(kind, Kind::Bool),
-        Value::F32(bits) => {
-            let _bits = *bits;
-            matches!(kind, Kind::Float)
-        }
-        Value::F64(bits) => {
-            let _bits = *bits;
-            matches!(kind, Kind::Double)
-        }
-        Value::Enum(number) => {
-            let _number = *number;
-            matches!(kind, Kind::Enum(_))
-        }
-        Value::Text(_) => matches!(kind, Kind::Text),
+        Value::I32(number) => is_int32(kind, *number),
+        Value::I64(number) => is_int64(kind, *number),
+        Value::U32(number) => is_uint32(kind, *number),
+        Value::U64(number) => is_uint64(kind, *number),
+        Value::Bool(truth) => is_boolean(kind, *truth),
+        Value::F32(bits) => is_float(kind, *bits),
+        Value::F64(bits) => is_double(kind, *bits),
+        Value::Enum(number) => is_enum(kind, *number),
+        Value::Text(text) => is_text(kind, text),
         Value::Bytes(bytes) => is_bytes(kind, bytes),
         Value::Message(_) => matches!(kind, Kind::Message(_)),
     }
+}
+
+// The kinds of each form of scalar. A number that is passed is known to be in its type's range.
+
+fn is_int32(kind: Kind, number: i32) -> bool
+    ensures test { result ≡ is_scalar_of kind (int32 number) }
+    ensures in_range { IsTrue result → IsOfKind kind (int32 number) }
+{
+    matches!(kind, Kind::Int32 | Kind::Sint32 | Kind::Sfixed32)
+}
+
+fn is_int64(kind: Kind, number: i64) -> bool
+    ensures test { result ≡ is_scalar_of kind (int64 number) }
+    ensures in_range { IsTrue result → IsOfKind kind (int64 number) }
+{
+    matches!(kind, Kind::Int64 | Kind::Sint64 | Kind::Sfixed64)
+}
+
+fn is_uint32(kind: Kind, number: u32) -> bool
+    ensures test { result ≡ is_scalar_of kind (uint32 number) }
+    ensures in_range { IsTrue result → IsOfKind kind (uint32 number) }
+{
+    matches!(kind, Kind::Uint32 | Kind::Fixed32)
+}
+
+fn is_uint64(kind: Kind, number: u64) -> bool
+    ensures test { result ≡ is_scalar_of kind (uint64 number) }
+    ensures in_range { IsTrue result → IsOfKind kind (uint64 number) }
+{
+    matches!(kind, Kind::Uint64 | Kind::Fixed64)
+}
+
+fn is_boolean(kind: Kind, truth: bool) -> bool
+    ensures test { result ≡ is_scalar_of kind (boolean truth) }
+    ensures in_range { IsTrue result → IsOfKind kind (boolean truth) }
+{
+    matches!(kind, Kind::Bool)
+}
+
+fn is_float(kind: Kind, bits: u32) -> bool
+    ensures test { result ≡ is_scalar_of kind (float bits) }
+    ensures in_range { IsTrue result → IsOfKind kind (float bits) }
+{
+    matches!(kind, Kind::Float)
+}
+
+fn is_double(kind: Kind, bits: u64) -> bool
+    ensures test { result ≡ is_scalar_of kind (double bits) }
+    ensures in_range { IsTrue result → IsOfKind kind (double bits) }
+{
+    matches!(kind, Kind::Double)
+}
+
+fn is_enum(kind: Kind, number: i32) -> bool
+    ensures test { result ≡ is_scalar_of kind (enum number) }
+    ensures in_range { IsTrue result → IsOfKind kind (enum number) }
+{
+    matches!(kind, Kind::Enum(_))
+}
+
+fn is_text(kind: Kind, text: &String) -> bool
+    ensures test { result ≡ is_scalar_of kind (scalar_text (string_bytes text.now)) }
+    ensures in_range { IsTrue result → IsOfKind kind (scalar_text (string_bytes text.now)) }
+{
+    matches!(kind, Kind::Text)
 }
 
 fn is_bytes(kind: Kind, bytes: &[u8]) -> bool
@@ -82,26 +126,13 @@ pub(crate) fn is_key_of(shape: Shape, key: &MapKey) -> bool
     let Shape::Map { key: kind } = shape else {
         return true;
     };
-    // As for values, reading a number tells its range.
     match key {
-        MapKey::I32(number) => {
-            let _number = *number;
-            matches!(kind, Kind::Int32 | Kind::Sint32 | Kind::Sfixed32)
-        }
-        MapKey::I64(number) => {
-            let _number = *number;
-            matches!(kind, Kind::Int64 | Kind::Sint64 | Kind::Sfixed64)
-        }
-        MapKey::U32(number) => {
-            let _number = *number;
-            matches!(kind, Kind::Uint32 | Kind::Fixed32)
-        }
-        MapKey::U64(number) => {
-            let _number = *number;
-            matches!(kind, Kind::Uint64 | Kind::Fixed64)
-        }
-        MapKey::Bool(_) => matches!(kind, Kind::Bool),
-        MapKey::Text(_) => matches!(kind, Kind::Text),
+        MapKey::I32(number) => is_int32(kind, *number),
+        MapKey::I64(number) => is_int64(kind, *number),
+        MapKey::U32(number) => is_uint32(kind, *number),
+        MapKey::U64(number) => is_uint64(kind, *number),
+        MapKey::Bool(truth) => is_boolean(kind, *truth),
+        MapKey::Text(text) => is_text(kind, text),
     }
 }
 

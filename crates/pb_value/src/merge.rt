@@ -58,10 +58,7 @@ fn join_map(content: &mut Content, other: BTreeMap<MapKey, Value>) -> Result<(),
     ensures memory { IfErr result (λ e. e ≡ Memory) }
 {
     match content {
-        Content::Map(entries) => {
-            put_entries(entries, other)?;
-            Ok(())
-        }
+        Content::Map(entries) => put_entries(entries, other),
         _ => {
             *content = Content::Map(other);
             Ok(())
@@ -99,10 +96,7 @@ fn merge_message(
         unreachable!();
     };
     match content {
-        Content::One(Value::Message(message)) => {
-            merge_body(pool, id, message, other)?;
-            Ok(())
-        }
+        Content::One(Value::Message(message)) => merge_body(pool, id, message, other),
         _ => {
             *content = Content::One(Value::Message(other));
             Ok(())
@@ -127,22 +121,13 @@ fn merge_content(
     ensures memory { IfErr result (λ e. e ≡ Memory) }
 {
     match other {
-        Content::One(Value::Message(other)) => {
-            merge_message(pool, kind, content, other)?;
-            Ok(())
-        }
+        Content::One(Value::Message(other)) => merge_message(pool, kind, content, other),
         Content::One(scalar) => {
             *content = Content::One(scalar);
             Ok(())
         }
-        Content::List(other) => {
-            join_list(content, other)?;
-            Ok(())
-        }
-        Content::Map(other) => {
-            join_map(content, other)?;
-            Ok(())
-        }
+        Content::List(other) => join_list(content, other),
+        Content::Map(other) => join_map(content, other),
     }
 }
 
@@ -164,14 +149,8 @@ fn merge_at(
     ensures memory { IfErr result (λ e. e ≡ Memory) }
 {
     match message.fields.get_mut(&number) {
-        Some(content) => {
-            merge_content(pool, shape, kind, content, other)?;
-            Ok(())
-        }
-        None => {
-            put_field(message, number, other)?;
-            Ok(())
-        }
+        Some(content) => merge_content(pool, shape, kind, content, other),
+        None => put_field(message, number, other),
     }
 }
 
@@ -196,8 +175,7 @@ fn merge_field(
         unreachable!();
     };
     make_way(pool, kind, message, field.shape, number);
-    merge_at(pool, field.shape, field.kind, message, number, other)?;
-    Ok(())
+    merge_at(pool, field.shape, field.kind, message, number, other)
 }
 
 /// Merges a message into another of its type.

@@ -96,7 +96,7 @@ pub fn insert_entry(
     ensures memory { IfErr result (λ e. e ≡ Memory) }
 {
     match message.fields.get_mut(&number) {
-        Some(content) => Ok(put_under(alloc, content, key, value)?),
+        Some(content) => put_under(alloc, content, key, value),
         None => {
             let content = map_of(alloc, key, value)?;
             put_field(message, number, content)?;

@@ -85,14 +85,10 @@ pub fn push_element(
     ensures memory { IfErr result (λ e. e ≡ Memory) }
 {
     match message.fields.get_mut(&number) {
-        Some(content) => {
-            append(alloc, content, value)?;
-            Ok(())
-        }
+        Some(content) => append(alloc, content, value),
         None => {
             let content = list_of(alloc, value)?;
-            put_field(message, number, content)?;
-            Ok(())
+            put_field(message, number, content)
         }
     }
 }

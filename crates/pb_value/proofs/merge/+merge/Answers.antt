@@ -1,4 +1,5 @@
 use Rattle.std.proofs.Common.{◌≡◌, ◌<◌, ◌≤◌, ◌++◌, [], ◌∷◌, List, ℕ, suc, Option, Some, None, IfSome, rules, refl, sym, ap, ◌∙◌, subst, nat_cmp, append-nil, append_assoc}
+use Rattle.std.proofs.lemmas.Result.{on_ok_weaker}
 use Rattle.std.specs.Map.{lookup}
 use Rattle.std.specs.Option.{option_copied_mut}
 use Rattle.std.specs.BTreeMap.{is_at}
@@ -47,17 +48,13 @@ merge_content-merge_message-requires t c =
       ),
     )
 
-pub merge_content-returns-in_ok-join_list-in-List-clause-ok : goal.merge_content-returns-in_ok-join_list-in-List-clause-ok
-merge_content-returns-in_ok-join_list-in-List-clause-ok t c =
-    λ levels l.
-    let joined = rw (c.in-List.other-is) at (c.in_ok-join_list-in-List.ensures.ok (merged_within c.args.pool.now levels) c.args.kind) in
-    rw (c.in-List.is, content_view-List) joined
+pub merge_content-returns-in-List-clause-ok : goal.merge_content-returns-in-List-clause-ok
+merge_content-returns-in-List-clause-ok t c =
+    on_ok_weaker c.join_list.result (λ joined levels l. rw (c.in-List.is, content_view-List) (rw (c.in-List.other-is) at (joined (merged_within c.args.pool.now levels) c.args.kind))) c.join_list.ensures.ok
 
-pub merge_content-returns-in_ok-join_map-in-Map-clause-ok : goal.merge_content-returns-in_ok-join_map-in-Map-clause-ok
-merge_content-returns-in_ok-join_map-in-Map-clause-ok t c =
-    λ levels l.
-    let joined = rw (c.in-Map.other-is) at (c.in_ok-join_map-in-Map.ensures.ok (merged_within c.args.pool.now levels) c.args.kind) in
-    rw (c.in-Map.is, content_view-Map) joined
+pub merge_content-returns-in-Map-clause-ok : goal.merge_content-returns-in-Map-clause-ok
+merge_content-returns-in-Map-clause-ok t c =
+    on_ok_weaker c.join_map.result (λ joined levels l. rw (c.in-Map.is, content_view-Map) (rw (c.in-Map.other-is) at (joined (merged_within c.args.pool.now levels) c.args.kind))) c.join_map.ensures.ok
 
 -- THE CONTENT OF A NUMBER
 
@@ -69,28 +66,26 @@ merge_at-merge_content-requires t c =
     subst (λ (o : Option Holding). IfSome o (IsHeld c.args.pool.now c.args.shape c.args.kind)) (get_field-at c.args.number (Some c.in-Some.content.now) fs found) (rw body_view-out at c.requires.own) in
     (search rules, (c.requires.rules, (c.requires.named, (own, c.requires.other))))
 
-pub merge_at-returns-in_ok-merge_content-in-Some-clause-ok : goal.merge_at-returns-in_ok-merge_content-in-Some-clause-ok
-merge_at-returns-in_ok-merge_content-in-Some-clause-ok t c =
-    λ levels l.
+pub merge_at-returns-in-Some-clause-ok : goal.merge_at-returns-in-Some-clause-ok
+merge_at-returns-in-Some-clause-ok t c =
     let fs = (out-Body c.args.message.now).fields.entries in
     let us = records_of (out-Body c.args.message.now).unknown.items in
     let written = (c.get_mut.follows.holds c.merge_content.new.content).0 in
     let found : lookup (is_at (nat_cmp c.args.number)) fs ≡ Some c.in-Some.content.now = sym c.get_mut.ensures.value ∙ ap option_copied_mut c.in-Some.is in
-    rw (body_view-roll, body_view-out, written) (ap (λ (gs : Fields). body gs us) (fields_view-step c.args.number c.in-Some.content.now c.merge_content.new.content fs
-    (λ (o : Option Holding). merged_over (merged_within c.args.pool.now levels) c.args.kind o (content_view c.args.other)) c.get_mut.ensures.ordered found (c.in_ok-merge_content-in-Some.ensures.ok levels l)))
+    on_ok_weaker c.merge_content.result (λ merged levels l. rw (body_view-roll, body_view-out, written) (ap (λ (gs : Fields). body gs us)
+    (fields_view-step c.args.number c.in-Some.content.now c.merge_content.new.content fs
+    (λ (o : Option Holding). merged_over (merged_within c.args.pool.now levels) c.args.kind o (content_view c.args.other)) c.get_mut.ensures.ordered found (merged levels l)))) c.merge_content.ensures.ok
 
-pub merge_at-returns-in_ok-put_field-in-None-clause-ok : goal.merge_at-returns-in_ok-put_field-in-None-clause-ok
-merge_at-returns-in_ok-put_field-in-None-clause-ok t c =
-    λ levels l.
+pub merge_at-returns-in-None-clause-ok : goal.merge_at-returns-in-None-clause-ok
+merge_at-returns-in-None-clause-ok t c =
     let fs = (out-Body c.args.message.now).fields.entries in
     let us = records_of (out-Body c.args.message.now).unknown.items in
     let gone : lookup (is_at (nat_cmp c.args.number)) fs ≡ None = sym c.get_mut.ensures.value ∙ ap option_copied_mut c.in-None.is in
     let same : body_view (roll-Body record { fields = c.get_mut.follows.lender-at-none; unknown = c.args.message.now.unknown }) ≡ body_view c.args.message.now =
     rw (body_view-roll, body_view-out, c.get_mut.follows.holds-at-none) in
-    let put = c.in_ok-put_field-in-None.ensures.ok
-    ∙ ap (λ (v : Message). with_fields v (put_field c.args.number (content_view c.args.other) (fields_of v))) (same ∙ body_view-out c.args.message.now) in
-    rw (body_view-out c.args.message.now) (put ∙ ap (λ (gs : Fields). body gs us) (fields_view-first c.args.number (content_view c.args.other) fs
-    (λ (o : Option Holding). merged_over (merged_within c.args.pool.now levels) c.args.kind o (content_view c.args.other)) gone refl))
+    let put = ap (λ (v : Message). with_fields v (put_field c.args.number (content_view c.args.other) (fields_of v))) (same ∙ body_view-out c.args.message.now) in
+    on_ok_weaker c.put_field.result (λ stored levels l. rw (body_view-out c.args.message.now) (stored ∙ put ∙ ap (λ (gs : Fields). body gs us) (fields_view-first c.args.number (content_view c.args.other) fs
+    (λ (o : Option Holding). merged_over (merged_within c.args.pool.now levels) c.args.kind o (content_view c.args.other)) gone refl))) c.put_field.ensures.ok
 
 -- ONE FIELD
 
@@ -105,9 +100,8 @@ merge_field-merge_at-requires t c =
 
 pub merge_field-returns-clause-ok : goal.merge_field-returns-clause-ok
 merge_field-returns-clause-ok t c =
-    λ levels f l e.
-    over_one (merged_within c.args.pool.now levels) (message_fields c.args.pool.now c.args.kind.0) c.args.number f (field_view c.in-Some.field.now) (content_view c.args.other)
-    (body_view c.args.message.now) (body_view c.make_way.new.message) (body_view c.merge_at.new.message) (sym c.in-Some.ensures.found) e c.make_way.ensures (c.in_ok-merge_at.ensures.ok levels l)
+    on_ok_weaker c.merge_at.result (λ merged levels f l e. over_one (merged_within c.args.pool.now levels) (message_fields c.args.pool.now c.args.kind.0) c.args.number f (field_view c.in-Some.field.now) (content_view c.args.other)
+    (body_view c.args.message.now) (body_view c.make_way.new.message) (body_view c.merge_at.new.message) (sym c.in-Some.ensures.found) e c.make_way.ensures (merged levels l)) c.merge_at.ensures.ok
 
 -- ALL FIELDS
 

@@ -1,4 +1,5 @@
 use Rattle.std.proofs.Common.{◌≡◌, Option, Some, None, subst, ap, sym, ◌∙◌, nat_cmp}
+use Rattle.std.proofs.lemmas.Result.{on_ok_weaker, on_err_weaker, IfOk-weaker}
 use Rattle.std.specs.Map.{lookup}
 use Rattle.std.specs.Option.{option_copied_mut}
 use Rattle.std.specs.BTreeMap.{is_at}
@@ -8,29 +9,26 @@ use Rattle.pb_value.specs.Data.{Holding, Fields, Message, body, fields_of, put_f
 use Rattle.pb_value.specs.Change.{with_fields, entries_of, inserted, FitsKeys}
 use Rattle.pb_value.specs.View.{key_view, value_view, content_view, body_view}
 use Rattle.pb_value.proofs.Views.{body_view-roll, body_view-out}
-use Rattle.pb_value.proofs.ChangeLemmas.{on_err_always}
 use Rattle.pb_value.proofs.FieldViews.{fields_view-step, fields_view-same, fields_view-first, get_field-at}
 use Rattle.pb_value.proofs.change.insert.insert_entry.Goals as goal
 
-pub returns-in_ok-put_under-in-Some-clause-ok : goal.returns-in_ok-put_under-in-Some-clause-ok
-returns-in_ok-put_under-in-Some-clause-ok c =
+pub returns-in-Some-clause-ok : goal.returns-in-Some-clause-ok
+returns-in-Some-clause-ok c =
     let fs = (out-Body c.args.message.now).fields.entries in
     let us = records_of (out-Body c.args.message.now).unknown.items in
     let written = (c.get_mut.follows.holds c.put_under.new.content).0 in
     let found : lookup (is_at (nat_cmp c.args.number)) fs ≡ Some c.in-Some.content.now = sym c.get_mut.ensures.value ∙ ap option_copied_mut c.in-Some.is in
-    rw (body_view-roll, body_view-out, written) (ap (λ (gs : Fields). body gs us) (fields_view-step c.args.number c.in-Some.content.now c.put_under.new.content fs
-    (inserted (key_view c.args.key) (value_view c.args.value)) c.get_mut.ensures.ordered found c.in_ok-put_under-in-Some.ensures.ok))
+    on_ok_weaker c.put_under.result (λ put. rw (body_view-roll, body_view-out, written) (ap (λ (gs : Fields). body gs us) (fields_view-step c.args.number c.in-Some.content.now c.put_under.new.content fs
+    (inserted (key_view c.args.key) (value_view c.args.value)) c.get_mut.ensures.ordered found put))) c.put_under.ensures.ok
 
-pub returns-in_err-put_under-in-Some-clause-err : goal.returns-in_err-put_under-in-Some-clause-err
-returns-in_err-put_under-in-Some-clause-err c =
+pub returns-in-Some-clause-err : goal.returns-in-Some-clause-err
+returns-in-Some-clause-err c =
     let fs = (out-Body c.args.message.now).fields.entries in
     let us = records_of (out-Body c.args.message.now).unknown.items in
     let written = (c.get_mut.follows.holds c.put_under.new.content).0 in
     let found : lookup (is_at (nat_cmp c.args.number)) fs ≡ Some c.in-Some.content.now = sym c.get_mut.ensures.value ∙ ap option_copied_mut c.in-Some.is in
-    let same : body_view (roll-Body record { fields = c.get_mut.follows.lender c.put_under.new.content; unknown = c.args.message.now.unknown }) ≡ body_view c.args.message.now =
-    rw (body_view-roll, body_view-out, written) (ap (λ (gs : Fields). body gs us) (fields_view-same c.args.number c.in-Some.content.now c.put_under.new.content fs found
-    c.in_err-put_under-in-Some.ensures.err)) in
-    on_err_always c.from_residual.result _ same
+    on_err_weaker c.put_under.result (λ kept. rw (body_view-roll, body_view-out, written) (ap (λ (gs : Fields). body gs us) (fields_view-same c.args.number c.in-Some.content.now c.put_under.new.content fs found
+    kept))) c.put_under.ensures.err
 
 pub returns-in_ok-put_field-in-None-clause-ok : goal.returns-in_ok-put_field-in-None-clause-ok
 returns-in_ok-put_field-in-None-clause-ok c =
@@ -50,11 +48,12 @@ put_under-requires c =
     let found : lookup (is_at (nat_cmp c.args.number)) fs ≡ Some c.in-Some.content.now = sym c.get_mut.ensures.value ∙ ap option_copied_mut c.in-Some.is in
     subst (λ (o : Option Holding). FitsKeys (key_view c.args.key) (entries_of o)) (get_field-at c.args.number (Some c.in-Some.content.now) fs found) (rw body_view-out at c.requires)
 
-pub returns-in_ok-put_under-in-Some-clause-stood : goal.returns-in_ok-put_under-in-Some-clause-stood
-returns-in_ok-put_under-in-Some-clause-stood c =
+pub returns-in-Some-clause-stood : goal.returns-in-Some-clause-stood
+returns-in-Some-clause-stood c =
     let fs = (out-Body c.args.message.now).fields.entries in
     let found : lookup (is_at (nat_cmp c.args.number)) fs ≡ Some c.in-Some.content.now = sym c.get_mut.ensures.value ∙ ap option_copied_mut c.in-Some.is in
-    rw body_view-out (c.in_ok-put_under-in-Some.ensures.stood ∙ ap (λ (o : Option Holding). get_entry (key_view c.args.key) (entries_of o)) (sym (get_field-at c.args.number (Some c.in-Some.content.now) fs found)))
+    let seen = ap (λ (o : Option Holding). get_entry (key_view c.args.key) (entries_of o)) (sym (get_field-at c.args.number (Some c.in-Some.content.now) fs found)) in
+    rw body_view-out (IfOk-weaker c.put_under.result _ _ (λ _ stood. stood ∙ seen) c.put_under.ensures.stood)
 
 pub returns-in_ok-put_field-in-None-clause-stood : goal.returns-in_ok-put_field-in-None-clause-stood
 returns-in_ok-put_field-in-None-clause-stood c =
