@@ -88,6 +88,11 @@ def unknown(i):
     return record + tag(4000, 3) + tag(1, 0) + varint(state % 1000) + tag(2, 5) + (state % 2**32).to_bytes(4, "little") + tag(4000, 4)
 
 
+def repeat(i):
+    """Numbers of one field among many, whose numbers have gaps."""
+    return tag(170, 0) + varint(mixed(i) % 2**14)
+
+
 def until(size, part):
     """Parts until there are so many bytes."""
     out = bytearray()
@@ -107,6 +112,7 @@ def main():
         "maps": lambda: until(size // 2, counted) + until(size // 2, entry),
         "nests": lambda: until(size, lambda i: nest(i, 90)),
         "unknown": lambda: until(size, unknown),
+        "repeats": lambda: length_delimited(11, until(size, repeat)),
     }
     for name, text in texts.items():
         with open(os.path.join(sys.argv[2], name), "wb") as out:

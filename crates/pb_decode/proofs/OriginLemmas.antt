@@ -6,7 +6,7 @@ use Rattle.pb_wire.specs.declared.fault.Cause.TheVariants.{Truncated}
 use Rattle.pb_wire.specs.declared.fault.PathStep.{PathStep}
 use Rattle.pb_wire.specs.Fault.{fault, Place, Moves}
 use Rattle.pb_wire.specs.Token.{given_at}
-use Rattle.pb_wire.specs.Schema.{Open, records, context_of}
+use Rattle.pb_wire.specs.Schema.{Open, context_of}
 use Rattle.pb_wire.specs.Grammar.{Begins}
 use Rattle.pb_wire.specs.Exact.{IsOver, longer}
 use Rattle.pb_schema.specs.Types.{Types}

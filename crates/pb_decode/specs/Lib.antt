@@ -4,6 +4,7 @@ pub mod Frames
 pub mod PartView
 pub mod Number
 pub mod Purposes
+pub mod KnownPurpose
 pub mod After
 pub mod Numbers
 pub mod Openings

@@ -9,6 +9,7 @@ mod fault;
 mod frame;
 mod from_device;
 mod front;
+mod known_purpose;
 mod number;
 mod number_token;
 mod occurrences;

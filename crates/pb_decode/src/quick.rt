@@ -7,10 +7,12 @@ ghost use Rattle.pb_wire.specs.Fault.{Place};
 ghost use Rattle.pb_schema.specs.Rules.{IsPool};
 ghost use Rattle.pb_decode.specs.declared.step.Step.TheVariants.{Elements};
 ghost use Rattle.pb_decode.specs.declared.error.DecodeError.TheVariants.{Memory};
+ghost use Rattle.pb_decode.specs.KnownPurpose.{IsKnown};
 ghost use Rattle.pb_decode.specs.Ended.{NothingEnds};
 ghost use Rattle.pb_decode.specs.Reader.{state_view, weight, Reads, IsReading, IfFault, Told};
 
 use crate::error::DecodeError;
+use crate::known_purpose::KnownPurpose;
 use crate::put_elements::put_elements;
 use crate::quick_record::take_record;
 use crate::reader::{Reader, left};
@@ -53,17 +55,20 @@ fn take_whole(
     alloc: Global,
     pool: &Pool,
     reader: &mut Reader,
+    known: &mut Option<KnownPurpose>,
     bytes: &[u8],
 ) -> Result<Option<usize>, DecodeError>
     requires rules { IsPool pool.now }
     requires reading { IsReading pool.now (state_view reader.old) bytes.now }
+    requires known { IsKnown pool.now known.old }
     ensures passes { IfOk result (λ o. IfSome o (λ n. (0 < n) × (n ≤ length bytes.now) × (reader.new.at ≡ reader.old.at + n))) }
     ensures none { IfOk result (λ o. IfNone o (reader.new ≡ reader.old)) }
     ensures taken { (m depth levels : ℕ) (base : List Record) (p0 : Place) → Reads pool.now m depth levels base p0 (state_view reader.old) bytes.now → IfOk result (λ o. IfSome o (λ n. Reads pool.now m depth levels base p0 (state_view reader.new) (drop n bytes.now))) }
     ensures memory { IfErr result (λ e. e ≡ Memory) }
+    ensures known { IsKnown pool.now known.new }
 {
     match reader.step {
-        Step::Tag => take_record(alloc, pool, reader, bytes),
+        Step::Tag => take_record(alloc, pool, reader, known, bytes),
         Step::Elements(number, kind, outer) => {
             take_run(alloc, pool, reader, number, kind, outer, bytes)
         }
@@ -91,9 +96,10 @@ pub(crate) fn quick(
     ensures refused { (m depth levels : ℕ) (base : List Record) (p0 : Place) → Reads pool.now m depth levels base p0 (state_view reader.old) bytes.now → IfErr result (λ e. IfFault e (Told pool.now m depth p0)) }
 {
     let mut here = 0;
+    let mut known = None;
     loop {
         take_ended(alloc, pool, reader)?;
-        let Some(size) = take_whole(alloc, pool, reader, &bytes[here..])? else {
+        let Some(size) = take_whole(alloc, pool, reader, &mut known, &bytes[here..])? else {
             return Ok(here);
         };
         here += size;

@@ -10,15 +10,17 @@ ghost use Rattle.pb_decode.specs.declared.step.Step.TheVariants.{Tag};
 ghost use Rattle.pb_decode.specs.declared.error.DecodeError.TheVariants.{Memory};
 ghost use Rattle.pb_decode.specs.PartView.{part_view};
 ghost use Rattle.pb_decode.specs.Purposes.{Means, part_context};
+ghost use Rattle.pb_decode.specs.KnownPurpose.{IsKnown};
 ghost use Rattle.pb_decode.specs.PayloadValue.{IsBytesPurpose};
 ghost use Rattle.pb_decode.specs.Reader.{state_view, here, Reads, IsReading};
 
 use crate::error::DecodeError;
 use crate::front::front_number;
+use crate::known_purpose::{KnownPurpose, purpose_by};
 use crate::number_token::NumberToken;
 use crate::pass_length::pass_length;
 use crate::payload_value::PayloadError;
-use crate::purpose::{Purpose, purpose_of};
+use crate::purpose::Purpose;
 use crate::put::count_one;
 use crate::put_number::put_number;
 use crate::put_payload::put_payload;
@@ -36,6 +38,7 @@ fn take_number_record(
     pool: &Pool,
     reader: &mut Reader,
     tag: RecordTag,
+    known: &mut Option<KnownPurpose>,
     bytes: &[u8],
 ) -> Result<Option<usize>, DecodeError>
     requires rules { IsPool pool.now }
@@ -44,15 +47,17 @@ fn take_number_record(
     requires number { (tag.wire_type ≡ 0) ⊎ (tag.wire_type ≡ 1) ⊎ (tag.wire_type ≡ 5) }
     requires within { tag.size ≤ length bytes.now }
     requires tag { HasTag (here (state_view reader.old) bytes.now) tag.number tag.wire_type (passed (here (state_view reader.old) bytes.now) tag.size) }
+    requires known { IsKnown pool.now known.old }
     ensures passes { IfOk result (λ o. IfSome o (λ n. (tag.size ≤ n) × (n ≤ length bytes.now) × (reader.new.at ≡ reader.old.at + n))) }
     ensures none { IfOk result (λ o. IfNone o (reader.new ≡ reader.old)) }
     ensures taken { (m depth levels : ℕ) (base : List Record) (p0 : Place) → Reads pool.now m depth levels base p0 (state_view reader.old) bytes.now → IfOk result (λ o. IfSome o (λ n. Reads pool.now m depth levels base p0 (state_view reader.new) (drop n bytes.now))) }
     ensures memory { IfErr result (λ e. e ≡ Memory) }
+    ensures known { IsKnown pool.now known.new }
 {
     let behind = left_behind(left(reader), tag.size);
     match number_at(tag.wire_type, &bytes[tag.size..], behind) {
         NumberToken::Whole(value, size) => {
-            let purpose = purpose_of(pool, &reader.part, tag.number, tag.wire_type);
+            let purpose = purpose_by(pool, &reader.part, tag.number, tag.wire_type, known);
             put_number(alloc, pool, &mut reader.part, tag.number, purpose, value)?;
             count_one(&mut reader.scope, tag.number)?;
             let used = tag.size + size;
@@ -182,6 +187,7 @@ fn take_length_record(
     pool: &Pool,
     reader: &mut Reader,
     tag: RecordTag,
+    known: &mut Option<KnownPurpose>,
     bytes: &[u8],
 ) -> Result<Option<usize>, DecodeError>
     requires rules { IsPool pool.now }
@@ -190,12 +196,14 @@ fn take_length_record(
     requires bytes { tag.wire_type ≡ 2 }
     requires within { tag.size ≤ length bytes.now }
     requires tag { HasTag (here (state_view reader.old) bytes.now) tag.number tag.wire_type (passed (here (state_view reader.old) bytes.now) tag.size) }
+    requires known { IsKnown pool.now known.old }
     ensures passes { IfOk result (λ o. IfSome o (λ n. (tag.size ≤ n) × (n ≤ length bytes.now) × (reader.new.at ≡ reader.old.at + n))) }
     ensures none { IfOk result (λ o. IfNone o (reader.new ≡ reader.old)) }
     ensures taken { (m depth levels : ℕ) (base : List Record) (p0 : Place) → Reads pool.now m depth levels base p0 (state_view reader.old) bytes.now → IfOk result (λ o. IfSome o (λ n. Reads pool.now m depth levels base p0 (state_view reader.new) (drop n bytes.now))) }
     ensures memory { IfErr result (λ e. e ≡ Memory) }
+    ensures known { IsKnown pool.now known.new }
 {
-    let purpose = purpose_of(pool, &reader.part, tag.number, 2);
+    let purpose = purpose_by(pool, &reader.part, tag.number, 2, known);
     if is_for_bytes(purpose) {
         take_bytes_record(alloc, pool, reader, tag, purpose, bytes)
     } else {
@@ -262,23 +270,26 @@ pub(crate) fn take_record(
     alloc: Global,
     pool: &Pool,
     reader: &mut Reader,
+    known: &mut Option<KnownPurpose>,
     bytes: &[u8],
 ) -> Result<Option<usize>, DecodeError>
     requires rules { IsPool pool.now }
     requires reading { IsReading pool.now (state_view reader.old) bytes.now }
     requires step { reader.old.step ≡ Tag }
+    requires known { IsKnown pool.now known.old }
     ensures passes { IfOk result (λ o. IfSome o (λ n. (0 < n) × (n ≤ length bytes.now) × (reader.new.at ≡ reader.old.at + n))) }
     ensures none { IfOk result (λ o. IfNone o (reader.new ≡ reader.old)) }
     ensures taken { (m depth levels : ℕ) (base : List Record) (p0 : Place) → Reads pool.now m depth levels base p0 (state_view reader.old) bytes.now → IfOk result (λ o. IfSome o (λ n. Reads pool.now m depth levels base p0 (state_view reader.new) (drop n bytes.now))) }
     ensures memory { IfErr result (λ e. e ≡ Memory) }
+    ensures known { IsKnown pool.now known.new }
 {
     let Some(tag) = record_tag(bytes, left(reader)) else {
         return Ok(None);
     };
     if tag.wire_type == 2 {
-        take_length_record(alloc, pool, reader, tag, bytes)
+        take_length_record(alloc, pool, reader, tag, known, bytes)
     } else if tag.wire_type == 0 || tag.wire_type == 1 || tag.wire_type == 5 {
-        take_number_record(alloc, pool, reader, tag, bytes)
+        take_number_record(alloc, pool, reader, tag, known, bytes)
     } else if tag.wire_type == 3 {
         take_group_start(alloc, pool, reader, tag, bytes)
     } else if tag.wire_type == 4 {

@@ -1,5 +1,5 @@
 -- What is taken one by one is taken from the front of the bytes, and what ends there is closed.
-use Rattle.std.proofs.Common.{◌-◌, sym, subst, arith, drop, length-drop}
+use Rattle.std.proofs.Common.{sym, subst, arith, drop, length-drop}
 use Rattle.std.proofs.lemmas.Result.{err_from_is_err_and}
 use Rattle.pb_decode.specs.Reader.{state_view, IsReading}
 use Rattle.pb_decode.proofs.ReaderLemmas.{slice_from}
