@@ -95,7 +95,7 @@ not_false false h = refl
 not_true : (b : Bool) → b ≡ false → not b ≡ true
 not_true b h = ap not h
 
-not_fails : (b : Bool) → not b ≡ false → b ≡ true
+pub not_fails : (b : Bool) → not b ≡ false → b ≡ true
 not_fails true h = refl
 not_fails false h = absurd (false≢true (sym h))
 

@@ -1,13 +1,11 @@
 -- Imports as graphs: what they lead to are files, and what is reached along them is seen.
 use Rattle.std.proofs.Common.{◌≡◌, ℕ, zero, suc, ◌+◌, ◌<◌, ◌≤◌, ◌↔◌, ◌⊎◌, inl, inr, ⊎_elim, List, [], ◌∷◌, ◌++◌, map, take, length, get_or, Bool, true, false, ◌==◌, refl, sym, ap, ◌∙◌, subst, arith, IsTrue, Contains, Option, Some, None, cond, Vec, Global}
 use Rattle.std.specs.Prelude.{ℤ, pos, negsuc, filter_map, option_and_then, option_to_list, slice_get}
-use Rattle.std.specs.List.{AllByRecursion, cons_option, position_from, slice_index_or}
+use Rattle.std.specs.List.{AllByRecursion, cons_option, position_from}
 use Rattle.std.specs.Cmp.{unsigned_Decides}
 use Rattle.std.specs.Str.{bytes_eq}
 use Rattle.std.proofs.lemmas.Option.{none-some}
-use Rattle.std.proofs.lemmas.List.{length-map, take_more, take_all, map-append, get_or_past}
-use Rattle.std.proofs.lemmas.Bool.{cases_eq, false≢true}
-use Rattle.pb_schema.proofs.ImportLemmas.{Contains-none}
+use Rattle.std.proofs.lemmas.List.{length-map, take_more, take_all, map-append}
 use Rattle.std.proofs.lemmas.List.Elements.{filter_map-append}
 use Rattle.pb_schema.specs.Types.{FileView}
 use Rattle.pb_schema.specs.Imports.{imports_of, Reaches, directly, further}
@@ -16,7 +14,7 @@ use Rattle.pb_descr.specs.View.{file_view}
 use Rattle.pb_descr.specs.declared.decl.FileDecl.{FileDecl}
 use Rattle.pb_link.specs.Sees.{file_named, import_at, file_of, files_of, public_file_of, public_files_of, Sees, itself, imported, onward}
 use Rattle.pb_link.specs.Reach.{graph_of, next_of, Reached, begun, further as led, IsGraph, is_marked}
-use Rattle.pb_link.specs.Graphs.{target_at, AreImports, LeadToFiles, KnowsSight, sees_by, is_file, AreCyclic}
+use Rattle.pb_link.specs.Graphs.{target_at, AreImports, LeadToFiles, KnowsSight, sees_by, is_file}
 use Rattle.pb_link.specs.declared.imports.Imports.{Imports}
 use Rattle.pb_link.specs.declared.sight.Sight.{Sight}
 use Rattle.pb_link.proofs.AnyLemmas.{or_cases, or_first, or_second, same_test}
@@ -202,32 +200,8 @@ sees_exact files m s i j are knows at = (
 pub sees_same : (files : List DeclaredFile) (m : Imports) (s : Sight) (i : ℕ) (sees : ℕ → ℕ → Bool) → AreImports files m → KnowsSight m s → s.file ≡ Some i → ((k j : ℕ) → IsTrue (sees k j) ↔ Sees files k j) → sees_by s ≡ sees i
 sees_same files m s i sees are knows at exact = λ p. λ j. same_test (sees_by s j) (sees i j) (λ h. (exact i j).1 ((sees_exact files m s i j are knows at).0 h)) (λ h. (sees_exact files m s i j are knows at).1 ((exact i j).0 h)) p
 
-pub cyclic_exact : (files : List DeclaredFile) (m : Imports) (bits : List Bool) (i : ℕ) → AreImports files m → AreCyclic m bits → IsTrue (slice_index_or bits i false) ↔ Reaches (files_of files) i i
-cyclic_exact files m bits i are cyclic = (
-  λ h. reaches_from (files_of files) i i (subst (λ starts. Reached (map (λ (f : FileView). f.imports) (files_of files)) starts i) (ap (λ g. next_of g i) are.all ∙ next_files (files_of files) i) (subst (λ g. Reached g (next_of (graph_of m.all.items) i) i) are.all ((cyclic.exact i).0 h))),
-  λ way. (cyclic.exact i).1 (subst (λ g. Reached g (next_of (graph_of m.all.items) i) i) (sym are.all) (subst (λ starts. Reached (map (λ (f : FileView). f.imports) (files_of files)) starts i) (sym (ap (λ g. next_of g i) are.all ∙ next_files (files_of files) i)) (reached_by (files_of files) i i way))),
+pub cyclic_reaches : (files : List DeclaredFile) (m : Imports) (i : ℕ) → AreImports files m → Reached (graph_of m.all.items) (next_of (graph_of m.all.items) i) i ↔ Reaches (files_of files) i i
+cyclic_reaches files m i are = (
+  λ way. reaches_from (files_of files) i i (subst (λ starts. Reached (map (λ (f : FileView). f.imports) (files_of files)) starts i) (ap (λ g. next_of g i) are.all ∙ next_files (files_of files) i) (subst (λ g. Reached g (next_of (graph_of m.all.items) i) i) are.all way)),
+  λ way. subst (λ g. Reached g (next_of (graph_of m.all.items) i) i) (sym are.all) (subst (λ starts. Reached (map (λ (f : FileView). f.imports) (files_of files)) starts i) (sym (ap (λ g. next_of g i) are.all ∙ next_files (files_of files) i)) (reached_by (files_of files) i i way)),
 )
-
--- FILES THAT REACH THEMSELVES
-not_reached : (graph : List (List ℕ)) (j : ℕ) → Reached graph [] j → ⊥
-not_reached graph j (begun among) = Contains-none j among
-not_reached graph j (led {k} way among) = not_reached graph k way
-
-next_past : (graph : List (List ℕ)) (i : ℕ) → length graph ≤ i → next_of graph i ≡ []
-next_past [] i h = refl
-next_past (x ∷ xs) zero h = absurd (omega (arith, h))
-next_past (x ∷ xs) (suc i) h = next_past xs i (omega (arith, h))
-
-pub cyclic_whole : (m : Imports) (bits : List Bool) (n : ℕ) → length bits ≡ n → n ≡ length m.all.items → ((i : ℕ) → i < n → IsTrue (get_or bits i false) ↔ Reached (graph_of m.all.items) (next_of (graph_of m.all.items) i) i) → AreCyclic m bits
-cyclic_whole m bits n size whole each = record { size = omega (arith, size, whole, m.all.ok.0); exact = λ i. by i (less_or_past i n) }
-  where
-    less_or_past : (i n : ℕ) → (i < n) ⊎ (n ≤ i)
-    less_or_past i zero = inr (omega arith)
-    less_or_past i (suc n) = ⊎_elim (λ less. inl (omega (arith, less))) (λ past. ⊎_elim (λ e. inl (omega (arith, e))) (λ ne. inr (omega (arith, past, ne))) (cases_eq i n)) (less_or_past i n)
-
-    by : (i : ℕ) → (i < n) ⊎ (n ≤ i) → IsTrue (get_or bits i false) ↔ Reached (graph_of m.all.items) (next_of (graph_of m.all.items) i) i
-    by i (inl less) = each i less
-    by i (inr past) = (
-      λ h. absurd (false≢true (sym (get_or_past bits i false (omega (arith, size, past))) ∙ h)),
-      λ way. absurd (not_reached (graph_of m.all.items) i (subst (λ starts. Reached (graph_of m.all.items) starts i) (next_past (graph_of m.all.items) i (omega (arith, whole, past, length-map m.all.items (λ (v : Vec ℕ Global). v.items)))) way)),
-    )

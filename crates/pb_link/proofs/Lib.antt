@@ -30,7 +30,7 @@ pub mod WorldLemmas
 pub mod ReachLemmas
 pub mod FirstsLemmas
 pub mod GraphLemmas
-pub mod CleanLemmas
+pub mod ComponentLemmas
 pub mod NameSetsLemmas
 pub mod ScopeSteps
 pub mod PlacesLemmas
@@ -38,7 +38,7 @@ pub mod NamesLemmas
 pub mod UseLemmas
 pub mod MapLemmas
 pub mod MarkLemmas
-pub mod RangeLemmas
+pub mod ReservedLemmas
 pub mod OneofCountLemmas
 pub mod TableLemmas
 pub mod PartLemmas

@@ -1,17 +1,17 @@
 -- Marks, by the index of what they speak of.
-use Rattle.std.proofs.Common.{◌≡◌, ℕ, ℤ, ◌+◌, ◌<◌, ◌≤◌, List, [], ◌∷◌, ◌++◌, length, map, take, get_or, Bool, true, false, ◌||◌, refl, sym, ap, ◌∙◌, subst, zero-add}
+use Rattle.std.proofs.Common.{◌≡◌, ℕ, ℤ, ◌+◌, ◌<◌, ◌≤◌, List, [], ◌∷◌, ◌++◌, length, map, take, get_or, Bool, true, false, ◌||◌, ◌&&◌, refl, sym, ap, ◌∙◌, subst, zero-add}
 use Rattle.std.specs.Prelude.{cond}
 use Rattle.std.specs.Ordering.{int_eq}
 use Rattle.std.specs.List.{enumerate_from}
 use Rattle.std.proofs.lemmas.List.{length-map, get_or-map, take_all, map_more}
 use Rattle.std.proofs.lemmas.List.Folds.{list_any_more}
 use Rattle.std.proofs.lemmas.Cmp.{int_eq_equiv}
-use Rattle.std.specs.List.{list_any}
+use Rattle.std.specs.List.{list_any, list_all}
 use Rattle.pb_link.specs.declared.marks.Marks.{Marks}
 use Rattle.pb_descr.specs.Decls.{DeclaredMessage, message}
-use Rattle.pb_link.specs.Declarations.{item_of_message}
+use Rattle.pb_link.specs.Declarations.{head_of, item_of_message}
 use Rattle.pb_link.specs.Marks.{marks_of}
-use Rattle.pb_link.specs.Rules.{ranges_are_right}
+use Rattle.pb_link.specs.Rules.{is_message_range, message_ranges_overlap, none_overlap}
 use Rattle.std.proofs.lemmas.List.FromFn.{length-enumerate_from, get_or-enumerate_from}
 
 pub marks_size : {X Y M : Type 0} (f : ℕ × Y → M) (view : X → Y) (xs : List X) (ms : List M) → ms ≡ map f (enumerate_from 0 (map view xs)) → length ms ≡ length xs
@@ -55,7 +55,7 @@ pub all_marked : {X Y M : Type 0} (f : ℕ × Y → M) (view : X → Y) (xs : Li
 all_marked f view xs ys i ms held h e = held ∙ ap (λ l. map f (enumerate_from 0 (map view l))) (take_all i xs h) ∙ ap (λ l. map f (enumerate_from 0 l)) e
 
 -- the marks of a message, which has no sibling's rule but that of its ranges
-pub message_marked : (t : DeclaredMessage) (right : Bool) → right ≡ ranges_are_right (item_of_message t) → record { is_named = true; number_is_free = true; is_not_reserved = true; is_oneof_right = true; ranges_are_right = right } ≡ marks_of (item_of_message t)
+pub message_marked : (t : DeclaredMessage) (right : Bool) → right ≡ (list_all is_message_range (head_of t).reserved && none_overlap message_ranges_overlap (head_of t).reserved) → record { is_named = true; number_is_free = true; is_not_reserved = true; is_oneof_right = true; ranges_are_right = right } ≡ marks_of (item_of_message t)
 message_marked (message head inner) right e = λ i. record { is_named = true; number_is_free = true; is_not_reserved = true; is_oneof_right = true; ranges_are_right = e i }
 
 abbrev pub mark_of : Bool → Bool → Bool → Bool → Bool → Marks

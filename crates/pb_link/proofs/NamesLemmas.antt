@@ -1,10 +1,11 @@
 -- What the tables of names come to.
-use Rattle.std.proofs.Common.{◌≡◌, ℕ, zero, suc, ◌+◌, ◌<◌, ◌≤◌, List, [], ◌∷◌, ◌++◌, map, take, drop, length, get_or, Bool, true, false, not, ◌||◌, ◌&&◌, refl, sym, ap, ◌∙◌, arith, Option, Some, None, cond}
+use Rattle.std.proofs.Common.{◌≡◌, ℕ, zero, suc, ◌+◌, ◌<◌, ◌≤◌, List, [], ◌∷◌, ◌++◌, map, take, drop, length, get_or, Bool, true, false, not, ◌||◌, ◌&&◌, refl, sym, ap, ◌∙◌, arith, Option, Some, None, cond, IsTrue, ◌↔◌}
 use Rattle.std.specs.Prelude.{option_to_list, nat_le, nat_lt, ◌^◌}
-use Rattle.std.specs.List.{list_any, list_all, enumerate_from, position_from, slice_index_or}
+use Rattle.std.specs.List.{list_any, list_all, enumerate_from, position_from}
 use Rattle.std.specs.Option.{option_map_or}
 use Rattle.std.proofs.lemmas.Bool.Decides.{nat_tests}
 use Rattle.std.proofs.lemmas.List.{drop_more, take-map, map-append}
+use Rattle.pb_schema.specs.Imports.{Reaches}
 use Rattle.pb_descr.specs.Decls.{DeclaredFile}
 use Rattle.pb_link.specs.declared.cause.LinkCause.TheVariants as cause
 use Rattle.pb_link.specs.Declarations.{Item, a_file, a_message, a_field, a_oneof, an_enum, a_value, a_service, a_method, Declaration, declarations, is_named, full_name, has_name}
@@ -12,17 +13,19 @@ use Rattle.pb_link.specs.Lookup.{Found, looked_up, every_file, is_package_name}
 use Rattle.pb_link.specs.Rules.{World, lookups, lookups_if, is_file_named, is_import_index, imports_are_there}
 use Rattle.pb_link.specs.Link.{holds, IsWorldOf}
 use Rattle.pb_link.specs.Firsts.{first_at}
-use Rattle.pb_link.specs.Graphs.{AreImports, AreCyclic, sees_by}
+use Rattle.pb_link.specs.Sees.{files_of}
+use Rattle.pb_link.specs.Reach.{graph_of, next_of, Reached}
+use Rattle.pb_link.specs.Graphs.{AreImports, sees_by}
 use Rattle.pb_link.specs.NameSets.{is_in_set}
 use Rattle.pb_link.specs.Scene.{IsScene}
 use Rattle.pb_link.specs.Tables.{holds_table}
-use Rattle.pb_link.specs.TypeNames.{names_in, file_in, IsReady, is_first_file, are_right_imports, are_imports_there, is_acyclic, is_free_name, is_not_before, AddsFileName}
+use Rattle.pb_link.specs.TypeNames.{names_in, file_in, IsReady, is_first_file, are_right_imports, are_imports_there, is_free_name, is_not_before, AddsFileName}
 use Rattle.pb_link.specs.declared.imports.Imports.{Imports}
 use Rattle.pb_link.specs.declared.name_set.NameSet.{NameSet}
 use Rattle.pb_link.specs.declared.scene.Scene.{Scene}
 use Rattle.pb_link.proofs.AnyLemmas.{same_test}
 use Rattle.pb_link.proofs.NameSetsLemmas.{any_append}
-use Rattle.pb_link.proofs.GraphLemmas.{sees_same, cyclic_exact, map_more}
+use Rattle.pb_link.proofs.GraphLemmas.{sees_same, cyclic_reaches, map_more}
 use Rattle.pb_link.proofs.RowLemmas.{grown}
 
 -- TYPE NAMES
@@ -116,15 +119,24 @@ imports_table w ds names e has =
     each : (n : ℕ) (d : Declaration) → are_imports_there names d ≡ holds w n d cause.MissingImport
     each n d = option_alike (are_right_imports names) (imports_are_there w) (file_in d.item) true right ∙ sym (imports_hold w n d.file d.parent d.scope d.item)
 
-pub cycle_table : (files : List DeclaredFile) (w : World) (ds : List Declaration) (m : Imports) (bits : List Bool) → IsWorldOf files w → w.declared ≡ ds → AreImports files m → AreCyclic m bits → map (is_acyclic bits) ds ≡ holds_table w cause.ImportCycle
-cycle_table files w ds m bits world e are cyclic =
-    ap (map (is_acyclic bits)) (sym e) ∙ map_enumerated (λ p. holds w p.0 p.1 cause.ImportCycle) (is_acyclic bits) each 0 w.declared
+-- a file reaches itself where the rule of cycles fails
+pub cycle_told : (files : List DeclaredFile) (w : World) (m : Imports) (place : ℕ) (d : Declaration) (f : DeclaredFile) (b : Bool) → AreImports files m → IsWorldOf files w → file_in d.item ≡ Some f → (IsTrue b ↔ Reached (graph_of m.all.items) (next_of (graph_of m.all.items) d.file) d.file) → b ≡ not (holds w place d cause.ImportCycle)
+cycle_told files w m place d f b are world is exact =
+    sym (not_twice b) ∙ ap (λ x. not (not x)) same ∙ ap not (sym (cycle_holds w place d.file d.parent d.scope d.item ∙ ap (λ o. option_map_or (λ (g : DeclaredFile). not (w.sight.is_cyclic d.file)) o true) is))
   where
-    same : (i : ℕ) → slice_index_or bits i false ≡ w.sight.is_cyclic i
-    same i = same_test (slice_index_or bits i false) (w.sight.is_cyclic i) (λ h. (world.sight.is_cyclic i).1 ((cyclic_exact files m bits i are cyclic).0 h)) (λ h. (cyclic_exact files m bits i are cyclic).1 ((world.sight.is_cyclic i).0 h))
+    not_twice : (x : Bool) → not (not x) ≡ x
+    not_twice true = refl
+    not_twice false = refl
 
-    each : (n : ℕ) (d : Declaration) → is_acyclic bits d ≡ holds w n d cause.ImportCycle
-    each n d = option_alike (λ (f : DeclaredFile). not (slice_index_or bits d.file false)) (λ (f : DeclaredFile). not (w.sight.is_cyclic d.file)) (file_in d.item) true (λ f. ap not (same d.file)) ∙ sym (cycle_holds w n d.file d.parent d.scope d.item)
+    ways : Reached (graph_of m.all.items) (next_of (graph_of m.all.items) d.file) d.file ↔ Reaches (files_of files) d.file d.file
+    ways = cyclic_reaches files m d.file are
+
+    same : b ≡ w.sight.is_cyclic d.file
+    same = same_test b (w.sight.is_cyclic d.file) (λ h. (world.sight.is_cyclic d.file).1 (ways.0 (exact.0 h))) (λ h. exact.1 (ways.1 ((world.sight.is_cyclic d.file).0 h)))
+
+pub cycle_apart : (w : World) (place : ℕ) (d : Declaration) → file_in d.item ≡ None → false ≡ not (holds w place d cause.ImportCycle)
+cycle_apart w place d is =
+    sym (ap not (cycle_holds w place d.file d.parent d.scope d.item ∙ ap (λ o. option_map_or (λ (g : DeclaredFile). not (w.sight.is_cyclic d.file)) o true) is))
 
 pub free_table : (w : World) (ds : List Declaration) → w.declared ≡ ds → map (is_free_name ds) (enumerate_from 0 ds) ≡ holds_table w cause.NameTaken
 free_table w ds e = ap (λ x. map (is_free_name x) (enumerate_from 0 x)) (sym e)

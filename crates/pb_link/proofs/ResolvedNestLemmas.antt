@@ -5,7 +5,7 @@ use Rattle.pb_schema.specs.Names.{in_scope}
 use Rattle.pb_descr.specs.Decls.{DeclaredMessage, message, DeclaredMessages, no_messages, more_messages, DeclaredFile}
 use Rattle.pb_descr.proofs.NestLemmas.{nests, all_nest}
 use Rattle.pb_link.specs.Rules.{World}
-use Rattle.pb_link.specs.Resolved.{resolved_message, resolved_messages, resolved_file, resolved_files, Resolves}
+use Rattle.pb_link.specs.Resolved.{resolved_message, resolved_messages, resolved_file, Resolves}
 
 mutual
   resolved_nests : (w : World) (file : ℕ) (scope : List ℕ) (m : DeclaredMessage) → nests (resolved_message w file scope m) ≡ nests m

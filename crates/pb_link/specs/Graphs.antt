@@ -1,5 +1,5 @@
 -- Imports of files as graphs over their indexes.
-use Rattle.std.specs.Prelude.{◌≡◌, ◌↔◌, ℕ, ℤ, pos, negsuc, List, length, map, Bool, false, ◌==◌, ◌||◌, Option, Some, None, IsTrue, option_and_then, slice_get, slice_index_or, vec_len}
+use Rattle.std.specs.Prelude.{◌≡◌, ◌↔◌, ℕ, ℤ, pos, negsuc, List, map, Bool, false, ◌==◌, ◌||◌, Option, Some, None, IsTrue, option_and_then, slice_get, vec_len}
 use Rattle.pb_descr.specs.Decls.{DeclaredFile}
 use Rattle.pb_link.specs.Sees.{files_of, public_files_of}
 use Rattle.pb_link.specs.Reach.{graph_of, next_of, Reached, IsGraph, is_marked, IsListed}
@@ -35,8 +35,3 @@ pub record KnowsSight (m : Imports) (s : Sight) : Type 0 where
   pub size : vec_len s.reach.bits ≡ vec_len m.all
   pub listed : IsListed s.reach
   pub exact : (i : ℕ) → s.file ≡ Some i → (j : ℕ) → IsTrue (is_marked s.reach j) ↔ Reached (graph_of m.public.items) (next_of (graph_of m.all.items) i) j
-
--- a bit for each file tells whether it reaches itself
-pub record AreCyclic (m : Imports) (bits : List Bool) : Type 0 where
-  pub size : length bits ≡ vec_len m.all
-  pub exact : (i : ℕ) → IsTrue (slice_index_or bits i false) ↔ Reached (graph_of m.all.items) (next_of (graph_of m.all.items) i) i

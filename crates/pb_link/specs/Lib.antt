@@ -21,8 +21,9 @@ pub mod Law
 pub mod Reach
 pub mod Firsts
 pub mod Graphs
-pub mod Clean
+pub mod Components
 pub mod NameSets
+pub mod Reserved
 pub mod Scopes
 pub mod Places
 pub mod Scene

@@ -1,6 +1,6 @@
 -- The type names of declarations, and what the tables of names stand for.
-use Rattle.std.specs.Prelude.{◌≡◌, ℕ, List, [], ◌∷◌, ◌&&◌, ◌||◌, length, take, option_to_list, string_bytes, Bool, true, false, not, nat_lt, nat_le, ◌^◌, Option, Some, None}
-use Rattle.std.specs.List.{list_any, list_all, slice_index_or}
+use Rattle.std.specs.Prelude.{◌≡◌, ℕ, List, [], ◌∷◌, ◌&&◌, ◌||◌, length, take, option_to_list, string_bytes, Bool, true, not, nat_lt, nat_le, ◌^◌, Option, Some, None}
+use Rattle.std.specs.List.{list_any, list_all}
 use Rattle.std.specs.Option.{option_map_or}
 use Rattle.pb_descr.specs.Decls.{DeclaredFile}
 use Rattle.pb_link.specs.Declarations.{Item, a_file, a_message, a_field, a_oneof, an_enum, a_value, a_service, a_method, Declaration, declarations, is_named, full_name, has_name}
@@ -59,9 +59,6 @@ are_right_imports names f = nat_lt (length f.imports) (2 ^ 31) && list_all (is_i
 
 abbrev pub are_imports_there : NameSet → Declaration → Bool
 are_imports_there names d = option_map_or (are_right_imports names) (file_in d.item) true
-
-abbrev pub is_acyclic : List Bool → Declaration → Bool
-is_acyclic bits d = option_map_or (λ f. not (slice_index_or bits d.file false)) (file_in d.item) true
 
 abbrev pub is_free_name : List Declaration → ℕ × Declaration → Bool
 is_free_name ds e =

@@ -15,6 +15,7 @@ use crate::item::Item;
 use crate::marks::{
     Marks, enum_marks, field_marks, message_marks, oneof_marks, plain, value_marks,
 };
+use crate::rules::reserved::Reserved;
 use pb_descr::{EnumDecl, FieldDecl, FileDecl, MessageDecl, MethodDecl, ServiceDecl};
 use std::alloc::{AllocError, Global};
 
@@ -130,8 +131,9 @@ fn add_enum<'a>(
     ensures { OnOk result (map declaration_view row.new.items ≡ map declaration_view row.old.items ++ enum_declared file parent scope.now (length row.old.items) (enum_view entry.now)) }
 {
     let place = row.len();
-    let own = enum_marks(entry);
-    let marks = value_marks(alloc, entry)?;
+    let reserved = Reserved::of_enum(alloc, entry)?;
+    let own = enum_marks(&reserved, entry);
+    let marks = value_marks(alloc, &reserved, entry)?;
     let name = entry.name.as_str();
     add(
         alloc,
@@ -175,8 +177,9 @@ fn add_head<'a>(
     ensures { OnOk result (map declaration_view row.new.items ≡ map declaration_view row.old.items ++ head_row file parent scope.now full_name.now (length row.old.items) (message_view message.now)) }
 {
     let place = row.len();
-    let own = message_marks(message);
-    let fields = field_marks(alloc, message)?;
+    let reserved = Reserved::of_message(alloc, message)?;
+    let own = message_marks(&reserved, message);
+    let fields = field_marks(alloc, &reserved, message)?;
     let oneofs = oneof_marks(alloc, message)?;
     let name = message.name.as_str();
     add(

@@ -8,7 +8,7 @@ ghost use Rattle.pb_link.specs.Rules.{is_file_named, is_import_index};
 ghost use Rattle.pb_link.specs.View.{declaration_view};
 ghost use Rattle.pb_link.specs.NameSets.{is_in_set};
 ghost use Rattle.pb_link.specs.Scene.{IsScene};
-ghost use Rattle.pb_link.specs.TypeNames.{is_first_file, are_right_imports, are_imports_there, is_acyclic, is_free_name, is_not_before, AddsFileName};
+ghost use Rattle.pb_link.specs.TypeNames.{is_first_file, are_right_imports, are_imports_there, is_free_name, is_not_before, AddsFileName};
 
 use crate::declaration::Declaration;
 use crate::name_set::NameSet;
@@ -113,33 +113,6 @@ pub(crate) fn right_imports(
     let mut flags: Vec<bool> = Vec::new(alloc);
     for declaration in row {
         flags.push(has_right_imports(names, declaration))?;
-    }
-    Ok(flags)
-}
-
-fn is_acyclic(bits: &[bool], declaration: &Declaration) -> bool
-    ensures { result ≡ is_acyclic bits.now (declaration_view declaration.now) }
-{
-    match file_in(declaration.item) {
-        Some(_) => match bits.get(declaration.file) {
-            Some(bit) => !*bit,
-            None => true,
-        },
-        None => true,
-    }
-}
-
-/// Whether each file does not reach itself by imports.
-pub(crate) fn acyclic_files(
-    alloc: Global,
-    row: &[Declaration],
-    bits: &[bool],
-) -> Result<Vec<bool>, AllocError>
-    ensures { IfOk result (λ v. v.items ≡ map (is_acyclic bits.now) (map declaration_view row.now)) }
-{
-    let mut flags: Vec<bool> = Vec::new(alloc);
-    for declaration in row {
-        flags.push(is_acyclic(bits, declaration))?;
     }
     Ok(flags)
 }

@@ -2,6 +2,7 @@
 #![tactic(auto)]
 
 mod cause;
+mod components;
 mod cycles;
 mod declaration;
 mod declared;

@@ -4,18 +4,17 @@ ghost use Rattle.std.specs.Prelude.{◌≡◌, ◌<◌, [], ◌+◌, List, map, 
 ghost use Rattle.std.specs.List.{list_any, enumerate_from};
 ghost use Rattle.std.specs.Ordering.{int_eq, int_cmp};
 ghost use Rattle.std.specs.BTreeSet.{contains};
-ghost use Rattle.pb_descr.specs.Decls.{MessageHead};
+ghost use Rattle.pb_descr.specs.Decls.{DeclaredEnum, MessageHead};
 ghost use Rattle.pb_descr.specs.View.{field_view, numbered_view, enum_view, message_view};
 ghost use Rattle.pb_link.specs.Declarations.{head_of, item_of_message, an_enum, a_field, a_oneof, a_value, is_synthetic};
 ghost use Rattle.pb_link.specs.Rules.{is_not_reserved, number_is_free};
 ghost use Rattle.pb_link.specs.Oneofs.{AreOneofsOf};
+ghost use Rattle.pb_link.specs.Reserved.{ReservesInMessage, ReservesInEnum};
 ghost use Rattle.pb_link.specs.Marks.{marks_of, field_marks, oneof_marks, value_marks};
 
 use crate::rules::oneofs::{Oneofs, counted, is_member_right, is_oneof_right};
-use crate::rules::ranges::{
-    enum_ranges_are_right, is_in_enum_range, is_in_message_range, is_reserved_name,
-    message_ranges_are_right,
-};
+use crate::rules::ranges::{enum_ranges_are_right, message_ranges_are_right};
+use crate::rules::reserved::Reserved;
 use pb_descr::{EnumDecl, FieldDecl, MessageDecl};
 use std::alloc::{AllocError, Global};
 use std::collections::BTreeSet;
@@ -49,7 +48,8 @@ pub(crate) fn plain(is_named: bool) -> Marks
 }
 
 /// The marks of a message.
-pub(crate) fn message_marks(message: &MessageDecl) -> Marks
+pub(crate) fn message_marks(reserved: &Reserved, message: &MessageDecl) -> Marks
+    requires { ReservesInMessage (head_of (message_view message.now)) reserved.now }
     ensures { result ≡ marks_of (item_of_message (message_view message.now)) }
 {
     Marks {
@@ -57,12 +57,13 @@ pub(crate) fn message_marks(message: &MessageDecl) -> Marks
         number_is_free: true,
         is_not_reserved: true,
         is_oneof_right: true,
-        ranges_are_right: message_ranges_are_right(&message.reserved),
+        ranges_are_right: message_ranges_are_right(reserved, &message.reserved),
     }
 }
 
 /// The marks of an enum.
-pub(crate) fn enum_marks(entry: &EnumDecl) -> Marks
+pub(crate) fn enum_marks(reserved: &Reserved, entry: &EnumDecl) -> Marks
+    requires { ReservesInEnum (enum_view entry.now) reserved.now }
     ensures { result ≡ marks_of (an_enum (enum_view entry.now)) }
 {
     Marks {
@@ -70,27 +71,25 @@ pub(crate) fn enum_marks(entry: &EnumDecl) -> Marks
         number_is_free: true,
         is_not_reserved: true,
         is_oneof_right: true,
-        ranges_are_right: enum_ranges_are_right(&entry.reserved),
+        ranges_are_right: enum_ranges_are_right(reserved, &entry.reserved),
     }
 }
 
 /// Whether neither number nor name of a field is reserved in its message.
-fn is_kept(message: &MessageDecl, field: &FieldDecl) -> bool
-    ensures { (i : ℕ) → result ≡ is_not_reserved (a_field (head_of (message_view message.now)) i (field_view field.now)) }
+fn is_kept(reserved: &Reserved, field: &FieldDecl) -> bool
+    ensures { (head : MessageHead) (i : ℕ) → ReservesInMessage head reserved.now → result ≡ is_not_reserved (a_field head i (field_view field.now)) }
 {
-    !is_in_message_range(&message.reserved, field.number)
-        && !is_reserved_name(&message.reserved_names, field.name.as_str())
+    !reserved.has_number(field.number) && !reserved.has_name(field.name.as_str())
 }
 
 /// The marks of a field, where it is told whether it is the first of its number.
-fn field_mark(message: &MessageDecl, oneofs: &Oneofs, field: &FieldDecl, is_first: bool) -> Marks
-    requires { AreOneofsOf (head_of (message_view message.now)) oneofs.now }
-    ensures { (i : ℕ) → is_first ≡ number_is_free (a_field (head_of (message_view message.now)) i (field_view field.now)) → result ≡ marks_of (a_field (head_of (message_view message.now)) i (field_view field.now)) }
+fn field_mark(reserved: &Reserved, oneofs: &Oneofs, field: &FieldDecl, is_first: bool) -> Marks
+    ensures { (head : MessageHead) (i : ℕ) → ReservesInMessage head reserved.now → AreOneofsOf head oneofs.now → is_first ≡ number_is_free (a_field head i (field_view field.now)) → result ≡ marks_of (a_field head i (field_view field.now)) }
 {
     Marks {
         is_named: true,
         number_is_free: is_first,
-        is_not_reserved: is_kept(message, field),
+        is_not_reserved: is_kept(reserved, field),
         is_oneof_right: is_member_right(oneofs, field),
         ranges_are_right: true,
     }
@@ -106,7 +105,12 @@ fn add_number(numbers: &mut BTreeSet<i32>, number: &i32) -> Result<bool, AllocEr
 }
 
 /// The marks of the fields of a message.
-pub(crate) fn field_marks(alloc: Global, message: &MessageDecl) -> Result<Vec<Marks>, AllocError>
+pub(crate) fn field_marks(
+    alloc: Global,
+    reserved: &Reserved,
+    message: &MessageDecl,
+) -> Result<Vec<Marks>, AllocError>
+    requires { ReservesInMessage (head_of (message_view message.now)) reserved.now }
     ensures { IfOk result (λ v. v.items ≡ field_marks (head_of (message_view message.now))) }
 {
     let oneofs = oneofs_of(alloc, message)?;
@@ -114,7 +118,7 @@ pub(crate) fn field_marks(alloc: Global, message: &MessageDecl) -> Result<Vec<Ma
     let mut marks: Vec<Marks> = Vec::new(alloc);
     for field in &message.fields {
         let is_first = add_number(&mut numbers, &field.number)?;
-        marks.push(field_mark(message, &oneofs, field, is_first))?;
+        marks.push(field_mark(reserved, &oneofs, field, is_first))?;
     }
     Ok(marks)
 }
@@ -157,11 +161,10 @@ pub(crate) fn oneof_marks(alloc: Global, message: &MessageDecl) -> Result<Vec<Ma
 }
 
 /// Whether neither number nor name of a value is reserved in its enum.
-fn is_value_kept(entry: &EnumDecl, value: &(String, i32)) -> bool
-    ensures { (i : ℕ) → result ≡ is_not_reserved (a_value (enum_view entry.now) i (numbered_view value.now)) }
+fn is_value_kept(reserved: &Reserved, value: &(String, i32)) -> bool
+    ensures { (e : DeclaredEnum) (i : ℕ) → ReservesInEnum e reserved.now → result ≡ is_not_reserved (a_value e i (numbered_view value.now)) }
 {
-    !is_in_enum_range(&entry.reserved, value.1)
-        && !is_reserved_name(&entry.reserved_names, value.0.as_str())
+    !reserved.has_number(value.1) && !reserved.has_name(value.0.as_str())
 }
 
 fn either(one: bool, other: bool) -> bool
@@ -171,27 +174,33 @@ fn either(one: bool, other: bool) -> bool
 }
 
 /// The marks of a value, where it is told whether it is the first of its number.
-fn value_mark(entry: &EnumDecl, value: &(String, i32), is_first: bool) -> Marks
+fn value_mark(reserved: &Reserved, entry: &EnumDecl, value: &(String, i32), is_first: bool) -> Marks
+    requires { ReservesInEnum (enum_view entry.now) reserved.now }
     ensures { (i : ℕ) → is_first ≡ not (list_any (λ u. int_eq value.now.1 u.1) (take i (enum_view entry.now).values)) → result ≡ marks_of (a_value (enum_view entry.now) i (numbered_view value.now)) }
 {
     Marks {
         is_named: true,
         number_is_free: either(entry.allow_alias, is_first),
-        is_not_reserved: is_value_kept(entry, value),
+        is_not_reserved: is_value_kept(reserved, value),
         is_oneof_right: true,
         ranges_are_right: true,
     }
 }
 
 /// The marks of the values of an enum.
-pub(crate) fn value_marks(alloc: Global, entry: &EnumDecl) -> Result<Vec<Marks>, AllocError>
+pub(crate) fn value_marks(
+    alloc: Global,
+    reserved: &Reserved,
+    entry: &EnumDecl,
+) -> Result<Vec<Marks>, AllocError>
+    requires { ReservesInEnum (enum_view entry.now) reserved.now }
     ensures { IfOk result (λ v. v.items ≡ value_marks (enum_view entry.now)) }
 {
     let mut numbers: BTreeSet<i32> = BTreeSet::new(alloc);
     let mut marks: Vec<Marks> = Vec::new(alloc);
     for value in &entry.values {
         let is_first = add_number(&mut numbers, &value.1)?;
-        marks.push(value_mark(entry, value, is_first))?;
+        marks.push(value_mark(reserved, entry, value, is_first))?;
     }
     Ok(marks)
 }

@@ -3,7 +3,7 @@
 ghost use Rattle.std.specs.Prelude.{◌≡◌, false};
 ghost use Rattle.std.specs.List.{slice_index_or};
 ghost use Rattle.pb_link.specs.declared.found.TypeNames.TheVariants as type_names;
-ghost use Rattle.pb_link.specs.Tables.{at_place};
+ghost use Rattle.pb_link.specs.Tables.{is_elsewhere, at_place};
 
 use crate::found::TypeNames;
 
@@ -14,8 +14,8 @@ pub(crate) struct Names {
     pub(crate) file_is_first: Vec<bool>,
     /// Whether the file's imports are there.
     pub(crate) imports_are_there: Vec<bool>,
-    /// Whether the file does not reach itself by imports.
-    pub(crate) reaches_no_cycle: Vec<bool>,
+    /// The place of the first file that reaches itself by imports.
+    pub(crate) first_cycle: Option<usize>,
     /// Whether neither an earlier declaration nor a package has the full name.
     pub(crate) is_free: Vec<bool>,
     /// What the type names come to.
@@ -27,6 +27,7 @@ pub(crate) struct Names {
 pub(crate) struct At {
     pub(crate) file_is_first: bool,
     pub(crate) imports_are_there: bool,
+    /// Told only up to the first file that reaches itself by imports.
     pub(crate) reaches_no_cycle: bool,
     pub(crate) is_free: bool,
     /// Whether the rules of map fields and their entries hold.
@@ -40,6 +41,15 @@ fn mark_at(marks: &[bool], place: usize) -> bool
     match marks.get(place) {
         Some(mark) => *mark,
         None => false,
+    }
+}
+
+fn is_elsewhere(first: Option<usize>, place: usize) -> bool
+    ensures { result ≡ is_elsewhere first place }
+{
+    match first {
+        Some(first) => first != place,
+        None => true,
     }
 }
 
@@ -59,7 +69,7 @@ pub(crate) fn at_place(names: &Names, map_marks: &[bool], place: usize) -> At
     At {
         file_is_first: mark_at(&names.file_is_first, place),
         imports_are_there: mark_at(&names.imports_are_there, place),
-        reaches_no_cycle: mark_at(&names.reaches_no_cycle, place),
+        reaches_no_cycle: is_elsewhere(names.first_cycle, place),
         is_free: mark_at(&names.is_free, place),
         is_map_right: mark_at(map_marks, place),
         found: names_at(&names.found, place),

@@ -12,9 +12,9 @@ ghost use Rattle.pb_link.specs.Scene.{IsScene};
 ghost use Rattle.pb_link.specs.Tables.{AreNamesOf};
 ghost use Rattle.pb_link.specs.TypeNames.{refs_view, IsReady};
 
-use crate::cycles::cyclic_files;
+use crate::cycles::first_cycle;
 use crate::declaration::Declaration;
-use crate::flags::{acyclic_files, first_files, free_names, right_imports};
+use crate::flags::{first_files, free_names, right_imports};
 use crate::found::TypeNames;
 use crate::imports::Imports;
 use crate::names::Names;
@@ -160,15 +160,14 @@ pub(crate) fn names_of(
     let (file_is_first, names) = first_files(alloc, row)?;
     let imports_are_there = right_imports(alloc, row, &names)?;
     let imports = Imports::new(alloc, files)?;
-    let bits = cyclic_files(alloc, &imports)?;
-    let reaches_no_cycle = acyclic_files(alloc, row, &bits)?;
+    let first_cycle = first_cycle(alloc, row, &imports)?;
     let mut scene = scene_of(alloc, files, row, &imports)?;
     let is_free = free_names(alloc, row, &scene)?;
     let found = type_names(&mut scene, alloc, files, row, &imports)?;
     Ok(Names {
         file_is_first,
         imports_are_there,
-        reaches_no_cycle,
+        first_cycle,
         is_free,
         found,
     })

@@ -5,4 +5,5 @@ pub(crate) mod maps;
 pub(crate) mod numbers;
 pub(crate) mod oneofs;
 pub(crate) mod ranges;
+pub(crate) mod reserved;
 pub(crate) mod uses;

@@ -1,4 +1,4 @@
-//! Sets made to hurt: messages that nest deep, names of many words, many files, and many fields and ranges in one message.
+//! Sets made to hurt: messages that nest deep, names of many words, many files, and many fields, ranges and reserved names in one message.
 
 use super::declarations::is_message;
 use super::parts::{put_number, put_record, with_record};
@@ -268,9 +268,9 @@ fn put_range(message: &mut Vec<u8>, start: u64, end: u64) -> Result<(), AllocErr
     put_number(message, end)
 }
 
-/// 1,000 reserved ranges of one number each, and one more that begins at this number.
+/// 20,000 reserved ranges of one number each, and one more that begins at this number.
 fn put_ranges(message: &mut Vec<u8>, last: u64) -> Result<(), AllocError> {
-    for index in 1_000_000..1_001_000u64 {
+    for index in 1_000_000..1_020_000u64 {
         put_range(message, 2 * index, 2 * index + 1)?;
     }
     put_range(message, last, 10_000_000)
@@ -281,9 +281,30 @@ fn fields_answer(alloc: Global, last: u64, wanted: &str) -> Result<bool, Fail> {
     message_answers(alloc, "", &message, wanted)
 }
 
-fn ranges_answer(alloc: Global, last: u64, wanted: &str) -> Result<bool, Fail> {
-    let mut message = wide(alloc, 21_000, 1)?;
-    put_ranges(&mut message, last)?;
+/// What 20,000 fields beside as many ranges answer, with one more of each.
+fn ranges_answer(alloc: Global, field: u64, range: u64, wanted: &str) -> Result<bool, Fail> {
+    let mut message = wide(alloc, 40_000, field)?;
+    put_ranges(&mut message, range)?;
+    message_answers(alloc, "", &message, wanted)
+}
+
+fn put_name(alloc: Global, message: &mut Vec<u8>, index: u32) -> Result<(), AllocError> {
+    let name = format!(in alloc; "n{index}")?;
+    put_record(message, 0x52, name.as_bytes())
+}
+
+/// 20,000 reserved names, and one more.
+fn put_names(alloc: Global, message: &mut Vec<u8>, last: &str) -> Result<(), AllocError> {
+    for index in 0..20_000u32 {
+        put_name(alloc, message, index)?;
+    }
+    put_record(message, 0x52, last.as_bytes())
+}
+
+/// What 20,000 fields beside as many reserved names answer, with one more of these.
+fn kept_names_answer(alloc: Global, last: &str, wanted: &str) -> Result<bool, Fail> {
+    let mut message = wide(alloc, 40_000, 1)?;
+    put_names(alloc, &mut message, last)?;
     message_answers(alloc, "", &message, wanted)
 }
 
@@ -292,8 +313,24 @@ fn wide_messages(rt: HostRuntime) -> Result<(), Fail> {
     assert!(rt;
         fields_answer(rt.alloc(), 1, "ok")?
             && fields_answer(rt.alloc(), 20_000, "m M.last NumberTaken")?
-            && ranges_answer(rt.alloc(), 5_000_000, "ok")?
-            && ranges_answer(rt.alloc(), 2_000_000, "m M BadRange")?
+    );
+    Ok(())
+}
+
+#[test]
+fn many_ranges(rt: HostRuntime) -> Result<(), Fail> {
+    assert!(rt;
+        ranges_answer(rt.alloc(), 1, 2_000_000, "m M BadRange")?
+            && ranges_answer(rt.alloc(), 2_000_002, 5_000_000, "m M.last Reserved")?
+    );
+    Ok(())
+}
+
+#[test]
+fn many_reserved_names(rt: HostRuntime) -> Result<(), Fail> {
+    assert!(rt;
+        kept_names_answer(rt.alloc(), "x", "ok")?
+            && kept_names_answer(rt.alloc(), "last", "m M.last Reserved")?
     );
     Ok(())
 }

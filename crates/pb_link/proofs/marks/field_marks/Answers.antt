@@ -21,7 +21,7 @@ loop-field-preserved c =
     let item = c.field-item.result in
     let at = view_there field_view items head.fields i item (ap (map field_view) c.deref-field-items.ensures.value ∙ fields_of-view c.args.message.now) c.loop-field-test.true c.field-item.is in
     record {
-      marked = grown f field_view items i item [] c.loop-field.marks.items c.push.new.self.items c.loop-field-test.true c.field-item.is c.loop-field.invariant.marked (c.in_ok-push.ensures.items ∙ ap (λ m. c.loop-field.marks.items ++ m ∷ []) (c.field_mark.ensures i (c.in_ok-is_first.ensures.first ∙ ap not (c.loop-field.invariant.numbered item.number))));
+      marked = grown f field_view items i item [] c.loop-field.marks.items c.push.new.self.items c.loop-field-test.true c.field-item.is c.loop-field.invariant.marked (c.in_ok-push.ensures.items ∙ ap (λ m. c.loop-field.marks.items ++ m ∷ []) (c.field_mark.ensures head i c.requires c.in_ok-oneofs.ensures (c.in_ok-is_first.ensures.first ∙ ap not (c.loop-field.invariant.numbered item.number))));
       numbered = λ z. numbers_more number head.fields i (field_view item) z (contains int_cmp c.loop-field.numbers z) (contains int_cmp c.add_number.new.numbers z) at (c.in_ok-is_first.ensures.seen z) (c.loop-field.invariant.numbered z);
     }
 

@@ -2,9 +2,8 @@ use Rattle.std.proofs.Common.{◌≡◌, ◌∙◌, map, sym, ap}
 use Rattle.pb_descr.specs.View.{file_view}
 use Rattle.pb_link.specs.Rules.{lookups}
 use Rattle.pb_link.specs.View.{declaration_view}
-use Rattle.pb_link.specs.TypeNames.{is_acyclic}
 use Rattle.pb_link.proofs.WorldLemmas.{a_world}
-use Rattle.pb_link.proofs.NamesLemmas.{first_table, imports_table, cycle_table, free_table}
+use Rattle.pb_link.proofs.NamesLemmas.{first_table, imports_table, free_table}
 use Rattle.pb_link.proofs.naming.names_of.Goals as goal
 
 pub returns : goal.returns
@@ -19,7 +18,7 @@ returns c =
       record {
         file_is_first = c.in_ok-file_is_first.ensures.flags ∙ first_table w ds e;
         imports_are_there = c.in_ok-imports_are_there.ensures ∙ imports_table w ds c.in_ok-file_is_first.names e c.in_ok-file_is_first.ensures.names;
-        reaches_no_cycle = c.in_ok-reaches_no_cycle.ensures ∙ ap (λ b. map (is_acyclic b) ds) c.deref.ensures.value ∙ cycle_table F w ds c.in_ok-imports.imports c.in_ok-bits.bits.items is e c.in_ok-imports.ensures.exact c.in_ok-bits.ensures;
+        first_cycle = c.in_ok-first_cycle.ensures F w c.in_ok-imports.ensures.exact is e;
         is_free = c.in_ok-is_free.ensures ∙ free_table w ds e;
         found = c.in_ok-found.ensures w is ∙ ap (map (lookups w)) (sym e);
       },

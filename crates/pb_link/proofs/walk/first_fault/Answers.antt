@@ -1,5 +1,8 @@
-use Rattle.pb_link.proofs.TableLemmas.{walked_some, walked_none}
+use Rattle.pb_link.proofs.TableLemmas.{walk_begins, walked_some, walked_none}
 use Rattle.pb_link.proofs.walk.first_fault.Goals as goal
+
+pub loop-place-init : goal.loop-place-init
+loop-place-init c = walk_begins c.args.row.now c.args.names.now c.args.map_marks.now
 
 pub returns-in-Some : goal.returns-in-Some
 returns-in-Some c = walked_some c.args.row.now c.args.names.now c.args.map_marks.now c.loop-place.place c.index-row-place.result c.at_place-at.result c.judge.result c.in-Some.cause c.loop-place-test.true c.index-row-place.is c.at_place-at.ensures c.in-Some.is c.judge.ensures c.loop-place.invariant
