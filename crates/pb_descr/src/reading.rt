@@ -23,9 +23,27 @@ use crate::error::DescrError;
 use crate::held::values_at;
 use crate::pool::{SET, descriptor_pool};
 use pb_decode::{DecodeError, decode};
+use pb_schema::Pool;
 use pb_value::{Body, Value};
 use pb_wire::Limits;
 use std::alloc::Global;
+
+/// The message of a set, from its bytes by the fixed pool.
+fn decode_by(alloc: Global, pool: &Pool, bytes: &[u8]) -> Result<Body, DescrError>
+    requires { pool.now ≡ descriptor_types }
+    ensures text { IfOk result (λ b. IsSetText full bytes.now (body_view b)) }
+    ensures fault { IfErr result (IsUnread full bytes.now) }
+    ensures accepted { (set : Message) → IsSetText full bytes.now set → MatchResult result (λ b. body_view b ≡ set) (λ e. e ≡ Memory) }
+    ensures refused { (f : Fault) → HasFault (schema_of descriptor_types) (a_message the_set) full bytes.now f → IsErrAnd result (TellsFault f) }
+{
+    match decode(alloc, pool, SET, bytes, Limits::FULL) {
+        Ok(message) => Ok(message.into_body()),
+        Err(DecodeError::Fault { byte, path, cause }) => {
+            Err(DescrError::Fault { byte, path, cause })
+        }
+        Err(_) => Err(DescrError::Memory),
+    }
+}
 
 /// The message of a set, from its bytes.
 fn decode_set(alloc: Global, bytes: &[u8]) -> Result<Body, DescrError>
@@ -35,13 +53,7 @@ fn decode_set(alloc: Global, bytes: &[u8]) -> Result<Body, DescrError>
     ensures refused { (f : Fault) → HasFault (schema_of descriptor_types) (a_message the_set) full bytes.now f → IsErrAnd result (TellsFault f) }
 {
     let pool = descriptor_pool(alloc)?;
-    match decode(alloc, &pool, SET, bytes, Limits::FULL) {
-        Ok(message) => Ok(message.into_body()),
-        Err(DecodeError::Fault { byte, path, cause }) => {
-            Err(DescrError::Fault { byte, path, cause })
-        }
-        Err(_) => Err(DescrError::Memory),
-    }
+    decode_by(alloc, &pool, bytes)
 }
 
 /// The files that the message of a set declares, or the first cause why not.

@@ -1,34 +1,7 @@
-//! The program: shows messages of the Protocol Buffers wire format.
+//! The program: does the command that its words name, over the files and outputs of its process.
 #![tactic(auto)]
 
-mod buffer;
-mod buffered;
-mod by_type;
-mod command;
-mod compile;
-mod execute;
-mod files;
-mod form;
-mod frames;
-mod gathering;
-mod host;
-mod listing;
-mod memory;
-mod message;
-mod messages;
-mod name_set;
-mod raw;
-mod reading;
-mod report;
-mod run;
-mod shortest;
-mod sources;
-mod unknown;
-mod values;
-mod words;
-
-use crate::host::HostFiles;
-use crate::report::Refusal;
+use pb_cli::{HostFiles, Refusal, run};
 use pb_wire::{Output, WriteOutput, write_all};
 use std::io::ErrorKind;
 use std::process::ExitCode;
@@ -42,7 +15,7 @@ fn main(rt: HostRuntime) -> ExitCode {
     };
     let mut files = HostFiles::new(&rt);
     let mut out = WriteOutput::new(rt.stdout());
-    let status = run::run(rt.alloc(), args.as_slice(), &mut files, &mut out, &mut err);
+    let status = run(rt.alloc(), args.as_slice(), &mut files, &mut out, &mut err);
     ExitCode::from(status)
 }
 
@@ -60,6 +33,3 @@ fn tell_unread<E: Output>(error: &io::Error, err: &mut E) -> u8 {
     let _ = write_all(err, b"error: a word of the command line is not UTF-8\n");
     2
 }
-
-#[cfg(test)]
-mod tests;

@@ -8,12 +8,13 @@ use Rattle.pb_encode.proofs.PutLemmas.{to_put_start, to_put_done, to_put_lost, t
 use Rattle.pb_encode.proofs.putting.+unknown.Goals as goal
 
 pub put_unknown-returns-in-Group : goal.put_unknown-returns-in-Group
-put_unknown-returns-in-Group g t c =
-    rw (c.in-Group.is, payload_of-Group) (puts_then (puts_then c.put_tag-in-Group.ensures (rw c.deref-in-Group.ensures.value at c.put_unknowns.ensures)) c.put_tag-in-Group-2.ensures)
+put_unknown-returns-in-Group g t c = rw (c.in-Group.is, payload_of-Group) (rw c.deref-in-Group.ensures.value at c.put_group.ensures)
 
 pub put_unknown-returns-in-I32 : goal.put_unknown-returns-in-I32
-put_unknown-returns-in-I32 g t c =
-    rw (c.in-I32.is, payload_of-I32) (puts_then c.put_tag-in-I32.ensures (rw c.to_le_bytes-in-I32.ensures at c.put-in-I32.ensures))
+put_unknown-returns-in-I32 g t c = rw (c.in-I32.is, payload_of-I32) c.put_fixed32_record.ensures
+
+pub put_group-returns : goal.put_group-returns
+put_group-returns g t c = puts_then (puts_then c.put_tag.ensures c.put_unknowns.ensures) c.put_tag-2.ensures
 
 pub put_unknowns-loop-number-init : goal.put_unknowns-loop-number-init
 put_unknowns-loop-number-init g t c = to_put_start _

@@ -1,0 +1,55 @@
+use Rattle.std.proofs.Common.{◌≡◌, refl, sym, inl, inr, ap, ◌∙◌, subst, arith, Option, List}
+use Rattle.std.proofs.KnownBytes.{Appends-nil}
+use Rattle.clap.specs.Words.{App, Row, Text, is_simple, is_simple_and_free, fault_of, kind_of, subcommand_of, takes}
+use Rattle.clap.specs.declared.error.kind.ErrorKind.TheVariants.{OutOfMemory}
+use Rattle.pb_cli.specs.Words.{IsMatched, tool, words_of}
+use Rattle.pb_command.proofs.FileSteps.{keeps_same}
+use Rattle.pb_cli.proofs.Matches.{subcommand_named}
+use Rattle.pb_cli.proofs.Refusals.{no_kind, not_true}
+use Rattle.pb_cli.proofs.command_line.run.Goals as goal
+
+pub returns-in-Ok-try_get_matches_from-clause-taken : goal.returns-in-Ok-try_get_matches_from-clause-taken
+returns-in-Ok-try_get_matches_from-clause-taken g c = λ taken.
+    let words = words_of c.args.args.now in
+    let app = c.in-Ok.ensures.app in
+    let matched = (c.in-Ok-try_get_matches_from.ensures.matches (ap is_simple app)).1 ∙ ap (λ (a : App). subcommand_of a words) app in
+    let done = c.dispatch.ensures.done in
+    inr (done.0, subst (λ (s : Option (Text × List Row)). IsMatched s done.0) matched done.1, done.2)
+
+pub returns-in-Err-clause-taken : goal.returns-in-Err-clause-taken
+returns-in-Err-clause-taken g c = λ taken.
+    let words = words_of c.args.args.now in
+    let app = c.in-Ok.ensures.app in
+    let has = c.in-Err.ensures.kinds (ap is_simple_and_free app) in
+    let three = c.usage.ensures.out_of_memory (no_kind c.in-Err.error _ (ap (λ (a : App). fault_of a words) app ∙ taken) has) in
+    inl (three, (refl, Appends-nil (g.O.Output.written c.args.out.now)), c.usage.ensures.memory three, keeps_same (g.F.Files.contents c.args.files.now))
+
+pub returns-in-Err-clause-usage : goal.returns-in-Err-clause-usage
+returns-in-Err-clause-usage g c = λ two.
+    let words = words_of c.args.args.now in
+    let app = c.in-Ok.ensures.app in
+    let ample : kind_of c.in-Err.error ≡ OutOfMemory → ⊥ = λ memory. let three = c.usage.ensures.out_of_memory memory in absurd (omega arith) in
+    let has = c.in-Err.ensures.kinds (ap is_simple_and_free app) in (
+      λ taken. ample (no_kind c.in-Err.error _ (ap (λ (a : App). fault_of a words) app ∙ taken) has),
+      not_true (takes tool words) (λ taken. ample (c.in-Err.ensures.passes (ap (λ (a : App). takes a words) app ∙ taken))),
+    )
+
+pub returns-in_default-clause-taken : goal.returns-in_default-clause-taken
+returns-in_default-clause-taken g c = λ taken.
+    inl
+    (c.tell.ensures.status, (refl, Appends-nil (g.O.Output.written c.args.out.now)), c.tell.ensures.told, keeps_same (g.F.Files.contents c.args.files.now))
+
+pub returns-in-Ok-try_get_matches_from-clause-refused : goal.returns-in-Ok-try_get_matches_from-clause-refused
+returns-in-Ok-try_get_matches_from-clause-refused g c = λ refused.
+    let words = words_of c.args.args.now in
+    let app = c.in-Ok.ensures.app in
+    absurd (refused (sym (ap (λ (a : App). fault_of a words) app) ∙ c.in-Ok-try_get_matches_from.ensures.kinds (ap is_simple_and_free app)))
+
+pub dispatch-requires : goal.dispatch-requires
+dispatch-requires g c =
+    let words = words_of c.args.args.now in
+    let app = c.in-Ok.ensures.app in
+    let e = c.in-Ok-try_get_matches_from.ensures in
+    let built_tool = e.parsed.from in
+    let there = (e.parsed.parsed (built_tool.globals ∙ c.in-Ok.ensures.local)).checked.subcommand (built_tool.needs_subcommand ∙ ap (λ (a : App). a.top.subcommand_required) app) in
+    subcommand_named _ words there ((e.matches (ap is_simple app)).1 ∙ ap (λ (a : App). subcommand_of a words) app)

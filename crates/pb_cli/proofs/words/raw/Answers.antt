@@ -1,0 +1,12 @@
+use Rattle.std.proofs.Common.{rules, ap, ap₂, codes, ◌≡◌, ◌∙◌}
+use Rattle.clap.specs.Simple.{app_of_fields}
+use Rattle.clap.specs.Words.{rule_of, with_rule}
+use Rattle.pb_cli.specs.Words.{short_rule, wanted}
+use Rattle.pb_cli.proofs.words.raw.Goals as goal
+
+pub returns-clause-app : goal.returns-clause-app
+returns-clause-app c =
+    let short_is : rule_of c.help-short.result ≡ short_rule = search rules in
+    let file_is : rule_of c.help-file.result ≡ wanted (codes "FILE") = search rules in
+    c.in_ok-whole.ensures.shape (search rules)
+    ∙ ap₂ with_rule (c.in_ok-with_short.ensures.shape (search rules) ∙ ap₂ with_rule (ap app_of_fields c.about-command.ensures ∙ c.new-3.ensures.app) short_is) file_is

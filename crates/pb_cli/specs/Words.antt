@@ -1,0 +1,106 @@
+-- The command line, and the commands that its words name.
+use Rattle.std.specs.Prelude.{◌≡◌, List, [], ◌∷◌, Bool, true, false, Option, Some, codes, unwrap_or, string_bytes, map, option_map, IsSomeAnd}
+use Rattle.std.specs.Str.{bytes_eq}
+use Rattle.std.specs.Option.{option_map_or}
+use Rattle.std.specs.declared.string.String.{String}
+use Rattle.std.specs.declared.alloc.Global.{Global}
+use Rattle.clap.specs.Words.{App, Row, Rule, Text, Shape, all_of, first_of, new_app, new_rule, with_rule, with_subcommand}
+use Rattle.clap.specs.Simple.{on_top}
+use Rattle.clap.specs.declared.builder.ArgAction.TheVariants.{Append, Set, SetTrue}
+use Rattle.pb_command.specs.declared.command.Command.{Command}
+use Rattle.pb_command.specs.declared.command.Command.TheVariants.{Raw, Check, Show, Canon, Frames, Compile}
+use Rattle.pb_command.specs.declared.command.Source.{Source}
+use Rattle.pb_command.specs.CompileAnswer.{texts_of}
+
+abbrev pub short_rule : Rule
+short_rule = record (new_rule (codes "short")) { long = Some (codes "short"); action = Some SetTrue }
+
+-- an argument that is required
+abbrev pub wanted : Text → Rule
+wanted id = record (new_rule id) { required = true }
+
+-- `raw [--short] FILE`
+abbrev pub raw_command : App
+raw_command = with_rule (with_rule (new_app (codes "raw")) short_rule) (wanted (codes "FILE"))
+
+-- with `SET TYPE FILE`
+abbrev pub of_source : App → App
+of_source a = with_rule (with_rule (with_rule a (wanted (codes "SET"))) (wanted (codes "TYPE"))) (wanted (codes "FILE"))
+
+abbrev pub check_command : App
+check_command = of_source (new_app (codes "check"))
+
+abbrev pub show_command : App
+show_command = of_source (new_app (codes "show"))
+
+abbrev pub out_rule : Rule
+out_rule = record (new_rule (codes "out")) { long = Some (codes "out"); action = Some Set }
+
+-- `canon [--out OUT] SET TYPE FILE`
+abbrev pub canon_command : App
+canon_command = of_source (with_rule (new_app (codes "canon")) out_rule)
+
+abbrev pub frames_command : App
+frames_command = of_source (new_app (codes "frames"))
+
+-- `compile ROOT OUT FILE..`
+abbrev pub compile_command : App
+compile_command =
+    with_rule (with_rule (with_rule (new_app (codes "compile")) (wanted (codes "ROOT"))) (wanted (codes "OUT")))
+    (record (wanted (codes "FILE")) { action = Some Append })
+
+-- a subcommand is wanted, and `help` is none
+abbrev pub wants_subcommand : Shape → Shape
+wants_subcommand s = record s { subcommand_required = true; disable_help_subcommand = true }
+
+abbrev pub tool_top : App
+tool_top = on_top wants_subcommand (new_app (codes "pbtool"))
+
+-- the whole command line
+abbrev pub tool : App
+tool =
+    with_subcommand (with_subcommand (with_subcommand (with_subcommand (with_subcommand (with_subcommand tool_top raw_command.top) check_command.top)
+    show_command.top) canon_command.top) frames_command.top) compile_command.top
+
+abbrev pub tool_names : List Text
+tool_names = codes "raw" ∷ codes "check" ∷ codes "show" ∷ codes "canon" ∷ codes "frames" ∷ codes "compile" ∷ []
+
+abbrev pub words_of : List (String Global) → List Text
+words_of = map string_bytes
+
+-- a flag is given
+abbrev pub flag_of : Text → List Row → Bool
+flag_of id rows = option_map_or (λ text. bytes_eq text (codes "true")) (first_of id rows) false
+
+-- the value of an argument that is required
+abbrev pub value_of : Text → List Row → Text
+value_of id rows = unwrap_or (first_of id rows) []
+
+-- the values of an argument that is required and takes several
+abbrev pub values_of : Text → List Row → List Text
+values_of id rows = unwrap_or (all_of id rows) []
+
+-- the value of an option
+abbrev pub option_of : Text → List Row → Option Text
+option_of id rows = first_of id rows
+
+-- the values that name a message and its type
+abbrev pub IsSource : List Row → Source → Type 0
+IsSource rows s =
+    (s.set.now ≡ value_of (codes "SET") rows) × (s.type_name.now ≡ value_of (codes "TYPE") rows) × (s.file.now ≡ value_of (codes "FILE") rows)
+
+-- the command has this name, these flags and these values
+abbrev pub IsNamed : Text → List Row → Command → Type 0
+IsNamed name rows (Raw short file) = (name ≡ codes "raw") × (short ≡ flag_of (codes "short") rows) × (file.now ≡ value_of (codes "FILE") rows)
+IsNamed name rows (Check source) = (name ≡ codes "check") × IsSource rows source
+IsNamed name rows (Show source) = (name ≡ codes "show") × IsSource rows source
+IsNamed name rows (Canon to source) =
+    (name ≡ codes "canon") × (option_map (λ path. path.now) to ≡ option_of (codes "out") rows) × IsSource rows source
+IsNamed name rows (Frames source) = (name ≡ codes "frames") × IsSource rows source
+IsNamed name rows (Compile root out names) =
+    (name ≡ codes "compile") × (root.now ≡ value_of (codes "ROOT") rows) × (out.now ≡ value_of (codes "OUT") rows)
+    × (texts_of names.now ≡ values_of (codes "FILE") rows)
+
+-- the command is what clap's matches say
+abbrev pub IsMatched : Option (Text × List Row) → Command → Type 0
+IsMatched matched command = IsSomeAnd matched (λ m. IsNamed m.0 m.1 command)

@@ -1,0 +1,167 @@
+//! From the words of the command line to the exit status.
+
+ghost use Rattle.std.specs.Prelude.{◌≡◌, ◌≢◌, ◌⊎◌, [], false, Any, Some};
+ghost use Rattle.clap.specs.Words.{fault_of, found_of, kind_of, rows_of, subcommand_name_of, subcommand_of, subcommand_rows_of, takes};
+ghost use Rattle.pb_command.specs.Answer.{RunsOut};
+ghost use Rattle.pb_command.specs.Answers.{Does};
+ghost use Rattle.pb_command.specs.CompileAnswer.{texts_of};
+ghost use Rattle.pb_command.specs.FileMap.{IsHonest, IsSaved, IsUnsaved, KeepsMap};
+ghost use Rattle.pb_command.specs.Report.{memory_line};
+ghost use Rattle.pb_listing.specs.Sending.{Cut, Sent, SentOrCut};
+ghost use Rattle.pb_cli.specs.Words.{IsMatched, IsSource, flag_of, value_of, values_of, tool, tool_names, words_of};
+ghost use Rattle.pb_command.specs.declared.command.Command.{Command as Told};
+
+use crate::words::definition;
+use clap::error::ErrorKind;
+use clap::{ArgMatches, Error};
+use pb_command::{Command, Files, Refusal, Source, execute};
+use pb_wire::{Output, write_all};
+use std::alloc::Global;
+
+/// Reads the words, the program's name first, does the command that they name and answers the exit status: 2 where
+/// the words are no command, with the usage on standard error.
+pub fn run<F: Files, O: Output, E: Output>(
+    alloc: Global,
+    args: &[String],
+    files: &mut F,
+    out: &mut O,
+    err: &mut E,
+) -> u8
+    // Where the words are taken, the command that they name is done, unless memory runs out before.
+    ensures taken { fault_of tool (words_of args.now) ≡ []
+        → RunsOut (Sent O.written O.failures out.old out.new) (SentOrCut E.written E.failures err.old err.new)
+        (IsSaved F.contents files.old files.new) result
+        ⊎ ((command : Told) × IsMatched (subcommand_of tool (words_of args.now)) command
+        × Does (Sent O.written O.failures out.old out.new) (Cut O.written O.failures out.old out.new)
+        (SentOrCut E.written E.failures err.old err.new) (IsSaved F.contents files.old files.new)
+        (IsUnsaved F.contents F.failures files.old files.new) result (IsHonest F.contents F.is_steady files.old) command) }
+
+    // Where they are not taken, nothing goes to standard output.
+    ensures refused { fault_of tool (words_of args.now) ≢ []
+        → ((result ≡ 2) × Sent O.written O.failures out.old out.new [] × KeepsMap (F.contents files.old) (F.contents files.new))
+        ⊎ RunsOut (Sent O.written O.failures out.old out.new) (SentOrCut E.written E.failures err.old err.new)
+        (IsSaved F.contents files.old files.new) result }
+    ensures usage { result ≡ 2 → (fault_of tool (words_of args.now) ≢ []) × (takes tool (words_of args.now) ≡ false) }
+{
+    let Ok(definition) = definition(alloc) else {
+        return Refusal::Memory.tell(err);
+    };
+    match definition.try_get_matches_from(args) {
+        Ok(matches) => dispatch(alloc, &matches, files, out, err),
+        Err(error) => usage(alloc, &error, err),
+    }
+}
+
+/// Shows what is wrong with the words.
+fn usage<E: Output>(alloc: Global, error: &Error, err: &mut E) -> u8
+    ensures status { (result ≡ 2) ⊎ (result ≡ 3) }
+    ensures memory { result ≡ 3 → SentOrCut E.written E.failures err.old err.new memory_line }
+    ensures out_of_memory { kind_of error.now ≡ ErrorKind.OutOfMemory → result ≡ 3 }
+{
+    if error.kind() == ErrorKind::OutOfMemory {
+        return Refusal::Memory.tell(err);
+    }
+    let Ok(text) = error.to_string(alloc) else {
+        return Refusal::Memory.tell(err);
+    };
+    let _ = write_all(err, text.as_bytes());
+    2
+}
+
+/// Does the command that the words named.
+fn dispatch<F: Files, O: Output, E: Output>(
+    alloc: Global,
+    matches: &ArgMatches<'_>,
+    files: &mut F,
+    out: &mut O,
+    err: &mut E,
+) -> u8
+    requires { Any (λ name. subcommand_name_of matches.now ≡ Some name) tool_names }
+    ensures done { (command : Told) × IsMatched (subcommand_rows_of matches.now) command
+        × Does (Sent O.written O.failures out.old out.new) (Cut O.written O.failures out.old out.new)
+        (SentOrCut E.written E.failures err.old err.new) (IsSaved F.contents files.old files.new)
+        (IsUnsaved F.contents F.failures files.old files.new) result (IsHonest F.contents F.is_steady files.old) command }
+    ensures status { result ≢ 2 }
+{
+    let command = command_of(matches);
+    execute(alloc, &command, files, out, err)
+}
+
+/// The command that the words named.
+fn command_of<'m>(matches: &'m ArgMatches<'_>) -> Command<'m>
+    requires { Any (λ name. subcommand_name_of matches.now ≡ Some name) tool_names }
+    ensures { IsMatched (subcommand_rows_of matches.now) result }
+{
+    if let Some(inner) = matches.subcommand_matches("raw") {
+        let short = flag(inner, "short");
+        let file = value(inner, "FILE");
+        return Command::Raw { short, file };
+    }
+    if let Some(inner) = matches.subcommand_matches("check") {
+        return Command::Check {
+            source: source(inner),
+        };
+    }
+    if let Some(inner) = matches.subcommand_matches("show") {
+        return Command::Show {
+            source: source(inner),
+        };
+    }
+    if let Some(inner) = matches.subcommand_matches("canon") {
+        let out = inner.get_str("out");
+        return Command::Canon {
+            out,
+            source: source(inner),
+        };
+    }
+    if let Some(inner) = matches.subcommand_matches("frames") {
+        return Command::Frames {
+            source: source(inner),
+        };
+    }
+    if let Some(inner) = matches.subcommand_matches("compile") {
+        return Command::Compile {
+            root: value(inner, "ROOT"),
+            out: value(inner, "OUT"),
+            names: values(inner, "FILE"),
+        };
+    }
+    unreachable!()
+}
+
+/// Where a message and its type are read.
+fn source<'a>(matches: &ArgMatches<'a>) -> Source<'a>
+    ensures { IsSource (rows_of (found_of matches.now)) result }
+{
+    Source {
+        set: value(matches, "SET"),
+        type_name: value(matches, "TYPE"),
+        file: value(matches, "FILE"),
+    }
+}
+
+fn flag(matches: &ArgMatches<'_>, id: &str) -> bool
+    ensures { result ≡ flag_of id.now (rows_of (found_of matches.now)) }
+{
+    match matches.get_str(id) {
+        Some(text) => text == "true",
+        None => false,
+    }
+}
+
+// The value of an argument that `clap` requires.
+fn value<'a>(matches: &ArgMatches<'a>, id: &str) -> &'a str
+    ensures { result.now ≡ value_of id.now (rows_of (found_of matches.now)) }
+{
+    match matches.get_str(id) {
+        Some(text) => text,
+        None => "",
+    }
+}
+
+// The values of an argument that `clap` requires and that takes several.
+fn values<'m>(matches: &'m ArgMatches<'_>, id: &str) -> &'m [&'m str]
+    ensures { texts_of result.now ≡ values_of id.now (rows_of (found_of matches.now)) }
+{
+    matches.get_strs(id).unwrap_or(&[])
+}

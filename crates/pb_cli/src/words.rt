@@ -1,0 +1,143 @@
+//! The words of the command line.
+ghost use Rattle.std.specs.Prelude.{◌≡◌, false, IfOk};
+ghost use Rattle.clap.specs.Words.{app_of, rule_of};
+ghost use Rattle.clap.specs.declared.builder.command.Command.TheViews.{out-Command};
+ghost use Rattle.pb_cli.specs.Words.{canon_command, check_command, compile_command, frames_command, of_source, raw_command, show_command, tool, tool_top, wanted};
+
+use clap::{Arg, ArgAction, Command};
+use std::alloc::{AllocError, Global};
+
+/// The definition of the command line.
+pub fn definition<'a>(alloc: Global) -> Result<Command<'a>, AllocError>
+    ensures app { IfOk result (λ c. app_of c ≡ tool) }
+    ensures local { IfOk result (λ c. (out-Command c).has_globals ≡ false) }
+    ensures closed { IfOk result (λ c. (out-Command c).allow_external_subcommands ≡ false) }
+{
+    let with_raw = top(alloc).subcommand(raw(alloc)?)?;
+    let with_check = with_raw.subcommand(check(alloc)?)?;
+    let with_show = with_check.subcommand(show(alloc)?)?;
+    let with_canon = with_show.subcommand(canon(alloc)?)?;
+    let with_frames = with_canon.subcommand(frames(alloc)?)?;
+    let whole = with_frames.subcommand(compile(alloc)?)?;
+    Ok(whole)
+}
+
+fn top<'a>(alloc: Global) -> Command<'a>
+    ensures app { app_of result ≡ tool_top }
+    ensures local { (out-Command result).has_globals ≡ false }
+    ensures closed { (out-Command result).allow_external_subcommands ≡ false }
+{
+    Command::new(alloc, "pbtool")
+        .about("Reads and shows Protocol Buffers messages")
+        .subcommand_required(true)
+        .disable_help_subcommand(true)
+}
+
+fn raw<'a>(alloc: Global) -> Result<Command<'a>, AllocError>
+    ensures app { IfOk result (λ c. app_of c ≡ raw_command) }
+    ensures local { IfOk result (λ c. (out-Command c).has_globals ≡ false) }
+{
+    let short = Arg::new(alloc, "short")
+        .long("short")
+        .action(ArgAction::SetTrue)
+        .help("Print the shortest spelling as one line of hexadecimal instead");
+    let file = Arg::new(alloc, "FILE")
+        .required(true)
+        .help("The file with the bytes of one message");
+    let command = Command::new(alloc, "raw").about(
+        "Print the records of a message, without its schema",
+    );
+    let with_short = command.arg(short)?;
+    let whole = with_short.arg(file)?;
+    Ok(whole)
+}
+
+fn check<'a>(alloc: Global) -> Result<Command<'a>, AllocError>
+    ensures app { IfOk result (λ c. app_of c ≡ check_command) }
+    ensures local { IfOk result (λ c. (out-Command c).has_globals ≡ false) }
+{
+    let command = Command::new(alloc, "check").about("Say that a file is a message of a type");
+    let whole = with_source(alloc, command)?;
+    Ok(whole)
+}
+
+fn show<'a>(alloc: Global) -> Result<Command<'a>, AllocError>
+    ensures app { IfOk result (λ c. app_of c ≡ show_command) }
+    ensures local { IfOk result (λ c. (out-Command c).has_globals ≡ false) }
+{
+    let command = Command::new(alloc, "show").about("Print the fields of a message");
+    let whole = with_source(alloc, command)?;
+    Ok(whole)
+}
+
+fn canon<'a>(alloc: Global) -> Result<Command<'a>, AllocError>
+    ensures app { IfOk result (λ c. app_of c ≡ canon_command) }
+    ensures local { IfOk result (λ c. (out-Command c).has_globals ≡ false) }
+{
+    let out = Arg::new(alloc, "out")
+        .long("out")
+        .action(ArgAction::Set)
+        .help("Write the bytes to this file instead");
+    let command = Command::new(alloc, "canon").about(
+        "Print the canonical bytes of a message as one line of hexadecimal",
+    );
+    let with_out = command.arg(out)?;
+    let whole = with_source(alloc, with_out)?;
+    Ok(whole)
+}
+
+fn frames<'a>(alloc: Global) -> Result<Command<'a>, AllocError>
+    ensures app { IfOk result (λ c. app_of c ≡ frames_command) }
+    ensures local { IfOk result (λ c. (out-Command c).has_globals ≡ false) }
+{
+    let command = Command::new(alloc, "frames").about(
+        "Print the messages of a stream, each behind its length",
+    );
+    let whole = with_source(alloc, command)?;
+    Ok(whole)
+}
+
+fn compile<'a>(alloc: Global) -> Result<Command<'a>, AllocError>
+    ensures app { IfOk result (λ c. app_of c ≡ compile_command) }
+    ensures local { IfOk result (λ c. (out-Command c).has_globals ≡ false) }
+{
+    let root = Arg::new(alloc, "ROOT")
+        .required(true)
+        .help("The folder of the sources");
+    let out = Arg::new(alloc, "OUT")
+        .required(true)
+        .help("The file to write");
+    let file = Arg::new(alloc, "FILE")
+        .required(true)
+        .action(ArgAction::Append)
+        .help("A source under the folder");
+    let command = Command::new(alloc, "compile").about(
+        "Write the descriptor set of sources and their imports",
+    );
+    let with_root = command.arg(root)?;
+    let with_out = with_root.arg(out)?;
+    let whole = with_out.arg(file)?;
+    Ok(whole)
+}
+
+/// The command with the arguments that name a message and its type.
+fn with_source<'a>(alloc: Global, command: Command<'a>) -> Result<Command<'a>, AllocError>
+    ensures app { (out-Command command.entry).has_globals ≡ false → IfOk result (λ c. app_of c ≡ of_source (app_of command.entry)) }
+    ensures local { (out-Command command.entry).has_globals ≡ false → IfOk result (λ c. (out-Command c).has_globals ≡ false) }
+{
+    let set = wanted(alloc, "SET", "The file with the descriptor set of the type");
+    let with_set = command.arg(set)?;
+    let name = wanted(alloc, "TYPE", "The full name of the message type");
+    let with_type = with_set.arg(name)?;
+    let file = wanted(alloc, "FILE", "The file with the bytes");
+    let whole = with_type.arg(file)?;
+    Ok(whole)
+}
+
+/// An argument that is required.
+fn wanted<'a>(alloc: Global, id: &'a str, help: &'a str) -> Arg<'a>
+    ensures rule { rule_of result ≡ wanted id.now }
+    ensures local { result.global ≡ false }
+{
+    Arg::new(alloc, id).required(true).help(help)
+}

@@ -1,0 +1,131 @@
+-- What `frames` comes to, from what its steps leave.
+use Rattle.std.proofs.Common.{◌≡◌, ◌+◌, ℕ, List, [], Bool, true, Option, None, Some, refl, inl, inr, append-nil}
+use Rattle.std.specs.Prelude.{Result, Ok, Err}
+use Rattle.pb_wire.specs.Limits.{full}
+use Rattle.pb_wire.specs.declared.device.DeviceFault.{DeviceFault}
+use Rattle.pb_schema.specs.Types.{Types}
+use Rattle.pb_command.specs.Answer.{Answer, done, stopped, broken, IsPrinted}
+use Rattle.pb_command.specs.Answers.{FramesAt, FrameFaultAt, FramesBegunAt}
+use Rattle.pb_command.specs.FileMap.{FileMap, IsOpened, KeepsMap}
+use Rattle.pb_command.specs.Report.{output_name}
+use Rattle.pb_listing.specs.Sending.{Cut, Puts, Sent}
+use Rattle.pb_command.specs.Steps.{Comes, FailsAt, IsReadOf, NoFile, OfFiles, OfInput, StreamAt, StreamBegun, StreamBegunAt, StreamOf}
+use Rattle.pb_command.specs.Streaming.{FramesBegunIn, FramesIn, PutsFrames}
+use Rattle.pb_command.specs.TypeAnswer.{HasType, missing, opened}
+use Rattle.pb_listing.specs.declared.buffered.Buffered.{Buffered}
+use Rattle.pb_command.specs.declared.command.Source.{Source}
+use Rattle.pb_command.specs.declared.report.Refusal.{Refusal}
+use Rattle.pb_command.proofs.Coming.{by_refusal_any, by_refusal_map}
+use Rattle.pb_command.proofs.FileSteps.{of_later, opened_of}
+use Rattle.pb_command.proofs.Honest.{frames_map}
+use Rattle.pb_listing.proofs.SendingLemmas.{cut_alone, puts_then, sent_alone}
+
+-- THE LINES GO OUT
+
+module _
+    {D I : Type 0} (written : D → Option (List ℕ)) (failures : D → ℕ) (left : I → Option (List ℕ)) (is_steady : I → Bool) (input : I) (path : List ℕ)
+    (pool : Types) (m : ℕ) where
+  abbrev StreamComes : D → D → Result Unit Refusal → Type 0
+  StreamComes start end r =
+      Comes (Sent written failures start end) (Cut written failures start end) NoFile (λ _. ⊥) (FramesIn left is_steady input path pool m)
+      (FramesBegunIn left is_steady input pool m) r
+
+  abbrev StreamFails : D → D → List ℕ → Type 0
+  StreamFails start end path_told =
+      FailsAt (Sent written failures start end) (Cut written failures start end) NoFile (λ _. ⊥) (FramesIn left is_steady input path pool m)
+      (FramesBegunIn left is_steady input pool m) path_told
+
+  -- a text is put that is printed
+  frames_put :
+      (b0 b1 : Buffered D) (stop : Option Refusal) → PutsFrames left is_steady input written failures b0 b1 path pool m (Ok stop)
+      → (text : List ℕ) × Puts {E = DeviceFault} written failures b0 b1 (Ok tt) text
+      × IsPrinted (FramesIn left is_steady input path pool m) (FramesBegunIn left is_steady input pool m) text
+  frames_put b0 b1 None h = (h.0, h.2, inl (done h.0, h.1, refl))
+  frames_put b0 b1 (Some e) h = (
+    h.0,
+    h.1,
+    by_refusal_any _ _ _ _ e (λ line right. inl (stopped h.0 line, right, refl)) (λ device right. inl (broken h.0 device, right, refl)) (λ begun. inr begun) h.2,
+  )
+
+  -- the output failed in what was put
+  put_fails :
+      {b0 b1 : Buffered D} {text : List ℕ} {e : DeviceFault} (start end : D) → b0.out.now ≡ start → b0.held ≡ []
+      → Puts written failures b0 b1 (Err e) text → (b1.out.ghost_name ≡ b0.out.ghost_name → end ≡ b1.out.now) → Cut written failures start end text
+  put_fails {e = e} start end begins empty put ends = cut_alone start end begins empty put ends (Err e) refl
+
+  -- the output failed in the lines
+  pub stream_cut :
+      (b0 b1 : Buffered D) (e : DeviceFault) (output : List ℕ) (start end : D) → output ≡ output_name → b0.out.now ≡ start → b0.held ≡ []
+      → PutsFrames left is_steady input written failures b0 b1 path pool m (Err e) → (b1.out.ghost_name ≡ b0.out.ghost_name → end ≡ b1.out.now)
+      → StreamFails start end output
+  stream_cut b0 b1 e output start end named begins empty h ends =
+      inr (inl (h.0, named, inr h.1, put_fails start end begins empty h.2 ends, refl))
+
+  -- or in what was held of them
+  pub stream_unflushed :
+      (b0 b1 b2 : Buffered D) (e : DeviceFault) (output : List ℕ) (start end : D) (stop : Option Refusal) → output ≡ output_name
+      → b0.out.now ≡ start → b0.held ≡ [] → PutsFrames left is_steady input written failures b0 b1 path pool m (Ok stop)
+      → Puts written failures b1 b2 (Err e) [] → (b2.out.ghost_name ≡ b0.out.ghost_name → end ≡ b2.out.now) → StreamFails start end output
+  stream_unflushed b0 b1 b2 e output start end stop named begins empty h flush ends =
+      let p = frames_put b0 b1 stop h in
+      inr (inl (p.0, named, p.2, put_fails start end begins empty (rw append-nil at (puts_then p.1 flush)) ends, refl))
+
+  -- all lines went out
+  pub stream_ended :
+      (b0 b1 b2 : Buffered D) (start end : D) → b0.out.now ≡ start → b0.held ≡ []
+      → PutsFrames left is_steady input written failures b0 b1 path pool m (Ok None) → Puts {E = DeviceFault} written failures b1 b2 (Ok tt) []
+      → b2.held ≡ [] → (b2.out.ghost_name ≡ b0.out.ghost_name → end ≡ b2.out.now) → StreamComes start end (Ok tt)
+  stream_ended b0 b1 b2 start end begins empty h flush emptied ends =
+      (done h.0, h.1, refl, refl, sent_alone start end begins empty h.2 flush emptied ends, refl)
+
+  -- those before a refusal went out
+  pub stream_stopped :
+      (b0 b1 b2 : Buffered D) (start end : D) (e : Refusal) → b0.out.now ≡ start → b0.held ≡ []
+      → PutsFrames left is_steady input written failures b0 b1 path pool m (Ok (Some e)) → Puts {E = DeviceFault} written failures b1 b2 (Ok tt) []
+      → b2.held ≡ [] → (b2.out.ghost_name ≡ b0.out.ghost_name → end ≡ b2.out.now) → StreamComes start end (Err e)
+  stream_stopped b0 b1 b2 start end e begins empty h flush emptied ends =
+      let sent = sent_alone start end begins empty h.1 flush emptied ends in
+      by_refusal_map (λ line. FramesIn left is_steady input path pool m (stopped h.0 line))
+      (λ line. (text : List ℕ) × FramesIn left is_steady input path pool m (stopped text line) × Sent written failures start end text × NoFile None)
+      (λ device. FramesIn left is_steady input path pool m (broken h.0 device)) (StreamFails start end) (FramesBegunIn left is_steady input pool m h.0)
+      ((text : List ℕ) × FramesBegunIn left is_steady input pool m text × Sent written failures start end text × NoFile None) e
+      (λ line right. (h.0, right, sent, refl)) (λ device right. inl (h.0, right, sent, refl)) (λ begun. (h.0, begun, sent, refl)) h.2
+
+-- FROM AN INPUT TO ITS FILE
+
+module _
+    {F I : Type 0} (contents : F → Option FileMap) (is_steady : F → Bool) (files : F) (left : I → Option (List ℕ)) (stays : I → Bool) (input : I)
+    (path : List ℕ) (pool : Types) (m : ℕ)
+    (is_opened : OfFiles contents is_steady files path (λ content. IsOpened left content (Some input) × (stays input ≡ true))) where
+  -- what holds of the input's bytes holds of the file's
+  of_input : (P : Option (List ℕ) → Type 0) → OfInput left stays input P → OfFiles contents is_steady files path P
+  of_input P of = opened_of contents is_steady files path left stays input P is_opened of
+
+  pub stream_right : (a : Answer) → FramesIn left stays input path pool m a → StreamAt contents is_steady files pool m path a
+  stream_right a h =
+      inr
+      (frames_map _ _ _ _ _ _ path pool m a (λ text k. (k.0, of_input (λ content. FramesAt content pool m text) k.1))
+      (λ count text f k. (k.0, of_input (λ content. FrameFaultAt content pool m count text f) k.1)) (λ text k. (k.0, of_input (λ content. ⊥) k.1)) h)
+
+  pub stream_begun : (text : List ℕ) → FramesBegunIn left stays input pool m text → StreamBegunAt contents is_steady files pool m path text
+  stream_begun text h = inr (h.0, of_input (λ content. FramesBegunAt content pool m text) h.1)
+
+-- FROM THE FILE TO THE SET THAT HAS ITS TYPE
+
+module _
+    {F : Type 0} (contents : F → Option FileMap) (is_steady : F → Bool) (old mid : F) (s : Source) (set : List ℕ) (pool : Types) (m : ℕ)
+    (is_read : IsReadOf contents is_steady old (full.bytes + 1) s.set.now (Some set)) (has : HasType s.type_name.now set pool m)
+    (kept : KeepsMap (contents old) (contents mid)) (steady : is_steady old ≡ true → is_steady mid ≡ true) where
+  earlier : (P : Option (List ℕ) → Type 0) → OfFiles contents is_steady mid s.file.now P → OfFiles contents is_steady old s.file.now P
+  earlier P of = of_later s.file.now P kept steady of
+
+  pub stream_of : (a : Answer) → StreamAt contents is_steady mid pool m s.file.now a → StreamOf contents is_steady old s a
+  stream_of a (inl h) = missing is_read has (earlier (λ content. content ≡ None) h.0) h.1
+  stream_of a (inr h) =
+      opened is_read has
+      (frames_map _ _ _ _ _ _ s.file.now pool m a (λ text k. (k.0, earlier (λ content. FramesAt content pool m text) k.1))
+      (λ count text f k. (k.0, earlier (λ content. FrameFaultAt content pool m count text f) k.1)) (λ text k. (k.0, earlier (λ content. ⊥) k.1)) h)
+
+  pub stream_begun_of : (text : List ℕ) → StreamBegunAt contents is_steady mid pool m s.file.now text → StreamBegun contents is_steady old s text
+  stream_begun_of text (inl nothing) = inl nothing
+  stream_begun_of text (inr h) = inr (set, pool, m, is_read, has, h.0, earlier (λ content. FramesBegunAt content pool m text) h.1)

@@ -1,0 +1,80 @@
+-- How a run ends, from what its command came to and what was told.
+use Rattle.std.proofs.Common.{◌≡◌, ◌≢◌, ℕ, List, [], Option, None, inl, inr, ap, sym, ◌∙◌, subst, arith}
+use Rattle.std.specs.Prelude.{Result, Ok, Err, MatchResult, OnOk, string_bytes}
+use Rattle.pb_command.specs.Answer.{Answer, stopped, Ends, delivered, output_failed, file_failed, out_of_memory}
+use Rattle.pb_command.specs.Report.{device_line}
+use Rattle.pb_command.specs.Refusal.{refusal_line, refusal_status}
+use Rattle.pb_command.specs.Steps.{Comes, FailsAt}
+use Rattle.pb_command.specs.declared.report.Refusal.{Refusal}
+use Rattle.pb_command.specs.declared.report.Refusal.TheVariants.{Fault, Set, SetFile, Link, UnknownType, TooLarge, Frame, Source, Device, File, Memory}
+
+module _
+    (Out Cut Told : List ℕ → Type 0) (Saved : Option (List ℕ × List ℕ) → Type 0) (Unsaved : List ℕ → Type 0) (status : ℕ)
+    (P : Answer → Type 0) (B : List ℕ → Type 0) where
+  abbrev Ended : Type 0
+  Ended = Ends Out Cut Told Saved Unsaved status P B
+
+  stop_ends : (line : List ℕ) → (text : List ℕ) × P (stopped text line) × Out text × Saved None → (status ≡ 1) × Told line → Ended
+  stop_ends line h told = delivered h.1 told.0 h.2 told.1 h.3
+
+  fail_ends : (path : List ℕ) → FailsAt Out Cut Saved Unsaved P B path → (status ≡ 3) × Told (device_line path) → Ended
+  fail_ends path (inl h) told = delivered h.1 told.0 h.2 told.1 h.3
+  fail_ends path (inr (inl h)) told = output_failed h.2 told.0 h.3 (subst Told (ap device_line h.1) told.1) h.4
+  fail_ends path (inr (inr h)) told = file_failed h.2 h.3 told.0 h.4 told.1 h.5
+
+  -- the line of a refusal was told, and the status answered
+  pub ends_from :
+      (Quiet : Type 0) (r : Result Unit Refusal) → (Quiet → Told []) → Comes Out Cut Saved Unsaved P B r
+      → MatchResult r (λ _. (status ≡ 0) × Quiet) (λ e. (status ≡ refusal_status e) × Told (refusal_line e)) → Ended
+  ends_from Quiet (Ok u) quiet h told = delivered h.1 (told.0 ∙ sym h.2) h.4 (subst Told (sym h.3) (quiet told.1)) h.5
+  ends_from Quiet (Err (Fault byte path cause)) quiet h told = stop_ends _ h told
+  ends_from Quiet (Err (Set byte path cause)) quiet h told = stop_ends _ h told
+  ends_from Quiet (Err (SetFile file cause)) quiet h told = stop_ends _ h told
+  ends_from Quiet (Err (Link file full_name cause)) quiet h told = stop_ends _ h told
+  ends_from Quiet (Err (UnknownType name)) quiet h told = stop_ends _ h told
+  ends_from Quiet (Err TooLarge) quiet h told = stop_ends _ h told
+  ends_from Quiet (Err (Frame index byte path cause)) quiet h told = stop_ends _ h told
+  ends_from Quiet (Err (Source file byte cause)) quiet h told = stop_ends _ h told
+  ends_from Quiet (Err (Device path)) quiet h told = fail_ends path.now h told
+  ends_from Quiet (Err (File path)) quiet h told = fail_ends (string_bytes path) h told
+  ends_from Quiet (Err Memory) quiet h told = out_of_memory h.1 told.0 h.2 told.1 h.3
+
+-- no command answers the status of words that are none
+pub never_two :
+    (Quiet : Type 0) (Told : Refusal → Type 0) (r : Result Unit Refusal) (status : ℕ)
+    → MatchResult r (λ _. (status ≡ 0) × Quiet) (λ e. (status ≡ refusal_status e) × Told e) → status ≢ 2
+never_two Quiet Told (Ok u) status concluded two = absurd (omega (arith, concluded.0, two))
+never_two Quiet Told (Err e) status concluded two = no_two e (sym concluded.0 ∙ two)
+  where
+    no_two : (e : Refusal) → refusal_status e ≡ 2 → ⊥
+    no_two (Fault byte path cause) is = omega (arith, is)
+    no_two (Set byte path cause) is = omega (arith, is)
+    no_two (SetFile file cause) is = omega (arith, is)
+    no_two (Link file full_name cause) is = omega (arith, is)
+    no_two (UnknownType name) is = omega (arith, is)
+    no_two TooLarge is = omega (arith, is)
+    no_two (Frame index byte path cause) is = omega (arith, is)
+    no_two (Source file byte cause) is = omega (arith, is)
+    no_two (Device path) is = omega (arith, is)
+    no_two (File path) is = omega (arith, is)
+    no_two Memory is = omega (arith, is)
+
+-- what holds of a command that succeeds holds where the status is 0
+pub kept_at_zero :
+    (Quiet : Type 0) (Told : Refusal → Type 0) (r : Result Unit Refusal) (status : ℕ) (Kept : Type 0)
+    → MatchResult r (λ _. (status ≡ 0) × Quiet) (λ e. (status ≡ refusal_status e) × Told e) → OnOk r Kept → status ≡ 0 → Kept
+kept_at_zero Quiet Told (Ok u) status Kept concluded kept zero = kept
+kept_at_zero Quiet Told (Err e) status Kept concluded kept zero = absurd (no_zero e (sym concluded.0 ∙ zero))
+  where
+    no_zero : (e : Refusal) → refusal_status e ≡ 0 → ⊥
+    no_zero (Fault byte path cause) e = omega (arith, e)
+    no_zero (Set byte path cause) e = omega (arith, e)
+    no_zero (SetFile file cause) e = omega (arith, e)
+    no_zero (Link file full_name cause) e = omega (arith, e)
+    no_zero (UnknownType name) e = omega (arith, e)
+    no_zero TooLarge e = omega (arith, e)
+    no_zero (Frame index byte path cause) e = omega (arith, e)
+    no_zero (Source file byte cause) e = omega (arith, e)
+    no_zero (Device path) e = omega (arith, e)
+    no_zero (File path) e = omega (arith, e)
+    no_zero Memory e = omega (arith, e)

@@ -1,0 +1,285 @@
+-- The frames of a stream, one after another.
+use Rattle.std.proofs.Common.{◌≡◌, ℕ, suc, ◌+◌, ◌-◌, ◌^◌, ◌<◌, ◌≤◌, List, [], ◌∷◌, ◌++◌, length, Bool, true, false, Option, None, Some, refl, sym, ap, ◌∙◌, subst, arith, length-append, add-one}
+use Rattle.std.specs.Prelude.{Result, Ok, Err, IfSome, IsSomeAnd, IsErr}
+use Rattle.std.specs.Borrow.{Bor}
+use Rattle.std.specs.Io.KnownBytes.{Consumes}
+use Rattle.pb_wire.specs.Fault.{Fault, fault}
+use Rattle.pb_wire.specs.Limits.{Bounds, full}
+use Rattle.pb_wire.specs.Varint.{EndsOnce}
+use Rattle.pb_wire.specs.declared.device.DeviceFault.{DeviceFault}
+use Rattle.pb_schema.specs.Types.{Types}
+use Rattle.pb_value.specs.Data.{Message}
+use Rattle.pb_value.specs.Dynamic.{Dynamic}
+use Rattle.pb_value.specs.WellFormed.{IsWellFormed}
+use Rattle.pb_decode.specs.declared.error.DecodeError.{DecodeError}
+use Rattle.pb_decode.specs.declared.error.DecodeError.TheVariants as decode
+use Rattle.pb_stream.specs.Frame.{Frame, FrameFault}
+use Rattle.pb_stream.specs.Stream.{Stream}
+use Rattle.pb_stream.specs.Taking.{Counts, TakesNone}
+use Rattle.pb_command.specs.Answer.{done, stopped, broken}
+use Rattle.pb_command.specs.FramesAnswer.{AreFrames, none, one_more, BeginsWith, no_frame, frame_more, frame_lines, ended, no_frame_there, input_failed}
+use Rattle.pb_command.specs.Refusal.{ByRefusal}
+use Rattle.pb_listing.specs.Sending.{Puts}
+use Rattle.pb_command.specs.Streaming.{FramesBegunIn, FramesIn, IsToldOfFrame, PutsFrames, PutsNext, ReadsFrame, RefusesFrame, read_lines}
+use Rattle.pb_listing.specs.declared.buffered.Buffered.{Buffered}
+use Rattle.pb_command.specs.declared.frames.Next.{Next}
+use Rattle.pb_command.specs.declared.report.Refusal.{Refusal}
+use Rattle.pb_listing.proofs.SendingLemmas.{puts_none, puts_then}
+
+-- SIZES
+
+-- the bytes that a frame takes are counted
+taken_size :
+    (before after : ℕ) (old new : Option (List ℕ)) (xs ys : List ℕ) → old ≡ Some xs → new ≡ Some ys → before + length xs < 2 ^ 64 → Counts before after old new
+    → (length xs ≡ (after - before) + length ys) × (before + (after - before) ≡ after)
+taken_size before after old new xs ys is_old is_new small counts =
+    let bytes : List ℕ = counts.0 in
+    let consumed : Consumes (Some xs) (Some ys) bytes =
+    subst (λ (o : Option (List ℕ)). Consumes (Some xs) o bytes) is_new (subst (λ (o : Option (List ℕ)). Consumes o new bytes) is_old counts.1) in
+    let size : length xs ≡ length bytes + length ys = ap length consumed ∙ length-append bytes ys in
+    let total = counts.2 in
+    (omega (arith, size, total, small), omega (arith, size, total, small))
+
+length_has_byte : (b : List ℕ) → EndsOnce b → 1 ≤ length b
+length_has_byte [] ends = absurd ends
+length_has_byte (x ∷ xs) ends = omega arith
+
+-- a frame has a byte
+frame_has_byte : {pool : Types} {m : ℕ} {input rest : List ℕ} {v : Message} → Frame pool m full input v rest → 1 + length rest ≤ length input
+frame_has_byte {rest = rest} frame =
+    let some = length_has_byte frame.front frame.counted.ends in
+    let size = ap length frame.joined ∙ length-append (frame.front ++ frame.text) rest in
+    let inner = length-append frame.front frame.text in
+    omega (arith, some, size, inner)
+
+-- so many frames have no fewer bytes
+frames_size :
+    {pool : Types} {m : ℕ} {input : List ℕ} {count offset : ℕ} {text rest : List ℕ} → BeginsWith pool m input count offset text rest → count ≤ offset
+frames_size no_frame = omega arith
+frames_size (frame_more size before frame is) =
+    let fewer = frames_size before in
+    let one = frame_has_byte frame in
+    omega (arith, fewer, one, is)
+
+no_bytes : (b : List ℕ) → length b ≡ 0 → b ≡ []
+no_bytes [] e = refl
+no_bytes (x ∷ xs) e = absurd (omega (arith, e))
+
+-- WHAT WAS READ
+
+-- so many frames of an input were read, with these lines, and the reader goes on
+pub record AreRead {I : Type 0} (left : I → Option (List ℕ)) (is_steady : I → Bool) (start now : Stream I) (count : ℕ) (text : List ℕ) : Type 0 where
+  pub frames : AreFrames start.pool start.kind count text
+  pub pool : now.pool ≡ start.pool
+  pub kind : now.kind ≡ start.kind
+  pub limits : now.limits ≡ full
+  pub goes_on : now.finished ≡ false
+  pub steady : is_steady start.input ≡ true → is_steady now.input ≡ true
+  pub known :
+      (input : List ℕ) → left start.input ≡ Some input → length input < 2 ^ 64
+      → (rest : List ℕ) × (left now.input ≡ Some rest) × BeginsWith start.pool start.kind input count now.taken text rest
+      × (now.taken + length rest ≡ length input)
+
+-- they were put
+pub record IsStreaming
+    {D I : Type 0} (written : D → Option (List ℕ)) (failures : D → ℕ) (left : I → Option (List ℕ)) (is_steady : I → Bool) (old new : Buffered D)
+    (start now : Stream I) (count : ℕ) : Type 0 where
+  pub text : List ℕ
+  pub put : Puts {E = DeviceFault} written failures old new (Ok tt) text
+  pub read : AreRead left is_steady start now count text
+
+-- one more frame is known
+known_more :
+    {old new : Option (List ℕ)} (pool : Types) (kind : ℕ) (input rest text : List ℕ) (count before after : ℕ) (m : Message) → old ≡ Some rest
+    → IsSomeAnd new (Frame pool kind full rest m) → Counts before after old new → BeginsWith pool kind input count before text rest
+    → before + length rest ≡ length input → length input < 2 ^ 64
+    → (left : List ℕ) × (new ≡ Some left) × BeginsWith pool kind input (suc count) after (text ++ frame_lines pool kind count before (after - before) m) left
+    × (after + length left ≡ length input)
+known_more {new = None} pool kind input rest text count before after m is framed counts begins total small = absurd framed
+known_more {old} {new = Some left} pool kind input rest text count before after m is framed counts begins total small =
+    let sizes = taken_size before after old (Some left) rest left is refl (omega (arith, total, small)) counts in
+    let size = sizes.0 in
+    let end = sizes.1 in (
+      left,
+      refl,
+      subst (λ (n : ℕ). BeginsWith pool kind input (suc count) n (text ++ frame_lines pool kind count before (after - before) m) left) end
+          (frame_more (after - before) begins framed size),
+      omega (arith, size, end, total),
+    )
+
+-- the frame that was read, where the bytes are known
+frame_there :
+    {old : Option (List ℕ)} {pool pool' : Types} {kind kind' : ℕ} {limits : Bounds} (new : Option (List ℕ)) (m : Message) (rest : List ℕ) → pool' ≡ pool
+    → kind' ≡ kind → limits ≡ full → old ≡ Some rest → IfSome old (λ left. IsSomeAnd new (Frame pool' kind' limits left m)) → IsSomeAnd new (Frame pool kind full rest m)
+frame_there new m rest p k l is h = rw (is, p, k, l) at h
+
+-- what is no frame, where the bytes are known
+fault_there :
+    {old : Option (List ℕ)} {pool pool' : Types} {kind kind' : ℕ} {limits : Bounds} {f : Fault} (rest : List ℕ) → pool' ≡ pool → kind' ≡ kind
+    → limits ≡ full → old ≡ Some rest → IfSome old (λ left. FrameFault pool' kind' limits left f) → FrameFault pool kind full rest f
+fault_there rest p k l is h = rw (is, p, k, l) at h
+
+-- nothing was left
+none_left : (old new : Option (List ℕ)) (rest : List ℕ) → old ≡ Some rest → TakesNone old new → rest ≡ []
+none_left None new rest is h = absurd (cc)
+none_left (Some xs) None rest is h = absurd h.0
+none_left (Some xs) (Some ys) rest is h =
+    let same : xs ≡ rest = cc in
+    sym same ∙ h.0 ∙ h.1
+
+module _ {I : Type 0} {left : I → Option (List ℕ)} {is_steady : I → Bool} where
+  pub read_start : (r : Stream I) → r.taken ≡ 0 → r.finished ≡ false → r.limits ≡ full → AreRead left is_steady r r 0 []
+  read_start r first open_ limits = record {
+    frames = none;
+    pool = refl;
+    kind = refl;
+    limits = limits;
+    goes_on = open_;
+    steady = λ s. s;
+    known = λ input is small.
+        (input, is, subst (λ (n : ℕ). BeginsWith r.pool r.kind input 0 n [] input) (sym first) no_frame, omega (arith, first));
+  }
+
+  -- one more frame was read
+  read_more :
+      {start now next : Stream I} {count : ℕ} {text : List ℕ} (m : Message) → AreRead left is_steady start now count text → next.pool ≡ now.pool
+      → next.kind ≡ now.kind → next.limits ≡ now.limits → next.finished ≡ false → (is_steady now.input ≡ true → is_steady next.input ≡ true)
+      → IsWellFormed start.pool start.kind m
+      → IfSome (left now.input) (λ rest. IsSomeAnd (left next.input) (Frame now.pool now.kind now.limits rest m))
+      → Counts now.taken next.taken (left now.input) (left next.input)
+      → AreRead left is_steady start next (suc count) (text ++ frame_lines start.pool start.kind count now.taken (next.taken - now.taken) m)
+  read_more {start = start} {now = now} {next = next} {count = count} {text = text} m h pool kind limits open_ steady well frame counts = record {
+    frames = one_more h.frames well now.taken (next.taken - now.taken);
+    pool = pool ∙ h.pool;
+    kind = kind ∙ h.kind;
+    limits = limits ∙ h.limits;
+    goes_on = open_;
+    steady = λ s. steady (h.steady s);
+    known = λ input is small.
+        let before = h.known input is small in
+        known_more start.pool start.kind input before.0 text count now.taken next.taken m before.1
+        (frame_there (left next.input) m before.0 h.pool h.kind h.limits before.1 frame) counts before.2 before.3 small;
+  }
+
+  -- as a step tells it
+  pub read_next :
+      {start now next : Stream I} {count : ℕ} {text : List ℕ} (m : Message) → AreRead left is_steady start now count text
+      → ReadsFrame left is_steady now next m → AreRead left is_steady start next (count + 1) (text ++ read_lines count now next m)
+  read_next m h step =
+      let well = rw (h.pool, h.kind) at step.well in
+      rw (h.pool, h.kind, add-one) (read_more m h step.same.0 step.same.1 step.same.2 step.goes_on step.steady well step.frame step.counted)
+
+  -- WHAT IT COMES TO
+
+  -- the lines are printed before more is known
+  pub read_begun : {start now : Stream I} {count : ℕ} {text : List ℕ} → AreRead left is_steady start now count text → FramesBegunIn left is_steady start.input start.pool start.kind text
+  read_begun {now = now} {count = count} h =
+      ((count, h.frames), λ bytes steady is. (bytes, refl, λ small. let before = h.known bytes is small in (count, now.taken, before.0, before.2)))
+
+  -- nothing is left
+  read_all :
+      {start now : Stream I} {count : ℕ} {text : List ℕ} (path : List ℕ) → AreRead left is_steady start now count text
+      → ((rest input : List ℕ) → left now.input ≡ Some rest → length input < 2 ^ 64 → count ≤ now.taken → now.taken + length rest ≡ length input → rest ≡ [])
+      → FramesIn left is_steady start.input path start.pool start.kind (done text)
+  read_all {start = start} {now = now} {count = count} {text = text} path h nothing =
+      ended (
+        (count, h.frames),
+        λ bytes steady is. (
+          bytes,
+          refl,
+          λ small.
+              let before = h.known bytes is small in (
+                count,
+                now.taken,
+                subst (BeginsWith start.pool start.kind bytes count now.taken text)
+                    (nothing before.0 bytes before.1 small (frames_size before.2) before.3) before.2,
+              ),
+        ),
+      )
+      refl
+
+  -- the reader says so
+  pub read_to_end :
+      {start now : Stream I} {count : ℕ} {text : List ℕ} (path : List ℕ) (after : Option (List ℕ)) → AreRead left is_steady start now count text
+      → TakesNone (left now.input) after → FramesIn left is_steady start.input path start.pool start.kind (done text)
+  read_to_end {now = now} path after h takes = read_all path h (λ rest input is small fewer total. none_left (left now.input) after rest is takes)
+
+  -- the frames are as many as bytes can be
+  pub read_most :
+      {start now : Stream I} {count : ℕ} {text : List ℕ} (path : List ℕ) → AreRead left is_steady start now count text → 2 ^ 64 - 1 ≤ count
+      → FramesIn left is_steady start.input path start.pool start.kind (done text)
+  read_most {now = now} path h most = read_all path h (λ rest input is small fewer total. no_bytes rest (omega (arith, most, small, fewer, total)))
+
+  -- what follows is refused
+  pub read_refused :
+      {start now : Stream I} {count : ℕ} {text : List ℕ} (path : Bor (List ℕ)) (e : DecodeError) (r : Refusal)
+      → AreRead left is_steady start now count text → IsToldOfFrame count path e r → RefusesFrame left is_steady now e
+      → ByRefusal (λ line. FramesIn left is_steady start.input path.now start.pool start.kind (stopped text line))
+      (λ device. FramesIn left is_steady start.input path.now start.pool start.kind (broken text device))
+      (FramesBegunIn left is_steady start.input start.pool start.kind text) r
+  read_refused {now = now} {count = count} path (decode.Fault byte steps cause) r h told refused =
+      rw told
+      (no_frame_there {f = fault byte steps.items cause} (
+        h.frames,
+        λ bytes steady is. (
+          bytes,
+          refl,
+          λ small. let before = h.known bytes is small in (now.taken, before.0, before.2, fault_there before.0 h.pool h.kind h.limits before.1 refused.why),
+        ),
+      )
+      refl)
+  read_refused {count = count} path decode.Device r h told refused =
+      rw told (input_failed ((count, h.frames), λ bytes steady is. absurd (refused.failed (h.steady steady) refl)) refl)
+  read_refused path decode.Memory r h told refused = rw told (read_begun h)
+  read_refused path decode.Finished r h told refused = absurd refused.why
+
+  -- ONE STEP
+
+  -- the frame that the reader tells
+  pub reads_frame :
+      {old new : Stream I} (d : Dynamic) → (new.pool ≡ old.pool) × (new.kind ≡ old.kind) × (new.limits ≡ old.limits) → new.finished ≡ false
+      → (is_steady old.input ≡ true → is_steady new.input ≡ true) → (d.pool ≡ old.pool) × (d.kind ≡ old.kind) → IsWellFormed d.pool d.kind d.body
+      → IfSome (left old.input) (λ rest. IsSomeAnd (left new.input) (Frame old.pool old.kind old.limits rest d.body))
+      → Counts old.taken new.taken (left old.input) (left new.input) → ReadsFrame left is_steady old new d.body
+  reads_frame d same open_ steady typed well frame counted = record {
+    same = same;
+    goes_on = open_;
+    steady = steady;
+    well = rw (typed.0, typed.1) at well;
+    frame = frame;
+    counted = counted;
+  }
+
+-- its lines, as they were put
+pub lines_read :
+    {D I : Type 0} {written : D → Option (List ℕ)} {failures : D → ℕ} {b0 b1 : Buffered D} {r : Result Unit DeviceFault} (old new : Stream I) (d : Dynamic)
+    (index offset size : ℕ) → (d.pool ≡ old.pool) × (d.kind ≡ old.kind) → offset ≡ old.taken → size ≡ new.taken - offset
+    → Puts written failures b0 b1 r (frame_lines d.pool d.kind index offset size d.body)
+    → Puts written failures b0 b1 r (read_lines index old new d.body)
+lines_read old new d index offset size typed begins sized put = rw (sized, begins, typed.0, typed.1) at put
+
+-- the output failed in them, at the exit of a `?`
+pub next_cut :
+    {D I : Type 0} {written : D → Option (List ℕ)} {failures : D → ℕ} {left : I → Option (List ℕ)} {is_steady : I → Bool} {b0 b1 : Buffered D}
+    {old new : Stream I} (index : ℕ) (path : Bor (List ℕ)) {e : DeviceFault} {m : Message} (r : Result Next DeviceFault) → IsErr r
+    → ReadsFrame left is_steady old new m → Puts written failures b0 b1 (Err e) (read_lines index old new m)
+    → PutsNext written failures left is_steady b0 b1 old new index path r
+next_cut index path (Ok n) is_err reads put = absurd (cc)
+next_cut index path {m = m} (Err f) is_err reads put = (m, reads, record { same = put.same; follow = put.follow })
+
+pub streaming_start :
+    {D I : Type 0} {written : D → Option (List ℕ)} {failures : D → ℕ} {left : I → Option (List ℕ)} {is_steady : I → Bool} {b : Buffered D} (r : Stream I)
+    → r.taken ≡ 0 → r.finished ≡ false → r.limits ≡ full → IsStreaming written failures left is_steady b b r r 0
+streaming_start r first open_ limits = record { text = []; put = puts_none; read = read_start r first open_ limits }
+
+-- the output failed in a frame, at the exit of a `?`
+pub frames_cut :
+    {D I : Type 0} {written : D → Option (List ℕ)} {failures : D → ℕ} {left : I → Option (List ℕ)} {is_steady : I → Bool} {b0 b1 b2 : Buffered D}
+    {start now next : Stream I} {count : ℕ} (path : Bor (List ℕ)) {e : DeviceFault} (r : Result (Option Refusal) DeviceFault) → IsErr r
+    → IsStreaming written failures left is_steady b0 b1 start now count
+    → PutsNext written failures left is_steady b1 b2 now next count path (Err e)
+    → PutsFrames left is_steady start.input written failures b0 b2 path.now start.pool start.kind r
+frames_cut path (Ok o) is_err before step = absurd (cc)
+frames_cut path (Err f) is_err before step =
+    let put = puts_then before.put step.2 in
+    (_, read_begun (read_next step.0 before.read step.1), record { same = put.same; follow = put.follow })

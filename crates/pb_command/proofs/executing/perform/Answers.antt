@@ -1,0 +1,28 @@
+use Rattle.pb_command.specs.FileMap.{IsSaved, IsUnsaved}
+use Rattle.pb_command.specs.Steps.{IsNothing, RightOf}
+use Rattle.pb_command.specs.declared.command.Command.TheVariants.{Compile}
+use Rattle.pb_command.proofs.CompileSteps.{nothing_out}
+use Rattle.pb_command.proofs.executing.perform.Goals as goal
+
+pub returns-in-Raw-clause-comes : goal.returns-in-Raw-clause-comes
+returns-in-Raw-clause-comes g c = rw c.in-Raw.is c.raw.ensures.comes
+
+pub returns-in-Check-clause-comes : goal.returns-in-Check-clause-comes
+returns-in-Check-clause-comes g c = rw c.in-Check.is c.message.ensures.comes
+
+pub returns-in-Show-clause-comes : goal.returns-in-Show-clause-comes
+returns-in-Show-clause-comes g c = rw c.in-Show.is c.message-in-Show.ensures.comes
+
+pub returns-in-Canon-clause-comes : goal.returns-in-Canon-clause-comes
+returns-in-Canon-clause-comes g c = rw c.in-Canon.is (rw c.form_of.ensures at c.message-in-Canon.ensures.comes)
+
+pub returns-in-Frames-clause-comes : goal.returns-in-Frames-clause-comes
+returns-in-Frames-clause-comes g c = rw c.in-Frames.is c.frames.ensures.comes
+
+pub returns-in-Compile-clause-comes : goal.returns-in-Compile-clause-comes
+returns-in-Compile-clause-comes g c =
+    rw c.in-Compile.is
+    (nothing_out g.O.Output.written g.O.Output.failures c.args.out.now (IsSaved g.F.Files.contents c.args.files.now c.compile.new.files)
+    (IsUnsaved g.F.Files.contents g.F.Files.failures c.args.files.now c.compile.new.files)
+    (RightOf g.F.Files.contents g.F.Files.is_steady c.args.files.now (Compile c.in-Compile.root c.in-Compile.to c.in-Compile.names)) IsNothing
+    c.compile.result c.compile.ensures.comes)

@@ -1,0 +1,130 @@
+-- What each command comes to.
+use Rattle.std.specs.Prelude.{◌≡◌, ◌<◌, ◌^◌, ◌⊎◌, ⊤, ℕ, List, [], length, Option, None, Some}
+use Rattle.std.specs.Borrow.{Bor}
+use Rattle.pb_wire.specs.Fault.{Fault}
+use Rattle.pb_wire.specs.Grammar.{HasFault}
+use Rattle.pb_wire.specs.Limits.{full}
+use Rattle.pb_schema.specs.Context.{a_message, schema_of}
+use Rattle.pb_schema.specs.Types.{Types}
+use Rattle.pb_value.specs.Data.{Message}
+use Rattle.pb_value.specs.Derives.{Text}
+use Rattle.pb_value.specs.WellFormed.{IsWellFormed}
+use Rattle.pb_stream.specs.Frame.{FrameFault}
+use Rattle.pb_command.specs.Answer.{Answer, Ends}
+use Rattle.pb_command.specs.CompileAnswer.{CompileAnswer, texts_of}
+use Rattle.pb_command.specs.FileMap.{FileMap}
+use Rattle.pb_command.specs.FramesAnswer.{AreFrames, BeginsWith, FramesAnswer}
+use Rattle.pb_command.specs.MessageAnswer.{MessageAnswer}
+use Rattle.pb_command.specs.RawAnswer.{RawAnswer}
+use Rattle.pb_command.specs.TypeAnswer.{HasType, TypeAnswer}
+use Rattle.pb_command.specs.declared.command.Command.{Command}
+use Rattle.pb_command.specs.declared.command.Command.TheVariants.{Raw, Check, Show, Canon, Frames, Compile}
+use Rattle.pb_command.specs.declared.command.Source.{Source}
+use Rattle.pb_command.specs.declared.form.Form.{Form}
+use Rattle.pb_command.specs.declared.form.Form.TheVariants as form
+
+-- where the canonical bytes of a message go
+abbrev pub canonical_form : Option (Bor (List ℕ)) → Form
+canonical_form None = form.Canonical
+canonical_form (Some path) = form.CanonicalFile path
+
+-- OVER A MAP OF FILES
+
+-- of bytes that may be there
+module _ (content : Option (List ℕ)) where
+  abbrev pub FaultAt : Types → ℕ → Fault → Type 0
+  FaultAt pool m f = (text : List ℕ) × (content ≡ Some text) × HasFault (schema_of pool) (a_message m) full text f
+
+  abbrev pub TextAt : Types → ℕ → Message → Type 0
+  TextAt pool m v = (text : List ℕ) × (content ≡ Some text) × Text pool m full text v
+
+  -- the bytes are frames with these lines
+  abbrev pub FramesAt : Types → ℕ → List ℕ → Type 0
+  FramesAt pool m text =
+      (input : List ℕ) × (content ≡ Some input) × (length input < 2 ^ 64 → (count : ℕ) × (offset : ℕ) × BeginsWith pool m input count offset text [])
+
+  -- they begin with so many frames with these lines, and what follows is no frame
+  abbrev pub FrameFaultAt : Types → ℕ → ℕ → List ℕ → Fault → Type 0
+  FrameFaultAt pool m count text f =
+      (input : List ℕ) × (content ≡ Some input)
+      × (length input < 2 ^ 64 → (offset : ℕ) × (rest : List ℕ) × BeginsWith pool m input count offset text rest × FrameFault pool m full rest f)
+
+  -- they begin with frames with these lines
+  abbrev pub FramesBegunAt : Types → ℕ → List ℕ → Type 0
+  FramesBegunAt pool m text =
+      (input : List ℕ) × (content ≡ Some input)
+      × (length input < 2 ^ 64 → (count : ℕ) × (offset : ℕ) × (rest : List ℕ) × BeginsWith pool m input count offset text rest)
+
+module _ (map : FileMap) where
+  abbrev pub MessageComesTo : Form → Source → Answer → Type 0
+  MessageComesTo form s =
+      TypeAnswer (λ content. content ≡ map s.set.now) (map s.file.now ≡ None)
+      (MessageAnswer (FaultAt (map s.file.now)) (TextAt (map s.file.now)) form) s.type_name.now s.set.now s.file.now
+
+  abbrev pub FramesComeTo : Source → Answer → Type 0
+  FramesComeTo s =
+      TypeAnswer (λ content. content ≡ map s.set.now) (map s.file.now ≡ None)
+      (FramesAnswer (FramesAt (map s.file.now)) (FrameFaultAt (map s.file.now)) (λ pool m text. ⊥) s.file.now)
+      s.type_name.now s.set.now s.file.now
+
+  abbrev pub Answers : Command → Answer → Type 0
+  Answers (Raw short file) = RawAnswer full short file.now (map file.now)
+  Answers (Check source) = MessageComesTo form.Check source
+  Answers (Show source) = MessageComesTo form.Listing source
+  Answers (Canon to source) = MessageComesTo (canonical_form to) source
+  Answers (Frames source) = FramesComeTo source
+  Answers (Compile root out names) = CompileAnswer (λ path content. content ≡ map path) (λ path. ⊥) root.now out.now (texts_of names.now)
+
+  -- what is printed before the answer is known: of frames those that were read, and else nothing
+  abbrev pub Begins : Command → List ℕ → Type 0
+  Begins (Raw short file) text = text ≡ []
+  Begins (Check source) text = text ≡ []
+  Begins (Show source) text = text ≡ []
+  Begins (Canon to source) text = text ≡ []
+  Begins (Compile root out names) text = text ≡ []
+  Begins (Frames source) text =
+      (text ≡ [])
+      ⊎ ((set : List ℕ) × (pool : Types) × (m : ℕ) × (map source.set.now ≡ Some set) × HasType source.type_name.now set pool m
+      × FramesBegunAt (map source.file.now) pool m text)
+
+-- OVER ANY FILES, also those that tell nothing of what they hold
+
+abbrev pub AnyMessage : Form → Source → Answer → Type 0
+AnyMessage form s =
+    TypeAnswer (λ content. ⊤) ⊤ (MessageAnswer (λ pool m f. ⊤) IsWellFormed form) s.type_name.now s.set.now s.file.now
+
+abbrev pub AnyFrames : Types → ℕ → List ℕ → Type 0
+AnyFrames pool m text = (count : ℕ) × AreFrames pool m count text
+
+abbrev pub AnyStream : Source → Answer → Type 0
+AnyStream s =
+    TypeAnswer (λ content. ⊤) ⊤ (FramesAnswer AnyFrames (λ pool m count text f. AreFrames pool m count text) AnyFrames s.file.now)
+    s.type_name.now s.set.now s.file.now
+
+-- the answer has the form of one: of raw records it is that of some bytes, of sources that of some at each path, and else of some set, and of some
+-- messages of the type
+abbrev pub AnyAnswers : Command → Answer → Type 0
+AnyAnswers (Raw short file) a = (content : Option (List ℕ)) × RawAnswer full short file.now content a
+AnyAnswers (Check source) a = AnyMessage form.Check source a
+AnyAnswers (Show source) a = AnyMessage form.Listing source a
+AnyAnswers (Canon to source) a = AnyMessage (canonical_form to) source a
+AnyAnswers (Frames source) a = AnyStream source a
+AnyAnswers (Compile root out names) a = CompileAnswer (λ path content. ⊤) (λ path. ⊤) root.now out.now (texts_of names.now) a
+
+abbrev pub AnyBegins : Command → List ℕ → Type 0
+AnyBegins (Raw short file) text = text ≡ []
+AnyBegins (Check source) text = text ≡ []
+AnyBegins (Show source) text = text ≡ []
+AnyBegins (Canon to source) text = text ≡ []
+AnyBegins (Compile root out names) text = text ≡ []
+AnyBegins (Frames source) text = (pool : Types) × (m : ℕ) × AnyFrames pool m text
+
+-- THE END OF A RUN
+
+-- The command is done: over files of which IsMap tells what they hold the answer is that of their bytes, and over any files it has the form of one.
+abbrev pub Does :
+    (List ℕ → Type 0) → (List ℕ → Type 0) → (List ℕ → Type 0) → (Option (List ℕ × List ℕ) → Type 0) → (List ℕ → Type 0) → ℕ
+    → (FileMap → Type 0) → Command → Type 0
+Does Out Cut Told Saved Unsaved status IsMap command =
+    ((map : FileMap) → IsMap map → Ends Out Cut Told Saved Unsaved status (Answers map command) (Begins map command))
+    × Ends Out Cut Told Saved Unsaved status (AnyAnswers command) (AnyBegins command)

@@ -1,0 +1,16 @@
+pub mod FileMap
+pub mod MemFiles
+pub mod Report
+pub mod NameSets
+pub mod Gathering
+pub mod Answer
+pub mod Refusal
+pub mod RawAnswer
+pub mod TypeAnswer
+pub mod MessageAnswer
+pub mod FramesAnswer
+pub mod CompileAnswer
+pub mod Answers
+pub mod Steps
+pub mod Streaming
+pub mod Reaching

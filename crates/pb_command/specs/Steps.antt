@@ -1,0 +1,178 @@
+-- What the steps of a command leave.
+use Rattle.std.specs.Prelude.{◌≡◌, ◌⊎◌, ◌+◌, ℕ, List, [], Bool, true, Option, None, Some, Result, Ok, Err, Vec, option_map, take}
+use Rattle.std.specs.declared.alloc.Global.{Global}
+use Rattle.pb_wire.specs.Schema.{blank}
+use Rattle.pb_wire.specs.Exact.{IsSomeText}
+use Rattle.pb_wire.specs.Limits.{Bounds, full}
+use Rattle.pb_schema.specs.Types.{Types}
+use Rattle.pb_value.specs.WellFormed.{IsWellFormed}
+use Rattle.pb_descr.specs.Decls.{DeclaredFile}
+use Rattle.pb_command.specs.Answer.{Answer, stopped, broken, device_failed, IsPrinted}
+use Rattle.pb_command.specs.Answers.{FaultAt, TextAt, FramesAt, FrameFaultAt, FramesBegunAt, AnyFrames, canonical_form}
+use Rattle.pb_command.specs.CompileAnswer.{CompileAnswer, texts_of, told_of}
+use Rattle.pb_command.specs.FileMap.{FileMap, IsHonest}
+use Rattle.pb_command.specs.FramesAnswer.{AreFrames, FramesAnswer}
+use Rattle.pb_command.specs.Gathering.{Gathered, GathersAt, HasTroubleAt, IsAbsentAt, DeclaresAt, Origin, Outcome, Trouble, stopped_at}
+use Rattle.pb_command.specs.MessageAnswer.{MessageAnswer}
+use Rattle.pb_command.specs.RawAnswer.{RawAnswer}
+use Rattle.pb_command.specs.Refusal.{ByRefusal, Refuses}
+use Rattle.pb_command.specs.Report.{output_name}
+use Rattle.pb_command.specs.TypeAnswer.{HasType, TypeAnswer}
+use Rattle.pb_command.specs.declared.command.Command.{Command}
+use Rattle.pb_command.specs.declared.command.Command.TheVariants.{Raw, Check, Show, Canon, Frames, Compile}
+use Rattle.pb_command.specs.declared.command.Source.{Source}
+use Rattle.pb_command.specs.declared.form.Form.{Form}
+use Rattle.pb_command.specs.declared.form.Form.TheVariants as form
+use Rattle.pb_command.specs.declared.report.Refusal.{Refusal}
+
+-- WHAT IS KNOWN OF FILES
+
+-- this holds of what stands at a path, where the files are honest
+abbrev pub OfFiles : {F : Type 0} → (F → Option FileMap) → (F → Bool) → F → List ℕ → (Option (List ℕ) → Type 0) → Type 0
+OfFiles contents is_steady files path P = (map : FileMap) → IsHonest contents is_steady files map → P (map path)
+
+-- this holds of the bytes that are left of an input, where it doesn't fail and tells them
+abbrev pub OfInput : {I : Type 0} → (I → Option (List ℕ)) → (I → Bool) → I → (Option (List ℕ) → Type 0) → Type 0
+OfInput left is_steady input P = (bytes : List ℕ) → is_steady input ≡ true → left input ≡ Some bytes → P (Some bytes)
+
+-- what was read is what honest files have at the path, up to so many bytes
+abbrev pub IsReadOf : {F : Type 0} → (F → Option FileMap) → (F → Bool) → F → ℕ → List ℕ → Option (List ℕ) → Type 0
+IsReadOf contents is_steady files limit path read = OfFiles contents is_steady files path (λ content. read ≡ option_map (take limit) content)
+
+-- the same of one input
+abbrev pub IsReadFrom : {I : Type 0} → (I → Option (List ℕ)) → (I → Bool) → I → ℕ → Option (List ℕ) → Type 0
+IsReadFrom left is_steady input limit read = OfInput left is_steady input (λ content. read ≡ option_map (take limit) content)
+
+-- RECORDS WITHOUT A SCHEMA
+
+-- a text, or why its bytes are refused, of what IsRead says was read
+abbrev pub Judges :
+    Bounds → List ℕ → (Option (List ℕ) → Type 0) → Result (Vec ℕ Global) Refusal → Type 0
+Judges limits path IsRead (Ok v) = IsRead (Some v.items) × IsSomeText blank tt limits v.items
+Judges limits path IsRead (Err e) =
+    (short : Bool) → Refuses (λ a. (content : Option (List ℕ)) × IsRead content × RawAnswer limits short path content a) e
+
+-- THE STEPS OF A COMMAND
+
+module _ (Out Cut : List ℕ → Type 0) (Saved : Option (List ℕ × List ℕ) → Type 0) (Unsaved : List ℕ → Type 0) (IsRight : Answer → Type 0)
+    (IsBegun : List ℕ → Type 0) where
+  -- a device failed: that of an input, standard output, or that of a file that is written
+  abbrev pub FailsAt : List ℕ → Type 0
+  FailsAt path =
+      ((text : List ℕ) × IsRight (broken text path) × Out text × Saved None)
+      ⊎ (((text : List ℕ) × (path ≡ output_name) × IsPrinted IsRight IsBegun text × Cut text × Saved None)
+      ⊎ ((a : Answer) × (bytes : List ℕ) × IsRight a × (a.saved ≡ Some (path, bytes)) × Out [] × Unsaved path))
+
+  -- a right answer went out or is refused; or a device failed, or memory ran out, behind what is printed before
+  abbrev pub Comes : Result Unit Refusal → Type 0
+  Comes (Ok u) = (a : Answer) × IsRight a × (a.status ≡ 0) × (a.line ≡ []) × Out a.text × Saved a.saved
+  Comes (Err e) =
+      ByRefusal (λ line. (text : List ℕ) × IsRight (stopped text line) × Out text × Saved None) FailsAt
+      ((text : List ℕ) × IsBegun text × Out text × Saved None) e
+
+-- nothing is printed before an answer is known
+abbrev pub IsNothing : List ℕ → Type 0
+IsNothing text = text ≡ []
+
+-- no file is written
+abbrev pub NoFile : Option (List ℕ × List ℕ) → Type 0
+NoFile saved = saved ≡ None
+
+module _ {F : Type 0} (contents : F → Option FileMap) (is_steady : F → Bool) (files : F) where
+  -- WHERE A TYPE IS KNOWN: what comes of the file of its messages, that at a path
+
+  -- the file is not there
+  abbrev pub IsMissing : List ℕ → Answer → Type 0
+  IsMissing path a = OfFiles contents is_steady files path (λ content. content ≡ None) × (a ≡ device_failed path)
+
+  -- or something is made of its message
+  abbrev pub MessageAt : Form → Types → ℕ → List ℕ → Answer → Type 0
+  MessageAt form pool m path a =
+      IsMissing path a
+      ⊎ MessageAnswer (λ pool m f. OfFiles contents is_steady files path (λ content. FaultAt content pool m f))
+      (λ pool m v. IsWellFormed pool m v × OfFiles contents is_steady files path (λ content. TextAt content pool m v)) form pool m a
+
+  -- or its frames are shown
+  abbrev pub StreamAt : Types → ℕ → List ℕ → Answer → Type 0
+  StreamAt pool m path a =
+      IsMissing path a
+      ⊎ FramesAnswer (λ pool m text. AnyFrames pool m text × OfFiles contents is_steady files path (λ content. FramesAt content pool m text))
+      (λ pool m count text f. AreFrames pool m count text × OfFiles contents is_steady files path (λ content. FrameFaultAt content pool m count text f))
+      (λ pool m text. AnyFrames pool m text × OfFiles contents is_steady files path (λ content. ⊥)) path pool m a
+
+  -- what is printed of them before that is known
+  abbrev pub StreamBegunAt : Types → ℕ → List ℕ → List ℕ → Type 0
+  StreamBegunAt pool m path text =
+      (text ≡ []) ⊎ (AnyFrames pool m text × OfFiles contents is_steady files path (λ content. FramesBegunAt content pool m text))
+
+  -- COMMANDS
+
+  -- what a command comes to that makes something of the message of a file
+  abbrev pub MessageOf : Form → Source → Answer → Type 0
+  MessageOf form s =
+      TypeAnswer (IsReadOf contents is_steady files (full.bytes + 1) s.set.now) (OfFiles contents is_steady files s.file.now (λ content. content ≡ None))
+      (MessageAnswer (λ pool m f. OfFiles contents is_steady files s.file.now (λ content. FaultAt content pool m f))
+      (λ pool m v. IsWellFormed pool m v × OfFiles contents is_steady files s.file.now (λ content. TextAt content pool m v)) form)
+      s.type_name.now s.set.now s.file.now
+
+  -- what `frames` comes to
+  abbrev pub StreamOf : Source → Answer → Type 0
+  StreamOf s =
+      TypeAnswer (IsReadOf contents is_steady files (full.bytes + 1) s.set.now) (OfFiles contents is_steady files s.file.now (λ content. content ≡ None))
+      (FramesAnswer (λ pool m text. AnyFrames pool m text × OfFiles contents is_steady files s.file.now (λ content. FramesAt content pool m text))
+      (λ pool m count text f. AreFrames pool m count text × OfFiles contents is_steady files s.file.now (λ content. FrameFaultAt content pool m count text f))
+      (λ pool m text. AnyFrames pool m text × OfFiles contents is_steady files s.file.now (λ content. ⊥)) s.file.now)
+      s.type_name.now s.set.now s.file.now
+
+  -- what `frames` prints before that is known
+  abbrev pub StreamBegun : Source → List ℕ → Type 0
+  StreamBegun s text =
+      (text ≡ [])
+      ⊎ ((set : List ℕ) × (pool : Types) × (m : ℕ) × IsReadOf contents is_steady files (full.bytes + 1) s.set.now (Some set)
+      × HasType s.type_name.now set pool m × AnyFrames pool m text × OfFiles contents is_steady files s.file.now (λ content. FramesBegunAt content pool m text))
+
+  -- what stands at a path, and that reading there fails, which is never so of honest files
+  abbrev pub IsAt : List ℕ → Option (List ℕ) → Type 0
+  IsAt = IsReadOf contents is_steady files (full.bytes + 1)
+
+  abbrev pub Fails : List ℕ → Type 0
+  Fails path = OfFiles contents is_steady files path (λ content. ⊥)
+
+  -- of the files under a root: which are not there, what their sources declare, and why they are refused
+  abbrev pub AbsentOf : List ℕ → List ℕ → Type 0
+  AbsentOf root = IsAbsentAt IsAt root
+
+  abbrev pub DeclaredOf : List ℕ → List ℕ → DeclaredFile → Type 0
+  DeclaredOf root = DeclaresAt IsAt root
+
+  abbrev pub TroubleOf : List ℕ → Origin → List ℕ → Trouble → Type 0
+  TroubleOf root = HasTroubleAt IsAt Fails root
+
+  abbrev pub GathersOf : List ℕ → Origin → List (List ℕ) → Gathered → Outcome → Type 0
+  GathersOf root = GathersAt IsAt Fails root
+
+  -- reaching names stops at a file that is refused
+  abbrev pub StopsOf : List ℕ → Origin → List (List ℕ) → Gathered → Answer → Type 0
+  StopsOf root o names g a = (name : List ℕ) × (t : Trouble) × GathersOf root o names g (stopped_at name t) × (a ≡ told_of root name t)
+
+  -- what `compile` comes to
+  abbrev pub CompileOf : List ℕ → List ℕ → List (List ℕ) → Answer → Type 0
+  CompileOf = CompileAnswer IsAt Fails
+
+  -- a command's right answers, and what is printed before they are known
+  abbrev pub RightOf : Command → Answer → Type 0
+  RightOf (Raw short file) a =
+      (content : Option (List ℕ)) × IsReadOf contents is_steady files (full.bytes + 1) file.now content × RawAnswer full short file.now content a
+  RightOf (Check source) a = MessageOf form.Check source a
+  RightOf (Show source) a = MessageOf form.Listing source a
+  RightOf (Canon to source) a = MessageOf (canonical_form to) source a
+  RightOf (Frames source) a = StreamOf source a
+  RightOf (Compile root out names) a = CompileOf root.now out.now (texts_of names.now) a
+
+  abbrev pub BegunOf : Command → List ℕ → Type 0
+  BegunOf (Raw short file) text = IsNothing text
+  BegunOf (Check source) text = IsNothing text
+  BegunOf (Show source) text = IsNothing text
+  BegunOf (Canon to source) text = IsNothing text
+  BegunOf (Frames source) text = StreamBegun source text
+  BegunOf (Compile root out names) text = IsNothing text

@@ -1,0 +1,90 @@
+-- What reading the messages of one input leaves.
+use Rattle.std.specs.Prelude.{◌≡◌, ◌≢◌, ◌-◌, ℕ, List, [], Bool, true, false, Option, None, Some, Result, Ok, Err, IfSome, IsSomeAnd}
+use Rattle.std.specs.Borrow.{Bor}
+use Rattle.pb_schema.specs.Types.{Types}
+use Rattle.pb_wire.specs.declared.device.DeviceFault.{DeviceFault}
+use Rattle.pb_value.specs.Data.{Message}
+use Rattle.pb_value.specs.WellFormed.{IsWellFormed}
+use Rattle.pb_decode.specs.FromDevice.{IfRefused}
+use Rattle.pb_decode.specs.declared.error.DecodeError.{DecodeError}
+use Rattle.pb_decode.specs.declared.error.DecodeError.TheVariants as decode
+use Rattle.pb_stream.specs.Frame.{Frame, FrameFault}
+use Rattle.pb_stream.specs.Stream.{Stream}
+use Rattle.pb_stream.specs.Taking.{Counts, TakesNone}
+use Rattle.pb_command.specs.Answer.{Answer, stopped, broken, done}
+use Rattle.pb_command.specs.Answers.{FramesAt, FrameFaultAt, FramesBegunAt, AnyFrames}
+use Rattle.pb_command.specs.FramesAnswer.{AreFrames, FramesAnswer, frame_lines}
+use Rattle.pb_command.specs.Refusal.{ByRefusal}
+use Rattle.pb_listing.specs.Sending.{Puts}
+use Rattle.pb_command.specs.Steps.{OfInput}
+use Rattle.pb_listing.specs.declared.buffered.Buffered.{Buffered}
+use Rattle.pb_command.specs.declared.frames.Next.{Next}
+use Rattle.pb_command.specs.declared.frames.Next.TheVariants.{Put, End, Refused}
+use Rattle.pb_command.specs.declared.report.Refusal.{Refusal}
+use Rattle.pb_command.specs.declared.report.Refusal.TheVariants as refusal
+
+-- why the frame of an index is refused
+abbrev pub IsToldOfFrame : ℕ → Bor (List ℕ) → DecodeError → Refusal → Type 0
+IsToldOfFrame index path (decode.Fault byte steps cause) e = e ≡ refusal.Frame index byte steps cause
+IsToldOfFrame index path decode.Device e = e ≡ refusal.Device path
+IsToldOfFrame index path decode.Memory e = e ≡ refusal.Memory
+IsToldOfFrame index path decode.Finished e = e ≡ refusal.Memory
+
+-- ONE FRAME MORE
+
+-- a frame of m was read, and the reader goes on
+pub record ReadsFrame {I : Type 0} (left : I → Option (List ℕ)) (is_steady : I → Bool) (old new : Stream I) (m : Message) : Type 0 where
+  pub same : (new.pool ≡ old.pool) × (new.kind ≡ old.kind) × (new.limits ≡ old.limits)
+  pub goes_on : new.finished ≡ false
+  pub steady : is_steady old.input ≡ true → is_steady new.input ≡ true
+  pub well : IsWellFormed old.pool old.kind m
+  pub frame : IfSome (left old.input) (λ rest. IsSomeAnd (left new.input) (Frame old.pool old.kind old.limits rest m))
+  pub counted : Counts old.taken new.taken (left old.input) (left new.input)
+
+-- what follows is refused: it is no frame, or memory ran out, or the input failed, which a steady one does not
+pub record RefusesFrame {I : Type 0} (left : I → Option (List ℕ)) (is_steady : I → Bool) (old : Stream I) (error : DecodeError) : Type 0 where
+  pub why : IfRefused error (λ f. IfSome (left old.input) (λ rest. FrameFault old.pool old.kind old.limits rest f))
+  pub failed : is_steady old.input ≡ true → error ≢ decode.Device
+
+-- the lines of the frame that a reader read
+abbrev pub read_lines : {I : Type 0} → ℕ → Stream I → Stream I → Message → List ℕ
+read_lines index old new m = frame_lines old.pool old.kind index old.taken (new.taken - old.taken) m
+
+-- The lines of the next frame were put, or the output failed in them; or nothing is left, or what is left is refused.
+abbrev pub PutsNext :
+    {D I : Type 0} (written : D → Option (List ℕ)) (failures : D → ℕ) (left : I → Option (List ℕ)) (is_steady : I → Bool) (old new : Buffered D)
+    (before after : Stream I) (index : ℕ) (path : Bor (List ℕ)) → Result Next DeviceFault → Type 0
+PutsNext written failures left is_steady old new before after index path (Ok Put) =
+    (m : Message) × ReadsFrame left is_steady before after m × Puts {E = DeviceFault} written failures old new (Ok tt) (read_lines index before after m)
+PutsNext written failures left is_steady old new before after index path (Ok End) =
+    TakesNone (left before.input) (left after.input) × Puts {E = DeviceFault} written failures old new (Ok tt) []
+PutsNext written failures left is_steady old new before after index path (Ok (Refused e)) =
+    (error : DecodeError) × RefusesFrame left is_steady before error × IsToldOfFrame index path error e × Puts {E = DeviceFault} written failures old new (Ok tt) []
+PutsNext written failures left is_steady old new before after index path (Err e) =
+    (m : Message) × ReadsFrame left is_steady before after m × Puts written failures old new (Err e) (read_lines index before after m)
+
+-- ALL OF THEM
+
+module _ {I : Type 0} (left : I → Option (List ℕ)) (is_steady : I → Bool) (input : I) where
+  -- what comes of the frames of an input
+  abbrev pub FramesIn : List ℕ → Types → ℕ → Answer → Type 0
+  FramesIn path =
+      FramesAnswer (λ pool m text. AnyFrames pool m text × OfInput left is_steady input (λ content. FramesAt content pool m text))
+      (λ pool m count text f. AreFrames pool m count text × OfInput left is_steady input (λ content. FrameFaultAt content pool m count text f))
+      (λ pool m text. AnyFrames pool m text × OfInput left is_steady input (λ content. ⊥)) path
+
+  -- what is printed of them before that is known
+  abbrev pub FramesBegunIn : Types → ℕ → List ℕ → Type 0
+  FramesBegunIn pool m text = AnyFrames pool m text × OfInput left is_steady input (λ content. FramesBegunAt content pool m text)
+
+  -- the lines of frames were put, up to the end or to why what follows is refused; or the output failed
+  abbrev pub PutsFrames :
+      {D : Type 0} (written : D → Option (List ℕ)) (failures : D → ℕ) (old new : Buffered D) (path : List ℕ) (pool : Types) (m : ℕ)
+      → Result (Option Refusal) DeviceFault → Type 0
+  PutsFrames written failures old new path pool m (Ok None) =
+      (text : List ℕ) × FramesIn path pool m (done text) × Puts {E = DeviceFault} written failures old new (Ok tt) text
+  PutsFrames written failures old new path pool m (Ok (Some e)) =
+      (text : List ℕ) × Puts {E = DeviceFault} written failures old new (Ok tt) text
+      × ByRefusal (λ line. FramesIn path pool m (stopped text line)) (λ device. FramesIn path pool m (broken text device)) (FramesBegunIn pool m text) e
+  PutsFrames written failures old new path pool m (Err e) =
+      (text : List ℕ) × FramesBegunIn pool m text × Puts written failures old new (Err e) text

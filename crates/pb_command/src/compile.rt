@@ -1,0 +1,57 @@
+//! Sources compiled to a descriptor set.
+
+ghost use Rattle.std.specs.Prelude.{◌≡◌, ◌≤◌, ◌<◌, ◌^◌, [], length, map, IfOk, IfErr, OnOk};
+ghost use Rattle.pb_descr.specs.Sets.{set_bytes};
+ghost use Rattle.pb_descr.specs.View.{file_view};
+ghost use Rattle.pb_descr.specs.Writing.{set_body};
+ghost use Rattle.pb_value.specs.Data.{message_depth};
+ghost use Rattle.pb_command.specs.Answer.{refused};
+ghost use Rattle.pb_command.specs.CompileAnswer.{texts_of};
+ghost use Rattle.pb_command.specs.FileMap.{IsSaved, IsUnsaved};
+ghost use Rattle.pb_command.specs.Refusal.{Refuses};
+ghost use Rattle.pb_command.specs.Report.{too_large_line};
+ghost use Rattle.pb_command.specs.Steps.{Comes, CompileOf, IsNothing};
+
+use crate::files::Files;
+use crate::gathering::gather;
+use crate::report::Refusal;
+use pb_descr::{FileDecl, WriteSetError, write_set};
+use pb_link::resolve;
+use std::alloc::Global;
+
+/// Writes the descriptor set of sources and their imports to a file: whole, or nothing where they are refused.
+pub fn compile<'a, F: Files>(
+    alloc: Global,
+    root: &str,
+    out: &'a str,
+    names: &[&str],
+    files: &mut F,
+) -> Result<(), Refusal<'a>>
+    ensures comes { Comes (λ text. text ≡ []) (λ _. ⊥)
+        (IsSaved F.contents files.old files.new) (IsUnsaved F.contents F.failures files.old files.new)
+        (CompileOf F.contents F.is_steady files.old root.now out.entry.now (texts_of names.now)) IsNothing result }
+    ensures kept { OnOk result (F.failures files.new ≡ F.failures files.old) }
+{
+    let gathered = gather(alloc, root, names, files)?;
+    let resolved = resolve(alloc, &gathered)?;
+    let bytes = bytes_of(alloc, &resolved)?;
+    match files.write_whole(out, &bytes) {
+        Ok(()) => Ok(()),
+        Err(_) => Err(Refusal::Device(out)),
+    }
+}
+
+/// The canonical bytes of the set of files.
+fn bytes_of<'a>(alloc: Global, files: &[FileDecl]) -> Result<Vec<u8>, Refusal<'a>>
+    requires { message_depth (set_body (map file_view files.now)) ≤ 100 }
+    ensures made { IfOk result (λ v. (v.items ≡ set_bytes (map file_view files.now)) × (length v.items < 2 ^ 31)) }
+    ensures refused { IfErr result (Refuses (λ a. (2 ^ 31 ≤ length (set_bytes (map file_view files.now))) × (a ≡ refused too_large_line))) }
+{
+    match write_set(alloc, files) {
+        Ok(bytes) => Ok(bytes),
+        Err(WriteSetError::TooLarge) => Err(Refusal::TooLarge),
+        Err(WriteSetError::Memory) => Err(Refusal::Memory),
+        // Messages of sources nest at most 64 deep.
+        Err(WriteSetError::TooDeep) => unreachable!(),
+    }
+}

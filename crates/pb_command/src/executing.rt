@@ -1,0 +1,94 @@
+//! What each command does.
+
+ghost use Rattle.std.specs.Prelude.{◌≡◌, ◌≢◌, OnOk, MatchResult, []};
+ghost use Rattle.pb_command.specs.Answer.{Ends};
+ghost use Rattle.pb_command.specs.Answers.{Answers, AnyAnswers, AnyBegins, Begins, canonical_form};
+ghost use Rattle.pb_command.specs.FileMap.{FileMap, IsHonest, IsSaved, IsUnsaved};
+ghost use Rattle.pb_command.specs.Refusal.{refusal_line, refusal_status};
+ghost use Rattle.pb_listing.specs.Sending.{Cut, Sent, SentOrCut};
+ghost use Rattle.pb_command.specs.Steps.{BegunOf, Comes, RightOf};
+
+use crate::command::Command;
+use crate::compile::compile;
+use crate::files::Files;
+use crate::form::Form;
+use crate::frames::frames;
+use crate::message::message;
+use crate::raw::raw;
+use crate::report::Refusal;
+use pb_wire::{Limits, Output};
+use std::alloc::Global;
+
+/// Does a command: reads its files, writes what it comes to and answers the exit status.
+pub fn execute<F: Files, O: Output, E: Output>(
+    alloc: Global,
+    command: &Command<'_>,
+    files: &mut F,
+    out: &mut O,
+    err: &mut E,
+) -> u8
+    // Over honest files the answer is the one of their bytes.
+    ensures honest { (map : FileMap) → IsHonest F.contents F.is_steady files.old map
+        → Ends (Sent O.written O.failures out.old out.new) (Cut O.written O.failures out.old out.new)
+        (SentOrCut E.written E.failures err.old err.new) (IsSaved F.contents files.old files.new)
+        (IsUnsaved F.contents F.failures files.old files.new) result (Answers map command.now) (Begins map command.now) }
+
+    // Over any files it has the form of one.
+    ensures any { Ends (Sent O.written O.failures out.old out.new) (Cut O.written O.failures out.old out.new)
+        (SentOrCut E.written E.failures err.old err.new) (IsSaved F.contents files.old files.new)
+        (IsUnsaved F.contents F.failures files.old files.new) result (AnyAnswers command.now) (AnyBegins command.now) }
+    ensures status { result ≢ 2 }
+
+    // Where it is done, the files did not fail either.
+    ensures done { result ≡ 0 → F.failures files.new ≡ F.failures files.old }
+{
+    let outcome = perform(alloc, command, files, out);
+    conclude(outcome, err)
+}
+
+/// The work of a command, without the line that tells a refusal.
+fn perform<'a, F: Files, O: Output>(
+    alloc: Global,
+    command: &Command<'a>,
+    files: &mut F,
+    out: &mut O,
+) -> Result<(), Refusal<'a>>
+    ensures comes { Comes (Sent O.written O.failures out.old out.new) (Cut O.written O.failures out.old out.new)
+        (IsSaved F.contents files.old files.new) (IsUnsaved F.contents F.failures files.old files.new)
+        (RightOf F.contents F.is_steady files.old command.now) (BegunOf F.contents F.is_steady files.old command.now) result }
+    ensures kept { OnOk result (F.failures files.new ≡ F.failures files.old) }
+{
+    match command {
+        Command::Raw { short, file } => raw(alloc, Limits::FULL, *short, file, files, out),
+        Command::Check { source } => message(alloc, Form::Check, source, files, out),
+        Command::Show { source } => message(alloc, Form::Listing, source, files, out),
+        Command::Canon { out: to, source } => message(alloc, form_of(*to), source, files, out),
+        Command::Frames { source } => frames(alloc, source, files, out),
+        Command::Compile {
+            root,
+            out: to,
+            names,
+        } => compile(alloc, root, to, names, files),
+    }
+}
+
+/// Where canonical bytes go.
+fn form_of(to: Option<&str>) -> Form<'_>
+    ensures { result ≡ canonical_form to.entry }
+{
+    match to {
+        None => Form::Canonical,
+        Some(path) => Form::CanonicalFile(path),
+    }
+}
+
+/// Tells a refusal, and answers the exit status.
+fn conclude<E: Output>(outcome: Result<(), Refusal<'_>>, err: &mut E) -> u8
+    ensures { MatchResult outcome.entry (λ _. (result ≡ 0) × Sent E.written E.failures err.old err.new [])
+        (λ e. (result ≡ refusal_status e) × SentOrCut E.written E.failures err.old err.new (refusal_line e)) }
+{
+    match outcome {
+        Ok(()) => 0,
+        Err(refusal) => refusal.tell(err),
+    }
+}

@@ -1,0 +1,131 @@
+//! What is made of a message.
+
+ghost use Rattle.std.specs.Prelude.{◌≡◌, ◌++◌, ◌<◌, ◌≤◌, ◌^◌, [], codes, length, IfOk, IfErr, MatchResult, OnOk};
+ghost use Rattle.hex.specs.Hex.{encode_lower};
+ghost use Rattle.pb_encode.specs.Encoding.{bytes_of};
+ghost use Rattle.pb_command.specs.Answer.{done, saves, refused};
+ghost use Rattle.pb_command.specs.FileMap.{IsSaved, IsUnsaved};
+ghost use Rattle.pb_listing.specs.Listing.{listing};
+ghost use Rattle.pb_command.specs.MessageAnswer.{CanonAnswer, FormAnswer};
+ghost use Rattle.pb_listing.specs.RawListing.{line_feed};
+ghost use Rattle.pb_command.specs.Refusal.{Refuses};
+ghost use Rattle.pb_command.specs.Report.{too_large_line};
+ghost use Rattle.pb_listing.specs.Sending.{Cut, Sent};
+ghost use Rattle.pb_command.specs.Steps.{Comes, IsNothing, NoFile};
+
+use crate::files::Files;
+use crate::report::{OUTPUT, Refusal};
+use pb_encode::{EncodeError, encode};
+use pb_listing::{Buffered, write_message};
+use pb_value::DynamicMessage;
+use pb_wire::{DeviceFault, Output, write_all};
+
+/// What is made of a message.
+#[derive(Clone, Copy, Debug, PartialEq, Eq)]
+pub enum Form<'a> {
+    /// A line that says that it is one.
+    Check,
+    Listing,
+    /// Its canonical bytes, as a line of hexadecimal.
+    Canonical,
+    /// Its canonical bytes, in the file of a path.
+    CanonicalFile(&'a str),
+}
+
+/// Makes it of a message: on standard output, or in a file.
+pub fn make<'a, F: Files, O: Output>(
+    form: Form<'a>,
+    message: &DynamicMessage<'_>,
+    files: &mut F,
+    out: &mut O,
+) -> Result<(), Refusal<'a>>
+    ensures comes { Comes (Sent O.written O.failures out.old out.new) (Cut O.written O.failures out.old out.new)
+        (IsSaved F.contents files.old files.new) (IsUnsaved F.contents F.failures files.old files.new)
+        (FormAnswer form.entry message.now) IsNothing result }
+    ensures kept { OnOk result (F.failures files.new ≡ F.failures files.old) }
+{
+    match form {
+        Form::Check => print_ok(out),
+        Form::Listing => print_listing(message, out),
+        Form::Canonical => print_canonical(message, out),
+        Form::CanonicalFile(path) => save_canonical(message, path, files),
+    }
+}
+
+fn print_ok<'a, O: Output>(out: &mut O) -> Result<(), Refusal<'a>>
+    ensures { Comes (Sent O.written O.failures out.old out.new) (Cut O.written O.failures out.old out.new) NoFile (λ _. ⊥)
+        (λ a. a ≡ done (codes "ok\n")) IsNothing result }
+{
+    match write_all(out, b"ok\n") {
+        Ok(()) => Ok(()),
+        Err(_) => Err(Refusal::Device(OUTPUT)),
+    }
+}
+
+fn print_listing<'a, O: Output>(
+    message: &DynamicMessage<'_>,
+    out: &mut O,
+) -> Result<(), Refusal<'a>>
+    ensures { Comes (Sent O.written O.failures out.old out.new) (Cut O.written O.failures out.old out.new) NoFile (λ _. ⊥)
+        (λ a. a ≡ done (listing message.now)) IsNothing result }
+{
+    match write_message(out, message) {
+        Ok(()) => Ok(()),
+        Err(_) => Err(Refusal::Device(OUTPUT)),
+    }
+}
+
+fn print_canonical<'a, O: Output>(
+    message: &DynamicMessage<'_>,
+    out: &mut O,
+) -> Result<(), Refusal<'a>>
+    ensures { Comes (Sent O.written O.failures out.old out.new) (Cut O.written O.failures out.old out.new) NoFile (λ _. ⊥)
+        (CanonAnswer (bytes_of message.now) (done (encode_lower (bytes_of message.now) ++ line_feed))) IsNothing result }
+{
+    let bytes = canonical(message)?;
+    match write_hex_line(&bytes, out) {
+        Ok(()) => Ok(()),
+        Err(_) => Err(Refusal::Device(OUTPUT)),
+    }
+}
+
+/// The bytes in hexadecimal, as a line.
+fn write_hex_line<O: Output>(bytes: &[u8], out: &mut O) -> Result<(), DeviceFault>
+    ensures { MatchResult result (λ _. Sent O.written O.failures out.old out.new (encode_lower bytes.now ++ line_feed))
+        (λ _. Cut O.written O.failures out.old out.new (encode_lower bytes.now ++ line_feed)) }
+{
+    let mut buffered = Buffered::new(out);
+    buffered.put_hex(bytes)?;
+    buffered.put(b"\n")?;
+    buffered.flush()?;
+    Ok(())
+}
+
+fn save_canonical<'a, F: Files>(
+    message: &DynamicMessage<'_>,
+    path: &'a str,
+    files: &mut F,
+) -> Result<(), Refusal<'a>>
+    ensures comes { Comes (λ text. text ≡ []) (λ _. ⊥)
+        (IsSaved F.contents files.old files.new) (IsUnsaved F.contents F.failures files.old files.new)
+        (CanonAnswer (bytes_of message.now) (saves path.entry.now (bytes_of message.now))) IsNothing result }
+    ensures kept { OnOk result (F.failures files.new ≡ F.failures files.old) }
+{
+    let bytes = canonical(message)?;
+    match files.write_whole(path, &bytes) {
+        Ok(()) => Ok(()),
+        Err(_) => Err(Refusal::Device(path)),
+    }
+}
+
+/// The canonical bytes.
+fn canonical<'a>(message: &DynamicMessage<'_>) -> Result<Vec<u8>, Refusal<'a>>
+    ensures made { IfOk result (λ v. (v.items ≡ bytes_of message.now) × (length v.items < 2 ^ 31)) }
+    ensures refused { IfErr result (Refuses (λ a. (2 ^ 31 ≤ length (bytes_of message.now)) × (a ≡ refused too_large_line))) }
+{
+    match encode(message) {
+        Ok(bytes) => Ok(bytes),
+        Err(EncodeError::TooLarge) => Err(Refusal::TooLarge),
+        Err(_) => Err(Refusal::Memory),
+    }
+}

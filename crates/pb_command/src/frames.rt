@@ -1,0 +1,193 @@
+//! The messages of a file, each behind its length.
+
+ghost use Rattle.std.specs.Prelude.{◌≡◌, ◌++◌, ◌<◌, false, codes, decimal, length, OnOk};
+ghost use Rattle.pb_wire.specs.Limits.{full};
+ghost use Rattle.pb_command.specs.FileMap.{IsSaved, IsUnsaved};
+ghost use Rattle.pb_command.specs.FramesAnswer.{frame_lines};
+ghost use Rattle.pb_listing.specs.RawListing.{line};
+ghost use Rattle.pb_listing.specs.Sending.{Cut, Puts, Sent};
+ghost use Rattle.pb_command.specs.Steps.{Comes, NoFile, StreamAt, StreamBegun, StreamBegunAt, StreamOf};
+ghost use Rattle.pb_command.specs.Streaming.{FramesBegunIn, FramesIn, IsToldOfFrame, PutsFrames, PutsNext};
+
+use crate::by_type::find_type;
+use crate::command::Source;
+use crate::files::Files;
+use crate::reading::open_file;
+use crate::report::{OUTPUT, Refusal};
+use pb_decode::DecodeError;
+use pb_listing::Buffered;
+use pb_schema::{MessageId, Pool};
+use pb_stream::DelimitedReader;
+use pb_value::DynamicMessage;
+use pb_wire::{DeviceFault, Input, Limits, Output};
+use std::alloc::Global;
+
+/// What comes of the frame that follows.
+#[derive(Drop)]
+enum Next<'a> {
+    /// Its lines are put.
+    Put,
+    /// Nothing is left.
+    End,
+    /// It is refused.
+    Refused(Refusal<'a>),
+}
+
+/// Shows the messages of a file up to its end or to what is no message. What was printed before a refusal stands.
+pub fn frames<'a, F: Files, O: Output>(
+    alloc: Global,
+    source: &Source<'a>,
+    files: &mut F,
+    out: &mut O,
+) -> Result<(), Refusal<'a>>
+    ensures comes { Comes (Sent O.written O.failures out.old out.new) (Cut O.written O.failures out.old out.new)
+        (IsSaved F.contents files.old files.new) (IsUnsaved F.contents F.failures files.old files.new)
+        (StreamOf F.contents F.is_steady files.old source.now) (StreamBegun F.contents F.is_steady files.old source.now) result }
+    ensures kept { OnOk result (F.failures files.new ≡ F.failures files.old) }
+{
+    let (pool, kind) = find_type(alloc, source, files)?;
+    frames_at(alloc, &pool, kind, source.file, files, out)
+}
+
+/// Shows the messages of a type that the file at a path holds.
+fn frames_at<'a, F: Files, O: Output>(
+    alloc: Global,
+    pool: &Pool,
+    kind: MessageId,
+    path: &'a str,
+    files: &mut F,
+    out: &mut O,
+) -> Result<(), Refusal<'a>>
+    requires { kind.0 < length pool.now.messages }
+    ensures comes { Comes (Sent O.written O.failures out.old out.new) (Cut O.written O.failures out.old out.new)
+        (IsSaved F.contents files.old files.new) (IsUnsaved F.contents F.failures files.old files.new)
+        (StreamAt F.contents F.is_steady files.old pool.now kind.0 path.entry.now)
+        (StreamBegunAt F.contents F.is_steady files.old pool.now kind.0 path.entry.now) result }
+    ensures kept { OnOk result (F.failures files.new ≡ F.failures files.old) }
+{
+    let input = open_file(path, files)?;
+    let mut reader = DelimitedReader::new(alloc, pool, kind, input, Limits::FULL);
+    write_frames(&mut reader, path, out)
+}
+
+/// Writes the lines of the frames that are left, and then tells why what follows them is refused, if it is.
+fn write_frames<'a, I: Input + Drop, O: Output>(
+    reader: &mut DelimitedReader<'_, I>,
+    path: &'a str,
+    out: &mut O,
+) -> Result<(), Refusal<'a>>
+    requires first { reader.old.taken ≡ 0 }
+    requires open { reader.old.finished ≡ false }
+    requires full { reader.old.limits ≡ full }
+    ensures { Comes (Sent O.written O.failures out.old out.new) (Cut O.written O.failures out.old out.new) NoFile (λ _. ⊥)
+        (FramesIn I.left I.is_steady reader.old.input path.entry.now reader.old.pool reader.old.kind)
+        (FramesBegunIn I.left I.is_steady reader.old.input reader.old.pool reader.old.kind) result }
+{
+    let mut buffered = Buffered::new(out);
+    let Ok(stop) = put_frames(&mut buffered, reader, path) else {
+        return Err(Refusal::Device(OUTPUT));
+    };
+    let Ok(()) = buffered.flush() else {
+        return Err(Refusal::Device(OUTPUT));
+    };
+    match stop {
+        None => Ok(()),
+        Some(refusal) => Err(refusal),
+    }
+}
+
+/// The lines of the frames that are left, and why what follows them is refused, if it is.
+fn put_frames<'a, I: Input + Drop, O: Output>(
+    out: &mut Buffered<'_, O>,
+    reader: &mut DelimitedReader<'_, I>,
+    path: &'a str,
+) -> Result<Option<Refusal<'a>>, DeviceFault>
+    requires first { reader.old.taken ≡ 0 }
+    requires open { reader.old.finished ≡ false }
+    requires full { reader.old.limits ≡ full }
+    ensures { PutsFrames I.left I.is_steady reader.old.input O.written O.failures out.old out.new path.entry.now reader.old.pool reader.old.kind result }
+{
+    for index in 0..u64::MAX {
+        match put_next(out, index, reader, path)? {
+            Next::Put => {}
+            Next::End => return Ok(None),
+            Next::Refused(refusal) => return Ok(Some(refusal)),
+        }
+    }
+    Ok(None)
+}
+
+/// The lines of the next frame, which has this index.
+fn put_next<'a, I: Input + Drop, O: Output>(
+    out: &mut Buffered<'_, O>,
+    index: u64,
+    reader: &mut DelimitedReader<'_, I>,
+    path: &'a str,
+) -> Result<Next<'a>, DeviceFault>
+    requires { reader.old.finished ≡ false }
+    ensures { PutsNext O.written O.failures I.left I.is_steady out.old out.new reader.old reader.new index path.entry result }
+{
+    let offset = reader.taken();
+    match reader.next() {
+        Ok(None) => Ok(Next::End),
+        Ok(Some(message)) => {
+            let _body = message.body();
+            let size = reader.taken() - offset;
+            put_frame(out, index, offset, size, &message)?;
+            Ok(Next::Put)
+        }
+        Err(error) => Ok(Next::Refused(refusal_at(index, path, error))),
+    }
+}
+
+/// The line of a frame, and the listing of its message one level in.
+fn put_frame<O: Output>(
+    out: &mut Buffered<'_, O>,
+    index: u64,
+    offset: u64,
+    size: u64,
+    message: &DynamicMessage<'_>,
+) -> Result<(), DeviceFault>
+    ensures { Puts O.written O.failures out.old out.new result
+        (frame_lines message.now.pool message.now.kind index offset size message.now.body) }
+{
+    put_frame_line(out, index, offset, size)?;
+    out.put_listing_at(1, message)?;
+    Ok(())
+}
+
+fn put_frame_line<O: Output>(
+    out: &mut Buffered<'_, O>,
+    index: u64,
+    offset: u64,
+    size: u64,
+) -> Result<(), DeviceFault>
+    ensures { Puts O.written O.failures out.old out.new result
+        (line 0 (codes "frame " ++ decimal index ++ codes " at " ++ decimal offset ++ codes " size " ++ decimal size)) }
+{
+    out.make_room(128)?;
+    out.held.push(b"frame ");
+    out.held.push_decimal(index);
+    out.held.push(b" at ");
+    out.held.push_decimal(offset);
+    out.held.push(b" size ");
+    out.held.push_decimal(size);
+    out.held.push(b"\n");
+    Ok(())
+}
+
+/// Why the frame of an index is refused.
+fn refusal_at<'a>(index: u64, path: &'a str, error: DecodeError) -> Refusal<'a>
+    ensures { IsToldOfFrame index path.entry error result }
+{
+    match error {
+        DecodeError::Fault { byte, path, cause } => Refusal::Frame {
+            index,
+            byte,
+            path,
+            cause,
+        },
+        DecodeError::Device => Refusal::Device(path),
+        DecodeError::Memory | DecodeError::Finished => Refusal::Memory,
+    }
+}

@@ -1,0 +1,179 @@
+//! The sources of a set: each file in turn, behind its imports and once.
+
+ghost use Rattle.std.specs.Prelude.{◌≡◌, [], ◌∷◌, map, true, option_map, string_bytes, IfOk, IfErr, OnOk};
+ghost use Rattle.pb_descr.specs.View.{file_view};
+ghost use Rattle.pb_command.specs.CompileAnswer.{texts_of, told_of};
+ghost use Rattle.pb_command.specs.FileMap.{KeepsMap};
+ghost use Rattle.pb_command.specs.Gathering.{Gathered, Trouble, gathered, given, imported, nothing_yet, with_file};
+ghost use Rattle.pb_command.specs.Reaching.{FindsImport, Moves, OpensFound, RefusesImport, StopsInside, open_view, reached, stack_of};
+ghost use Rattle.pb_command.specs.Refusal.{Refuses};
+ghost use Rattle.pb_command.specs.Steps.{AbsentOf, DeclaredOf, GathersOf, StopsOf, TroubleOf};
+
+use crate::files::Files;
+use crate::name_set::NameSet;
+use crate::report::Refusal;
+use crate::sources::{leaves_root, read_given, read_source};
+use pb_descr::FileDecl;
+use std::alloc::{AllocError, Global};
+
+/// A file whose imports are being reached.
+#[derive(Drop)]
+struct Open {
+    file: FileDecl,
+    /// The index of the import that is reached next.
+    next: usize,
+}
+
+/// What was reached so far.
+#[derive(Drop)]
+struct Gathering {
+    names: NameSet,
+    /// The files behind whose imports nothing is left to reach.
+    files: Vec<FileDecl>,
+}
+
+/// The files of these names under a root and their imports, each behind its imports and once.
+pub fn gather<'a, F: Files>(
+    alloc: Global,
+    root: &str,
+    names: &[&str],
+    files: &mut F,
+) -> Result<Vec<FileDecl>, Refusal<'a>>
+    ensures gathered { IfOk result (λ v. (g : Gathered) × GathersOf F.contents F.is_steady files.old root.now given (texts_of names.now) nothing_yet (gathered g)
+        × (map file_view v.items ≡ g.files)) }
+    ensures refused { IfErr result (Refuses (StopsOf F.contents F.is_steady files.old root.now given (texts_of names.now) nothing_yet)) }
+    ensures kept { OnOk result (F.failures files.new ≡ F.failures files.old) }
+    ensures steady { F.is_steady files.old ≡ true → F.is_steady files.new ≡ true }
+    ensures files { KeepsMap (F.contents files.old) (F.contents files.new) }
+{
+    let mut gathering = Gathering {
+        names: NameSet::new(alloc),
+        files: Vec::new(alloc),
+    };
+    for name in names {
+        gathering.take_given(alloc, root, name, files)?;
+    }
+    Ok(gathering.files)
+}
+
+/// Opens the file that was found, if one was.
+fn open_found(found: Option<FileDecl>, stack: &mut Vec<Open>) -> Result<(), AllocError>
+    ensures { OnOk result (OpensFound stack.old.items found stack.new.items) }
+{
+    match found {
+        None => Ok(()),
+        Some(file) => {
+            stack.push(Open { file, next: 0 })?;
+            Ok(())
+        }
+    }
+}
+
+impl Gathering {
+    /// Takes a file that was given, behind its imports.
+    fn take_given<'a, F: Files>(
+        &mut self,
+        alloc: Global,
+        root: &str,
+        name: &str,
+        files: &mut F,
+    ) -> Result<(), Refusal<'a>>
+        ensures taken { OnOk result (GathersOf F.contents F.is_steady files.old root.now given (name.now ∷ []) (reached self.old) (gathered (reached self.new))) }
+        ensures refused { IfErr result (Refuses (StopsOf F.contents F.is_steady files.old root.now given (name.now ∷ []) (reached self.old))) }
+        ensures kept { OnOk result (F.failures files.new ≡ F.failures files.old) }
+        ensures steady { F.is_steady files.old ≡ true → F.is_steady files.new ≡ true }
+        ensures files { KeepsMap (F.contents files.old) (F.contents files.new) }
+    {
+        if self.names.contains(name.as_bytes()) {
+            return Ok(());
+        }
+        let file = read_given(alloc, root, name, files)?;
+        self.names.add(alloc, name.as_bytes())?;
+        self.close(alloc, root, file, files)?;
+        Ok(())
+    }
+
+    /// Reaches all that a file imports, and puts the file behind it.
+    fn close<'a, F: Files>(
+        &mut self,
+        alloc: Global,
+        root: &str,
+        file: FileDecl,
+        files: &mut F,
+    ) -> Result<(), Refusal<'a>>
+        ensures closed { OnOk result ((g : Gathered) × GathersOf F.contents F.is_steady files.old root.now imported (file_view file).imports (reached self.old) (gathered g)
+            × (reached self.new ≡ with_file (file_view file) g)) }
+        ensures refused { IfErr result (Refuses (StopsOf F.contents F.is_steady files.old root.now imported (file_view file).imports (reached self.old))) }
+        ensures kept { OnOk result (F.failures files.new ≡ F.failures files.old) }
+        ensures steady { F.is_steady files.old ≡ true → F.is_steady files.new ≡ true }
+        ensures files { KeepsMap (F.contents files.old) (F.contents files.new) }
+    {
+        let mut stack = Vec::new(alloc);
+        stack.push(Open { file, next: 0 })?;
+        for _ in 0..u64::MAX {
+            let Some(innermost) = stack.pop() else {
+                return Ok(());
+            };
+            self.go_on(alloc, root, innermost, &mut stack, files)?;
+        }
+        // No memory holds so many names.
+        Err(Refusal::Memory)
+    }
+
+    /// Reaches the next import of the innermost open file, or closes it behind the last.
+    fn go_on<'a, F: Files>(
+        &mut self,
+        alloc: Global,
+        root: &str,
+        innermost: Open,
+        stack: &mut Vec<Open>,
+        files: &mut F,
+    ) -> Result<(), Refusal<'a>>
+        ensures moved { OnOk result (Moves (AbsentOf F.contents F.is_steady files.old root.now) (DeclaredOf F.contents F.is_steady files.old root.now)
+            (reached self.old) (open_view innermost ∷ stack_of stack.old.items) (reached self.new) (stack_of stack.new.items)) }
+        ensures refused { IfErr result (Refuses (StopsInside (TroubleOf F.contents F.is_steady files.old root.now) root.now (reached self.old) (open_view innermost).left)) }
+        ensures kept { OnOk result (F.failures files.new ≡ F.failures files.old) }
+        ensures steady { F.is_steady files.old ≡ true → F.is_steady files.new ≡ true }
+        ensures files { KeepsMap (F.contents files.old) (F.contents files.new) }
+    {
+        let Open { file, next } = innermost;
+        let Some(name) = file.imports.get(next) else {
+            self.files.push(file)?;
+            return Ok(());
+        };
+        let found = self.find_import(alloc, root, name.as_str(), files)?;
+        stack.push(Open {
+            file,
+            next: next + 1,
+        })?;
+        open_found(found, stack)?;
+        Ok(())
+    }
+
+    /// Reads the file of an import that is reached for the first time. One that leaves the root or is not there is left out, so that
+    /// linking tells it.
+    fn find_import<'a, F: Files>(
+        &mut self,
+        alloc: Global,
+        root: &str,
+        name: &str,
+        files: &mut F,
+    ) -> Result<Option<FileDecl>, Refusal<'a>>
+        ensures found { IfOk result (λ o. FindsImport (AbsentOf F.contents F.is_steady files.old root.now) (DeclaredOf F.contents F.is_steady files.old root.now)
+            (reached self.old) name.now (reached self.new) (option_map file_view o)) }
+        ensures refused { IfErr result (Refuses (λ a. (t : Trouble) × RefusesImport (TroubleOf F.contents F.is_steady files.old root.now) (reached self.old) name.now t
+            × (a ≡ told_of root.now name.now t))) }
+        ensures kept { OnOk result (F.failures files.new ≡ F.failures files.old) }
+        ensures steady { F.is_steady files.old ≡ true → F.is_steady files.new ≡ true }
+        ensures files { KeepsMap (F.contents files.old) (F.contents files.new) }
+    {
+        if self.names.contains(name.as_bytes()) || leaves_root(name) {
+            return Ok(None);
+        }
+        let Some(file) = read_source(alloc, root, name, files)? else {
+            return Ok(None);
+        };
+        self.names.add(alloc, name.as_bytes())?;
+        Ok(Some(file))
+    }
+}

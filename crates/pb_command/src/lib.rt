@@ -1,0 +1,26 @@
+//! The commands, and what each does over files and two outputs.
+#![tactic(auto)]
+
+mod by_type;
+mod command;
+mod compile;
+mod executing;
+mod files;
+mod form;
+mod frames;
+mod gathering;
+mod host;
+mod memory;
+mod message;
+mod name_set;
+mod raw;
+mod reading;
+mod report;
+mod sources;
+
+pub use command::{Command, Source};
+pub use executing::execute;
+pub use files::Files;
+pub use host::HostFiles;
+pub use memory::MemFiles;
+pub use report::Refusal;

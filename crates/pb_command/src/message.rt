@@ -1,0 +1,52 @@
+//! The message of a file, by its type.
+
+ghost use Rattle.std.specs.Prelude.{◌≡◌, ◌<◌, length, OnOk};
+ghost use Rattle.pb_command.specs.FileMap.{IsSaved, IsUnsaved};
+ghost use Rattle.pb_listing.specs.Sending.{Cut, Sent};
+ghost use Rattle.pb_command.specs.Steps.{Comes, IsNothing, MessageAt, MessageOf};
+
+use crate::by_type::{find_type, read_message};
+use crate::command::Source;
+use crate::files::Files;
+use crate::form::{Form, make};
+use crate::report::Refusal;
+use pb_schema::{MessageId, Pool};
+use pb_wire::Output;
+use std::alloc::Global;
+
+/// Makes it of the message of a file: nothing is printed before the message is accepted.
+pub fn message<'a, F: Files, O: Output>(
+    alloc: Global,
+    form: Form<'a>,
+    source: &Source<'a>,
+    files: &mut F,
+    out: &mut O,
+) -> Result<(), Refusal<'a>>
+    ensures comes { Comes (Sent O.written O.failures out.old out.new) (Cut O.written O.failures out.old out.new)
+        (IsSaved F.contents files.old files.new) (IsUnsaved F.contents F.failures files.old files.new)
+        (MessageOf F.contents F.is_steady files.old form.entry source.now) IsNothing result }
+    ensures kept { OnOk result (F.failures files.new ≡ F.failures files.old) }
+{
+    let (pool, kind) = find_type(alloc, source, files)?;
+    message_at(alloc, form, &pool, kind, source.file, files, out)
+}
+
+/// Makes it of the message of a type that the file at a path holds.
+fn message_at<'a, F: Files, O: Output>(
+    alloc: Global,
+    form: Form<'a>,
+    pool: &Pool,
+    kind: MessageId,
+    path: &'a str,
+    files: &mut F,
+    out: &mut O,
+) -> Result<(), Refusal<'a>>
+    requires { kind.0 < length pool.now.messages }
+    ensures comes { Comes (Sent O.written O.failures out.old out.new) (Cut O.written O.failures out.old out.new)
+        (IsSaved F.contents files.old files.new) (IsUnsaved F.contents F.failures files.old files.new)
+        (MessageAt F.contents F.is_steady files.old form.entry pool.now kind.0 path.entry.now) IsNothing result }
+    ensures kept { OnOk result (F.failures files.new ≡ F.failures files.old) }
+{
+    let message = read_message(alloc, pool, kind, path, files)?;
+    make(form, &message, files, out)
+}

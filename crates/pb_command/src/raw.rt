@@ -1,0 +1,72 @@
+//! The records of a file, without a schema.
+
+ghost use Rattle.std.specs.Prelude.{◌≡◌, ◌+◌, ◌^◌, ◌<◌, ◌≤◌, ℕ, List, Option, OnOk};
+ghost use Rattle.pb_wire.specs.Record.{Record};
+ghost use Rattle.pb_wire.specs.Schema.{blank};
+ghost use Rattle.pb_wire.specs.Grammar.{IsText};
+ghost use Rattle.pb_wire.specs.Limits.{full};
+ghost use Rattle.pb_command.specs.Answer.{done};
+ghost use Rattle.pb_command.specs.FileMap.{IsSaved, IsUnsaved, KeepsMap};
+ghost use Rattle.pb_command.specs.RawAnswer.{RawAnswer, shown_as};
+ghost use Rattle.pb_listing.specs.Sending.{Cut, Sent};
+ghost use Rattle.pb_command.specs.Steps.{Comes, IsNothing, IsReadOf, Judges, NoFile};
+
+use crate::files::Files;
+use crate::reading::read_file;
+use crate::report::{OUTPUT, Refusal};
+use pb_listing::{write_listing, write_shortest};
+use pb_wire::{Limits, Output, judge_raw};
+use std::alloc::Global;
+
+/// Shows the records of the file at a path: all of the file is judged before anything is written.
+pub fn raw<'a, F: Files, O: Output>(
+    alloc: Global,
+    limits: Limits,
+    short: bool,
+    path: &'a str,
+    files: &mut F,
+    out: &mut O,
+) -> Result<(), Refusal<'a>>
+    requires bytes { limits.bytes < 2 ^ 31 }
+    requires depth { limits.depth ≤ 100 }
+    ensures comes { Comes (Sent O.written O.failures out.old out.new) (Cut O.written O.failures out.old out.new)
+        (IsSaved F.contents files.old files.new) (IsUnsaved F.contents F.failures files.old files.new)
+        (λ a. (content : Option (List ℕ)) × IsReadOf F.contents F.is_steady files.old (limits.bytes + 1) path.entry.now content
+        × RawAnswer limits short path.entry.now content a) IsNothing result }
+    ensures kept { OnOk result (F.failures files.new ≡ F.failures files.old) }
+    ensures files { KeepsMap (F.contents files.old) (F.contents files.new) }
+{
+    let text = read_judged(alloc, limits, path, files)?;
+    show(short, text.as_slice(), out)?;
+    Ok(())
+}
+
+/// The bytes of a file, which are judged: at most one byte is read behind those that the limits allow.
+fn read_judged<'a, F: Files>(
+    alloc: Global,
+    limits: Limits,
+    path: &'a str,
+    files: &mut F,
+) -> Result<Vec<u8>, Refusal<'a>>
+    ensures judged { Judges limits path.entry.now (IsReadOf F.contents F.is_steady files.old (limits.bytes + 1) path.entry.now) result }
+    ensures kept { OnOk result (F.failures files.new ≡ F.failures files.old) }
+    ensures files { KeepsMap (F.contents files.old) (F.contents files.new) }
+{
+    let text = read_file(alloc, limits, path, files)?;
+    judge_raw(alloc, text.as_slice(), limits)?;
+    Ok(text)
+}
+
+/// Writes the listing of the records that the bytes spell, or their shortest spelling.
+fn show<'a, O: Output>(short: bool, text: &[u8], out: &mut O) -> Result<(), Refusal<'a>>
+    ensures { (rs : List Record) → IsText blank tt full text.now rs
+        → Comes (Sent O.written O.failures out.old out.new) (Cut O.written O.failures out.old out.new) NoFile (λ _. ⊥)
+        (λ a. a ≡ done (shown_as short rs)) IsNothing result }
+{
+    let shown = if short {
+        write_shortest(out, text)
+    } else {
+        write_listing(out, text)
+    };
+    shown.map_err(|_| Refusal::Device(OUTPUT))
+}

@@ -1,0 +1,159 @@
+//! Sources, read from files under a root.
+
+ghost use Rattle.std.specs.Prelude.{◌≡◌, ◌+◌, true, ℕ, option_map, string_bytes, IfOk, IfErr, IsErrOf, MatchOption, OnOk};
+ghost use Rattle.pb_descr.specs.View.{file_view};
+ghost use Rattle.pb_source.specs.Source.{HasFault, IsSource};
+ghost use Rattle.pb_source.specs.declared.fault.Cause.{Cause as SourceCause};
+ghost use Rattle.pb_wire.specs.Limits.{full};
+ghost use Rattle.pb_command.specs.Answer.{refused};
+ghost use Rattle.pb_command.specs.CompileAnswer.{told_of};
+ghost use Rattle.pb_command.specs.FileMap.{KeepsMap};
+ghost use Rattle.pb_command.specs.Gathering.{Trouble, climbs, given, imported, leaves_root, path_under, unread};
+ghost use Rattle.pb_command.specs.Refusal.{Refuses};
+ghost use Rattle.pb_command.specs.Report.{source_line};
+ghost use Rattle.pb_command.specs.Steps.{AbsentOf, DeclaredOf, Fails, IsReadOf, TroubleOf};
+
+use crate::files::Files;
+use crate::report::Refusal;
+use pb_descr::FileDecl;
+use pb_source::{Cause, SourceFault, parse};
+use pb_wire::{DeviceFault, Limits, ReadFault, read_up_to};
+use std::alloc::{AllocError, Global};
+
+/// The path of a file under a root.
+fn path_under(alloc: Global, root: &str, name: &str) -> Result<String, AllocError>
+    ensures { IfOk result (λ s. string_bytes s ≡ path_under root.now name.now) }
+{
+    let mut path = String::from_str(alloc, root)?;
+    path.push_str("/")?;
+    path.push_str(name)?;
+    Ok(path)
+}
+
+/// Whether an import of this name is no file under the root.
+pub fn leaves_root(name: &str) -> bool
+    ensures { result ≡ leaves_root name.now }
+{
+    match name.as_bytes().first() {
+        None => true,
+        Some(first) => *first == b'/' || climbs(name),
+    }
+}
+
+/// Whether a part of the name between its slashes is `..`.
+fn climbs(name: &str) -> bool
+    ensures { result ≡ climbs name.now }
+{
+    name.split('/').any(|part| part == "..")
+}
+
+/// The bytes of the file at a path, but at most one behind those that a source may have; none where no file is there.
+fn read_bytes<F: Files>(
+    alloc: Global,
+    path: &str,
+    files: &mut F,
+) -> Result<Option<Vec<u8>>, ReadFault>
+    ensures read { IfOk result (λ o. IsReadOf F.contents F.is_steady files.old (full.bytes + 1) path.now (option_map (λ v. v.items) o)) }
+    ensures failed { IsErrOf result ReadFault.Device → Fails F.contents F.is_steady files.old path.now }
+    ensures kept { OnOk result (F.failures files.new ≡ F.failures files.old) }
+    ensures steady { F.is_steady files.old ≡ true → F.is_steady files.new ≡ true }
+    ensures files { KeepsMap (F.contents files.old) (F.contents files.new) }
+{
+    let most = Limits::FULL.max_bytes() as usize + 1;
+    match files.open(path) {
+        Ok(Some(mut input)) => match read_up_to(alloc, &mut input, most) {
+            Ok(bytes) => Ok(Some(bytes)),
+            Err(fault) => Err(fault),
+        },
+        Ok(None) => Ok(None),
+        Err(DeviceFault) => Err(ReadFault::Device),
+    }
+}
+
+/// Why a source of this name is refused.
+fn refusal_of<'a>(alloc: Global, name: &str, fault: SourceFault) -> Refusal<'a>
+    ensures memory { fault.cause ≡ Cause.Memory → result ≡ Refusal.Memory }
+    ensures told { Refuses (λ a. a ≡ refused (source_line name.now fault.byte fault.cause)) result }
+{
+    if fault.cause == Cause::Memory {
+        return Refusal::Memory;
+    }
+    match String::from_str(alloc, name) {
+        Ok(file) => Refusal::Source {
+            file,
+            byte: fault.byte,
+            cause: fault.cause,
+        },
+        Err(_) => Refusal::Memory,
+    }
+}
+
+/// What the bytes of a source of this name declare.
+fn parse_source<'a>(alloc: Global, name: &str, bytes: &[u8]) -> Result<FileDecl, Refusal<'a>>
+    ensures source { IfOk result (λ f. IsSource name.now bytes.now (file_view f)) }
+    ensures refused { IfErr result (Refuses (λ a. (place : ℕ) × (c : SourceCause) × HasFault bytes.now place c
+        × (a ≡ refused (source_line name.now place c)))) }
+{
+    match parse(alloc, name, bytes) {
+        Ok(file) => Ok(file),
+        Err(fault) => Err(refusal_of(alloc, name, fault)),
+    }
+}
+
+/// What the file of this name under a root declares; none where it is not there.
+pub fn read_source<'a, F: Files>(
+    alloc: Global,
+    root: &str,
+    name: &str,
+    files: &mut F,
+) -> Result<Option<FileDecl>, Refusal<'a>>
+    ensures read { IfOk result (λ o. MatchOption o (AbsentOf F.contents F.is_steady files.old root.now name.now)
+        (λ f. DeclaredOf F.contents F.is_steady files.old root.now name.now (file_view f))) }
+    ensures refused { IfErr result (Refuses (λ a. (t : Trouble) × TroubleOf F.contents F.is_steady files.old root.now imported name.now t
+        × (a ≡ told_of root.now name.now t))) }
+    ensures kept { OnOk result (F.failures files.new ≡ F.failures files.old) }
+    ensures steady { F.is_steady files.old ≡ true → F.is_steady files.new ≡ true }
+    ensures files { KeepsMap (F.contents files.old) (F.contents files.new) }
+{
+    let path = path_under(alloc, root, name)?;
+    match read_bytes(alloc, path.as_str(), files) {
+        Ok(Some(bytes)) => match parse_source(alloc, name, &bytes) {
+            Ok(file) => Ok(Some(file)),
+            Err(refusal) => Err(refusal),
+        },
+        Ok(None) => Ok(None),
+        Err(ReadFault::Device) => Err(Refusal::File(path)),
+        Err(ReadFault::Memory) => Err(Refusal::Memory),
+    }
+}
+
+/// The same of a file that was given: one that is not there is refused.
+pub fn read_given<'a, F: Files>(
+    alloc: Global,
+    root: &str,
+    name: &str,
+    files: &mut F,
+) -> Result<FileDecl, Refusal<'a>>
+    ensures read { IfOk result (λ f. DeclaredOf F.contents F.is_steady files.old root.now name.now (file_view f)) }
+    ensures refused { IfErr result (Refuses (λ a. (t : Trouble) × TroubleOf F.contents F.is_steady files.old root.now given name.now t
+        × (a ≡ told_of root.now name.now t))) }
+    ensures kept { OnOk result (F.failures files.new ≡ F.failures files.old) }
+    ensures steady { F.is_steady files.old ≡ true → F.is_steady files.new ≡ true }
+    ensures files { KeepsMap (F.contents files.old) (F.contents files.new) }
+{
+    match read_source(alloc, root, name, files) {
+        Ok(Some(file)) => Ok(file),
+        Ok(None) => Err(missing(alloc, root, name)),
+        Err(refusal) => Err(refusal),
+    }
+}
+
+/// The refusal of a file that is not there.
+fn missing<'a>(alloc: Global, root: &str, name: &str) -> Refusal<'a>
+    ensures { Refuses (λ a. a ≡ told_of root.now name.now unread) result }
+{
+    match path_under(alloc, root, name) {
+        Ok(path) => Refusal::File(path),
+        Err(_) => Refusal::Memory,
+    }
+}

@@ -1,0 +1,5 @@
+pub mod Sending
+pub mod RawListing
+pub mod Listing
+pub mod Label
+pub mod Borrowed

@@ -1,6 +1,0 @@
-use Rattle.pbtool.proofs.Streams.{IsStreaming}
-use Rattle.pbtool.proofs.buffered.Buffered.put_frames.Given as goal
-
-abbrev pub invariant-loop-index : goal.invariant-loop-index
-invariant-loop-index g l =
-    IsStreaming g.O.Output.written g.O.Output.failures g.I.Input.left g.I.Input.is_steady l.initial.self l.self l.initial.reader l.reader l.index

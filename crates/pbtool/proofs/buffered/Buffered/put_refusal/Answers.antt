@@ -1,4 +1,0 @@
-use Rattle.pbtool.proofs.buffered.Buffered.put_refusal.Goals as goal
-
-pub returns-in-TooLarge : goal.returns-in-TooLarge
-returns-in-TooLarge g c = rw c.in-TooLarge.is c.put.ensures

@@ -1,0 +1,5 @@
+//! Tests of the command by its words.
+#![tactic(auto)]
+
+#[cfg(test)]
+mod tests;

@@ -1,0 +1,237 @@
+//! `compile` over sources in memory. What is written and told is worked out by the rules of sources, of linking and of
+//! sets.
+
+use super::{Failures, NONE, Run, after, files_of, run_words};
+use pb_cli::MemFiles;
+use std::alloc::Global;
+use std::test::Fail;
+
+/// What a run comes to: the bytes of the set in hexadecimal, or the status and the line that is told.
+#[derive(Clone, Copy)]
+enum Told {
+    Written(&'static str),
+    Refused(u8, &'static str),
+}
+
+/// Sources by their paths, the names that are given, and what the run comes to.
+#[derive(Clone, Copy)]
+struct Row(
+    &'static [(&'static str, &'static str)],
+    &'static [&'static str],
+    Told,
+);
+
+/// The set of a.proto, which imports b.proto.
+const PAIR: &str =
+    "0a110a07622e70726f746f620670726f746f330a1a0a07612e70726f746f1a07622e70726f746f620670726f746f33";
+
+const ROWS: &[Row] = &[
+    Row(
+        &[(
+            "ROOT/m.proto",
+            "syntax = \"proto3\"; message M { int32 a = 1; }",
+        )],
+        &["m.proto"],
+        Told::Written("0a210a076d2e70726f746f220e0a014d12090a0161180120012805620670726f746f33"),
+    ),
+    Row(
+        &[(
+            "ROOT/m.proto",
+            "syntax = \"proto3\"; message M { int32 a = 19000; }",
+        )],
+        &["m.proto"],
+        Told::Refused(1, "link m.proto at M.a cause BadNumber\n"),
+    ),
+    Row(
+        &[(
+            "ROOT/m.proto",
+            "syntax = \"proto3\"; message M { optional int32 a = 1; }",
+        )],
+        &["m.proto"],
+        Told::Written(
+            "0a2c0a076d2e70726f746f22190a014d120e0a0161180120012805480088010142040a025f61620670726f746f33",
+        ),
+    ),
+    Row(
+        &[(
+            "ROOT/m.proto",
+            "syntax = \"proto3\"; message M { int32 a = 1; } option java_package = \"x\";",
+        )],
+        &["m.proto"],
+        Told::Written("0a210a076d2e70726f746f220e0a014d12090a0161180120012805620670726f746f33"),
+    ),
+    Row(
+        &[
+            ("ROOT/a.proto", "syntax = \"proto3\"; import \"b.proto\";"),
+            ("ROOT/b.proto", "syntax = \"proto3\"; "),
+        ],
+        &["a.proto"],
+        Told::Written(PAIR),
+    ),
+    // Each file stands once, behind its imports, however often it is named.
+    Row(
+        &[
+            ("ROOT/a.proto", "syntax = \"proto3\"; import \"b.proto\";"),
+            ("ROOT/b.proto", "syntax = \"proto3\"; "),
+        ],
+        &["a.proto", "b.proto", "a.proto"],
+        Told::Written(PAIR),
+    ),
+    Row(
+        &[
+            ("ROOT/a.proto", "syntax = \"proto3\"; import \"b.proto\";"),
+            ("ROOT/b.proto", "syntax = \"proto3\"; import \"a.proto\";"),
+        ],
+        &["a.proto"],
+        Told::Refused(1, "link b.proto at - cause ImportCycle\n"),
+    ),
+    Row(
+        &[
+            (
+                "ROOT/a.proto",
+                "syntax = \"proto3\"; import \"../x.proto\";",
+            ),
+            ("ROOT/../x.proto", "syntax = \"proto3\"; "),
+        ],
+        &["a.proto"],
+        Told::Refused(1, "link a.proto at - cause MissingImport\n"),
+    ),
+    Row(
+        &[
+            ("ROOT/a.proto", "syntax = \"proto3\"; import \"/x.proto\";"),
+            ("ROOT//x.proto", "syntax = \"proto3\"; "),
+        ],
+        &["a.proto"],
+        Told::Refused(1, "link a.proto at - cause MissingImport\n"),
+    ),
+    Row(
+        &[("ROOT/a.proto", "syntax = \"proto3\"; import \"b.proto\";")],
+        &["a.proto"],
+        Told::Refused(1, "link a.proto at - cause MissingImport\n"),
+    ),
+    Row(&[], &["a.proto"], Told::Refused(3, "device ROOT/a.proto\n")),
+    Row(
+        &[(
+            "ROOT/m.proto",
+            "syntax = \"proto3\"; message M { required int32 a = 1; }",
+        )],
+        &["m.proto"],
+        Told::Refused(1, "source m.proto byte 31 cause Unexpected\n"),
+    ),
+    // A file is read before its imports, and they before the next one.
+    Row(
+        &[
+            ("ROOT/a.proto", "syntax = \"proto3\"; import \"b.proto\";"),
+            ("ROOT/b.proto", ""),
+        ],
+        &["a.proto", "c.proto"],
+        Told::Refused(1, "source b.proto byte 0 cause NotProto3\n"),
+    ),
+    Row(
+        &[
+            ("ROOT/a.proto", "syntax = \"proto3\"; import \"b.proto\"; ?"),
+            ("ROOT/b.proto", ""),
+        ],
+        &["a.proto"],
+        Told::Refused(1, "source a.proto byte 37 cause Unexpected\n"),
+    ),
+];
+
+/// Runs `compile` over sources.
+fn compiled(alloc: Global, names: &[&str], files: &mut MemFiles<'_>) -> Result<Run, Fail> {
+    let mut words = vec![in alloc; "compile", "ROOT", "OUT"]?;
+    for name in names {
+        words.push(*name)?;
+    }
+    run_words(alloc, &words, files, NONE)
+}
+
+/// The files of a row.
+fn sources_of<'a>(
+    alloc: Global,
+    sources: &'a [(&'a str, &'a str)],
+    failures: Failures,
+) -> Result<MemFiles<'a>, Fail> {
+    let mut entries = Vec::new(alloc);
+    for (path, source) in sources {
+        entries.push((*path, source.as_bytes()))?;
+    }
+    files_of(alloc, &entries, failures)
+}
+
+fn is_told(alloc: Global, row: &Row) -> Result<bool, Fail> {
+    let Row(sources, names, told) = row;
+    let mut files = sources_of(alloc, sources, NONE)?;
+    let run = compiled(alloc, names, &mut files)?;
+    let written = files.bytes_at("OUT");
+    Ok(match told {
+        Told::Written(digits) => {
+            let set = hex::decode(alloc, *digits)?;
+            run.is(0, b"", b"") && written == Some(set.as_slice())
+        }
+        Told::Refused(status, line) => {
+            run.is(*status, b"", line.as_bytes()) && written.is_none()
+        }
+    })
+}
+
+#[test]
+fn rows(rt: HostRuntime) -> Result<(), Fail> {
+    for (index, row) in ROWS.iter().enumerate() {
+        assert!(rt; is_told(rt.alloc(), row)?, "row {index}");
+    }
+    Ok(())
+}
+
+const CHAIN: &[(&str, &str)] = &[
+    ("ROOT/a.proto", "syntax = \"proto3\"; import \"b.proto\";"),
+    ("ROOT/b.proto", "syntax = \"proto3\"; "),
+];
+
+/// After how many calls the files fail, and the device that is told.
+const UNOPENED: &[(u64, &str)] = &[
+    (0, "device ROOT/a.proto\n"),
+    (1, "device ROOT/b.proto\n"),
+    (2, "device OUT\n"),
+];
+
+fn is_unopened(alloc: Global, calls: u64, line: &str) -> Result<bool, Fail> {
+    let open = Failures {
+        open: after(calls),
+        ..NONE
+    };
+    let mut files = sources_of(alloc, CHAIN, open)?;
+    let run = compiled(alloc, &["a.proto"], &mut files)?;
+    Ok(run.is(3, b"", line.as_bytes()) && files.bytes_at("OUT").is_none())
+}
+
+// A source that can't be opened, an import among them, and a set that can't be written.
+#[test]
+fn files_fail(rt: HostRuntime) -> Result<(), Fail> {
+    for (calls, line) in UNOPENED {
+        assert!(rt; is_unopened(rt.alloc(), *calls, line)?, "{line}");
+    }
+    Ok(())
+}
+
+const T: &str =
+    "syntax = \"proto3\"; message T { int32 a=1; string b=2; T c=3; double d=4; repeated int32 e=6; oneof o { uint32 x=7; T y=8; } map<string,int32> m=9; optional bool p=10; sint32 s=11; map<uint32,T> n=12; }";
+
+const MESSAGE: &str =
+    "08960112017a1a0208012100000000000000803202030438054a050a016b10075000580162020803a3010801a401";
+
+const LISTING: &[u8] =
+    b"a: 150\nb: \"z\"\nc {\n  a: 1\n}\nd: 0x8000000000000000\ne: 3\ne: 4\nx: 5\nm[\"k\"]: 7\np: false\ns: -1\nn[3] {\n}\n? 20 group {\n  1 varint 1\n}\n";
+
+// A message is shown by the set that was compiled.
+#[test]
+fn compiled_set(rt: HostRuntime) -> Result<(), Fail> {
+    let alloc = rt.alloc();
+    let message = hex::decode(alloc, MESSAGE)?;
+    let entries = [("ROOT/t.proto", T.as_bytes()), ("f", message.as_slice())];
+    let mut files = files_of(alloc, &entries, NONE)?;
+    let written = compiled(alloc, &["t.proto"], &mut files)?;
+    let shown = run_words(alloc, &["show", "OUT", "T", "f"], &mut files, NONE)?;
+    assert!(rt; written.is(0, b"", b"") && shown.is(0, LISTING, b""));
+    Ok(())
+}
