@@ -1,22 +1,26 @@
 -- What is begun behind the last whole record: more bytes, tokens that go on, and elements of a list.
 use Rattle.std.proofs.Common.{◌≡◌, ℕ, List, [], ◌∷◌, ◌++◌, map, refl, sym, ap, ◌∙◌, subst, Option, Some, IsTrue}
+use Rattle.std.specs.Prelude.{true, false, option_to_list}
+use Rattle.std.proofs.lemmas.Bool.{false≢true}
 use Rattle.std.proofs.lemmas.List.{map-append}
-use Rattle.pb_wire.specs.Record.{len, Record}
+use Rattle.pb_wire.specs.Record.{Payload, len, Record}
 use Rattle.pb_wire.specs.declared.fault.PathStep.{PathStep}
 use Rattle.pb_wire.specs.Fault.{Fault, step as step_into, inside as in_record, Place, HasTag, HasLength}
-use Rattle.pb_wire.specs.Schema.{Element, Open, records}
+use Rattle.pb_wire.specs.Schema.{Element, a_varint as a_varint_element, Open, records}
 use Rattle.pb_wire.specs.Sound.{IsElement, AreElements}
 use Rattle.pb_wire.specs.Grammar.{Bad, RecordFault, Begins}
 use Rattle.pb_wire.specs.Exact.{longer}
 use Rattle.pb_wire.specs.Ranges.{AreBytes}
 use Rattle.pb_wire.proofs.Longer.{moves_longer, tag_longer, length_longer}
 use Rattle.pb_schema.specs.declared.types.Kind.{Kind}
+use Rattle.pb_schema.specs.declared.types.Kind.TheVariants as kind
 use Rattle.pb_schema.specs.Types.{Types}
 use Rattle.pb_schema.specs.Scalar.{Scalar}
-use Rattle.pb_schema.specs.Kinds.{is_packable, read}
-use Rattle.pb_schema.specs.Packed.{elements}
+use Rattle.pb_schema.specs.Kinds.{is_packable, closed_enum, read}
+use Rattle.pb_schema.specs.Packed.{elements, numbers_of}
+use Rattle.pb_schema.specs.Closed.{is_undeclared}
 use Rattle.pb_schema.specs.Context.{Context, a_message as in_message, element_of, schema_of}
-use Rattle.pb_value.specs.Data.{Datum, Message, body, scalar, fields_of}
+use Rattle.pb_value.specs.Data.{Datum, Message, body, scalar, fields_of, unknown_of}
 use Rattle.pb_value.specs.Change.{push_at, push_each, with_fields}
 use Rattle.pb_value.proofs.ShapeSteps.{push_each-append}
 use Rattle.pb_decode.specs.declared.step.Step.{Step}
@@ -28,10 +32,11 @@ use Rattle.pb_decode.specs.Numbers.{NumberFault, a_varint, eight_bytes, four_byt
 use Rattle.pb_decode.specs.Opened.{below}
 use Rattle.pb_decode.specs.Purposes.{Means, part_context}
 use Rattle.pb_decode.specs.PayloadValue.{IsBytesPurpose}
-use Rattle.pb_decode.specs.After.{Tag, tag, awaited, IsRoomFor, end_of_part, part_scope, Elements, with_elements, Underway, nothing, a_tag, a_length, some_elements, After}
+use Rattle.pb_decode.specs.After.{Tag, tag, awaited, IsRoomFor, end_of_part, part_scope, Elements, with_numbers, with_elements, Underway, nothing, a_tag, a_length, some_elements, After}
 use Rattle.pb_decode.proofs.OpenedLemmas.{begins_at_tag}
 use Rattle.pb_decode.proofs.FrameLemmas.{told, ends_longer, ends_along, stands_longer}
-use Rattle.pb_decode.proofs.PackedNumbers.{elements_next, elements_none, number_of}
+use Rattle.pb_decode.proofs.PackedNumbers.{elements_next, elements_none, number_of, numbers_next}
+use Rattle.pb_decode.proofs.ClosedLists.{declared_number, undeclared_number, with_numbers-append}
 
 -- MORE BYTES: what is begun stays begun, whatever follows
 elements_longer : {e : Element} {p u : Place} {front : List ℕ} (more : List ℕ) → Elements e p u front → Elements e (longer p more) (longer u more) front
@@ -101,15 +106,34 @@ after_tag {pool} {m} {depth} {levels} {base} {p0} {frames} {scope} {now} {q} {u}
 }
 
 -- ONE MORE ELEMENT OF A LIST
-pub with_no_elements : (n : ℕ) (k : Kind) (v : Message) → IsTrue (is_packable k) → with_elements n k [] v ≡ v
-with_no_elements n k (body fs us) can = ap (λ (z : List Scalar). with_fields (body fs us) (push_each n (map scalar z) fs)) (elements_none k can)
+pub with_no_elements : (pool : Types) (n : ℕ) (k : Kind) (v : Message) → IsTrue (is_packable k) → with_elements pool n k [] v ≡ v
+with_no_elements pool n (kind.ClosedEnum e) v can = refl
+with_no_elements pool n k (body fs us) can = ap (λ (z : List Scalar). with_fields (body fs us) (push_each n (map scalar z) fs)) (elements_none k can)
 
+-- a value at the end of the list
 pub with_next_element :
-    (n : ℕ) (k : Kind) (front first : List ℕ) (x : Scalar) (v : Message) → IsTrue (is_packable k) → AreElements (element_of k) front → IsElement (element_of k) first → read k (number_of (element_of k) first) ≡ Some x
-    → with_elements n k (front ++ first) v ≡ with_fields (with_elements n k front v) (push_at n (scalar x) (fields_of (with_elements n k front v)))
-with_next_element n k front first x v can all i is =
-    ap (λ (z : List Datum). with_fields v (push_each n z (fields_of v))) (ap (map scalar) (elements_next k front first x can all i is) ∙ map-append scalar (elements k (len front)) (x ∷ []))
+    (pool : Types) (n : ℕ) (k : Kind) (front first : List ℕ) (x : Scalar) (v : Message) → IsTrue (is_packable k) → AreElements (element_of k) front → IsElement (element_of k) first → read k (number_of (element_of k) first) ≡ Some x
+    → is_undeclared pool (closed_enum k) (number_of (element_of k) first) ≡ false
+    → with_elements pool n k (front ++ first) v ≡ with_fields (with_elements pool n k front v) (push_at n (scalar x) (fields_of (with_elements pool n k front v)))
+with_next_element pool n (kind.ClosedEnum e) front first x v can all i is declared =
+    let w : Message = with_elements pool n (kind.ClosedEnum e) front v in
+    ap (λ (z : List Payload). with_numbers pool n (kind.ClosedEnum e) z v) (numbers_next a_varint_element front first all i)
+    ∙ with_numbers-append pool n (kind.ClosedEnum e) (numbers_of 0 front) (number_of a_varint_element first) v
+    ∙ declared_number pool n (kind.ClosedEnum e) w (number_of a_varint_element first) declared
+    ∙ ap (λ (z : List Scalar). with_fields w (push_each n (map scalar z) (fields_of w))) (ap option_to_list is)
+with_next_element pool n k front first x v can all i is declared = ap (λ (z : List Datum). with_fields v (push_each n z (fields_of v))) (ap (map scalar) (elements_next k front first x can all i is) ∙ map-append scalar (elements k (len front)) (x ∷ []))
     ∙ ap (λ (z : _). with_fields v z) (push_each-append n (map scalar (elements k (len front))) (scalar x ∷ []) (fields_of v))
+
+-- an undeclared number among the unknown records
+pub with_next_undeclared :
+    (pool : Types) (n : ℕ) (k : Kind) (front first : List ℕ) (v : Message) → AreElements (element_of k) front → IsElement (element_of k) first → is_undeclared pool (closed_enum k) (number_of (element_of k) first) ≡ true
+    → with_elements pool n k (front ++ first) v
+    ≡ body (fields_of (with_elements pool n k front v)) (unknown_of (with_elements pool n k front v) ++ record { number = n; payload = number_of (element_of k) first } ∷ [])
+with_next_undeclared pool n (kind.ClosedEnum e) front first v all i undeclared =
+    ap (λ (z : List Payload). with_numbers pool n (kind.ClosedEnum e) z v) (numbers_next a_varint_element front first all i)
+    ∙ with_numbers-append pool n (kind.ClosedEnum e) (numbers_of 0 front) (number_of a_varint_element first) v
+    ∙ undeclared_number pool n (kind.ClosedEnum e) (with_elements pool n (kind.ClosedEnum e) front v) (number_of a_varint_element first) undeclared
+with_next_undeclared pool n k front first v all i undeclared = absurd (false≢true undeclared)
 
 -- WHAT A STEP SAYS of what stands before it
 

@@ -48,6 +48,7 @@ element_fault kind.Sint32 can bad = varint_of bad
 element_fault kind.Sint64 can bad = varint_of bad
 element_fault kind.Bool can bad = varint_of bad
 element_fault (kind.Enum e) can bad = varint_of bad
+element_fault (kind.ClosedEnum e) can bad = varint_of bad
 element_fault kind.Fixed64 can bad = eight_of bad
 element_fault kind.Sfixed64 can bad = eight_of bad
 element_fault kind.Double can bad = eight_of bad
@@ -57,6 +58,7 @@ element_fault kind.Float can bad = four_of bad
 element_fault kind.Text can bad = absurd (false≢true can)
 element_fault kind.Bytes can bad = absurd (false≢true can)
 element_fault (kind.Message j) can bad = absurd (false≢true can)
+element_fault (kind.Group j) can bad = absurd (false≢true can)
 
 type_of_packed : (kd : Kind) → IsTrue (is_packable kd) → (wire_type_of kd ≡ 0) ⊎ (wire_type_of kd ≡ 1) ⊎ (wire_type_of kd ≡ 5)
 type_of_packed kind.Int32 can = inl refl
@@ -67,6 +69,7 @@ type_of_packed kind.Sint32 can = inl refl
 type_of_packed kind.Sint64 can = inl refl
 type_of_packed kind.Bool can = inl refl
 type_of_packed (kind.Enum e) can = inl refl
+type_of_packed (kind.ClosedEnum e) can = inl refl
 type_of_packed kind.Fixed64 can = inr (inl refl)
 type_of_packed kind.Sfixed64 can = inr (inl refl)
 type_of_packed kind.Double can = inr (inl refl)
@@ -76,6 +79,7 @@ type_of_packed kind.Float can = inr (inr refl)
 type_of_packed kind.Text can = absurd (false≢true can)
 type_of_packed kind.Bytes can = absurd (false≢true can)
 type_of_packed (kind.Message j) can = absurd (false≢true can)
+type_of_packed (kind.Group j) can = absurd (false≢true can)
 
 -- inside a list
 in_list :

@@ -1,5 +1,6 @@
 -- What ends where a reader stands.
-use Rattle.std.proofs.Common.{◌≡◌, ℕ, ◌-◌, ◌≤◌, List, [], ◌∷◌, ◌++◌, map, reverse, refl, sym, ap, ◌∙◌, subst, arith, append-nil, Option, Some, option_map}
+use Rattle.std.proofs.Common.{◌≡◌, ℕ, ◌-◌, ◌≤◌, List, [], ◌∷◌, ◌++◌, map, reverse, refl, sym, ap, ◌∙◌, subst, arith, append-nil, Option, Some, None, option_map}
+use Rattle.std.specs.Prelude.{Bool, true, false, if◌then◌else◌, is_some}
 use Rattle.std.proofs.lemmas.List.{reverse-append, map-append}
 use Rattle.pb_wire.specs.Record.{Record}
 use Rattle.pb_wire.specs.declared.fault.Cause.TheVariants.{PastEnd}
@@ -19,10 +20,10 @@ use Rattle.pb_decode.specs.declared.part.Slot.{Slot}
 use Rattle.pb_decode.specs.declared.part.Slot.TheVariants as slot
 use Rattle.pb_decode.specs.declared.step.Step.{Step}
 use Rattle.pb_decode.specs.declared.step.Step.TheVariants as step
-use Rattle.pb_decode.specs.Frames.{Part, message_part, entry_part, group_part, CanHold, Scope, Frame, frame_of, one_more_in, up_to, path_of, Held, at_top, inside, Stands}
+use Rattle.pb_decode.specs.Frames.{Part, message_part, entry_part, group_part, CanHold, Scope, Frame, frame_of, one_more_in, up_to, path_of, Held, inside, Stands}
 use Rattle.pb_decode.specs.PartView.{part_view, scope_view, frame_view}
 use Rattle.pb_decode.specs.Closing.{HasRoomFor}
-use Rattle.pb_decode.specs.Openings.{IsGroup}
+use Rattle.pb_decode.specs.Openings.{innermost_group}
 use Rattle.pb_decode.specs.After.{After}
 use Rattle.pb_decode.specs.Reader.{State, frames_view, left_of, here, own_step, path_here, Reads, StandsAt, Told}
 use Rattle.pb_decode.proofs.AfterLemmas.{after_record, at_record}
@@ -37,8 +38,8 @@ pub frames_split : (fs gs : List FrameKept) (f : FrameKept) → fs ≡ gs ++ f �
 frames_split fs gs f is = ap frames_view is ∙ ap reverse (map-append frame_view gs (f ∷ [])) ∙ reverse-append (map frame_view gs) (frame_view f ∷ [])
 
 -- and so where its part is taken out of it
-pub frames_popped : (fs gs : List FrameKept) (f : FrameKept) (p : PartKept) → fs ≡ gs ++ f ∷ [] → p ≡ f.part → frames_view fs ≡ frame_of (part_view p) f.number f.slot (scope_view f.scope) ∷ frames_view gs
-frames_popped fs gs f p is same = frames_split fs gs f is ∙ ap (λ (z : PartKept). frame_of (part_view z) f.number f.slot (scope_view f.scope) ∷ frames_view gs) (sym same)
+pub frames_popped : (fs gs : List FrameKept) (f : FrameKept) (p : PartKept) → fs ≡ gs ++ f ∷ [] → p ≡ f.part → frames_view fs ≡ frame_of (part_view p) f.number f.slot f.group (scope_view f.scope) ∷ frames_view gs
+frames_popped fs gs f p is same = frames_split fs gs f is ∙ ap (λ (z : PartKept). frame_of (part_view z) f.number f.slot f.group (scope_view f.scope) ∷ frames_view gs) (sym same)
 
 -- AT A TAG one stands behind a whole record of the innermost part
 pub standing :
@@ -85,29 +86,64 @@ entry_has_room {pool} {m} {depth} {levels} {base} {p0} {frame} {frames} {scope} 
     by_slot slot.Entry p is_slot is_part = tt
     by_slot (slot.Unknown n) p is_slot is_part = tt
 
--- A GROUP at a known end
-no_group_at_top : {pool : Types} {m depth levels room inner : ℕ} {base earlier : List Record} {p0 p : Place} {us : List Record} {o : Open Context} {path : List PathStep} → Held pool m depth levels base p0 [] (group_part us) o room inner path p earlier → ⊥
-no_group_at_top (at_top v form is_open is_room is_inner is_path is_place is_base goes_on) = form
+-- THE FRAME THAT IS TAKEN OUT, where no end tag ends what was open in it, and where one does
 
+in_group_of : (frame : Frame) (frames : List Frame) (k : ℕ) → innermost_group (frame ∷ frames) ≡ Some k → frame.group ≡ true
+in_group_of frame frames k some = by_flag frame.group some
+  where
+    by_flag : (g : Bool) → (if g then Some frame.number else None) ≡ Some k → g ≡ true
+    by_flag true e = refl
+    by_flag false e = absurd (cc)
+
+group_number : (frame : Frame) (frames : List Frame) (k : ℕ) → innermost_group (frame ∷ frames) ≡ Some k → frame.number ≡ k
+group_number frame frames k some = by_flag frame.group some
+  where
+    by_flag : (g : Bool) → (if g then Some frame.number else None) ≡ Some k → frame.number ≡ k
+    by_flag true e = cc
+    by_flag false e = absurd (cc)
+
+not_in_group : (frame : Frame) (frames : List Frame) → innermost_group (frame ∷ frames) ≡ None → frame.group ≡ false
+not_in_group frame frames none = by_flag frame.group none
+  where
+    by_flag : (g : Bool) → (if g then Some frame.number else None) ≡ None → g ≡ false
+    by_flag true e = absurd (cc)
+    by_flag false e = refl
+
+pub popped_open : (fs gs : List FrameKept) (f : FrameKept) (p : PartKept) → fs ≡ gs ++ f ∷ [] → p ≡ f.part → innermost_group (frames_view fs) ≡ None → frames_view fs ≡ frame_of (part_view p) f.number f.slot false (scope_view f.scope) ∷ frames_view gs
+popped_open fs gs f p is same none =
+    let around = frames_popped fs gs f p is same in
+    around ∙ ap (λ (z : Bool). frame_of (part_view p) f.number f.slot z (scope_view f.scope) ∷ frames_view gs)
+    (not_in_group (frame_of (part_view p) f.number f.slot f.group (scope_view f.scope)) (frames_view gs) (sym (ap innermost_group around) ∙ none))
+
+pub popped_group : (fs gs : List FrameKept) (f : FrameKept) (p : PartKept) (k : ℕ) → fs ≡ gs ++ f ∷ [] → p ≡ f.part → innermost_group (frames_view fs) ≡ Some k → frames_view fs ≡ frame_of (part_view p) f.number f.slot true (scope_view f.scope) ∷ frames_view gs
+popped_group fs gs f p k is same some =
+    let around = frames_popped fs gs f p is same in
+    around ∙ ap (λ (z : Bool). frame_of (part_view p) f.number f.slot z (scope_view f.scope) ∷ frames_view gs)
+    (in_group_of (frame_of (part_view p) f.number f.slot f.group (scope_view f.scope)) (frames_view gs) k (sym (ap innermost_group around) ∙ some))
+
+pub popped_number : (fs gs : List FrameKept) (f : FrameKept) (k : ℕ) → fs ≡ gs ++ f ∷ [] → innermost_group (frames_view fs) ≡ Some k → f.number ≡ k
+popped_number fs gs f k is some = group_number (frame_view f) (frames_view gs) k (sym (ap innermost_group (frames_split fs gs f is)) ∙ some)
+
+-- A GROUP at a known end
 group_told :
-    {pool : Types} {m depth levels : ℕ} {base : List Record} {p0 : Place} {frames : List Frame} {scope : Scope} {us : List Record} {q : Place}
-    → Stands pool m depth levels base p0 frames (group_part us) scope q → q.known ≡ Some 0 → Bad (schema_of pool) (records (in_message m)) depth p0 (fault q.at (path_of frames) PastEnd)
-group_told {frames = []} s end = absurd (no_group_at_top s.held)
-group_told {frames = frame ∷ frames} s end = past_end_told s end
+    {pool : Types} {m depth levels : ℕ} {base : List Record} {p0 : Place} {frames : List Frame} {scope : Scope} {now : Part} {q : Place} (k : ℕ)
+    → Stands pool m depth levels base p0 frames now scope q → innermost_group frames ≡ Some k → q.known ≡ Some 0 → Bad (schema_of pool) (records (in_message m)) depth p0 (fault q.at (path_of frames) PastEnd)
+group_told {frames = []} k s some end = absurd (cc)
+group_told {frames = frame ∷ frames} k s some end = past_end_told s (in_group_of frame frames k some) end
 
 pub group_at_end :
-    {pool : Types} {m depth levels : ℕ} {base : List Record} {p0 : Place} (s : State) (rest : List ℕ) → Reads pool m depth levels base p0 s rest → s.next ≡ step.Tag → IsGroup s.now → left_of s ≡ Some 0
+    {pool : Types} {m depth levels : ℕ} {base : List Record} {p0 : Place} (s : State) (rest : List ℕ) → Reads pool m depth levels base p0 s rest → s.next ≡ step.Tag → is_some (innermost_group s.frames) ≡ true → left_of s ≡ Some 0
     → Told pool m depth p0 (fault s.at (path_here s) PastEnd)
-group_at_end {pool} {m} {depth} {levels} {base} {p0} s rest begun tag group end = by_part s.now refl group
+group_at_end {pool} {m} {depth} {levels} {base} {p0} s rest begun tag some end =
+    let (k, is) = the_group (innermost_group s.frames) some in
+    record { bad = subst (λ (z : List PathStep). Bad (schema_of pool) (records (in_message m)) depth p0 (fault s.at z PastEnd)) path (group_told k (standing s rest s.frames s.now begun tag refl refl) is end); settled = λ same. absurd (cc) }
   where
+    the_group : (o : Option ℕ) → is_some o ≡ true → (k : ℕ) × (o ≡ Some k)
+    the_group (Some k) h = (k, refl)
+    the_group None h = absurd (cc)
+
     path : path_of s.frames ≡ path_here s
     path = sym (append-nil (path_of s.frames)) ∙ ap (λ (z : Step). path_of s.frames ++ own_step z s.scope) (sym tag)
-
-    by_part : (now : Part) → s.now ≡ now → IsGroup now → Told pool m depth p0 (fault s.at (path_here s) PastEnd)
-    by_part (group_part us) is group =
-        record { bad = subst (λ (z : List PathStep). Bad (schema_of pool) (records (in_message m)) depth p0 (fault s.at z PastEnd)) path (group_told (standing s rest s.frames (group_part us) begun tag refl is) end); settled = λ same. absurd (cc) }
-    by_part (message_part k v) is group = absurd group
-    by_part (entry_part key k x d) is group = absurd group
 
 -- A PACKED LIST at its end
 pub list_few :

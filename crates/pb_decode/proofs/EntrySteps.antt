@@ -69,7 +69,7 @@ module _ {pool : Types} {m depth levels : ℕ} {base : List Record} {p0 : Place}
   pub opens_entry_message :
       {r t : Place} (j : MessageId) (n : ℕ) (counts : ℕ → ℕ) → IsPool pool → ((i : ℕ) → counts i ≡ 0) → kd ≡ kind.Message j → HasTag q 2 2 r → HasLength r n t → (schema_of pool).reading (an_entry key kd) 2 ≡ same_level (in_message j.0)
       → ((p : Payload) → wire_type p ≡ 2 → (fits (key_field key) (record { number = 2; payload = p }) ≡ false) × (fits (value_field kd) (record { number = 2; payload = p }) ≡ true))
-      → Stands pool m depth levels base p0 (record { part = entry_part key kd x None; number = 2; slot = slot.Entry; scope = scope } ∷ frames) (message_part j.0 (entry_message d)) (payload_scope scope.room t n counts) (payload_at t n)
+      → Stands pool m depth levels base p0 (record { part = entry_part key kd x None; number = 2; slot = slot.Entry; group = false; scope = scope } ∷ frames) (message_part j.0 (entry_message d)) (payload_scope scope.room t n counts) (payload_at t n)
   opens_entry_message {r} {t} j n counts ok none is tag l reading fitted = record {
     open_now = records (in_message j.0);
     inner = s.inner;
@@ -77,7 +77,7 @@ module _ {pool : Types} {m depth levels : ℕ} {base : List Record} {p0 : Place}
     begin = payload_at t n;
     earlier = joined cs;
     records_so_far = [];
-    held = inside (held_as_well (entry_part key kd x None) (refl, refl) s.held) s.behind begun s.form kinds.0 s.deep completes refl s.counted s.ends (let inner = entry_value_good ok key kd x d s j is in (subst (NamesType (length pool.messages) (length pool.enums)) is kinds.1, inner.0, inner.1)) tt;
+    held = inside (held_as_well (entry_part key kd x None) (refl, refl) s.held) s.behind begun s.form kinds.0 s.deep completes refl s.counted s.ends (let inner = entry_value_good ok key kd x d s j is in (subst (NamesType (length pool.messages) (length pool.enums)) is kinds.1, inner.0, inner.1)) (tt, refl);
     form = refl;
     deep = s.deep;
     behind = behind_nothing (payload_at t n);
@@ -100,7 +100,7 @@ module _ {pool : Types} {m depth levels : ℕ} {base : List Record} {p0 : Place}
       begun : Begun (schema_of pool) s.open_now scope.room 2 q (records (in_message j.0)) scope.room (payload_at t n)
       begun = opened.a_value refl tag (subst (λ (c : Context). (schema_of pool).reading c 2 ≡ same_level (in_message j.0)) (sym s.form) reading) l refl refl
 
-      completes : Completes pool s.inner s.inner (record { part = entry_part key kd x None; number = 2; slot = slot.Entry; scope = scope }) (s.earlier ++ s.records_so_far) (message_part j.0 (entry_message d)) (joined cs)
+      completes : Completes pool s.inner s.inner (record { part = entry_part key kd x None; number = 2; slot = slot.Entry; group = false; scope = scope }) (s.earlier ++ s.records_so_far) (message_part j.0 (entry_message d)) (joined cs)
       completes p (message_part o w) type form worth =
           let fit = fitted p type in
           let r2 : Record = record { number = 2; payload = p } in (
@@ -108,7 +108,7 @@ module _ {pool : Types} {m depth levels : ℕ} {base : List Record} {p0 : Place}
             ap (λ (z : Message). Some (message z)) (worth ∙ ap (λ (z : ℕ). value_within pool s.inner z (joined cs ++ records_inside p)) (sym form))
                 ∙ sym (ap (one_value (value_within pool s.inner) kd) (filter-passes (fits (value_field kd)) (s.earlier ++ s.records_so_far) r2 fit.1)
                 ∙ ap (λ (z : Kind). one_value (value_within pool s.inner) z (cs ++ r2 ∷ [])) is
-                ∙ one_value-message (value_within pool s.inner) j cs r2),
+                ∙ one_value-message (value_within pool s.inner) (kind.Message j) j.0 cs r2 refl),
           )
       completes p (entry_part a b c e) type form worth = absurd form
       completes p (group_part us) type form worth = absurd form

@@ -1,6 +1,6 @@
 -- A decoder's frames: what is told from them, and how they change.
 use Rattle.std.proofs.Common.{◌≡◌, ℕ, ◌-◌, ◌<◌, ◌≤◌, List, [], ◌∷◌, ◌++◌, length, refl, sym, ap, ◌∙◌, subst, arith, append_assoc, Option, Some, None, IsTrue}
-use Rattle.std.specs.Prelude.{option_map, MatchOption}
+use Rattle.std.specs.Prelude.{true, false, option_map, MatchOption}
 use Rattle.std.proofs.lemmas.List.{append-nil}
 use Rattle.pb_wire.specs.Record.{Payload, len, Record}
 use Rattle.pb_wire.specs.Inside.{records_inside, records_spelled}
@@ -12,11 +12,14 @@ use Rattle.pb_wire.specs.Grammar.{Bad, RecordFault, Begins}
 use Rattle.pb_wire.specs.Exact.{longer}
 use Rattle.pb_wire.proofs.InsideLemmas.{records_spelled-AreRecords}
 use Rattle.pb_schema.specs.declared.types.Kind.{Kind}
-use Rattle.pb_schema.specs.Types.{Types}
+use Rattle.pb_schema.specs.declared.types.Kind.TheVariants as kind
+use Rattle.pb_schema.specs.declared.types.Shape.{Shape}
+use Rattle.pb_schema.specs.declared.types.Shape.TheVariants as shape
+use Rattle.pb_schema.specs.Types.{FieldView, Types, message_fields, field_numbered}
 use Rattle.pb_schema.specs.Rules.{NamesType}
 use Rattle.pb_schema.specs.Scalar.{Scalar}
-use Rattle.pb_schema.specs.Kinds.{is_key_kind}
-use Rattle.pb_schema.specs.Context.{Context, a_message as in_message, an_entry, unknown_group, schema_of}
+use Rattle.pb_schema.specs.Kinds.{is_of_proto2, is_key_kind}
+use Rattle.pb_schema.specs.Context.{Context, a_message as in_message, an_entry, unknown_group, group_of_kind, group_shaped, group_of_field, group_in, schema_of}
 use Rattle.pb_value.specs.Data.{Datum, Message, fields_of, get_field, message_depth}
 use Rattle.pb_value.specs.Value.{value_within}
 use Rattle.pb_value.specs.WellFormed.{IsBody}
@@ -27,7 +30,7 @@ use Rattle.pb_decode.specs.declared.part.Slot.TheVariants as slot
 use Rattle.pb_decode.specs.Occurrences.{CountsOf}
 use Rattle.pb_decode.specs.Opened.{Behind, Begun, Opened, below, outside}
 use Rattle.pb_decode.specs.Opened as opened
-use Rattle.pb_decode.specs.Frames.{Part, message_part, entry_part, group_part, put_message, put_group, put_entry, put_child, IsWorth, IsSameForm, IsPartOf, slot_type, Scope, one_more_in, Frame, EndsAt, up_to, GoesOnFrom, Takes, Held, at_top, inside, Stands}
+use Rattle.pb_decode.specs.Frames.{Part, message_part, entry_part, group_part, put_message, put_group, put_entry, put_child, IsWorth, IsSameForm, IsPartOf, opening_type, open_type, Scope, one_more_in, Frame, EndsAt, up_to, GoesOnFrom, Takes, Held, at_top, inside, Stands}
 use Rattle.pb_decode.specs.Purposes.{part_context}
 use Rattle.pb_decode.proofs.StepCounts.{counts_of_none, counts_of_push}
 use Rattle.pb_decode.proofs.OpenedLemmas.{RecordTo, lift, bad_behind, behind_more, behind_nothing, behind_longer, begun_longer, begun_ends, begun_short}
@@ -210,7 +213,7 @@ goes_on_as : (pool : Types) (inner : ℕ) (earlier : List Record) (now other : P
 goes_on_as pool inner earlier (message_part m v) (message_part k w) e h =
     subst (λ (z : ℕ). (z < length pool.messages) × IsBody pool z (value_within pool inner z earlier) × (message_depth (value_within pool inner z earlier) < inner)) e h
 goes_on_as pool inner earlier (entry_part key k x d) (entry_part key2 k2 x2 d2) e h =
-    (h.0, subst (λ (z : Kind). IsTrue (is_key_kind z)) e.0 h.1, subst (NamesType (length pool.messages) (length pool.enums)) e.1 h.2)
+    (h.0, subst (λ (z : Kind). IsTrue (is_key_kind z)) e.0 h.1, subst (NamesType (length pool.messages) (length pool.enums)) e.1 h.2, subst (λ (z : Kind). is_of_proto2 z ≡ false) e.1 h.3)
 goes_on_as pool inner earlier (group_part us) (group_part vs) e h = h
 goes_on_as pool inner earlier (message_part m v) (entry_part key2 k2 x2 d2) e h = absurd e
 goes_on_as pool inner earlier (message_part m v) (group_part vs) e h = absurd e
@@ -287,7 +290,7 @@ pub held_as_well :
 held_as_well {pool} {m = m} {now = now} {inner = inner} {earlier = earlier} other same (at_top v form is_open is_room is_inner is_path is_place is_base goes_on) =
     at_top v (form_through now other (message_part m v) same form) is_open is_room is_inner is_path is_place is_base (goes_on_as pool inner earlier now other same goes_on)
 held_as_well {pool} {now = now} {inner = inner} {earlier = earlier} other same (inside {frame = frame} up h begun form can deep completes is_path counts ends goes_on takes) =
-    inside up h begun form can deep (λ p q type alike worth. completes p q type (form_through2 now other q same alike) worth) is_path counts ends (goes_on_as pool inner earlier now other same goes_on) (takes_as frame.slot frame.part now other same takes)
+    inside up h begun form can deep (λ p q type alike worth. completes p q type (form_through2 now other q same alike) worth) is_path counts ends (goes_on_as pool inner earlier now other same goes_on) (takes_as frame.slot frame.part now other same takes.0, takes.1)
 
 -- ONE MORE RECORD: a whole sound record behind which the part is worth the records with it
 pub one_more :
@@ -334,12 +337,43 @@ closed_stands {pool} {a = a} {outer = outer} {steps = steps} {p = p} {rs = rs} {
   worth = subst (λ (z : List Record). IsWorth pool outer next z) (append_assoc before rs (record { number = frame.number; payload = pl } ∷ [])) worth;
 }
 
+-- WHAT ENDS what is open: an end tag ends a group, and a known end a payload
+flag_held :
+    {pool : Types} {m depth levels : ℕ} {base : List Record} {p0 : Place} {frame : Frame} {frames : List Frame} {now : Part} {o : Open Context} {room inner : ℕ} {path : List PathStep} {p : Place} {earlier : List Record}
+    → Held pool m depth levels base p0 (frame ∷ frames) now o room inner path p earlier → opening_type frame.group ≡ open_type o
+flag_held (inside up h begun form can deep completes is_path counts ends goes_on takes) = takes.1
+
+pub payload_open : (o : Open Context) → open_type o ≡ 2 → o ≡ records (context_of o)
+payload_open (records c) e = refl
+payload_open (in_group k c) e = absurd (omega (arith, e))
+
+pub is_payload :
+    {pool : Types} {m depth levels : ℕ} {base : List Record} {p0 : Place} {frame : Frame} {frames : List Frame} {scope : Scope} {now : Part} {q : Place} (s : Stands pool m depth levels base p0 (frame ∷ frames) now scope q)
+    → frame.group ≡ false → s.open_now ≡ records (context_of s.open_now)
+is_payload s none = payload_open s.open_now (sym (flag_held s.held) ∙ ap opening_type none)
+
+-- what a group is open in has the number of the frame
+begun_group : (pool : Types) {a o : Open Context} {room below k : ℕ} {q u : Place} → Begun (schema_of pool) a room k q o below u → open_type o ≡ 3 → o ≡ in_group k (context_of o)
+begun_group pool (opened.a_message levels tag re l is_open is_place) e = absurd (let type = sym (ap open_type is_open) ∙ e in omega (arith, type))
+begun_group pool (opened.a_value levels tag re l is_open is_place) e = absurd (let type = sym (ap open_type is_open) ∙ e in omega (arith, type))
+begun_group pool {k = k} (opened.a_group levels tag is_open is_place) e = is_open ∙ ap (in_group k) (sym (ap context_of is_open))
+
+group_held :
+    {pool : Types} {m depth levels : ℕ} {base : List Record} {p0 : Place} {frame : Frame} {frames : List Frame} {now : Part} {o : Open Context} {room inner : ℕ} {path : List PathStep} {p : Place} {earlier : List Record}
+    → Held pool m depth levels base p0 (frame ∷ frames) now o room inner path p earlier → frame.group ≡ true → o ≡ in_group frame.number (context_of o)
+group_held {pool} (inside up h begun form can deep completes is_path counts ends goes_on takes) some = begun_group pool begun (sym takes.1 ∙ ap opening_type some)
+
+pub is_group :
+    {pool : Types} {m depth levels : ℕ} {base : List Record} {p0 : Place} {frame : Frame} {frames : List Frame} {scope : Scope} {now : Part} {q : Place} (s : Stands pool m depth levels base p0 (frame ∷ frames) now scope q)
+    → frame.group ≡ true → s.open_now ≡ in_group frame.number (context_of s.open_now)
+is_group s some = group_held s.held some
+
 -- A MESSAGE OR ENTRY THAT ENDS AT ITS KNOWN END: it goes into its slot, and one stands in what holds it
 pub ends_at_known_end :
     {pool : Types} {m depth levels : ℕ} {base : List Record} {p0 : Place} {frame : Frame} {frames : List Frame} {scope : Scope} {now : Part} {v : Place} (s : Stands pool m depth levels base p0 (frame ∷ frames) now scope v)
-    → s.open_now ≡ records (context_of s.open_now) → slot_type frame.slot ≡ 2 → v.known ≡ Some 0
+    → frame.group ≡ false → v.known ≡ Some 0
     → Stands pool m depth levels base p0 frames (put_child pool frame.slot frame.part now) (one_more_in frame.number frame.scope) (up_to frame.scope.end v)
-ends_at_known_end {pool} {m} {depth} {levels} {base} {p0} {frame} {frames} {scope} {now} {v} s is_payload type end = from_held s.held s.behind s.worth is_payload
+ends_at_known_end {pool} {m} {depth} {levels} {base} {p0} {frame} {frames} {scope} {now} {v} s none end = from_held s.held s.behind s.worth (is_payload s none)
   where
     there : Part
     there = put_child pool frame.slot frame.part now
@@ -354,41 +388,41 @@ ends_at_known_end {pool} {m} {depth} {levels} {base} {p0} {frame} {frames} {scop
         let to = closed.2 in
         let same_place : outside closed.0 closed.1 v ≡ up_to frame.scope.end v = place_up_to (outside closed.0 closed.1 v) frame.scope.end (ends_along to.first frame.scope.end to.moves ends) in
         subst (λ (z : Place). Stands pool m depth levels base p0 frames there (one_more_in frame.number frame.scope) z) same_place
-        (closed_stands frame up h form deep counts ends s.bytes (len b.front) to there (put_child-form pool frame.slot frame.part now) (completes (len b.front) now (sym type) (same_self now) inside_worth))
+        (closed_stands frame up h form deep counts ends s.bytes (len b.front) to there (put_child-form pool frame.slot frame.part now) (completes (len b.front) now (sym (ap opening_type none)) (same_self now) inside_worth))
 
--- what a message is open in is no group
-pub message_is_payload :
-    {pool : Types} {m depth levels : ℕ} {base : List Record} {p0 : Place} {frames : List Frame} {scope : Scope} {k : ℕ} {v : Message} {q : Place} (s : Stands pool m depth levels base p0 frames (message_part k v) scope q)
-    → s.open_now ≡ records (context_of s.open_now)
-message_is_payload {pool} {k = k} s = from_held s.held s.form
-  where
-    no_group : (o : Open Context) (n : ℕ) → o ≡ in_group n unknown_group → context_of o ≡ in_message k → ⊥
-    no_group o n e f = let c : unknown_group ≡ in_message k = ap context_of (sym e) ∙ f in cc
-
-    from_begun : {a o : Open Context} {room below n : ℕ} {q u : Place} → Begun (schema_of pool) a room n q o below u → context_of o ≡ in_message k → o ≡ records (context_of o)
-    from_begun (opened.a_message levels tag re l is_open is_place) f = is_open ∙ ap (λ (z : Open Context). records (context_of z)) (sym is_open)
-    from_begun (opened.a_value levels tag re l is_open is_place) f = is_open ∙ ap (λ (z : Open Context). records (context_of z)) (sym is_open)
-    from_begun {o = o} {n = n} (opened.a_group levels tag is_open is_place) f = absurd (no_group o n is_open f)
-
-    from_held :
-        {m depth levels : ℕ} {base : List Record} {p0 : Place} {frames : List Frame} {now : Part} {o : Open Context} {room inner : ℕ} {path : List PathStep} {p : Place} {earlier : List Record}
-        → Held pool m depth levels base p0 frames now o room inner path p earlier → context_of o ≡ in_message k → o ≡ records (context_of o)
-    from_held (at_top v form is_open is_room is_inner is_path is_place is_base goes_on) f = is_open ∙ ap (λ (z : Open Context). records (context_of z)) (sym is_open)
-    from_held (inside up h begun form can deep completes is_path counts ends goes_on takes) f = from_begun begun f
-
--- nor is what an entry is open in
+-- AN ENTRY is open in a payload, whatever its frame says
 pub entry_is_payload :
     {pool : Types} {m depth levels : ℕ} {base : List Record} {p0 : Place} {frames : List Frame} {scope : Scope} {key kd : Kind} {x : Option Scalar} {d : Option Datum} {q : Place}
     (s : Stands pool m depth levels base p0 frames (entry_part key kd x d) scope q) → s.open_now ≡ records (context_of s.open_now)
 entry_is_payload {pool} {key = key} {kd = kd} {x = x} {d = d} s = from_held s.held s.form
   where
-    no_group : (o : Open Context) (n : ℕ) → o ≡ in_group n unknown_group → context_of o ≡ an_entry key kd → ⊥
-    no_group o n e f = let c : unknown_group ≡ an_entry key kd = ap context_of (sym e) ∙ f in cc
+    no_entry_kind : (k : Kind) → group_of_kind k ≡ an_entry key kd → ⊥
+    no_entry_kind (kind.Group m) e = absurd (cc)
+    no_entry_kind k e = absurd (cc)
+
+    no_entry : (s : Shape) (k : Kind) → group_shaped s k ≡ an_entry key kd → ⊥
+    no_entry (shape.Map l) k e = absurd (cc)
+    no_entry (shape.List p) k e = no_entry_kind k e
+    no_entry shape.Implicit k e = no_entry_kind k e
+    no_entry shape.Explicit k e = no_entry_kind k e
+    no_entry (shape.OneofMember o) k e = no_entry_kind k e
+
+    no_field : (o : Option FieldView) → group_of_field o ≡ an_entry key kd → ⊥
+    no_field None e = absurd (cc)
+    no_field (Some f) e = no_entry f.shape f.kind e
+
+    no_group : (o : Open Context) (a : Context) (n : ℕ) → o ≡ in_group n (group_in pool a n) → context_of o ≡ an_entry key kd → ⊥
+    no_group o a n e f = by_context a (ap context_of (sym e) ∙ f)
+      where
+        by_context : (a : Context) → group_in pool a n ≡ an_entry key kd → ⊥
+        by_context (in_message t) g = no_field (field_numbered n (message_fields pool t)) g
+        by_context (an_entry l v) g = absurd (cc)
+        by_context unknown_group g = absurd (cc)
 
     from_begun : {a o : Open Context} {room below n : ℕ} {q u : Place} → Begun (schema_of pool) a room n q o below u → context_of o ≡ an_entry key kd → o ≡ records (context_of o)
     from_begun (opened.a_message levels tag re l is_open is_place) f = is_open ∙ ap (λ (z : Open Context). records (context_of z)) (sym is_open)
     from_begun (opened.a_value levels tag re l is_open is_place) f = is_open ∙ ap (λ (z : Open Context). records (context_of z)) (sym is_open)
-    from_begun {o = o} {n = n} (opened.a_group levels tag is_open is_place) f = absurd (no_group o n is_open f)
+    from_begun {a = a} {o = o} {n = n} (opened.a_group levels tag is_open is_place) f = absurd (no_group o (context_of a) n is_open f)
 
     from_held :
         {m depth levels : ℕ} {base : List Record} {p0 : Place} {frames : List Frame} {o : Open Context} {room inner : ℕ} {path : List PathStep} {p : Place} {earlier : List Record}
@@ -396,65 +430,29 @@ entry_is_payload {pool} {key = key} {kd = kd} {x = x} {d = d} s = from_held s.he
     from_held (at_top v form is_open is_room is_inner is_path is_place is_base goes_on) f = absurd form
     from_held (inside up h begun form can deep completes is_path counts ends goes_on takes) f = from_begun begun f
 
--- THE SLOT of what is open takes it
-takes_held :
-    {pool : Types} {m depth levels : ℕ} {base : List Record} {p0 : Place} {frame : Frame} {frames : List Frame} {now : Part} {o : Open Context} {room inner : ℕ} {path : List PathStep} {p : Place} {earlier : List Record}
-    → Held pool m depth levels base p0 (frame ∷ frames) now o room inner path p earlier → Takes frame.slot frame.part now
-takes_held (inside up h begun form can deep completes is_path counts ends goes_on takes) = takes
-
-pub message_slot : (s : Slot) (p : Part) (k : ℕ) (w : Message) → Takes s p (message_part k w) → slot_type s ≡ 2
-message_slot (slot.One t n) p k w h = refl
-message_slot (slot.List n) p k w h = refl
-message_slot (slot.Map n) p k w h = refl
-message_slot slot.Entry p k w h = refl
-message_slot (slot.Unknown n) (message_part m v) k w h = absurd h
-message_slot (slot.Unknown n) (entry_part key0 kind0 y e) k w h = absurd h
-message_slot (slot.Unknown n) (group_part vs) k w h = absurd h
-
-pub entry_slot : (s : Slot) (p : Part) (key kd : Kind) (x : Option Scalar) (d : Option Datum) → Takes s p (entry_part key kd x d) → slot_type s ≡ 2
-entry_slot (slot.One t n) p key kd x d h = refl
-entry_slot (slot.List n) p key kd x d h = refl
-entry_slot (slot.Map n) p key kd x d h = refl
-entry_slot slot.Entry p key kd x d h = refl
-entry_slot (slot.Unknown n) (message_part m v) key kd x d h = absurd h
-entry_slot (slot.Unknown n) (entry_part key0 kind0 y e) key kd x d h = absurd h
-entry_slot (slot.Unknown n) (group_part vs) key kd x d h = absurd h
-
-pub group_slot : (s : Slot) (p : Part) (us : List Record) → Takes s p (group_part us) → slot_type s ≡ 3
-group_slot (slot.Unknown n) p us h = refl
-group_slot (slot.One t n) (message_part m v) us h = absurd h
-group_slot (slot.One t n) (entry_part key0 kind0 y e) us h = absurd h
-group_slot (slot.One t n) (group_part vs) us h = absurd h
-group_slot (slot.List n) (message_part m v) us h = absurd h
-group_slot (slot.List n) (entry_part key0 kind0 y e) us h = absurd h
-group_slot (slot.List n) (group_part vs) us h = absurd h
-group_slot (slot.Map n) (message_part m v) us h = absurd h
-group_slot (slot.Map n) (entry_part key0 kind0 y e) us h = absurd h
-group_slot (slot.Map n) (group_part vs) us h = absurd h
-group_slot slot.Entry (message_part m v) us h = absurd h
-group_slot slot.Entry (entry_part key0 kind0 y e) us h = absurd h
-group_slot slot.Entry (group_part vs) us h = absurd h
-
--- the slot of the innermost part takes it
-pub takes_here :
-    {pool : Types} {m depth levels : ℕ} {base : List Record} {p0 : Place} {frame : Frame} {frames : List Frame} {scope : Scope} {now : Part} {q : Place}
-    → Stands pool m depth levels base p0 (frame ∷ frames) now scope q → Takes frame.slot frame.part now
-takes_here s = takes_held s.held
+-- no end tag ends an entry
+pub entry_no_group :
+    {pool : Types} {m depth levels : ℕ} {base : List Record} {p0 : Place} {frame : Frame} {frames : List Frame} {scope : Scope} {key kd : Kind} {x : Option Scalar} {d : Option Datum} {q : Place}
+    → Stands pool m depth levels base p0 (frame ∷ frames) (entry_part key kd x d) scope q → frame.group ≡ true → ⊥
+entry_no_group {frame = frame} s some =
+    let typed : open_type s.open_now ≡ 2 = ap open_type (entry_is_payload s) in
+    let flag : 3 ≡ open_type s.open_now = sym (ap opening_type some) ∙ flag_held s.held in
+    omega (arith, typed, flag)
 
 -- a message that ends, as its slot says
 pub message_closes :
     {pool : Types} {m depth levels : ℕ} {base : List Record} {p0 : Place} {frame : Frame} {frames : List Frame} {scope : Scope} {k : ℕ} {w : Message} {q : Place} (next : Part)
-    → Stands pool m depth levels base p0 (frame ∷ frames) (message_part k w) scope q → q.known ≡ Some 0 → next ≡ put_message pool frame.slot frame.part w
+    → Stands pool m depth levels base p0 (frame ∷ frames) (message_part k w) scope q → frame.group ≡ false → q.known ≡ Some 0 → next ≡ put_message pool frame.slot frame.part w
     → Stands pool m depth levels base p0 frames next (one_more_in frame.number frame.scope) (up_to frame.scope.end q)
-message_closes {pool} {m} {depth} {levels} {base} {p0} {frame} {frames} {scope} {k} {w} {q} next s end is =
+message_closes {pool} {m} {depth} {levels} {base} {p0} {frame} {frames} {scope} {k} {w} {q} next s none end is =
     subst (λ (z : Part). Stands pool m depth levels base p0 frames z (one_more_in frame.number frame.scope) (up_to frame.scope.end q)) (sym is)
-    (ends_at_known_end s (message_is_payload s) (message_slot frame.slot frame.part k w (takes_here s)) end)
+    (ends_at_known_end s none end)
 
 -- and an entry
 pub entry_closes :
     {pool : Types} {m depth levels : ℕ} {base : List Record} {p0 : Place} {frame : Frame} {frames : List Frame} {scope : Scope} {key kd : Kind} {x : Option Scalar} {d : Option Datum} {q : Place} (next : Part)
-    → Stands pool m depth levels base p0 (frame ∷ frames) (entry_part key kd x d) scope q → q.known ≡ Some 0 → next ≡ put_entry frame.slot frame.part key kd x d
+    → Stands pool m depth levels base p0 (frame ∷ frames) (entry_part key kd x d) scope q → frame.group ≡ false → q.known ≡ Some 0 → next ≡ put_entry frame.slot frame.part key kd x d
     → Stands pool m depth levels base p0 frames next (one_more_in frame.number frame.scope) (up_to frame.scope.end q)
-entry_closes {pool} {m} {depth} {levels} {base} {p0} {frame} {frames} {scope} {key} {kd} {x} {d} {q} next s end is =
+entry_closes {pool} {m} {depth} {levels} {base} {p0} {frame} {frames} {scope} {key} {kd} {x} {d} {q} next s none end is =
     subst (λ (z : Part). Stands pool m depth levels base p0 frames z (one_more_in frame.number frame.scope) (up_to frame.scope.end q)) (sym is)
-    (ends_at_known_end s (entry_is_payload s) (entry_slot frame.slot frame.part key kd x d (takes_here s)) end)
+    (ends_at_known_end s none end)

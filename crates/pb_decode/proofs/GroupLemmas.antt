@@ -1,11 +1,11 @@
 -- A group that is open: it ends at its end tag alone, and no known end may come before that.
-use Rattle.std.proofs.Common.{◌≡◌, ℕ, List, [], ◌∷◌, refl, sym, ap, ◌∙◌, subst, Option, Some, None}
+use Rattle.std.proofs.Common.{◌≡◌, ℕ, List, [], ◌∷◌, refl, sym, ap, ◌∙◌, subst, arith, Option, Some, None}
+use Rattle.std.specs.Prelude.{true, false}
 use Rattle.pb_wire.specs.Record.{Record}
 use Rattle.pb_wire.specs.declared.fault.PathStep.{PathStep}
 use Rattle.pb_wire.specs.declared.fault.Cause.TheVariants.{PastEnd}
 use Rattle.pb_wire.specs.Fault.{fault, Place, HasTag}
 use Rattle.pb_wire.specs.Schema.{Reading, message as message_reading, same_level, Open, records, in_group, context_of}
-use Rattle.pb_wire.specs.Sound.{AllSound}
 use Rattle.pb_wire.specs.Grammar.{Bad}
 use Rattle.std.proofs.lemmas.List.{append-nil}
 use Rattle.pb_schema.specs.declared.types.Kind.{Kind}
@@ -14,11 +14,12 @@ use Rattle.pb_schema.specs.declared.types.Shape.{Shape}
 use Rattle.pb_schema.specs.declared.types.Shape.TheVariants as shape
 use Rattle.pb_schema.specs.Types.{FieldView, Types, field_numbered}
 use Rattle.pb_schema.specs.Context.{Context, a_message as in_message, an_entry, unknown_group, message_in, read_singular, read_listed, read_shaped, read_field, fields_in, schema_of}
+use Rattle.pb_value.specs.Data.{Message}
 use Rattle.pb_decode.specs.Opened.{Begun}
 use Rattle.pb_decode.specs.Opened as opened
-use Rattle.pb_decode.specs.Frames.{Part, group_part, put_group, one_more_in, Scope, Frame, path_of, Held, inside, Stands}
+use Rattle.pb_decode.specs.Frames.{Part, message_part, group_part, put_message, put_group, open_type, one_more_in, Scope, Frame, path_of, Held, inside, Stands}
 use Rattle.pb_decode.proofs.OpenedLemmas.{lift}
-use Rattle.pb_decode.proofs.FrameLemmas.{held_opened, group_slot, takes_here}
+use Rattle.pb_decode.proofs.FrameLemmas.{held_opened, is_payload, is_group}
 use Rattle.pb_decode.proofs.StepsOfParts.{ends_at_tag}
 use Rattle.pb_decode.proofs.AfterLemmas.{path_held}
 
@@ -63,26 +64,44 @@ group_is_open {pool} {m} {depth} {levels} {base} {p0} {frame} {frames} {us = us}
         absurd (subst IsNoGroup (re ∙ ap message_reading (ap context_of (sym is_open) ∙ f)) (field_no_group (context_of a) (field_numbered frame.number (fields_in pool (context_of a)))))
     from_begun {a = a} (opened.a_value {d = d} levels tag re l is_open is_place) f =
         absurd (subst IsNoGroup (re ∙ ap same_level (ap context_of (sym is_open) ∙ f)) (field_no_group (context_of a) (field_numbered frame.number (fields_in pool (context_of a)))))
-    from_begun (opened.a_group levels tag is_open is_place) f = is_open
+    from_begun (opened.a_group levels tag is_open is_place) f = is_open ∙ ap (in_group frame.number) (sym (ap context_of is_open) ∙ f)
 
     from_held : {o : Open Context} {room inner : ℕ} {path : List PathStep} {p : Place} {earlier : List Record} → Held pool m depth levels base p0 (frame ∷ frames) (group_part us) o room inner path p earlier
         → context_of o ≡ unknown_group → o ≡ in_group frame.number unknown_group
     from_held (inside up h begun form can deep completes is_path counts ends goes_on takes) f = from_begun begun f
 
+-- an end tag ends a group's records
+pub records_in_group :
+    {pool : Types} {m depth levels : ℕ} {base : List Record} {p0 : Place} {frame : Frame} {frames : List Frame} {scope : Scope} {us : List Record} {q : Place}
+    (s : Stands pool m depth levels base p0 (frame ∷ frames) (group_part us) scope q) → frame.group ≡ false → ⊥
+records_in_group {frame = frame} s none =
+    let typed : open_type s.open_now ≡ 2 = ap open_type (is_payload s none) in
+    let flag : open_type s.open_now ≡ 3 = ap open_type (group_is_open s) in
+    omega (arith, typed, flag)
+
 -- THE KNOWN END of what holds the group comes before its end tag
 pub past_end_told :
-    {pool : Types} {m depth levels : ℕ} {base : List Record} {p0 : Place} {frame : Frame} {frames : List Frame} {scope : Scope} {us : List Record} {q : Place}
-    → Stands pool m depth levels base p0 (frame ∷ frames) (group_part us) scope q → q.known ≡ Some 0 → Bad (schema_of pool) (records (in_message m)) depth p0 (fault q.at (path_of (frame ∷ frames)) PastEnd)
-past_end_told {pool} {m} {depth} {p0 = p0} {frame} {frames} {scope} {q = q} s end =
+    {pool : Types} {m depth levels : ℕ} {base : List Record} {p0 : Place} {frame : Frame} {frames : List Frame} {scope : Scope} {now : Part} {q : Place}
+    → Stands pool m depth levels base p0 (frame ∷ frames) now scope q → frame.group ≡ true → q.known ≡ Some 0 → Bad (schema_of pool) (records (in_message m)) depth p0 (fault q.at (path_of (frame ∷ frames)) PastEnd)
+past_end_told {pool} {m} {depth} {p0 = p0} {frame} {frames} {scope} {q = q} s some end =
     subst (λ (z : List PathStep). Bad (schema_of pool) (records (in_message m)) depth p0 (fault q.at z PastEnd)) (append-nil s.path ∙ path_held s.held)
     (lift (fault q.at [] PastEnd) (held_opened s.held)
-    (Bad.at_end (group_is_open s) (s.records_so_far, s.behind.spelled, subst (λ (c : Context). AllSound (schema_of pool) c scope.room s.records_so_far) s.form s.behind.sound) s.behind.moves end refl))
+    (Bad.at_end (is_group s some) (s.records_so_far, s.behind.spelled, s.behind.sound) s.behind.moves end refl))
 
--- A GROUP THAT ENDS at its end tag, as its slot says
+-- A GROUP THAT ENDS at its end tag, as its slot says: unknown records
 pub group_closes :
     {pool : Types} {m depth levels : ℕ} {base : List Record} {p0 : Place} {frame : Frame} {frames : List Frame} {scope : Scope} {us : List Record} {q w : Place} (next : Part)
-    → Stands pool m depth levels base p0 (frame ∷ frames) (group_part us) scope q → HasTag q frame.number 4 w → next ≡ put_group frame.slot frame.part us
+    → Stands pool m depth levels base p0 (frame ∷ frames) (group_part us) scope q → frame.group ≡ true → HasTag q frame.number 4 w → next ≡ put_group frame.slot frame.part us
     → Stands pool m depth levels base p0 frames next (one_more_in frame.number frame.scope) w
-group_closes {pool} {m} {depth} {levels} {base} {p0} {frame} {frames} {scope} {us} {q} {w} next s end is =
+group_closes {pool} {m} {depth} {levels} {base} {p0} {frame} {frames} {scope} {us} {q} {w} next s some end is =
     subst (λ (z : Part). Stands pool m depth levels base p0 frames z (one_more_in frame.number frame.scope) w) (sym is)
-    (ends_at_tag s (group_is_open s) (group_slot frame.slot frame.part us (takes_here s)) end)
+    (ends_at_tag s (is_group s some) some end)
+
+-- and the message of a field
+pub message_group_closes :
+    {pool : Types} {m depth levels : ℕ} {base : List Record} {p0 : Place} {frame : Frame} {frames : List Frame} {scope : Scope} {k : ℕ} {v : Message} {q w : Place} (next : Part)
+    → Stands pool m depth levels base p0 (frame ∷ frames) (message_part k v) scope q → frame.group ≡ true → HasTag q frame.number 4 w → next ≡ put_message pool frame.slot frame.part v
+    → Stands pool m depth levels base p0 frames next (one_more_in frame.number frame.scope) w
+message_group_closes {pool} {m} {depth} {levels} {base} {p0} {frame} {frames} {scope} {k} {v} {q} {w} next s some end is =
+    subst (λ (z : Part). Stands pool m depth levels base p0 frames z (one_more_in frame.number frame.scope) w) (sym is)
+    (ends_at_tag s (is_group s some) some end)

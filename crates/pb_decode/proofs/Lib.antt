@@ -11,8 +11,10 @@ pub mod OpenSteps
 pub mod StepsOfParts
 pub mod EntrySteps
 pub mod PackedNumbers
+mod ClosedLists
 pub mod AfterLemmas
-pub mod NumberSteps
+pub mod KindLemmas
+mod NumberSteps
 pub mod ListSteps
 pub mod UnknownSteps
 pub mod PayloadSteps
@@ -51,3 +53,4 @@ pub mod LaterLemmas
 pub mod GivenLemmas
 pub mod InFrame
 pub mod RunLemmas
+mod UndeclaredSteps

@@ -6,18 +6,17 @@ use Rattle.pb_schema.specs.declared.types.Kind.{Kind}
 use Rattle.pb_schema.specs.Types.{FieldView, Types, message_fields, field_numbered}
 use Rattle.pb_schema.specs.Rules.{IsPool}
 use Rattle.pb_schema.specs.Kinds.{message_of_kind}
-use Rattle.pb_schema.specs.Packed.{elements}
 use Rattle.pb_schema.specs.Names.{AllDiffer}
-use Rattle.pb_value.specs.Data.{Message, scalar, fields_of}
+use Rattle.pb_value.specs.Data.{Message, fields_of}
 use Rattle.pb_value.specs.Value.{value_within}
 use Rattle.pb_value.specs.WellFormed.{HasOneMemberEach}
-use Rattle.pb_value.specs.Change.{push_each, with_fields}
-use Rattle.pb_value.proofs.MessageSteps.{message_elements, value_members}
+use Rattle.pb_value.proofs.MessageSteps.{value_members}
 use Rattle.pb_value.proofs.OneofLemmas.{pool_differ}
 use Rattle.pb_value.proofs.StepLemmas.{found_number}
 use Rattle.pb_decode.specs.declared.step.Step.TheVariants as step
 use Rattle.pb_decode.specs.Frames.{Part, CanHold, Frame, Scope}
 use Rattle.pb_decode.specs.After.{with_elements, After}
+use Rattle.pb_decode.proofs.ClosedLists.{list_value}
 use Rattle.pb_decode.proofs.WellLemmas.{type_in_pool}
 use Rattle.pb_decode.proofs.NumberSteps.{fits_is}
 use Rattle.pb_decode.proofs.ListSteps.{AtList, at_list, packed_field}
@@ -27,7 +26,7 @@ members_in :
     {pool : Types} {m depth levels : ℕ} {base : List Record} {p0 : Place} {frames : List Frame} {scope : Scope} {now : Part} {u : Place} (k : ℕ) (kd : Kind) (outer : Option ℕ)
     (list : AtList pool m depth levels base p0 frames now scope k kd outer u) → AllDiffer (map (λ (f : FieldView). f.number) (message_fields pool list.message_type)) → (i : ℕ) → scope.room < i
     → list.before ≡ value_within pool i list.message_type (list.stands.earlier ++ list.stands.records_so_far)
-    → HasOneMemberEach (message_fields pool list.message_type) (fields_of (with_elements k kd list.front list.before))
+    → HasOneMemberEach (message_fields pool list.message_type) (fields_of (with_elements pool k kd list.front list.before))
 members_in k kd outer list differ zero deep w = absurd (omega (arith, deep))
 members_in {pool} k kd outer list differ (suc i) deep w =
     let (f, found, e, is_kind, (p, is_shape), none, packable) = packed_field (field_numbered k (message_fields pool list.message_type)) k 2 kd list.means in
@@ -35,10 +34,10 @@ members_in {pool} k kd outer list differ (suc i) deep w =
     let there : field_numbered f.number (message_fields pool list.message_type) ≡ Some f = ap (λ (z : ℕ). field_numbered z (message_fields pool list.message_type)) own ∙ found in
     let before : List Record = list.stands.earlier ++ list.stands.records_so_far in
     let r : Record = record { number = f.number; payload = len list.front } in
-    let is : with_elements k kd list.front list.before ≡ value_within pool (suc i) list.message_type (before ++ r ∷ []) =
-    ap (λ (z : Kind). with_elements k z list.front list.before) (sym is_kind) ∙ ap (λ (z : ℕ). with_elements z f.kind list.front list.before) (sym own)
-    ∙ ap (λ (y : Message). with_fields y (push_each f.number (map scalar (elements f.kind (len list.front))) (fields_of y))) w
-    ∙ sym (message_elements pool i list.message_type differ before r f there (fits_is f f.number (len list.front) refl e) p is_shape (ap message_of_kind is_kind ∙ none)) in
+    let is : with_elements pool k kd list.front list.before ≡ value_within pool (suc i) list.message_type (before ++ r ∷ []) =
+    ap (λ (z : Kind). with_elements pool k z list.front list.before) (sym is_kind) ∙ ap (λ (z : ℕ). with_elements pool z f.kind list.front list.before) (sym own)
+    ∙ ap (with_elements pool f.number f.kind list.front) w
+    ∙ sym (list_value pool i list.message_type differ f there p is_shape (ap message_of_kind is_kind ∙ none) before list.front (fits_is f f.number (len list.front) refl e)) in
     subst (λ (z : Message). HasOneMemberEach (message_fields pool list.message_type) (fields_of z)) (sym is) (value_members pool i list.message_type (before ++ r ∷ []) differ)
 
 pub list_can_hold :

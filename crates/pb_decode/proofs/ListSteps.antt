@@ -1,9 +1,9 @@
 -- A packed list: its length, one more element, a fault of an element, and its end.
-use Rattle.std.proofs.Common.{◌≡◌, ◌≢◌, ℕ, ◌+◌, List, length, refl, sym, ap, ◌∙◌, subst, arith, Option, Some, None, IsTrue}
-use Rattle.std.specs.Prelude.{Bool, true}
+use Rattle.std.proofs.Common.{◌≡◌, ◌≢◌, ℕ, ◌+◌, List, [], ◌∷◌, ◌++◌, length, refl, sym, ap, ◌∙◌, subst, arith, Option, Some, None, IsTrue}
+use Rattle.std.specs.Prelude.{Bool, true, false}
 use Rattle.std.proofs.lemmas.Bool.{false≢true}
 use Rattle.std.proofs.lemmas.Nat.{from_le_bytes-to_le_bytes_4, from_le_bytes-to_le_bytes_8}
-use Rattle.pb_wire.specs.Record.{varint, fixed64, len, fixed32, Record, wire_type}
+use Rattle.pb_wire.specs.Record.{Payload, varint, fixed64, len, fixed32, Record, wire_type}
 use Rattle.pb_wire.specs.Spell.{Body}
 use Rattle.pb_wire.specs.Fault.{Fault, inside, Place, HasTag, HasLength}
 use Rattle.pb_wire.specs.Schema.{Element, a_varint, four_bytes, eight_bytes, packed, records, context_of}
@@ -17,10 +17,11 @@ use Rattle.pb_schema.specs.declared.types.Shape.TheVariants as shape
 use Rattle.pb_schema.specs.Types.{FieldView, Types, message_fields, field_numbered}
 use Rattle.pb_schema.specs.Rules.{IsPool}
 use Rattle.pb_schema.specs.Scalar.{Scalar}
-use Rattle.pb_schema.specs.Kinds.{wire_type_of, is_packable, message_of_kind, read}
+use Rattle.pb_schema.specs.Kinds.{wire_type_of, is_packable, message_of_kind, closed_enum, read}
+use Rattle.pb_schema.specs.Closed.{is_undeclared}
 use Rattle.pb_schema.specs.Fits.{fits_type}
 use Rattle.pb_schema.specs.Context.{Context, a_message as in_message, element_of, read_listed, read_field, read_shaped, schema_of}
-use Rattle.pb_value.specs.Data.{Message, scalar}
+use Rattle.pb_value.specs.Data.{Message, scalar, body, fields_of, unknown_of}
 use Rattle.pb_value.proofs.OneofLemmas.{pool_differ}
 use Rattle.pb_value.proofs.StepLemmas.{found_number}
 use Rattle.pb_decode.specs.declared.number.Number.{Number}
@@ -29,14 +30,14 @@ use Rattle.pb_decode.specs.declared.purpose.Purpose.TheVariants as purpose
 use Rattle.pb_decode.specs.declared.step.Step.{Step}
 use Rattle.pb_decode.specs.declared.step.Step.TheVariants as step
 use Rattle.pb_decode.specs.Number.{number_view}
-use Rattle.pb_decode.specs.Numbers.{put_datum, Follows}
+use Rattle.pb_decode.specs.Numbers.{put_datum, put_record, Follows}
 use Rattle.pb_decode.specs.Opened.{below}
 use Rattle.pb_decode.specs.Purposes.{OfShape, AtField, Means, part_context}
 use Rattle.pb_decode.specs.Frames.{Part, message_part, entry_part, group_part, CanHold, up_to, next_step, Frame, path_of, Stands, Scope, one_more_in}
 use Rattle.pb_decode.specs.After.{tag, awaited, Elements, with_elements, Underway, nothing, a_tag, a_length, some_elements, After}
 use Rattle.pb_decode.proofs.PackedLemmas.{elements_more, element_told, list_ends}
 use Rattle.pb_decode.proofs.PackedNumbers.{element_type, number_of, type_of_element}
-use Rattle.pb_decode.proofs.AfterLemmas.{at_tag, with_no_elements, with_next_element}
+use Rattle.pb_decode.proofs.AfterLemmas.{at_tag, with_no_elements, with_next_element, with_next_undeclared}
 use Rattle.pb_decode.proofs.FrameLemmas.{ends_along}
 use Rattle.pb_decode.proofs.NumberSteps.{fits_is}
 
@@ -61,6 +62,7 @@ listed_reading c kind.Sint32 can = refl
 listed_reading c kind.Sint64 can = refl
 listed_reading c kind.Bool can = refl
 listed_reading c (kind.Enum e) can = refl
+listed_reading c (kind.ClosedEnum e) can = refl
 listed_reading c kind.Fixed64 can = refl
 listed_reading c kind.Sfixed64 can = refl
 listed_reading c kind.Double can = refl
@@ -70,6 +72,7 @@ listed_reading c kind.Float can = refl
 listed_reading c kind.Text can = absurd (false≢true can)
 listed_reading c kind.Bytes can = absurd (false≢true can)
 listed_reading c (kind.Message m) can = absurd (false≢true can)
+listed_reading c (kind.Group m) can = absurd (false≢true can)
 
 pub packed_field :
     (o : Option FieldView) (k w : ℕ) (kd : Kind) → AtField o k w (purpose.Packed kd)
@@ -106,7 +109,7 @@ list_begins {pool} {now = now} {t = t} k kd n a is l =
       stands = behind.stands;
       begun =
           some_elements refl behind.has l behind.means (record { whole = no_elements; moves = moves_nothing (payload_at t n) }) at.2
-          (at.2 ∙ ap (message_part at.0) (sym (with_no_elements k kd at.1 list.1)));
+          (at.2 ∙ ap (message_part at.0) (sym (with_no_elements pool k kd at.1 list.1)));
       ends = (n, refl, refl);
     }
 
@@ -124,7 +127,7 @@ pub record AtList (pool : Types) (m depth levels : ℕ) (base : List Record) (p0
   pub length_is : HasLength length_at size payload
   pub means : Means pool (in_message message_type) k 2 (purpose.Packed kd)
   pub elements_are : Elements (element_of kd) (payload_at payload size) u front
-  pub now_is : now ≡ message_part message_type (with_elements k kd front before)
+  pub now_is : now ≡ message_part message_type (with_elements pool k kd front before)
 
 pub at_list :
     {pool : Types} {m depth levels : ℕ} {base : List Record} {p0 : Place} {frames : List Frame} {scope : Scope} {now : Part} {u : Place} (k : ℕ) (kd : Kind) (outer : Option ℕ)
@@ -153,15 +156,15 @@ at_list {pool} {m} {depth} {levels} {base} {p0} {frames} {scope} {now} {u} k kd 
               subst (λ (z : Kind). Means pool (in_message j) k 2 (purpose.Packed z)) kind_is
               (subst (λ (z : ℕ). Means pool (in_message j) z 2 (purpose.Packed kd2)) own (subst (λ (z : Part). Means pool (part_context z) k2 2 (purpose.Packed kd2)) was means));
           elements_are = subst (λ (z : Kind). Elements (element_of z) (payload_at t n) u front) kind_is h;
-          now_is = same ∙ ap (λ (z : ℕ). message_part j (with_elements z kd2 front w)) own ∙ ap (λ (z : Kind). message_part j (with_elements k z front w)) kind_is;
+          now_is = same ∙ ap (λ (z : ℕ). message_part j (with_elements pool z kd2 front w)) own ∙ ap (λ (z : Kind). message_part j (with_elements pool k z front w)) kind_is;
         }
 
 -- ONE MORE ELEMENT: it goes to the end of the list, and one stands behind it
 pub list_goes_on :
     {pool : Types} {m depth levels : ℕ} {base : List Record} {p0 : Place} {frames : List Frame} {scope : Scope} {now : Part} {u w : Place} (k : ℕ) (kd : Kind) (outer : Option ℕ) (a : Number) (x : Scalar)
-    → After pool m depth levels base p0 frames (step.Elements k kd outer) now scope u → wire_type (number_view a) ≡ wire_type_of kd → read kd (number_view a) ≡ Some x → Follows u (number_view a) w
-    → After pool m depth levels base p0 frames (step.Elements k kd outer) (put_datum pool k (purpose.Element kd) now (scalar x)) scope w
-list_goes_on {pool} {m} {depth} {levels} {base} {p0} {frames} {scope} {now} {u} {w} k kd outer a x begun type value (first, spelled, moves) =
+    → After pool m depth levels base p0 frames (step.Elements k kd outer) now scope u → wire_type (number_view a) ≡ wire_type_of kd → read kd (number_view a) ≡ Some x → is_undeclared pool (closed_enum kd) (number_view a) ≡ false
+    → Follows u (number_view a) w → After pool m depth levels base p0 frames (step.Elements k kd outer) (put_datum pool k (purpose.Element kd) now (scalar x)) scope w
+list_goes_on {pool} {m} {depth} {levels} {base} {p0} {frames} {scope} {now} {u} {w} k kd outer a x begun type value declared (first, spelled, moves) =
     let list = at_list k kd outer begun in
     let can = (packs pool (message_part list.message_type list.before) k kd list.means).1 in
     let one = element_spelled (element_of kd) a first (type ∙ type_of_element kd can) spelled in
@@ -172,7 +175,29 @@ list_goes_on {pool} {m} {depth} {levels} {base} {p0} {frames} {scope} {now} {u} 
       begun =
           some_elements refl list.has list.length_is list.means (elements_more list.front first list.elements_are one.0 moves) refl
           (ap (λ (z : Part). put_datum pool k (purpose.Element kd) z (scalar x)) list.now_is
-          ∙ ap (message_part list.message_type) (sym (with_next_element k kd list.front first x list.before can list.elements_are.whole one.0 (ap (read kd) one.1 ∙ value))));
+          ∙ ap (message_part list.message_type) (sym (with_next_element pool k kd list.front first x list.before can list.elements_are.whole one.0 (ap (read kd) one.1 ∙ value) (ap (is_undeclared pool (closed_enum kd)) one.1 ∙ declared))));
+      ends = ends_along first scope.end moves begun.ends;
+    }
+
+-- one that a closed enum doesn't declare goes among the unknown records
+list_passes :
+    {pool : Types} {m depth levels : ℕ} {base : List Record} {p0 : Place} {frames : List Frame} {scope : Scope} {now : Part} {u w : Place} (k : ℕ) (kd : Kind) (outer : Option ℕ) (a : Number)
+    → After pool m depth levels base p0 frames (step.Elements k kd outer) now scope u → wire_type (number_view a) ≡ wire_type_of kd → is_undeclared pool (closed_enum kd) (number_view a) ≡ true
+    → Follows u (number_view a) w → After pool m depth levels base p0 frames (step.Elements k kd outer) (put_record k (number_view a) now) scope w
+list_passes {pool} {m} {depth} {levels} {base} {p0} {frames} {scope} {now} {u} {w} k kd outer a begun type undeclared (first, spelled, moves) =
+    let list = at_list k kd outer begun in
+    let can = (packs pool (message_part list.message_type list.before) k kd list.means).1 in
+    let one = element_spelled (element_of kd) a first (type ∙ type_of_element kd can) spelled in
+    let so_far : Message = with_elements pool k kd list.front list.before in
+    record {
+      before = message_part list.message_type list.before;
+      place = list.place;
+      stands = list.stands;
+      begun =
+          some_elements refl list.has list.length_is list.means (elements_more list.front first list.elements_are one.0 moves) refl
+          (ap (put_record k (number_view a)) list.now_is
+          ∙ ap (λ (z : Payload). message_part list.message_type (body (fields_of so_far) (unknown_of so_far ++ record { number = k; payload = z } ∷ []))) (sym one.1)
+          ∙ ap (message_part list.message_type) (sym (with_next_undeclared pool k kd list.front first list.before list.elements_are.whole one.0 (ap (is_undeclared pool (closed_enum kd)) one.1 ∙ undeclared))));
       ends = ends_along first scope.end moves begun.ends;
     }
 
@@ -190,15 +215,15 @@ pub list_over :
 list_over {pool} {m} {depth} {levels} {base} {p0} {frames} {scope} {now} {u} k kd outer ok can begun over =
     let list = at_list k kd outer begun in
     let (f, found, e, is_kind, (p, is_shape), none, packable) = packed_field (field_numbered k (message_fields pool list.message_type)) k 2 kd list.means in
-    let within : CanHold pool (message_part list.message_type (with_elements k kd list.front list.before)) = subst (CanHold pool) list.now_is can in
+    let within : CanHold pool (message_part list.message_type (with_elements pool k kd list.front list.before)) = subst (CanHold pool) list.now_is can in
     let own : f.number ≡ k = found_number k (message_fields pool list.message_type) f found in
     let there : field_numbered f.number (message_fields pool list.message_type) ≡ Some f = ap (λ (z : ℕ). field_numbered z (message_fields pool list.message_type)) own ∙ found in
     let ended = list_ends list.message_type list.before list.stands (pool_differ pool list.message_type ok within.0) f there p is_shape (ap message_of_kind is_kind ∙ none) (fits_is f f.number (len list.front) refl e)
     (subst (λ (z : ℕ). HasTag list.place z 2 list.length_at) (sym own) list.has)
     (ap ((schema_of pool).reading (context_of list.stands.open_now)) own ∙ list_reading pool (context_of list.stands.open_now) list.message_type k kd list.stands.form list.means) list.length_is list.elements_are over in
     subst (λ (z : Part). Stands pool m depth levels base p0 frames z (one_more_in k (record scope { end = outer })) (up_to outer u)) (sym list.now_is)
-    (subst (λ (z : Kind). Stands pool m depth levels base p0 frames (message_part list.message_type (with_elements k z list.front list.before)) (one_more_in k (record scope { end = outer })) (up_to outer u)) is_kind
-    (subst (λ (z : ℕ). Stands pool m depth levels base p0 frames (message_part list.message_type (with_elements z f.kind list.front list.before)) (one_more_in z (record scope { end = outer })) (up_to outer u)) own ended))
+    (subst (λ (z : Kind). Stands pool m depth levels base p0 frames (message_part list.message_type (with_elements pool k z list.front list.before)) (one_more_in k (record scope { end = outer })) (up_to outer u)) is_kind
+    (subst (λ (z : ℕ). Stands pool m depth levels base p0 frames (message_part list.message_type (with_elements pool z f.kind list.front list.before)) (one_more_in z (record scope { end = outer })) (up_to outer u)) own ended))
 
 -- THE FAULT OF AN ELEMENT is the fault of the whole
 pub list_told :
@@ -212,7 +237,14 @@ list_told {pool} {m} {depth} {p0 = p0} k kd outer g begun open_end bad =
 -- where the part holds the element too, one stands behind it
 pub element_put :
     {pool : Types} {m depth levels : ℕ} {base : List Record} {p0 : Place} {frames : List Frame} {scope : Scope} {now : Part} {u w : Place} (k : ℕ) (kd : Kind) (outer : Option ℕ) (a : Number) (x : Scalar) (put : Part)
-    → After pool m depth levels base p0 frames (step.Elements k kd outer) now scope u → wire_type (number_view a) ≡ wire_type_of kd → read kd (number_view a) ≡ Some x → Follows u (number_view a) w
-    → put ≡ put_datum pool k (purpose.Element kd) now (scalar x) → After pool m depth levels base p0 frames (step.Elements k kd outer) put scope w
-element_put {pool} {m} {depth} {levels} {base} {p0} {frames} {scope} {now} {u} {w} k kd outer a x put begun type value follows made =
-    subst (λ (z : Part). After pool m depth levels base p0 frames (step.Elements k kd outer) z scope w) (sym made) (list_goes_on k kd outer a x begun type value follows)
+    → After pool m depth levels base p0 frames (step.Elements k kd outer) now scope u → wire_type (number_view a) ≡ wire_type_of kd → read kd (number_view a) ≡ Some x → is_undeclared pool (closed_enum kd) (number_view a) ≡ false
+    → Follows u (number_view a) w → put ≡ put_datum pool k (purpose.Element kd) now (scalar x) → After pool m depth levels base p0 frames (step.Elements k kd outer) put scope w
+element_put {pool} {m} {depth} {levels} {base} {p0} {frames} {scope} {now} {u} {w} k kd outer a x put begun type value declared follows made =
+    subst (λ (z : Part). After pool m depth levels base p0 frames (step.Elements k kd outer) z scope w) (sym made) (list_goes_on k kd outer a x begun type value declared follows)
+
+pub element_passed :
+    {pool : Types} {m depth levels : ℕ} {base : List Record} {p0 : Place} {frames : List Frame} {scope : Scope} {now : Part} {u w : Place} (k : ℕ) (kd : Kind) (outer : Option ℕ) (a : Number) (put : Part)
+    → After pool m depth levels base p0 frames (step.Elements k kd outer) now scope u → wire_type (number_view a) ≡ wire_type_of kd → is_undeclared pool (closed_enum kd) (number_view a) ≡ true
+    → Follows u (number_view a) w → put ≡ put_record k (number_view a) now → After pool m depth levels base p0 frames (step.Elements k kd outer) put scope w
+element_passed {pool} {m} {depth} {levels} {base} {p0} {frames} {scope} {now} {u} {w} k kd outer a put begun type undeclared follows made =
+    subst (λ (z : Part). After pool m depth levels base p0 frames (step.Elements k kd outer) z scope w) (sym made) (list_passes k kd outer a begun type undeclared follows)

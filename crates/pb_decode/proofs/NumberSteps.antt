@@ -1,6 +1,6 @@
 -- A number behind its tag: the whole record, and what the part is worth with it.
 use Rattle.std.proofs.Common.{◌≡◌, ℕ, ◌%◌, ◌^◌, ◌<◌, List, [], ◌∷◌, length, map, refl, sym, ap, ◌∙◌, subst, arith, Option, Some, None, IsTrue}
-use Rattle.std.specs.Prelude.{Bool, true, not, ◌==◌, ◌&&◌}
+use Rattle.std.specs.Prelude.{Bool, true, false, not, ◌==◌, ◌&&◌}
 use Rattle.std.specs.Option.{option_to_list}
 use Rattle.std.specs.Int.{cast_signed, w32, w64}
 use Rattle.std.proofs.lemmas.Bool.{false≢true}
@@ -17,7 +17,10 @@ use Rattle.pb_schema.specs.declared.types.Shape.TheVariants as shape
 use Rattle.pb_schema.specs.Types.{FieldView, Types, message_fields, field_numbered}
 use Rattle.pb_schema.specs.Rules.{IsPool}
 use Rattle.pb_schema.specs.Scalar.{Scalar, int32, int64, uint32, uint64, boolean, float, double, enum}
-use Rattle.pb_schema.specs.Kinds.{wire_type_of, is_key_kind, message_of_kind, read}
+use Rattle.pb_schema.specs.Closed.{is_undeclared}
+use Rattle.pb_value.proofs.KnownLemmas.{IsKnown}
+use Rattle.pb_decode.proofs.KindLemmas.{declared_known}
+use Rattle.pb_schema.specs.Kinds.{closed_enum, wire_type_of, is_key_kind, message_of_kind, read}
 use Rattle.pb_schema.specs.Packed.{elements}
 use Rattle.pb_schema.specs.Fits.{fits, fits_type, fits_shape}
 use Rattle.pb_schema.specs.Context.{key_field, value_field, schema_of}
@@ -81,6 +84,9 @@ read_some kind.Bool (number.I32 n) same = absurd (omega (arith, same))
 read_some (kind.Enum e) (number.Varint n) same = (enum (cast_signed w32 (n % 2 ^ 32)), refl)
 read_some (kind.Enum e) (number.I64 n) same = absurd (omega (arith, same))
 read_some (kind.Enum e) (number.I32 n) same = absurd (omega (arith, same))
+read_some (kind.ClosedEnum e) (number.Varint n) same = (enum (cast_signed w32 (n % 2 ^ 32)), refl)
+read_some (kind.ClosedEnum e) (number.I64 n) same = absurd (omega (arith, same))
+read_some (kind.ClosedEnum e) (number.I32 n) same = absurd (omega (arith, same))
 read_some kind.Fixed64 (number.Varint n) same = absurd (omega (arith, same))
 read_some kind.Fixed64 (number.I64 n) same = (uint64 n, refl)
 read_some kind.Fixed64 (number.I32 n) same = absurd (omega (arith, same))
@@ -108,6 +114,9 @@ read_some kind.Bytes (number.I32 n) same = absurd (omega (arith, same))
 read_some (kind.Message m) (number.Varint n) same = absurd (omega (arith, same))
 read_some (kind.Message m) (number.I64 n) same = absurd (omega (arith, same))
 read_some (kind.Message m) (number.I32 n) same = absurd (omega (arith, same))
+read_some (kind.Group m) (number.Varint n) same = absurd (omega (arith, same))
+read_some (kind.Group m) (number.I64 n) same = absurd (omega (arith, same))
+read_some (kind.Group m) (number.I32 n) same = absurd (omega (arith, same))
 
 at_form : (z y : Scalar) → Some z ≡ Some y → key_in (scalar z) ≡ Some z → key_in (scalar y) ≡ Some y
 at_form z y is form = let same : z ≡ y = cc in subst (λ (x : Scalar). key_in (scalar x) ≡ Some x) same form
@@ -155,6 +164,8 @@ key_read kind.Float a y can is = absurd (false≢true can)
 key_read kind.Bytes a y can is = absurd (false≢true can)
 key_read (kind.Enum e) a y can is = absurd (false≢true can)
 key_read (kind.Message m) a y can is = absurd (false≢true can)
+key_read (kind.ClosedEnum e) a y can is = absurd (false≢true can)
+key_read (kind.Group m) a y can is = absurd (false≢true can)
 
 -- THE FIELD
 
@@ -218,31 +229,37 @@ no_entry_value (Some f) n w kd h = no_shape f.kind f.shape n w (purpose.EntryVal
 module _ {pool : Types} {m depth levels : ℕ} {base : List Record} {p0 : Place} {frames : List Frame} {scope : Scope} (ok : IsPool pool) (k : ℕ) (p : Payload) (x : Scalar) {q w : Place} where
   one_stands : (t : ℕ) (v : Message) (kd : Kind) (s : Shape) → t < length pool.messages → (st : Stands pool m depth levels base p0 frames (message_part t v) scope q)
       → RecordTo (schema_of pool) (context_of st.open_now) scope.room q (record { number = k; payload = p }) w → Means pool (part_context (message_part t v)) k (wire_type p) (purpose.One kd s)
-      → elements kd p ≡ x ∷ [] → Stands pool m depth levels base p0 frames (put_datum pool k (purpose.One kd s) (message_part t v) (scalar x)) (one_more_in k scope) w
-  one_stands t v kd s within st to means is = at_field (single_field (field_numbered k (message_fields pool t)) k (wire_type p) kd s means)
+      → elements kd p ≡ x ∷ [] → wire_type p ≡ wire_type_of kd → is_undeclared pool (closed_enum kd) p ≡ false → Stands pool m depth levels base p0 frames (put_datum pool k (purpose.One kd s) (message_part t v) (scalar x)) (one_more_in k scope) w
+  one_stands t v kd s within st to means is type declared = at_field (single_field (field_numbered k (message_fields pool t)) k (wire_type p) kd s means)
     where
       at_field : (f : FieldView) × (field_numbered k (message_fields pool t) ≡ Some f) × (fits_type f (wire_type p) ≡ true) × (f.kind ≡ kd) × (f.shape ≡ s) × IsSingle s × (message_of_kind kd ≡ None)
           → Stands pool m depth levels base p0 frames (message_part t (with_fields v (stored_at (message_fields pool t) s k (one (scalar x)) (fields_of v)))) (one_more_in k scope) w
       at_field (f, found, e, is_kind, is_shape, single, none) =
           let own : f.number ≡ k = found_number k (message_fields pool t) f found in
           let there : field_numbered f.number (message_fields pool t) ≡ Some f = ap (λ (z : ℕ). field_numbered z (message_fields pool t)) own ∙ found in
-          let stood = scalar_stands t v st (pool_differ pool t ok within) (record { number = k; payload = p }) to f there (fits_is f k p own e) x
+          let counting = subst (λ (z : ℕ). IsKnown pool (message_fields pool t) (record { number = z; payload = p })) own
+          (declared_known pool (message_fields pool t) f p there (ap (λ (z : Kind). wire_type p == wire_type_of z) is_kind ∙ ap (λ (z : ℕ). z == wire_type_of kd) type ∙ self_equal (wire_type_of kd))
+          (ap (λ (z : Kind). is_undeclared pool (closed_enum z) p) is_kind ∙ declared) (fits_is f f.number p refl e)) in
+          let stood = scalar_stands t v st (pool_differ pool t ok within) (record { number = k; payload = p }) to f there (fits_is f k p own e) counting x
           (subst IsSingle (sym is_shape) single) (ap message_of_kind is_kind ∙ none) (ap (λ (z : Kind). elements z p) is_kind ∙ is) in
           subst (λ (z : ℕ). Stands pool m depth levels base p0 frames (message_part t (with_fields v (stored_at (message_fields pool t) s z (one (scalar x)) (fields_of v)))) (one_more_in k scope) w) own
           (subst (λ (z : Shape). Stands pool m depth levels base p0 frames (message_part t (with_fields v (stored_at (message_fields pool t) z f.number (one (scalar x)) (fields_of v)))) (one_more_in k scope) w) is_shape stood)
 
   element_stands : (t : ℕ) (v : Message) (kd : Kind) → t < length pool.messages → (st : Stands pool m depth levels base p0 frames (message_part t v) scope q)
       → RecordTo (schema_of pool) (context_of st.open_now) scope.room q (record { number = k; payload = p }) w → Means pool (part_context (message_part t v)) k (wire_type p) (purpose.Element kd)
-      → elements kd p ≡ x ∷ [] → Stands pool m depth levels base p0 frames (put_datum pool k (purpose.Element kd) (message_part t v) (scalar x)) (one_more_in k scope) w
-  element_stands t v kd within st to means is = at_field (listed_field (field_numbered k (message_fields pool t)) k (wire_type p) kd means)
+      → elements kd p ≡ x ∷ [] → wire_type p ≡ wire_type_of kd → is_undeclared pool (closed_enum kd) p ≡ false → Stands pool m depth levels base p0 frames (put_datum pool k (purpose.Element kd) (message_part t v) (scalar x)) (one_more_in k scope) w
+  element_stands t v kd within st to means is type declared = at_field (listed_field (field_numbered k (message_fields pool t)) k (wire_type p) kd means)
     where
       at_field : (f : FieldView) × (field_numbered k (message_fields pool t) ≡ Some f) × (fits_type f (wire_type p) ≡ true) × (f.kind ≡ kd) × ((b : Bool) × (f.shape ≡ shape.List b)) × (message_of_kind kd ≡ None)
           → Stands pool m depth levels base p0 frames (message_part t (with_fields v (push_at k (scalar x) (fields_of v)))) (one_more_in k scope) w
       at_field (f, found, e, is_kind, (b, is_shape), none) =
           let own : f.number ≡ k = found_number k (message_fields pool t) f found in
           let there : field_numbered f.number (message_fields pool t) ≡ Some f = ap (λ (z : ℕ). field_numbered z (message_fields pool t)) own ∙ found in
+          let counting = subst (λ (z : ℕ). IsKnown pool (message_fields pool t) (record { number = z; payload = p })) own
+          (declared_known pool (message_fields pool t) f p there (ap (λ (z : Kind). wire_type p == wire_type_of z) is_kind ∙ ap (λ (z : ℕ). z == wire_type_of kd) type ∙ self_equal (wire_type_of kd))
+          (ap (λ (z : Kind). is_undeclared pool (closed_enum z) p) is_kind ∙ declared) (fits_is f f.number p refl e)) in
           let given : elements f.kind p ≡ x ∷ [] = ap (λ (z : Kind). elements z p) is_kind ∙ is in
-          let stood = elements_stand t v st (pool_differ pool t ok within) (record { number = k; payload = p }) to f there (fits_is f k p own e) b is_shape
+          let stood = elements_stand t v st (pool_differ pool t ok within) (record { number = k; payload = p }) to f there (fits_is f k p own e) counting b is_shape
           (ap message_of_kind is_kind ∙ none) in
           subst (λ (z : ℕ). Stands pool m depth levels base p0 frames (message_part t (with_fields v (push_at z (scalar x) (fields_of v)))) (one_more_in k scope) w) own
           (subst (λ (z : List Scalar). Stands pool m depth levels base p0 frames (message_part t (with_fields v (push_each f.number (map scalar z) (fields_of v)))) (one_more_in k scope) w) given stood)
@@ -265,25 +282,29 @@ module _ {pool : Types} {m depth levels : ℕ} {base : List Record} {p0 : Place}
   -- A VALUE IN A PART: one stands behind its record, and the part holds it
   pub scalar_record_stands : (now : Part) (meant : Purpose) (kd : Kind) → CanHold pool now → (st : Stands pool m depth levels base p0 frames now scope q)
       → RecordTo (schema_of pool) (context_of st.open_now) scope.room q (record { number = k; payload = p }) w → Means pool (part_context now) k (wire_type p) meant → scalar_kind meant ≡ Some kd
-      → elements kd p ≡ x ∷ [] → (IsTrue (is_key_kind kd) → key_in (scalar x) ≡ Some x) → Stands pool m depth levels base p0 frames (put_datum pool k meant now (scalar x)) (one_more_in k scope) w
-  scalar_record_stands (message_part t v) (purpose.One k2 s) kd can st to means of is keyed = one_stands t v k2 s can.0 st to means (let same : k2 ≡ kd = cc in ap (λ (z : Kind). elements z p) same ∙ is)
-  scalar_record_stands (message_part t v) (purpose.Element k2) kd can st to means of is keyed = element_stands t v k2 can.0 st to means (let same : k2 ≡ kd = cc in ap (λ (z : Kind). elements z p) same ∙ is)
-  scalar_record_stands (message_part t v) (purpose.Key k2) kd can st to means of is keyed = absurd (no_key (field_numbered k (message_fields pool t)) k (wire_type p) k2 means)
-  scalar_record_stands (message_part t v) (purpose.EntryValue k2) kd can st to means of is keyed = absurd (no_entry_value (field_numbered k (message_fields pool t)) k (wire_type p) k2 means)
-  scalar_record_stands (entry_part key k3 y d) (purpose.Key k2) kd can st to means of is keyed =
+      → elements kd p ≡ x ∷ [] → (IsTrue (is_key_kind kd) → key_in (scalar x) ≡ Some x) → wire_type p ≡ wire_type_of kd → is_undeclared pool (closed_enum kd) p ≡ false → Stands pool m depth levels base p0 frames (put_datum pool k meant now (scalar x)) (one_more_in k scope) w
+  scalar_record_stands (message_part t v) (purpose.One k2 s) kd can st to means of is keyed type declared =
+      let same : k2 ≡ kd = cc in
+      one_stands t v k2 s can.0 st to means (ap (λ (z : Kind). elements z p) same ∙ is) (type ∙ ap wire_type_of (sym same)) (ap (λ (z : Kind). is_undeclared pool (closed_enum z) p) same ∙ declared)
+  scalar_record_stands (message_part t v) (purpose.Element k2) kd can st to means of is keyed type declared =
+      let same : k2 ≡ kd = cc in
+      element_stands t v k2 can.0 st to means (ap (λ (z : Kind). elements z p) same ∙ is) (type ∙ ap wire_type_of (sym same)) (ap (λ (z : Kind). is_undeclared pool (closed_enum z) p) same ∙ declared)
+  scalar_record_stands (message_part t v) (purpose.Key k2) kd can st to means of is keyed type declared = absurd (no_key (field_numbered k (message_fields pool t)) k (wire_type p) k2 means)
+  scalar_record_stands (message_part t v) (purpose.EntryValue k2) kd can st to means of is keyed type declared = absurd (no_entry_value (field_numbered k (message_fields pool t)) k (wire_type p) k2 means)
+  scalar_record_stands (entry_part key k3 y d) (purpose.Key k2) kd can st to means of is keyed type declared =
       let same : k2 ≡ kd = cc in
       key_part_stands key k3 y d k2 st to means (ap (λ (z : Kind). elements z p) same ∙ is) (keyed (subst (λ (z : Kind). IsTrue (is_key_kind z)) (sym means.0 ∙ same) can))
-  scalar_record_stands (entry_part key k3 y d) (purpose.EntryValue k2) kd can st to means of is keyed = value_part_stands key k3 y d k2 st to means (let same : k2 ≡ kd = cc in ap (λ (z : Kind). elements z p) same ∙ is)
-  scalar_record_stands (entry_part key k3 y d) (purpose.One k2 s) kd can st to means of is keyed = absurd means
-  scalar_record_stands (entry_part key k3 y d) (purpose.Element k2) kd can st to means of is keyed = absurd means
-  scalar_record_stands (group_part us) (purpose.One k2 s) kd can st to means of is keyed = absurd (cc)
-  scalar_record_stands (group_part us) (purpose.Element k2) kd can st to means of is keyed = absurd (cc)
-  scalar_record_stands (group_part us) (purpose.Key k2) kd can st to means of is keyed = absurd (cc)
-  scalar_record_stands (group_part us) (purpose.EntryValue k2) kd can st to means of is keyed = absurd (cc)
-  scalar_record_stands now (purpose.Packed k2) kd can st to means of is keyed = absurd (cc)
-  scalar_record_stands now (purpose.Message j s) kd can st to means of is keyed = absurd (cc)
-  scalar_record_stands now (purpose.Entry k2 k3) kd can st to means of is keyed = absurd (cc)
-  scalar_record_stands now purpose.Unknown kd can st to means of is keyed = absurd (cc)
+  scalar_record_stands (entry_part key k3 y d) (purpose.EntryValue k2) kd can st to means of is keyed type declared = value_part_stands key k3 y d k2 st to means (let same : k2 ≡ kd = cc in ap (λ (z : Kind). elements z p) same ∙ is)
+  scalar_record_stands (entry_part key k3 y d) (purpose.One k2 s) kd can st to means of is keyed type declared = absurd means
+  scalar_record_stands (entry_part key k3 y d) (purpose.Element k2) kd can st to means of is keyed type declared = absurd means
+  scalar_record_stands (group_part us) (purpose.One k2 s) kd can st to means of is keyed type declared = absurd (cc)
+  scalar_record_stands (group_part us) (purpose.Element k2) kd can st to means of is keyed type declared = absurd (cc)
+  scalar_record_stands (group_part us) (purpose.Key k2) kd can st to means of is keyed type declared = absurd (cc)
+  scalar_record_stands (group_part us) (purpose.EntryValue k2) kd can st to means of is keyed type declared = absurd (cc)
+  scalar_record_stands now (purpose.Packed k2) kd can st to means of is keyed type declared = absurd (cc)
+  scalar_record_stands now (purpose.Message j s) kd can st to means of is keyed type declared = absurd (cc)
+  scalar_record_stands now (purpose.Entry k2 k3) kd can st to means of is keyed type declared = absurd (cc)
+  scalar_record_stands now purpose.Unknown kd can st to means of is keyed type declared = absurd (cc)
 
 -- THE VALUE IS THERE: a number of the wire type that its record's purpose wants has one
 pub number_is : (a b : ℕ) → (a == b) ≡ true → a ≡ b
@@ -336,10 +357,10 @@ module _ {pool : Types} {m depth levels : ℕ} {base : List Record} {p0 u : Plac
   value_there = read_some kd a (meant_type pool now k (wire_type (number_view a)) meant kd (at_tag (tag k (wire_type (number_view a)) meant) begun is).means of)
 
   -- THE STEP: where the part holds what the number stands for, one stands behind it
-  pub number_put : {w : Place} (x : Scalar) (put : Part) → IsPool pool → CanHold pool now → read kd (number_view a) ≡ Some x → Follows u (number_view a) w → put ≡ put_datum pool k meant now (scalar x)
+  pub number_put : {w : Place} (x : Scalar) (put : Part) → IsPool pool → CanHold pool now → read kd (number_view a) ≡ Some x → is_undeclared pool (closed_enum kd) (number_view a) ≡ false → Follows u (number_view a) w → put ≡ put_datum pool k meant now (scalar x)
       → Stands pool m depth levels base p0 frames put (one_more_in k scope) w
-  number_put {w} x put ok can value follows made =
+  number_put {w} x put ok can value declared follows made =
       let behind = at_tag (tag k (wire_type (number_view a)) meant) begun is in
       subst (λ (z : Part). Stands pool m depth levels base p0 frames z (one_more_in k scope) w) (sym made)
       (scalar_record_stands ok k (number_view a) x now meant kd can behind.stands (number_record (context_of behind.stands.open_now) scope.room k a behind.has follows) behind.means of (number_elements kd a x value)
-      (λ keyed. key_read kd a x keyed value))
+      (λ keyed. key_read kd a x keyed value) (meant_type pool now k (wire_type (number_view a)) meant kd behind.means of) declared)

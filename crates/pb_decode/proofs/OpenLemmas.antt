@@ -2,10 +2,10 @@
 use Rattle.std.proofs.Common.{◌≡◌, ◌≢◌, ℕ, zero, suc, ◌+◌, ◌<◌, List, [], ◌∷◌, ◌++◌, length, map, inl, inr, refl, sym, ap, ◌∙◌, subst, arith, Option, Some, None}
 use Rattle.std.specs.Prelude.{◌⊎◌, Bool, true, false, ◌==◌, ◌&&◌, if◌then◌else◌}
 use Rattle.std.proofs.lemmas.List.{append-nil}
-use Rattle.pb_wire.specs.Record.{Payload, len, Record, wire_type}
+use Rattle.pb_wire.specs.Record.{Payload, len, group as group_payload, no_more, Record, wire_type}
 use Rattle.pb_wire.specs.Inside.{records_inside}
 use Rattle.pb_wire.specs.Fault.{Place, step, HasTag, HasLength}
-use Rattle.pb_wire.specs.Schema.{records, message as message_reading}
+use Rattle.pb_wire.specs.Schema.{Open, records, in_group, context_of, message as message_reading}
 use Rattle.pb_wire.specs.Grammar.{payload_at}
 use Rattle.pb_schema.specs.declared.types.Kind.{Kind}
 use Rattle.pb_schema.specs.declared.types.Kind.TheVariants as kind
@@ -15,7 +15,7 @@ use Rattle.pb_schema.specs.declared.types.Shape.TheVariants as shape
 use Rattle.pb_schema.specs.Types.{FieldView, Types, message_fields, field_numbered}
 use Rattle.pb_schema.specs.Names.{AllDiffer}
 use Rattle.pb_schema.specs.Fits.{fits, fits_type}
-use Rattle.pb_schema.specs.Context.{Context, a_message as in_message, read_field, read_shaped, fields_in, schema_of}
+use Rattle.pb_schema.specs.Context.{Context, a_message as in_message, schema_of}
 use Rattle.pb_value.specs.Data.{message, one, Holding, Fields, Message, body, fields_of, unknown_of, get_field, put_field, drop_field, message_depth}
 use Rattle.pb_value.specs.Value.{value_within}
 use Rattle.pb_value.specs.Judge.{is_absence}
@@ -32,7 +32,10 @@ use Rattle.pb_value.proofs.MessageSteps.{earlier, message_within, message_before
 use Rattle.pb_decode.specs.declared.part.Slot.TheVariants as slot
 use Rattle.pb_decode.specs.Opened.{Begun}
 use Rattle.pb_decode.specs.Opened as opened
-use Rattle.pb_decode.specs.Frames.{message_part, entry_part, group_part, Frame, Completes, Held, inside, Stands, Scope}
+use Rattle.pb_decode.specs.Frames.{message_part, entry_part, group_part, opening_type, open_type, Frame, EndsAt, Completes, Held, inside, Stands, Scope}
+use Rattle.pb_schema.specs.Kinds.{message_of_kind}
+use Rattle.pb_value.proofs.KnownLemmas.{IsKnown}
+use Rattle.pb_decode.proofs.KindLemmas.{message_open, open_known}
 use Rattle.pb_decode.proofs.StepCounts.{counts_of_none}
 use Rattle.pb_decode.proofs.WellLemmas.{type_in_pool, message_good, held_good}
 use Rattle.pb_decode.proofs.OpenedLemmas.{behind_nothing}
@@ -86,43 +89,65 @@ put_back all s n w fs rises members = message_stored all s n w (drop_field n fs)
 pub fits_by_type : (f : FieldView) (p : Payload) (w : ℕ) → wire_type p ≡ w → fits_type f w ≡ true → fits f (record { number = f.number; payload = p }) ≡ true
 fits_by_type f p w e t = ap (λ (b : Bool). b && fits_type f (wire_type p)) (self_equal f.number) ∙ ap (fits_type f) e ∙ t
 
-message_fits : (f : FieldView) (j : MessageId) → f.kind ≡ kind.Message j → IsSingle f.shape → fits_type f 2 ≡ true
-message_fits f j is single = by_shape f.shape single f.kind is
-  where
-    by_shape : (s : Shape) → IsSingle s → (k : Kind) → k ≡ kind.Message j → fits_type (record f { shape = s; kind = k }) 2 ≡ true
-    by_shape shape.Implicit single k e = ap (λ (x : Kind). fits_type (record f { shape = shape.Implicit; kind = x }) 2) e
-    by_shape shape.Explicit single k e = ap (λ (x : Kind). fits_type (record f { shape = shape.Explicit; kind = x }) 2) e
-    by_shape (shape.OneofMember o) single k e = ap (λ (x : Kind). fits_type (record f { shape = shape.OneofMember o; kind = x }) 2) e
-    by_shape (shape.List p) single k e = absurd single
-    by_shape (shape.Map key) single k e = absurd single
-
-read_single : (k : ℕ) (s : Shape) (j : MessageId) → IsSingle s → read_shaped (in_message k) s (kind.Message j) ≡ message_reading (in_message j.0)
-read_single k shape.Implicit j single = refl
-read_single k shape.Explicit j single = refl
-read_single k (shape.OneofMember o) j single = refl
-read_single k (shape.List p) j single = absurd single
-read_single k (shape.Map key) j single = absurd single
-
-pub reads_message : (pool : Types) (k : ℕ) (f : FieldView) (j : MessageId) → field_numbered f.number (message_fields pool k) ≡ Some f → f.kind ≡ kind.Message j → IsSingle f.shape
-    → read_field (in_message k) (field_numbered f.number (message_fields pool k)) ≡ message_reading (in_message j.0)
-reads_message pool k f j found is single = ap (read_field (in_message k)) found ∙ ap (read_shaped (in_message k) f.shape) is ∙ read_single k f.shape j single
-
 -- what the kind of a field names is of the pool
-pub message_in_pool : (pool : Types) (k : ℕ) (f : FieldView) (j : MessageId) → IsPool pool → field_numbered f.number (message_fields pool k) ≡ Some f → f.kind ≡ kind.Message j → j.0 < length pool.messages
-message_in_pool pool k f j ok found is = subst (NamesType (length pool.messages) (length pool.enums)) is (found_field pool k (λ g. g.number == f.number) f ok found).kind
+pub message_in_pool : (pool : Types) (k : ℕ) (f : FieldView) (j : MessageId) → IsPool pool → field_numbered f.number (message_fields pool k) ≡ Some f → message_of_kind f.kind ≡ Some j.0 → j.0 < length pool.messages
+message_in_pool pool k f j ok found is = named f.kind is (found_field pool k (λ g. g.number == f.number) f ok found).kind
+  where
+    named : (x : Kind) → message_of_kind x ≡ Some j.0 → NamesType (length pool.messages) (length pool.enums) x → j.0 < length pool.messages
+    named (kind.Message i) is h = let same : i.0 ≡ j.0 = cc in subst (λ (z : ℕ). z < length pool.messages) same h
+    named (kind.Group i) is h = let same : i.0 ≡ j.0 = cc in subst (λ (z : ℕ). z < length pool.messages) same h
+    named x is h = absurd (cc)
 
 -- WHAT IS OPENED begins with no records, a level below, and with its own known end
 abbrev pub payload_scope : ℕ → Place → ℕ → (ℕ → ℕ) → Scope
 payload_scope room t n counts = record { room = room; end = Some (t.at + n); counts = counts }
 
+-- Behind the tag of the record of number n that comes next, and its length where it has one, a message of this type begins, in this scope.
+pub record Opens (pool : Types) (a : Open Context) (room n : ℕ) (q : Place) (j : ℕ) (group : Bool) (inner : Scope) (u : Place) : Type 0 where
+  pub what : Open Context
+  pub begun : Begun (schema_of pool) a room n q what inner.room u
+  pub of_type : context_of what ≡ in_message j
+  pub typed : opening_type group ≡ open_type what
+  pub level : room ≡ suc inner.room
+  pub ends : EndsAt u inner.end
+  pub none : (i : ℕ) → inner.counts i ≡ 0
+
+-- by a length
+pub length_opens :
+    (pool : Types) {a : Open Context} {room k n j : ℕ} {q r t : Place} (inner : Scope) → (schema_of pool).reading (context_of a) k ≡ message_reading (in_message j) → HasTag q k 2 r → HasLength r n t → room ≡ suc inner.room
+    → inner.end ≡ Some (t.at + n) → ((i : ℕ) → inner.counts i ≡ 0) → Opens pool a room k q j false inner (payload_at t n)
+length_opens pool {n = n} {j = j} {t = t} inner reading tag l level end none = record {
+  what = records (in_message j);
+  begun = opened.a_message level tag reading l refl refl;
+  of_type = refl;
+  typed = refl;
+  level = level;
+  ends = subst (EndsAt (payload_at t n)) (sym end) (n, refl, refl);
+  none = none;
+}
+
+-- by the first tag of a group
+pub group_opens :
+    (pool : Types) {a : Open Context} {room k j : ℕ} {q u : Place} (inner : Scope) → (schema_of pool).group_context (context_of a) k ≡ in_message j → HasTag q k 3 u → room ≡ suc inner.room → EndsAt u inner.end
+    → ((i : ℕ) → inner.counts i ≡ 0) → Opens pool a room k q j true inner u
+group_opens pool {a = a} {k = k} inner context tag level ends none = record {
+  what = in_group k ((schema_of pool).group_context (context_of a) k);
+  begun = opened.a_group level tag refl refl;
+  of_type = context;
+  typed = refl;
+  level = level;
+  ends = ends;
+  none = none;
+}
+
 -- THE MESSAGE OF A FIELD OF ONE VALUE IS OPENED: what the field held is taken out, and goes on
 pub opens_message :
-    {pool : Types} {m depth levels : ℕ} {base : List Record} {p0 : Place} {frames : List Frame} {scope : Scope} {q r t : Place} (k : ℕ) (v : Message) (s : Stands pool m depth levels base p0 frames (message_part k v) scope q)
-    → IsPool pool → (f : FieldView) (j : MessageId) → field_numbered f.number (message_fields pool k) ≡ Some f → f.kind ≡ kind.Message j → IsSingle f.shape
-    → (below n : ℕ) (counts : ℕ → ℕ) → scope.room ≡ suc below → ((i : ℕ) → counts i ≡ 0) → HasTag q f.number 2 r → HasLength r n t
-    → Stands pool m depth levels base p0 (record { part = message_part k (with_fields v (drop_field f.number (fields_of v))); number = f.number; slot = slot.One f.shape f.number; scope = scope } ∷ frames)
-    (message_part j.0 (held_message (get_field f.number (fields_of v)))) (payload_scope below t n counts) (payload_at t n)
-opens_message {pool} {m} {depth} {levels} {base} {p0} {frames} {scope} {q} {r} {t} k v s ok f j found is single below n counts room none tag l = by_level s.inner s.deep s.held s.worth (message_good ok k v s)
+    {pool : Types} {m depth levels : ℕ} {base : List Record} {p0 : Place} {frames : List Frame} {scope : Scope} {q : Place} (k : ℕ) (v : Message) (s : Stands pool m depth levels base p0 frames (message_part k v) scope q)
+    → IsPool pool → (f : FieldView) (j : MessageId) (group : Bool) → field_numbered f.number (message_fields pool k) ≡ Some f → message_of_kind f.kind ≡ Some j.0 → IsSingle f.shape → fits_type f (opening_type group) ≡ true
+    → (inner : Scope) (u : Place) → Opens pool s.open_now scope.room f.number q j.0 group inner u
+    → Stands pool m depth levels base p0 (record { part = message_part k (with_fields v (drop_field f.number (fields_of v))); number = f.number; slot = slot.One f.shape f.number; group = group; scope = scope } ∷ frames)
+    (message_part j.0 (held_message (get_field f.number (fields_of v)))) inner u
+opens_message {pool} {m} {depth} {levels} {base} {p0} {frames} {scope} {q} k v s ok f j group found is single fitted inner u opens = by_level s.inner s.deep s.held s.worth (message_good ok k v s)
   where
     all : List FieldView
     all = message_fields pool k
@@ -137,31 +162,31 @@ opens_message {pool} {m} {depth} {levels} {base} {p0} {frames} {scope} {q} {r} {
     taken = with_fields v (drop_field f.number (fields_of v))
 
     frame : Frame
-    frame = record { part = message_part k taken; number = f.number; slot = slot.One f.shape f.number; scope = scope }
+    frame = record { part = message_part k taken; number = f.number; slot = slot.One f.shape f.number; group = group; scope = scope }
 
-    begun : Begun (schema_of pool) s.open_now scope.room f.number q (records (in_message j.0)) below (payload_at t n)
-    begun = opened.a_message room tag (subst (λ (c : Context). read_field c (field_numbered f.number (fields_in pool c)) ≡ message_reading (in_message j.0)) (sym s.form) (reads_message pool k f j found is single)) l refl refl
+    level : scope.room ≡ suc inner.room
+    level = opens.level
 
-    by_level : (inner : ℕ) → scope.room < inner → Held pool m depth levels base p0 frames (message_part k v) s.open_now scope.room inner s.path s.begin s.earlier → v ≡ value_within pool inner k (s.earlier ++ s.records_so_far)
-        → IsBody pool k v × (message_depth v < inner)
-        → Stands pool m depth levels base p0 (frame ∷ frames) (message_part j.0 (held_message (get_field f.number (fields_of v)))) (payload_scope below t n counts) (payload_at t n)
+    by_level : (inside_levels : ℕ) → scope.room < inside_levels → Held pool m depth levels base p0 frames (message_part k v) s.open_now scope.room inside_levels s.path s.begin s.earlier → v ≡ value_within pool inside_levels k (s.earlier ++ s.records_so_far)
+        → IsBody pool k v × (message_depth v < inside_levels)
+        → Stands pool m depth levels base p0 (frame ∷ frames) (message_part j.0 (held_message (get_field f.number (fields_of v)))) inner u
     by_level zero h held w good = absurd (omega (arith, h))
     by_level (suc i) h held w good = record {
-      open_now = records (in_message j.0);
+      open_now = opens.what;
       inner = i;
       path = s.path ++ step f.number s.records_so_far ∷ [];
-      begin = payload_at t n;
+      begin = u;
       earlier = before;
       records_so_far = [];
       held =
-          inside (held_as_well (message_part k taken) refl held) s.behind begun s.form can h completes refl s.counted s.ends
-          (let inner = held_good pool k i v f j found is (omega (arith, h, room)) good.0 good.1 in
-          subst (λ (z : Message). (j.0 < length pool.messages) × IsBody pool j.0 z × (message_depth z < i)) goes_on (message_in_pool pool k f j ok found is, inner.0, inner.1)) tt;
-      form = refl;
-      deep = omega (arith, h, room);
-      behind = behind_nothing (payload_at t n);
-      counted = counts_of_none counts none;
-      ends = (n, refl, refl);
+          inside (held_as_well (message_part k taken) refl held) s.behind opens.begun s.form can h completes refl s.counted s.ends
+          (let good_inside = held_good pool k i v f j found is (omega (arith, h, level)) good.0 good.1 in
+          subst (λ (z : Message). (j.0 < length pool.messages) × IsBody pool j.0 z × (message_depth z < i)) goes_on (message_in_pool pool k f j ok found is, good_inside.0, good_inside.1)) (tt, opens.typed);
+      form = opens.of_type;
+      deep = omega (arith, h, level);
+      behind = behind_nothing u;
+      counted = counts_of_none inner.counts opens.none;
+      ends = opens.ends;
       bytes = s.bytes;
       worth = goes_on ∙ ap (value_within pool i j.0) (sym (append-nil before));
     }
@@ -173,26 +198,43 @@ opens_message {pool} {m} {depth} {levels} {base} {p0} {frames} {scope} {q} {r} {
         can = (in_pool, HasOneMemberEach-drop_field all f.number (fields_of v) (subst (λ (y : Message). HasOneMemberEach all (fields_of y)) (sym w) (value_members pool i k rs differ)))
 
         -- any record that fits will do
+        some_payload : Payload
+        some_payload = if group then group_payload no_more else len []
+
+        its_type : wire_type some_payload ≡ opening_type group
+        its_type = by_flag group
+          where
+            by_flag : (g : Bool) → wire_type (if g then group_payload no_more else len []) ≡ opening_type g
+            by_flag true = refl
+            by_flag false = refl
+
         the_record : Record
-        the_record = record { number = f.number; payload = len [] }
+        the_record = record { number = f.number; payload = some_payload }
+
+        the_fit : fits f the_record ≡ true
+        the_fit = fits_by_type f some_payload (opening_type group) its_type fitted
+
+        the_known : IsKnown pool all the_record
+        the_known = open_known pool all f some_payload found (message_open f.shape f.kind j.0 is) the_fit
 
         before : List Record
-        before = earlier pool i k differ rs the_record f found (fits_by_type f (len []) 2 refl (message_fits f j is single))
+        before = earlier pool i k differ rs the_record f found the_fit the_known.whole the_known.counting
 
         goes_on : held_message (get_field f.number (fields_of v)) ≡ value_within pool i j.0 before
         goes_on =
             ap (λ (y : Message). held_message (get_field f.number (fields_of y))) w
-            ∙ message_before pool i k differ rs the_record f found (fits_by_type f (len []) 2 refl (message_fits f j is single)) j is single
+            ∙ message_before pool i k differ rs the_record f found the_fit the_known.whole the_known.counting j.0 is single
 
         completes : Completes pool (suc i) i frame rs (message_part j.0 (held_message (get_field f.number (fields_of v)))) before
         completes p (message_part l x) type form worth =
-            let e : fits f (record { number = f.number; payload = p }) ≡ true = fits_by_type f p 2 type (message_fits f j is single) in
+            let e : fits f (record { number = f.number; payload = p }) ≡ true = fits_by_type f p (opening_type group) type fitted in
+            let counting = open_known pool all f p found (message_open f.shape f.kind j.0 is) e in
             let rises : RisesFrom 0 (fields_of v) = subst (λ (y : Message). RisesFrom 0 (fields_of y)) (sym w) (value_rises pool i k rs) in
             let members : HasOneMemberEach all (fields_of v) = subst (λ (y : Message). HasOneMemberEach all (fields_of y)) (sym w) (value_members pool i k rs differ) in
             let made : x ≡ value_within pool i j.0 (before ++ records_inside p) = worth ∙ ap (λ (z : ℕ). value_within pool i z (before ++ records_inside p)) (sym form) in
             ap (λ (gs : Fields). body gs (unknown_of v)) (put_back all f.shape f.number x (fields_of v) rises members)
             ∙ ap (λ (y : Message). with_fields y (stored_at all f.shape f.number (one (message x)) (fields_of y))) w
             ∙ ap (λ (z : Message). with_fields (value_within pool (suc i) k rs) (stored_at all f.shape f.number (one (message z)) (fields_of (value_within pool (suc i) k rs)))) made
-            ∙ sym (message_within pool i k differ rs (record { number = f.number; payload = p }) f found e j is single)
+            ∙ sym (message_within pool i k differ rs (record { number = f.number; payload = p }) f found e counting.whole counting.counting j.0 is single)
         completes p (entry_part a b c d) type form worth = absurd form
         completes p (group_part us) type form worth = absurd form

@@ -1,10 +1,10 @@
--- What is opened and was not there before: a message of a list, an entry of a map, an unknown group.
+-- What is opened and was not there before: a message of a list, an entry of a map.
 use Rattle.std.proofs.Common.{◌≡◌, ℕ, zero, suc, ◌<◌, List, [], ◌∷◌, ◌++◌, length, map, refl, sym, ap, ◌∙◌, subst, arith, Option, Some, None}
 use Rattle.std.specs.Prelude.{Bool, true, false, unwrap_or, ◌==◌}
-use Rattle.pb_wire.specs.Record.{varint, fixed64, len, group, fixed32, Group, no_more, more, Record, group_of, records_in}
+use Rattle.pb_wire.specs.Record.{Record}
 use Rattle.pb_wire.specs.Inside.{records_inside}
 use Rattle.pb_wire.specs.Fault.{Place, step, HasTag, HasLength}
-use Rattle.pb_wire.specs.Schema.{records, in_group, message as message_reading}
+use Rattle.pb_wire.specs.Schema.{records, message as message_reading}
 use Rattle.pb_wire.specs.Grammar.{payload_at}
 use Rattle.pb_schema.specs.declared.types.Kind.{Kind}
 use Rattle.pb_schema.specs.declared.types.Kind.TheVariants as kind
@@ -12,42 +12,40 @@ use Rattle.pb_schema.specs.declared.types.MessageId.{MessageId}
 use Rattle.pb_schema.specs.declared.types.Shape.TheVariants as shape
 use Rattle.pb_schema.specs.Types.{FieldView, Types, message_fields, field_numbered}
 use Rattle.pb_schema.specs.Names.{AllDiffer}
-use Rattle.pb_schema.specs.Rules.{IsPool, HasKeyKind}
+use Rattle.pb_schema.specs.declared.types.Shape.{Shape}
+use Rattle.pb_schema.specs.Rules.{IsPool, HasKeyKind, MayBeValue}
 use Rattle.pb_schema.proofs.LookupLemmas.{found_field}
 use Rattle.pb_value.proofs.OneofLemmas.{pool_differ}
 use Rattle.pb_schema.specs.Scalar.{Scalar}
-use Rattle.pb_schema.specs.Kinds.{default_of}
-use Rattle.pb_schema.specs.Fits.{fits_any, fits_type, fitting}
-use Rattle.pb_schema.specs.Context.{Context, a_message as in_message, an_entry, unknown_group, key_field, value_field, schema_of}
-use Rattle.pb_value.specs.Data.{Datum, message, Message, body, fields_of, unknown_of, empty, message_depth}
+use Rattle.pb_schema.specs.Kinds.{default_of, message_of_kind}
+use Rattle.pb_schema.specs.Fits.{fits_type, fitting}
+use Rattle.pb_schema.specs.Context.{Context, a_message as in_message, an_entry, key_field, value_field, schema_of}
+use Rattle.pb_value.specs.Data.{Datum, message, Message, fields_of, empty, message_depth}
 use Rattle.pb_value.specs.Value.{last_of, all_elements, one_value, missing, entry_of, value_within}
 use Rattle.pb_value.specs.WellFormed.{HasOneMemberEach, IsBody}
 use Rattle.pb_value.specs.Change.{push_at, insert_at, with_fields}
-use Rattle.pb_value.proofs.MessageSteps.{message_listed, message_entry, message_unknown, value_of_nothing, value_members}
+use Rattle.pb_value.proofs.MessageSteps.{message_listed, message_entry, value_of_nothing, value_members}
 use Rattle.pb_decode.specs.declared.part.Slot.TheVariants as slot
 use Rattle.pb_decode.specs.Opened.{Begun}
 use Rattle.pb_decode.specs.Opened as opened
-use Rattle.pb_decode.specs.Frames.{message_part, entry_part, group_part, Frame, Completes, Held, inside, Stands, Scope}
+use Rattle.pb_decode.specs.Frames.{message_part, entry_part, group_part, opening_type, Frame, Completes, Held, inside, Stands, Scope}
+use Rattle.pb_decode.proofs.KindLemmas.{message_open, map_open, open_known}
 use Rattle.pb_decode.proofs.StepCounts.{counts_of_none}
-use Rattle.pb_decode.proofs.FrameLemmas.{ends_along}
 use Rattle.pb_decode.proofs.WellLemmas.{type_in_pool, message_good, keys_good}
 use Rattle.pb_decode.proofs.OpenedLemmas.{behind_nothing}
-use Rattle.pb_decode.proofs.OpenLemmas.{fits_by_type, message_in_pool, payload_scope}
+use Rattle.pb_decode.proofs.OpenLemmas.{fits_by_type, message_in_pool, payload_scope, Opens}
 
 no_value : (inner : ℕ → List Record → Message) (k : Kind) → one_value inner k [] ≡ None
 no_value inner (kind.Message j) = refl
+no_value inner (kind.Group j) = refl
 no_value inner k = refl
 
 one_missing : (a b : ℕ → List Record → Message) (k : Kind) → missing a k ≡ missing b k
 one_missing a b (kind.Message j) = refl
+one_missing a b (kind.Group j) = refl
 one_missing a b k = refl
 
-group_again : (g : Group) → group_of (records_in g) ≡ g
-group_again no_more = refl
-group_again (more a b g) = ap (more a b) (group_again g)
-
-module _ {pool : Types} {m depth levels : ℕ} {base : List Record} {p0 : Place} {frames : List Frame} {scope : Scope} {q : Place} (r t : Place) (k : ℕ) (v : Message) (s : Stands pool m depth levels base p0 frames (message_part k v) scope q)
-    (ok : IsPool pool) (below n : ℕ) (counts : ℕ → ℕ) (room : scope.room ≡ suc below) (none : (i : ℕ) → counts i ≡ 0) where
+module _ {pool : Types} {m depth levels : ℕ} {base : List Record} {p0 : Place} {frames : List Frame} {scope : Scope} {q : Place} (k : ℕ) (v : Message) (s : Stands pool m depth levels base p0 frames (message_part k v) scope q) (ok : IsPool pool) where
   in_pool : k < length pool.messages
   in_pool = type_in_pool k v s
 
@@ -56,33 +54,33 @@ module _ {pool : Types} {m depth levels : ℕ} {base : List Record} {p0 : Place}
 
   -- AN ELEMENT OF A LIST OF MESSAGES
   pub opens_listed :
-      (f : FieldView) (j : MessageId) (p : Bool) → field_numbered f.number (message_fields pool k) ≡ Some f → f.kind ≡ kind.Message j → f.shape ≡ shape.List p → fits_type f 2 ≡ true
-      → (schema_of pool).reading (in_message k) f.number ≡ message_reading (in_message j.0) → HasTag q f.number 2 r → HasLength r n t
-      → Stands pool m depth levels base p0 (record { part = message_part k v; number = f.number; slot = slot.List f.number; scope = scope } ∷ frames) (message_part j.0 empty) (payload_scope below t n counts) (payload_at t n)
-  opens_listed f j p found is at two reading tag l = by_level s.inner s.deep s.held s.worth
+      (f : FieldView) (j : MessageId) (p : Bool) (group : Bool) → field_numbered f.number (message_fields pool k) ≡ Some f → message_of_kind f.kind ≡ Some j.0 → f.shape ≡ shape.List p → fits_type f (opening_type group) ≡ true
+      → (inner : Scope) (u : Place) → Opens pool s.open_now scope.room f.number q j.0 group inner u
+      → Stands pool m depth levels base p0 (record { part = message_part k v; number = f.number; slot = slot.List f.number; group = group; scope = scope } ∷ frames) (message_part j.0 empty) inner u
+  opens_listed f j p group found is at fitted inner u opens = by_level s.inner s.deep s.held s.worth
     where
       frame : Frame
-      frame = record { part = message_part k v; number = f.number; slot = slot.List f.number; scope = scope }
+      frame = record { part = message_part k v; number = f.number; slot = slot.List f.number; group = group; scope = scope }
 
-      begun : Begun (schema_of pool) s.open_now scope.room f.number q (records (in_message j.0)) below (payload_at t n)
-      begun = opened.a_message room tag (subst (λ (c : Context). (schema_of pool).reading c f.number ≡ message_reading (in_message j.0)) (sym s.form) reading) l refl refl
+      level : scope.room ≡ suc inner.room
+      level = opens.level
 
-      by_level : (inner : ℕ) → scope.room < inner → Held pool m depth levels base p0 frames (message_part k v) s.open_now scope.room inner s.path s.begin s.earlier → v ≡ value_within pool inner k (s.earlier ++ s.records_so_far)
-          → Stands pool m depth levels base p0 (frame ∷ frames) (message_part j.0 empty) (payload_scope below t n counts) (payload_at t n)
+      by_level : (inside_levels : ℕ) → scope.room < inside_levels → Held pool m depth levels base p0 frames (message_part k v) s.open_now scope.room inside_levels s.path s.begin s.earlier → v ≡ value_within pool inside_levels k (s.earlier ++ s.records_so_far)
+          → Stands pool m depth levels base p0 (frame ∷ frames) (message_part j.0 empty) inner u
       by_level zero h held w = absurd (omega (arith, h))
       by_level (suc i) h held w = record {
-        open_now = records (in_message j.0);
+        open_now = opens.what;
         inner = i;
         path = s.path ++ step f.number s.records_so_far ∷ [];
-        begin = payload_at t n;
+        begin = u;
         earlier = [];
         records_so_far = [];
-        held = inside held s.behind begun s.form can h completes refl s.counted s.ends (subst (λ (z : Message). (j.0 < length pool.messages) × IsBody pool j.0 z × (message_depth z < i)) (sym (value_of_nothing pool i j.0)) (message_in_pool pool k f j ok found is, (tt, tt, tt, tt), omega (arith, h, room))) tt;
-        form = refl;
-        deep = omega (arith, h, room);
-        behind = behind_nothing (payload_at t n);
-        counted = counts_of_none counts none;
-        ends = (n, refl, refl);
+        held = inside held s.behind opens.begun s.form can h completes refl s.counted s.ends (subst (λ (z : Message). (j.0 < length pool.messages) × IsBody pool j.0 z × (message_depth z < i)) (sym (value_of_nothing pool i j.0)) (message_in_pool pool k f j ok found is, (tt, tt, tt, tt), omega (arith, h, level))) (tt, opens.typed);
+        form = opens.of_type;
+        deep = omega (arith, h, level);
+        behind = behind_nothing u;
+        counted = counts_of_none inner.counts opens.none;
+        ends = opens.ends;
         bytes = s.bytes;
         worth = sym (value_of_nothing pool i j.0);
       }
@@ -98,19 +96,22 @@ module _ {pool : Types} {m depth levels : ℕ} {base : List Record} {p0 : Place}
               let made : x ≡ value_within pool i j.0 (records_inside pl) = worth ∙ ap (λ (z : ℕ). value_within pool i z (records_inside pl)) (sym form) in
               ap (λ (y : Message). with_fields y (push_at f.number (message x) (fields_of y))) w
               ∙ ap (λ (z : Message). with_fields (value_within pool (suc i) k rs) (push_at f.number (message z) (fields_of (value_within pool (suc i) k rs)))) made
-              ∙ sym (message_listed pool i k differ rs (record { number = f.number; payload = pl }) f found (fits_by_type f pl 2 type two) p j at is)
+              ∙ (let fit = fits_by_type f pl (opening_type group) type fitted in
+              let counting = open_known pool (message_fields pool k) f pl found (message_open f.shape f.kind j.0 is) fit in
+              sym (message_listed pool i k differ rs (record { number = f.number; payload = pl }) f found fit counting.whole counting.counting p j.0 at is))
           completes pl (entry_part a b c d) type form worth = absurd form
           completes pl (group_part us) type form worth = absurd form
 
   -- AN ENTRY OF A MAP
   pub opens_entry :
-      (f : FieldView) (key : Kind) → field_numbered f.number (message_fields pool k) ≡ Some f → f.shape ≡ shape.Map key → fits_type f 2 ≡ true
+      (r t : Place) (below n : ℕ) (counts : ℕ → ℕ) → scope.room ≡ suc below → ((i : ℕ) → counts i ≡ 0)
+      → (f : FieldView) (key : Kind) → field_numbered f.number (message_fields pool k) ≡ Some f → f.shape ≡ shape.Map key → fits_type f 2 ≡ true
       → (schema_of pool).reading (in_message k) f.number ≡ message_reading (an_entry key f.kind) → HasTag q f.number 2 r → HasLength r n t
-      → Stands pool m depth levels base p0 (record { part = message_part k v; number = f.number; slot = slot.Map f.number; scope = scope } ∷ frames) (entry_part key f.kind None None) (payload_scope below t n counts) (payload_at t n)
-  opens_entry f key found at two reading tag l = by_level s.inner s.deep s.held s.worth (message_good ok k v s)
+      → Stands pool m depth levels base p0 (record { part = message_part k v; number = f.number; slot = slot.Map f.number; group = false; scope = scope } ∷ frames) (entry_part key f.kind None None) (payload_scope below t n counts) (payload_at t n)
+  opens_entry r t below n counts room none f key found at two reading tag l = by_level s.inner s.deep s.held s.worth (message_good ok k v s)
     where
       frame : Frame
-      frame = record { part = message_part k v; number = f.number; slot = slot.Map f.number; scope = scope }
+      frame = record { part = message_part k v; number = f.number; slot = slot.Map f.number; group = false; scope = scope }
 
       begun : Begun (schema_of pool) s.open_now scope.room f.number q (records (an_entry key f.kind)) below (payload_at t n)
       begun = opened.a_message room tag (subst (λ (c : Context). (schema_of pool).reading c f.number ≡ message_reading (an_entry key f.kind)) (sym s.form) reading) l refl refl
@@ -125,7 +126,7 @@ module _ {pool : Types} {m depth levels : ℕ} {base : List Record} {p0 : Place}
         begin = payload_at t n;
         earlier = [];
         records_so_far = [];
-        held = inside held s.behind begun s.form can h completes refl s.counted s.ends (let rules = found_field pool k (λ g. g.number == f.number) f ok found in (refl, subst HasKeyKind at rules.key, rules.kind)) (keys_good pool k i v f key found at good.0 good.1);
+        held = inside held s.behind begun s.form can h completes refl s.counted s.ends (let rules = found_field pool k (λ g. g.number == f.number) f ok found in (refl, subst HasKeyKind at rules.key, rules.kind, subst (λ (z : Shape). MayBeValue z f.kind) at rules.value)) (keys_good pool k i v f key found at good.0 good.1, refl);
         form = refl;
         deep = omega (arith, h, room);
         behind = behind_nothing (payload_at t n);
@@ -156,57 +157,8 @@ module _ {pool : Types} {m depth levels : ℕ} {base : List Record} {p0 : Place}
               ap (λ (y : Message). with_fields y (insert_at f.number (unwrap_or x (default_of key2)) (unwrap_or d (missing (λ _ _. empty) kind2)) (fields_of y))) w
               ∙ ap (λ (z : Scalar). with_fields (value_within pool (suc i) k rs) (insert_at f.number z (unwrap_or d (missing (λ _ _. empty) kind2)) (fields_of (value_within pool (suc i) k rs)))) first
               ∙ ap (λ (z : Datum). with_fields (value_within pool (suc i) k rs) (insert_at f.number (entry_of (value_within pool i) key f.kind (record { number = f.number; payload = pl })).0 z (fields_of (value_within pool (suc i) k rs)))) second
-              ∙ sym (message_entry pool i k differ rs (record { number = f.number; payload = pl }) f found (fits_by_type f pl 2 type two) key at)
+              ∙ (let fit = fits_by_type f pl 2 type two in
+              let counting = open_known pool (message_fields pool k) f pl found (map_open f.shape f.kind key at) fit in
+              sym (message_entry pool i k differ rs (record { number = f.number; payload = pl }) f found fit counting.whole counting.counting key at))
           completes pl (message_part a b) type form worth = absurd form
           completes pl (group_part us) type form worth = absurd form
-
-  -- A GROUP, WHICH NO FIELD FITS
-  pub opens_group :
-      (number : ℕ) → ((g : Group) → fits_any (message_fields pool k) (record { number = number; payload = group g }) ≡ false) → HasTag q number 3 r
-      → Stands pool m depth levels base p0 (record { part = message_part k v; number = number; slot = slot.Unknown number; scope = scope } ∷ frames) (group_part []) (record { room = below; end = scope.end; counts = counts }) r
-  opens_group number unfit tag = by_level s.inner s.deep s.held s.worth
-    where
-      frame : Frame
-      frame = record { part = message_part k v; number = number; slot = slot.Unknown number; scope = scope }
-
-      begun : Begun (schema_of pool) s.open_now scope.room number q (in_group number unknown_group) below r
-      begun = opened.a_group room tag refl refl
-
-      by_level : (inner : ℕ) → scope.room < inner → Held pool m depth levels base p0 frames (message_part k v) s.open_now scope.room inner s.path s.begin s.earlier → v ≡ value_within pool inner k (s.earlier ++ s.records_so_far)
-          → Stands pool m depth levels base p0 (frame ∷ frames) (group_part []) (record { room = below; end = scope.end; counts = counts }) r
-      by_level zero h held w = absurd (omega (arith, h))
-      by_level (suc i) h held w = record {
-        open_now = in_group number unknown_group;
-        inner = i;
-        path = s.path ++ step number s.records_so_far ∷ [];
-        begin = r;
-        earlier = [];
-        records_so_far = [];
-        held = inside held s.behind begun s.form can h completes refl s.counted s.ends refl tt;
-        form = refl;
-        deep = omega (arith, h, room);
-        behind = behind_nothing r;
-        counted = counts_of_none counts none;
-        ends = ends_along tag.tag.0 scope.end tag.tag.2 s.ends;
-        bytes = s.bytes;
-        worth = refl;
-      }
-        where
-          rs : List Record
-          rs = s.earlier ++ s.records_so_far
-
-          can : (k < length pool.messages) × HasOneMemberEach (message_fields pool k) (fields_of v)
-          can = (in_pool, subst (λ (y : Message). HasOneMemberEach (message_fields pool k) (fields_of y)) (sym w) (value_members pool i k rs differ))
-
-          completes : Completes pool (suc i) i frame rs (group_part []) []
-          completes (group g) (group_part us) type form worth =
-              ap (λ (z : List Record). body (fields_of v) (unknown_of v ++ record { number = number; payload = group (group_of z) } ∷ [])) worth
-              ∙ ap (λ (z : Group). body (fields_of v) (unknown_of v ++ record { number = number; payload = group z } ∷ [])) (group_again g)
-              ∙ ap (λ (y : Message). body (fields_of y) (unknown_of y ++ record { number = number; payload = group g } ∷ [])) w
-              ∙ sym (message_unknown pool i k differ rs (record { number = number; payload = group g }) (unfit g))
-          completes (varint a) (group_part us) type form worth = absurd (omega (arith, type))
-          completes (fixed64 a) (group_part us) type form worth = absurd (omega (arith, type))
-          completes (len a) (group_part us) type form worth = absurd (omega (arith, type))
-          completes (fixed32 a) (group_part us) type form worth = absurd (omega (arith, type))
-          completes pl (entry_part a b c d) type form worth = absurd form
-          completes pl (message_part a b) type form worth = absurd form

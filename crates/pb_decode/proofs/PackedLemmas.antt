@@ -12,15 +12,13 @@ use Rattle.pb_schema.specs.declared.types.Shape.TheVariants as shape
 use Rattle.pb_schema.specs.Types.{FieldView, Types, message_fields, field_numbered}
 use Rattle.pb_schema.specs.Names.{AllDiffer}
 use Rattle.pb_schema.specs.Kinds.{message_of_kind}
-use Rattle.pb_schema.specs.Packed.{elements}
 use Rattle.pb_schema.specs.Fits.{fits}
 use Rattle.pb_schema.specs.Context.{a_message as in_message, schema_of}
-use Rattle.pb_value.specs.Data.{Message, scalar, fields_of}
+use Rattle.pb_value.specs.Data.{Message}
 use Rattle.pb_value.specs.Value.{value_within}
-use Rattle.pb_value.specs.Change.{push_each, with_fields}
-use Rattle.pb_value.proofs.MessageSteps.{message_elements}
 use Rattle.pb_decode.specs.Opened.{below, outside}
-use Rattle.pb_decode.specs.After.{Elements}
+use Rattle.pb_decode.specs.After.{Elements, with_elements}
+use Rattle.pb_decode.proofs.ClosedLists.{list_value}
 use Rattle.pb_decode.specs.Frames.{Part, message_part, up_to, next_step, path_of, Frame, Stands, Scope, one_more_in}
 use Rattle.pb_decode.proofs.OpenedLemmas.{len_record, payload_bytes}
 use Rattle.pb_decode.proofs.FrameLemmas.{place_up_to, one_more}
@@ -44,24 +42,23 @@ pub element_told :
 element_told {u = u} {k = k} {front = front} g s tag re l h open_end bad =
     told_inside k 2 g s tag (RecordFault.in_a_list tag re l (front, u, h.whole, h.moves, open_end, bad) refl)
 
--- a packed list that ends is one more record, whose elements stand at the end of the field's list
+-- a packed list that ends is one more record, whose elements stand where they belong
 pub list_ends :
     {pool : Types} {m depth levels : ℕ} {base : List Record} {p0 : Place} {frames : List Frame} {scope : Scope} {q r t u : Place} {n : ℕ} {e : Element} {front : List ℕ} (k : ℕ) (v : Message)
     → (s : Stands pool m depth levels base p0 frames (message_part k v) scope q) → AllDiffer (map (λ (f : FieldView). f.number) (message_fields pool k))
     → (f : FieldView) → field_numbered f.number (message_fields pool k) ≡ Some f → (p : Bool) → f.shape ≡ shape.List p → message_of_kind f.kind ≡ None
     → fits f (record { number = f.number; payload = len front }) ≡ true → HasTag q f.number 2 r → (schema_of pool).reading (context_of s.open_now) f.number ≡ packed e → HasLength r n t
     → Elements e (payload_at t n) u front → u.known ≡ Some 0
-    → Stands pool m depth levels base p0 frames (message_part k (with_fields v (push_each f.number (map scalar (elements f.kind (len front))) (fields_of v)))) (one_more_in f.number scope) (up_to scope.end u)
-list_ends {pool} {m} {depth} {levels} {base} {p0} {frames} {scope} {t = t} {u = u} {n = n} {front = front} k v s differ f found p at none e tag re l h end =
+    → Stands pool m depth levels base p0 frames (message_part k (with_elements pool f.number f.kind front v)) (one_more_in f.number scope) (up_to scope.end u)
+list_ends {pool} {m} {depth} {levels} {base} {p0} {frames} {scope} {t = t} {u = u} {n = n} {front = front} k v s differ f found p at none fit tag re l h end =
     let parts = payload_bytes front l h.moves end in
-    let stood = one_more s (record { number = f.number; payload = len front }) (message_part k (with_fields v (push_each f.number (map scalar (elements f.kind (len front))) (fields_of v))))
+    let stood = one_more s (record { number = f.number; payload = len front }) (message_part k (with_elements pool f.number f.kind front v))
     (len_record (context_of s.open_now) scope.room f.number n front tag l parts.0 parts.1 (Sound.a_list re h.whole)) refl (by_level s.inner s.deep s.worth) in
-    subst (λ (z : Place). Stands pool m depth levels base p0 frames (message_part k (with_fields v (push_each f.number (map scalar (elements f.kind (len front))) (fields_of v)))) (one_more_in f.number scope) z)
+    subst (λ (z : Place). Stands pool m depth levels base p0 frames (message_part k (with_elements pool f.number f.kind front v)) (one_more_in f.number scope) z)
     (place_up_to (outside t n u) scope.end stood.ends) stood
   where
     by_level : (i : ℕ) → scope.room < i → v ≡ value_within pool i k (s.earlier ++ s.records_so_far)
-        → with_fields v (push_each f.number (map scalar (elements f.kind (len front))) (fields_of v)) ≡ value_within pool i k ((s.earlier ++ s.records_so_far) ++ record { number = f.number; payload = len front } ∷ [])
+        → with_elements pool f.number f.kind front v ≡ value_within pool i k ((s.earlier ++ s.records_so_far) ++ record { number = f.number; payload = len front } ∷ [])
     by_level zero deep w = absurd (omega (arith, deep))
     by_level (suc i) deep w =
-        ap (λ (y : Message). with_fields y (push_each f.number (map scalar (elements f.kind (len front))) (fields_of y))) w
-        ∙ sym (message_elements pool i k differ (s.earlier ++ s.records_so_far) (record { number = f.number; payload = len front }) f found e p at none)
+        ap (with_elements pool f.number f.kind front) w ∙ sym (list_value pool i k differ f found p at none (s.earlier ++ s.records_so_far) front fit)

@@ -40,6 +40,8 @@ use Rattle.pb_decode.specs.After.{After}
 use Rattle.pb_decode.proofs.OpenedLemmas.{len_record}
 use Rattle.pb_decode.proofs.FrameLemmas.{part_of_context}
 use Rattle.pb_decode.proofs.AfterLemmas.{AtPayload, at_payload, told_inside}
+use Rattle.pb_schema.specs.Kinds.{closed_enum}
+use Rattle.pb_decode.proofs.KindLemmas.{undeclared_len}
 use Rattle.pb_decode.proofs.NumberSteps.{number_is, single_field, listed_field, no_key, no_entry_value, meant_type, scalar_record_stands}
 use Rattle.pb_decode.proofs.UnknownSteps.{unknown_part_stands}
 
@@ -71,6 +73,7 @@ single_is c (shape.Map key) kd single = absurd single
 
 key_no_message : (kd : Kind) → IsTrue (is_key_kind kd) → message_of_kind kd ≡ None
 key_no_message (kind.Message m) can = absurd (false≢true can)
+key_no_message (kind.Group m) can = absurd (false≢true can)
 key_no_message kd can = refl
 
 -- a field's reading, as what the schema says of its number
@@ -129,18 +132,19 @@ unfit_singular c kd never = refl
 not_equal : (a b : ℕ) → (a == b) ≡ false → a ≡ b → ⊥
 not_equal a b differ same = false≢true (sym differ ∙ ap (λ (z : ℕ). a == z) (sym same) ∙ self_equal a)
 
--- a record with a length fits every list
-list_fits : (p : Bool) (kd : Kind) → fits_shape (shape.List p) kd 2 ≡ true
-list_fits p kind.Text = refl
-list_fits p kind.Bytes = refl
-list_fits p (kind.Message m) = refl
-list_fits p kd = refl
+-- a record with a length fits every list but one of groups
+unfit_list : (c : Context) (p : Bool) (kd : Kind) → fits_shape (shape.List p) kd 2 ≡ false → read_listed c kd ≡ unread
+unfit_list c p (kind.Group m) differ = refl
+unfit_list c p kind.Text differ = absurd (false≢true (sym differ))
+unfit_list c p kind.Bytes differ = absurd (false≢true (sym differ))
+unfit_list c p (kind.Message m) differ = absurd (false≢true (sym differ))
+unfit_list c p kd differ = absurd (false≢true (sym differ))
 
 unfit_reading : (c : Context) (s : Shape) (kd : Kind) → fits_shape s kd 2 ≡ false → read_shaped c s kd ≡ unread
 unfit_reading c shape.Implicit kd differ = unfit_singular c kd (not_equal 2 (wire_type_of kd) differ)
 unfit_reading c shape.Explicit kd differ = unfit_singular c kd (not_equal 2 (wire_type_of kd) differ)
 unfit_reading c (shape.OneofMember o) kd differ = unfit_singular c kd (not_equal 2 (wire_type_of kd) differ)
-unfit_reading c (shape.List p) kd differ = absurd (false≢true (sym differ ∙ list_fits p kd))
+unfit_reading c (shape.List p) kd differ = unfit_list c p kd differ
 unfit_reading c (shape.Map key) kd differ = absurd (false≢true (sym differ))
 
 unfit_field : (t k : ℕ) (o : Option FieldView) → AtField o k 2 purpose.Unknown → read_field (in_message t) o ≡ unread
@@ -219,7 +223,8 @@ module _ {pool : Types} {m depth levels : ℕ} {base : List Record} {p0 u : Plac
       let v = given kd s re in
       subst (λ (z : Part). Stands pool m depth levels base p0 frames z (one_more_in k scope) w) (sym (made v.value v.reads))
       (scalar_record_stands ok k (len s) v.value now meant kd can at.stands
-      (len_record (context_of at.stands.open_now) scope.room k n s at.has at.length_is size moves (payload_sound kd s (context_of at.stands.open_now) re utf)) at.means of v.alone v.keyed)
+      (len_record (context_of at.stands.open_now) scope.room k n s at.has at.length_is size moves (payload_sound kd s (context_of at.stands.open_now) re utf)) at.means of v.alone v.keyed
+      (meant_type pool now k 2 meant kd at.means of) (undeclared_len pool (closed_enum kd) s))
 
   -- where the part holds it as an unknown record, likewise
   pub unknown_payload_put : {w : Place} (s : List ℕ) (put : Part) → IsBytesPurpose meant → scalar_kind meant ≡ None → IsPool pool → length s ≡ n → Moves u s w → put ≡ put_record k (len s) now

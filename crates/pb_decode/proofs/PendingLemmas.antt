@@ -227,7 +227,7 @@ few_frames {pool} {depth = depth} (inside {frame = frame} {frames = frames} {now
     by_begun outer (opened.a_group levels tag is_open is_place) = let low = one_at_most now in omega (arith, outer, low, levels)
     by_begun outer (opened.a_value {d = d} levels tag re l is_open is_place) =
         let one = value_in_entry pool frame.part (context_of a) frame.number d form re in
-        let none = no_entry_inside frame.slot frame.part now takes one in
+        let none = no_entry_inside frame.slot frame.part now takes.0 one in
         omega (arith, outer, one, none, levels)
 
 pub few_open : {pool : Types} {m : ℕ} {limits : Bounds} (b : List ℕ) (s : State) (held : List ℕ) → Took pool m limits b s held → suc (length s.frames) + lists_in s.next ≤ 2 * limits.depth + 2

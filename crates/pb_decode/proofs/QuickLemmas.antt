@@ -72,8 +72,13 @@ pub tag_next :
 tag_next next k w meant s is has means stays = after_tag next (tag k w meant) s is has means (λ deep. absurd (stays deep))
 
 pub number_stays : (pool : Types) (now : Part) (k w : ℕ) (meant : Purpose) → Means pool (part_context now) k w meant → ((w ≡ 0) ⊎ (w ≡ 1) ⊎ (w ≡ 5)) → goes_down meant ≡ true → ⊥
-number_stays pool now k w meant means type deep = let two : w ≡ 2 = (reads_below pool now k w meant means deep).0 in by_type type two
+number_stays pool now k w meant means type deep = let two : w ≡ 2 = (reads_below pool now k w meant means deep (no_start type)).0 in by_type type two
   where
+    no_start : ((w ≡ 0) ⊎ (w ≡ 1) ⊎ (w ≡ 5)) → w ≡ 3 → ⊥
+    no_start (inl e) three = absurd (omega (arith, e, three))
+    no_start (inr (inl e)) three = absurd (omega (arith, e, three))
+    no_start (inr (inr e)) three = absurd (omega (arith, e, three))
+
     by_type : ((w ≡ 0) ⊎ (w ≡ 1) ⊎ (w ≡ 5)) → w ≡ 2 → ⊥
     by_type (inl e) two = absurd (omega (arith, e, two))
     by_type (inr (inl e)) two = absurd (omega (arith, e, two))

@@ -19,7 +19,7 @@ use Rattle.pb_schema.specs.declared.types.Shape.TheVariants as shape
 use Rattle.pb_schema.specs.Types.{FieldView, Types, message_fields, field_numbered}
 use Rattle.pb_schema.specs.Kinds.{message_of_kind}
 use Rattle.pb_schema.specs.Fits.{fits_shape}
-use Rattle.pb_schema.specs.Context.{Context, a_message as in_message, an_entry, unknown_group, key_field, value_field, message_in, read_singular, read_shaped, read_field, schema_of}
+use Rattle.pb_schema.specs.Context.{Context, a_message as in_message, an_entry, key_field, value_field, read_singular, read_shaped, read_field, schema_of}
 use Rattle.pb_decode.specs.declared.part.Slot.TheVariants as slot
 use Rattle.pb_decode.specs.declared.purpose.Purpose.{Purpose}
 use Rattle.pb_decode.specs.declared.purpose.Purpose.TheVariants as purpose
@@ -27,9 +27,9 @@ use Rattle.pb_decode.specs.declared.step.Step.{Step}
 use Rattle.pb_decode.specs.Opened.{Begun, below}
 use Rattle.pb_decode.specs.Opened as opened
 use Rattle.pb_decode.specs.Purposes.{OfShape, AtField, Means, part_context}
-use Rattle.pb_decode.specs.Frames.{Part, message_part, entry_part, group_part, Scope, Frame, EndsAt, next_step, path_of, Held, at_top, inside, Stands}
+use Rattle.pb_decode.specs.Frames.{Part, message_part, entry_part, group_part, opening_type, open_type, Scope, Frame, EndsAt, next_step, path_of, Held, at_top, inside, Stands}
 use Rattle.pb_decode.specs.After.{tag, awaited, IsRoomFor, After}
-use Rattle.pb_decode.specs.Openings.{IsGroup, innermost_number}
+use Rattle.pb_decode.specs.Openings.{innermost_group}
 use Rattle.pb_decode.proofs.FrameLemmas.{part_of_context, ends_along}
 use Rattle.pb_decode.proofs.AfterLemmas.{at_tag, told_here, told_inside}
 
@@ -71,79 +71,30 @@ tag_number_told {pool} {m} {depth} {p0 = p0} {frames} {q = q} c s open_here some
 
 -- THE ENDS OF GROUPS
 
--- no field is read as an unknown group
-abbrev IsKnownContext : Context → Type 0
-IsKnownContext (in_message t) = Unit {0}
-IsKnownContext (an_entry key kd) = Unit {0}
-IsKnownContext unknown_group = ⊥
-
-abbrev IsKnown : Reading Context → Type 0
-IsKnown unread = Unit {0}
-IsKnown text = Unit {0}
-IsKnown (packed e) = Unit {0}
-IsKnown (message_reading c) = IsKnownContext c
-IsKnown (same_level c) = IsKnownContext c
-
-known_message : (c : Context) (t : ℕ) → IsKnown (message_in c t)
-known_message (in_message k) t = tt
-known_message (an_entry key kd) t = tt
-known_message unknown_group t = tt
-
-known_shape : (c : Context) (s : Shape) (k : Kind) → IsKnown (read_shaped c s k)
-known_shape c (shape.Map key) k = tt
-known_shape c (shape.List p) (kind.Message t) = known_message c t.0
-known_shape c (shape.List p) k = tt
-known_shape c shape.Implicit (kind.Message t) = known_message c t.0
-known_shape c shape.Implicit k = tt
-known_shape c shape.Explicit (kind.Message t) = known_message c t.0
-known_shape c shape.Explicit k = tt
-known_shape c (shape.OneofMember o) (kind.Message t) = known_message c t.0
-known_shape c (shape.OneofMember o) k = tt
-
-known_field : (c : Context) (o : Option FieldView) → IsKnown (read_field c o)
-known_field c None = tt
-known_field c (Some f) = known_shape c f.shape f.kind
-
 -- the group that is open innermost is that of the innermost frame
-begun_group : (pool : Types) {a o : Open Context} {room below n : ℕ} {q u : Place} → Begun (schema_of pool) a room n q o below u → context_of o ≡ unknown_group → open_group o ≡ Some n
-begun_group pool {a = a} {n = n} (opened.a_message levels has re l is_open is_place) is = absurd (subst IsKnownContext (ap context_of (sym is_open) ∙ is) (subst IsKnown re (known_field (context_of a) _)))
-begun_group pool {a = a} {n = n} (opened.a_value levels has re l is_open is_place) is = absurd (subst IsKnownContext (ap context_of (sym is_open) ∙ is) (subst IsKnown re (known_field (context_of a) _)))
-begun_group pool (opened.a_group levels has is_open is_place) is = ap open_group is_open
+begun_open : (pool : Types) {a o : Open Context} {room below n : ℕ} {q u : Place} (group : Bool) → Begun (schema_of pool) a room n q o below u → opening_type group ≡ open_type o → open_group o ≡ (if group then Some n else None)
+begun_open pool true (opened.a_message levels has re l is_open is_place) type = absurd (let two : 3 ≡ 2 = type ∙ ap open_type is_open in omega (arith, two))
+begun_open pool false (opened.a_message levels has re l is_open is_place) type = ap open_group is_open
+begun_open pool true (opened.a_value levels has re l is_open is_place) type = absurd (let two : 3 ≡ 2 = type ∙ ap open_type is_open in omega (arith, two))
+begun_open pool false (opened.a_value levels has re l is_open is_place) type = ap open_group is_open
+begun_open pool true (opened.a_group levels has is_open is_place) type = ap open_group is_open
+begun_open pool false (opened.a_group levels has is_open is_place) type = absurd (let three : 2 ≡ 3 = type ∙ ap open_type is_open in omega (arith, three))
 
-held_group :
+pub held_open :
     {pool : Types} {m depth levels : ℕ} {base : List Record} {p0 : Place} {frames : List Frame} {now : Part} {o : Open Context} {room inner : ℕ} {path : List PathStep} {p : Place} {earlier : List Record}
-    → Held pool m depth levels base p0 frames now o room inner path p earlier → context_of o ≡ unknown_group → (k : ℕ) × (open_group o ≡ Some k) × (innermost_number frames ≡ Some k)
-held_group {m = m} (at_top v form is_open is_room is_inner is_path is_place is_base goes_on) is = absurd (let never : in_message m ≡ unknown_group = ap context_of (sym is_open) ∙ is in cc)
-held_group {pool} (inside {frame = frame} up h begun form can deep completes is_path counts ends goes_on keys) is = (frame.number, begun_group pool begun is, refl)
-
--- in a message and in an entry no group is open innermost
-begun_no_group : (pool : Types) {a o : Open Context} {room below n : ℕ} {q u : Place} → Begun (schema_of pool) a room n q o below u → (context_of o ≡ unknown_group → ⊥) → open_group o ≡ None
-begun_no_group pool (opened.a_message levels has re l is_open is_place) never = ap open_group is_open
-begun_no_group pool (opened.a_value levels has re l is_open is_place) never = ap open_group is_open
-begun_no_group pool (opened.a_group levels has is_open is_place) never = absurd (never (ap context_of is_open))
-
-held_no_group :
-    {pool : Types} {m depth levels : ℕ} {base : List Record} {p0 : Place} {frames : List Frame} {now : Part} {o : Open Context} {room inner : ℕ} {path : List PathStep} {p : Place} {earlier : List Record}
-    → Held pool m depth levels base p0 frames now o room inner path p earlier → (context_of o ≡ unknown_group → ⊥) → open_group o ≡ None
-held_no_group (at_top v form is_open is_room is_inner is_path is_place is_base goes_on) never = ap open_group is_open
-held_no_group {pool} (inside up h begun form can deep completes is_path counts ends goes_on keys) never = begun_no_group pool begun never
+    → Held pool m depth levels base p0 frames now o room inner path p earlier → open_group o ≡ innermost_group frames
+held_open (at_top v form is_open is_room is_inner is_path is_place is_base goes_on) = ap open_group is_open
+held_open {pool} (inside {frame = frame} up h begun form can deep completes is_path counts ends goes_on takes) = begun_open pool frame.group begun takes.1
 
 pub wrong_end_told :
-    {pool : Types} {m depth levels : ℕ} {base : List Record} {p0 : Place} {frames : List Frame} {scope : Scope} {us : List Record} {q u : Place} (k : ℕ) → Stands pool m depth levels base p0 frames (group_part us) scope q → HasTag q k 4 u → innermost_number frames ≢ Some k
+    {pool : Types} {m depth levels : ℕ} {base : List Record} {p0 : Place} {frames : List Frame} {scope : Scope} {now : Part} {q u : Place} (k j : ℕ) → Stands pool m depth levels base p0 frames now scope q → HasTag q k 4 u → innermost_group frames ≡ Some j → j ≢ k
     → Bad (schema_of pool) (records (in_message m)) depth p0 (fault q.at (path_of frames) WrongEnd)
-wrong_end_told k s has other =
-    let (j, open_is, inner_is) = held_group s.held s.form in
-    tag_refused WrongEnd s has.tag (TagFault.wrong_end has open_is (λ e. other (inner_is ∙ ap Some e)) refl)
+wrong_end_told k j s has inner other = tag_refused WrongEnd s has.tag (TagFault.wrong_end has (held_open s.held ∙ inner) other refl)
 
 pub stray_end_told :
-    {pool : Types} {m depth levels : ℕ} {base : List Record} {p0 : Place} {frames : List Frame} {scope : Scope} {now : Part} {q u : Place} (k : ℕ) → Stands pool m depth levels base p0 frames now scope q → (IsGroup now → ⊥) → HasTag q k 4 u
+    {pool : Types} {m depth levels : ℕ} {base : List Record} {p0 : Place} {frames : List Frame} {scope : Scope} {now : Part} {q u : Place} (k : ℕ) → Stands pool m depth levels base p0 frames now scope q → HasTag q k 4 u → innermost_group frames ≡ None
     → Bad (schema_of pool) (records (in_message m)) depth p0 (fault q.at (path_of frames) StrayEnd)
-stray_end_told {now = now} k s never has = tag_refused StrayEnd s has.tag (TagFault.stray_end has (held_no_group s.held (λ is. never (no_group now (sym (part_of_context now (context_of s.open_now) s.form) ∙ is)))) refl)
-  where
-    no_group : (now : Part) → part_context now ≡ unknown_group → IsGroup now
-    no_group (message_part k v) is = absurd (cc)
-    no_group (entry_part key kd x d) is = absurd (cc)
-    no_group (group_part us) is = tt
+stray_end_told k s has inner = tag_refused StrayEnd s has.tag (TagFault.stray_end has (held_open s.held ∙ inner) refl)
 
 -- LENGTHS
 

@@ -1,6 +1,6 @@
 -- An unknown number: it goes among the unknown records of a part.
 use Rattle.std.proofs.Common.{◌≡◌, ℕ, List, [], ◌∷◌, ◌++◌, refl, sym, ap, ◌∙◌, subst, Option, Some, None}
-use Rattle.std.specs.Prelude.{Bool, true, false, ◌==◌, ◌&&◌, ◌||◌}
+use Rattle.std.specs.Prelude.{Bool, true, false, not, ◌==◌, ◌&&◌}
 use Rattle.std.proofs.lemmas.Bool.{false≢true}
 use Rattle.pb_wire.specs.Record.{Payload, Record, wire_type}
 use Rattle.pb_wire.specs.Fault.{Place}
@@ -12,6 +12,8 @@ use Rattle.pb_schema.specs.Types.{FieldView, Types, message_fields, field_number
 use Rattle.pb_schema.specs.Rules.{IsPool}
 use Rattle.pb_schema.specs.Kinds.{wire_type_of}
 use Rattle.pb_schema.specs.Fits.{fits_any, fits_shape}
+use Rattle.pb_schema.specs.Closed.{closed_of, is_undeclared, counts}
+use Rattle.pb_value.proofs.KnownLemmas.{IsWhole}
 use Rattle.pb_schema.specs.Context.{schema_of}
 use Rattle.pb_value.proofs.JudgeLemmas.{fits_any-found, fits_any-none}
 use Rattle.pb_value.proofs.OneofLemmas.{pool_differ}
@@ -32,6 +34,8 @@ use Rattle.pb_decode.proofs.StepsOfParts.{unknown_stands}
 use Rattle.pb_decode.proofs.EntrySteps.{dropped_stands}
 use Rattle.pb_decode.proofs.AfterLemmas.{at_tag}
 use Rattle.pb_decode.proofs.NumberSteps.{number_is, number_record}
+use Rattle.pb_decode.proofs.KindLemmas.{is_deep, by_two, deep_kind, deep_list, unfit_whole}
+use Rattle.pb_value.proofs.StepLemmas.{self_equal}
 
 -- A NUMBER IS OF NO OTHER PURPOSE than a scalar's or an unknown record's
 
@@ -42,41 +46,37 @@ IsDeep (purpose.Message j s) = Unit {0}
 IsDeep (purpose.Entry key k) = Unit {0}
 IsDeep _ = ⊥
 
-pub of_list : (b : Bool) → (b || (false && b)) ≡ true → b ≡ true
-of_list true e = refl
-of_list false e = e
-
-not_two : (a : Number) → (wire_type (number_view a) == 2) ≡ true → ⊥
+not_two : (a : Number) → is_deep (wire_type (number_view a)) ≡ true → ⊥
 not_two (number.Varint n) e = false≢true e
 not_two (number.I64 n) e = false≢true e
 not_two (number.I32 n) e = false≢true e
 
-deep_type : (k : Kind) (t : Shape) (n w : ℕ) (meant : Purpose) → fits_shape t k w ≡ true → OfShape k t n w meant → IsDeep meant → (w == 2) ≡ true
-deep_type k (shape.Map key) n w meant e h deep = e
-deep_type k (shape.List p) n w (purpose.Packed kd) e h deep = ap (λ (z : ℕ). z == 2) h.3
+deep_type : (k : Kind) (t : Shape) (n w : ℕ) (meant : Purpose) → fits_shape t k w ≡ true → OfShape k t n w meant → IsDeep meant → is_deep w ≡ true
+deep_type k (shape.Map key) n w meant e h deep = by_two (w == 2) (w == 3) e
+deep_type k (shape.List p) n w (purpose.Packed kd) e h deep = ap is_deep h.3
 deep_type k (shape.List p) n w (purpose.Message j (slot.One s2 n2)) e h deep = absurd h
-deep_type k (shape.List p) n w (purpose.Message j (slot.List n2)) e h deep = of_list (w == 2) (subst (λ (z : Kind). fits_shape (shape.List p) z w ≡ true) h.0 e)
+deep_type k (shape.List p) n w (purpose.Message j (slot.List n2)) e h deep = deep_list p k j.0 w h.0 e
 deep_type k (shape.List p) n w (purpose.Message j (slot.Map n2)) e h deep = absurd h
 deep_type k (shape.List p) n w (purpose.Message j slot.Entry) e h deep = absurd h
 deep_type k (shape.List p) n w (purpose.Message j (slot.Unknown n2)) e h deep = absurd h
 deep_type k (shape.List p) n w (purpose.Entry key2 k2) e h deep = absurd h
 deep_type k shape.Implicit n w (purpose.Packed kd) e h deep = absurd h
 deep_type k shape.Implicit n w (purpose.Entry key2 k2) e h deep = absurd h
-deep_type k shape.Implicit n w (purpose.Message j (slot.One s2 n2)) e h deep = subst (λ (z : Kind). fits_shape shape.Implicit z w ≡ true) h.0 e
+deep_type k shape.Implicit n w (purpose.Message j (slot.One s2 n2)) e h deep = deep_kind k j.0 w h.0 e
 deep_type k shape.Implicit n w (purpose.Message j (slot.List n2)) e h deep = absurd h
 deep_type k shape.Implicit n w (purpose.Message j (slot.Map n2)) e h deep = absurd h
 deep_type k shape.Implicit n w (purpose.Message j slot.Entry) e h deep = absurd h
 deep_type k shape.Implicit n w (purpose.Message j (slot.Unknown n2)) e h deep = absurd h
 deep_type k shape.Explicit n w (purpose.Packed kd) e h deep = absurd h
 deep_type k shape.Explicit n w (purpose.Entry key2 k2) e h deep = absurd h
-deep_type k shape.Explicit n w (purpose.Message j (slot.One s2 n2)) e h deep = subst (λ (z : Kind). fits_shape shape.Explicit z w ≡ true) h.0 e
+deep_type k shape.Explicit n w (purpose.Message j (slot.One s2 n2)) e h deep = deep_kind k j.0 w h.0 e
 deep_type k shape.Explicit n w (purpose.Message j (slot.List n2)) e h deep = absurd h
 deep_type k shape.Explicit n w (purpose.Message j (slot.Map n2)) e h deep = absurd h
 deep_type k shape.Explicit n w (purpose.Message j slot.Entry) e h deep = absurd h
 deep_type k shape.Explicit n w (purpose.Message j (slot.Unknown n2)) e h deep = absurd h
 deep_type k (shape.OneofMember o) n w (purpose.Packed kd) e h deep = absurd h
 deep_type k (shape.OneofMember o) n w (purpose.Entry key2 k2) e h deep = absurd h
-deep_type k (shape.OneofMember o) n w (purpose.Message j (slot.One s2 n2)) e h deep = subst (λ (z : Kind). fits_shape (shape.OneofMember o) z w ≡ true) h.0 e
+deep_type k (shape.OneofMember o) n w (purpose.Message j (slot.One s2 n2)) e h deep = deep_kind k j.0 w h.0 e
 deep_type k (shape.OneofMember o) n w (purpose.Message j (slot.List n2)) e h deep = absurd h
 deep_type k (shape.OneofMember o) n w (purpose.Message j (slot.Map n2)) e h deep = absurd h
 deep_type k (shape.OneofMember o) n w (purpose.Message j slot.Entry) e h deep = absurd h
@@ -87,7 +87,7 @@ deep_type k t n w (purpose.Key kd) e h deep = absurd deep
 deep_type k t n w (purpose.EntryValue kd) e h deep = absurd deep
 deep_type k t n w purpose.Unknown e h deep = absurd deep
 
-deep_field : (o : Option FieldView) (n w : ℕ) (meant : Purpose) → AtField o n w meant → IsDeep meant → (w == 2) ≡ true
+deep_field : (o : Option FieldView) (n w : ℕ) (meant : Purpose) → AtField o n w meant → IsDeep meant → is_deep w ≡ true
 deep_field None n w (purpose.Packed k) h deep = absurd (cc)
 deep_field None n w (purpose.Message j s) h deep = absurd (cc)
 deep_field None n w (purpose.Entry key k) h deep = absurd (cc)
@@ -118,7 +118,7 @@ only_unknown pool (message_part t v) k a (purpose.Message j (slot.Map n2)) means
 only_unknown pool (entry_part key k4 x d) k a (purpose.Message j (slot.Map n2)) means of = absurd means
 only_unknown pool (group_part us) k a (purpose.Message j (slot.Map n2)) means of = means
 only_unknown pool (message_part t v) k a (purpose.Message j slot.Entry) means of = absurd (not_two a (deep_field (field_numbered k (message_fields pool t)) k (wire_type (number_view a)) (purpose.Message j slot.Entry) means tt))
-only_unknown pool (entry_part key k4 x d) k a (purpose.Message j slot.Entry) means of = absurd (not_two a (ap (λ (z : ℕ). z == 2) means.2))
+only_unknown pool (entry_part key k4 x d) k a (purpose.Message j slot.Entry) means of = absurd (not_two a (ap is_deep means.2 ∙ deep_kind k4 j.0 (wire_type_of k4) means.0 (self_equal (wire_type_of k4))))
 only_unknown pool (group_part us) k a (purpose.Message j slot.Entry) means of = means
 only_unknown pool (message_part t v) k a (purpose.Message j (slot.Unknown n2)) means of = absurd (not_two a (deep_field (field_numbered k (message_fields pool t)) k (wire_type (number_view a)) (purpose.Message j (slot.Unknown n2)) means tt))
 only_unknown pool (entry_part key k4 x d) k a (purpose.Message j (slot.Unknown n2)) means of = absurd means
@@ -134,18 +134,26 @@ not_both a b c d never = by_tests (a == b) refl (c == d) refl
     by_tests true e false f = refl
     by_tests false e y f = refl
 
-pub fits_nothing : (pool : Types) (t k : ℕ) (p : Payload) → IsPool pool → AtField (field_numbered k (message_fields pool t)) k (wire_type p) purpose.Unknown → fits_any (message_fields pool t) (record { number = k; payload = p }) ≡ false
+fits_nothing : (pool : Types) (t k : ℕ) (p : Payload) → IsPool pool → AtField (field_numbered k (message_fields pool t)) k (wire_type p) purpose.Unknown → fits_any (message_fields pool t) (record { number = k; payload = p }) ≡ false
 fits_nothing pool t k p ok h = at_field (field_numbered k (message_fields pool t)) refl h
   where
     at_field : (o : Option FieldView) → field_numbered k (message_fields pool t) ≡ o → AtField o k (wire_type p) purpose.Unknown → fits_any (message_fields pool t) (record { number = k; payload = p }) ≡ false
     at_field None found h = fits_any-none pool t (record { number = k; payload = p }) ok found
     at_field (Some f) found h = fits_any-found pool t (record { number = k; payload = p }) f ok found ∙ h
 
+-- a record that fits no field is whole, and doesn't count
+pub unfit_unknown : (pool : Types) (t k : ℕ) (p : Payload) → IsPool pool → AtField (field_numbered k (message_fields pool t)) k (wire_type p) purpose.Unknown
+    → IsWhole (message_fields pool t) (record { number = k; payload = p }) × (counts pool (message_fields pool t) (record { number = k; payload = p }) ≡ false)
+unfit_unknown pool t k p ok h = (
+  unfit_whole (field_numbered k (message_fields pool t)) p (λ f found. subst (λ (o : Option FieldView). AtField o k (wire_type p) purpose.Unknown) found h),
+  ap (λ (b : Bool). b && not (is_undeclared pool (closed_of (field_numbered k (message_fields pool t))) p)) (fits_nothing pool t k p ok h),
+)
+
 -- an unknown record of any payload, in any part
 pub unknown_part_stands :
     {pool : Types} {m depth levels : ℕ} {base : List Record} {p0 : Place} {frames : List Frame} {scope : Scope} {q w : Place} (ok : IsPool pool) (k : ℕ) (p : Payload) (now : Part) → CanHold pool now → (s : Stands pool m depth levels base p0 frames now scope q)
     → RecordTo (schema_of pool) (context_of s.open_now) scope.room q (record { number = k; payload = p }) w → Means pool (part_context now) k (wire_type p) purpose.Unknown → Stands pool m depth levels base p0 frames (put_record k p now) (one_more_in k scope) w
-unknown_part_stands {pool} ok k p (message_part t v) can s h means = unknown_stands t v s (pool_differ pool t ok can.0) (record { number = k; payload = p }) h (fits_nothing pool t k p ok means)
+unknown_part_stands {pool} ok k p (message_part t v) can s h means = unknown_stands t v s (pool_differ pool t ok can.0) (record { number = k; payload = p }) h (unfit_unknown pool t k p ok means).0 (unfit_unknown pool t k p ok means).1
 unknown_part_stands ok k p (entry_part key kd x d) can s h means =
     dropped_stands key kd x d s (record { number = k; payload = p }) h (not_both k 1 (wire_type p) (wire_type_of key) means.0) (not_both k 2 (wire_type p) (wire_type_of kd) means.1)
 unknown_part_stands ok k p (group_part us) can s h means =

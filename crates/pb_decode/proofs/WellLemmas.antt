@@ -1,6 +1,6 @@
 -- What is open is well formed wherever one stands: its bytes are bytes, and what it goes on from is well formed.
 use Rattle.std.proofs.Common.{◌≡◌, ℕ, zero, suc, ◌<◌, ◌≤◌, List, [], ◌∷◌, ◌++◌, length, refl, sym, subst, arith, Option, Some, None, IfSome, IsTrue}
-use Rattle.std.specs.Prelude.{unwrap_or}
+use Rattle.std.specs.Prelude.{false, unwrap_or, IsSomeAnd}
 use Rattle.std.specs.List.{AllByRecursion}
 use Rattle.pb_wire.specs.Record.{Record}
 use Rattle.pb_wire.specs.Ranges.{IsByte, AreBytes}
@@ -16,7 +16,7 @@ use Rattle.pb_schema.specs.declared.types.Shape.TheVariants as shape
 use Rattle.pb_schema.specs.Types.{FieldView, Types, message_fields, field_numbered}
 use Rattle.pb_schema.specs.Rules.{IsPool, NamesType}
 use Rattle.pb_schema.specs.Scalar.{Scalar}
-use Rattle.pb_schema.specs.Kinds.{IsOfKind, is_key_kind, default_of}
+use Rattle.pb_schema.specs.Kinds.{is_of_proto2, message_of_kind, IsOfKind, is_key_kind, default_of}
 use Rattle.pb_schema.specs.Fits.{fits, fitting}
 use Rattle.pb_schema.specs.Context.{Context, a_message as in_message, an_entry, value_field}
 use Rattle.pb_value.specs.Data.{Datum, scalar, message, Holding, one, list, map, Message, body, fields_of, get_field, message_depth}
@@ -100,14 +100,14 @@ field_stored pool k l (body fs us) f found good low = stored_in pool l (message_
 
 -- the message of a field of one value
 pub held_good :
-    (pool : Types) (k l : ℕ) (v : Message) (f : FieldView) (j : MessageId) → field_numbered f.number (message_fields pool k) ≡ Some f → f.kind ≡ kind.Message j → 0 < l → IsBody pool k v → message_depth v < suc l
+    (pool : Types) (k l : ℕ) (v : Message) (f : FieldView) (j : MessageId) → field_numbered f.number (message_fields pool k) ≡ Some f → message_of_kind f.kind ≡ Some j.0 → 0 < l → IsBody pool k v → message_depth v < suc l
     → IsBody pool j.0 (held_message (get_field f.number (fields_of v))) × (message_depth (held_message (get_field f.number (fields_of v))) < l)
-held_good pool k l v f j found is some good low = by_holding (get_field f.number (fields_of v)) (subst (λ (z : Kind). IfSome (get_field f.number (fields_of v)) (IsStored pool f.shape z l)) is (field_stored pool k l v f found good low))
+held_good pool k l v f j found is some good low = by_holding (get_field f.number (fields_of v)) (field_stored pool k l v f found good low)
   where
-    by_holding : (o : Option Holding) → IfSome o (IsStored pool f.shape (kind.Message j) l) → IsBody pool j.0 (held_message o) × (message_depth (held_message o) < l)
+    by_holding : (o : Option Holding) → IfSome o (IsStored pool f.shape f.kind l) → IsBody pool j.0 (held_message o) × (message_depth (held_message o) < l)
     by_holding None h = ((tt, tt, tt, tt), omega (arith, some))
     by_holding (Some (one (scalar x))) h = ((tt, tt, tt, tt), omega (arith, some))
-    by_holding (Some (one (message w))) h = let deep = h.depth in (h.held, omega (arith, deep))
+    by_holding (Some (one (message w))) h = let deep = h.depth in (subst (λ (z : Option ℕ). IsSomeAnd z (λ i. IsBody pool i w)) is h.held, omega (arith, deep))
     by_holding (Some (list ds)) h = ((tt, tt, tt, tt), omega (arith, some))
     by_holding (Some (map es)) h = ((tt, tt, tt, tt), omega (arith, some))
 
@@ -134,6 +134,11 @@ pub kinds_in_pool :
     {pool : Types} {m depth levels : ℕ} {base : List Record} {p0 : Place} {frames : List Frame} {scope : Scope} {q : Place} (key kd : Kind) (x : Option Scalar) (d : Option Datum)
     → Stands pool m depth levels base p0 frames (entry_part key kd x d) scope q → IsTrue (is_key_kind key) × NamesType (length pool.messages) (length pool.enums) kd
 kinds_in_pool key kd x d s = let from = goes_on_held s.held in (from.1, from.2)
+
+pub value_no_proto2 :
+    {pool : Types} {m depth levels : ℕ} {base : List Record} {p0 : Place} {frames : List Frame} {scope : Scope} {q : Place} (key kd : Kind) (x : Option Scalar) (d : Option Datum)
+    → Stands pool m depth levels base p0 frames (entry_part key kd x d) scope q → is_of_proto2 kd ≡ false
+value_no_proto2 key kd x d s = (goes_on_held s.held).3
 
 -- A PART MAY BE CHANGED wherever one stands
 pub can_hold :
@@ -163,7 +168,7 @@ module _ {pool : Types} {m depth levels : ℕ} {base : List Record} {p0 : Place}
   pub key_good : IsOfKind key (unwrap_or x (default_of key))
   key_good =
       subst (λ (z : Option Scalar). IsOfKind key (unwrap_or z (default_of key))) (sym s.worth.0)
-      (entry-good pool (value_within pool s.inner) s.inner inside_good key kd scope.room (s.earlier ++ s.records_so_far) s.deep (goes_on_held s.held).1 entry_records).first
+      (entry-good pool (value_within pool s.inner) s.inner inside_good key kd scope.room (s.earlier ++ s.records_so_far) s.deep (goes_on_held s.held).1 (goes_on_held s.held).3 entry_records).first
 
   -- the message that its value goes on from
   pub entry_value_good :
@@ -190,4 +195,4 @@ fits_keys {pool} {m} {depth} {levels} {base} {p0} {frame} {frames} {scope} {q} o
   where
     keys_held : {o : Open Context} {room inner : ℕ} {path : List PathStep} {p : Place} {earlier : List Record} → Held pool m depth levels base p0 (frame ∷ frames) (entry_part key kd x d) o room inner path p earlier
         → Takes frame.slot frame.part (entry_part key kd x d)
-    keys_held (inside up b begun form can deep completes is_path counts ends goes_on takes) = takes
+    keys_held (inside up b begun form can deep completes is_path counts ends goes_on takes) = takes.0

@@ -1,15 +1,18 @@
 -- What is begun behind the last whole record.
-use Rattle.std.specs.Prelude.{◌≡◌, ◌<◌, Bool, true, false, ℕ, List, map, Option, Some, None}
-use Rattle.pb_wire.specs.Record.{len, Record}
+use Rattle.std.specs.Prelude.{◌≡◌, ◌<◌, Bool, true, false, if◌then◌else◌, ℕ, List, [], ◌∷◌, ◌++◌, map, Option, Some, None}
+use Rattle.pb_wire.specs.Record.{Payload, len, Record}
 use Rattle.pb_wire.specs.Fault.{Place, Moves, HasTag, HasLength}
 use Rattle.pb_wire.specs.Schema.{Element}
 use Rattle.pb_wire.specs.Sound.{AreElements}
 use Rattle.pb_wire.specs.Grammar.{payload_at}
 use Rattle.pb_schema.specs.declared.types.Kind.{Kind}
+use Rattle.pb_schema.specs.declared.types.Kind.TheVariants as kind
 use Rattle.pb_schema.specs.Types.{Types}
-use Rattle.pb_schema.specs.Packed.{elements}
+use Rattle.pb_schema.specs.Kinds.{closed_enum}
+use Rattle.pb_schema.specs.Packed.{elements, numbers_of}
+use Rattle.pb_schema.specs.Closed.{is_undeclared}
 use Rattle.pb_schema.specs.Context.{element_of}
-use Rattle.pb_value.specs.Data.{Message, scalar, fields_of}
+use Rattle.pb_value.specs.Data.{Message, scalar, body, fields_of, unknown_of}
 use Rattle.pb_value.specs.Change.{push_each, with_fields}
 use Rattle.pb_decode.specs.declared.part.Slot.TheVariants as slot
 use Rattle.pb_decode.specs.declared.purpose.Purpose.{Purpose}
@@ -44,9 +47,19 @@ pub record Elements (e : Element) (p : Place) (u : Place) (front : List ℕ) : T
   pub whole : AreElements e front
   pub moves : Moves p front u
 
--- the message with the elements that these bytes spell at the end of the list of number n
-abbrev pub with_elements : ℕ → Kind → List ℕ → Message → Message
-with_elements n k front v = with_fields v (push_each n (map scalar (elements k (len front))) (fields_of v))
+-- the message with a number at the end of the list of number n; one that a closed enum doesn't declare goes among the unknown records
+abbrev pub with_number : Types → ℕ → Kind → Message → Payload → Message
+with_number pool n k v p =
+    if is_undeclared pool (closed_enum k) p then body (fields_of v) (unknown_of v ++ record { number = n; payload = p } ∷ []) else with_fields v (push_each n (map scalar (elements k p)) (fields_of v))
+
+abbrev pub with_numbers : Types → ℕ → Kind → List Payload → Message → Message
+with_numbers pool n k [] v = v
+with_numbers pool n k (p ∷ ps) v = with_numbers pool n k ps (with_number pool n k v p)
+
+-- the message with the elements that these bytes spell at the end of the list of number n, each number of a closed enum where it belongs
+abbrev pub with_elements : Types → ℕ → Kind → List ℕ → Message → Message
+with_elements pool n (kind.ClosedEnum e) front v = with_numbers pool n (kind.ClosedEnum e) (numbers_of 0 front) v
+with_elements pool n k front v = with_fields v (push_each n (map scalar (elements k (len front))) (fields_of v))
 
 -- what a record of this purpose opens stands a level below; the value of an entry stands at the level of the entry
 abbrev pub goes_down : Purpose → Bool
@@ -93,7 +106,7 @@ pub data Underway (pool : Types) (room : ℕ) (v : Part) (q : Place) : Step → 
   some_elements :
       {next : Step} {now : Part} {r t u : Place} {k n m : ℕ} {outer : Option ℕ} {kd : Kind} {w : Message} {front : List ℕ}
       → next ≡ step.Elements k kd outer → HasTag q k 2 r → HasLength r n t → Means pool (part_context v) k 2 (purpose.Packed kd) → Elements (element_of kd) (payload_at t n) u front
-      → v ≡ message_part m w → now ≡ message_part m (with_elements k kd front w) → Underway pool room v q next now u
+      → v ≡ message_part m w → now ≡ message_part m (with_elements pool k kd front w) → Underway pool room v q next now u
 
 -- These frames and this part are what there is of the bytes from p0 on, and one stands at u, where `next` comes. The scope is that of the part; inside
 -- a packed list its end is the list's.

@@ -1,5 +1,5 @@
 -- What the contracts of a push decoder see of it.
-use Rattle.std.specs.Prelude.{ℕ, List, map, reverse, Option}
+use Rattle.std.specs.Prelude.{ℕ, Bool, List, map, reverse, Option}
 use Rattle.std.proofs.Common.{sym, ap, ◌∙◌}
 use base.Stored.{Coded}
 use Rattle.pb_wire.specs.Limits.{Bounds}
@@ -19,11 +19,12 @@ pub record OpenScope : Type 0 where
   pub end : Option ℕ
   pub counts : List (ℕ × ℕ)
 
--- a part around the innermost one, with the number of the record that is open in it and where that goes
+-- a part around the innermost one, with the number of the record that is open in it, where that goes, and whether an end tag ends it
 pub record OpenFrame : Type 0 where
   pub part : Part
   pub number : ℕ
   pub slot : Slot
+  pub group : Bool
   pub scope : OpenScope
 
 -- how far a text is read: the innermost part and what comes next in it at a position, the frames around it, outermost first, and the bytes that are
@@ -47,7 +48,7 @@ abbrev pub scope_of : OpenScope → Scope
 scope_of s = record { room = s.room; end = s.end; counts = counts_view s.counts }
 
 abbrev pub frame_of : OpenFrame → Frame
-frame_of f = record { part = f.part; number = f.number; slot = f.slot; scope = scope_of f.scope }
+frame_of f = record { part = f.part; number = f.number; slot = f.slot; group = f.group; scope = scope_of f.scope }
 
 abbrev pub state_of : Reading → State
 state_of r = record { at = r.at; now = r.now; scope = scope_of r.scope; frames = reverse (map frame_of r.frames); next = r.next }

@@ -1,16 +1,16 @@
 -- What a decoder has of each thing that is open, and what it is worth.
-use Rattle.std.specs.Prelude.{◌≡◌, ◌<◌, ◌+◌, ◌-◌, ℕ, List, [], ◌∷◌, ◌++◌, Option, Some, None, IsTrue, unwrap_or, length, option_map}
+use Rattle.std.specs.Prelude.{◌≡◌, ◌<◌, ◌+◌, ◌-◌, ℕ, Bool, false, if◌then◌else◌, List, [], ◌∷◌, ◌++◌, Option, Some, None, IsTrue, unwrap_or, length, option_map}
 use Rattle.pb_wire.specs.Record.{Payload, group, group_of, Record, wire_type}
 use Rattle.pb_wire.specs.Inside.{records_inside}
 use Rattle.pb_wire.specs.Ranges.{AreBytes}
 use Rattle.pb_wire.specs.Fault.{Place, step}
 use Rattle.pb_wire.specs.declared.fault.PathStep.{PathStep}
-use Rattle.pb_wire.specs.Schema.{Open, records, context_of}
+use Rattle.pb_wire.specs.Schema.{Open, records, in_group, context_of}
 use Rattle.pb_schema.specs.declared.types.Kind.{Kind}
 use Rattle.pb_schema.specs.Types.{Types, message_fields}
 use Rattle.pb_schema.specs.Rules.{NamesType}
 use Rattle.pb_schema.specs.Scalar.{Scalar}
-use Rattle.pb_schema.specs.Kinds.{default_of, is_key_kind}
+use Rattle.pb_schema.specs.Kinds.{default_of, is_key_kind, is_of_proto2}
 use Rattle.pb_schema.specs.Fits.{fitting}
 use Rattle.pb_schema.specs.Context.{Context, a_message, an_entry, unknown_group, key_field, value_field, schema_of}
 use Rattle.pb_value.specs.Data.{Datum, message, one, Message, body, fields_of, unknown_of, get_field, empty, message_depth}
@@ -108,15 +108,26 @@ one_more_in k scope = record scope { counts = one_more_of k scope.counts }
 abbrev pub next_step : ℕ → Scope → PathStep
 next_step k scope = record { number = k; occurrence = scope.counts k }
 
--- a part that holds what is open inside it, the number of that record, where that goes, and the scope of the part up to that record
+-- a part that holds what is open inside it, the number of that record, where that goes, whether an end tag ends it, and the scope of the part up to that
+-- record
 pub record Frame : Type 0 where
   pub part : Part
   pub number : ℕ
   pub slot : Slot
+  pub group : Bool
   pub scope : Scope
 
-abbrev pub frame_of : Part → ℕ → Slot → Scope → Frame
-frame_of p n s scope = record { part = p; number = n; slot = s; scope = scope }
+abbrev pub frame_of : Part → ℕ → Slot → Bool → Scope → Frame
+frame_of p n s g scope = record { part = p; number = n; slot = s; group = g; scope = scope }
+
+-- the wire type of a record that has a group open, or a payload behind a length
+abbrev pub opening_type : Bool → ℕ
+opening_type g = if g then 3 else 2
+
+-- and that of what is open
+abbrev pub open_type : Open Context → ℕ
+open_type (records c) = 2
+open_type (in_group k c) = 3
 
 -- the steps into the records that are open, outermost first
 abbrev pub path_of : List Frame → List PathStep
@@ -138,25 +149,17 @@ IsPartOf (message_part m v) c = c ≡ a_message m
 IsPartOf (entry_part key k x d) c = c ≡ an_entry key k
 IsPartOf (group_part us) c = c ≡ unknown_group
 
--- the wire type of the records that go into a slot
-abbrev pub slot_type : Slot → ℕ
-slot_type (slot.Unknown n) = 3
-slot_type (slot.One s n) = 2
-slot_type (slot.List n) = 2
-slot_type (slot.Map n) = 2
-slot_type slot.Entry = 2
-
 -- Whatever the payload comes to be, with its part in the slot the outer part is worth the records with that record too.
 abbrev pub Completes : Types → ℕ → ℕ → Frame → List Record → Part → List Record → Type 0
 Completes pool levels inner frame rs now earlier =
-    (p : Payload) (q : Part) → wire_type p ≡ slot_type frame.slot → IsSameForm now q → IsWorth pool inner q (earlier ++ records_inside p)
+    (p : Payload) (q : Part) → wire_type p ≡ opening_type frame.group → IsSameForm now q → IsWorth pool inner q (earlier ++ records_inside p)
     → IsWorth pool levels (put_child pool frame.slot frame.part q) (rs ++ record { number = frame.number; payload = p } ∷ [])
 
 -- What a part of this form goes on from: its types are those of the pool; the value of the earlier records of a message is well formed and less deep than
--- may be; an entry and a group have none.
+-- may be; an entry and a group have none, and no value of an entry is a group or of a closed enum.
 abbrev pub GoesOnFrom : Types → ℕ → Part → List Record → Type 0
 GoesOnFrom pool inner (message_part m v) earlier = (m < length pool.messages) × IsBody pool m (value_within pool inner m earlier) × (message_depth (value_within pool inner m earlier) < inner)
-GoesOnFrom pool inner (entry_part key k x d) earlier = (earlier ≡ []) × IsTrue (is_key_kind key) × NamesType (length pool.messages) (length pool.enums) k
+GoesOnFrom pool inner (entry_part key k x d) earlier = (earlier ≡ []) × IsTrue (is_key_kind key) × NamesType (length pool.messages) (length pool.enums) k × (is_of_proto2 k ≡ false)
 GoesOnFrom pool inner (group_part us) earlier = earlier ≡ []
 
 -- A slot of the first part takes the second: a message goes into a field, a list or an entry, an entry into a map whose keys are of the kind of its
@@ -204,7 +207,7 @@ pub data Held (pool : Types) (m depth levels : ℕ) (base : List Record) (p0 : P
       → Held pool m depth levels base p0 frames frame.part a frame.scope.room outer steps p before → Behind (schema_of pool) a frame.scope.room p rs q
       → Begun (schema_of pool) a frame.scope.room frame.number q o below u → IsPartOf frame.part (context_of a) → CanHold pool frame.part → frame.scope.room < outer
       → Completes pool outer inner frame (before ++ rs) now earlier → path ≡ steps ++ step frame.number rs ∷ [] → CountsOf frame.scope.counts rs → EndsAt q frame.scope.end
-      → GoesOnFrom pool inner now earlier → Takes frame.slot frame.part now
+      → GoesOnFrom pool inner now earlier → Takes frame.slot frame.part now × (opening_type frame.group ≡ open_type o)
       → Held pool m depth levels base p0 (frame ∷ frames) now o below inner path u earlier
 
 -- What there is of the innermost part is worth the earlier records and those behind the place where one stands, and its scope tells what is left there

@@ -1,5 +1,5 @@
 -- What opening takes out of the part that holds it.
-use Rattle.std.specs.Prelude.{ℕ, ◌-◌, List, [], ◌∷◌, Option, Some, None}
+use Rattle.std.specs.Prelude.{ℕ, ◌-◌, if◌then◌else◌, List, [], ◌∷◌, Option, Some, None}
 use Rattle.pb_value.specs.Data.{Datum, scalar, message, Holding, one, list, map, Message, empty, fields_of, get_field, drop_field}
 use Rattle.pb_value.specs.Change.{with_fields}
 use Rattle.pb_decode.specs.declared.part.Slot.{Slot}
@@ -51,13 +51,7 @@ room_in (slot.List n) room = room - 1
 room_in (slot.Map n) room = room - 1
 room_in (slot.Unknown n) room = room - 1
 
--- there is a group
-abbrev pub IsGroup : Part → Type 0
-IsGroup (message_part m v) = ⊥
-IsGroup (entry_part key k x d) = ⊥
-IsGroup (group_part us) = Unit {0}
-
--- the number of the record that is open innermost
-abbrev pub innermost_number : List Frame → Option ℕ
-innermost_number [] = None
-innermost_number (frame ∷ frames) = Some frame.number
+-- the number of the group that is open innermost, if an end tag ends what is open there
+abbrev pub innermost_group : List Frame → Option ℕ
+innermost_group [] = None
+innermost_group (frame ∷ frames) = if frame.group then Some frame.number else None

@@ -18,4 +18,4 @@ abbrev pub scope_view : Scope → frames.Scope
 scope_view s = record { room = s.room; end = s.end; counts = counts_view s.occurrences }
 
 abbrev pub frame_view : Frame → frames.Frame
-frame_view f = record { part = part_view f.part; number = f.number; slot = f.slot; scope = scope_view f.scope }
+frame_view f = record { part = part_view f.part; number = f.number; slot = f.slot; group = f.group; scope = scope_view f.scope }

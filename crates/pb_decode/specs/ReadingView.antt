@@ -16,7 +16,7 @@ abbrev pub open_scope : Scope → decoder.OpenScope
 open_scope s = record { room = s.room; end = s.end; counts = s.occurrences }
 
 abbrev pub open_frame : Frame → decoder.OpenFrame
-open_frame f = record { part = part_view f.part; number = f.number; slot = f.slot; scope = open_scope f.scope }
+open_frame f = record { part = part_view f.part; number = f.number; slot = f.slot; group = f.group; scope = open_scope f.scope }
 
 abbrev pub reading_view : Reading → decoder.Reading
 reading_view r = record {

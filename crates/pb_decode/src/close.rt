@@ -1,6 +1,6 @@
 //! Entries and groups that are whole go where they belong.
 
-ghost use Rattle.std.specs.Prelude.{◌≡◌, ◌<◌, ◌-◌, ◌^◌, ℕ, List, ◌∷◌, Some, IsTrue, unwrap_or, option_map, OnOk, IfOk, IfErr};
+ghost use Rattle.std.specs.Prelude.{◌≡◌, ◌<◌, ◌-◌, ◌^◌, ℕ, true, false, List, ◌∷◌, Some, IsTrue, unwrap_or, option_map, OnOk, IfOk, IfErr};
 ghost use Rattle.pb_wire.specs.Fault.{Place, HasTag};
 ghost use Rattle.pb_wire.specs.Record.{Record};
 ghost use Rattle.pb_wire.specs.Unknown.{records_of};
@@ -36,8 +36,14 @@ fn default_key(alloc: Global, kind: Kind) -> MapKey
         Kind::Uint32 | Kind::Fixed32 => MapKey::U32(0),
         Kind::Uint64 | Kind::Fixed64 => MapKey::U64(0),
         Kind::Bool => MapKey::Bool(false),
-        Kind::Text | Kind::Float | Kind::Double | Kind::Bytes | Kind::Enum(_) | Kind::Message(_) =>
-            MapKey::Text(String::new(alloc)),
+        Kind::Text
+        | Kind::Float
+        | Kind::Double
+        | Kind::Bytes
+        | Kind::Enum(_)
+        | Kind::ClosedEnum(_)
+        | Kind::Message(_)
+        | Kind::Group(_) => MapKey::Text(String::new(alloc)),
     }
 }
 
@@ -57,7 +63,10 @@ fn missing_value(alloc: Global, kind: Kind) -> Value
 {
     match default_value(alloc, kind) {
         Some(value) => value,
-        None => Value::Message(empty_body(alloc)),
+        None => match kind {
+            Kind::ClosedEnum(_) => Value::Enum(0),
+            _ => Value::Message(empty_body(alloc)),
+        },
     }
 }
 
@@ -154,7 +163,7 @@ pub(crate) fn close_entry(
     requires fits { HasRoomFor slot (part_view outer.old) key_kind (option_map key_view key) }
     requires few { counts_view scope.old.occurrences number < 2 ^ 32 - 1 }
     ensures same_end { OnOk result (scope.new.end ≡ scope.old.end) }
-    ensures stands { (pool : Types) (m depth levels : ℕ) (base : List Record) (p0 q : Place) (frames : List FrameView) (inner : ScopeView) → Stands pool m depth levels base p0 (frame_of (part_view outer.old) number slot (scope_view scope.old) ∷ frames) (entry_part key_kind value_kind (option_map key_view key) (option_map value_view value)) inner q
+    ensures stands { (pool : Types) (m depth levels : ℕ) (base : List Record) (p0 q : Place) (frames : List FrameView) (inner : ScopeView) → Stands pool m depth levels base p0 (frame_of (part_view outer.old) number slot false (scope_view scope.old) ∷ frames) (entry_part key_kind value_kind (option_map key_view key) (option_map value_view value)) inner q
         → q.known ≡ Some 0 → OnOk result (Stands pool m depth levels base p0 frames (part_view outer.new) (scope_view scope.new) (up_to scope.old.end q)) }
     ensures memory { IfErr result (λ e. e ≡ Memory) }
 {
@@ -174,7 +183,7 @@ pub(crate) fn close_group(
 ) -> Result<(), DecodeError>
     requires few { counts_view scope.old.occurrences number < 2 ^ 32 - 1 }
     ensures same_end { OnOk result (scope.new.end ≡ scope.old.end) }
-    ensures stands { (pool : Types) (m depth levels : ℕ) (base : List Record) (p0 q w : Place) (frames : List FrameView) (inner : ScopeView) → Stands pool m depth levels base p0 (frame_of (part_view outer.old) number slot (scope_view scope.old) ∷ frames) (group_part (records_of records.items)) inner q
+    ensures stands { (pool : Types) (m depth levels : ℕ) (base : List Record) (p0 q w : Place) (frames : List FrameView) (inner : ScopeView) → Stands pool m depth levels base p0 (frame_of (part_view outer.old) number slot true (scope_view scope.old) ∷ frames) (group_part (records_of records.items)) inner q
         → HasTag q number 4 w → OnOk result (Stands pool m depth levels base p0 frames (part_view outer.new) (scope_view scope.new) w) }
     ensures memory { IfErr result (λ e. e ≡ Memory) }
 {

@@ -1,6 +1,6 @@
 //! What a whole length or the tag of a group opens.
 
-ghost use Rattle.std.specs.Prelude.{◌≡◌, ◌+◌, ◌<◌, ℕ, List, ◌∷◌, Some, option_map};
+ghost use Rattle.std.specs.Prelude.{◌≡◌, ◌+◌, ◌<◌, ℕ, List, ◌∷◌, Some, IfSome, IfNone, option_map};
 ghost use Rattle.pb_wire.specs.Record.{Record};
 ghost use Rattle.pb_wire.specs.Fault.{Place, HasTag, HasLength};
 ghost use Rattle.pb_wire.specs.Grammar.{payload_at};
@@ -13,10 +13,12 @@ ghost use Rattle.pb_decode.specs.Frames.{CanHold, Frame as FrameView, Stands};
 ghost use Rattle.pb_decode.specs.PartView.{part_view, scope_view, frame_view};
 ghost use Rattle.pb_decode.specs.Occurrences.{counts_view};
 ghost use Rattle.pb_decode.specs.After.{After};
+ghost use Rattle.pb_decode.specs.Purposes.{IsNoMessage, Means, part_context};
 ghost use Rattle.pb_decode.specs.Openings.{message_given, message_held, taken_message, without_message, room_in as levels_in};
 
 use crate::occurrences::Occurrences;
 use crate::part::{Frame, Part, Scope, Slot};
+use crate::purpose::Purpose;
 use pb_schema::{Kind, MessageId};
 use pb_value::{Body, Content, Value, empty_body, take_field};
 use std::alloc::Global;
@@ -115,6 +117,7 @@ pub(crate) fn open_message(
         part: outer,
         number,
         slot,
+        group: false,
         scope: around,
     }
 }
@@ -145,13 +148,40 @@ pub(crate) fn open_entry(
         part: outer,
         number,
         slot: Slot::Map(number),
+        group: false,
         scope: around,
     }
 }
 
-/// Behind the first tag of a group, of which no schema knows, the group is open. Its end is known where that of what holds it is.
-pub(crate) fn open_group(alloc: Global, part: &mut Part, scope: &mut Scope, number: u32) -> Frame
-    ensures { (pool : Types) (m depth levels : ℕ) (base : List Record) (p0 q u : Place) (frames : List FrameView) → IsPool pool → CanHold pool (part_view part.old) → Stands pool m depth levels base p0 frames (part_view part.old) (scope_view scope.old) q
+/// Behind the first tag of a group that is a field its message is open. It goes on from what its slot holds, and its end is
+/// known where that of what holds it is.
+fn open_field_group(
+    alloc: Global,
+    part: &mut Part,
+    scope: &mut Scope,
+    number: u32,
+    kind: MessageId,
+    slot: Slot,
+) -> Frame
+    ensures { (pool : Types) (m depth levels : ℕ) (base : List Record) (p0 q u : Place) (frames : List FrameView) → IsPool pool → CanHold pool (part_view part.old) → Means pool (part_context (part_view part.old)) number 3 (purpose.Message kind slot) → Stands pool m depth levels base p0 frames (part_view part.old) (scope_view scope.old) q
+        → 0 < scope.old.room → HasTag q number 3 u → Stands pool m depth levels base p0 (frame_view result ∷ frames) (part_view part.new) (scope_view scope.new) u }
+{
+    let message = take_message(alloc, slot, part);
+    let inner = new_scope(alloc, scope.room.saturating_sub(1), scope.end);
+    let outer = mem::replace(part, Part::Message(kind, message));
+    let around = mem::replace(scope, inner);
+    Frame {
+        part: outer,
+        number,
+        slot,
+        group: true,
+        scope: around,
+    }
+}
+
+/// Behind the first tag of a group that is no field the group is open. Its end is known where that of what holds it is.
+fn open_unknown_group(alloc: Global, part: &mut Part, scope: &mut Scope, number: u32) -> Frame
+    ensures { (pool : Types) (m depth levels : ℕ) (base : List Record) (p0 q u : Place) (frames : List FrameView) → IsPool pool → CanHold pool (part_view part.old) → Means pool (part_context (part_view part.old)) number 3 purpose.Unknown → Stands pool m depth levels base p0 frames (part_view part.old) (scope_view scope.old) q
         → 0 < scope.old.room → HasTag q number 3 u → Stands pool m depth levels base p0 (frame_view result ∷ frames) (part_view part.new) (scope_view scope.new) u }
 {
     let inner = new_scope(alloc, scope.room.saturating_sub(1), scope.end);
@@ -161,6 +191,41 @@ pub(crate) fn open_group(alloc: Global, part: &mut Part, scope: &mut Scope, numb
         part: outer,
         number,
         slot: Slot::Unknown(number),
+        group: true,
         scope: around,
+    }
+}
+
+/// The message that a record opens, and the slot that it goes into, if it opens one.
+fn message_slot(meant: Purpose) -> Option<(MessageId, Slot)>
+    ensures some { IfSome result (λ r. meant ≡ purpose.Message r.0 r.1) }
+    ensures none { IfNone result (IsNoMessage meant) }
+{
+    match meant {
+        Purpose::Message(kind, slot) => Some((kind, slot)),
+        Purpose::One(_, _) => None,
+        Purpose::Element(_) => None,
+        Purpose::Packed(_) => None,
+        Purpose::Entry(_, _) => None,
+        Purpose::Key(_) => None,
+        Purpose::EntryValue(_) => None,
+        Purpose::Unknown => None,
+    }
+}
+
+/// Behind the first tag of a group the group is open, by what its record is for.
+pub(crate) fn open_group(
+    alloc: Global,
+    part: &mut Part,
+    scope: &mut Scope,
+    number: u32,
+    meant: Purpose,
+) -> Frame
+    ensures { (pool : Types) (m depth levels : ℕ) (base : List Record) (p0 q u : Place) (frames : List FrameView) → IsPool pool → CanHold pool (part_view part.old) → Means pool (part_context (part_view part.old)) number 3 meant → Stands pool m depth levels base p0 frames (part_view part.old) (scope_view scope.old) q
+        → 0 < scope.old.room → HasTag q number 3 u → Stands pool m depth levels base p0 (frame_view result ∷ frames) (part_view part.new) (scope_view scope.new) u }
+{
+    match message_slot(meant) {
+        Some((kind, slot)) => open_field_group(alloc, part, scope, number, kind, slot),
+        None => open_unknown_group(alloc, part, scope, number),
     }
 }

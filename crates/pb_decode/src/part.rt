@@ -52,5 +52,7 @@ pub(crate) struct Frame {
     pub number: u32,
     /// Where that goes.
     pub slot: Slot,
+    /// Whether an end tag ends it.
+    pub group: bool,
     pub scope: Scope,
 }

@@ -1,7 +1,7 @@
 //! Messages that are whole go where they belong.
 
-ghost use Rattle.std.specs.Prelude.{◌≡◌, ◌<◌, ◌-◌, ◌^◌, ℕ, List, ◌∷◌, Some, length, OnOk, IfOk, IfErr};
-ghost use Rattle.pb_wire.specs.Fault.{Place};
+ghost use Rattle.std.specs.Prelude.{◌≡◌, ◌<◌, ◌-◌, ◌^◌, ℕ, true, false, List, ◌∷◌, Some, length, OnOk, IfOk, IfErr};
+ghost use Rattle.pb_wire.specs.Fault.{Place, HasTag};
 ghost use Rattle.pb_wire.specs.Record.{Record};
 ghost use Rattle.pb_value.specs.View.{body_view};
 ghost use Rattle.pb_decode.specs.Frames.{put_message as put_message_view, CanHold, Frame as FrameView, frame_of, Scope as ScopeView, message_part, one_more_in, up_to, Stands};
@@ -86,7 +86,8 @@ pub(crate) fn count_one(scope: &mut Scope, number: u32) -> Result<(), DecodeErro
     Ok(())
 }
 
-/// A message whose known end is reached goes into its slot, and its record is counted: one stands in what holds it.
+/// A message whose known end is reached, or whose end tag is there, goes into its slot, and its record is counted: one stands
+/// in what holds it.
 pub(crate) fn close_message(
     alloc: Global,
     pool: &Pool,
@@ -99,8 +100,10 @@ pub(crate) fn close_message(
     requires can { CanHold pool.now (part_view outer.old) }
     requires few { counts_view scope.old.occurrences number < 2 ^ 32 - 1 }
     ensures same_end { OnOk result (scope.new.end ≡ scope.old.end) }
-    ensures stands { (m depth levels k : ℕ) (base : List Record) (p0 q : Place) (frames : List FrameView) (inner : ScopeView) → Stands pool.now m depth levels base p0 (frame_of (part_view outer.old) number slot (scope_view scope.old) ∷ frames) (message_part k (body_view message)) inner q
+    ensures stands { (m depth levels k : ℕ) (base : List Record) (p0 q : Place) (frames : List FrameView) (inner : ScopeView) → Stands pool.now m depth levels base p0 (frame_of (part_view outer.old) number slot false (scope_view scope.old) ∷ frames) (message_part k (body_view message)) inner q
         → q.known ≡ Some 0 → OnOk result (Stands pool.now m depth levels base p0 frames (part_view outer.new) (scope_view scope.new) (up_to scope.old.end q)) }
+    ensures behind { (m depth levels k : ℕ) (base : List Record) (p0 q w : Place) (frames : List FrameView) (inner : ScopeView) → Stands pool.now m depth levels base p0 (frame_of (part_view outer.old) number slot true (scope_view scope.old) ∷ frames) (message_part k (body_view message)) inner q
+        → HasTag q number 4 w → OnOk result (Stands pool.now m depth levels base p0 frames (part_view outer.new) (scope_view scope.new) w) }
     ensures memory { IfErr result (λ e. e ≡ Memory) }
 {
     put_message(alloc, pool, slot, outer, message)?;

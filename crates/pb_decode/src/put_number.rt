@@ -6,7 +6,8 @@ ghost use Rattle.pb_wire.specs.Fault.{Place};
 ghost use Rattle.pb_schema.specs.declared.types.Kind.{Kind as KindView};
 ghost use Rattle.pb_schema.specs.Rules.{IsPool};
 ghost use Rattle.pb_schema.specs.Scalar.{Scalar};
-ghost use Rattle.pb_schema.specs.Kinds.{read, wire_type_of};
+ghost use Rattle.pb_schema.specs.Kinds.{closed_enum, read, wire_type_of};
+ghost use Rattle.pb_schema.specs.Closed.{is_undeclared};
 ghost use Rattle.pb_value.specs.Data.{scalar};
 ghost use Rattle.pb_decode.specs.declared.step.Step.{Step};
 ghost use Rattle.pb_decode.specs.declared.step.Step.TheVariants.{Elements};
@@ -18,7 +19,7 @@ ghost use Rattle.pb_decode.specs.Numbers.{scalar_kind as kind_given, put_datum, 
 ghost use Rattle.pb_decode.specs.After.{tag, awaited, After};
 
 use crate::error::DecodeError;
-use crate::number::{Number, number_value};
+use crate::number::{Number, low_half, number_value};
 use crate::part::Part;
 use crate::purpose::Purpose;
 use crate::put_scalar::put_scalar;
@@ -40,6 +41,19 @@ pub(crate) fn scalar_kind(purpose: Purpose) -> Option<Kind>
         Purpose::Entry(_, _) => None,
         Purpose::Unknown => None,
     }
+}
+
+/// Whether a number is one that the closed enum of a kind doesn't declare.
+pub(crate) fn is_undeclared(pool: &Pool, kind: Kind, value: Number) -> bool
+    ensures { result ≡ is_undeclared pool.now (closed_enum kind) (number_view value) }
+{
+    let Kind::ClosedEnum(id) = kind else {
+        return false;
+    };
+    let Number::Varint(number) = value else {
+        return false;
+    };
+    !pool.declares(id, low_half(number).cast_signed())
 }
 
 /// Puts the value that a number stands for into the part that its record stands in.
@@ -91,7 +105,11 @@ pub(crate) fn put_number(
     ensures memory { IfErr result (λ e. e ≡ Memory) }
 {
     match scalar_kind(purpose) {
-        Some(_) => {
+        Some(kind) => {
+            if is_undeclared(pool, kind, value) {
+                put_unknown_number(part, number, value)?;
+                return Ok(());
+            }
             put_value(alloc, pool, part, number, purpose, value)?;
             Ok(())
         }
@@ -102,7 +120,8 @@ pub(crate) fn put_number(
     }
 }
 
-/// One more element of a packed list goes to the list's end, and one stands behind it.
+/// One more element of a packed list goes to the list's end, or among the unknown records where it is a number that its closed
+/// enum doesn't declare, and one stands behind it.
 pub(crate) fn put_element(
     alloc: Global,
     pool: &Pool,
@@ -116,6 +135,10 @@ pub(crate) fn put_element(
         → wire_type (number_view value) ≡ wire_type_of kind → Follows u (number_view value) w → OnOk result (After pool.now m depth levels base p0 frames (Elements number kind end) (part_view part.new) scope w) }
     ensures memory { IfErr result (λ e. e ≡ Memory) }
 {
+    if is_undeclared(pool, kind, value) {
+        put_unknown_number(part, number, value)?;
+        return Ok(());
+    }
     put_value(alloc, pool, part, number, Purpose::Element(kind), value)?;
     Ok(())
 }

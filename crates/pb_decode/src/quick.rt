@@ -40,7 +40,7 @@ fn take_run(
     ensures taken { (m depth levels : ℕ) (base : List Record) (p0 : Place) → Reads pool.now m depth levels base p0 (state_view reader.old) bytes.now → IfOk result (λ o. IfSome o (λ n. Reads pool.now m depth levels base p0 (state_view reader.new) (drop n bytes.now))) }
     ensures memory { IfErr result (λ e. e ≡ Memory) }
 {
-    let (values, size) = read_run(alloc, kind, bytes, left(reader))?;
+    let (values, size) = read_run(alloc, pool, kind, bytes, left(reader))?;
     if size == 0 {
         return Ok(None);
     }

@@ -20,7 +20,7 @@ use crate::known_purpose::{KnownPurpose, purpose_by};
 use crate::number_token::NumberToken;
 use crate::pass_length::pass_length;
 use crate::payload_value::PayloadError;
-use crate::purpose::Purpose;
+use crate::purpose::{Purpose, purpose_of};
 use crate::put::count_one;
 use crate::put_number::put_number;
 use crate::put_payload::put_payload;
@@ -233,12 +233,14 @@ fn take_group_start(
     if reader.scope.room == 0 {
         return Ok(None);
     }
-    enter_group(alloc, reader, tag.number, tag.size)?;
+    let meant = purpose_of(pool, &reader.part, tag.number, tag.wire_type);
+    enter_group(alloc, reader, tag.number, meant, tag.size)?;
     Ok(Some(tag.size))
 }
 
 /// Closes the group whose last tag is there, if it is the innermost one.
 fn take_group_end(
+    alloc: Global,
     pool: &Pool,
     reader: &mut Reader,
     tag: RecordTag,
@@ -255,9 +257,9 @@ fn take_group_end(
     ensures taken { (m depth levels : ℕ) (base : List Record) (p0 : Place) → Reads pool.now m depth levels base p0 (state_view reader.old) bytes.now → IfOk result (λ o. IfSome o (λ n. Reads pool.now m depth levels base p0 (state_view reader.new) (drop n bytes.now))) }
     ensures memory { IfErr result (λ e. e ≡ Memory) }
 {
-    match group_end(&reader.part, innermost(&reader.frames), tag.number) {
+    match group_end(innermost(&reader.frames), tag.number) {
         Ok(()) => {
-            leave_group(reader, tag.size)?;
+            leave_group(alloc, pool, reader, tag.size)?;
             Ok(Some(tag.size))
         }
         Err(_) => Ok(None),
@@ -293,7 +295,7 @@ pub(crate) fn take_record(
     } else if tag.wire_type == 3 {
         take_group_start(alloc, pool, reader, tag, bytes)
     } else if tag.wire_type == 4 {
-        take_group_end(pool, reader, tag, bytes)
+        take_group_end(alloc, pool, reader, tag, bytes)
     } else {
         Ok(None)
     }

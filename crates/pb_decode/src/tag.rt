@@ -11,11 +11,9 @@ ghost use Rattle.pb_schema.specs.Context.{a_message, schema_of};
 ghost use Rattle.pb_decode.specs.declared.purpose.Purpose.{Purpose};
 ghost use Rattle.pb_decode.specs.declared.step.Step.{Step};
 ghost use Rattle.pb_decode.specs.Frames.{Part as PartView, Frame as FrameView, Scope as ScopeView, path_of, next_step, EndsAt, Stands};
-ghost use Rattle.pb_decode.specs.PartView.{part_view};
 ghost use Rattle.pb_decode.specs.After.{tag as tag_of, awaited, After};
-ghost use Rattle.pb_decode.specs.Openings.{IsGroup, innermost_number};
+ghost use Rattle.pb_decode.specs.Openings.{innermost_group};
 
-use crate::part::Part;
 use pb_wire::Cause;
 
 /// The longest payload, 2^31 - 1 bytes.
@@ -43,27 +41,17 @@ pub(crate) fn tag_parts(tag: u64) -> Result<(u32, u8), Cause>
     Ok((number, wire_type))
 }
 
-/// Judges the last tag of a group of a number, where this part is the innermost one, and stands in a record of the number
-/// `innermost`.
-pub(crate) fn group_end(part: &Part, innermost: Option<u32>, number: u32) -> Result<(), Cause>
-    ensures ends { IsOk result → IsGroup (part_view part.now) × (innermost ≡ Some number) }
+/// Judges the last tag of a group of a number, where the group that is open innermost has this number, if one is.
+pub(crate) fn group_end(innermost: Option<u32>, number: u32) -> Result<(), Cause>
+    ensures ends { IsOk result → innermost ≡ Some number }
     ensures settled { IfErr result (λ c. c ≢ Truncated) }
-    ensures refused { (pool : Types) (m depth levels : ℕ) (base : List Record) (p0 q u : Place) (frames : List FrameView) (scope : ScopeView) → Stands pool m depth levels base p0 frames (part_view part.now) scope q → innermost ≡ innermost_number frames → HasTag q number 4 u
+    ensures refused { (pool : Types) (m depth levels : ℕ) (base : List Record) (p0 q u : Place) (frames : List FrameView) (scope : ScopeView) (now : PartView) → Stands pool m depth levels base p0 frames now scope q → innermost ≡ innermost_group frames → HasTag q number 4 u
         → IfErr result (λ c. Bad (schema_of pool) (records (a_message m)) depth p0 (fault q.at (path_of frames) c)) }
 {
-    match part {
-        Part::Group(_) => match innermost {
-            Some(open) if open == number => Ok(()),
-            Some(_) => Err(Cause::WrongEnd),
-            None => Err(Cause::WrongEnd),
-        },
-        Part::Message(_, _) => Err(Cause::StrayEnd),
-        Part::Entry {
-            key_kind: _,
-            value_kind: _,
-            key: _,
-            value: _,
-        } => Err(Cause::StrayEnd),
+    match innermost {
+        Some(open) if open == number => Ok(()),
+        Some(_) => Err(Cause::WrongEnd),
+        None => Err(Cause::StrayEnd),
     }
 }
 

@@ -1,6 +1,6 @@
 //! What ends where a reader stands is closed before the next token.
 
-ghost use Rattle.std.specs.Prelude.{◌≡◌, ◌≢◌, ◌⊎◌, ◌↔◌, ◌-◌, ◌<◌, ◌≤◌, ◌^◌, ℕ, List, [], Some, IsTrue, MatchBool, vec_len, OnOk, IfErr};
+ghost use Rattle.std.specs.Prelude.{◌≡◌, ◌≢◌, ◌⊎◌, ◌↔◌, ◌-◌, ◌<◌, ◌≤◌, ◌^◌, ℕ, List, [], Some, None, IsTrue, MatchBool, vec_len, OnOk, IfErr};
 ghost use Rattle.pb_wire.specs.Record.{Record};
 ghost use Rattle.pb_wire.specs.Fault.{Place};
 ghost use Rattle.pb_schema.specs.declared.types.Kind.{Kind as KindOf};
@@ -9,8 +9,7 @@ ghost use Rattle.pb_schema.specs.Rules.{IsPool};
 ghost use Rattle.pb_decode.specs.declared.step.Step.TheVariants.{Tag, Elements};
 ghost use Rattle.pb_decode.specs.declared.error.DecodeError.TheVariants.{Memory};
 ghost use Rattle.pb_decode.specs.Occurrences.{counts_view};
-ghost use Rattle.pb_decode.specs.Openings.{IsGroup};
-ghost use Rattle.pb_decode.specs.PartView.{part_view};
+ghost use Rattle.pb_decode.specs.Openings.{innermost_group};
 ghost use Rattle.pb_decode.specs.Reader.{state_view, frames_view, left_of, Reads, IsReading, weight, IfFault, Told};
 ghost use Rattle.pb_decode.specs.Ended.{NothingEnds};
 
@@ -21,6 +20,7 @@ use crate::part::{Frame, Part};
 use crate::put::{close_message, count_one};
 use crate::reader::{Reader, left};
 use crate::step::Step;
+use crate::take_tag::innermost;
 use pb_schema::Pool;
 use pb_wire::Cause;
 use std::alloc::Global;
@@ -40,22 +40,6 @@ fn part_ends(reader: &Reader) -> bool
     !reader.frames.is_empty() && is_at_end(reader)
 }
 
-/// Whether the part is a group, which ends at its end tag alone.
-fn is_group(part: &Part) -> bool
-    ensures { MatchBool result (IsGroup (part_view part.now)) (IsGroup (part_view part.now) → ⊥) }
-{
-    match part {
-        Part::Group(_) => true,
-        Part::Message(_, _) => false,
-        Part::Entry {
-            key_kind: _,
-            value_kind: _,
-            key: _,
-            value: _,
-        } => false,
-    }
-}
-
 /// A packed list whose known end is reached is a whole record of its part, which goes on to its own end.
 fn end_list(reader: &mut Reader, number: u32, outer: Option<u32>) -> Result<(), DecodeError>
     requires few { counts_view reader.old.scope.occurrences number < 2 ^ 32 - 1 }
@@ -70,7 +54,7 @@ fn end_list(reader: &mut Reader, number: u32, outer: Option<u32>) -> Result<(), 
     Ok(())
 }
 
-/// The innermost part, which is no group and whose known end is reached, goes where it belongs, and the reader stands in the
+/// The innermost part, which no end tag ends and whose known end is reached, goes where it belongs, and the reader stands in the
 /// part that holds it.
 fn close_innermost(alloc: Global, pool: &Pool, reader: &mut Reader) -> Result<(), DecodeError>
     requires rules { IsPool pool.now }
@@ -78,7 +62,7 @@ fn close_innermost(alloc: Global, pool: &Pool, reader: &mut Reader) -> Result<()
     requires tag { reader.old.step ≡ Tag }
     requires inside { 0 < vec_len reader.old.frames }
     requires ends { left_of (state_view reader.old) ≡ Some 0 }
-    requires no_group { IsGroup (part_view reader.old.part) → ⊥ }
+    requires no_group { innermost_group (frames_view reader.old.frames.items) ≡ None }
     ensures at { OnOk result ((reader.new.at ≡ reader.old.at) × (reader.new.step ≡ Tag)) }
     ensures fewer { OnOk result (vec_len reader.new.frames < vec_len reader.old.frames) }
     ensures taken { (m depth levels : ℕ) (base : List Record) (p0 : Place) (rest : List ℕ) → Reads pool.now m depth levels base p0 (state_view reader.old) rest → OnOk result (Reads pool.now m depth levels base p0 (state_view reader.new) rest) }
@@ -91,6 +75,7 @@ fn close_innermost(alloc: Global, pool: &Pool, reader: &mut Reader) -> Result<()
         part,
         number,
         slot,
+        group: _,
         scope,
     } = frame;
     let inner = mem::replace(&mut reader.part, part);
@@ -128,7 +113,7 @@ fn close_ended(alloc: Global, pool: &Pool, reader: &mut Reader) -> Result<(), De
     ensures refused { (m depth levels : ℕ) (base : List Record) (p0 : Place) (rest : List ℕ) → Reads pool.now m depth levels base p0 (state_view reader.old) rest → IfErr result (λ e. IfFault e (Told pool.now m depth p0)) }
 {
     while part_ends(reader) {
-        if is_group(&reader.part) {
+        if innermost(&reader.frames).is_some() {
             return Err(fault_at(alloc, reader, reader.at, Cause::PastEnd));
         }
         close_innermost(alloc, pool, reader)?;

@@ -1,6 +1,6 @@
 //! Tags, where one may come.
 
-ghost use Rattle.std.specs.Prelude.{◌≡◌, ◌≢◌, ◌⊎◌, ◌+◌, ◌<◌, ◌^◌, ℕ, List, [], Some, drop, vec_len, MatchBool, OnOk, IfOk, IfErr, IfNone};
+ghost use Rattle.std.specs.Prelude.{◌≡◌, ◌≢◌, ◌⊎◌, ◌+◌, ◌<◌, ◌^◌, ℕ, List, [], Some, drop, MatchBool, OnOk, IfOk, IfErr, IfNone};
 ghost use Rattle.pb_wire.specs.Record.{Record};
 ghost use Rattle.pb_wire.specs.Fault.{Place, HasTag, Reads as HasNumber};
 ghost use Rattle.pb_wire.specs.Token.{passed};
@@ -10,7 +10,8 @@ ghost use Rattle.pb_decode.specs.declared.step.Step.TheVariants.{Tag};
 ghost use Rattle.pb_decode.specs.declared.error.DecodeError.TheVariants.{Memory};
 ghost use Rattle.pb_decode.specs.Frames.{CanHold};
 ghost use Rattle.pb_decode.specs.PartView.{part_view};
-ghost use Rattle.pb_decode.specs.Openings.{IsGroup, innermost_number};
+ghost use Rattle.pb_decode.specs.Openings.{innermost_group};
+ghost use Rattle.pb_decode.specs.Purposes.{Means, part_context};
 ghost use Rattle.pb_decode.specs.Reader.{state_view, frames_view, here, Reads, IsReading, Taken, Passes, IfFault, Told};
 ghost use Rattle.pb_decode.specs.Waiting.{Waits};
 ghost use Rattle.pb_decode.specs.Ended.{NothingEnds};
@@ -22,6 +23,8 @@ use crate::front::front_number;
 use crate::open::open_group;
 use crate::part::{Frame, Part};
 use crate::pass_length::enter;
+use crate::purpose::{Purpose, purpose_of};
+use crate::put::close_message;
 use crate::reader::{Reader, left};
 use crate::tag::{group_end, group_refusal, tag_parts};
 use crate::tag_step::tag_step;
@@ -30,11 +33,20 @@ use pb_wire::Cause;
 use std::alloc::Global;
 use std::mem;
 
-/// The number of the record that is open innermost.
+/// The number of the group that is open innermost, if an end tag ends what is open there.
 pub(crate) fn innermost(frames: &[Frame]) -> Option<u32>
-    ensures { result ≡ innermost_number (frames_view frames.now) }
+    ensures { result ≡ innermost_group (frames_view frames.now) }
 {
-    frames.last().map(|frame| frame.number)
+    match frames.last() {
+        Some(frame) => {
+            if frame.group {
+                Some(frame.number)
+            } else {
+                None
+            }
+        }
+        None => None,
+    }
 }
 
 /// Behind the tag of a record, which is no group, its value or its length comes next.
@@ -68,11 +80,13 @@ fn pass_record_tag(
     }
 }
 
-/// Behind the first tag of a group, where a level is left, the group is open.
+/// Behind the first tag of a group, where a level is left, the group is open: as the message of its field, or of unknown
+/// records.
 pub(crate) fn enter_group(
     alloc: Global,
     reader: &mut Reader,
     number: u32,
+    meant: Purpose,
     size: usize,
 ) -> Result<(), DecodeError>
     requires step { reader.old.step ≡ Tag }
@@ -80,12 +94,12 @@ pub(crate) fn enter_group(
     requires fits { reader.old.at + size < 2 ^ 32 }
     ensures at { OnOk result (reader.new.at ≡ reader.old.at + size) }
     ensures step { OnOk result (reader.new.step ≡ Tag) }
-    ensures reads { (pool : Types) (m depth levels : ℕ) (base : List Record) (p0 : Place) (rest : List ℕ) → IsPool pool → CanHold pool (part_view reader.old.part) → Reads pool m depth levels base p0 (state_view reader.old) rest
+    ensures reads { (pool : Types) (m depth levels : ℕ) (base : List Record) (p0 : Place) (rest : List ℕ) → IsPool pool → CanHold pool (part_view reader.old.part) → Means pool (part_context (part_view reader.old.part)) number 3 meant → Reads pool m depth levels base p0 (state_view reader.old) rest
         → HasTag (here (state_view reader.old) rest) number 3 (passed (here (state_view reader.old) rest) size) → OnOk result (Reads pool m depth levels base p0 (state_view reader.new) (drop size rest)) }
     ensures memory { IfErr result (λ e. e ≡ Memory) }
 {
     let begin = reader.at + size as u32;
-    let frame = open_group(alloc, &mut reader.part, &mut reader.scope, number);
+    let frame = open_group(alloc, &mut reader.part, &mut reader.scope, number, meant);
     enter(reader, frame, begin)?;
     Ok(())
 }
@@ -95,12 +109,13 @@ fn pass_group_start(
     alloc: Global,
     reader: &mut Reader,
     number: u32,
+    meant: Purpose,
     size: usize,
 ) -> Result<(), DecodeError>
     requires step { reader.old.step ≡ Tag }
     requires fits { reader.old.at + size < 2 ^ 32 }
     ensures at { OnOk result (reader.new.at ≡ reader.old.at + size) }
-    ensures reads { (pool : Types) (m depth levels : ℕ) (base : List Record) (p0 : Place) (rest : List ℕ) → IsPool pool → CanHold pool (part_view reader.old.part) → Reads pool m depth levels base p0 (state_view reader.old) rest
+    ensures reads { (pool : Types) (m depth levels : ℕ) (base : List Record) (p0 : Place) (rest : List ℕ) → IsPool pool → CanHold pool (part_view reader.old.part) → Means pool (part_context (part_view reader.old.part)) number 3 meant → Reads pool m depth levels base p0 (state_view reader.old) rest
         → HasTag (here (state_view reader.old) rest) number 3 (passed (here (state_view reader.old) rest) size) → OnOk result (Reads pool m depth levels base p0 (state_view reader.new) (drop size rest)) }
     ensures refused { (pool : Types) (m depth levels : ℕ) (base : List Record) (p0 : Place) (rest : List ℕ) → Reads pool m depth levels base p0 (state_view reader.old) rest
         → HasTag (here (state_view reader.old) rest) number 3 (passed (here (state_view reader.old) rest) size) → IfErr result (λ e. IfFault e (Told pool m depth p0)) }
@@ -108,23 +123,28 @@ fn pass_group_start(
     match group_refusal(reader.scope.room) {
         Some(cause) => Err(fault_inside(alloc, reader, number, reader.at, cause)),
         None => {
-            enter_group(alloc, reader, number, size)?;
+            enter_group(alloc, reader, number, meant, size)?;
             Ok(())
         }
     }
 }
 
-/// A group that ends goes among the unknown records of what holds it, where the reader then stands.
-pub(crate) fn leave_group(reader: &mut Reader, size: usize) -> Result<(), DecodeError>
-    requires reading { (pool : Types) × (rest : List ℕ) × IsReading pool (state_view reader.old) rest }
+/// What ends with a group goes where it belongs in what holds it, where the reader then stands: the message of a field into its
+/// slot, other records among the unknown ones.
+pub(crate) fn leave_group(
+    alloc: Global,
+    pool: &Pool,
+    reader: &mut Reader,
+    size: usize,
+) -> Result<(), DecodeError>
+    requires reading { (rest : List ℕ) × IsReading pool.now (state_view reader.old) rest }
     requires step { reader.old.step ≡ Tag }
-    requires group { IsGroup (part_view reader.old.part) }
-    requires inside { 0 < vec_len reader.old.frames }
+    requires group { (number : ℕ) × (innermost_group (frames_view reader.old.frames.items) ≡ Some number) }
     requires fits { reader.old.at + size < 2 ^ 32 }
     ensures at { OnOk result (reader.new.at ≡ reader.old.at + size) }
     ensures step { OnOk result (reader.new.step ≡ Tag) }
-    ensures reads { (pool : Types) (m depth levels number : ℕ) (base : List Record) (p0 : Place) (rest : List ℕ) → Reads pool m depth levels base p0 (state_view reader.old) rest → innermost_number (frames_view reader.old.frames.items) ≡ Some number
-        → HasTag (here (state_view reader.old) rest) number 4 (passed (here (state_view reader.old) rest) size) → OnOk result (Reads pool m depth levels base p0 (state_view reader.new) (drop size rest)) }
+    ensures reads { (m depth levels number : ℕ) (base : List Record) (p0 : Place) (rest : List ℕ) → Reads pool.now m depth levels base p0 (state_view reader.old) rest → innermost_group (frames_view reader.old.frames.items) ≡ Some number
+        → HasTag (here (state_view reader.old) rest) number 4 (passed (here (state_view reader.old) rest) size) → OnOk result (Reads pool.now m depth levels base p0 (state_view reader.new) (drop size rest)) }
     ensures memory { IfErr result (λ e. e ≡ Memory) }
 {
     let Some(frame) = reader.frames.pop() else {
@@ -134,36 +154,52 @@ pub(crate) fn leave_group(reader: &mut Reader, size: usize) -> Result<(), Decode
         part,
         number,
         slot,
+        group: _,
         scope,
     } = frame;
-    let Part::Group(records) = mem::replace(&mut reader.part, part) else {
-        unreachable!();
-    };
+    let inner = mem::replace(&mut reader.part, part);
     reader.scope = scope;
-    close_group(&mut reader.part, &mut reader.scope, number, slot, records)?;
     reader.at += size as u32;
-    Ok(())
+    let outer = &mut reader.part;
+    let around = &mut reader.scope;
+    match inner {
+        Part::Message(_, message) => {
+            close_message(alloc, pool, outer, around, number, slot, message)?;
+            Ok(())
+        }
+        Part::Group(records) => {
+            close_group(outer, around, number, slot, records)?;
+            Ok(())
+        }
+        Part::Entry {
+            key_kind: _,
+            value_kind: _,
+            key: _,
+            value: _,
+        } => unreachable!(),
+    }
 }
 
 /// Behind the last tag of a group the reader stands in what holds the group.
 fn pass_group_end(
     alloc: Global,
+    pool: &Pool,
     reader: &mut Reader,
     number: u32,
     size: usize,
 ) -> Result<(), DecodeError>
-    requires reading { (pool : Types) × (rest : List ℕ) × IsReading pool (state_view reader.old) rest }
+    requires reading { (rest : List ℕ) × IsReading pool.now (state_view reader.old) rest }
     requires step { reader.old.step ≡ Tag }
     requires fits { reader.old.at + size < 2 ^ 32 }
     ensures at { OnOk result (reader.new.at ≡ reader.old.at + size) }
-    ensures reads { (pool : Types) (m depth levels : ℕ) (base : List Record) (p0 : Place) (rest : List ℕ) → Reads pool m depth levels base p0 (state_view reader.old) rest
-        → HasTag (here (state_view reader.old) rest) number 4 (passed (here (state_view reader.old) rest) size) → OnOk result (Reads pool m depth levels base p0 (state_view reader.new) (drop size rest)) }
-    ensures refused { (pool : Types) (m depth levels : ℕ) (base : List Record) (p0 : Place) (rest : List ℕ) → Reads pool m depth levels base p0 (state_view reader.old) rest
-        → HasTag (here (state_view reader.old) rest) number 4 (passed (here (state_view reader.old) rest) size) → IfErr result (λ e. IfFault e (Told pool m depth p0)) }
+    ensures reads { (m depth levels : ℕ) (base : List Record) (p0 : Place) (rest : List ℕ) → Reads pool.now m depth levels base p0 (state_view reader.old) rest
+        → HasTag (here (state_view reader.old) rest) number 4 (passed (here (state_view reader.old) rest) size) → OnOk result (Reads pool.now m depth levels base p0 (state_view reader.new) (drop size rest)) }
+    ensures refused { (m depth levels : ℕ) (base : List Record) (p0 : Place) (rest : List ℕ) → Reads pool.now m depth levels base p0 (state_view reader.old) rest
+        → HasTag (here (state_view reader.old) rest) number 4 (passed (here (state_view reader.old) rest) size) → IfErr result (λ e. IfFault e (Told pool.now m depth p0)) }
 {
-    match group_end(&reader.part, innermost(&reader.frames), number) {
+    match group_end(innermost(&reader.frames), number) {
         Ok(()) => {
-            leave_group(reader, size)?;
+            leave_group(alloc, pool, reader, size)?;
             Ok(())
         }
         Err(cause) => Err(fault_at(alloc, reader, reader.at, cause)),
@@ -193,10 +229,11 @@ fn pass_tag(
         Err(cause) => return Err(fault_at(alloc, reader, reader.at, cause)),
     };
     if wire_type == 3 {
-        pass_group_start(alloc, reader, number, size)?;
+        let meant = purpose_of(pool, &reader.part, number, wire_type);
+        pass_group_start(alloc, reader, number, meant, size)?;
         Ok(())
     } else if wire_type == 4 {
-        pass_group_end(alloc, reader, number, size)?;
+        pass_group_end(alloc, pool, reader, number, size)?;
         Ok(())
     } else {
         pass_record_tag(alloc, pool, reader, number, wire_type, size)?;

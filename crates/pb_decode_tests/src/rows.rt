@@ -74,6 +74,70 @@ decode flat_types-9 - - 1201ff12017a ! 2 2[0] BadText
 decode flat_types-10 - - 92010501000000 ! 7 18[0] PastEnd
 ";
 
+/// The same of the type `Q`.
+pub(crate) const CLOSED: &str = "
+decode proto2-1 - - 0800 = 0800
+decode proto2-2 - - 12020102 = 10011002
+decode proto2-3 - - 1b08051c1b08061c = 1b08061c
+decode proto2-4 - - 1a020805 = 1a020805
+decode proto2-5 - - 20072002 = 20022007
+decode proto2-6 - - 208180808010 = 2001
+decode proto2-7 - - 208780808010 = 208780808010
+decode proto2-8 - - 2a0401070209 = 2a02010228072809
+decode proto2-9 - - 1b0896 ! 3 3[0].1[0] Truncated
+decode proto2-10 - - 1b24 ! 1 3[0] WrongEnd
+decode proto2-11 - - 1b08051c2002 = 1b08051c2002
+decode undeclared_alone - - 2807 = 2807
+decode undeclared_list - - 2a020709 = 28072809
+decode declared_elements - - 280228012a0101 = 2a03020101
+decode list_cut - - 2a040107 ! 4 5[0] Truncated
+decode third_list_cut - - 2a0107280a2a0196 ! 7 5[2] PastEnd
+decode empty_list - - 2a00 = -
+decode unknown_group_in_group - - 1b5b08015c1c = 1b5b08015c1c
+decode group_cut - - 1b ! 1 3[0] Truncated
+decode second_group_cut - - 1b1c1b0896 ! 5 3[1].1[0] Truncated
+decode wrong_type_in_group - - 1b0a01411c = 1b0a01411c
+onto group_goes_on - - 1b08051c 1b1c = 1b08051c
+onto closed_list_goes_on - - 2a03010702 2a020901 = 2a0301020128072809
+push group - - 0 2 1b ok
+push number_in_group - - 1 2 1b,0896 ok;ok
+push group_ends - - 0 1 1b0805,1c ok;ok
+push closed_list - - 0 2 2a04,01,07 ok;ok;ok
+push closed_list_ends - - 0 1 2a0401,0702,09 ok;ok;ok
+push wrong_end - - 0 0 1b,24 ok;! 1 3[0] WrongEnd
+push finished_in_a_group - - 0 0 1b08,05,finish ok;ok;! 3 3[0] Truncated
+frame group_past_its_end - - 1 3 1b08051c ? ! 4 3[0] PastEnd
+frame whole_group - - 1 4 1b08051c 0 = 1b08051c
+grow proto2-3 - - 1b08051c1b08061c = 1b08061c
+grow proto2-5 - - 20072002 = 20022007
+grow proto2-8 - - 2a0401070209 = 2a02010228072809
+grow wrong_end - - 1b24 ! 1 3[0] WrongEnd
+";
+
+/// The same of the type `R`.
+pub(crate) const GROUPS: &str = "
+decode list_of_groups - - 0b10050c0b0c = 0b10050c0b0c
+decode group_in_oneof - - 20051b08011c = 1b08011c
+decode group_leaves_oneof - - 1b08011c2005 = 2005
+decode group_goes_on - - 1b08011c1b1c = 1b08011c
+decode group_begins_anew - - 1b08011c20051b1c = 1b1c
+decode message_in_group - - 0b0a0220050c = 0b0a0220050c
+decode message_in_group_goes_on - - 0b0a0220050a0428010b0c0c = 0b0a060b0c200528010c
+decode group_at_its_known_end - - 0b0a011b0c ! 4 1[0].1[0].3[0] PastEnd
+decode end_in_a_message - - 0b0a010c0c ! 3 1[0].1[0] StrayEnd
+decode wrong_end - - 0b14 ! 1 1[0] WrongEnd
+decode stray_end - - 0c ! 0 - StrayEnd
+decode group_in_group - - 0b0a020b0c0c = 0b0a020b0c0c
+decode second_element - - 0b0c0b0a021b1c0b ! 8 1[1].1[1] Truncated
+decode too_deep - 0 0b0c ! 0 1[0] TooDeep
+decode deep_enough - 1 0b0c = 0b0c
+decode message_too_deep - 1 0b0a000c ! 1 1[0].1[0] TooDeep
+decode closed_list - - 28012807 = 28012807
+decode packed_spelling - - 2a020107 = 28012807
+grow list_of_groups - - 0b10050c0b0c = 0b10050c0b0c
+grow group_goes_on - - 1b08011c1b1c = 1b08011c
+";
+
 /// The bytes of a message, those that come onto it, and the answer. Lengths and places are those of the new bytes alone.
 pub(crate) const ONTO: &str = "
 onto example-9b - - 0805 0800 = -

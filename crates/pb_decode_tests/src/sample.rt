@@ -6,6 +6,14 @@
 //! message F { int32 a = 1; string b = 2; double d = 4; repeated int32 e = 6; optional bool p = 10; sint32 s = 11;
 //! repeated string u = 13; repeated sint32 v = 14 [packed = false]; bytes w = 15; float g = 16; E k = 17;
 //! repeated fixed32 h = 18; }
+//!
+//! and of the proto2 file q.proto:
+//!
+//! enum C { ONE = 1; TWO = 2; }
+//! message Q { optional int32 a = 1; repeated int32 e = 2; optional group G = 3 { optional int32 x = 1; } optional C k = 4;
+//! repeated C l = 5 [packed = true]; }
+//! message R { repeated group H = 1 { optional R r = 1; optional int32 x = 2; } oneof o { group V = 3 { optional int32 x = 1; }
+//! int32 y = 4; } repeated C l = 5; }
 
 ghost use Rattle.std.specs.Prelude.{◌<◌, length};
 
@@ -21,6 +29,16 @@ type FieldRow = (&'static str, u32, Kind, Shape);
 const T: Kind = Kind::Message(MessageId(0));
 
 const E: Kind = Kind::Enum(EnumId(0));
+
+const C: Kind = Kind::ClosedEnum(EnumId(1));
+
+const G: Kind = Kind::Group(MessageId(3));
+
+const R: MessageId = MessageId(4);
+
+const H: Kind = Kind::Group(MessageId(5));
+
+const V: Kind = Kind::Group(MessageId(6));
 
 const PACKED: Shape = Shape::List { packed: true };
 
@@ -55,10 +73,46 @@ const FIELDS_OF_F: &[FieldRow] = &[
     ("h", 18, Kind::Fixed32, PACKED),
 ];
 
-/// The types by name, their fields and the names of their oneofs.
-type TypeRow = (&'static str, &'static [FieldRow], &'static [&'static str]);
+const FIELDS_OF_Q: &[FieldRow] = &[
+    ("a", 1, Kind::Int32, Shape::Explicit),
+    ("e", 2, Kind::Int32, UNPACKED),
+    ("g", 3, G, Shape::Explicit),
+    ("k", 4, C, Shape::Explicit),
+    ("l", 5, C, PACKED),
+];
 
-const TYPES: &[TypeRow] = &[("T", FIELDS_OF_T, &["o"]), ("F", FIELDS_OF_F, &[])];
+const FIELDS_OF_G: &[FieldRow] = &[("x", 1, Kind::Int32, Shape::Explicit)];
+
+const FIELDS_OF_R: &[FieldRow] = &[
+    ("h", 1, H, UNPACKED),
+    ("v", 3, V, Shape::OneofMember(0)),
+    ("y", 4, Kind::Int32, Shape::OneofMember(0)),
+    ("l", 5, C, UNPACKED),
+];
+
+const FIELDS_OF_H: &[FieldRow] = &[
+    ("r", 1, Kind::Message(R), Shape::Explicit),
+    ("x", 2, Kind::Int32, Shape::Explicit),
+];
+
+/// The types by name, their files, what they are declared in, their fields and the names of their oneofs.
+type TypeRow = (
+    &'static str,
+    usize,
+    Option<MessageId>,
+    &'static [FieldRow],
+    &'static [&'static str],
+);
+
+const TYPES: &[TypeRow] = &[
+    ("T", 0, None, FIELDS_OF_T, &["o"]),
+    ("F", 0, None, FIELDS_OF_F, &[]),
+    ("Q", 1, None, FIELDS_OF_Q, &[]),
+    ("G", 1, Some(MessageId(2)), FIELDS_OF_G, &[]),
+    ("R", 1, None, FIELDS_OF_R, &["o"]),
+    ("H", 1, Some(R), FIELDS_OF_H, &[]),
+    ("V", 1, Some(R), FIELDS_OF_G, &[]),
+];
 
 /// A pool and a message type of it.
 #[derive(Drop)]
@@ -92,11 +146,14 @@ pub(crate) fn sample(alloc: Global, name: &str) -> Result<Schema, Fail> {
 
 fn files(alloc: Global) -> Result<Vec<FileInfo>, AllocError> {
     let mut files = Vec::new(alloc);
-    files.push(FileInfo {
-        name: String::from_str(alloc, "t.proto")?,
-        package: String::new(alloc),
-        imports: Vec::new(alloc),
-    })?;
+    for (name, proto2) in [("t.proto", false), ("q.proto", true)] {
+        files.push(FileInfo {
+            name: String::from_str(alloc, name)?,
+            package: String::new(alloc),
+            imports: Vec::new(alloc),
+            proto2,
+        })?;
+    }
     Ok(files)
 }
 
@@ -123,11 +180,11 @@ fn names_of(alloc: Global, rows: &[&str]) -> Result<Vec<String>, AllocError> {
 
 fn messages(alloc: Global) -> Result<Vec<MessageType>, AllocError> {
     let mut messages = Vec::new(alloc);
-    for (name, fields, oneofs) in TYPES {
+    for (name, file, parent, fields, oneofs) in TYPES {
         messages.push(MessageType {
             name: String::from_str(alloc, name)?,
-            file: 0,
-            parent: None,
+            file: *file,
+            parent: *parent,
             fields: fields_of(alloc, fields)?,
             oneofs: names_of(alloc, oneofs)?,
         })?;
@@ -135,16 +192,28 @@ fn messages(alloc: Global) -> Result<Vec<MessageType>, AllocError> {
     Ok(messages)
 }
 
-fn enums(alloc: Global) -> Result<Vec<EnumType>, AllocError> {
+/// An enum of these values.
+fn enum_of(
+    alloc: Global,
+    name: &str,
+    file: usize,
+    rows: &[(&str, i32)],
+) -> Result<EnumType, AllocError> {
     let mut values = Vec::new(alloc);
-    values.push((String::from_str(alloc, "Z")?, 0))?;
-    values.push((String::from_str(alloc, "NEG")?, -1))?;
-    let mut enums = Vec::new(alloc);
-    enums.push(EnumType {
-        name: String::from_str(alloc, "E")?,
-        file: 0,
+    for (name, number) in rows {
+        values.push((String::from_str(alloc, name)?, *number))?;
+    }
+    Ok(EnumType {
+        name: String::from_str(alloc, name)?,
+        file,
         parent: None,
         values,
-    })?;
+    })
+}
+
+fn enums(alloc: Global) -> Result<Vec<EnumType>, AllocError> {
+    let mut enums = Vec::new(alloc);
+    enums.push(enum_of(alloc, "E", 0, &[("Z", 0), ("NEG", -1)])?)?;
+    enums.push(enum_of(alloc, "C", 1, &[("ONE", 1), ("TWO", 2)])?)?;
     Ok(enums)
 }

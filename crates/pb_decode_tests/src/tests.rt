@@ -5,8 +5,8 @@ use super::hostile::{are_alive, are_falling, are_fronts, is_repeated};
 use super::messages::{is_merged, is_put_onto};
 use super::pieces::is_pushed;
 use super::rows::{
-    ALIVE, DEEP, FALLING, FLAT, FRAMES, FRONTS, GROWTHS, MANY_RECORDS, MERGES, ONE_RECORD, ONTO,
-    PIECES, WORKED,
+    ALIVE, CLOSED, DEEP, FALLING, FLAT, FRAMES, FRONTS, GROUPS, GROWTHS, MANY_RECORDS, MERGES,
+    ONE_RECORD, ONTO, PIECES, WORKED,
 };
 use super::sample::{Schema, sample};
 use super::words::{limits_of, word};
@@ -61,6 +61,20 @@ fn worked_rows(rt: HostRuntime) -> Result<(), Fail> {
 #[test]
 fn flat_rows(rt: HostRuntime) -> Result<(), Fail> {
     let wrong = wrong_row(rt.alloc(), "F", FLAT)?;
+    assert!(rt; wrong.is_none(), "{wrong:?}");
+    Ok(())
+}
+
+#[test]
+fn closed_enums(rt: HostRuntime) -> Result<(), Fail> {
+    let wrong = wrong_row(rt.alloc(), "Q", CLOSED)?;
+    assert!(rt; wrong.is_none(), "{wrong:?}");
+    Ok(())
+}
+
+#[test]
+fn groups(rt: HostRuntime) -> Result<(), Fail> {
+    let wrong = wrong_row(rt.alloc(), "R", GROUPS)?;
     assert!(rt; wrong.is_none(), "{wrong:?}");
     Ok(())
 }

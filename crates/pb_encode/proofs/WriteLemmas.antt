@@ -9,17 +9,16 @@ use Rattle.pb_wire.specs.Spell.{shortest_record, shortest_records}
 use Rattle.pb_schema.specs.declared.types.Kind.{Kind}
 use Rattle.pb_schema.specs.declared.types.Kind.TheVariants as kind
 use Rattle.pb_schema.specs.declared.types.MessageId.{MessageId}
-use Rattle.pb_schema.specs.Kinds.{message_of_kind}
 use Rattle.pb_schema.specs.Types.{FieldView, Types, message_fields, field_numbered}
 use Rattle.pb_value.specs.Data.{Datum, message, Datums, list, Fields, Message, body}
-use Rattle.pb_value.specs.Canon.{by_field, by_type, payload_of, canon, canon_bytes, canon_each, canon_entries, canon_holding, canon_fields, packed_bytes, is_packed, key_kind, record_of, sealed}
+use Rattle.pb_value.specs.Canon.{by_field, payload_of, canon_bytes, canon_each, canon_entries, canon_holding, canon_fields, packed_bytes, is_packed, key_kind, record_of, sealed}
 use Rattle.pb_value.specs.View.{key_view, value_view, values_view, entries_view, content_view, fields_view}
 use Rattle.pb_value.specs.declared.body.Content.{Content}
 use Rattle.pb_value.specs.declared.body.MapKey.{MapKey}
 use Rattle.pb_value.specs.declared.body.Value.{Value, the_lemmas as value_lemmas}
 use Rattle.pb_value.specs.declared.body.Value.TheVariants as value
 use Rattle.pb_value.specs.declared.body.Body.{Body}
-use Rattle.pb_encode.specs.Sizes.{is_plain, plain_payload, entry_records, lengths_by_type, lengths_by_field, lengths_in_datum, lengths_in_message, lengths_in_each, lengths_in_entries, lengths_in_holding, lengths_in_fields}
+use Rattle.pb_encode.specs.Sizes.{is_plain, plain_payload, entry_records, lengths_by_field, lengths_in_datum, lengths_in_message, lengths_in_each, lengths_in_entries, lengths_in_holding, lengths_in_fields}
 use Rattle.std.specs.Io.KnownBytes.{Appends}
 use Rattle.std.proofs.KnownBytes.{Appends-nil}
 use Rattle.pb_encode.specs.Sink.{Buffered, IsRest, Carries, Puts}
@@ -40,10 +39,11 @@ pub record ToWrite {D : Type 0} (written : D → Option (List ℕ)) (failures : 
 pub plain_value : (k : Kind) (v : Value) → ((x : Body) → v ≡ value.Message x → ⊥) → is_plain k (value_view v) ≡ true
 plain_value k v h = search (rules, value_lemmas)
 
--- a kind that is no message
-pub plain_kind : (k : Kind) (b : Message) → ((m : MessageId) → k ≡ kind.Message m → ⊥) → is_plain k (message b) ≡ true
-plain_kind (kind.Message m) b h = absurd (h m refl)
-plain_kind _ b h = refl
+-- a kind of no messages
+pub plain_kind : (k : Kind) (b : Message) → ((m : MessageId) → k ≡ kind.Message m → ⊥) → ((m : MessageId) → k ≡ kind.Group m → ⊥) → is_plain k (message b) ≡ true
+plain_kind (kind.Message m) b h g = absurd (h m refl)
+plain_kind (kind.Group m) b h g = absurd (g m refl)
+plain_kind _ b h g = refl
 
 module _ {D : Type 0} {written : D → Option (List ℕ)} {failures : D → ℕ} where
   -- PARTS WITH LENGTHS
@@ -107,12 +107,31 @@ module _ {D : Type 0} {written : D → Option (List ℕ)} {failures : D → ℕ}
 
   -- a message of a kind of messages
   pub writes_datum :
-      {d0 d1 : D} {a b : Buffered} {table : List ℕ} {at next : ℕ} (pool : Types) (k : Kind) (d : Datum) (v : Message) (m : ℕ) (number : ℕ) → d ≡ message v → message_of_kind k ≡ Some m
-      → Writes written failures d0 d1 a b table at next (length (canon_bytes pool m v) ∷ lengths_in_message pool m v) (shortest_record number (len (canon_bytes pool m v)))
+      {d0 d1 : D} {a b : Buffered} {table : List ℕ} {at next : ℕ} (pool : Types) (k : Kind) (d : Datum) (v : Message) (id : MessageId) (number : ℕ) → d ≡ message v → k ≡ kind.Message id
+      → Writes written failures d0 d1 a b table at next (length (canon_bytes pool id.0 v) ∷ lengths_in_message pool id.0 v) (shortest_record number (len (canon_bytes pool id.0 v)))
       → Writes written failures d0 d1 a b table at next (lengths_in_datum pool k d) (shortest_record number (payload_of pool k d))
-  writes_datum {d0} {d1} {a} {b} {table} {at} {next} pool k d v m number is kind h =
+  writes_datum {d0} {d1} {a} {b} {table} {at} {next} pool k d v id number is same h =
       subst (λ (x : Datum). Writes written failures d0 d1 a b table at next (lengths_in_datum pool k x) (shortest_record number (payload_of pool k x))) (sym is)
-      (subst (λ (o : Option ℕ). Writes written failures d0 d1 a b table at next (lengths_by_type o (λ i. length (canon_bytes pool i v) ∷ lengths_in_message pool i v)) (shortest_record number (by_type o (λ i. canon pool i v)))) (sym kind) h)
+      (subst (λ (l : Kind). Writes written failures d0 d1 a b table at next (lengths_in_datum pool l (message v)) (shortest_record number (payload_of pool l (message v)))) (sym same) h)
+
+  -- a message between the tags of a group
+  pub writes_group :
+      {d0 d1 d2 d3 : D} {a b c e : Buffered} {table : List ℕ} {at next : ℕ} (pool : Types) (k : Kind) (d : Datum) (v : Message) (id : MessageId) (number : ℕ) → d ≡ message v → k ≡ kind.Group id
+      → Puts written failures d0 d1 a b (shortest (8 * number + 3)) → Writes written failures d1 d2 b c table at next (lengths_in_message pool id.0 v) (canon_bytes pool id.0 v) → c.failed ≡ false
+      → Puts written failures d2 d3 c e (shortest (8 * number + 4)) → Writes written failures d0 d3 a e table at next (lengths_in_datum pool k d) (shortest_record number (payload_of pool k d))
+  writes_group {d0} {d1} {d2} {d3} {a} {b} {c} {e} {table} {at} {next} pool k d v id number is same p w open_ q =
+      subst (λ (x : Datum). Writes written failures d0 d3 a e table at next (lengths_in_datum pool k x) (shortest_record number (payload_of pool k x))) (sym is)
+      (subst (λ (l : Kind). Writes written failures d0 d3 a e table at next (lengths_in_datum pool l (message v)) (shortest_record number (payload_of pool l (message v)))) (sym same)
+      record { follows = λ more f. let one = w.follows more f in (puts_then (puts_then p one.0) q, λ still. one.1 open_) })
+
+  pub writes_group_lost :
+      {d0 d1 d2 : D} {a b c : Buffered} {table : List ℕ} {at next : ℕ} (pool : Types) (k : Kind) (d : Datum) (v : Message) (id : MessageId) (number : ℕ) → d ≡ message v → k ≡ kind.Group id
+      → Puts written failures d0 d1 a b (shortest (8 * number + 3)) → Writes written failures d1 d2 b c table at next (lengths_in_message pool id.0 v) (canon_bytes pool id.0 v) → c.failed ≡ true
+      → Writes written failures d0 d2 a c table at next (lengths_in_datum pool k d) (shortest_record number (payload_of pool k d))
+  writes_group_lost {d0} {d1} {d2} {a} {b} {c} {table} {at} {next} pool k d v id number is same p w broken =
+      subst (λ (x : Datum). Writes written failures d0 d2 a c table at next (lengths_in_datum pool k x) (shortest_record number (payload_of pool k x))) (sym is)
+      (subst (λ (l : Kind). Writes written failures d0 d2 a c table at next (lengths_in_datum pool l (message v)) (shortest_record number (payload_of pool l (message v)))) (sym same)
+      record { follows = λ more f. let one = w.follows more f in (puts_then (puts_then p one.0) (puts_lost broken), λ still. absurd (cc)) })
 
   -- a message: its fields, and then its unknown records
   pub writes_message :

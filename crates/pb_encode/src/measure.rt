@@ -15,7 +15,7 @@ ghost use Rattle.pb_encode.specs.Encoding.{bytes_of};
 
 use crate::lengths::Lengths;
 use crate::scalar::{element_len, key_kind, key_payload, scalar_payload};
-use crate::sizes::{record_len, sealed_len, unknowns_len};
+use crate::sizes::{group_len, record_len, sealed_len, unknowns_len};
 use pb_schema::{Field, Kind, MessageId, Pool, Shape};
 use pb_value::{Body, Content, DynamicMessage, MapKey, Value};
 use std::alloc::AllocError;
@@ -98,6 +98,10 @@ fn value_len(
                 let size = message_len(pool, id, body, lengths)?;
                 lengths.close(at, size);
                 Ok(sealed_len(number, size))
+            }
+            Kind::Group(id) => {
+                let inside = message_len(pool, id, body, lengths)?;
+                Ok(group_len(number, inside))
             }
             _ => Ok(record_len(number, scalar_payload(kind, value))),
         },

@@ -13,7 +13,7 @@ ghost use Rattle.pb_encode.specs.Sizes.{entry_records, lengths_in_message, lengt
 ghost use Rattle.pb_encode.specs.Writing.{Writes};
 
 use crate::measure::{field_at, is_packed};
-use crate::putting::{put_elements, put_prefix, put_scalar, put_unknowns};
+use crate::putting::{put_elements, put_prefix, put_scalar, put_tag, put_unknowns};
 use crate::scalar::{key_kind, key_payload, scalar_payload};
 use crate::sink::Sink;
 use pb_schema::{Field, Kind, MessageId, Pool};
@@ -143,6 +143,15 @@ fn write_value<O: Output>(
                 put_prefix(sink, out, number, u64::from(size));
                 let next = write_message(sink, out, pool, id, body, lengths, inside);
                 next
+            }
+            Kind::Group(id) => {
+                put_tag(sink, out, number, 3);
+                let behind = write_message(sink, out, pool, id, body, lengths, at);
+                if sink.has_failed() {
+                    return behind;
+                }
+                put_tag(sink, out, number, 4);
+                behind
             }
             _ => {
                 put_scalar(sink, out, number, scalar_payload(kind, value));

@@ -108,6 +108,7 @@ found_field ts m test f ok e = by_message (slice_get ts.messages m) refl
           key = all_found _ test t.fields f (at_message _ ts.messages m t ok.fields.shapes.keys is) here;
           packed = all_found _ test t.fields f (at_message _ ts.messages m t ok.fields.shapes.packed is) here;
           implicit = all_found _ test t.fields f (at_message _ ts.messages m t ok.fields.shapes.implicit is) here;
+          value = all_found _ test t.fields f (at_message _ ts.messages m t ok.fields.shapes.values is) here;
         }
 
 pub found_rules : (ts : Types) (m : ℕ) (test : FieldView → Bool) (r : Option (Bor Field)) → IsPool ts → option_map (λ f. field_view f.now) r ≡ find test (message_fields ts m) → IfSome r (λ f. IsFieldOf ts m (field_view f.now))

@@ -1,7 +1,7 @@
 -- Worked rows of names.
-use Rattle.std.proofs.Common.{◌≡◌, List, [], ◌∷◌, ℕ, pos, true, false, Some, None, refl}
-use Rattle.std.specs.Prelude.{codes, ℤ}
-use Rattle.pb_schema.specs.Types.{EnumView, FileView, MessageView}
+use Rattle.std.proofs.Common.{◌≡◌, [], ◌∷◌, pos, true, false, Some, None, refl}
+use Rattle.std.specs.Prelude.{codes}
+use Rattle.pb_schema.specs.Types.{FileView, MessageView}
 use Rattle.pb_schema.specs.Names.{is_word, is_package, packages_of, in_scope, entry_name, declared_by_enum}
 
 words : (is_word (codes "_a1") ≡ true) × (is_word (codes "1a") ≡ false) × (is_word (codes "a.b") ≡ false) × (is_word [] ≡ false)
@@ -21,7 +21,7 @@ names_in_scopes : (in_scope [] (codes "M") ≡ codes "M") × (in_scope (codes "a
 names_in_scopes = (refl, refl)
 
 abbrev a_file : FileView
-a_file = record { name = codes "f.proto"; package_name = codes "p"; imports = [] }
+a_file = record { name = codes "f.proto"; package_name = codes "p"; imports = []; proto2 = false }
 
 abbrev a_message : MessageView
 a_message = record { name = codes "M"; file = 0; parent = None; fields = []; oneofs = [] }

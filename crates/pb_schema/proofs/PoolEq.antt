@@ -5,6 +5,7 @@ use Rattle.std.proofs.lemmas.Bool.Decides.{Decides-eqb, Decides-int_eq}
 use Rattle.std.proofs.lemmas.Slice.Eq.{bytes_eq-Decides}
 use Rattle.std.specs.Prelude.{ℤ, Bool, true, false, ◌&&◌, ◌==◌, String, string_bytes}
 use Rattle.std.specs.Bool.{Decides}
+use Rattle.std.specs.Cmp.{booleans_Decides}
 use Rattle.std.specs.Cmp.Lexicographic.{pointwise}
 use Rattle.std.specs.Option.{option_eq}
 use Rattle.std.specs.Ordering.{int_eq}
@@ -88,11 +89,15 @@ kind_is kind.Sint32 kind.Sint32 e = refl
 kind_is kind.Sint64 kind.Sint64 e = refl
 kind_is (kind.Enum m) (kind.Enum n) e = let same : m.0 ≡ n.0 = (Decides-eqb m.0 n.0).0 e in λ i. kind.Enum (record { 0 = same i })
 kind_is (kind.Message m) (kind.Message n) e = let same : m.0 ≡ n.0 = (Decides-eqb m.0 n.0).0 e in λ i. kind.Message (record { 0 = same i })
+kind_is (kind.Group m) (kind.Group n) e = let same : m.0 ≡ n.0 = (Decides-eqb m.0 n.0).0 e in λ i. kind.Group (record { 0 = same i })
+kind_is (kind.ClosedEnum m) (kind.ClosedEnum n) e = let same : m.0 ≡ n.0 = (Decides-eqb m.0 n.0).0 e in λ i. kind.ClosedEnum (record { 0 = same i })
 kind_is a b e = absurd (false≢true e)
 
 kind_itself : (a : Kind) → same_kind a a ≡ true
 kind_itself (kind.Enum m) = (Decides-eqb m.0 m.0).1 refl
 kind_itself (kind.Message m) = (Decides-eqb m.0 m.0).1 refl
+kind_itself (kind.Group m) = (Decides-eqb m.0 m.0).1 refl
+kind_itself (kind.ClosedEnum m) = (Decides-eqb m.0 m.0).1 refl
 kind_itself a = refl
 
 kinds_decide : (a b : Kind) → Decides (same_kind a b) (a ≡ b)
@@ -142,9 +147,9 @@ values_decide x y =
 
 pub files_decide : (a b : FileInfo) → Decides ((file_eq.ghosts).eq a b) (file_view a ≡ file_view b)
 files_decide a b =
-    decides_as _ _ _ (λ h i. record { name = h.0 i; package_name = h.1.0 i; imports = h.1.1 i })
-    (λ e. (ap (λ (f : FileView). f.name) e, (ap (λ (f : FileView). f.package_name) e, ap (λ (f : FileView). f.imports) e)))
-    (and_decides _ _ _ _ (text_decides a.name b.name) (and_decides _ _ _ _ (text_decides a.«package» b.«package») (bytes_eq-Decides a.imports.items b.imports.items)))
+    decides_as _ _ _ (λ h i. record { name = h.0 i; package_name = h.1.0 i; imports = h.1.1.0 i; proto2 = h.1.1.1 i })
+    (λ e. (ap (λ (f : FileView). f.name) e, (ap (λ (f : FileView). f.package_name) e, (ap (λ (f : FileView). f.imports) e, ap (λ (f : FileView). f.proto2) e))))
+    (and_decides _ _ _ _ (text_decides a.name b.name) (and_decides _ _ _ _ (text_decides a.«package» b.«package») (and_decides _ _ _ _ (bytes_eq-Decides a.imports.items b.imports.items) (booleans_Decides a.proto2 b.proto2))))
 
 pub messages_decide : (a b : MessageType) → Decides ((message_eq.ghosts).eq a b) (message_view a ≡ message_view b)
 messages_decide a b =

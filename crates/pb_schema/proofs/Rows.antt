@@ -6,7 +6,8 @@ use Rattle.pb_schema.specs.declared.types.Kind.TheVariants as kind
 use Rattle.pb_schema.specs.Scalar.{int32, uint32, boolean, enum, text}
 use Rattle.pb_schema.specs.Kinds.{read, written}
 use Rattle.pb_schema.specs.Packed.{elements}
-use Rattle.pb_schema.specs.Fits.{fits, unfitting}
+use Rattle.pb_schema.specs.Fits.{fits}
+use Rattle.pb_schema.specs.Closed.{unknown}
 use Rattle.pb_schema.specs.Context.{Context, a_message, an_entry, unknown_group, schema_of}
 use Rattle.pb_schema.specs.Types.{message_fields}
 use Rattle.pb_schema.proofs.Samples.{pool_t, e_field, v_field, the_message}
@@ -61,7 +62,7 @@ v-fits : fits v_field (record { number = 14; payload = len [] }) ≡ true
 v-fits = refl
 
 -- 0a 01 41: a known number of a wire type that does not fit is unknown, and so is a group
-unknown-records : unfitting (message_fields pool_t 0) (record { number = 1; payload = len (0x41 ∷ []) } ∷ record { number = 1; payload = varint 5 } ∷ record { number = 20; payload = group no_more } ∷ record { number = 9; payload = varint 1 } ∷ []) ≡ record { number = 1; payload = len (0x41 ∷ []) } ∷ record { number = 20; payload = group no_more } ∷ record { number = 9; payload = varint 1 } ∷ []
+unknown-records : unknown pool_t (message_fields pool_t 0) (record { number = 1; payload = len (0x41 ∷ []) } ∷ record { number = 1; payload = varint 5 } ∷ record { number = 20; payload = group no_more } ∷ record { number = 9; payload = varint 1 } ∷ []) ≡ record { number = 1; payload = len (0x41 ∷ []) } ∷ record { number = 20; payload = group no_more } ∷ record { number = 9; payload = varint 1 } ∷ []
 unknown-records = refl
 
 abbrev reading : Context → ℕ → wire.Reading Context

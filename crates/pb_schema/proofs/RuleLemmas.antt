@@ -91,6 +91,8 @@ some_iff P file (Some x) = (λ u. u, λ u. u)
 pub seen_by_file : (ts : Types) (i : ℕ) (k : Kind) → IfSome (file_of_kind ts.messages ts.enums k) (IsSeen ts.files i) ↔ TypeIsSeen ts i k
 seen_by_file ts i (kind.Enum e) = some_iff (IsSeen ts.files i) (λ (t : EnumView). t.file) (slice_get ts.enums e.0)
 seen_by_file ts i (kind.Message m) = some_iff (IsSeen ts.files i) (λ (t : MessageView). t.file) (slice_get ts.messages m.0)
+seen_by_file ts i (kind.Group m) = some_iff (IsSeen ts.files i) (λ (t : MessageView). t.file) (slice_get ts.messages m.0)
+seen_by_file ts i (kind.ClosedEnum e) = some_iff (IsSeen ts.files i) (λ (t : EnumView). t.file) (slice_get ts.enums e.0)
 seen_by_file ts i kind.Double = (λ u. u, λ u. u)
 seen_by_file ts i kind.Float = (λ u. u, λ u. u)
 seen_by_file ts i kind.Int64 = (λ u. u, λ u. u)

@@ -39,4 +39,4 @@ message_t = record {
 }
 
 abbrev pub pool_t : Types
-pool_t = record { files = record { name = codes "t.proto"; package_name = []; imports = [] } ∷ []; messages = message_t ∷ []; enums = [] }
+pool_t = record { files = record { name = codes "t.proto"; package_name = []; imports = []; proto2 = false } ∷ []; messages = message_t ∷ []; enums = [] }

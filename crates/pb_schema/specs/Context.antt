@@ -1,5 +1,5 @@
--- What a pool says of records inside messages, map entries and unknown groups: the instance for the rules of soundness and of faults.
-use Rattle.std.specs.Prelude.{ℕ, List, [], ◌∷◌, Option, Some, None, ◌==◌, if◌then◌else◌}
+-- What a pool says of records inside messages, map entries and groups: the instance for the rules of soundness and of faults.
+use Rattle.std.specs.Prelude.{ℕ, List, [], ◌∷◌, Bool, true, false, Option, Some, None, ◌==◌, if◌then◌else◌}
 use Rattle.pb_wire.specs.Schema as wire
 use Rattle.pb_wire.specs.Schema.{Schema, Element, a_varint, four_bytes, eight_bytes, Reading}
 use Rattle.pb_schema.specs.declared.types.Kind.{Kind}
@@ -7,7 +7,7 @@ use Rattle.pb_schema.specs.declared.types.Kind.TheVariants as kind
 use Rattle.pb_schema.specs.declared.types.Shape.{Shape}
 use Rattle.pb_schema.specs.declared.types.Shape.TheVariants as shape
 use Rattle.pb_schema.specs.Types.{FieldView, Types, message_fields, field_numbered}
-use Rattle.pb_schema.specs.Kinds.{wire_type_of}
+use Rattle.pb_schema.specs.Kinds.{wire_type_of, is_group, message_of_kind}
 
 -- what records stand in: a message of a type, a map entry with these kinds of key and value, or a group that no schema knows
 pub data Context : Type 0 where
@@ -62,6 +62,8 @@ read_singular c kind.Sfixed64 = wire.unread
 read_singular c kind.Sint32 = wire.unread
 read_singular c kind.Sint64 = wire.unread
 read_singular c (kind.Enum _) = wire.unread
+read_singular c (kind.Group _) = wire.unread
+read_singular c (kind.ClosedEnum _) = wire.unread
 
 abbrev pub read_listed : Context → Kind → Reading Context
 read_listed c kind.Text = wire.text
@@ -81,6 +83,8 @@ read_listed c kind.Sfixed64 = wire.packed (element_of kind.Sfixed64)
 read_listed c kind.Sint32 = wire.packed (element_of kind.Sint32)
 read_listed c kind.Sint64 = wire.packed (element_of kind.Sint64)
 read_listed c (kind.Enum e) = wire.packed (element_of (kind.Enum e))
+read_listed c (kind.Group _) = wire.unread
+read_listed c (kind.ClosedEnum e) = wire.packed (element_of (kind.ClosedEnum e))
 
 abbrev pub read_shaped : Context → Shape → Kind → Reading Context
 read_shaped c (shape.Map key) k = wire.message (an_entry key k)
@@ -93,6 +97,33 @@ abbrev pub read_field : Context → Option FieldView → Reading Context
 read_field c None = wire.unread
 read_field c (Some f) = read_shaped c f.shape f.kind
 
+-- what stands in a group of a kind
+abbrev pub group_of_kind : Kind → Context
+group_of_kind k = in_group (is_group k) (message_of_kind k)
+  where
+    in_group : Bool → Option ℕ → Context
+    in_group true (Some m) = a_message m
+    in_group true None = unknown_group
+    in_group false o = unknown_group
+
+-- no group is an entry of a map
+abbrev pub group_shaped : Shape → Kind → Context
+group_shaped (shape.Map _) k = unknown_group
+group_shaped (shape.List _) k = group_of_kind k
+group_shaped shape.Explicit k = group_of_kind k
+group_shaped shape.Implicit k = group_of_kind k
+group_shaped (shape.OneofMember _) k = group_of_kind k
+
+abbrev pub group_of_field : Option FieldView → Context
+group_of_field None = unknown_group
+group_of_field (Some f) = group_shaped f.shape f.kind
+
+-- What stands in a group of a number: in one that is a field a message of its type. Entries and groups that no schema knows have no such fields.
+abbrev pub group_in : Types → Context → ℕ → Context
+group_in pool (a_message m) n = group_of_field (field_numbered n (message_fields pool m))
+group_in pool (an_entry key value) n = unknown_group
+group_in pool unknown_group n = unknown_group
+
 -- the rules of a pool
 abbrev pub schema_of : Types → Schema
-schema_of pool = record { Context = Context; reading = λ c n. read_field c (field_numbered n (fields_in pool c)); group_context = λ c n. unknown_group }
+schema_of pool = record { Context = Context; reading = λ c n. read_field c (field_numbered n (fields_in pool c)); group_context = λ c n. group_in pool c n }

@@ -1,5 +1,5 @@
 -- Which records fit which fields (encoding guide, "Message Structure", "Packed Repeated Fields", "Maps").
-use Rattle.std.specs.Prelude.{ℕ, Bool, ◌==◌, ◌&&◌, ◌||◌, List, filter, not}
+use Rattle.std.specs.Prelude.{ℕ, Bool, ◌==◌, ◌&&◌, ◌||◌, List, filter}
 use Rattle.std.specs.List.{list_any}
 use Rattle.pb_wire.specs.Record.{Record, wire_type}
 use Rattle.pb_schema.specs.declared.types.Kind.{Kind}
@@ -30,7 +30,3 @@ fitting f rs = filter (fits f) rs
 -- the record fits one of the fields
 abbrev pub fits_any : List FieldView → Record → Bool
 fits_any fs r = list_any (λ f. fits f r) fs
-
--- the records that fit no field, in order
-abbrev pub unfitting : List FieldView → List Record → List Record
-unfitting fs rs = filter (λ r. not (fits_any fs r)) rs

@@ -1,5 +1,5 @@
 -- The table of kinds: how each is sent, read and written (encoding guide, "Scalar Value Types", "Signed Integers", "Bools and Enums").
-use Rattle.std.specs.Prelude.{ℕ, pos, ◌<◌, ◌%◌, ◌^◌, [], Bool, true, false, not, cond, ◌==◌, Option, Some, None, IsUtf8, FitsSigned}
+use Rattle.std.specs.Prelude.{ℕ, pos, ◌<◌, ◌%◌, ◌^◌, [], Bool, true, false, not, cond, ◌==◌, ◌||◌, Option, Some, None, is_some, IsUtf8, FitsSigned}
 use Rattle.std.specs.List.{AllByRecursion}
 use Rattle.std.specs.Int.{cast_signed, cast_unsigned, w32, w64}
 use Rattle.pb_wire.specs.Record.{Payload, varint, fixed64, len, fixed32}
@@ -9,7 +9,7 @@ use Rattle.pb_schema.specs.declared.types.Kind.{Kind}
 use Rattle.pb_schema.specs.declared.types.Kind.TheVariants as kind
 use Rattle.pb_schema.specs.Scalar.{Scalar, int32, int64, uint32, uint64, boolean, float, double, enum, text, bytes}
 
--- the wire type of a kind: 0 for a varint, 1 for eight bytes, 2 for a length and bytes, 5 for four bytes
+-- the wire type of a kind: 0 for a varint, 1 for eight bytes, 2 for a length and bytes, 3 for a group, 5 for four bytes
 abbrev pub wire_type_of : Kind → ℕ
 wire_type_of kind.Double = 1
 wire_type_of kind.Float = 5
@@ -28,10 +28,16 @@ wire_type_of kind.Sint32 = 0
 wire_type_of kind.Sint64 = 0
 wire_type_of (kind.Enum _) = 0
 wire_type_of (kind.Message _) = 2
+wire_type_of (kind.Group _) = 3
+wire_type_of (kind.ClosedEnum _) = 0
 
--- every kind but text, bytes and messages may stand in a packed list
+-- every kind but text, bytes, messages and groups may stand in a packed list
 abbrev pub is_packable : Kind → Bool
-is_packable k = not (wire_type_of k == 2)
+is_packable k = not ((wire_type_of k == 2) || (wire_type_of k == 3))
+
+-- the messages of the kind are written as groups
+abbrev pub is_group : Kind → Bool
+is_group k = wire_type_of k == 3
 
 -- an integer, a bool or a text may be a map's key
 abbrev pub is_key_kind : Kind → Bool
@@ -52,6 +58,8 @@ is_key_kind kind.Sint32 = true
 is_key_kind kind.Sint64 = true
 is_key_kind (kind.Enum _) = false
 is_key_kind (kind.Message _) = false
+is_key_kind (kind.Group _) = false
+is_key_kind (kind.ClosedEnum _) = false
 
 -- the message type of a kind
 abbrev pub message_of_kind : Kind → Option ℕ
@@ -72,6 +80,34 @@ message_of_kind kind.Sint32 = None
 message_of_kind kind.Sint64 = None
 message_of_kind (kind.Enum _) = None
 message_of_kind (kind.Message m) = Some m.0
+message_of_kind (kind.Group m) = Some m.0
+message_of_kind (kind.ClosedEnum _) = None
+
+-- the enum of a kind whose values are those that it declares
+abbrev pub closed_enum : Kind → Option ℕ
+closed_enum kind.Double = None
+closed_enum kind.Float = None
+closed_enum kind.Int64 = None
+closed_enum kind.Uint64 = None
+closed_enum kind.Int32 = None
+closed_enum kind.Fixed64 = None
+closed_enum kind.Fixed32 = None
+closed_enum kind.Bool = None
+closed_enum kind.Text = None
+closed_enum kind.Bytes = None
+closed_enum kind.Uint32 = None
+closed_enum kind.Sfixed32 = None
+closed_enum kind.Sfixed64 = None
+closed_enum kind.Sint32 = None
+closed_enum kind.Sint64 = None
+closed_enum (kind.Enum _) = None
+closed_enum (kind.Message _) = None
+closed_enum (kind.Group _) = None
+closed_enum (kind.ClosedEnum e) = Some e.0
+
+-- groups and closed enums stand in files of proto2 alone
+abbrev pub is_of_proto2 : Kind → Bool
+is_of_proto2 k = is_group k || is_some (closed_enum k)
 
 -- The value that a payload of a kind stands for. An int32, uint32, sint32 or enum has the low 32 bits of the number, and ZigZag is
 -- undone after that; a bool is true for every other number than 0; a float or double stays its bits.
@@ -84,6 +120,7 @@ read kind.Sint32 (varint n) = Some (int32 (unzigzag (n % 2 ^ 32)))
 read kind.Sint64 (varint n) = Some (int64 (unzigzag n))
 read kind.Bool (varint n) = Some (boolean (not (n == 0)))
 read (kind.Enum _) (varint n) = Some (enum (cast_signed w32 (n % 2 ^ 32)))
+read (kind.ClosedEnum _) (varint n) = Some (enum (cast_signed w32 (n % 2 ^ 32)))
 read kind.Fixed64 (fixed64 n) = Some (uint64 n)
 read kind.Sfixed64 (fixed64 n) = Some (int64 (cast_signed w64 n))
 read kind.Double (fixed64 n) = Some (double n)
@@ -109,6 +146,8 @@ read kind.Sint32 p = None
 read kind.Sint64 p = None
 read (kind.Enum _) p = None
 read (kind.Message _) p = None
+read (kind.Group _) p = None
+read (kind.ClosedEnum _) p = None
 
 -- The payload that a value is written as; a negative int32 or enum as all 64 bits of its two's complement. What is no value of the kind has none,
 -- and the number 0 stands in its place.
@@ -121,6 +160,7 @@ written kind.Sint32 (int32 z) = varint (zigzag z)
 written kind.Sint64 (int64 z) = varint (zigzag z)
 written kind.Bool (boolean b) = varint (cond b 1 0)
 written (kind.Enum _) (enum z) = varint (cast_unsigned w64 z)
+written (kind.ClosedEnum _) (enum z) = varint (cast_unsigned w64 z)
 written kind.Fixed64 (uint64 n) = fixed64 n
 written kind.Sfixed64 (int64 z) = fixed64 (cast_unsigned w64 z)
 written kind.Double (double n) = fixed64 n
@@ -146,8 +186,10 @@ written kind.Sint32 v = varint 0
 written kind.Sint64 v = varint 0
 written (kind.Enum _) v = varint 0
 written (kind.Message _) v = varint 0
+written (kind.Group _) v = varint 0
+written (kind.ClosedEnum _) v = varint 0
 
--- the value is of the kind, and in the kind's range
+-- the value is of the kind, and in the kind's range; which numbers a closed enum declares isn't asked here
 abbrev pub IsOfKind : Kind → Scalar → Type 0
 IsOfKind kind.Int32 (int32 z) = FitsSigned w32 z
 IsOfKind kind.Int64 (int64 z) = FitsSigned w64 z
@@ -157,6 +199,7 @@ IsOfKind kind.Sint32 (int32 z) = FitsSigned w32 z
 IsOfKind kind.Sint64 (int64 z) = FitsSigned w64 z
 IsOfKind kind.Bool (boolean b) = Unit {0}
 IsOfKind (kind.Enum _) (enum z) = FitsSigned w32 z
+IsOfKind (kind.ClosedEnum _) (enum z) = FitsSigned w32 z
 IsOfKind kind.Fixed64 (uint64 n) = n < 2 ^ 64
 IsOfKind kind.Sfixed64 (int64 z) = FitsSigned w64 z
 IsOfKind kind.Double (double n) = n < 2 ^ 64
@@ -182,8 +225,10 @@ IsOfKind kind.Sint32 v = ⊥
 IsOfKind kind.Sint64 v = ⊥
 IsOfKind (kind.Enum _) v = ⊥
 IsOfKind (kind.Message _) v = ⊥
+IsOfKind (kind.Group _) v = ⊥
+IsOfKind (kind.ClosedEnum _) v = ⊥
 
--- the default of a kind; a message has none, and no bytes stand in its place
+-- the default of a kind; a message has none, and no bytes stand in its place; a closed enum has none, and 0 does
 abbrev pub default_of : Kind → Scalar
 default_of kind.Double = double 0
 default_of kind.Float = float 0
@@ -202,3 +247,5 @@ default_of kind.Sint32 = int32 (pos 0)
 default_of kind.Sint64 = int64 (pos 0)
 default_of (kind.Enum _) = enum (pos 0)
 default_of (kind.Message _) = bytes []
+default_of (kind.Group _) = bytes []
+default_of (kind.ClosedEnum _) = enum (pos 0)

@@ -4,6 +4,7 @@ pub mod Scalar
 pub mod Kinds
 pub mod Packed
 pub mod Fits
+pub mod Closed
 pub mod Context
 pub mod ReadBack
 pub mod PayloadView

@@ -38,6 +38,7 @@ read-written kind.Sint32 (int32 z) f = ap (λ y. Some (int32 y)) (unzigzag-low z
 read-written kind.Sint64 (int64 z) f = ap (λ y. Some (int64 y)) (unzigzag-zigzag z)
 read-written kind.Bool (boolean b) f = ap (λ y. Some (boolean y)) (bool-bits b)
 read-written (kind.Enum e) (enum z) f = ap (λ y. Some (enum y)) (low-int32 z f)
+read-written (kind.ClosedEnum e) (enum z) f = ap (λ y. Some (enum y)) (low-int32 z f)
 read-written kind.Fixed64 (uint64 n) f = refl
 read-written kind.Sfixed64 (int64 z) f = ap (λ y. Some (int64 y)) (to_z-of_z w64 z f)
 read-written kind.Double (double n) f = refl

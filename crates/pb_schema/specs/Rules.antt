@@ -5,13 +5,15 @@ pub mod Order
 pub mod Names
 pub mod Shapes
 pub mod Fields
+pub mod Syntax
 pub mod Each
 pub use Rattle.pb_schema.specs.Rules.Files.{FilesAreNamed, FileNamesDiffer, PackagesAreWords, ImportsAreFew, ImportsNameFiles, NoFileReachesItself, FileRules}
 pub use Rattle.pb_schema.specs.Rules.Indexes.{MessagesHaveFiles, EnumsHaveFiles, IsInFileOfParent, MessagesShareFileWithParent, EnumsShareFileWithParent, NamesType, KindsNameTypes, NamesOneof, MembersNameOneofs, IndexRules}
 pub use Rattle.pb_schema.specs.Rules.Order.{InOrder, FilesRise, FollowsParent, MessagesStandInOrder, EndsNoLater, StandsBefore, EnumsStandInOrder}
 pub use Rattle.pb_schema.specs.Rules.Names.{AreWords, MessageIsOfWords, MessageNamesAreWords, EnumIsOfWords, EnumNamesAreWords, FullNamesDiffer, IsFree, PackagesAreFree, NameRules}
-pub use Rattle.pb_schema.specs.Rules.Shapes.{IsFieldNumber, NumbersAreFieldNumbers, HasKeyKind, KeysAreKeyKinds, MayBePacked, PackedArePackable, MayBeImplicit, ImplicitAreScalars, ShapeRules, BeginsAtZero, EnumsBeginAtZero}
+pub use Rattle.pb_schema.specs.Rules.Shapes.{IsFieldNumber, NumbersAreFieldNumbers, HasKeyKind, KeysAreKeyKinds, MayBePacked, PackedArePackable, MayBeValue, ValuesMayStand, MayBeImplicit, ImplicitAreScalars, ShapeRules}
 pub use Rattle.pb_schema.specs.Rules.Fields.{FieldNumbersDiffer, NumbersDiffer, TypeIsSeen, TypesAreSeen, IsMemberOf, HasMember, EachOneofHasMember, OneofsHaveMembers, FieldRules}
+pub use Rattle.pb_schema.specs.Rules.Syntax.{IsNotImplicit, MayStandIn, FieldsGoWithSyntax, EnumIsRight, EnumsGoWithSyntax, BeginsRight, EnumsBeginRight, SyntaxRules}
 pub use Rattle.pb_schema.specs.Rules.Each.{EachField}
 use Rattle.std.specs.Prelude.{ℕ, length, IfSome, slice_get}
 use Rattle.pb_schema.specs.Types.{FieldView, Types}
@@ -24,7 +26,7 @@ pub record IsPool (ts : Types) : Type 0 where
   pub enums_in_order : EnumsStandInOrder ts.messages ts.enums
   pub names : NameRules ts
   pub fields : FieldRules ts
-  pub enums_begin_at_zero : EnumsBeginAtZero ts.enums
+  pub syntax : SyntaxRules ts
 
 -- what the rules say of a field of a message: its number, its kind and its key name what they should, and its shape goes with its kind
 pub record IsFieldOf (ts : Types) (m : ℕ) (f : FieldView) : Type 0 where
@@ -34,3 +36,4 @@ pub record IsFieldOf (ts : Types) (m : ℕ) (f : FieldView) : Type 0 where
   pub key : HasKeyKind f.shape
   pub packed : MayBePacked f.shape f.kind
   pub implicit : MayBeImplicit f.shape f.kind
+  pub value : MayBeValue f.shape f.kind

@@ -1,5 +1,5 @@
 -- What a pool holds: files, message types and enums, each named by its index. Names are the bytes of their texts.
-use Rattle.std.specs.Prelude.{ℕ, ℤ, List, [], Option, Some, None, find, slice_get, ◌==◌}
+use Rattle.std.specs.Prelude.{ℕ, ℤ, List, [], Bool, false, Option, Some, None, find, slice_get, ◌==◌}
 use Rattle.pb_schema.specs.declared.types.Kind.{Kind}
 use Rattle.pb_schema.specs.declared.types.Shape.{Shape}
 
@@ -26,11 +26,20 @@ pub record FileView : Type 0 where
   pub name : List ℕ
   pub package_name : List ℕ
   pub imports : List ℕ
+  pub proto2 : Bool
 
 pub record Types : Type 0 where
   pub files : List FileView
   pub messages : List MessageView
   pub enums : List EnumView
+
+abbrev pub proto2_of : Option FileView → Bool
+proto2_of None = false
+proto2_of (Some f) = f.proto2
+
+-- the file at an index is of the syntax proto2
+abbrev pub is_proto2 : List FileView → ℕ → Bool
+is_proto2 files i = proto2_of (slice_get files i)
 
 abbrev pub fields_of_message : Option MessageView → List FieldView
 fields_of_message None = []

@@ -32,7 +32,7 @@ enum_view t = record {
 }
 
 abbrev pub file_view : FileInfo → FileView
-file_view f = record { name = string_bytes f.name; package_name = string_bytes f.«package»; imports = f.imports.items }
+file_view f = record { name = string_bytes f.name; package_name = string_bytes f.«package»; imports = f.imports.items; proto2 = f.proto2 }
 
 -- what parts stand for
 abbrev pub types_of : List FileInfo → List MessageType → List EnumType → Types

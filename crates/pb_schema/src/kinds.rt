@@ -1,7 +1,7 @@
 //! What each kind is (encoding guide, "Scalar Value Types").
 
 ghost use Rattle.std.specs.Prelude.{◌≡◌};
-ghost use Rattle.pb_schema.specs.Kinds.{wire_type_of, is_packable, is_key_kind};
+ghost use Rattle.pb_schema.specs.Kinds.{wire_type_of, is_packable, is_key_kind, is_of_proto2};
 
 use crate::types::Kind;
 
@@ -13,6 +13,7 @@ impl Kind {
         match self {
             Kind::Double | Kind::Fixed64 | Kind::Sfixed64 => 1,
             Kind::Text | Kind::Bytes | Kind::Message(_) => 2,
+            Kind::Group(_) => 3,
             Kind::Float | Kind::Fixed32 | Kind::Sfixed32 => 5,
             Kind::Int64
             | Kind::Uint64
@@ -21,7 +22,8 @@ impl Kind {
             | Kind::Uint32
             | Kind::Sint32
             | Kind::Sint64
-            | Kind::Enum(_) => 0,
+            | Kind::Enum(_)
+            | Kind::ClosedEnum(_) => 0,
         }
     }
 
@@ -43,9 +45,17 @@ impl Kind {
             | Kind::Sfixed64
             | Kind::Sint32
             | Kind::Sint64
-            | Kind::Enum(_) => true,
-            Kind::Text | Kind::Bytes | Kind::Message(_) => false,
+            | Kind::Enum(_)
+            | Kind::ClosedEnum(_) => true,
+            Kind::Text | Kind::Bytes | Kind::Message(_) | Kind::Group(_) => false,
         }
+    }
+
+    /// Fields of the kind stand in files of proto2 alone: groups and closed enums.
+    pub fn is_of_proto2(self) -> bool
+        ensures { result ≡ is_of_proto2 self }
+    {
+        matches!(self, Kind::Group(_) | Kind::ClosedEnum(_))
     }
 
     /// The kind may be that of a map's keys.
@@ -65,7 +75,13 @@ impl Kind {
             | Kind::Sfixed64
             | Kind::Sint32
             | Kind::Sint64 => true,
-            Kind::Double | Kind::Float | Kind::Bytes | Kind::Enum(_) | Kind::Message(_) => false,
+            Kind::Double
+            | Kind::Float
+            | Kind::Bytes
+            | Kind::Enum(_)
+            | Kind::Message(_)
+            | Kind::Group(_)
+            | Kind::ClosedEnum(_) => false,
         }
     }
 }

@@ -45,6 +45,7 @@ impl Pool {
     ghost use Rattle.pb_schema.specs.Rules.{IsPool, IsFieldOf};
     ghost use Rattle.pb_schema.specs.Oneofs.{member_numbers};
     ghost use Rattle.pb_schema.specs.EnumValues.{value_name, enum_values};
+    ghost use Rattle.pb_schema.specs.Closed.{declares};
 
     /// The pool of its parts, where they meet every rule.
     ///
@@ -158,6 +159,16 @@ impl Pool {
         first_named(&self.enums[entry.0].values, number)
     }
 
+    /// Whether an enum declares a value with this number. An index out of range declares none.
+    pub fn declares(&self, entry: EnumId, number: i32) -> bool
+        ensures { result ≡ declares self.now entry.0 number }
+    {
+        if entry.0 >= self.enums.len() {
+            return false;
+        }
+        is_among(&self.enums[entry.0].values, number)
+    }
+
     /// The field of a number in a message type.
     pub fn field_by_number(&self, message: MessageId, number: u32) -> Option<&Field>
         requires { message.0 < length self.now.messages }
@@ -200,8 +211,10 @@ impl Pool {
     }
 }
 
-ghost use Rattle.std.specs.Prelude.{◌≡◌, map, option_map};
+ghost use Rattle.std.specs.Prelude.{◌≡◌, ℕ, ℤ, List, map, option_map};
 ghost use Rattle.std.specs.Prelude.{string_bytes};
+ghost use Rattle.std.specs.List.{list_any};
+ghost use Rattle.std.specs.Ordering.{int_eq};
 ghost use Rattle.pb_schema.specs.EnumValues.{value_name as named_value};
 
 fn first_named(values: &[(String, i32)], number: i32) -> Option<&str>
@@ -213,4 +226,15 @@ fn first_named(values: &[(String, i32)], number: i32) -> Option<&str>
         }
     }
     None
+}
+
+fn is_among(values: &[(String, i32)], number: i32) -> bool
+    ensures { result ≡ list_any (λ (v : List ℕ × ℤ). int_eq v.1 number) (map (λ v. (string_bytes v.0, v.1)) values.now) }
+{
+    for value in values {
+        if value.1 == number {
+            return true;
+        }
+    }
+    false
 }

@@ -7,6 +7,7 @@ pub(crate) mod indexes;
 pub(crate) mod names;
 pub(crate) mod order;
 pub(crate) mod shapes;
+pub(crate) mod syntax;
 
 ghost use Rattle.std.specs.Prelude.{◌≡◌, ◌↔◌, ℕ, IsTrue, IfOk, map, length};
 ghost use Rattle.pb_schema.specs.View.{file_view, message_view, enum_view, types_of};
@@ -27,9 +28,10 @@ use crate::rules::indexes::{
 use crate::rules::names::{enum_names_are_words, message_names_are_words};
 use crate::rules::order::{enums_stand_in_order, messages_stand_in_order};
 use crate::rules::shapes::{
-    enums_begin_at_zero, implicit_are_scalars, keys_are_key_kinds, numbers_are_field_numbers,
-    packed_are_packable,
+    implicit_are_scalars, keys_are_key_kinds, numbers_are_field_numbers, packed_are_packable,
+    values_may_stand,
 };
+use crate::rules::syntax::syntax_rules_hold;
 use crate::types::{EnumType, FileInfo, MessageType};
 use std::alloc::{AllocError, Global};
 
@@ -66,6 +68,7 @@ fn shapes_meet_rules(messages: &[MessageType]) -> bool
         && keys_are_key_kinds(messages)
         && packed_are_packable(messages)
         && implicit_are_scalars(messages)
+        && values_may_stand(messages)
 }
 
 fn fields_meet_rules(
@@ -143,5 +146,5 @@ pub(crate) fn meet_rules(
     }
     let fields_hold = fields_meet_rules(alloc, files, messages, enums)?;
     let names_hold = names_meet_rules(alloc, files, messages, enums)?;
-    Ok(fields_hold && names_hold && enums_begin_at_zero(enums))
+    Ok(fields_hold && names_hold && syntax_rules_hold(files, messages, enums))
 }

@@ -27,8 +27,13 @@ pub enum Kind {
     Sfixed64,
     Sint32,
     Sint64,
+    /// An open enum: each number of 32 bits is a value.
     Enum(EnumId),
     Message(MessageId),
+    /// A message that is written as a group.
+    Group(MessageId),
+    /// An enum of a proto2 file: the numbers that it declares are its values.
+    ClosedEnum(EnumId),
 }
 
 /// How many values a field has, and when it counts as set.
@@ -92,4 +97,6 @@ pub struct FileInfo {
     pub package: String,
     /// The indexes of the imported files in the pool.
     pub imports: Vec<usize>,
+    /// The file is of the syntax proto2, else of proto3.
+    pub proto2: bool,
 }

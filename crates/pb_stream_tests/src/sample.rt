@@ -22,6 +22,7 @@ pub(crate) fn sample(alloc: Global) -> Result<Schema, Fail> {
         name: String::from_str(alloc, "t.proto")?,
         package: String::new(alloc),
         imports: Vec::new(alloc),
+        proto2: false,
     })?;
     let mut messages = Vec::new(alloc);
     messages.push(MessageType {

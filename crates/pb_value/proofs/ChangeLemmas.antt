@@ -8,7 +8,7 @@ use Rattle.std.specs.Ordering.{match_ordering, MatchOrdering}
 use Rattle.std.specs.Cmp.{ranks}
 use Rattle.pb_schema.specs.Types.{FieldView, Types, message_fields, field_numbered}
 use Rattle.pb_value.specs.Data.{Holding, Fields, no_fields, field, Message, body, put_field, drop_field, holding_depth, fields_depth, fields_of, unknown_of}
-use Rattle.pb_value.specs.WellFormed.{AreFields, RisesFrom, HasNoMember, HasOneMemberEach, oneof_of, oneof_at, IsHeld, IsWellFormed}
+use Rattle.pb_value.specs.WellFormed.{AreFields, RisesFrom, HasNoMember, HasOneMemberEach, oneof_of, oneof_at, IsHeld, IsWellFormed, holds_declared}
 use Rattle.pb_schema.specs.Oneofs.{is_member}
 use Rattle.pb_value.specs.Judge.{has_shape, is_absence}
 use Rattle.pb_value.specs.Oneof.{is_member_at, member_set}
@@ -259,9 +259,9 @@ AreKept-drop_some pool all (Some k) fs w = record {
 -- a content that is stored keeps a message well formed
 pub IsWellFormed-stored :
     (pool : Types) (m n : ℕ) (h : Holding) (v : Message) (f : FieldView) → field_numbered n (message_fields pool m) ≡ Some f → has_shape f.shape h ≡ true
-    → IsHeld pool f.shape f.kind h → holding_depth h ≤ 100 → IsWellFormed pool m v
+    → IsHeld pool f.shape f.kind h → holds_declared pool f.kind h ≡ true → holding_depth h ≤ 100 → IsWellFormed pool m v
     → IsWellFormed pool m (body (stored_at (message_fields pool m) f.shape n h (fields_of v)) (unknown_of v))
-IsWellFormed-stored pool m n h (body fs us) f found shaped held depth w = by_test (is_absence f.shape h) refl
+IsWellFormed-stored pool m n h (body fs us) f found shaped held declared depth w = by_test (is_absence f.shape h) refl
   where
     by_test :
         (b : Bool) → is_absence f.shape h ≡ b
@@ -270,7 +270,7 @@ IsWellFormed-stored pool m n h (body fs us) f found shaped held depth w = by_tes
     by_test false e =
         let old : AreKept pool (message_fields pool m) fs = record { fields = w.parts.0; rises = w.parts.1; members = w.parts.2; depth = omega (arith, w.depth) } in
         let kept = AreKept-drop_some pool (message_fields pool m) (gives_way (message_fields pool m) f.shape n fs) fs old in
-        let stands : CanStand pool (message_fields pool m) n h = rw found (IsOfShape-stored f.shape h shaped e, held) in
+        let stands : CanStand pool (message_fields pool m) n h = rw found (IsOfShape-stored f.shape h shaped e, held, declared) in
         let other = NoOther-gives_way (message_fields pool m) n f.shape fs (oneof_at-shape (message_fields pool m) n f found) w.parts.2 in
         record {
           parts = (
@@ -401,9 +401,9 @@ pub IsWellFormed-set :
     → IsWellFormed pool m (with_fields v (stored_at (message_fields pool m) s n h (fields_of v)))
 IsWellFormed-set pool m n s h v ok w =
     let f = some_of (field_numbered n (message_fields pool m))
-    (λ (f : FieldView). (f.shape ≡ s) × (has_shape f.shape h ≡ true) × IsHeld pool f.shape f.kind h × (holding_depth h ≤ 100)) ok in
+    (λ (f : FieldView). (f.shape ≡ s) × (has_shape f.shape h ≡ true) × IsHeld pool f.shape f.kind h × (holding_depth h ≤ 100) × (holds_declared pool f.kind h ≡ true)) ok in
     subst (λ (x : Shape). IsWellFormed pool m (with_fields v (stored_at (message_fields pool m) x n h (fields_of v)))) f.2.0
-    (IsWellFormed-stored pool m n h v f.0 f.1 f.2.1 f.2.2 f.2.3 w)
+    (IsWellFormed-stored pool m n h v f.0 f.1 f.2.1 f.2.2 f.2.4 f.2.3 w)
 
 -- a fact of a message that a call either changed or left
 pub either_way : {T F : Type 0} (r : Result T F) (P : Message → Type 0) (new changed old : Message) → OnOk r (new ≡ changed) → OnErr r (new ≡ old) → P changed → P old → P new

@@ -1,5 +1,5 @@
 -- How deep a value nests that is no message.
-use Rattle.std.proofs.Common.{◌≡◌, ℕ, rules}
+use Rattle.std.proofs.Common.{◌≡◌, rules}
 use Rattle.pb_value.specs.Data.{levels_of, levels_in_entry}
 use Rattle.pb_value.specs.View.{value_view}
 use Rattle.pb_value.specs.declared.body.Value.{Value, the_lemmas}

@@ -45,6 +45,7 @@ read-IsOfKind kind.Sint32 (varint n) h t = unzigzag_half (n % 2 ^ 32) (omega ari
 read-IsOfKind kind.Sint64 (varint n) h t = unzigzag_whole n h
 read-IsOfKind kind.Bool (varint n) h t = tt
 read-IsOfKind (kind.Enum e) (varint n) h t = low_fits n
+read-IsOfKind (kind.ClosedEnum e) (varint n) h t = low_fits n
 read-IsOfKind kind.Fixed64 (fixed64 n) h t = h
 read-IsOfKind kind.Sfixed64 (fixed64 n) h t = whole_fits n h
 read-IsOfKind kind.Double (fixed64 n) h t = h
@@ -58,6 +59,7 @@ read-IsOfKind k p h t = tt
 -- the default of a kind is of the kind
 pub IsOfKind-default_of : (k : Kind) → message_of_kind k ≡ None → IsOfKind k (default_of k)
 IsOfKind-default_of (kind.Message m) none = absurd (cc)
+IsOfKind-default_of (kind.Group m) none = absurd (cc)
 IsOfKind-default_of kind.Double none = omega arith
 IsOfKind-default_of kind.Float none = omega arith
 IsOfKind-default_of kind.Int64 none = grind (arith, ints)
@@ -74,6 +76,7 @@ IsOfKind-default_of kind.Sfixed64 none = grind (arith, ints)
 IsOfKind-default_of kind.Sint32 none = grind (arith, ints)
 IsOfKind-default_of kind.Sint64 none = grind (arith, ints)
 IsOfKind-default_of (kind.Enum e) none = grind (arith, ints)
+IsOfKind-default_of (kind.ClosedEnum e) none = grind (arith, ints)
 
 -- PACKED PAYLOADS
 
@@ -95,7 +98,7 @@ unfolding FourBytes
 fours_in_range (a ∷ b ∷ c ∷ d ∷ s) w = (omega (arith, w.0, w.1.0, w.1.1.0, w.1.1.1.0), fours_in_range s w.1.1.1.1)
 fours_in_range s w = tt
 
-varints_in_range : (s : List ℕ) → AllByRecursion IsInRange (numbers_of 0 s)
+pub varints_in_range : (s : List ℕ) → AllByRecursion IsInRange (numbers_of 0 s)
 varints_in_range s = each (varints_of s)
   where
     each : (bs : List (List ℕ)) → AllByRecursion IsInRange (map (λ b. varint (groups_value b % 2 ^ 64)) bs)
@@ -114,6 +117,7 @@ numbers_in_range : (k : Kind) (s : List ℕ) → is_packable k ≡ true → AreB
 numbers_in_range kind.Text s can w = absurd (cc)
 numbers_in_range kind.Bytes s can w = absurd (cc)
 numbers_in_range (kind.Message m) s can w = absurd (cc)
+numbers_in_range (kind.Group m) s can w = absurd (cc)
 numbers_in_range kind.Fixed64 s can w = eight_bytes_in_range s w
 numbers_in_range kind.Sfixed64 s can w = eight_bytes_in_range s w
 numbers_in_range kind.Double s can w = eight_bytes_in_range s w
@@ -135,5 +139,6 @@ elements-AreOfKind k (group g) h t = listed (IsOfKind k) (read k (group g)) (rea
 elements-AreOfKind kind.Text (len s) h t = (t, tt)
 elements-AreOfKind kind.Bytes (len s) h t = (h, tt)
 elements-AreOfKind (kind.Message m) (len s) h t = tt
+elements-AreOfKind (kind.Group m) (len s) h t = tt
 elements-AreOfKind k (len s) h t =
     all_found IsInRange (IsOfKind k) (read k) (λ p w. read-IsOfKind k p w (not_text k p refl)) (numbers_of (wire_type_of k) s) (numbers_in_range k s refl h)

@@ -3,9 +3,10 @@ use Rattle.std.proofs.Common.{◌≡◌, ℕ, suc, ◌^◌, ◌<◌, List, [], �
 use Rattle.std.proofs.lemmas.Bool.Decides.{nat_tests}
 use Rattle.std.specs.Prelude.{true, ◌==◌}
 use Rattle.std.specs.List.{AllByRecursion}
-use Rattle.pb_wire.specs.Record.{Payload, len, Record, wire_type}
-use Rattle.pb_wire.specs.Ranges.{IsNumber, AreBytes, IsInRange, AreInRange}
-use Rattle.pb_wire.specs.Writable.{IsWritable, AreWritable}
+use Rattle.pb_wire.specs.Record.{Payload, len, group, Group, group_of, records_in, Record, wire_type}
+use Rattle.pb_wire.specs.Ranges.{IsNumber, AreBytes, IsInRange, IsInRangeGroup, AreInRange}
+use Rattle.pb_wire.specs.Writable.{IsWritable, IsWritableGroup, AreWritable}
+use Rattle.pb_wire.proofs.WritingLemmas.{group_writable}
 use Rattle.pb_wire.specs.Schema as wire
 use Rattle.pb_wire.specs.Schema.{Reading}
 use Rattle.pb_wire.specs.Sound.{Sound, AllSound}
@@ -18,16 +19,17 @@ use Rattle.pb_schema.specs.declared.types.MessageId.{MessageId}
 use Rattle.pb_schema.specs.declared.types.Shape.{Shape}
 use Rattle.pb_schema.specs.declared.types.Shape.TheVariants as shape
 use Rattle.pb_schema.specs.Types.{FieldView, Types, field_numbered}
-use Rattle.pb_schema.specs.Kinds.{IsOfKind}
+use Rattle.pb_schema.specs.Kinds.{message_of_kind, IsOfKind}
 use Rattle.pb_schema.specs.Fits.{fits, fits_shape}
-use Rattle.pb_schema.specs.Context.{Context, a_message, an_entry, fields_in, message_in, read_shaped, read_field, schema_of}
+use Rattle.pb_schema.specs.Context.{Context, a_message, an_entry, fields_in, message_in, read_shaped, read_field, group_of_field, group_shaped, schema_of}
 use Rattle.pb_schema.specs.Packed.{elements}
 use Rattle.pb_value.specs.Value.{all_elements}
 use Rattle.pb_value.specs.WellFormed.{key_of}
 use Rattle.pb_value.proofs.BytesLemmas.{both}
 use Rattle.pb_value.proofs.ListLemmas.{all_append, all_weaker}
 use Rattle.pb_value.proofs.ElementLemmas.{IsTextFor, elements-AreOfKind}
-use Rattle.pb_value.proofs.SoundLemmas.{SpellsSound, sound_text, sound_message, sound_value}
+use Rattle.pb_value.proofs.SoundLemmas.{SpellsSound, sound_text, sound_message, sound_value, sound_inside}
+use Rattle.pb_value.proofs.GroupLemmas.{records_in-group_of, group_in_range}
 
 -- a record in range that can be written, sound in its context
 pub record IsGood (pool : Types) (c : Context) (room : ℕ) (r : Record) : Type 0 where
@@ -48,6 +50,7 @@ pub record CountsFor (pool : Types) (c : Context) (room : ℕ) (s : Shape) (k : 
   pub good : IsGood pool c room r
   pub fitting : fits_shape s k (wire_type r.payload) ≡ true
   pub reading : read_field c (field_numbered r.number (fields_in pool c)) ≡ read_shaped c s k
+  pub grouping : group_of_field (field_numbered r.number (fields_in pool c)) ≡ group_shaped s k
 
 abbrev pub AllCount : Types → Context → ℕ → Shape → Kind → List Record → Type 0
 AllCount pool c room s k rs = AllByRecursion (CountsFor pool c room s k) rs
@@ -66,6 +69,7 @@ counted pool c room f found r good e = record {
   good = good;
   fitting = (both (r.number == f.number) (fits_shape f.shape f.kind (wire_type r.payload)) e).1;
   reading = ap (λ (n : ℕ). read_field c (field_numbered n (fields_in pool c))) (same_number f r e) ∙ ap (read_field c) found;
+  grouping = ap (λ (n : ℕ). group_of_field (field_numbered n (fields_in pool c))) (same_number f r e) ∙ ap group_of_field found;
 }
 
 -- the good records that fit a field count for it
@@ -118,11 +122,45 @@ good_inside pool d room b bytes short h =
     let read : records_spelled b ≡ h.records = records_spelled-AreRecords h.records b h.spelled (omega (arith, short)) in
     subst (AllGood pool d room) (sym read) (all_good pool d room h.records (spelled_in_range h.records b h.spelled bytes) (spelled_writable h.records b h.spelled) h.sound)
 
--- of a field of messages in a message: its record is one level down
-pub inside_message :
+group_for : (s : Shape) (m : MessageId) (p : Payload) → fits_shape s (kind.Group m) (wire_type p) ≡ true → key_of s ≡ None → (g : Group) × (p ≡ group g)
+group_for s m (group g) e none = (g, refl)
+group_for shape.Implicit m p e none = absurd (cc)
+group_for shape.Explicit m p e none = absurd (cc)
+group_for (shape.OneofMember o) m p e none = absurd (cc)
+group_for (shape.List q) m p e none = absurd (cc)
+group_for (shape.Map key) m p e none = absurd (cc)
+
+grouped : (s : Shape) (m : MessageId) → key_of s ≡ None → group_shaped s (kind.Group m) ≡ a_message m.0
+grouped shape.Implicit m e = refl
+grouped shape.Explicit m e = refl
+grouped (shape.OneofMember o) m e = refl
+grouped (shape.List p) m e = refl
+grouped (shape.Map k) m e = absurd (cc)
+
+-- the records of a sound group that is a field are good, one level down
+inside_group :
+    (pool : Types) (t room : ℕ) (s : Shape) (m : MessageId) (r : Record) → key_of s ≡ None → CountsFor pool (a_message t) room s (kind.Group m) r
+    → (below : ℕ) × (room ≡ suc below) × AllGood pool (a_message m.0) below (records_inside r.payload)
+inside_group pool t room s m r none h =
+    let g = group_for s m r.payload h.fitting none in
+    let sound : Sound (schema_of pool) (a_message t) room r.number (group g.0) = subst (λ (p : Payload). Sound (schema_of pool) (a_message t) room r.number p) g.1 h.good.sound in
+    let whole = sound_inside sound in
+    let typed : group_of_field (field_numbered r.number (fields_in pool (a_message t))) ≡ a_message m.0 = h.grouping ∙ grouped s m none in
+    let in_range : IsInRangeGroup (group_of whole.2) = subst IsInRangeGroup whole.3 (subst IsInRange g.1 h.good.in_range) in
+    let writable : IsWritableGroup (group_of whole.2) = subst IsWritableGroup whole.3 (subst IsWritable g.1 h.good.writable) in
+    let same : records_inside r.payload ≡ whole.2 = ap records_inside g.1 ∙ ap records_in whole.3 ∙ records_in-group_of whole.2 in (
+      whole.0,
+      whole.1,
+      subst (λ (rs : List Record). AllGood pool (a_message m.0) whole.0 rs) (sym same)
+          (all_good pool (a_message m.0) whole.0 whole.2 (group_in_range whole.2 in_range) (group_writable whole.2 writable)
+          (subst (λ (d : Context). AllSound (schema_of pool) d whole.0 whole.2) typed whole.4)),
+    )
+
+-- of a field of messages that are no groups
+inside_len :
     (pool : Types) (t room : ℕ) (s : Shape) (m : MessageId) (r : Record) → key_of s ≡ None → CountsFor pool (a_message t) room s (kind.Message m) r
     → (below : ℕ) × (room ≡ suc below) × AllGood pool (a_message m.0) below (records_inside r.payload)
-inside_message pool t room s m r none h =
+inside_len pool t room s m r none h =
     let b = len_of s m r.payload h.fitting in
     let sound : Sound (schema_of pool) (a_message t) room r.number (len b.0) = subst (λ (p : Payload). Sound (schema_of pool) (a_message t) room r.number p) b.1 h.good.sound in
     let whole = sound_message sound (a_message m.0) (h.reading ∙ reads_message (a_message t) s m none) in (
@@ -131,6 +169,20 @@ inside_message pool t room s m r none h =
       subst (λ (p : Payload). AllGood pool (a_message m.0) whole.0 (records_inside p)) (sym b.1)
           (good_inside pool (a_message m.0) whole.0 b.0 (subst IsInRange b.1 h.good.in_range) (subst IsWritable b.1 h.good.writable) whole.2),
     )
+
+-- of a field of messages in a message: its record is one level down
+pub inside_message :
+    (pool : Types) (t room : ℕ) (s : Shape) (k : Kind) (m : ℕ) (r : Record) → message_of_kind k ≡ Some m → key_of s ≡ None → CountsFor pool (a_message t) room s k r
+    → (below : ℕ) × (room ≡ suc below) × AllGood pool (a_message m) below (records_inside r.payload)
+inside_message pool t room s (kind.Message j) m r e none h =
+    let same : j.0 ≡ m = cc in
+    let there = inside_len pool t room s j r none h in
+    (there.0, there.1, subst (λ (i : ℕ). AllGood pool (a_message i) there.0 (records_inside r.payload)) same there.2)
+inside_message pool t room s (kind.Group j) m r e none h =
+    let same : j.0 ≡ m = cc in
+    let there = inside_group pool t room s j r none h in
+    (there.0, there.1, subst (λ (i : ℕ). AllGood pool (a_message i) there.0 (records_inside r.payload)) same there.2)
+inside_message pool t room s k m r e none h = absurd (cc)
 
 -- of a message in a map entry: its records are at the entry's level
 pub inside_entry :

@@ -12,7 +12,7 @@ nested h = let fits = h.parts.3.0.2 in cc
 
 a_map : IsWellFormed pool 0 (body (field 9 (map (entry (text []) (scalar (int32 (pos 7))) no_entries)) no_fields) (record { number = 20; payload = varint 5 } ∷ []))
 a_map = record {
-  parts = (((tt, ((([], (refl, refl)), omega arith, tt), (tt, tt))), tt), (omega arith, tt), (tt, tt), (((omega arith, omega arith), omega arith, tt, refl), tt));
+  parts = (((tt, ((([], (refl, refl)), omega arith, tt), (tt, tt)), refl), tt), (omega arith, tt), (tt, tt), (((omega arith, omega arith), omega arith, tt, refl), tt));
   depth = omega arith;
 }
 

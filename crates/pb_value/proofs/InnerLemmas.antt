@@ -15,7 +15,7 @@ use Rattle.pb_schema.specs.Types.{FieldView, Types, message_fields, field_number
 use Rattle.pb_schema.specs.Scalar.{Scalar}
 use Rattle.pb_schema.specs.Kinds.{message_of_kind}
 use Rattle.pb_value.specs.Data.{Datum, scalar, message, Datums, no_datums, datum, Entries, no_entries, entry, Holding, one, list, map, Fields, no_fields, field, Message, body, fields_of, get_field, is_same_key, get_entry, levels_of, levels_in_entry, datums_depth, entries_depth, holding_depth, fields_depth}
-use Rattle.pb_value.specs.WellFormed.{IsDatum, AreDatums, AreEntries, IsHeld, AreFields, IsBody, IsWellFormed, key_of, IsOfShape, KeysRise}
+use Rattle.pb_value.specs.WellFormed.{IsDatum, AreDatums, AreEntries, IsHeld, AreFields, IsBody, IsWellFormed, key_of, IsOfShape, KeysRise, holds_declared}
 use Rattle.pb_value.specs.Inner.{only_datum, nth_datum, datum_at, datum_under, type_named, IsPart}
 use Rattle.pb_value.specs.View.{key_view, value_view, values_view, entries_view}
 use Rattle.pb_value.specs.KeyOrder.{map_key_cmp}
@@ -96,7 +96,7 @@ stands pool all n h (field k g fs) w l e =
     by_order (λ (o : Option Holding). o ≡ Some h → Stands pool all n h) n k _ _ _ (λ _ q. stands pool all n h fs w.1 (omega arith) q)
     (λ same q. here same q) (λ _ q. stands pool all n h fs w.1 (omega arith) q) e
   where
-    held : (o : Option FieldView) → IsSomeAnd o (λ f. IsOfShape f.shape g × IsHeld pool f.shape f.kind g) → IsSomeAnd o (λ f. IsHeld pool f.shape f.kind g)
+    held : (o : Option FieldView) → IsSomeAnd o (λ f. IsOfShape f.shape g × IsHeld pool f.shape f.kind g × (holds_declared pool f.kind g ≡ true)) → IsSomeAnd o (λ f. IsHeld pool f.shape f.kind g)
     held None p = absurd p
     held (Some f) p = p.1
 

@@ -15,8 +15,8 @@ use Rattle.pb_schema.specs.Rules.{IsPool, NamesType}
 use Rattle.pb_schema.specs.Fits.{fits_any, fits_type}
 use Rattle.pb_value.specs.Data.{no_datums, datum, no_entries, entry, Holding, one, list, map as map_of, Fields, no_fields, field}
 use Rattle.pb_value.specs.Judge.{has_shape, is_absence}
-use Rattle.pb_value.specs.Cause.{or_else, at_field, shape_at, stored_cause, with_member, is_second, parts_cause, fields_cause}
-use Rattle.pb_value.specs.WellFormed.{IsOfShape, IsHeld, AreFields, HasNoMember, HasOneMemberEach, oneof_of, oneof_at}
+use Rattle.pb_value.specs.Cause.{or_else, at_field, shape_at, stored_cause, with_member, is_second, held_cause, fields_cause}
+use Rattle.pb_value.specs.WellFormed.{IsOfShape, IsHeld, holds_declared, AreFields, HasNoMember, HasOneMemberEach, oneof_of, oneof_at}
 use Rattle.pb_value.specs.declared.error.ValueError.{ValueError}
 use Rattle.pb_value.specs.declared.error.ValueError.TheVariants.{NoSuchField}
 use Rattle.pb_value.proofs.Options.{if_some}
@@ -108,20 +108,20 @@ GoodFrom-none pool all seen = record { fields = tt; members = tt }
 -- one more field that is good
 pub one_more :
     (pool : Types) (all : List FieldView) (seen later : ℕ → Bool) (n : ℕ) (h : Holding) (fs : Fields) (f : FieldView) → field_numbered n all ≡ Some f
-    → stored_cause seen f.shape f.kind h ≡ None → IsOfShape f.shape h → is_second f.shape seen ≡ false → parts_cause pool f.shape f.kind h ≡ None
-    → IsHeld pool f.shape f.kind h → ((o : ℕ) → later o ≡ with_member f.shape seen o)
+    → stored_cause seen f.shape f.kind h ≡ None → IsOfShape f.shape h → is_second f.shape seen ≡ false → held_cause pool f.shape f.kind h ≡ None
+    → IsHeld pool f.shape f.kind h → holds_declared pool f.kind h ≡ true → ((o : ℕ) → later o ≡ with_member f.shape seen o)
     → (fields_cause pool all seen (field n h fs) ≡ fields_cause pool all later fs) × (GoodFrom pool all later fs → GoodFrom pool all seen (field n h fs))
 unfolding OneFrom
-one_more pool all seen later n h fs f found stored shaped first parts held more =
+one_more pool all seen later n h fs f found stored shaped first parts held declared more =
     let same : later ≡ with_member f.shape seen = λ i o. more o i in
     let there : with_member (shape_at (field_numbered n all)) seen ≡ later = ap (λ (x : Option FieldView). with_member (shape_at x) seen) found ∙ sym same in (
-      ap (λ (x : Option FieldView). or_else (at_field x (λ g. or_else (stored_cause seen g.shape g.kind h) (parts_cause pool g.shape g.kind h))) (fields_cause pool all (with_member (shape_at x) seen) fs)) found
-          ∙ ap (λ (x : Option ValueError). or_else (or_else x (parts_cause pool f.shape f.kind h)) (fields_cause pool all (with_member f.shape seen) fs)) stored
+      ap (λ (x : Option FieldView). or_else (at_field x (λ g. or_else (stored_cause seen g.shape g.kind h) (held_cause pool g.shape g.kind h))) (fields_cause pool all (with_member (shape_at x) seen) fs)) found
+          ∙ ap (λ (x : Option ValueError). or_else (or_else x (held_cause pool f.shape f.kind h)) (fields_cause pool all (with_member f.shape seen) fs)) stored
           ∙ ap (λ (x : Option ValueError). or_else x (fields_cause pool all (with_member f.shape seen) fs)) parts
           ∙ ap (λ (x : ℕ → Bool). fields_cause pool all x fs) (sym same),
       λ (g : GoodFrom pool all later fs).
           record {
-            fields = (rw found (shaped, held), g.fields);
+            fields = (rw found (shaped, held, declared), g.fields);
             members = (ap (λ (x : Option FieldView). is_second (shape_at x) seen) found ∙ first, subst (λ (x : ℕ → Bool). OneFrom all x fs) (sym there) g.members);
           },
     )
@@ -129,9 +129,9 @@ one_more pool all seen later n h fs f found stored shaped first parts held more 
 -- one more field, and its cause
 pub refused_at :
     (pool : Types) (all : List FieldView) (seen : ℕ → Bool) (n : ℕ) (h : Holding) (fs : Fields) (f : FieldView) (e : ValueError) → field_numbered n all ≡ Some f
-    → or_else (stored_cause seen f.shape f.kind h) (parts_cause pool f.shape f.kind h) ≡ Some e → fields_cause pool all seen (field n h fs) ≡ Some e
+    → or_else (stored_cause seen f.shape f.kind h) (held_cause pool f.shape f.kind h) ≡ Some e → fields_cause pool all seen (field n h fs) ≡ Some e
 refused_at pool all seen n h fs f e found cause =
-    ap (λ (x : Option FieldView). or_else (at_field x (λ g. or_else (stored_cause seen g.shape g.kind h) (parts_cause pool g.shape g.kind h))) (fields_cause pool all (with_member (shape_at x) seen) fs)) found
+    ap (λ (x : Option FieldView). or_else (at_field x (λ g. or_else (stored_cause seen g.shape g.kind h) (held_cause pool g.shape g.kind h))) (fields_cause pool all (with_member (shape_at x) seen) fs)) found
     ∙ ap (λ (x : Option ValueError). or_else x (fields_cause pool all (with_member f.shape seen) fs)) cause
 
 -- a number without field
@@ -139,10 +139,10 @@ pub no_such_field :
     (pool : Types) (all : List FieldView) (seen : ℕ → Bool) (n : ℕ) (h : Holding) (fs : Fields) → field_numbered n all ≡ None
     → fields_cause pool all seen (field n h fs) ≡ Some NoSuchField
 no_such_field pool all seen n h fs none =
-    ap (λ (x : Option FieldView). or_else (at_field x (λ g. or_else (stored_cause seen g.shape g.kind h) (parts_cause pool g.shape g.kind h))) (fields_cause pool all (with_member (shape_at x) seen) fs)) none
+    ap (λ (x : Option FieldView). or_else (at_field x (λ g. or_else (stored_cause seen g.shape g.kind h) (held_cause pool g.shape g.kind h))) (fields_cause pool all (with_member (shape_at x) seen) fs)) none
 
 -- the field found for a number is one of them
-found_in : (P : FieldView → Type 0) (n : ℕ) (fs : List FieldView) (f : FieldView) → AllByRecursion P fs → field_numbered n fs ≡ Some f → P f
+pub found_in : (P : FieldView → Type 0) (n : ℕ) (fs : List FieldView) (f : FieldView) → AllByRecursion P fs → field_numbered n fs ≡ Some f → P f
 found_in P n [] f h e = absurd (cc)
 found_in P n (g ∷ fs) f h e = by_test (g.number == n) (λ d. found_in P n fs f h.1 d) e
   where

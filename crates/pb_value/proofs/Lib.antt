@@ -21,6 +21,7 @@ mod InnerRows
 mod ChangeRows
 mod CauseRows
 mod ValueRows
+mod Proto2Rows
 mod MergeRows
 mod SoundTexts
 mod Texts
@@ -28,7 +29,9 @@ mod Forms
 pub mod ListLemmas
 pub mod ElementLemmas
 pub mod SoundLemmas
+pub mod GroupLemmas
 pub mod FittingLemmas
+pub mod KnownLemmas
 pub mod EntryLemmas
 pub mod HeldLemmas
 pub mod ValueLemmas
@@ -43,6 +46,7 @@ pub mod Lists
 pub mod HeldBack
 pub mod FieldBack
 pub mod OneofBack
+pub mod OpenedLemmas
 pub mod BodyBack
 pub mod JoinLemmas
 pub mod OntoLemmas

@@ -19,7 +19,7 @@ use Rattle.pb_value.specs.View.{body_view, fields_view, content_view}
 use Rattle.pb_value.proofs.Views.{body_view-roll}
 use Rattle.pb_value.specs.Change.{with_fields, gives_way, drop_some, entries_of, AreKeys}
 use Rattle.pb_value.specs.Merge.{sets_oneof, merged_at, merged_fields, merged_within, merged, merged_over, merged_in}
-use Rattle.pb_value.specs.WellFormed.{IsOfShape, IsDatum, IsHeld, AreEntries, KeysRise, key_of, oneof_of, CanStand, AreFields, RisesFrom, HasNoMember, HasOneMemberEach, IsBody, IsWellFormed, oneof_at}
+use Rattle.pb_value.specs.WellFormed.{IsOfShape, IsDatum, IsHeld, AreEntries, KeysRise, key_of, oneof_of, CanStand, AreFields, RisesFrom, HasNoMember, HasOneMemberEach, IsBody, IsWellFormed, oneof_at, holds_declared}
 use Rattle.pb_value.proofs.Options.{if_some, at_some, some_of}
 use Rattle.pb_value.proofs.Numbers.{found_number}
 use Rattle.pb_value.proofs.PartLemmas.{held_at, AreKeys-entries}
@@ -154,7 +154,7 @@ module _ (pool : Types) (rules : IsPool pool) (m : ℕ) where
 
 -- what a field of a number may hold
 pub of_field : (pool : Types) (all : List FieldView) (f : FieldView) (n : ℕ) (h : Holding) → field_numbered n all ≡ Some f → CanStand pool all n h → IsHeld pool f.shape f.kind h
-of_field pool all f n h found w = (subst (λ (o : Option FieldView). IsSomeAnd o (λ g. IsOfShape g.shape h × IsHeld pool g.shape g.kind h)) found w).1
+of_field pool all f n h found w = (subst (λ (o : Option FieldView). IsSomeAnd o (λ g. IsOfShape g.shape h × IsHeld pool g.shape g.kind h × (holds_declared pool g.kind h ≡ true))) found w).1
 
 -- what a field holds once a member gave way
 pub held_there : (pool : Types) (all : List FieldView) (f : FieldView) (n : ℕ) (way : Option ℕ) (fs : Fields) → field_numbered n all ≡ Some f → AreFields pool all fs
@@ -232,7 +232,7 @@ module _ (pool : Types) (rules : IsPool pool) (m : ℕ) (v : Message) (whole : L
         → new ≡ with_fields now (merged_in (merged_within pool levels) (message_fields pool m) f (content_view c) (fields_of now)))
         → Merged pool m v whole new (done ++ (n, c) ∷ [])
     merged_more new step levels l =
-        let at = some_of (field_numbered n (message_fields pool m)) (λ (f : FieldView). IsOfShape f.shape (content_view c) × IsHeld pool f.shape f.kind (content_view c)) can_stand in
+        let at = some_of (field_numbered n (message_fields pool m)) (λ (f : FieldView). IsOfShape f.shape (content_view c) × IsHeld pool f.shape f.kind (content_view c) × (holds_declared pool f.kind (content_view c) ≡ true)) can_stand in
         let f : FieldView = at.0 in
         let number : f.number ≡ n = found_number n (message_fields pool m) f at.1 in
         let found : field_numbered f.number (message_fields pool m) ≡ Some f = ap (λ (k : ℕ). field_numbered k (message_fields pool m)) number ∙ at.1 in

@@ -12,13 +12,13 @@ use Rattle.pb_schema.specs.declared.types.Shape.TheVariants as shape
 use Rattle.pb_schema.specs.Types.{FieldView, Types, message_fields, field_numbered}
 use Rattle.pb_schema.specs.Scalar.{Scalar, int32, int64, uint32, uint64, boolean, float, double, enum, text, bytes}
 use Rattle.pb_schema.specs.Kinds.{message_of_kind, IsOfKind}
-use Rattle.pb_schema.specs.Fits.{fits_any}
+use Rattle.pb_schema.specs.Closed.{counts}
 use Rattle.pb_value.specs.Data.{Datum, scalar, message, Datums, no_datums, datum, Entries, no_entries, entry, Holding, one, list, map, Fields, no_fields, field, Message, body, message_depth}
 use Rattle.pb_value.specs.Judge.{is_scalar_of, is_message_kind, is_value_of, are_values_of, is_key_of, are_entries_of, holds_kind, has_shape, is_absence}
-use Rattle.pb_value.specs.Cause.{or_else, unless, at_field, shape_at, in_message, in_map, is_number, is_numbered, is_numbered_group, unknown_cause, stored_cause, with_member, is_second, datum_cause, datums_cause, entries_cause, parts_cause, fields_cause, body_cause, message_cause, FailsWith}
-use Rattle.pb_value.specs.WellFormed.{AreUnknown, IsOfShape, KeysRise, HasNoMember, HasOneMemberEach, oneof_of, oneof_at, key_of, IsDatum, AreDatums, AreEntries, IsHeld, AreFields, IsBody, IsWellFormed}
+use Rattle.pb_value.specs.Cause.{or_else, unless, at_field, shape_at, in_message, in_map, is_number, is_numbered, is_numbered_group, unknown_cause, stored_cause, with_member, is_second, datum_cause, datums_cause, entries_cause, parts_cause, held_cause, fields_cause, body_cause, message_cause, FailsWith}
+use Rattle.pb_value.specs.WellFormed.{AreUnknown, IsOfShape, KeysRise, HasNoMember, HasOneMemberEach, oneof_of, oneof_at, key_of, IsDatum, AreDatums, AreEntries, IsHeld, AreFields, IsBody, IsWellFormed, holds_declared}
 use Rattle.pb_value.specs.declared.error.ValueError.{ValueError}
-use Rattle.pb_value.specs.declared.error.ValueError.TheVariants.{WrongKind, NoSuchField, KnownAsUnknown, TooDeep, Memory}
+use Rattle.pb_value.specs.declared.error.ValueError.TheVariants.{WrongKind, NoSuchField, KnownAsUnknown, TooDeep, Memory, NoSuchValue}
 use Rattle.pb_value.proofs.JudgeLemmas.{OneFrom, oneof_at-shape}
 use Rattle.pb_value.proofs.Options.{at_some, some_of}
 use Rattle.pb_value.proofs.Numbers.{number_is}
@@ -35,6 +35,7 @@ scalar_of kind.Sint32 (int32 z) h = refl
 scalar_of kind.Sint64 (int64 z) h = refl
 scalar_of kind.Bool (boolean b) h = refl
 scalar_of (kind.Enum e) (enum z) h = refl
+scalar_of (kind.ClosedEnum e) (enum z) h = refl
 scalar_of kind.Fixed64 (uint64 n) h = refl
 scalar_of kind.Sfixed64 (int64 z) h = refl
 scalar_of kind.Double (double n) h = refl
@@ -47,6 +48,7 @@ scalar_of k x h = absurd h
 
 message_kind : (k : Kind) (m : ℕ) → message_of_kind k ≡ Some m → is_message_kind k ≡ true
 message_kind (kind.Message n) m e = refl
+message_kind (kind.Group n) m e = refl
 message_kind k m e = absurd (cc)
 
 shaped : (s : Shape) (h : Holding) → IsOfShape s h → (has_shape s h ≡ true) × (is_absence s h ≡ false)
@@ -83,12 +85,12 @@ mutual
   is_numbered-group (more k p g) h =
       and_true (is_number k && is_numbered p) (is_numbered_group g) (and_true (is_number k) (is_numbered p) (is_number-IsNumber k h.0) (is_numbered-IsNumbered p h.1)) (is_numbered-group g h.2)
 
-no_unknown_cause : (fs : List FieldView) (us : List Record) → AreUnknown fs us → unknown_cause fs us ≡ None
-no_unknown_cause fs [] h = refl
-no_unknown_cause fs (u ∷ us) h =
-    ap (λ (x : Bool). or_else (or_else (unless x NoSuchField) (unless (not (fits_any fs u)) KnownAsUnknown)) (unknown_cause fs us))
+no_unknown_cause : (pool : Types) (fs : List FieldView) (us : List Record) → AreUnknown pool fs us → unknown_cause pool fs us ≡ None
+no_unknown_cause pool fs [] h = refl
+no_unknown_cause pool fs (u ∷ us) h =
+    ap (λ (x : Bool). or_else (or_else (unless x NoSuchField) (unless (not (counts pool fs u)) KnownAsUnknown)) (unknown_cause pool fs us))
     (and_true (is_number u.number) (is_numbered u.payload) (is_number-IsNumber u.number h.0.0) (is_numbered-IsNumbered u.payload h.0.2))
-    ∙ ap (λ (x : Bool). or_else (unless (not x) KnownAsUnknown) (unknown_cause fs us)) h.0.3 ∙ no_unknown_cause fs us h.1
+    ∙ ap (λ (x : Bool). or_else (unless (not x) KnownAsUnknown) (unknown_cause pool fs us)) h.0.3 ∙ no_unknown_cause pool fs us h.1
 
 -- at most one member each, beside those that are set before
 or_cases : (a b : Bool) → (a || b) ≡ true → (a ≡ true) ⊎ (b ≡ true)
@@ -185,18 +187,18 @@ module _ (pool : Types) where
     no_fields_cause : (all : List FieldView) (seen : ℕ → Bool) (fs : Fields) → AreFields pool all fs → OneFrom all seen fs → fields_cause pool all seen fs ≡ None
     no_fields_cause all seen no_fields h w = refl
     no_fields_cause all seen (field n g fs) h w =
-        let f = some_of (field_numbered n all) (λ (f : FieldView). IsOfShape f.shape g × IsHeld pool f.shape f.kind g) h.0 in
+        let f = some_of (field_numbered n all) (λ (f : FieldView). IsOfShape f.shape g × IsHeld pool f.shape f.kind g × (holds_declared pool f.kind g ≡ true)) h.0 in
         let first : is_second f.0.shape seen ≡ false = ap (λ (x : Option FieldView). is_second (shape_at x) seen) (sym f.1) ∙ w.0 in
-        ap (λ (x : Option FieldView). or_else (at_field x (λ e. or_else (stored_cause seen e.shape e.kind g) (parts_cause pool e.shape e.kind g))) (fields_cause pool all (with_member (shape_at (field_numbered n all)) seen) fs)) f.1
-        ∙ ap (λ (x : Option ValueError). or_else (or_else x (parts_cause pool f.0.shape f.0.kind g)) (fields_cause pool all (with_member (shape_at (field_numbered n all)) seen) fs)) (no_stored_cause seen f.0.shape f.0.kind g f.2.0 f.2.1 first)
-        ∙ ap (λ (x : Option ValueError). or_else x (fields_cause pool all (with_member (shape_at (field_numbered n all)) seen) fs)) (no_parts_cause f.0.shape f.0.kind g f.2.1)
+        ap (λ (x : Option FieldView). or_else (at_field x (λ e. or_else (stored_cause seen e.shape e.kind g) (held_cause pool e.shape e.kind g))) (fields_cause pool all (with_member (shape_at (field_numbered n all)) seen) fs)) f.1
+        ∙ ap (λ (x : Option ValueError). or_else (or_else x (held_cause pool f.0.shape f.0.kind g)) (fields_cause pool all (with_member (shape_at (field_numbered n all)) seen) fs)) (no_stored_cause seen f.0.shape f.0.kind g f.2.0 f.2.1 first)
+        ∙ ap (λ (x : Option ValueError). or_else x (fields_cause pool all (with_member (shape_at (field_numbered n all)) seen) fs)) (ap (λ (b : Bool). or_else (unless b NoSuchValue) (parts_cause pool f.0.shape f.0.kind g)) f.2.2 ∙ no_parts_cause f.0.shape f.0.kind g f.2.1)
         ∙ no_fields_cause all (with_member (shape_at (field_numbered n all)) seen) fs h.1 w.1
 
     no_body_cause : (m : ℕ) (b : Message) → IsBody pool m b → body_cause pool m b ≡ None
     no_body_cause m (body fs us) h =
-        ap (λ (x : Option ValueError). or_else x (unknown_cause (message_fields pool m) us))
+        ap (λ (x : Option ValueError). or_else x (unknown_cause pool (message_fields pool m) us))
         (no_fields_cause (message_fields pool m) (λ o. false) fs h.0 (OneFrom-from_each (message_fields pool m) (λ o. false) fs h.2 (λ o e. absurd (cc))))
-        ∙ no_unknown_cause (message_fields pool m) us h.3
+        ∙ no_unknown_cause pool (message_fields pool m) us h.3
 
   pub no_cause : (m : ℕ) (v : Message) → IsWellFormed pool m v → message_cause pool m v ≡ None
   no_cause m v h =

@@ -51,6 +51,8 @@ form_of kind.Float = 5
 form_of kind.Text = 8
 form_of kind.Bytes = 9
 form_of (kind.Message m) = 10
+form_of (kind.Group m) = 10
+form_of (kind.ClosedEnum e) = 7
 
 form-IsOfKind : (k : Kind) (x : Scalar) → IsOfKind k x → form x ≡ form_of k
 unfolding form form_of
@@ -62,6 +64,7 @@ form-IsOfKind kind.Sint32 (int32 z) h = refl
 form-IsOfKind kind.Sint64 (int64 z) h = refl
 form-IsOfKind kind.Bool (boolean b) h = refl
 form-IsOfKind (kind.Enum e) (enum z) h = refl
+form-IsOfKind (kind.ClosedEnum e) (enum z) h = refl
 form-IsOfKind kind.Fixed64 (uint64 n) h = refl
 form-IsOfKind kind.Sfixed64 (int64 z) h = refl
 form-IsOfKind kind.Double (double n) h = refl

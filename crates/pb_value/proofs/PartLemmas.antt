@@ -1,6 +1,6 @@
 -- One more element of a list and one more entry of a map keep a message well formed.
 use Rattle.std.proofs.Common.{◌≡◌, ℕ, ◌≤◌, suc, max, List, Option, Some, None, IfSome, IsSomeAnd, Ordering, Less, Equal, Greater, arith, refl, sym, ap, ◌∙◌, subst}
-use Rattle.std.specs.Prelude.{true}
+use Rattle.std.specs.Prelude.{Bool, true, ◌&&◌}
 use Rattle.std.specs.Ordering.{match_ordering}
 use Rattle.pb_wire.specs.Record.{Record}
 use Rattle.pb_schema.specs.declared.types.Kind.{Kind}
@@ -11,12 +11,12 @@ use Rattle.pb_schema.specs.Scalar.{Scalar, key_cmp}
 use Rattle.pb_schema.specs.Kinds.{IsOfKind}
 use Rattle.pb_value.specs.Data.{Datum, Datums, no_datums, datum, Entries, no_entries, entry, Holding, one, list, map, Fields, no_fields, field, Message, body, fields_of, get_field, put_field, put_entry, joined_datums, levels_of, levels_in_entry, datums_depth, entries_depth, holding_depth, fields_depth}
 use Rattle.pb_value.specs.Judge.{has_shape, IsKeyWithin}
-use Rattle.pb_value.specs.WellFormed.{IsOfShape, IsDatum, AreDatums, AreEntries, KeysRise, IsHeld, AreFields, IsWellFormed}
+use Rattle.pb_value.specs.WellFormed.{IsOfShape, IsDatum, AreDatums, AreEntries, KeysRise, IsHeld, AreFields, IsWellFormed, datum_declared, datums_declared, holds_declared}
 use Rattle.pb_value.specs.Change.{stored_at, with_fields, elements_of, entries_of, pushed, inserted, push_at, insert_at, is_list, is_map, IsElement, IsEntry, AreKeys, FitsKeys}
 use Rattle.pb_value.proofs.ChangeLemmas.{by_order, CanStand, IsWellFormed-stored}
 use Rattle.pb_value.proofs.Options.{if_some, some_of}
 use Rattle.pb_value.proofs.EntryLemmas.{KeysRise-put_entry}
-use Rattle.pb_value.proofs.HeldLemmas.{AreDatums-joined, datums_depth-joined}
+use Rattle.pb_value.proofs.HeldLemmas.{AreDatums-joined, datums_declared-joined, datums_depth-joined}
 
 -- WHAT A FIELD HOLDS
 
@@ -38,25 +38,27 @@ depth_at n h (field k g fs) e =
 
 -- what a field may hold, at most 100 levels deep
 Held : Types → FieldView → Holding → Type 0
-Held pool f h = IsHeld pool f.shape f.kind h × (holding_depth h ≤ 100)
+Held pool f h = IsHeld pool f.shape f.kind h × (holding_depth h ≤ 100) × (holds_declared pool f.kind h ≡ true)
 
 held : (pool : Types) (m n : ℕ) (f : FieldView) (fs : Fields) (us : List Record) → field_numbered n (message_fields pool m) ≡ Some f → IsWellFormed pool m (body fs us) → IfSome (get_field n fs) (Held pool f)
 unfolding Held
 held pool m n f fs us found w =
     if_some (get_field n fs) (Held pool f)
-    (λ h e. (
-      (subst (λ (x : Option FieldView). IsSomeAnd x (λ (g : FieldView). IsOfShape g.shape h × IsHeld pool g.shape g.kind h)) found (held_at pool (message_fields pool m) n h fs w.parts.0 e)).1,
+    (λ h e.
+    let there = subst (λ (x : Option FieldView). IsSomeAnd x (λ (g : FieldView). IsOfShape g.shape h × IsHeld pool g.shape g.kind h × (holds_declared pool g.kind h ≡ true))) found (held_at pool (message_fields pool m) n h fs w.parts.0 e) in (
+      there.1,
       (let here = depth_at n h fs e in let all = w.depth in omega arith),
+      there.2,
     ))
 
 -- ELEMENTS
 
-elements_held : (pool : Types) (f : FieldView) (o : Option Holding) → IfSome o (Held pool f) → AreDatums pool f.kind (elements_of o) × (datums_depth (elements_of o) ≤ 100)
+elements_held : (pool : Types) (f : FieldView) (o : Option Holding) → IfSome o (Held pool f) → AreDatums pool f.kind (elements_of o) × (datums_depth (elements_of o) ≤ 100) × (datums_declared pool f.kind (elements_of o) ≡ true)
 unfolding Held
-elements_held pool f None h = (tt, omega arith)
-elements_held pool f (Some (one d)) h = (tt, omega arith)
+elements_held pool f None h = (tt, omega arith, refl)
+elements_held pool f (Some (one d)) h = (tt, omega arith, refl)
 elements_held pool f (Some (list ds)) h = h
-elements_held pool f (Some (map es)) h = (tt, omega arith)
+elements_held pool f (Some (map es)) h = (tt, omega arith, refl)
 
 has_shape-list : (s : Shape) (ds : Datums) → is_list s ≡ true → has_shape s (list ds) ≡ true
 has_shape-list (shape.List p) ds e = refl
@@ -71,19 +73,19 @@ stored_list all s n ds d fs e = absurd (cc)
 
 pushed_to :
     (pool : Types) (m n : ℕ) (d : Datum) (f : FieldView) (v : Message) → field_numbered n (message_fields pool m) ≡ Some f → is_list f.shape ≡ true
-    → IsDatum pool f.kind d → levels_of d ≤ 100 → IsWellFormed pool m v → IsWellFormed pool m (with_fields v (push_at n d (fields_of v)))
-pushed_to pool m n d f (body fs us) found listed good depth w =
+    → IsDatum pool f.kind d → levels_of d ≤ 100 → datum_declared pool f.kind d ≡ true → IsWellFormed pool m v → IsWellFormed pool m (with_fields v (push_at n d (fields_of v)))
+pushed_to pool m n d f (body fs us) found listed good depth declared w =
     let old = elements_held pool f (get_field n fs) (held pool m n f fs us found w) in
     let ds = elements_of (get_field n fs) in
     subst (λ (gs : Fields). IsWellFormed pool m (body gs us)) (stored_list (message_fields pool m) f.shape n ds d fs listed)
     (IsWellFormed-stored pool m n (pushed d (get_field n fs)) (body fs us) f found (has_shape-list f.shape (joined_datums ds (datum d no_datums)) listed)
-    (AreDatums-joined pool f.kind ds (datum d no_datums) old.0 (good, tt)) (datums_depth-joined ds (datum d no_datums) 100 old.1 (omega (arith, depth))) w)
+    (AreDatums-joined pool f.kind ds (datum d no_datums) old.0 (good, tt)) (datums_declared-joined pool f.kind ds (datum d no_datums) old.2 (ap (λ (b : Bool). b && true) declared)) (datums_depth-joined ds (datum d no_datums) 100 old.1 (omega (arith, depth))) w)
 
 -- one more element keeps a message well formed
 pub IsWellFormed-push : (pool : Types) (m n : ℕ) (d : Datum) (v : Message) → IsElement pool m n d → IsWellFormed pool m v → IsWellFormed pool m (with_fields v (push_at n d (fields_of v)))
 IsWellFormed-push pool m n d v ok w =
-    let f = some_of (field_numbered n (message_fields pool m)) (λ (f : FieldView). (is_list f.shape ≡ true) × IsDatum pool f.kind d × (levels_of d ≤ 100)) ok in
-    pushed_to pool m n d f.0 v f.1 f.2.0 f.2.1 f.2.2 w
+    let f = some_of (field_numbered n (message_fields pool m)) (λ (f : FieldView). (is_list f.shape ≡ true) × IsDatum pool f.kind d × (levels_of d ≤ 100) × (datum_declared pool f.kind d ≡ true)) ok in
+    pushed_to pool m n d f.0 v f.1 f.2.0 f.2.1 f.2.2 f.2.3 w
 
 -- ENTRIES
 
@@ -148,7 +150,7 @@ inserted_to pool m n x d f key (body fs us) found mapped own good depth w =
     (AreEntries-put_entry pool key f.kind x d es keyed good old.entries, KeysRise-put_entry x d es old.rise) in
     subst (λ (gs : Fields). IsWellFormed pool m (body gs us))
     (ap (λ (s : Shape). stored_at (message_fields pool m) s n (map (put_entry x d es)) fs) mapped ∙ stored_map (message_fields pool m) key n x d es fs)
-    (IsWellFormed-stored pool m n (inserted x d (get_field n fs)) (body fs us) f found shaped stands (entries_depth-put_entry x d es 100 depth old.depth) w)
+    (IsWellFormed-stored pool m n (inserted x d (get_field n fs)) (body fs us) f found shaped stands refl (entries_depth-put_entry x d es 100 depth old.depth) w)
 
 the_entry : (pool : Types) (m n : ℕ) (x : Scalar) (d : Datum) → IsEntry pool m n x d → (f : FieldView) × (field_numbered n (message_fields pool m) ≡ Some f) × ((is_map f.shape ≡ true) × IsKeyWithin f.shape x × IsDatum pool f.kind d × (suc (levels_in_entry d) ≤ 100))
 the_entry pool m n x d ok =

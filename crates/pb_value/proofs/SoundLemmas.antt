@@ -1,7 +1,7 @@
 -- What soundness says of a payload by how it is read, and how deep sound records nest.
 use Rattle.std.proofs.Common.{◌≡◌, ℕ, suc, ◌≤◌, List, arith, refl, ap, ◌∙◌, subst}
 use Rattle.std.specs.Prelude.{IsUtf8}
-use Rattle.pb_wire.specs.Record.{Payload, len, Record, depth, group_depth, records_depth}
+use Rattle.pb_wire.specs.Record.{Payload, len, group, Group, group_of, Record, depth, group_depth, records_depth}
 use Rattle.pb_wire.specs.Spell.{AreRecords}
 use Rattle.pb_wire.specs.Schema.{Schema, text, message, same_level}
 use Rattle.pb_wire.specs.Sound.{Sound, AllSound}
@@ -38,6 +38,12 @@ sound_value (Sound.a_list r h) d e = absurd (cc)
 sound_value (Sound.a_message r h g) d e = absurd (cc)
 sound_value {S} (Sound.a_value {d = b} {room = room} {rs = rs} r h g) d e =
     let same : b ≡ d = cc in record { records = rs; spelled = h; sound = subst (λ (x : S.Context). AllSound S x room rs) same g }
+
+-- of a group the records inside are sound, one level down
+pub sound_inside :
+    {S : Schema} {c : S.Context} {room k : ℕ} {g : Group} → Sound S c room k (group g)
+    → (below : ℕ) × (room ≡ suc below) × (rs : List Record) × (g ≡ group_of rs) × AllSound S (S.group_context c k) below rs
+sound_inside (Sound.a_group {room = room} {rs = rs} e h) = (room, refl, rs, e, h)
 
 mutual
   pub sound_depth : {S : Schema} {c : S.Context} {room k : ℕ} {p : Payload} → Sound S c room k p → depth p ≤ room

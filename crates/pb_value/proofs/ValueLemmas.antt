@@ -1,28 +1,27 @@
 -- The value of sound records in range is well formed, level by level.
-use Rattle.std.proofs.Common.{◌≡◌, ℕ, zero, suc, ◌+◌, ◌<◌, ◌≤◌, List, [], ◌∷◌, arith, refl, sym, ◌∙◌, subst, Option, Some, None, IfSome, IsSomeAnd}
-use Rattle.std.specs.Prelude.{Bool, true, false, not, filter}
+use Rattle.std.proofs.Common.{◌≡◌, ℕ, zero, suc, ◌+◌, ◌<◌, ◌≤◌, List, [], ◌∷◌, arith, sym, ◌∙◌, subst, Option, Some, None, IfSome, IsSomeAnd}
+use Rattle.std.specs.Prelude.{true, filter}
 use Rattle.std.specs.List.{AllByRecursion}
-use Rattle.pb_wire.specs.Record.{Payload, varint, fixed64, len, group, fixed32, Group, no_more, more, Record, records_depth}
-use Rattle.pb_wire.specs.Inside.{IsNumbered, IsNumberedGroup}
-use Rattle.pb_wire.specs.Writable.{IsWritable, IsWritableGroup}
+use Rattle.pb_wire.specs.Record.{Record}
 use Rattle.pb_wire.proofs.RangeLemmas.{spelled_in_range, spelled_writable}
 use Rattle.pb_schema.specs.declared.types.Shape.{Shape}
 use Rattle.pb_schema.specs.declared.types.Shape.TheVariants as shape
 use Rattle.pb_schema.specs.Oneofs.{members}
 use Rattle.pb_schema.specs.Types.{FieldView, MessageView, Types, message_fields, field_numbered}
-use Rattle.pb_schema.specs.Rules.{IsPool, HasKeyKind}
-use Rattle.pb_schema.specs.Fits.{fits, fits_any, unfitting}
+use Rattle.pb_schema.specs.Rules.{IsPool, HasKeyKind, MayBeValue}
+use Rattle.pb_schema.specs.Fits.{fits, fits_any}
+use Rattle.pb_schema.specs.Closed.{known}
 use Rattle.pb_schema.specs.Context.{a_message}
 use Rattle.pb_value.specs.Data.{Holding, Fields, no_fields, field, Message, put_field, put_some, holding_depth, fields_depth, message_depth}
-use Rattle.pb_value.specs.Value.{counting, counting_as, held, fields_held, body_of, value_within, value}
-use Rattle.pb_value.specs.WellFormed.{AreUnknown, RisesFrom, oneof_at, HasNoMember, HasOneMemberEach, IsOfShape, IsHeld, AreFields, IsBody, IsWellFormed}
+use Rattle.pb_value.specs.Value.{all_elements, counting, counting_as, held, fields_held, body_of, value_within, value}
+use Rattle.pb_value.specs.WellFormed.{RisesFrom, oneof_at, HasNoMember, HasOneMemberEach, IsOfShape, IsHeld, AreFields, IsBody, IsWellFormed, holds_declared}
 use Rattle.pb_value.specs.Meaning.{ValueIsWellFormed, DerivedIsWellFormed}
 use Rattle.pb_value.proofs.ListLemmas.{all_weaker, all_filter, all_last_run}
 use Rattle.pb_value.proofs.ChangeLemmas.{by_order, oneof_at-shape, RisesFrom-put_field, CanStand}
 use Rattle.pb_value.proofs.JudgeLemmas.{fields_all, differ_at}
-use Rattle.pb_value.proofs.SoundLemmas.{sound_depth}
 use Rattle.pb_value.proofs.FittingLemmas.{IsGood, AllGood, AllCount, all_good, all_count}
-use Rattle.pb_value.proofs.HeldLemmas.{IsStored, held-stored}
+use Rattle.pb_value.proofs.HeldLemmas.{AllDeclared, IsStored, held-stored}
+use Rattle.pb_value.proofs.KnownLemmas.{IsKnown, known-good, known-known, unknown-good, all_declared}
 use Rattle.pb_value.proofs.Options.{if_some, at_some}
 use Rattle.pb_value.proofs.Numbers.{found_each}
 use Rattle.pb_value.proofs.OneMember.{last_number, member_last}
@@ -41,6 +40,30 @@ module _ (pool : Types) (inner : ℕ → List Record → Message) where
   counting_as-good t room shape.Explicit all f rs h = all_filter (IsGood pool (a_message t) room) (fits f) rs h
   counting_as-good t room (shape.List p) all f rs h = all_filter (IsGood pool (a_message t) room) (fits f) rs h
   counting_as-good t room (shape.Map k) all f rs h = all_filter (IsGood pool (a_message t) room) (fits f) rs h
+
+  -- of a closed enum their values are declared
+  pub counting-declared :
+      (all : List FieldView) (f : FieldView) → field_numbered f.number all ≡ Some f → MayBeValue f.shape f.kind → (rs : List Record) → AllByRecursion (IsKnown pool all) rs
+      → AllDeclared pool f.kind (all_elements f.kind (counting inner all f rs))
+  counting-declared all f found may rs h = all_declared pool all f found may (counting inner all f rs) (each f.shape)
+    where
+      each : (s : Shape) → AllByRecursion (λ r. IsKnown pool all r × (fits f r ≡ true)) (counting_as inner s all f rs)
+      each (shape.OneofMember o) =
+          all_last_run (IsKnown pool all) (fits f) (filter (fits_any (members o all)) rs)
+          (all_weaker _ (IsKnown pool all) (λ r w. w.0) (filter (fits_any (members o all)) rs) (all_filter (IsKnown pool all) (fits_any (members o all)) rs h))
+      each shape.Implicit = all_filter (IsKnown pool all) (fits f) rs h
+      each shape.Explicit = all_filter (IsKnown pool all) (fits f) rs h
+      each (shape.List p) = all_filter (IsKnown pool all) (fits f) rs h
+      each (shape.Map k) = all_filter (IsKnown pool all) (fits f) rs h
+
+-- the keys and values of maps are of kinds that they may be of
+pub keys_and_values : (pool : Types) (t : ℕ) → IsPool pool → AllByRecursion (λ f. HasKeyKind f.shape × MayBeValue f.shape f.kind) (message_fields pool t)
+keys_and_values pool t rules =
+    together (message_fields pool t) (fields_all (λ s f. HasKeyKind f.shape) pool pool.messages t rules.fields.shapes.keys) (fields_all (λ s f. MayBeValue f.shape f.kind) pool pool.messages t rules.fields.shapes.values)
+  where
+    together : (fs : List FieldView) → AllByRecursion (λ f. (s : MessageView) × HasKeyKind f.shape) fs → AllByRecursion (λ f. (s : MessageView) × MayBeValue f.shape f.kind) fs → AllByRecursion (λ f. HasKeyKind f.shape × MayBeValue f.shape f.kind) fs
+    together [] a b = tt
+    together (f ∷ fs) a b = ((a.0.1, b.0.1), together fs a.1 b.1)
 
 -- FIELDS
 
@@ -92,80 +115,51 @@ module _ (pool : Types) (all : List FieldView) (top : ℕ) (last : ℕ → Optio
     HasOneMemberEach-each (n + 1) fs rises.1 w.1,
   )
 
--- THE FIELDS THAT RECORDS GIVE
-
--- UNKNOWN RECORDS
-
-mutual
-  IsNumbered-IsWritable : (p : Payload) → IsWritable p → IsNumbered p
-  IsNumbered-IsWritable (varint n) w = tt
-  IsNumbered-IsWritable (fixed64 n) w = tt
-  IsNumbered-IsWritable (len s) w = tt
-  IsNumbered-IsWritable (group g) w = IsNumberedGroup-IsWritableGroup g w
-  IsNumbered-IsWritable (fixed32 n) w = tt
-
-  IsNumberedGroup-IsWritableGroup : (g : Group) → IsWritableGroup g → IsNumberedGroup g
-  IsNumberedGroup-IsWritableGroup no_more w = tt
-  IsNumberedGroup-IsWritableGroup (more k p g) w = (w.0, IsNumbered-IsWritable p w.1, IsNumberedGroup-IsWritableGroup g w.2)
-
-pub unfitting-good : (pool : Types) (t room : ℕ) (fs : List FieldView) (rs : List Record) → AllGood pool (a_message t) room rs → AreUnknown fs (unfitting fs rs) × (records_depth (unfitting fs rs) ≤ room)
-unfitting-good pool t room fs rs h = each (unfitting fs rs) (all_filter (IsGood pool (a_message t) room) (λ r. not (fits_any fs r)) rs h)
-  where
-    fails : (b : Bool) → not b ≡ true → b ≡ false
-    fails true e = absurd (cc)
-    fails false e = refl
-
-    each : (us : List Record) → AllByRecursion (λ r. IsGood pool (a_message t) room r × (not (fits_any fs r) ≡ true)) us → AreUnknown fs us × (records_depth us ≤ room)
-    each [] w = (tt, omega arith)
-    each (u ∷ us) w =
-        let good = w.0.0 in
-        let here = sound_depth good.sound in
-        let more = each us w.1 in
-        (((good.number, good.in_range, IsNumbered-IsWritable u.payload good.writable, fails (fits_any fs u) w.0.1), more.0), omega (arith, here, more.1))
-
 -- ONE LEVEL
 
 module _ (pool : Types) (rules : IsPool pool) (inner : ℕ → List Record → Message) (levels : ℕ)
     (inside : (m room : ℕ) (rs : List Record) → room < levels → AllGood pool (a_message m) room rs → IsBody pool m (inner m rs) × (message_depth (inner m rs) ≤ room)) where
   held-stands :
-      (t room : ℕ) (f : FieldView) (rs : List Record) → room ≤ levels → field_numbered f.number (message_fields pool t) ≡ Some f → HasKeyKind f.shape → AllGood pool (a_message t) room rs
+      (t room : ℕ) (f : FieldView) (rs : List Record) → room ≤ levels → field_numbered f.number (message_fields pool t) ≡ Some f → HasKeyKind f.shape × MayBeValue f.shape f.kind → AllGood pool (a_message t) room rs
+      → AllByRecursion (IsKnown pool (message_fields pool t)) rs
       → IfSome (held inner f (counting inner (message_fields pool t) f rs)) (Stands pool (message_fields pool t) room (last_number (message_fields pool t) rs) f.number)
-  held-stands t room f rs l found key h =
+  held-stands t room f rs l found key h is_known =
       let all = message_fields pool t in
       let cs = counting inner all f rs in
       let count : AllCount pool (a_message t) room f.shape f.kind cs = all_count pool (a_message t) room f found cs (counting_as-good pool inner t room f.shape all f rs h) in
-      let stored : IfSome (held inner f cs) (IsStored pool f.shape f.kind room) = held-stored pool inner levels inside t room f.shape f.kind cs l key count in
+      let stored : IfSome (held inner f cs) (IsStored pool f.shape f.kind room) = held-stored pool inner levels inside t room f.shape f.kind cs l key.0 key.1 count (counting-declared pool inner all f found key.1 rs is_known) in
       if_some (held inner f cs) (Stands pool all room (last_number all rs) f.number)
       (λ g e.
       let w : IsStored pool f.shape f.kind room g = at_some (held inner f cs) (IsStored pool f.shape f.kind room) g stored e in
       record {
-        allowed = subst (λ (o : Option FieldView). IsSomeAnd o (λ x. IsOfShape x.shape g × IsHeld pool x.shape x.kind g)) (sym found) (w.shaped, w.held);
+        allowed = subst (λ (o : Option FieldView). IsSomeAnd o (λ x. IsOfShape x.shape g × IsHeld pool x.shape x.kind g × (holds_declared pool x.kind g ≡ true))) (sym found) (w.shaped, w.held, w.declared);
         depth = w.depth;
         last_of_oneof = λ o q. member_last inner f.shape f.kind all f rs g o (sym (oneof_at-shape all f.number f found) ∙ q) e;
       })
 
   fields_held-stand :
       (t room : ℕ) (fs : List FieldView) (rs : List Record) → room ≤ levels → AllByRecursion (λ f. field_numbered f.number (message_fields pool t) ≡ Some f) fs
-      → AllByRecursion (λ f. (s : MessageView) × HasKeyKind f.shape) fs → AllGood pool (a_message t) room rs
+      → AllByRecursion (λ f. HasKeyKind f.shape × MayBeValue f.shape f.kind) fs → AllGood pool (a_message t) room rs → AllByRecursion (IsKnown pool (message_fields pool t)) rs
       → EachField (Stands pool (message_fields pool t) room (last_number (message_fields pool t) rs)) (fields_held inner (message_fields pool t) fs rs)
       × RisesFrom 0 (fields_held inner (message_fields pool t) fs rs)
-  fields_held-stand t room [] rs l found keys h = (tt, tt)
-  fields_held-stand t room (f ∷ fs) rs l found keys h =
+  fields_held-stand t room [] rs l found keys h is_known = (tt, tt)
+  fields_held-stand t room (f ∷ fs) rs l found keys h is_known =
       let all = message_fields pool t in
-      let more = fields_held-stand t room fs rs l found.1 keys.1 h in (
-        EachField-put_some (Stands pool all room (last_number all rs)) f.number (held inner f (counting inner all f rs)) (fields_held inner all fs rs) (held-stands t room f rs l found.0 keys.0.1 h) more.0,
+      let more = fields_held-stand t room fs rs l found.1 keys.1 h is_known in (
+        EachField-put_some (Stands pool all room (last_number all rs)) f.number (held inner f (counting inner all f rs)) (fields_held inner all fs rs) (held-stands t room f rs l found.0 keys.0 h is_known) more.0,
         RisesFrom-put_some f.number (held inner f (counting inner all f rs)) (fields_held inner all fs rs) more.1,
       )
 
   body-good :
       (t room : ℕ) (rs : List Record) → room ≤ levels → AllGood pool (a_message t) room rs
-      → IsBody pool t (body_of inner (message_fields pool t) rs) × (message_depth (body_of inner (message_fields pool t) rs) ≤ room)
+      → IsBody pool t (body_of inner pool (message_fields pool t) rs) × (message_depth (body_of inner pool (message_fields pool t) rs) ≤ room)
   body-good t room rs l h =
       let all = message_fields pool t in
-      let last = last_number all rs in
-      let fs = fields_held inner all all rs in
-      let w = fields_held-stand t room all rs l (found_each all (differ_at pool pool.messages t rules.fields.numbers_differ)) (fields_all (λ s f. HasKeyKind f.shape) pool pool.messages t rules.fields.shapes.keys) h in
-      let us = unfitting-good pool t room all rs h in
+      let ks = known pool all rs in
+      let last = last_number all ks in
+      let fs = fields_held inner all all ks in
+      let w = fields_held-stand t room all ks l (found_each all (differ_at pool pool.messages t rules.fields.numbers_differ)) (keys_and_values pool t rules) (known-good pool t room all rs h) (known-known pool all rs) in
+      let us = unknown-good pool t room all rs h in
       let deep = fields_depth-each pool all room last fs w.0 in (
         (AreFields-each pool all room last fs w.0, w.1, HasOneMemberEach-each pool all room last 0 fs w.1 w.0, us.0),
         omega (arith, deep, us.1),

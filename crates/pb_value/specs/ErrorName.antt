@@ -1,7 +1,7 @@
 -- The numbers and the names of the causes of refused changes.
 use Rattle.std.specs.Prelude.{ℕ, List, codes}
 use Rattle.pb_value.specs.declared.error.ValueError.{ValueError}
-use Rattle.pb_value.specs.declared.error.ValueError.TheVariants.{NoSuchField, WrongKind, WrongShape, DefaultStored, TwoMembers, KnownAsUnknown, TooDeep, Memory, OtherType}
+use Rattle.pb_value.specs.declared.error.ValueError.TheVariants.{NoSuchField, WrongKind, WrongShape, DefaultStored, TwoMembers, KnownAsUnknown, TooDeep, Memory, OtherType, NoSuchValue}
 
 abbrev pub number_of : ValueError → ℕ
 number_of NoSuchField = 21
@@ -13,6 +13,7 @@ number_of KnownAsUnknown = 26
 number_of TooDeep = 27
 number_of Memory = 28
 number_of OtherType = 29
+number_of NoSuchValue = 30
 
 abbrev pub name_of : ValueError → List ℕ
 name_of NoSuchField = codes "NoSuchField"
@@ -24,3 +25,4 @@ name_of KnownAsUnknown = codes "KnownAsUnknown"
 name_of TooDeep = codes "TooDeep"
 name_of Memory = codes "Memory"
 name_of OtherType = codes "OtherType"
+name_of NoSuchValue = codes "NoSuchValue"

@@ -2,7 +2,7 @@
 use Rattle.std.specs.Prelude.{ℕ, List, Bool, false, Option, Some, None, if◌then◌else◌}
 use Rattle.pb_schema.specs.declared.types.Kind.{Kind}
 use Rattle.pb_schema.specs.Types.{FieldView, field_numbered}
-use Rattle.pb_schema.specs.Kinds.{message_of_kind, default_of}
+use Rattle.pb_schema.specs.Kinds.{message_of_kind, closed_enum, default_of}
 use Rattle.pb_schema.specs.Oneofs.{is_member}
 use Rattle.pb_value.specs.Data.{Datum, scalar, Fields, no_fields, field}
 
@@ -15,10 +15,11 @@ abbrev pub member_set : List FieldView → ℕ → Fields → Option ℕ
 member_set all o no_fields = None
 member_set all o (field n h fs) = if is_member_at o (field_numbered n all) then Some n else member_set all o fs
 
--- the default of a kind; a message has none
+-- the default of a kind; a message and a closed enum have none
 abbrev pub default_value : Kind → Option Datum
-default_value k = of_type (message_of_kind k)
+default_value k = of_type (message_of_kind k) (closed_enum k)
   where
-    of_type : Option ℕ → Option Datum
-    of_type None = Some (scalar (default_of k))
-    of_type (Some m) = None
+    of_type : Option ℕ → Option ℕ → Option Datum
+    of_type None None = Some (scalar (default_of k))
+    of_type None (Some e) = None
+    of_type (Some m) c = None

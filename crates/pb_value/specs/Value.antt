@@ -12,7 +12,8 @@ use Rattle.pb_schema.specs.Scalar.{Scalar, is_default}
 use Rattle.pb_schema.specs.Kinds.{message_of_kind, default_of}
 use Rattle.pb_schema.specs.Packed.{elements}
 use Rattle.pb_schema.specs.Oneofs.{members}
-use Rattle.pb_schema.specs.Fits.{fits, fits_any, fitting, unfitting}
+use Rattle.pb_schema.specs.Fits.{fits, fits_any, fitting}
+use Rattle.pb_schema.specs.Closed.{known, unknown}
 use Rattle.pb_schema.specs.Context.{key_field, value_field}
 use Rattle.pb_value.specs.Data.{Datum, scalar, message, datums_of, no_entries, put_entry, Holding, one, list, map, Fields, no_fields, put_some, Message, body, empty}
 
@@ -112,14 +113,14 @@ module _ (value : ℕ → List Record → Message) where
   fields_held all [] rs = no_fields
   fields_held all (f ∷ fs) rs = put_some f.number (held f (counting all f rs)) (fields_held all fs rs)
 
-  -- a message: what each field holds, and the records that fit none
-  abbrev pub body_of : List FieldView → List Record → Message
-  body_of fs rs = body (fields_held fs fs rs) (unfitting fs rs)
+  -- a message: what each field holds of the records that count, and those that don't
+  abbrev pub body_of : Types → List FieldView → List Record → Message
+  body_of pool fs rs = body (fields_held fs fs (known pool fs rs)) (unknown pool fs rs)
 
 -- the value of records, as a message of at most so many levels
 unfoldable pub value_within : Types → ℕ → ℕ → List Record → Message
 value_within pool zero m rs = empty
-value_within pool (suc levels) m rs = body_of (value_within pool levels) (message_fields pool m) rs
+value_within pool (suc levels) m rs = body_of (value_within pool levels) pool (message_fields pool m) rs
 
 -- the value of records, as a message of a type; the levels are 0 to 100
 unfoldable pub value : Types → ℕ → List Record → Message

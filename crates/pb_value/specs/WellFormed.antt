@@ -1,5 +1,5 @@
 -- Which messages are well formed by a pool: what a decoder of its types can give (encoding guide, "Optional and Repeated", "Oneofs", "Maps").
-use Rattle.std.specs.Prelude.{◌≡◌, ◌≢◌, ◌≤◌, ◌+◌, ℕ, false, List, Option, Some, None, IfSome, IsSomeAnd, option_and_then}
+use Rattle.std.specs.Prelude.{◌≡◌, ◌≢◌, ◌≤◌, ◌+◌, ℕ, Bool, true, false, ◌&&◌, List, Option, Some, None, IfSome, IsSomeAnd, option_and_then}
 use Rattle.std.specs.List.{AllByRecursion}
 use Rattle.std.specs.declared.cmp.Ordering.TheVariants.{Less}
 use Rattle.pb_wire.specs.Record.{Record}
@@ -11,16 +11,17 @@ use Rattle.pb_schema.specs.declared.types.Shape.TheVariants as shape
 use Rattle.pb_schema.specs.Types.{FieldView, Types, message_fields, field_numbered}
 use Rattle.pb_schema.specs.Scalar.{Scalar, key_cmp}
 use Rattle.pb_schema.specs.Kinds.{message_of_kind, IsOfKind}
-use Rattle.pb_schema.specs.Fits.{fits_any}
+use Rattle.pb_schema.specs.Closed.{is_declared, counts}
 use Rattle.pb_value.specs.Judge.Forms.{is_default_datum}
 use Rattle.pb_value.specs.Data.{Datum, scalar, message, Datums, no_datums, datum, Entries, no_entries, entry, Holding, one, list, map, Fields, no_fields, field, Message, body, message_depth}
 
--- an unknown record of a type with these fields: its numbers and payloads can be written, and it fits no field
-abbrev pub IsUnknown : List FieldView → Record → Type 0
-IsUnknown fs r = IsNumber r.number × IsInRange r.payload × IsNumbered r.payload × (fits_any fs r ≡ false)
+-- An unknown record of a type with these fields: its numbers and payloads can be written, and it counts for no field. A packed list of a closed
+-- enum fits its field, and so does a number that the enum declares; another number may be kept.
+abbrev pub IsUnknown : Types → List FieldView → Record → Type 0
+IsUnknown pool fs r = IsNumber r.number × IsInRange r.payload × IsNumbered r.payload × (counts pool fs r ≡ false)
 
-abbrev pub AreUnknown : List FieldView → List Record → Type 0
-AreUnknown fs rs = AllByRecursion (IsUnknown fs) rs
+abbrev pub AreUnknown : Types → List FieldView → List Record → Type 0
+AreUnknown pool fs rs = AllByRecursion (IsUnknown pool fs) rs
 
 -- fields stand by rising number, from n on
 abbrev pub RisesFrom : ℕ → Fields → Type 0
@@ -78,6 +79,21 @@ abbrev pub HasOneMemberEach : List FieldView → Fields → Type 0
 HasOneMemberEach all no_fields = Unit {0}
 HasOneMemberEach all (field n h fs) = IfSome (oneof_at all n) (λ o. HasNoMember all o fs) × HasOneMemberEach all fs
 
+-- of a closed enum each value has a number that the enum declares; the values of a map are of none
+module _ (pool : Types) where
+  abbrev pub datum_declared : Kind → Datum → Bool
+  datum_declared k (scalar x) = is_declared pool k x
+  datum_declared k (message b) = true
+
+  abbrev pub datums_declared : Kind → Datums → Bool
+  datums_declared k no_datums = true
+  datums_declared k (datum d ds) = datum_declared k d && datums_declared k ds
+
+  abbrev pub holds_declared : Kind → Holding → Bool
+  holds_declared k (one d) = datum_declared k d
+  holds_declared k (list ds) = datums_declared k ds
+  holds_declared k (map es) = true
+
 -- the kind of a map's keys
 abbrev pub key_of : Shape → Option Kind
 key_of (shape.Map key) = Some key
@@ -110,16 +126,17 @@ module _ (pool : Types) where
 
     pub AreFields : List FieldView → Fields → Type 0
     AreFields all no_fields = Unit {0}
-    AreFields all (field n h fs) = IsSomeAnd (field_numbered n all) (λ f. IsOfShape f.shape h × IsHeld f.shape f.kind h) × AreFields all fs
+    AreFields all (field n h fs) =
+        IsSomeAnd (field_numbered n all) (λ f. IsOfShape f.shape h × IsHeld f.shape f.kind h × (holds_declared pool f.kind h ≡ true)) × AreFields all fs
 
     -- the parts of a message of a type are well formed
     pub IsBody : ℕ → Message → Type 0
     IsBody m (body fs us) =
-        AreFields (message_fields pool m) fs × RisesFrom 0 fs × HasOneMemberEach (message_fields pool m) fs × AreUnknown (message_fields pool m) us
+        AreFields (message_fields pool m) fs × RisesFrom 0 fs × HasOneMemberEach (message_fields pool m) fs × AreUnknown pool (message_fields pool m) us
 
   -- the content can stand at the field of number n
   abbrev pub CanStand : List FieldView → ℕ → Holding → Type 0
-  CanStand all n h = IsSomeAnd (field_numbered n all) (λ f. IsOfShape f.shape h × IsHeld f.shape f.kind h)
+  CanStand all n h = IsSomeAnd (field_numbered n all) (λ f. IsOfShape f.shape h × IsHeld f.shape f.kind h × (holds_declared pool f.kind h ≡ true))
 
   -- a well-formed message of a type: its parts are, and at most 100 levels stand below it
   pub record IsWellFormed (m : ℕ) (v : Message) : Type 0 where

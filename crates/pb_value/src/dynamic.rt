@@ -6,7 +6,7 @@ use crate::change::oneof::set_member;
 use crate::change::push::{check_element, push_element};
 use crate::change::{clear_field, store};
 use crate::error::ValueError;
-use crate::judge::check::{check_content, check_message, check_parts};
+use crate::judge::check::{check_content, check_held, check_message};
 use crate::judge::depth::{MAX_LEVELS, content_within};
 use crate::lookup::field_at;
 use crate::merge::merge_body;
@@ -299,7 +299,7 @@ impl<'p> DynamicMessage<'p> {
             return Err(ValueError::NoSuchField);
         };
         check_content(field.shape, field.kind, content)?;
-        check_parts(self.alloc, self.pool, field.shape, field.kind, content)?;
+        check_held(self.alloc, self.pool, field.shape, field.kind, content)?;
         if !content_within(content, MAX_LEVELS) {
             return Err(ValueError::TooDeep);
         }
@@ -345,7 +345,7 @@ ghost use Rattle.std.specs.Prelude.{option_map};
 ghost use Rattle.pb_value.specs.Oneof.{default_value};
 ghost use Rattle.pb_value.specs.View.{value_view};
 
-/// The default of a kind. A message has none.
+/// The default of a kind. A message and a closed enum have none.
 pub fn default_value(alloc: Global, kind: Kind) -> Option<Value>
     ensures { option_map value_view result ≡ default_value kind }
 {
@@ -360,6 +360,6 @@ pub fn default_value(alloc: Global, kind: Kind) -> Option<Value>
         Kind::Enum(_) => Value::Enum(0),
         Kind::Text => Value::Text(String::new(alloc)),
         Kind::Bytes => Value::Bytes(Vec::new(alloc)),
-        Kind::Message(_) => return None,
+        Kind::Message(_) | Kind::Group(_) | Kind::ClosedEnum(_) => return None,
     })
 }

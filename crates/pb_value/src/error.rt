@@ -29,10 +29,12 @@ pub enum ValueError {
     Memory,
     /// Two messages are of different types, or their pools hold different types.
     OtherType,
+    /// A closed enum declares no value with the number.
+    NoSuchValue,
 }
 
 impl ValueError {
-    /// The cause's number, from 21 to 29.
+    /// The cause's number, from 21 to 30.
     pub fn number(self) -> u8
         ensures { result ≡ number_of self }
     {
@@ -46,6 +48,7 @@ impl ValueError {
             ValueError::TooDeep => 27,
             ValueError::Memory => 28,
             ValueError::OtherType => 29,
+            ValueError::NoSuchValue => 30,
         }
     }
 
@@ -63,6 +66,7 @@ impl ValueError {
             ValueError::TooDeep => "TooDeep",
             ValueError::Memory => "Memory",
             ValueError::OtherType => "OtherType",
+            ValueError::NoSuchValue => "NoSuchValue",
         }
     }
 }

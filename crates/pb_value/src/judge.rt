@@ -1,6 +1,7 @@
 //! Which values are of which kind, and which contents of which shape.
 
 pub(crate) mod check;
+pub(crate) mod declared;
 pub(crate) mod depth;
 pub(crate) mod unknown;
 
@@ -31,7 +32,7 @@ pub(crate) fn is_value_of(kind: Kind, value: &Value) -> bool
         Value::Enum(number) => is_enum(kind, *number),
         Value::Text(text) => is_text(kind, text),
         Value::Bytes(bytes) => is_bytes(kind, bytes),
-        Value::Message(_) => matches!(kind, Kind::Message(_)),
+        Value::Message(_) => matches!(kind, Kind::Message(_) | Kind::Group(_)),
     }
 }
 
@@ -90,7 +91,7 @@ fn is_enum(kind: Kind, number: i32) -> bool
     ensures test { result ≡ is_scalar_of kind (enum number) }
     ensures in_range { IsTrue result → IsOfKind kind (enum number) }
 {
-    matches!(kind, Kind::Enum(_))
+    matches!(kind, Kind::Enum(_) | Kind::ClosedEnum(_))
 }
 
 fn is_text(kind: Kind, text: &String) -> bool

@@ -15,6 +15,7 @@ ghost use Rattle.pb_value.specs.declared.error.ValueError.TheVariants.{Memory};
 use crate::body::{Body, Content, MapKey, Value};
 use crate::change::{clear_field, gives_way, put_field};
 use crate::error::ValueError;
+use crate::judge::check::message_type;
 use crate::lookup::field_at;
 use pb_schema::{Kind, MessageId, Pool, Shape};
 use std::collections::BTreeMap;
@@ -92,7 +93,7 @@ fn merge_message(
     ensures ok { OnOk result ((levels : ℕ) → message_depth (body_view other) < levels → content_view content.new ≡ both (merged_within pool.now levels) kind (content_view content.old) (one (message (body_view other)))) }
     ensures memory { IfErr result (λ e. e ≡ Memory) }
 {
-    let Kind::Message(id) = kind else {
+    let Some(id) = message_type(kind) else {
         unreachable!();
     };
     match content {

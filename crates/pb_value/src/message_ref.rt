@@ -3,8 +3,9 @@
 use crate::body::{Body, Content, MapKey, Value};
 use crate::change::oneof::set_member;
 use crate::full_name::FullName;
+use crate::judge::check::message_type;
 use crate::lookup::field_at;
-use pb_schema::{Kind, MessageId, Pool};
+use pb_schema::{MessageId, Pool};
 use std::fmt;
 use std::marker::Model;
 
@@ -180,10 +181,7 @@ fn type_named(pool: &Pool, kind: MessageId, number: u32) -> Option<MessageId>
     ensures named { option_map (λ m. m.0) result ≡ type_named pool.now kind.0 number }
     ensures within { IfSome result (λ m. m.0 < length pool.now.messages) }
 {
-    match field_at(pool, kind, number)?.kind {
-        Kind::Message(id) => Some(id),
-        _ => None,
-    }
+    message_type(field_at(pool, kind, number)?.kind)
 }
 
 /// A value that the field of a number holds, as a message.

@@ -31,6 +31,8 @@ pub record KnowsAll (files : List FileView) (s : Sight) : Type 0 where
 abbrev pub file_of_kind : List MessageView → List EnumView → Kind → Option ℕ
 file_of_kind ms es (kind.Enum e) = option_map (λ t. t.file) (slice_get es e.0)
 file_of_kind ms es (kind.Message m) = option_map (λ t. t.file) (slice_get ms m.0)
+file_of_kind ms es (kind.Group m) = option_map (λ t. t.file) (slice_get ms m.0)
+file_of_kind ms es (kind.ClosedEnum e) = option_map (λ t. t.file) (slice_get es e.0)
 file_of_kind ms es kind.Double = None
 file_of_kind ms es kind.Float = None
 file_of_kind ms es kind.Int64 = None

@@ -23,6 +23,8 @@ NumbersDiffer ms = AllByRecursion FieldNumbersDiffer ms
 abbrev pub TypeIsSeen : Types → ℕ → Kind → Type 0
 TypeIsSeen ts file (kind.Enum e) = IfSome (slice_get ts.enums e.0) (λ t. IsSeen ts.files file t.file)
 TypeIsSeen ts file (kind.Message m) = IfSome (slice_get ts.messages m.0) (λ t. IsSeen ts.files file t.file)
+TypeIsSeen ts file (kind.Group m) = IfSome (slice_get ts.messages m.0) (λ t. IsSeen ts.files file t.file)
+TypeIsSeen ts file (kind.ClosedEnum e) = IfSome (slice_get ts.enums e.0) (λ t. IsSeen ts.files file t.file)
 TypeIsSeen ts file kind.Double = Unit {0}
 TypeIsSeen ts file kind.Float = Unit {0}
 TypeIsSeen ts file kind.Int64 = Unit {0}

@@ -28,6 +28,8 @@ EnumsShareFileWithParent ms es = AllByRecursion (λ e. IsInFileOfParent ms e.fil
 abbrev pub NamesType : ℕ → ℕ → Kind → Type 0
 NamesType messages enums (kind.Enum e) = e.0 < enums
 NamesType messages enums (kind.Message m) = m.0 < messages
+NamesType messages enums (kind.Group m) = m.0 < messages
+NamesType messages enums (kind.ClosedEnum e) = e.0 < enums
 NamesType messages enums kind.Double = Unit {0}
 NamesType messages enums kind.Float = Unit {0}
 NamesType messages enums kind.Int64 = Unit {0}

@@ -1,13 +1,11 @@
--- The rules of one field or enum by itself: its number, and what goes with its shape (language specification, proto3, "Fields", "Map Fields",
--- "Enumerations").
-use Rattle.std.specs.Prelude.{◌≡◌, ℕ, ◌^◌, ◌<◌, ◌≤◌, ◌⊎◌, ℤ, pos, List, [], ◌∷◌, true, false, IsTrue}
-use Rattle.std.specs.List.{AllByRecursion}
+-- The rules of one field by itself: its number, and what goes with its shape (language specification, proto3, "Fields", "Map Fields").
+use Rattle.std.specs.Prelude.{◌≡◌, ℕ, ◌^◌, ◌<◌, ◌≤◌, ◌⊎◌, List, true, false, IsTrue}
 use Rattle.pb_schema.specs.declared.types.Kind.{Kind}
 use Rattle.pb_schema.specs.declared.types.Kind.TheVariants as kind
 use Rattle.pb_schema.specs.declared.types.Shape.{Shape}
 use Rattle.pb_schema.specs.declared.types.Shape.TheVariants as shape
-use Rattle.pb_schema.specs.Types.{MessageView, EnumView}
-use Rattle.pb_schema.specs.Kinds.{is_key_kind, is_packable}
+use Rattle.pb_schema.specs.Types.{MessageView}
+use Rattle.pb_schema.specs.Kinds.{is_key_kind, is_packable, is_of_proto2}
 use Rattle.pb_schema.specs.Rules.Each.{EachField}
 
 -- 1 to 536,870,911, and not 19,000 to 19,999, which are kept for implementations
@@ -38,9 +36,21 @@ MayBePacked (shape.Map _) k = Unit {0}
 abbrev pub PackedArePackable : List MessageView → Type 0
 PackedArePackable ms = EachField (λ t f. MayBePacked f.shape f.kind) ms
 
+-- no value of a map is a group, or of a closed enum
+abbrev pub MayBeValue : Shape → Kind → Type 0
+MayBeValue (shape.Map _) k = is_of_proto2 k ≡ false
+MayBeValue (shape.List _) k = Unit {0}
+MayBeValue shape.Explicit k = Unit {0}
+MayBeValue shape.Implicit k = Unit {0}
+MayBeValue (shape.OneofMember _) k = Unit {0}
+
+abbrev pub ValuesMayStand : List MessageView → Type 0
+ValuesMayStand ms = EachField (λ t f. MayBeValue f.shape f.kind) ms
+
 -- a message's presence is always explicit
 abbrev pub MayBeImplicit : Shape → Kind → Type 0
 MayBeImplicit shape.Implicit (kind.Message m) = ⊥
+MayBeImplicit shape.Implicit (kind.Group m) = ⊥
 MayBeImplicit shape.Implicit kind.Double = Unit {0}
 MayBeImplicit shape.Implicit kind.Float = Unit {0}
 MayBeImplicit shape.Implicit kind.Int64 = Unit {0}
@@ -57,6 +67,7 @@ MayBeImplicit shape.Implicit kind.Sfixed64 = Unit {0}
 MayBeImplicit shape.Implicit kind.Sint32 = Unit {0}
 MayBeImplicit shape.Implicit kind.Sint64 = Unit {0}
 MayBeImplicit shape.Implicit (kind.Enum _) = Unit {0}
+MayBeImplicit shape.Implicit (kind.ClosedEnum _) = Unit {0}
 MayBeImplicit shape.Explicit k = Unit {0}
 MayBeImplicit (shape.OneofMember _) k = Unit {0}
 MayBeImplicit (shape.List _) k = Unit {0}
@@ -70,10 +81,4 @@ pub record ShapeRules (ms : List MessageView) : Type 0 where
   pub keys : KeysAreKeyKinds ms
   pub packed : PackedArePackable ms
   pub implicit : ImplicitAreScalars ms
-
-abbrev pub BeginsAtZero : List (List ℕ × ℤ) → Type 0
-BeginsAtZero [] = ⊥
-BeginsAtZero (v ∷ vs) = v.1 ≡ pos 0
-
-abbrev pub EnumsBeginAtZero : List EnumView → Type 0
-EnumsBeginAtZero es = AllByRecursion (λ e. BeginsAtZero e.values) es
+  pub values : ValuesMayStand ms

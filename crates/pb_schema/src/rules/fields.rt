@@ -93,11 +93,11 @@ fn file_of_kind(messages: &[MessageType], enums: &[EnumType], kind: Kind) -> Opt
     ensures { result ≡ file_of_kind (map message_view messages.now) (map enum_view enums.now) kind }
 {
     match kind {
-        Kind::Enum(id) => match enums.get(id.0) {
+        Kind::Enum(id) | Kind::ClosedEnum(id) => match enums.get(id.0) {
             Some(entry) => Some(entry.file),
             None => None,
         },
-        Kind::Message(id) => match messages.get(id.0) {
+        Kind::Message(id) | Kind::Group(id) => match messages.get(id.0) {
             Some(message) => Some(message.file),
             None => None,
         },

@@ -76,7 +76,9 @@ impl FieldRule for NamesKnownType {
     fn holds(&self, _message: &MessageType, field: &Field) -> bool {
         match field.kind {
             Kind::Enum(id) => id.0 < self.enums,
+            Kind::ClosedEnum(id) => id.0 < self.enums,
             Kind::Message(id) => id.0 < self.messages,
+            Kind::Group(id) => id.0 < self.messages,
             Kind::Double
             | Kind::Float
             | Kind::Int64

@@ -1,11 +1,11 @@
-//! The rules of single fields and of enums: numbers, keys, packed lists, presence, first values.
+//! The rules of single fields: numbers, keys, packed lists, presence, values of maps.
 
 ghost use Rattle.std.specs.Prelude.{◌≡◌, ◌↔◌, IsTrue, map, ℕ, length};
-ghost use Rattle.pb_schema.specs.View.{message_view, enum_view};
-ghost use Rattle.pb_schema.specs.Rules.{IsFieldNumber, NumbersAreFieldNumbers, HasKeyKind, KeysAreKeyKinds, MayBePacked, PackedArePackable, MayBeImplicit, ImplicitAreScalars, EnumsBeginAtZero};
+ghost use Rattle.pb_schema.specs.View.{message_view};
+ghost use Rattle.pb_schema.specs.Rules.{IsFieldNumber, NumbersAreFieldNumbers, HasKeyKind, KeysAreKeyKinds, MayBePacked, PackedArePackable, MayBeImplicit, ImplicitAreScalars, MayBeValue, ValuesMayStand};
 
 use crate::rules::each_field::{FieldRule, each_field};
-use crate::types::{EnumType, Field, Kind, MessageType, Shape};
+use crate::types::{Field, Kind, MessageType, Shape};
 
 struct HasFieldNumber;
 
@@ -72,6 +72,7 @@ impl FieldRule for ImplicitIsScalar {
     fn holds(&self, _message: &MessageType, field: &Field) -> bool {
         match (field.shape, field.kind) {
             (Shape::Implicit, Kind::Message(_)) => false,
+            (Shape::Implicit, Kind::Group(_)) => false,
             _ => true,
         }
     }
@@ -83,14 +84,22 @@ pub(crate) fn implicit_are_scalars(messages: &[MessageType]) -> bool
     each_field(&ImplicitIsScalar, messages)
 }
 
-pub(crate) fn enums_begin_at_zero(enums: &[EnumType]) -> bool
-    ensures { IsTrue result ↔ EnumsBeginAtZero (map enum_view enums.now) }
-{
-    for entry in enums {
-        match entry.values.first() {
-            Some((_, 0)) => {}
-            _ => return false,
+struct ValueMayStand;
+
+impl FieldRule for ValueMayStand {
+    ghost Holds = { λ _ t f. MayBeValue f.shape f.kind };
+
+    fn holds(&self, _message: &MessageType, field: &Field) -> bool {
+        match field.shape {
+            Shape::Map { key: _ } => !field.kind.is_of_proto2(),
+            Shape::Implicit | Shape::Explicit | Shape::OneofMember(_) | Shape::List { packed: _ } =>
+                { true }
         }
     }
-    true
+}
+
+pub(crate) fn values_may_stand(messages: &[MessageType]) -> bool
+    ensures { IsTrue result ↔ ValuesMayStand (map message_view messages.now) }
+{
+    each_field(&ValueMayStand, messages)
 }

@@ -6,9 +6,9 @@ use Rattle.pb_schema.specs.declared.types.Shape.TheVariants as shape
 use Rattle.pb_schema.specs.Types.{FieldView, Types, message_fields, field_numbered}
 use Rattle.pb_value.specs.Data.{Holding, Fields, Message, body, unknown_of, put_field, drop_field, holding_depth}
 use Rattle.pb_value.specs.Judge.{is_absence, has_shape}
-use Rattle.pb_value.specs.WellFormed.{IsHeld}
+use Rattle.pb_value.specs.WellFormed.{IsHeld, holds_declared}
 use Rattle.pb_value.specs.Oneof.{member_set}
-use Rattle.pb_value.specs.Cause.{or_else, unless, at_field, content_cause, parts_cause}
+use Rattle.pb_value.specs.Cause.{or_else, unless, at_field, content_cause, held_cause}
 use Rattle.pb_value.specs.declared.error.ValueError.{ValueError}
 use Rattle.pb_value.specs.declared.error.ValueError.TheVariants.{TooDeep}
 
@@ -47,12 +47,12 @@ with_fields v fs = body fs (unknown_of v)
 abbrev pub set_cause : Types → ℕ → ℕ → Holding → Option ValueError
 set_cause pool m n h =
     at_field (field_numbered n (message_fields pool m))
-    (λ f. or_else (content_cause f.shape f.kind h) (or_else (parts_cause pool f.shape f.kind h) (unless (nat_le (holding_depth h) 100) TooDeep)))
+    (λ f. or_else (content_cause f.shape f.kind h) (or_else (held_cause pool f.shape f.kind h) (unless (nat_le (holding_depth h) 100) TooDeep)))
 
 -- the content can stand at the field of number n, which has this shape
 abbrev pub Allowed : Types → ℕ → ℕ → Shape → Holding → Type 0
 Allowed pool m n s h =
-    IsSomeAnd (field_numbered n (message_fields pool m)) (λ f. (f.shape ≡ s) × (has_shape f.shape h ≡ true) × IsHeld pool f.shape f.kind h × (holding_depth h ≤ 100))
+    IsSomeAnd (field_numbered n (message_fields pool m)) (λ f. (f.shape ≡ s) × (has_shape f.shape h ≡ true) × IsHeld pool f.shape f.kind h × (holding_depth h ≤ 100) × (holds_declared pool f.kind h ≡ true))
 
 -- a field of the shape holds one value
 abbrev pub IsSingle : Shape → Type 0

@@ -1,5 +1,5 @@
 -- Why a message is not well formed: the first cause, by rising field number and then by unknown record. At one field the least cause is
--- told, then what is wrong inside its messages; a second member of a oneof is told at that member, and the depth last of all.
+-- told, a number that a closed enum doesn't declare last of these, then what is wrong inside its messages; a second member of a oneof is told at that member, and the depth last of all.
 use Rattle.std.specs.Prelude.{ℕ, List, Bool, false, not, ◌||◌, ◌==◌, nat_le, Option, Some, None}
 use Rattle.pb_schema.specs.declared.types.Kind.{Kind}
 use Rattle.pb_schema.specs.declared.types.Shape.{Shape}
@@ -10,9 +10,9 @@ use Rattle.pb_value.specs.Data.{Datum, scalar, message, Datums, no_datums, datum
 use Rattle.pb_value.specs.Judge.Forms.{is_scalar_of, holds_kind, has_shape, is_absence}
 use Rattle.pb_value.specs.Judge.Told.{or_else, unless}
 use Rattle.pb_value.specs.Judge.Unknown.{unknown_cause}
-use Rattle.pb_value.specs.WellFormed.{key_of}
+use Rattle.pb_value.specs.WellFormed.{key_of, holds_declared}
 use Rattle.pb_value.specs.declared.error.ValueError.{ValueError}
-use Rattle.pb_value.specs.declared.error.ValueError.TheVariants.{NoSuchField, WrongKind, WrongShape, DefaultStored, TwoMembers, TooDeep}
+use Rattle.pb_value.specs.declared.error.ValueError.TheVariants.{NoSuchField, WrongKind, WrongShape, DefaultStored, TwoMembers, TooDeep, NoSuchValue}
 
 -- a content that cannot stand at a field, whatever its messages hold
 abbrev pub content_cause : Shape → Kind → Holding → Option ValueError
@@ -58,6 +58,10 @@ abbrev pub in_map : Option Kind → (Kind → Option ValueError) → Option Valu
 in_map None cause = Some WrongShape
 in_map (Some key) cause = cause key
 
+-- a value has a number that its closed enum doesn't declare
+abbrev pub declared_cause : Types → Kind → Holding → Option ValueError
+declared_cause pool k h = unless (holds_declared pool k h) NoSuchValue
+
 module _ (pool : Types) where
   abbrev mutual
     pub datum_cause : Kind → Datum → Option ValueError
@@ -81,11 +85,15 @@ module _ (pool : Types) where
     pub fields_cause : List FieldView → (ℕ → Bool) → Fields → Option ValueError
     fields_cause all seen no_fields = None
     fields_cause all seen (field n h fs) =
-        or_else (at_field (field_numbered n all) (λ f. or_else (stored_cause seen f.shape f.kind h) (parts_cause f.shape f.kind h)))
+        or_else (at_field (field_numbered n all) (λ f. or_else (stored_cause seen f.shape f.kind h) (or_else (declared_cause pool f.kind h) (parts_cause f.shape f.kind h))))
         (fields_cause all (with_member (shape_at (field_numbered n all)) seen) fs)
 
     pub body_cause : ℕ → Message → Option ValueError
-    body_cause m (body fs us) = or_else (fields_cause (message_fields pool m) (λ o. false) fs) (unknown_cause (message_fields pool m) us)
+    body_cause m (body fs us) = or_else (fields_cause (message_fields pool m) (λ o. false) fs) (unknown_cause pool (message_fields pool m) us)
+
+  -- a number that isn't declared, or what is wrong inside
+  abbrev pub held_cause : Shape → Kind → Holding → Option ValueError
+  held_cause s k h = or_else (declared_cause pool k h) (parts_cause s k h)
 
   -- the depth is judged last
   abbrev pub message_cause : ℕ → Message → Option ValueError

@@ -18,6 +18,7 @@ is_scalar_of kind.Sint32 (int32 z) = true
 is_scalar_of kind.Sint64 (int64 z) = true
 is_scalar_of kind.Bool (boolean b) = true
 is_scalar_of (kind.Enum _) (enum z) = true
+is_scalar_of (kind.ClosedEnum _) (enum z) = true
 is_scalar_of kind.Fixed64 (uint64 n) = true
 is_scalar_of kind.Sfixed64 (int64 z) = true
 is_scalar_of kind.Double (double n) = true
@@ -43,6 +44,8 @@ is_scalar_of kind.Sint32 x = false
 is_scalar_of kind.Sint64 x = false
 is_scalar_of (kind.Enum _) x = false
 is_scalar_of (kind.Message _) x = false
+is_scalar_of (kind.Group _) x = false
+is_scalar_of (kind.ClosedEnum _) x = false
 
 abbrev pub is_message_kind : Kind → Bool
 is_message_kind kind.Double = false
@@ -62,6 +65,8 @@ is_message_kind kind.Sint32 = false
 is_message_kind kind.Sint64 = false
 is_message_kind (kind.Enum _) = false
 is_message_kind (kind.Message _) = true
+is_message_kind (kind.Group _) = true
+is_message_kind (kind.ClosedEnum _) = false
 
 -- a value of the kind; what a message holds is not looked into
 abbrev pub is_value_of : Kind → Datum → Bool

@@ -1,8 +1,8 @@
 -- Why unknown records cannot stand in a message: the first cause, record by record.
 use Rattle.std.specs.Prelude.{ℕ, ◌^◌, List, [], ◌∷◌, Bool, true, not, ◌&&◌, nat_lt, Option, None}
 use Rattle.pb_wire.specs.Record.{Payload, varint, fixed64, len, group, fixed32, Group, no_more, more, Record}
-use Rattle.pb_schema.specs.Types.{FieldView}
-use Rattle.pb_schema.specs.Fits.{fits_any}
+use Rattle.pb_schema.specs.Types.{FieldView, Types}
+use Rattle.pb_schema.specs.Closed.{counts}
 use Rattle.pb_value.specs.Judge.Told.{or_else, unless}
 use Rattle.pb_value.specs.declared.error.ValueError.{ValueError}
 use Rattle.pb_value.specs.declared.error.ValueError.TheVariants.{NoSuchField, KnownAsUnknown}
@@ -23,9 +23,9 @@ abbrev mutual
   is_numbered_group no_more = true
   is_numbered_group (more k p g) = is_number k && is_numbered p && is_numbered_group g
 
-abbrev pub record_cause : List FieldView → Record → Option ValueError
-record_cause fs r = or_else (unless (is_number r.number && is_numbered r.payload) NoSuchField) (unless (not (fits_any fs r)) KnownAsUnknown)
+abbrev pub record_cause : Types → List FieldView → Record → Option ValueError
+record_cause pool fs r = or_else (unless (is_number r.number && is_numbered r.payload) NoSuchField) (unless (not (counts pool fs r)) KnownAsUnknown)
 
-abbrev pub unknown_cause : List FieldView → List Record → Option ValueError
-unknown_cause fs [] = None
-unknown_cause fs (r ∷ rs) = or_else (record_cause fs r) (unknown_cause fs rs)
+abbrev pub unknown_cause : Types → List FieldView → List Record → Option ValueError
+unknown_cause pool fs [] = None
+unknown_cause pool fs (r ∷ rs) = or_else (record_cause pool fs r) (unknown_cause pool fs rs)

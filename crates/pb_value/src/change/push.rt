@@ -11,6 +11,7 @@ use crate::body::{Body, Content, Value};
 use crate::change::put_field;
 use crate::error::ValueError;
 use crate::judge::check::check_value;
+use crate::judge::declared::is_declared;
 use crate::judge::depth::{MAX_LEVELS, value_within};
 use crate::judge::is_value_of;
 use crate::lookup::field_at;
@@ -37,6 +38,9 @@ pub(crate) fn check_element(
     }
     if !matches!(field.shape, Shape::List { packed: _ }) {
         return Err(ValueError::WrongShape);
+    }
+    if !is_declared(pool, field.kind, value) {
+        return Err(ValueError::NoSuchValue);
     }
     check_value(alloc, pool, field.kind, value)?;
     if !value_within(value, MAX_LEVELS) {

@@ -1,18 +1,20 @@
 //! Whether bodies are well formed, and why not.
 
-ghost use Rattle.std.specs.Prelude.{◌≡◌, ◌<◌, ℕ, length, true, false, not, None, Some, MatchResult, OnOk};
+ghost use Rattle.std.specs.Prelude.{◌≡◌, ◌<◌, ℕ, length, true, false, not, None, Some, IfSome, MatchResult, OnOk, option_map};
 ghost use Rattle.std.specs.Ordering.{nat_cmp};
 ghost use Rattle.std.specs.BTreeSet.{contains};
 ghost use Rattle.pb_schema.specs.Types.{message_fields};
 ghost use Rattle.pb_schema.specs.Rules.{NamesType};
+ghost use Rattle.pb_schema.specs.Kinds.{message_of_kind};
 ghost use Rattle.pb_value.specs.Judge.{has_shape};
-ghost use Rattle.pb_value.specs.Cause.{content_cause, stored_cause, with_member, datum_cause, datums_cause, entries_cause, parts_cause, fields_cause, body_cause, message_cause, unless, is_second, Judges, JudgesOrFails};
-ghost use Rattle.pb_value.specs.WellFormed.{IsOfShape, IsDatum, AreDatums, AreEntries, KeysRise, IsHeld, AreFields, RisesFrom, HasOneMemberEach, IsBody, IsWellFormed};
+ghost use Rattle.pb_value.specs.Cause.{content_cause, stored_cause, with_member, datum_cause, datums_cause, entries_cause, parts_cause, held_cause, fields_cause, body_cause, message_cause, unless, is_second, Judges, JudgesOrFails};
+ghost use Rattle.pb_value.specs.WellFormed.{IsOfShape, IsDatum, AreDatums, AreEntries, KeysRise, IsHeld, holds_declared, AreFields, RisesFrom, HasOneMemberEach, IsBody, IsWellFormed};
 ghost use Rattle.pb_value.specs.View.{value_view, content_view, body_view, values_view, entries_view, fields_view};
 ghost use Rattle.pb_value.specs.declared.error.ValueError.TheVariants.{TwoMembers};
 
 use crate::body::{Body, Content, MapKey, Value};
 use crate::error::ValueError;
+use crate::judge::declared::holds_declared;
 use crate::judge::depth::{MAX_LEVELS, message_within};
 use crate::judge::unknown::check_unknown;
 use crate::judge::{has_shape, holds_kind, is_absence, is_key_of, is_value_of};
@@ -64,6 +66,17 @@ fn check_stored(
     add_member(shape, members)
 }
 
+/// The message type of a kind: of a message, or of one that is written as a group.
+pub(crate) fn message_type(kind: Kind) -> Option<MessageId>
+    ensures named { option_map (λ m. m.0) result ≡ message_of_kind kind }
+    ensures within { (messages enums : ℕ) → NamesType messages enums kind → IfSome result (λ m. m.0 < messages) }
+{
+    match kind {
+        Kind::Message(id) | Kind::Group(id) => Some(id),
+        _ => None,
+    }
+}
+
 /// Whether a value is a well-formed one of a kind.
 #[cycle(check)]
 pub(crate) fn check_value(
@@ -76,7 +89,7 @@ pub(crate) fn check_value(
     ensures { JudgesOrFails result (datum_cause pool.now kind (value_view value.now)) (IsDatum pool.now kind (value_view value.now)) }
 {
     if let Value::Message(message) = value {
-        let Kind::Message(id) = kind else {
+        let Some(id) = message_type(kind) else {
             return Err(ValueError::WrongKind);
         };
         return check_body(alloc, pool, id, message);
@@ -125,7 +138,7 @@ fn check_entries(
 
 /// Whether what a content holds is well formed.
 #[cycle(check)]
-pub(crate) fn check_parts(
+fn check_parts(
     alloc: Global,
     pool: &Pool,
     shape: Shape,
@@ -147,6 +160,24 @@ pub(crate) fn check_parts(
     }
 }
 
+/// Whether what a content holds is well formed, and each number one that its closed enum declares.
+#[cycle(check)]
+pub(crate) fn check_held(
+    alloc: Global,
+    pool: &Pool,
+    shape: Shape,
+    kind: Kind,
+    content: &Content,
+) -> Result<(), ValueError>
+    requires { NamesType (length pool.now.messages) (length pool.now.enums) kind }
+    ensures { JudgesOrFails result (held_cause pool.now shape kind (content_view content.now)) (IsHeld pool.now shape kind (content_view content.now) × (holds_declared pool.now kind (content_view content.now) ≡ true)) }
+{
+    if !holds_declared(pool, kind, content) {
+        return Err(ValueError::NoSuchValue);
+    }
+    check_parts(alloc, pool, shape, kind, content)
+}
+
 #[cycle(check)]
 fn check_fields(
     alloc: Global,
@@ -163,7 +194,7 @@ fn check_fields(
             return Err(ValueError::NoSuchField);
         };
         check_stored(field.shape, field.kind, content, &mut members)?;
-        check_parts(alloc, pool, field.shape, field.kind, content)?;
+        check_held(alloc, pool, field.shape, field.kind, content)?;
     }
     Ok(())
 }

@@ -1,17 +1,22 @@
 //! Whether records are unknown to a type, and can be written.
 
-ghost use Rattle.std.specs.Prelude.{◌≡◌, ◌<◌, length, IsTrue, true, None, Some, MatchResult};
+ghost use Rattle.std.specs.Prelude.{◌≡◌, ◌<◌, ◌%◌, ◌^◌, ◌&&◌, not, length, IsTrue, true, None, Some, MatchResult};
+ghost use Rattle.std.specs.Int.{cast_signed, w32};
 ghost use Rattle.pb_wire.specs.Record.{wire_type, group_of};
 ghost use Rattle.pb_wire.specs.Unknown.{payload_of, records_of};
 ghost use Rattle.pb_wire.specs.Ranges.{AreBytes, IsInRange, AreInRange};
 ghost use Rattle.pb_schema.specs.Types.{message_fields};
+ghost use Rattle.pb_schema.specs.View.{field_view};
+ghost use Rattle.pb_schema.specs.Rules.{NamesType};
+ghost use Rattle.pb_schema.specs.Fits.{fits_type};
+ghost use Rattle.pb_schema.specs.Closed.{closed_of, is_undeclared};
 ghost use Rattle.pb_value.specs.Cause.{is_number, is_numbered, is_numbered_group, record_cause, unknown_cause, Judges};
 ghost use Rattle.pb_value.specs.WellFormed.{IsUnknown, AreUnknown};
 ghost use Rattle.pb_value.specs.Canon.{record_of};
 
 use crate::error::ValueError;
 use crate::lookup::field_at;
-use pb_schema::{MessageId, Pool, fits};
+use pb_schema::{Field, Kind, MessageId, Pool, Shape, fits};
 use pb_wire::Unknown;
 
 /// The least number above those that a record may have.
@@ -78,6 +83,38 @@ fn wire_type(payload: &Unknown) -> u8
     }
 }
 
+/// Whether a payload is a number that the closed enum of a field doesn't declare.
+fn is_undeclared(pool: &Pool, field: &Field, payload: &Unknown) -> bool
+    requires { NamesType (length pool.now.messages) (length pool.now.enums) field.now.kind }
+    ensures { result ≡ is_undeclared pool.now (closed_of (Some (field_view field.now))) (payload_of payload.now) }
+{
+    if matches!(field.shape, Shape::Map { key: _ }) {
+        return false;
+    }
+    let Kind::ClosedEnum(id) = field.kind else {
+        return false;
+    };
+    let Unknown::Varint(number) = payload else {
+        return false;
+    };
+    !pool.declares(id, low_half(*number))
+}
+
+/// The low 32 bits of a number as a two's complement.
+fn low_half(number: u64) -> i32
+    ensures { result ≡ cast_signed w32 (number % 2 ^ 32) }
+{
+    ((number % 0x1_0000_0000) as u32).cast_signed()
+}
+
+/// Whether a payload counts for the field of its number.
+fn is_known(pool: &Pool, field: &Field, payload: &Unknown) -> bool
+    requires { NamesType (length pool.now.messages) (length pool.now.enums) field.now.kind }
+    ensures { result ≡ (fits_type (field_view field.now) (wire_type (payload_of payload.now)) && not (is_undeclared pool.now (closed_of (Some (field_view field.now))) (payload_of payload.now))) }
+{
+    fits(field, wire_type(payload)) && !is_undeclared(pool, field, payload)
+}
+
 fn check_record(
     pool: &Pool,
     kind: MessageId,
@@ -85,13 +122,13 @@ fn check_record(
     payload: &Unknown,
 ) -> Result<(), ValueError>
     requires { kind.0 < length pool.now.messages }
-    ensures { let fs = message_fields pool.now kind.0 in let r = record_of number (payload_of payload.now) in Judges result (record_cause fs r) (IsUnknown fs r) }
+    ensures { let fs = message_fields pool.now kind.0 in let r = record_of number (payload_of payload.now) in Judges result (record_cause pool.now fs r) (IsUnknown pool.now fs r) }
 {
     if !is_number(number) || !is_numbered(payload) {
         return Err(ValueError::NoSuchField);
     }
     if let Some(field) = field_at(pool, kind, number) {
-        if fits(field, wire_type(payload)) {
+        if is_known(pool, field, payload) {
             return Err(ValueError::KnownAsUnknown);
         }
     }
@@ -105,7 +142,7 @@ pub(crate) fn check_unknown(
     records: &[(u32, Unknown)],
 ) -> Result<(), ValueError>
     requires { kind.0 < length pool.now.messages }
-    ensures { let fs = message_fields pool.now kind.0 in Judges result (unknown_cause fs (records_of records.now)) (AreUnknown fs (records_of records.now)) }
+    ensures { let fs = message_fields pool.now kind.0 in Judges result (unknown_cause pool.now fs (records_of records.now)) (AreUnknown pool.now fs (records_of records.now)) }
 {
     for (number, payload) in records {
         check_record(pool, kind, *number, payload)?;

@@ -1,13 +1,16 @@
--- A group with no records is open.
-use Rattle.std.proofs.Common.{ap, ◌∙◌}
-use Rattle.pb_wire.specs.Unknown.{records_of}
-use Rattle.pb_decode.specs.PartView.{scope_view}
-use Rattle.pb_decode.proofs.GroupSteps.{group_opened}
+-- A record that opens a message opens it, and another one an unknown group.
+use Rattle.std.proofs.Common.{subst}
+use Rattle.pb_decode.specs.PartView.{part_view}
+use Rattle.pb_decode.specs.Purposes.{Means, part_context}
+use Rattle.pb_decode.proofs.GroupSteps.{unknown_group_means}
 use Rattle.pb_decode.proofs.open.open_group.Goals as goal
 
-pub returns : goal.returns
-returns c =
-    λ pool m depth levels base p0 q u frames ok can s some has.
-    rw (c.replace-outer.ensures.after, c.replace-around.ensures.after, c.replace-outer.ensures.value, c.replace-around.ensures.value)
-    (group_opened c.args.number (scope_view c.new_scope-inner.result) (records_of c.new.result.items) ok can s some has (ap records_of c.new.ensures.items)
-    (c.new_scope-inner.ensures.room ∙ c.saturating_sub.ensures) c.new_scope-inner.ensures.end c.new_scope-inner.ensures.none)
+pub returns-in-Some : goal.returns-in-Some
+returns-in-Some c =
+    λ pool m depth levels base p0 q u frames ok can means s some has.
+    c.open_field_group.ensures pool m depth levels base p0 q u frames ok can (subst (Means pool (part_context (part_view c.args.part.now)) c.args.number 3) c.in-Some.ensures.some means) s some has
+
+pub returns-in-None : goal.returns-in-None
+returns-in-None c =
+    λ pool m depth levels base p0 q u frames ok can means s some has.
+    c.open_unknown_group.ensures pool m depth levels base p0 q u frames ok can (unknown_group_means pool (part_view c.args.part.now) c.args.number c.args.meant can means c.in-None.ensures.none) s some has

@@ -20,7 +20,7 @@ returns-clause-taken c =
     λ m depth levels base p0 begun.
     let there = subst (λ (z : Step). After c.args.pool.now m depth levels base p0 (frames_view c.args.reader.now.frames.items) z (part_view c.args.reader.now.part) (scope_view c.args.reader.now.scope) (here (state_view c.args.reader.now) c.args.bytes.now)) c.requires.step begun in
     let given = subst (λ (z : Option ℕ). After c.args.pool.now m depth levels base p0 (frames_view c.args.reader.now.frames.items) (Elements c.args.number c.args.kind c.args.outer) (part_view c.args.reader.now.part) (scope_view c.args.reader.now.scope) (given_at c.args.reader.now.at z c.args.bytes.now)) (sym c.left.ensures) there in
-    let put = c.in_ok-values.ensures.put c.args.pool.now m depth levels c.args.reader.now.at c.args.number c.args.outer base p0 (frames_view c.args.reader.now.frames.items) (scope_view c.args.reader.now.scope) (part_view c.args.reader.now.part) given in
+    let put = c.in_ok-values.ensures.put m depth levels c.args.reader.now.at c.args.number c.args.outer base p0 (frames_view c.args.reader.now.frames.items) (scope_view c.args.reader.now.scope) (part_view c.args.reader.now.part) given in
     let back = subst (λ (z : Option ℕ). After c.args.pool.now m depth levels base p0 (frames_view c.args.reader.now.frames.items) (Elements c.args.number c.args.kind c.args.outer) (put_each c.args.number (map value_view c.in_ok-values.values.items) (part_view c.args.reader.now.part)) (scope_view c.args.reader.now.scope) (passed (given_at c.args.reader.now.at z c.args.bytes.now) c.in_ok-values.size)) c.left.ensures put in
     after_reads (state_view c.args.reader.now)
     (record { at = c.args.reader.now.at + c.in_ok-values.size; now = part_view c.put_elements.new.part; scope = scope_view c.args.reader.now.scope; frames = frames_view c.args.reader.now.frames.items; next = c.args.reader.now.step })

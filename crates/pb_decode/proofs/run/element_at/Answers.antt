@@ -20,11 +20,11 @@ returns-in-Some-clause-within c = let told = c.in-Whole.ensures 0 in (size_some 
 
 pub returns-in-Some-clause-put : goal.returns-in-Some-clause-put
 returns-in-Some-clause-put c =
-    λ pool m depth levels at number outer base p0 frames scope now begun.
+    λ m depth levels at number outer base p0 frames scope now begun.
     let told = c.in-Whole.ensures at in
     let type = told.0 ∙ c.wire_type.ensures in
     let there = read_some c.args.kind c.in-Whole.number type in
     let both : Some (value_view c.in-Some.value) ≡ Some (scalar there.0) = sym (ap (option_map value_view) c.in-Some.is) ∙ c.number_value.ensures ∙ ap (option_map scalar) there.1 in
     let same : value_view c.in-Some.value ≡ scalar there.0 = cc in
-    element_put number c.args.kind outer c.in-Whole.number there.0 (put_each number (value_view c.in-Some.value ∷ []) now) begun type there.1 told.2
-    (listed_is pool number c.args.kind now (value_view c.in-Some.value) ∙ ap (put_datum pool number (Element c.args.kind) now) same)
+    element_put number c.args.kind outer c.in-Whole.number there.0 (put_each number (value_view c.in-Some.value ∷ []) now) begun type there.1 (sym c.is_undeclared.ensures ∙ c.if-is_undeclared.false) told.2
+    (listed_is c.args.pool.now number c.args.kind now (value_view c.in-Some.value) ∙ ap (put_datum c.args.pool.now number (Element c.args.kind) now) same)

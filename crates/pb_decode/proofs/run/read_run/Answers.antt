@@ -21,19 +21,19 @@ loop-value-preserved c =
     let within = c.in-Some.ensures.within.1 in
     record {
       within = omega (arith, size, within);
-      put = λ pool m depth levels at number outer base p0 frames scope now begun.
+      put = λ m depth levels at number outer base p0 frames scope now begun.
           let p : Place = given_at at c.args.left c.args.bytes.now in
           let behind = place_behind at c.args.left c.left_behind.result c.args.bytes.now c.loop-value.here c.left_behind.ensures in
           let was =
-          subst (After pool m depth levels base p0 frames (Elements number c.args.kind outer) (put_each number (map value_view c.loop-value.values.items) now) scope) behind
-          (c.loop-value.invariant.put pool m depth levels at number outer base p0 frames scope now begun) in
-          let more = c.in-Some.ensures.put pool m depth levels (at + c.loop-value.here) number outer base p0 frames scope (put_each number (map value_view c.loop-value.values.items) now) was in
+          subst (After c.args.pool.now m depth levels base p0 frames (Elements number c.args.kind outer) (put_each number (map value_view c.loop-value.values.items) now) scope) behind
+          (c.loop-value.invariant.put m depth levels at number outer base p0 frames scope now begun) in
+          let more = c.in-Some.ensures.put m depth levels (at + c.loop-value.here) number outer base p0 frames scope (put_each number (map value_view c.loop-value.values.items) now) was in
           let there =
-          subst (After pool m depth levels base p0 frames (Elements number c.args.kind outer) (put_each number (value_view c.in-Some.value ∷ []) (put_each number (map value_view c.loop-value.values.items) now)) scope)
+          subst (After c.args.pool.now m depth levels base p0 frames (Elements number c.args.kind outer) (put_each number (value_view c.in-Some.value ∷ []) (put_each number (map value_view c.loop-value.values.items) now)) scope)
           (ap (λ (z : Place). passed z c.in-Some.size) (sym behind) ∙ passed_twice p c.loop-value.here c.in-Some.size) more in
           let part : put_each number (value_view c.in-Some.value ∷ []) (put_each number (map value_view c.loop-value.values.items) now) ≡ put_each number (map value_view c.push.new.self.items) now =
           sym
           (ap (λ (z : List Value). put_each number (map value_view z) now) c.in_ok-push.ensures.items ∙ ap (λ (z : List Datum). put_each number z now) (map-append value_view c.loop-value.values.items (c.in-Some.value ∷ []))
           ∙ each_next number (map value_view c.loop-value.values.items) (value_view c.in-Some.value) now) in
-          subst (λ (z : Part). After pool m depth levels base p0 frames (Elements number c.args.kind outer) z scope (passed p (c.loop-value.here + c.in-Some.size))) part there;
+          subst (λ (z : Part). After c.args.pool.now m depth levels base p0 frames (Elements number c.args.kind outer) z scope (passed p (c.loop-value.here + c.in-Some.size))) part there;
     }

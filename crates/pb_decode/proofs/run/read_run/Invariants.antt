@@ -2,7 +2,6 @@ use Rattle.std.proofs.Common.{◌-◌, ◌≤◌, ℕ, List, Option, map, length
 use Rattle.pb_wire.specs.Record.{Record}
 use Rattle.pb_wire.specs.Fault.{Place}
 use Rattle.pb_wire.specs.Token.{given_at, passed}
-use Rattle.pb_schema.specs.Types.{Types}
 use Rattle.pb_value.specs.View.{value_view}
 use Rattle.pb_decode.specs.declared.step.Step.TheVariants.{Elements}
 use Rattle.pb_decode.specs.Frames.{Part, Frame, Scope}
@@ -14,9 +13,9 @@ abbrev pub invariant-loop-value : goal.invariant-loop-value
 invariant-loop-value l = record {
   within : l.here ≤ length l.bytes;
   put :
-      (pool : Types) (m depth levels at number : ℕ) (outer : Option ℕ) (base : List Record) (p0 : Place) (frames : List Frame) (scope : Scope) (now : Part)
-      → After pool m depth levels base p0 frames (Elements number l.kind outer) now scope (given_at at l.left l.bytes)
-      → After pool m depth levels base p0 frames (Elements number l.kind outer) (put_each number (map value_view l.values.items) now) scope (passed (given_at at l.left l.bytes) l.here);
+      (m depth levels at number : ℕ) (outer : Option ℕ) (base : List Record) (p0 : Place) (frames : List Frame) (scope : Scope) (now : Part)
+      → After l.pool m depth levels base p0 frames (Elements number l.kind outer) now scope (given_at at l.left l.bytes)
+      → After l.pool m depth levels base p0 frames (Elements number l.kind outer) (put_each number (map value_view l.values.items) now) scope (passed (given_at at l.left l.bytes) l.here);
 }
 
 abbrev pub decreases-loop-value : goal.decreases-loop-value

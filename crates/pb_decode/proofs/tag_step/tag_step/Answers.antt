@@ -9,7 +9,7 @@ pub returns-then-not-has_room-clause-too_deep : goal.returns-then-not-has_room-c
 returns-then-not-has_room-clause-too_deep c =
     λ m depth levels base p0 q u frames scope s room has.
     let deep = c.if-not-has_room.ensures.deep refl in
-    too_deep_told c.args.number c.args.wire_type c.purpose_of-purpose.result s has c.purpose_of-purpose.ensures deep.0 (room ∙ deep.1)
+    too_deep_told c.args.number c.args.wire_type c.purpose_of-purpose.result s has c.purpose_of-purpose.ensures deep.0 c.requires.no_start (room ∙ deep.1)
 
 pub returns-clause-goes_on : goal.returns-clause-goes_on
 returns-clause-goes_on c =

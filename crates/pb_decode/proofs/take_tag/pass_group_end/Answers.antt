@@ -3,7 +3,7 @@ use Rattle.std.proofs.Common.{◌≡◌, List, Some, refl, sym, ap, ◌∙◌}
 use Rattle.pb_wire.specs.Fault.{fault}
 use Rattle.pb_wire.specs.Token.{passed}
 use Rattle.pb_decode.specs.declared.part.Frame.{Frame}
-use Rattle.pb_decode.specs.Openings.{innermost_number}
+use Rattle.pb_decode.specs.Openings.{innermost_group}
 use Rattle.pb_decode.specs.PartView.{part_view, scope_view}
 use Rattle.pb_decode.specs.Reader.{state_view, frames_view, here, path_here}
 use Rattle.pb_decode.proofs.ReaderLemmas.{fault_told}
@@ -11,19 +11,22 @@ use Rattle.pb_decode.proofs.EndedLemmas.{standing}
 use Rattle.pb_decode.proofs.TagTaken.{refused_at_tag}
 use Rattle.pb_decode.proofs.take_tag.pass_group_end.Goals as goal
 
+pub leave_group-requires-clause-group : goal.leave_group-requires-clause-group
+leave_group-requires-clause-group c = (c.args.number, ap (λ (z : List Frame). innermost_group (frames_view z)) (sym c.deref.ensures.value) ∙ sym c.innermost.ensures ∙ c.in-Ok.ensures.ends refl)
+
 pub returns-in_ok-leave_group-in-Ok-clause-reads : goal.returns-in_ok-leave_group-in-Ok-clause-reads
 returns-in_ok-leave_group-in-Ok-clause-reads c =
-    λ pool m depth levels base p0 rest begun has.
+    λ m depth levels base p0 rest begun has.
     let ends = c.in-Ok.ensures.ends refl in
-    let inner : innermost_number (frames_view c.args.reader.now.frames.items) ≡ Some c.args.number =
-    ap (λ (z : List Frame). innermost_number (frames_view z)) (sym c.deref.ensures.value) ∙ sym c.innermost.ensures ∙ ends.1 in
-    c.in_ok-leave_group-in-Ok.ensures.reads pool m depth levels c.args.number base p0 rest begun inner has
+    let inner : innermost_group (frames_view c.args.reader.now.frames.items) ≡ Some c.args.number =
+    ap (λ (z : List Frame). innermost_group (frames_view z)) (sym c.deref.ensures.value) ∙ sym c.innermost.ensures ∙ ends in
+    c.in_ok-leave_group-in-Ok.ensures.reads m depth levels c.args.number base p0 rest begun inner has
 
 pub returns-in-Err-clause-refused : goal.returns-in-Err-clause-refused
 returns-in-Err-clause-refused c =
-    λ pool m depth levels base p0 rest begun has.
+    λ m depth levels base p0 rest begun has.
     fault_told c.fault_at.result (fault c.args.reader.now.at (path_here (state_view c.args.reader.now)) c.in-Err.cause) c.fault_at.ensures
     (refused_at_tag (state_view c.args.reader.now) c.in-Err.cause c.requires.step c.in-Err.ensures.settled
-    (c.in-Err.ensures.refused pool m depth levels base p0 (here (state_view c.args.reader.now) rest) (passed (here (state_view c.args.reader.now) rest) c.args.size) (frames_view c.args.reader.now.frames.items) (scope_view c.args.reader.now.scope)
+    (c.in-Err.ensures.refused c.args.pool.now m depth levels base p0 (here (state_view c.args.reader.now) rest) (passed (here (state_view c.args.reader.now) rest) c.args.size) (frames_view c.args.reader.now.frames.items) (scope_view c.args.reader.now.scope) (part_view c.args.reader.now.part)
     (standing (state_view c.args.reader.now) rest (frames_view c.args.reader.now.frames.items) (part_view c.args.reader.now.part) begun c.requires.step refl refl)
-    (c.innermost.ensures ∙ ap (λ (z : List Frame). innermost_number (frames_view z)) c.deref.ensures.value) has))
+    (c.innermost.ensures ∙ ap (λ (z : List Frame). innermost_group (frames_view z)) c.deref.ensures.value) has))

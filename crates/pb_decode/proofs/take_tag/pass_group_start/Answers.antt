@@ -22,4 +22,4 @@ returns-in-Some-clause-refused c =
     })
 
 pub returns-in_ok-enter_group-in-None-clause-reads : goal.returns-in_ok-enter_group-in-None-clause-reads
-returns-in_ok-enter_group-in-None-clause-reads c = λ pool m depth levels base p0 rest ok can begun has. c.in_ok-enter_group-in-None.ensures.reads pool m depth levels base p0 rest ok can begun has
+returns-in_ok-enter_group-in-None-clause-reads c = λ pool m depth levels base p0 rest ok can means begun has. c.in_ok-enter_group-in-None.ensures.reads pool m depth levels base p0 rest ok can means begun has

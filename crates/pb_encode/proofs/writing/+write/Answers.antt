@@ -1,6 +1,6 @@
 use Rattle.std.proofs.Common.{rules, refl, ap, sym, ◌∙◌, append-nil, option_map}
 use Rattle.pb_schema.specs.declared.types.Kind.{Kind}
-use Rattle.pb_schema.specs.Kinds.{written, message_of_kind}
+use Rattle.pb_schema.specs.Kinds.{written}
 use Rattle.pb_schema.specs.Types.{message_fields}
 use Rattle.pb_schema.specs.View.{field_view}
 use Rattle.pb_schema.specs.PayloadView.{payload_view}
@@ -8,7 +8,7 @@ use Rattle.pb_value.specs.Canon.{canon_bytes, key_kind, payload_of}
 use Rattle.pb_value.specs.View.{key_view, value_view, values_view, body_view}
 use Rattle.pb_value.proofs.Views.{body_view-out, value_view-Message, content_view-One, content_view-List, content_view-Map}
 use Rattle.pb_encode.specs.Sizes.{is_plain}
-use Rattle.pb_encode.proofs.WriteLemmas.{to_write_start, to_write_lost, writes_same, writes_sealed, writes_datum, writes_message, writes_message_lost, write_fields_start, write_fields_step, write_fields_skip, write_fields_end, write_entries_start, write_entries_step, write_entries_end, writes_entry, write_values_step, write_values_end, writes_packed, writes_unpacked, writes_scalar, plain_value, plain_kind}
+use Rattle.pb_encode.proofs.WriteLemmas.{to_write_start, to_write_lost, writes_same, writes_sealed, writes_datum, writes_group, writes_group_lost, writes_message, writes_message_lost, write_fields_start, write_fields_step, write_fields_skip, write_fields_end, write_entries_start, write_entries_step, write_entries_end, writes_entry, write_values_step, write_values_end, writes_packed, writes_unpacked, writes_scalar, plain_value, plain_kind}
 use Rattle.pb_encode.proofs.writing.+write.Goals as goal
 
 pub write_content-returns-in-One : goal.write_content-returns-in-One
@@ -79,7 +79,7 @@ write_message-returns g t c =
 pub write_value-returns-in-Message-kind : goal.write_value-returns-in-Message-kind
 write_value-returns-in-Message-kind g t c =
     let b = body_view c.in-Message.body in
-    writes_datum {d1 = c.write_message-next.new.out} {b = c.write_message-next.new.sink} c.args.pool.now c.args.kind (value_view c.args.value.now) b c.in-Message-kind.id.0 c.args.number (ap value_view c.in-Message.is ∙ value_view-Message c.in-Message.body) (ap message_of_kind c.in-Message-kind.is)
+    writes_datum {d1 = c.write_message-next.new.out} {b = c.write_message-next.new.sink} c.args.pool.now c.args.kind (value_view c.args.value.now) b c.in-Message-kind.id c.args.number (ap value_view c.in-Message.is ∙ value_view-Message c.in-Message.body) c.in-Message-kind.is
     (writes_sealed c.args.number c.next_length-size.result.0 (canon_bytes c.args.pool.now c.in-Message-kind.id.0 b) c.next_length-size.ensures (rw c.from.ensures at c.put_prefix.ensures) c.write_message-next.ensures)
 
 pub write_value-returns-in_default : goal.write_value-returns-in_default
@@ -89,7 +89,7 @@ write_value-returns-in_default g t c =
 pub write_value-returns-in_default-kind : goal.write_value-returns-in_default-kind
 write_value-returns-in_default-kind g t c =
     writes_scalar c.args.pool.now c.args.kind (value_view c.args.value.now) c.args.number (payload_view c.scalar_payload.result)
-    (ap (is_plain c.args.kind) (ap value_view c.in-Message.is ∙ value_view-Message c.in-Message.body) ∙ plain_kind c.args.kind (body_view c.in-Message.body) c.in_default-kind.not-Message) c.scalar_payload.ensures c.put_scalar.ensures
+    (ap (is_plain c.args.kind) (ap value_view c.in-Message.is ∙ value_view-Message c.in-Message.body) ∙ plain_kind c.args.kind (body_view c.in-Message.body) c.in_default-kind.not-Message c.in_default-kind.not-Group) c.scalar_payload.ensures c.put_scalar.ensures
 
 pub write_values-loop-value-init : goal.write_values-loop-value-init
 write_values-loop-value-init g t c = to_write_start _ _ _ _
@@ -105,3 +105,13 @@ write_values-loop-value-preserved g t c =
 pub write_values-returns : goal.write_values-returns
 write_values-returns g t c =
     write_values_end c.args.pool.now (field_view c.args.field.now) c.args.values.now.items c.loop-value.value-index (rw c.deref-value-items.ensures.value at c.loop-value-test.false) c.loop-value.invariant
+
+pub write_value-returns-then-has_failed : goal.write_value-returns-then-has_failed
+write_value-returns-then-has_failed g t c =
+    writes_group_lost c.args.pool.now c.args.kind (value_view c.args.value.now) (body_view c.in-Message.body) c.in-Group.id c.args.number (ap value_view c.in-Message.is ∙ value_view-Message c.in-Message.body) c.in-Group.is
+    c.put_tag.ensures c.write_message-behind.ensures (sym c.has_failed.ensures ∙ c.if-has_failed.true)
+
+pub write_value-returns-else-has_failed : goal.write_value-returns-else-has_failed
+write_value-returns-else-has_failed g t c =
+    writes_group c.args.pool.now c.args.kind (value_view c.args.value.now) (body_view c.in-Message.body) c.in-Group.id c.args.number (ap value_view c.in-Message.is ∙ value_view-Message c.in-Message.body) c.in-Group.is
+    c.put_tag.ensures c.write_message-behind.ensures (sym c.has_failed.ensures ∙ c.if-has_failed.false) c.put_tag-in-Group.ensures

@@ -20,7 +20,7 @@ check_fields-loop-number-preserved t c =
     let p = fields_go_on c.args.pool.now (message_fields c.args.pool.now c.args.kind.0) c.loop-number.members c.check_stored.new.members
     c.args.fields.now.entries c.loop-number.number-iterator c.next.new.self c.in-Some.number.now c.in-Some.content.now
     (field_view c.in-Some-field_at.field.now) (search rules) (sym c.in-Some-field_at.ensures.found) c.in_ok-check_stored.ensures.judged
-    c.in_ok-check_parts.ensures c.in_ok-check_stored.ensures.added c.loop-number.invariant.cause c.loop-number.invariant.good in
+    c.in_ok-check_held.ensures c.in_ok-check_stored.ensures.added c.loop-number.invariant.cause c.loop-number.invariant.good in
     record { cause = p.0; good = p.1 }
 
 pub check_fields-returns : goal.check_fields-returns

@@ -4,13 +4,13 @@ use Rattle.pb_schema.specs.View.{field_view}
 use Rattle.pb_value.proofs.CheckLemmas.{record_known, record_unfit, record_other}
 use Rattle.pb_value.proofs.judge.unknown.check_record.Goals as goal
 
-pub returns-then-fits : goal.returns-then-fits
-returns-then-fits c =
+pub returns-then-is_known : goal.returns-then-is_known
+returns-then-is_known c =
     record_known c.args.pool.now c.args.kind.0 c.args.number (payload_of c.args.payload.now) (field_view c.in-Some.field.now) c.in-Some.ensures.rules (search rules)
     (search rules) (sym c.in-Some.ensures.found) (search rules)
 
-pub returns-else-fits : goal.returns-else-fits
-returns-else-fits c =
+pub returns-else-is_known : goal.returns-else-is_known
+returns-else-is_known c =
     record_unfit c.args.pool.now c.args.kind.0 c.args.number (payload_of c.args.payload.now) (field_view c.in-Some.field.now) c.in-Some.ensures.rules (search rules)
     (search rules) (c.is_numbered.ensures.in_range (search rules)) (sym c.in-Some.ensures.found) (search rules)
 
