@@ -1,5 +1,5 @@
 -- The messages that a field holds, what they declare, why they are refused, and how deep they are.
-use Rattle.std.proofs.Common.{◌≡◌, ℕ, zero, suc, ◌+◌, ◌*◌, ◌<◌, ◌≤◌, List, [], ◌∷◌, ◌++◌, map, flat_map, length, get_or, Option, Some, refl, sym, ap, ◌∙◌, arith, append-nil}
+use Rattle.std.proofs.Common.{◌≡◌, ℕ, zero, suc, ◌+◌, ◌*◌, ◌<◌, ◌≤◌, List, [], ◌∷◌, ◌++◌, Bool, map, flat_map, length, get_or, Option, Some, refl, sym, ap, ◌∙◌, arith, append-nil}
 use Rattle.std.specs.Prelude.{max}
 use Rattle.std.specs.declared.cmp.Ordering.{Ordering}
 use Rattle.std.specs.declared.cmp.Ordering.TheVariants.{Less, Equal, Greater}
@@ -43,30 +43,31 @@ message_in-fields (one_message (body fs us)) = ap (message (head_in fs)) (messag
 
 -- WHY THEY ARE REFUSED
 
-listed_causes_elements : (ds : Datums) → messages_listed_causes ds ≡ flat_map message_causes (elements ds)
-listed_causes_elements no_datums = refl
-listed_causes_elements (datum d ds) = ap (λ cs. message_causes d ++ cs) (listed_causes_elements ds)
+listed_causes_elements : (two : Bool) (ds : Datums) → messages_listed_causes two ds ≡ flat_map (message_causes two) (elements ds)
+listed_causes_elements two no_datums = refl
+listed_causes_elements two (datum d ds) = ap (λ cs. message_causes two d ++ cs) (listed_causes_elements two ds)
 
-causes_elements : (h : Holding) → messages_causes h ≡ flat_map message_causes (list_held (Some h))
-causes_elements (one d) = refl
-causes_elements (list ds) = listed_causes_elements ds
-causes_elements (a_map es) = refl
+causes_elements : (two : Bool) (h : Holding) → messages_causes two h ≡ flat_map (message_causes two) (list_held (Some h))
+causes_elements two (one d) = refl
+causes_elements two (list ds) = listed_causes_elements two ds
+causes_elements two (a_map es) = refl
 
-abbrev causes_in : Option Holding → List DeclCause
-causes_in o = flat_map message_causes (list_held o)
+abbrev causes_in : Bool → Option Holding → List DeclCause
+causes_in two o = flat_map (message_causes two) (list_held o)
 
-pub messages_at_causes-data : (n : ℕ) (fs : Fields) → messages_at_causes n fs ≡ flat_map message_causes (data_at n fs)
-messages_at_causes-data n no_fields = refl
-messages_at_causes-data n (field k h fs) = by_order (nat_cmp n k) (messages_at_causes-data n fs)
+pub messages_at_causes-data : (two : Bool) (n : ℕ) (fs : Fields) → messages_at_causes two n fs ≡ flat_map (message_causes two) (data_at n fs)
+messages_at_causes-data two n no_fields = refl
+messages_at_causes-data two n (field k h fs) = by_order (nat_cmp n k) (messages_at_causes-data two n fs)
   where
-    by_order : (c : Ordering) → messages_at_causes n fs ≡ causes_in (get_field n fs) → match_ordering c (messages_at_causes n fs) (messages_causes h) (messages_at_causes n fs) ≡ causes_in (match_ordering c (get_field n fs) (Some h) (get_field n fs))
+    by_order :
+        (c : Ordering) → messages_at_causes two n fs ≡ causes_in two (get_field n fs) → match_ordering c (messages_at_causes two n fs) (messages_causes two h) (messages_at_causes two n fs) ≡ causes_in two (match_ordering c (get_field n fs) (Some h) (get_field n fs))
     by_order Less rest = rest
-    by_order Equal rest = causes_elements h
+    by_order Equal rest = causes_elements two h
     by_order Greater rest = rest
 
-pub message_causes-fields : (d : Datum) → message_causes d ≡ head_causes (fields_in d) ++ flat_map message_causes (data_at 3 (fields_in d)) ++ flat_map listed_causes (data_at 4 (fields_in d))
-message_causes-fields (scalar x) = sym (append-nil (head_causes no_fields ++ []) ∙ append-nil (head_causes no_fields))
-message_causes-fields (one_message (body fs us)) = ap (λ cs. head_causes fs ++ cs ++ flat_map listed_causes (data_at 4 fs)) (messages_at_causes-data 3 fs)
+pub message_causes-fields : (two : Bool) (d : Datum) → message_causes two d ≡ head_causes two (fields_in d) ++ flat_map (message_causes two) (data_at 3 (fields_in d)) ++ flat_map listed_causes (data_at 4 (fields_in d))
+message_causes-fields two (scalar x) = sym (append-nil (head_causes two no_fields ++ []) ∙ append-nil (head_causes two no_fields))
+message_causes-fields two (one_message (body fs us)) = ap (λ cs. head_causes two fs ++ cs ++ flat_map listed_causes (data_at 4 fs)) (messages_at_causes-data two 3 fs)
 
 -- HOW DEEP THEY ARE
 

@@ -1,11 +1,12 @@
 -- The first of joined causes.
-use Rattle.std.proofs.Common.{◌≡◌, ℕ, ◌+◌, ◌<◌, List, [], ◌∷◌, ◌++◌, map, flat_map, length, get_or, take, drop, Option, Some, None, sym, ap, ◌∙◌, append-nil}
+use Rattle.std.proofs.Common.{◌≡◌, ℕ, ◌+◌, ◌<◌, List, [], ◌∷◌, ◌++◌, Bool, map, flat_map, length, get_or, take, drop, Option, Some, None, sym, ap, ◌∙◌, append-nil}
 use Rattle.std.specs.Prelude.{slice_get, filter_map}
 use Rattle.std.proofs.lemmas.List.{drop_more, take_more, map-append}
 use Rattle.std.proofs.lemmas.List.Elements.{filter_map-append}
 use Rattle.pb_value.specs.Data.{Datum}
 use Rattle.pb_descr.specs.declared.cause.DeclCause.{DeclCause}
 use Rattle.pb_descr.specs.Held.{fields_in, data_at}
+use Rattle.pb_descr.specs.Reading.{is_proto2}
 use Rattle.pb_descr.specs.Causes.{head_causes, listed_causes, message_causes, messages_at_causes, file_head_causes, file_causes, causes_from}
 use Rattle.pb_descr.proofs.HeldLemmas.{message_causes-fields, messages_at_causes-data}
 
@@ -41,44 +42,44 @@ told_second xs ys x none h = ap (λ zs. slice_get zs 0) (after_none xs ys none) 
 
 -- A MESSAGE
 
-module _ (d : Datum) where
+module _ (two : Bool) (d : Datum) where
   abbrev head : List DeclCause
-  head = head_causes (fields_in d)
+  head = head_causes two (fields_in d)
 
   abbrev inner : List DeclCause
-  inner = flat_map message_causes (data_at 3 (fields_in d))
+  inner = flat_map (message_causes two) (data_at 3 (fields_in d))
 
   abbrev enums : List DeclCause
   enums = flat_map listed_causes (data_at 4 (fields_in d))
 
-  joined : slice_get (message_causes d) 0 ≡ slice_get (head ++ inner ++ enums) 0
-  joined = ap (λ cs. slice_get cs 0) (message_causes-fields d)
+  joined : slice_get (message_causes two d) 0 ≡ slice_get (head ++ inner ++ enums) 0
+  joined = ap (λ cs. slice_get cs 0) (message_causes-fields two d)
 
-  pub message_head_told : (c : DeclCause) → slice_get head 0 ≡ Some c → slice_get (message_causes d) 0 ≡ Some c
+  pub message_head_told : (c : DeclCause) → slice_get head 0 ≡ Some c → slice_get (message_causes two d) 0 ≡ Some c
   message_head_told c h = joined ∙ first_append (head ++ inner) enums c (first_append head inner c h)
 
-  pub message_inner_told : (c : DeclCause) (ds : List Datum) → ds ≡ data_at 3 (fields_in d) → head ≡ [] → slice_get (flat_map message_causes ds) 0 ≡ Some c → slice_get (message_causes d) 0 ≡ Some c
+  pub message_inner_told : (c : DeclCause) (ds : List Datum) → ds ≡ data_at 3 (fields_in d) → head ≡ [] → slice_get (flat_map (message_causes two) ds) 0 ≡ Some c → slice_get (message_causes two d) 0 ≡ Some c
   message_inner_told c ds at none h =
-      joined ∙ first_append (head ++ inner) enums c (told_second head inner c none (ap (λ es. slice_get (flat_map message_causes es) 0) (sym at) ∙ h))
+      joined ∙ first_append (head ++ inner) enums c (told_second head inner c none (ap (λ es. slice_get (flat_map (message_causes two) es) 0) (sym at) ∙ h))
 
   pub message_enums_told :
-      (c : DeclCause) (ds es : List Datum) → ds ≡ data_at 3 (fields_in d) → es ≡ data_at 4 (fields_in d) → head ≡ [] → flat_map message_causes ds ≡ [] → slice_get (flat_map listed_causes es) 0 ≡ Some c → slice_get (message_causes d) 0 ≡ Some c
+      (c : DeclCause) (ds es : List Datum) → ds ≡ data_at 3 (fields_in d) → es ≡ data_at 4 (fields_in d) → head ≡ [] → flat_map (message_causes two) ds ≡ [] → slice_get (flat_map listed_causes es) 0 ≡ Some c → slice_get (message_causes two d) 0 ≡ Some c
   message_enums_told c ds es at at' none silent h =
-      joined ∙ told_second (head ++ inner) enums c (none_append head inner none (ap (flat_map message_causes) (sym at) ∙ silent)) (ap (λ xs. slice_get (flat_map listed_causes xs) 0) (sym at') ∙ h)
+      joined ∙ told_second (head ++ inner) enums c (none_append head inner none (ap (flat_map (message_causes two)) (sym at) ∙ silent)) (ap (λ xs. slice_get (flat_map listed_causes xs) 0) (sym at') ∙ h)
 
-  pub message_silent : (ds es : List Datum) → ds ≡ data_at 3 (fields_in d) → es ≡ data_at 4 (fields_in d) → head ≡ [] → flat_map message_causes ds ≡ [] → flat_map listed_causes es ≡ [] → message_causes d ≡ []
+  pub message_silent : (ds es : List Datum) → ds ≡ data_at 3 (fields_in d) → es ≡ data_at 4 (fields_in d) → head ≡ [] → flat_map (message_causes two) ds ≡ [] → flat_map listed_causes es ≡ [] → message_causes two d ≡ []
   message_silent ds es at at' none silent silent' =
-      message_causes-fields d
-      ∙ none_append (head ++ inner) enums (none_append head inner none (ap (flat_map message_causes) (sym at) ∙ silent)) (ap (flat_map listed_causes) (sym at') ∙ silent')
+      message_causes-fields two d
+      ∙ none_append (head ++ inner) enums (none_append head inner none (ap (flat_map (message_causes two)) (sym at) ∙ silent)) (ap (flat_map listed_causes) (sym at') ∙ silent')
 
 -- A FILE
 
-module _ (d : Datum) where
+module _ (two : Bool) (d : Datum) (is : two ≡ is_proto2 (fields_in d)) where
   abbrev file_head : List DeclCause
   file_head = file_head_causes (fields_in d)
 
   abbrev messages : List DeclCause
-  messages = messages_at_causes 4 (fields_in d)
+  messages = messages_at_causes (is_proto2 (fields_in d)) 4 (fields_in d)
 
   abbrev file_enums : List DeclCause
   file_enums = flat_map listed_causes (data_at 5 (fields_in d))
@@ -86,32 +87,35 @@ module _ (d : Datum) where
   abbrev services : List DeclCause
   services = flat_map listed_causes (data_at 6 (fields_in d))
 
-  by_list : (ds : List Datum) → ds ≡ data_at 4 (fields_in d) → messages ≡ flat_map message_causes ds
-  by_list ds at = messages_at_causes-data 4 (fields_in d) ∙ ap (flat_map message_causes) (sym at)
+  by_list : (ds : List Datum) → ds ≡ data_at 4 (fields_in d) → messages ≡ flat_map (message_causes two) ds
+  by_list ds at =
+      messages_at_causes-data (is_proto2 (fields_in d)) 4 (fields_in d)
+      ∙ ap (λ t. flat_map (message_causes t) (data_at 4 (fields_in d))) (sym is)
+      ∙ ap (flat_map (message_causes two)) (sym at)
 
-  pub file_messages_told : (c : DeclCause) (ds : List Datum) → ds ≡ data_at 4 (fields_in d) → file_head ≡ [] → slice_get (flat_map message_causes ds) 0 ≡ Some c → slice_get (file_causes d) 0 ≡ Some c
+  pub file_messages_told : (c : DeclCause) (ds : List Datum) → ds ≡ data_at 4 (fields_in d) → file_head ≡ [] → slice_get (flat_map (message_causes two) ds) 0 ≡ Some c → slice_get (file_causes d) 0 ≡ Some c
   file_messages_told c ds at none h =
       first_append (file_head ++ messages ++ file_enums) services c
       (first_append (file_head ++ messages) file_enums c (told_second file_head messages c none (ap (λ cs. slice_get cs 0) (by_list ds at) ∙ h)))
 
   pub file_enums_told :
-      (c : DeclCause) (ds es : List Datum) → ds ≡ data_at 4 (fields_in d) → es ≡ data_at 5 (fields_in d) → file_head ≡ [] → flat_map message_causes ds ≡ [] → slice_get (flat_map listed_causes es) 0 ≡ Some c → slice_get (file_causes d) 0 ≡ Some c
+      (c : DeclCause) (ds es : List Datum) → ds ≡ data_at 4 (fields_in d) → es ≡ data_at 5 (fields_in d) → file_head ≡ [] → flat_map (message_causes two) ds ≡ [] → slice_get (flat_map listed_causes es) 0 ≡ Some c → slice_get (file_causes d) 0 ≡ Some c
   file_enums_told c ds es at at' none silent h =
       first_append (file_head ++ messages ++ file_enums) services c
       (told_second (file_head ++ messages) file_enums c (none_append file_head messages none (by_list ds at ∙ silent)) (ap (λ xs. slice_get (flat_map listed_causes xs) 0) (sym at') ∙ h))
 
-  before_services : (ds es : List Datum) → ds ≡ data_at 4 (fields_in d) → es ≡ data_at 5 (fields_in d) → file_head ≡ [] → flat_map message_causes ds ≡ [] → flat_map listed_causes es ≡ [] → file_head ++ messages ++ file_enums ≡ []
+  before_services : (ds es : List Datum) → ds ≡ data_at 4 (fields_in d) → es ≡ data_at 5 (fields_in d) → file_head ≡ [] → flat_map (message_causes two) ds ≡ [] → flat_map listed_causes es ≡ [] → file_head ++ messages ++ file_enums ≡ []
   before_services ds es at at' none silent silent' =
       none_append (file_head ++ messages) file_enums (none_append file_head messages none (by_list ds at ∙ silent)) (ap (flat_map listed_causes) (sym at') ∙ silent')
 
   pub file_services_told :
-      (c : DeclCause) (ds es ss : List Datum) → ds ≡ data_at 4 (fields_in d) → es ≡ data_at 5 (fields_in d) → ss ≡ data_at 6 (fields_in d) → file_head ≡ [] → flat_map message_causes ds ≡ [] → flat_map listed_causes es ≡ [] →
+      (c : DeclCause) (ds es ss : List Datum) → ds ≡ data_at 4 (fields_in d) → es ≡ data_at 5 (fields_in d) → ss ≡ data_at 6 (fields_in d) → file_head ≡ [] → flat_map (message_causes two) ds ≡ [] → flat_map listed_causes es ≡ [] →
       slice_get (flat_map listed_causes ss) 0 ≡ Some c → slice_get (file_causes d) 0 ≡ Some c
   file_services_told c ds es ss at at' at'' none silent silent' h =
       told_second (file_head ++ messages ++ file_enums) services c (before_services ds es at at' none silent silent') (ap (λ xs. slice_get (flat_map listed_causes xs) 0) (sym at'') ∙ h)
 
   pub file_silent :
-      (ds es ss : List Datum) → ds ≡ data_at 4 (fields_in d) → es ≡ data_at 5 (fields_in d) → ss ≡ data_at 6 (fields_in d) → file_head ≡ [] → flat_map message_causes ds ≡ [] → flat_map listed_causes es ≡ [] → flat_map listed_causes ss ≡ [] → file_causes d ≡ []
+      (ds es ss : List Datum) → ds ≡ data_at 4 (fields_in d) → es ≡ data_at 5 (fields_in d) → ss ≡ data_at 6 (fields_in d) → file_head ≡ [] → flat_map (message_causes two) ds ≡ [] → flat_map listed_causes es ≡ [] → flat_map listed_causes ss ≡ [] → file_causes d ≡ []
   file_silent ds es ss at at' at'' none silent silent' silent'' =
       none_append (file_head ++ messages ++ file_enums) services (before_services ds es at at' none silent silent') (ap (flat_map listed_causes) (sym at'') ∙ silent'')
 

@@ -4,7 +4,7 @@ use Rattle.std.specs.List.{AllByRecursion}
 use Rattle.pb_value.specs.Data.{Datum, levels_of, datums_of, datums_depth, Holding, holding_depth, Fields, fields_depth, message_depth}
 use Rattle.pb_descr.specs.declared.decl.TypeCode.{TypeCode}
 use Rattle.pb_descr.specs.Decls.{DeclaredField, DeclaredEnum, DeclaredMessage, message, DeclaredMessages, no_messages, more_messages, DeclaredMethod, DeclaredService, DeclaredFile}
-use Rattle.pb_descr.specs.Writing.{with_field, fields_with, a_text, a_number, a_mark, a_list, a_message, options_with, number_of_type, optional, packed_options, field_contents, field_body, range_body, value_body, text_datum, int_datum, enum_contents, enum_body, oneof_body, message_contents, message_body, message_bodies, method_contents, method_body, service_contents, service_body, package_text, file_contents, file_body, set_body}
+use Rattle.pb_descr.specs.Writing.{with_field, fields_with, a_text, a_number, a_mark, a_list, a_message, options_with, number_of_type, optional, packed_options, field_contents, field_body, range_body, value_body, text_datum, int_datum, enum_contents, enum_body, oneof_body, message_contents, message_body, message_bodies, method_contents, method_body, service_contents, service_body, package_text, syntax_text, file_contents, file_body, set_body}
 use Rattle.pb_descr.proofs.DepthLemmas.{option_depth, list_depth}
 
 -- how many messages stand in each other, the outermost among them
@@ -60,6 +60,10 @@ package_within : (k : ℕ) (p : List ℕ) → option_depth (package_text p) ≤ 
 package_within k [] = omega arith
 package_within k (c ∷ cs) = omega arith
 
+syntax_within : (k : ℕ) (two : Bool) → option_depth (syntax_text two) ≤ k
+syntax_within k true = omega arith
+syntax_within k false = omega arith
+
 packed_within : (k : ℕ) (o : Option Bool) → 1 ≤ k → option_depth (optional packed_options o) ≤ k
 packed_within k (Some b) h = omega (arith, h)
 packed_within k None h = omega arith
@@ -111,7 +115,7 @@ file_levels f k within =
     let inner = inner_levels f.messages in
     let own : levels_of (file_body f) ≤ suc (k + 2) =
     message_within (k + 2) (file_contents f)
-    (omega arith, (package_within (k + 2) f.package_name, (list_within text_datum (k + 2) (λ s. omega arith) f.imports, (omega arith, (loosely k _ (list_within enum_body 2 enum_levels f.enums), (loosely k _ (list_within service_body 2 service_levels f.services), (list_within int_datum (k + 2) (λ z. omega arith) f.public_indexes, (omega arith, tt)))))))) in
+    (omega arith, (package_within (k + 2) f.package_name, (list_within text_datum (k + 2) (λ s. omega arith) f.imports, (omega arith, (loosely k _ (list_within enum_body 2 enum_levels f.enums), (loosely k _ (list_within service_body 2 service_levels f.services), (list_within int_datum (k + 2) (λ z. omega arith) f.public_indexes, (syntax_within (k + 2) f.is_proto2, tt)))))))) in
     omega arith
 
 -- A set whose files declare messages that stand in each other so deep nests three levels deeper at most.

@@ -13,11 +13,12 @@ use Rattle.pb_schema.specs.declared.types.Kind.{Kind}
 use Rattle.pb_schema.specs.declared.types.Kind.TheVariants as kind
 use Rattle.pb_schema.specs.declared.types.Shape.{Shape}
 use Rattle.pb_schema.specs.declared.types.Shape.TheVariants as shape
-use Rattle.pb_schema.specs.Types.{FieldView, MessageView, FileView, Types}
+use Rattle.pb_schema.specs.Types.{FieldView, MessageView, FileView, Types, is_proto2}
+use Rattle.pb_schema.specs.Kinds.{is_of_proto2}
 use Rattle.pb_schema.specs.Names.{is_word, names_of_field, declared_names, packages_of, AllDiffer}
 use Rattle.pb_schema.specs.Nesting.{parent_of, IsWithin, itself, deeper}
 use Rattle.pb_schema.specs.Imports.{imports_of, Reaches, directly, further, IsSeen}
-use Rattle.pb_schema.specs.Rules.{IsPool, EachField, FileRules, IndexRules, NameRules, FieldRules, IsInFileOfParent, NamesType, NamesOneof, FilesRise, FollowsParent, MessageIsOfWords, AreWords, IsFieldNumber, FieldNumbersDiffer, TypeIsSeen, EachOneofHasMember, HasKeyKind, MayBePacked, MayBeImplicit}
+use Rattle.pb_schema.specs.Rules.{IsPool, EachField, FileRules, IndexRules, NameRules, FieldRules, IsInFileOfParent, NamesType, NamesOneof, FilesRise, FollowsParent, MessageIsOfWords, AreWords, IsFieldNumber, FieldNumbersDiffer, TypeIsSeen, EachOneofHasMember, HasKeyKind, MayBePacked, MayBeImplicit, MayBeValue, MayStandIn, EnumIsRight, SyntaxRules}
 use Rattle.pb_schema.specs.View.{file_view, message_view, enum_view, types_of}
 use Rattle.pb_schema.specs.declared.types.FileInfo.{FileInfo}
 use Rattle.pb_schema.specs.declared.types.MessageType.{MessageType}
@@ -125,11 +126,15 @@ shares_file ms file (Some p) h = by_message (slice_get ms p) h
 abbrev names_type : ℕ → ℕ → Kind → Bool
 names_type messages enums (kind.Enum e) = nat_lt e.0 enums
 names_type messages enums (kind.Message m) = nat_lt m.0 messages
+names_type messages enums (kind.Group m) = nat_lt m.0 messages
+names_type messages enums (kind.ClosedEnum e) = nat_lt e.0 enums
 names_type messages enums _ = true
 
 type_named : (messages enums : ℕ) (k : Kind) → names_type messages enums k ≡ true → NamesType messages enums k
 type_named messages enums (kind.Enum e) h = lt_of e.0 enums h
 type_named messages enums (kind.Message m) h = lt_of m.0 messages h
+type_named messages enums (kind.Group m) h = lt_of m.0 messages h
+type_named messages enums (kind.ClosedEnum e) h = lt_of e.0 enums h
 type_named messages enums k h = tt
 
 -- a shape that is no member, no map, not packed and not implicit
@@ -153,6 +158,10 @@ plain_packed s k h = tt
 plain_implicit : (s : Shape) (k : Kind) → is_plain s ≡ true → MayBeImplicit s k
 plain_implicit shape.Implicit k h = absurd (false≢true h)
 plain_implicit s k h = tt
+
+plain_value : (s : Shape) (k : Kind) → is_plain s ≡ true → MayBeValue s k
+plain_value (shape.Map key) k h = absurd (false≢true h)
+plain_value s k h = tt
 
 index_rules : IndexRules descriptor_types
 index_rules = record {
@@ -245,6 +254,8 @@ not_elsewhere file (Some t) = file == t.file
 abbrev is_seen : ℕ → Kind → Bool
 is_seen file (kind.Enum e) = false
 is_seen file (kind.Message m) = not_elsewhere file (slice_get the_messages m.0)
+is_seen file (kind.Group m) = false
+is_seen file (kind.ClosedEnum e) = false
 is_seen file _ = true
 
 type_seen : (file : ℕ) (k : Kind) → is_seen file k ≡ true → TypeIsSeen descriptor_types file k
@@ -254,6 +265,8 @@ type_seen file (kind.Message m) h = by_message (slice_get the_messages m.0) h
     by_message : (o : Option MessageView) → not_elsewhere file o ≡ true → IfSome o (λ t. IsSeen descriptor_types.files file t.file)
     by_message None h = tt
     by_message (Some t) h = inl (eq_of file t.file h)
+type_seen file (kind.Group m) h = absurd (false≢true h)
+type_seen file (kind.ClosedEnum e) h = absurd (false≢true h)
 type_seen file k h = tt
 
 no_oneofs : (t : MessageView) → (length t.oneofs == 0) ≡ true → EachOneofHasMember t
@@ -269,7 +282,38 @@ field_rules = record {
     keys = each_passes (λ t f. HasKeyKind f.shape) (λ t f. is_plain f.shape) (λ t f. plain_key f.shape) the_messages refl;
     packed = each_passes (λ t f. MayBePacked f.shape f.kind) (λ t f. is_plain f.shape) (λ t f. plain_packed f.shape f.kind) the_messages refl;
     implicit = each_passes (λ t f. MayBeImplicit f.shape f.kind) (λ t f. is_plain f.shape) (λ t f. plain_implicit f.shape f.kind) the_messages refl;
+    values = each_passes (λ t f. MayBeValue f.shape f.kind) (λ t f. is_plain f.shape) (λ t f. plain_value f.shape f.kind) the_messages refl;
   };
+}
+
+-- SYNTAX
+
+is_three : (i : ℕ) → is_proto2 descriptor_types.files i ≡ false
+is_three zero = refl
+is_three (suc i) = refl
+
+not_of_proto2 : (b : Bool) → not b ≡ true → b ≡ false
+not_of_proto2 true h = absurd (false≢true h)
+not_of_proto2 false h = refl
+
+may_stand : (t : MessageView) (f : FieldView) → not (is_of_proto2 f.kind) ≡ true → MayStandIn (is_proto2 descriptor_types.files t.file) f.shape f.kind
+may_stand t f h = subst (λ b. MayStandIn b f.shape f.kind) (sym (is_three t.file)) (not_of_proto2 (is_of_proto2 f.kind) h)
+
+abbrev is_no_enum : Kind → Bool
+is_no_enum (kind.Enum e) = false
+is_no_enum (kind.ClosedEnum e) = false
+is_no_enum _ = true
+
+no_enum : (k : Kind) → is_no_enum k ≡ true → EnumIsRight descriptor_types.files [] k
+no_enum (kind.Enum e) h = absurd (false≢true h)
+no_enum (kind.ClosedEnum e) h = absurd (false≢true h)
+no_enum k h = tt
+
+syntax_rules : SyntaxRules descriptor_types
+syntax_rules = record {
+  fields = each_passes (λ t f. MayStandIn (is_proto2 descriptor_types.files t.file) f.shape f.kind) (λ t f. not (is_of_proto2 f.kind)) may_stand the_messages refl;
+  enums = each_passes (λ t f. EnumIsRight descriptor_types.files [] f.kind) (λ t f. is_no_enum f.kind) (λ t f. no_enum f.kind) the_messages refl;
+  first_values = tt;
 }
 
 pub descriptor_is_pool : IsPool descriptor_types
@@ -280,7 +324,7 @@ descriptor_is_pool = record {
   enums_in_order = tt;
   names = name_rules;
   fields = field_rules;
-  enums_begin_at_zero = tt;
+  syntax = syntax_rules;
 }
 
 -- parts that stand for the fixed types are a pool

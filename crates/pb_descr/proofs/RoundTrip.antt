@@ -1,6 +1,7 @@
 -- Reading what was written gives the declarations back.
-use Rattle.std.proofs.Common.{◌≡◌, ℕ, ℤ, pos, List, [], ◌∷◌, Bool, true, false, ◌&&◌, Option, Some, None, refl, sym, ap, ◌∙◌, subst, arith, map, ◌<◌}
-use Rattle.std.specs.Prelude.{if◌then◌else◌, nat_lt, option_and_then, unwrap_or, filter_map}
+use Rattle.std.proofs.Common.{◌≡◌, ℕ, ℤ, pos, List, [], ◌∷◌, Bool, true, false, ◌&&◌, ◌||◌, ◌==◌, length, Option, Some, None, refl, sym, ap, ◌∙◌, subst, arith, map, ◌<◌}
+use Rattle.std.specs.Prelude.{if◌then◌else◌, nat_lt, option_and_then, unwrap_or, filter_map, codes}
+use Rattle.std.specs.Str.{bytes_eq}
 use Rattle.std.specs.List.{list_all}
 use Rattle.std.specs.declared.cmp.Ordering.{Ordering}
 use Rattle.std.specs.declared.cmp.Ordering.TheVariants.{Less, Equal, Greater}
@@ -15,9 +16,9 @@ use Rattle.pb_descr.specs.declared.decl.TypeCode.{TypeCode}
 use Rattle.pb_descr.specs.declared.decl.TypeCode.TheVariants as code
 use Rattle.pb_descr.specs.Decls.{DeclaredField, DeclaredEnum, MessageHead, DeclaredMessage, message, DeclaredMessages, no_messages, more_messages, DeclaredMethod, DeclaredService, DeclaredFile}
 use Rattle.pb_descr.specs.Held.{one_held, list_held, int_in, bool_in, fields_in, bool_at, elements, text_in}
-use Rattle.pb_descr.specs.Reading.{enum_in, service_in, head_in, message_in, messages_at, messages_in, messages_listed, file_in, files_in, field_in, value_in, range_in, method_in, oneof_in, type_of_number}
+use Rattle.pb_descr.specs.Reading.{enum_in, service_in, head_in, message_in, messages_at, messages_in, messages_listed, file_in, files_in, field_in, value_in, range_in, method_in, oneof_in, type_of_number, is_proto2}
 use Rattle.pb_descr.specs.Contents.{is_rising}
-use Rattle.pb_descr.specs.Writing.{field_contents, enum_contents, message_contents, method_contents, service_contents, file_contents, options_with, text_datum, int_datum, enum_body, service_body, message_body, message_bodies, package_text, file_body, set_body, with_field, fields_with, field_body, value_body, range_body, method_body, oneof_body, a_list, a_mark, a_text, a_number, optional, packed_options, number_of_type}
+use Rattle.pb_descr.specs.Writing.{field_contents, enum_contents, message_contents, method_contents, service_contents, file_contents, options_with, text_datum, int_datum, enum_body, service_body, message_body, message_bodies, package_text, syntax_text, file_body, set_body, with_field, fields_with, field_body, value_body, range_body, method_body, oneof_body, a_list, a_mark, a_text, a_number, optional, packed_options, number_of_type}
 
 -- what stands at a number of a list
 abbrev pub option_at : ℕ → List (ℕ × Option Holding) → Option Holding
@@ -226,6 +227,13 @@ package_back : (s : List ℕ) → unwrap_or (option_and_then text_in (one_held (
 package_back [] = refl
 package_back (c ∷ cs) = refl
 
+abbrev is_two : List ℕ → Bool
+is_two s = (length s == 0) || bytes_eq (codes "proto2") s
+
+syntax_back : (two : Bool) → is_two (unwrap_or (option_and_then text_in (one_held (syntax_text two))) []) ≡ two
+syntax_back true = refl
+syntax_back false = refl
+
 -- a file that was written is read back
 pub file_back : (f : DeclaredFile) → file_in (file_body f) ≡ f
 file_back f = λ i. record {
@@ -236,6 +244,7 @@ file_back f = λ i. record {
   messages = (messages_at-get 4 (fields_with es) ∙ ap messages_held (get_with 4 es refl) ∙ listed_back (message_bodies f.messages) ∙ messages_back f.messages) i;
   enums = (ap (λ o. map enum_in (list_held o)) (get_with 5 es refl) ∙ parts_back enum_in enum_body enum_back f.enums) i;
   services = (ap (λ o. map service_in (list_held o)) (get_with 6 es refl) ∙ parts_back service_in service_body service_back f.services) i;
+  is_proto2 = (ap (λ o. is_two (unwrap_or (option_and_then text_in (one_held o)) [])) (get_with 12 es refl) ∙ syntax_back f.is_proto2) i;
 }
   where
     es : List (ℕ × Option Holding)

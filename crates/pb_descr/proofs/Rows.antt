@@ -26,7 +26,7 @@ abbrev optional : DeclaredField
 optional = record { name = codes "a"; number = pos 1; is_repeated = false; type_code = Some code.Int32; type_name = None; packed = None; oneof = Some (pos 0); is_optional = true }
 
 abbrev set_with : DeclaredField → List (List ℕ) → List DeclaredFile
-set_with f oneofs = record { name = codes "m.proto"; package_name = []; imports = []; public_indexes = []; messages = messages_of (declared_message (record { name = codes "M"; fields = f ∷ []; enums = []; oneofs = oneofs; reserved = []; reserved_names = []; is_entry = false }) (messages_of []) ∷ []); enums = []; services = [] } ∷ []
+set_with f oneofs = record { name = codes "m.proto"; package_name = []; imports = []; public_indexes = []; messages = messages_of (declared_message (record { name = codes "M"; fields = f ∷ []; enums = []; oneofs = oneofs; reserved = []; reserved_names = []; is_entry = false }) (messages_of []) ∷ []); enums = []; services = []; is_proto2 = false } ∷ []
 
 plain_bytes : set_bytes (set_with plain []) ≡ 0x0a ∷ 0x21 ∷ 0x0a ∷ 0x07 ∷ 0x6d ∷ 0x2e ∷ 0x70 ∷ 0x72 ∷ 0x6f ∷ 0x74 ∷ 0x6f ∷ 0x22 ∷ 0x0e ∷ 0x0a ∷ 0x01 ∷ 0x4d ∷ 0x12 ∷ 0x09 ∷ 0x0a ∷ 0x01 ∷ 0x61 ∷ 0x18 ∷ 0x01 ∷ 0x20 ∷ 0x01 ∷ 0x28 ∷ 0x05 ∷ 0x62 ∷ 0x06 ∷ 0x70 ∷ 0x72 ∷ 0x6f ∷ 0x74 ∷ 0x6f ∷ 0x33 ∷ []
 unfolding value value_within records_spelled front_within first_varint after_varint named_length shortest shortest_within
@@ -48,14 +48,26 @@ json_name_passes : set_causes (the_set_of with_json_name) ≡ []
 unfolding value value_within records_spelled front_within first_varint after_varint named_length shortest shortest_within
 json_name_passes = refl
 
--- an empty file has no name, and no syntax
-nameless : set_causes (the_set_of (0x0a ∷ 0x00 ∷ [])) ≡ (0, cause.MissingName) ∷ (0, cause.NotProto3) ∷ []
+-- an empty file has no name
+nameless : set_causes (the_set_of (0x0a ∷ 0x00 ∷ [])) ≡ (0, cause.MissingName) ∷ []
 unfolding value value_within records_spelled front_within first_varint after_varint named_length shortest shortest_within
 nameless = refl
 
-no_syntax : set_causes (the_set_of (0x0a ∷ 0x03 ∷ 0x0a ∷ 0x01 ∷ 0x6d ∷ [])) ≡ (0, cause.NotProto3) ∷ []
+-- a file without a syntax is one of proto2
+abbrev two_file : List DeclaredFile
+two_file = record { name = codes "q"; package_name = []; imports = []; public_indexes = []; messages = messages_of []; enums = []; services = []; is_proto2 = true } ∷ []
+
+no_syntax : set_causes (the_set_of (0x0a ∷ 0x03 ∷ 0x0a ∷ 0x01 ∷ 0x71 ∷ [])) ≡ []
 unfolding value value_within records_spelled front_within first_varint after_varint named_length shortest shortest_within
 no_syntax = refl
+
+no_syntax_read : files_in (the_set_of (0x0a ∷ 0x03 ∷ 0x0a ∷ 0x01 ∷ 0x71 ∷ [])) ≡ two_file
+unfolding value value_within records_spelled front_within first_varint after_varint named_length shortest shortest_within
+no_syntax_read = refl
+
+no_syntax_written : set_bytes two_file ≡ 0x0a ∷ 0x03 ∷ 0x0a ∷ 0x01 ∷ 0x71 ∷ []
+unfolding value value_within records_spelled front_within first_varint after_varint named_length shortest shortest_within
+no_syntax_written = refl
 
 -- CAUSES OF MESSAGES THAT ARE GIVEN AS FIELDS, in the order in which they are told
 
@@ -73,7 +85,7 @@ abbrev text_at : ℕ → List ℕ → Fields → Fields
 text_at n s fs = field n (one (scalar (text s))) fs
 
 abbrev field_alone : Fields → List DeclCause
-field_alone fs = field_causes (named (codes "a") fs)
+field_alone fs = field_causes false (named (codes "a") fs)
 
 a_good_field : field_alone (number_at 4 (pos 3) (number_at 5 (pos 5) no_fields)) ≡ []
 a_good_field = refl
@@ -98,6 +110,22 @@ bad_label = refl
 -- what only proto2 has, also where it is empty
 all_of_proto2 : field_alone (text_at 2 [] (number_at 4 (pos 2) (number_at 5 (pos 10) (text_at 7 [] no_fields)))) ≡ cause.Extension ∷ cause.Required ∷ cause.Group ∷ cause.DefaultValue ∷ []
 all_of_proto2 = refl
+
+-- a group may stand in a file of proto2, the others may not
+group_of_proto2 : field_causes true (named (codes "a") (text_at 2 [] (number_at 4 (pos 2) (number_at 5 (pos 10) (text_at 7 [] no_fields))))) ≡ cause.Extension ∷ cause.Required ∷ cause.DefaultValue ∷ []
+group_of_proto2 = refl
+
+abbrev with_syntax : List ℕ → List DeclCause
+with_syntax s = file_causes (named (codes "m") (field 12 (one (scalar (text s))) no_fields))
+
+syntax_empty : with_syntax [] ≡ []
+syntax_empty = refl
+
+syntax_proto2 : with_syntax (codes "proto2") ≡ []
+syntax_proto2 = refl
+
+syntax_other : with_syntax (codes "editions") ≡ cause.NotProto3 ∷ []
+syntax_other = refl
 
 -- a message comes before its fields, and these before its oneofs, its nested messages and its enums
 order_inside :

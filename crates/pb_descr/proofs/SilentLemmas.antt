@@ -1,6 +1,7 @@
--- Files that are written as a set that shows no cause: every name is there, and each field has a type number, which is not GROUP.
-use Rattle.std.proofs.Common.{◌≡◌, ◌≢◌, ℕ, ◌+◌, List, [], ◌∷◌, ◌++◌, map, flat_map, length, Bool, true, false, ◌||◌, ◌==◌, not, Option, Some, None, refl, ap, ◌∙◌, arith}
-use Rattle.std.specs.Prelude.{⊤, ℤ, pos, codes, if◌then◌else◌, is_some, option_and_then}
+-- Files that are written as a set that shows no cause: every name is there, and each field has a type number, which is GROUP in files of proto2
+-- alone.
+use Rattle.std.proofs.Common.{◌≡◌, ◌≢◌, ℕ, ◌+◌, List, [], ◌∷◌, ◌++◌, map, flat_map, length, Bool, true, false, ◌&&◌, ◌||◌, ◌==◌, not, Option, Some, None, refl, ap, ◌∙◌, arith}
+use Rattle.std.specs.Prelude.{⊤, ℤ, pos, codes, if◌then◌else◌, is_some, option_and_then, unwrap_or}
 use Rattle.std.specs.List.{AllByRecursion}
 use Rattle.std.specs.Option.{option_map_or}
 use Rattle.std.specs.Ordering.{int_eq}
@@ -14,42 +15,42 @@ use Rattle.pb_descr.specs.declared.decl.TypeCode.{TypeCode}
 use Rattle.pb_descr.specs.declared.decl.TypeCode.TheVariants as code
 use Rattle.pb_descr.specs.Decls.{DeclaredField, DeclaredEnum, MessageHead, DeclaredMessage, message, DeclaredMessages, no_messages, more_messages, DeclaredMethod, DeclaredService, DeclaredFile}
 use Rattle.pb_descr.specs.Held.{fields_in, list_held, one_held, int_in, text_in, data_at, int_at, text_at}
-use Rattle.pb_descr.specs.Reading.{label_at}
+use Rattle.pb_descr.specs.Reading.{label_at, is_proto2}
 use Rattle.pb_descr.specs.Contents.{is_rising}
-use Rattle.pb_descr.specs.Causes.{when, is_label, has_bad_type, is_group, name_causes, type_causes, proto2_causes, field_causes, named_causes, listed_causes, has_any, head_causes, message_causes, messages_at_causes, is_proto3, file_head_causes, file_causes, causes_from, set_causes}
-use Rattle.pb_descr.specs.Writing.{field_contents, field_body, value_body, enum_contents, enum_body, oneof_body, message_contents, message_body, message_bodies, method_body, service_contents, service_body, file_contents, file_body, set_body, fields_with, a_list, a_number, optional, number_of_type}
+use Rattle.pb_descr.specs.Causes.{when, is_label, has_bad_type, is_group, name_causes, type_causes, proto2_causes, field_causes, named_causes, listed_causes, has_any, head_causes, message_causes, messages_at_causes, has_known_syntax, file_head_causes, file_causes, causes_from, set_causes}
+use Rattle.pb_descr.specs.Writing.{field_contents, field_body, value_body, enum_contents, enum_body, oneof_body, message_contents, message_body, message_bodies, method_body, service_contents, service_body, syntax_text, file_contents, file_body, set_body, fields_with, a_list, a_number, optional, number_of_type}
 use Rattle.pb_descr.proofs.HeldLemmas.{messages_at_causes-data, message_causes-fields}
-use Rattle.pb_descr.proofs.RoundTrip.{option_at, get_with, held_back}
+use Rattle.pb_descr.proofs.RoundTrip.{option_at, get_with, held_back, file_back}
 
 -- THE FILES
 
 abbrev pub IsNamed : List ℕ → Type 0
 IsNamed name = name ≢ []
 
--- a type number is given, which is not GROUP
-abbrev pub has_type : Option TypeCode → Bool
-has_type None = false
-has_type (Some code.Group) = false
-has_type (Some code.Double) = true
-has_type (Some code.Float) = true
-has_type (Some code.Int64) = true
-has_type (Some code.Uint64) = true
-has_type (Some code.Int32) = true
-has_type (Some code.Fixed64) = true
-has_type (Some code.Fixed32) = true
-has_type (Some code.Bool) = true
-has_type (Some code.Text) = true
-has_type (Some code.Message) = true
-has_type (Some code.Bytes) = true
-has_type (Some code.Uint32) = true
-has_type (Some code.Enum) = true
-has_type (Some code.Sfixed32) = true
-has_type (Some code.Sfixed64) = true
-has_type (Some code.Sint32) = true
-has_type (Some code.Sint64) = true
+-- a type number is given, which is GROUP in files of proto2 alone
+abbrev pub has_type : Bool → Option TypeCode → Bool
+has_type two None = false
+has_type two (Some code.Group) = two
+has_type two (Some code.Double) = true
+has_type two (Some code.Float) = true
+has_type two (Some code.Int64) = true
+has_type two (Some code.Uint64) = true
+has_type two (Some code.Int32) = true
+has_type two (Some code.Fixed64) = true
+has_type two (Some code.Fixed32) = true
+has_type two (Some code.Bool) = true
+has_type two (Some code.Text) = true
+has_type two (Some code.Message) = true
+has_type two (Some code.Bytes) = true
+has_type two (Some code.Uint32) = true
+has_type two (Some code.Enum) = true
+has_type two (Some code.Sfixed32) = true
+has_type two (Some code.Sfixed64) = true
+has_type two (Some code.Sint32) = true
+has_type two (Some code.Sint64) = true
 
-abbrev pub IsSilentField : DeclaredField → Type 0
-IsSilentField f = IsNamed f.name × (has_type f.type_code ≡ true)
+abbrev pub IsSilentField : Bool → DeclaredField → Type 0
+IsSilentField two f = IsNamed f.name × (has_type two f.type_code ≡ true)
 
 abbrev pub IsSilentEnum : DeclaredEnum → Type 0
 IsSilentEnum e = IsNamed e.name × AllByRecursion (λ v. IsNamed v.0) e.values
@@ -57,23 +58,23 @@ IsSilentEnum e = IsNamed e.name × AllByRecursion (λ v. IsNamed v.0) e.values
 abbrev pub IsSilentService : DeclaredService → Type 0
 IsSilentService s = IsNamed s.name × AllByRecursion (λ (m : DeclaredMethod). IsNamed m.name) s.methods
 
-pub record IsSilentHead (head : MessageHead) : Type 0 where
+pub record IsSilentHead (two : Bool) (head : MessageHead) : Type 0 where
   pub named : IsNamed head.name
-  pub fields : AllByRecursion IsSilentField head.fields
+  pub fields : AllByRecursion (IsSilentField two) head.fields
   pub oneofs : AllByRecursion IsNamed head.oneofs
   pub enums : AllByRecursion IsSilentEnum head.enums
 
 abbrev mutual
-  pub IsSilentMessage : DeclaredMessage → Type 0
-  IsSilentMessage (message head inner) = IsSilentHead head × AreSilentMessages inner
+  pub IsSilentMessage : Bool → DeclaredMessage → Type 0
+  IsSilentMessage two (message head inner) = IsSilentHead two head × AreSilentMessages two inner
 
-  pub AreSilentMessages : DeclaredMessages → Type 0
-  AreSilentMessages no_messages = ⊤
-  AreSilentMessages (more_messages m ms) = IsSilentMessage m × AreSilentMessages ms
+  pub AreSilentMessages : Bool → DeclaredMessages → Type 0
+  AreSilentMessages two no_messages = ⊤
+  AreSilentMessages two (more_messages m ms) = IsSilentMessage two m × AreSilentMessages two ms
 
 pub record IsSilentFile (f : DeclaredFile) : Type 0 where
   pub named : IsNamed f.name
-  pub messages : AreSilentMessages f.messages
+  pub messages : AreSilentMessages f.is_proto2 f.messages
   pub enums : AllByRecursion IsSilentEnum f.enums
   pub services : AllByRecursion IsSilentService f.services
 
@@ -121,47 +122,51 @@ label_new false = refl
 abbrev number_held : Option TypeCode → Option ℤ
 number_held o = option_and_then int_in (one_held (optional (λ c. a_number (pos (number_of_type c))) o))
 
-type_right : (o : Option TypeCode) (name : Option (List ℕ)) → has_type o ≡ true → (has_bad_type (number_held o) name ≡ false) × (is_group (number_held o) ≡ false)
-type_right None name h = absurd (false≢true h)
-type_right (Some code.Group) name h = absurd (false≢true h)
-type_right (Some code.Double) name h = (refl, refl)
-type_right (Some code.Float) name h = (refl, refl)
-type_right (Some code.Int64) name h = (refl, refl)
-type_right (Some code.Uint64) name h = (refl, refl)
-type_right (Some code.Int32) name h = (refl, refl)
-type_right (Some code.Fixed64) name h = (refl, refl)
-type_right (Some code.Fixed32) name h = (refl, refl)
-type_right (Some code.Bool) name h = (refl, refl)
-type_right (Some code.Text) name h = (refl, refl)
-type_right (Some code.Message) name h = (refl, refl)
-type_right (Some code.Bytes) name h = (refl, refl)
-type_right (Some code.Uint32) name h = (refl, refl)
-type_right (Some code.Enum) name h = (refl, refl)
-type_right (Some code.Sfixed32) name h = (refl, refl)
-type_right (Some code.Sfixed64) name h = (refl, refl)
-type_right (Some code.Sint32) name h = (refl, refl)
-type_right (Some code.Sint64) name h = (refl, refl)
+no_group : (b : Bool) → (b && false) ≡ false
+no_group true = refl
+no_group false = refl
+
+type_right : (two : Bool) (o : Option TypeCode) (name : Option (List ℕ)) → has_type two o ≡ true → (has_bad_type (number_held o) name ≡ false) × ((not two && is_group (number_held o)) ≡ false)
+type_right two None name h = absurd (false≢true h)
+type_right two (Some code.Group) name h = (refl, ap (λ b. not b && true) h)
+type_right two (Some code.Double) name h = (refl, no_group (not two))
+type_right two (Some code.Float) name h = (refl, no_group (not two))
+type_right two (Some code.Int64) name h = (refl, no_group (not two))
+type_right two (Some code.Uint64) name h = (refl, no_group (not two))
+type_right two (Some code.Int32) name h = (refl, no_group (not two))
+type_right two (Some code.Fixed64) name h = (refl, no_group (not two))
+type_right two (Some code.Fixed32) name h = (refl, no_group (not two))
+type_right two (Some code.Bool) name h = (refl, no_group (not two))
+type_right two (Some code.Text) name h = (refl, no_group (not two))
+type_right two (Some code.Message) name h = (refl, no_group (not two))
+type_right two (Some code.Bytes) name h = (refl, no_group (not two))
+type_right two (Some code.Uint32) name h = (refl, no_group (not two))
+type_right two (Some code.Enum) name h = (refl, no_group (not two))
+type_right two (Some code.Sfixed32) name h = (refl, no_group (not two))
+type_right two (Some code.Sfixed64) name h = (refl, no_group (not two))
+type_right two (Some code.Sint32) name h = (refl, no_group (not two))
+type_right two (Some code.Sint64) name h = (refl, no_group (not two))
 
 types_none : (fs : Fields) → not (is_label (label_at fs)) ≡ false → has_bad_type (int_at 5 fs) (text_at 6 fs) ≡ false → type_causes fs ≡ []
 types_none fs label type =
     both_none (when (not (is_label (label_at fs))) cause.BadLabel) (when (has_bad_type (int_at 5 fs) (text_at 6 fs)) cause.BadTypeNumber)
     (not_when (not (is_label (label_at fs))) cause.BadLabel label) (not_when (has_bad_type (int_at 5 fs) (text_at 6 fs)) cause.BadTypeNumber type)
 
-proto2_none : (fs : Fields) → is_some (text_at 2 fs) ≡ false → int_eq (label_at fs) (pos 2) ≡ false → is_group (int_at 5 fs) ≡ false → is_some (text_at 7 fs) ≡ false → proto2_causes fs ≡ []
-proto2_none fs extended label group default =
-    both_none (when (is_some (text_at 2 fs)) cause.Extension ++ when (int_eq (label_at fs) (pos 2)) cause.Required ++ when (is_group (int_at 5 fs)) cause.Group) (when (is_some (text_at 7 fs)) cause.DefaultValue)
-    (both_none (when (is_some (text_at 2 fs)) cause.Extension ++ when (int_eq (label_at fs) (pos 2)) cause.Required) (when (is_group (int_at 5 fs)) cause.Group)
+proto2_none : (two : Bool) (fs : Fields) → is_some (text_at 2 fs) ≡ false → int_eq (label_at fs) (pos 2) ≡ false → (not two && is_group (int_at 5 fs)) ≡ false → is_some (text_at 7 fs) ≡ false → proto2_causes two fs ≡ []
+proto2_none two fs extended label group default =
+    both_none (when (is_some (text_at 2 fs)) cause.Extension ++ when (int_eq (label_at fs) (pos 2)) cause.Required ++ when (not two && is_group (int_at 5 fs)) cause.Group) (when (is_some (text_at 7 fs)) cause.DefaultValue)
+    (both_none (when (is_some (text_at 2 fs)) cause.Extension ++ when (int_eq (label_at fs) (pos 2)) cause.Required) (when (not two && is_group (int_at 5 fs)) cause.Group)
     (both_none (when (is_some (text_at 2 fs)) cause.Extension) (when (int_eq (label_at fs) (pos 2)) cause.Required) (not_when (is_some (text_at 2 fs)) cause.Extension extended) (not_when (int_eq (label_at fs) (pos 2)) cause.Required label))
-    (not_when (is_group (int_at 5 fs)) cause.Group group))
+    (not_when (not two && is_group (int_at 5 fs)) cause.Group group))
     (not_when (is_some (text_at 7 fs)) cause.DefaultValue default)
 
-of_field : (d : Datum) → name_causes (fields_in d) ≡ [] → type_causes (fields_in d) ≡ [] → proto2_causes (fields_in d) ≡ [] → field_causes d ≡ []
-of_field d name types proto2 = both_none (name_causes (fields_in d) ++ type_causes (fields_in d)) (proto2_causes (fields_in d)) (both_none (name_causes (fields_in d)) (type_causes (fields_in d)) name types) proto2
+of_field : (two : Bool) (d : Datum) → name_causes (fields_in d) ≡ [] → type_causes (fields_in d) ≡ [] → proto2_causes two (fields_in d) ≡ [] → field_causes two d ≡ []
+of_field two d name types proto2 = both_none (name_causes (fields_in d) ++ type_causes (fields_in d)) (proto2_causes two (fields_in d)) (both_none (name_causes (fields_in d)) (type_causes (fields_in d)) name types) proto2
 
-field_none : (f : DeclaredField) → IsSilentField f → field_causes (field_body f) ≡ []
-field_none f h =
-    of_field (field_body f) (named_none f.name h.0) (types_none (fields_in (field_body f)) (label_right f.is_repeated) (bad ∙ (type_right f.type_code (text_at 6 (fields_in (field_body f))) h.1).0))
-    (proto2_none (fields_in (field_body f)) (no_text 2 refl) (label_new f.is_repeated) (ap is_group number ∙ (type_right f.type_code None h.1).1) (no_text 7 refl))
+field_none : (two : Bool) (f : DeclaredField) → IsSilentField two f → field_causes two (field_body f) ≡ []
+field_none two f h =
+    of_field two (field_body f) (named_none f.name h.0) (types_none (fields_in (field_body f)) (label_right f.is_repeated) (bad ∙ (type_right two f.type_code (text_at 6 (fields_in (field_body f))) h.1).0))
+    (proto2_none two (fields_in (field_body f)) (no_text 2 refl) (label_new f.is_repeated) (ap (λ o. not two && is_group o) number ∙ (type_right two f.type_code None h.1).1) (no_text 7 refl))
   where
     number : int_at 5 (fields_in (field_body f)) ≡ number_held f.type_code
     number = ap (λ o. option_and_then int_in (one_held o)) (get_with 5 (field_contents f) refl)
@@ -189,59 +194,70 @@ service_none s h =
 
 -- MESSAGES
 
-of_head : (fs : Fields) → name_causes fs ≡ [] → has_any 5 fs ≡ false → has_any 6 fs ≡ false → flat_map field_causes (data_at 2 fs) ≡ [] → flat_map named_causes (data_at 8 fs) ≡ [] → head_causes fs ≡ []
-of_head fs name five six fields oneofs =
-    both_none (name_causes fs ++ when (has_any 5 fs || has_any 6 fs) cause.Extension ++ flat_map field_causes (data_at 2 fs)) (flat_map named_causes (data_at 8 fs))
-    (both_none (name_causes fs ++ when (has_any 5 fs || has_any 6 fs) cause.Extension) (flat_map field_causes (data_at 2 fs))
+of_head : (two : Bool) (fs : Fields) → name_causes fs ≡ [] → has_any 5 fs ≡ false → has_any 6 fs ≡ false → flat_map (field_causes two) (data_at 2 fs) ≡ [] → flat_map named_causes (data_at 8 fs) ≡ [] → head_causes two fs ≡ []
+of_head two fs name five six fields oneofs =
+    both_none (name_causes fs ++ when (has_any 5 fs || has_any 6 fs) cause.Extension ++ flat_map (field_causes two) (data_at 2 fs)) (flat_map named_causes (data_at 8 fs))
+    (both_none (name_causes fs ++ when (has_any 5 fs || has_any 6 fs) cause.Extension) (flat_map (field_causes two) (data_at 2 fs))
     (both_none (name_causes fs) (when (has_any 5 fs || has_any 6 fs) cause.Extension) name (not_when (has_any 5 fs || has_any 6 fs) cause.Extension (ap (λ b. b || has_any 6 fs) five ∙ six))) fields)
     oneofs
 
-head_none : (head : MessageHead) (inner : List Datum) → IsSilentHead head → head_causes (fields_with (message_contents head inner)) ≡ []
-head_none head inner h =
-    of_head (fields_with (message_contents head inner)) (named_none head.name h.named) (no_list 5 (message_contents head inner) refl refl) (no_list 6 (message_contents head inner) refl refl)
-    (list_none 2 (message_contents head inner) (map field_body head.fields) field_causes refl refl (each_none IsSilentField field_body field_causes field_none head.fields h.fields))
+head_none : (two : Bool) (head : MessageHead) (inner : List Datum) → IsSilentHead two head → head_causes two (fields_with (message_contents head inner)) ≡ []
+head_none two head inner h =
+    of_head two (fields_with (message_contents head inner)) (named_none head.name h.named) (no_list 5 (message_contents head inner) refl refl) (no_list 6 (message_contents head inner) refl refl)
+    (list_none 2 (message_contents head inner) (map field_body head.fields) (field_causes two) refl refl (each_none (IsSilentField two) field_body (field_causes two) (field_none two) head.fields h.fields))
     (list_none 8 (message_contents head inner) (map oneof_body head.oneofs) named_causes refl refl (each_none IsNamed oneof_body named_causes named_none head.oneofs h.oneofs))
 
 enums_none : (n : ℕ) (es : List (ℕ × Option Holding)) (enums : List DeclaredEnum) → is_rising es ≡ true → option_at n es ≡ a_list (map enum_body enums) → AllByRecursion IsSilentEnum enums → flat_map listed_causes (data_at n (fields_with es)) ≡ []
 enums_none n es enums rising at all = list_none n es (map enum_body enums) listed_causes rising at (each_none IsSilentEnum enum_body listed_causes enum_none enums all)
 
-of_message : (d : Datum) → head_causes (fields_in d) ≡ [] → flat_map message_causes (data_at 3 (fields_in d)) ≡ [] → flat_map listed_causes (data_at 4 (fields_in d)) ≡ [] → message_causes d ≡ []
-of_message d head nested enums =
-    message_causes-fields d
-    ∙ both_none (head_causes (fields_in d) ++ flat_map message_causes (data_at 3 (fields_in d))) (flat_map listed_causes (data_at 4 (fields_in d)))
-    (both_none (head_causes (fields_in d)) (flat_map message_causes (data_at 3 (fields_in d))) head nested) enums
+of_message : (two : Bool) (d : Datum) → head_causes two (fields_in d) ≡ [] → flat_map (message_causes two) (data_at 3 (fields_in d)) ≡ [] → flat_map listed_causes (data_at 4 (fields_in d)) ≡ [] → message_causes two d ≡ []
+of_message two d head nested enums =
+    message_causes-fields two d
+    ∙ both_none (head_causes two (fields_in d) ++ flat_map (message_causes two) (data_at 3 (fields_in d))) (flat_map listed_causes (data_at 4 (fields_in d)))
+    (both_none (head_causes two (fields_in d)) (flat_map (message_causes two) (data_at 3 (fields_in d))) head nested) enums
 
 mutual
-  message_none : (m : DeclaredMessage) → IsSilentMessage m → message_causes (message_body m) ≡ []
-  message_none (message head inner) h =
-      of_message (message_body (message head inner)) (head_none head (message_bodies inner) h.0) (list_none 3 (message_contents head (message_bodies inner)) (message_bodies inner) message_causes refl refl (messages_none inner h.1))
+  message_none : (two : Bool) (m : DeclaredMessage) → IsSilentMessage two m → message_causes two (message_body m) ≡ []
+  message_none two (message head inner) h =
+      of_message two (message_body (message head inner)) (head_none two head (message_bodies inner) h.0) (list_none 3 (message_contents head (message_bodies inner)) (message_bodies inner) (message_causes two) refl refl (messages_none two inner h.1))
       (enums_none 4 (message_contents head (message_bodies inner)) head.enums refl refl h.0.enums)
 
-  messages_none : (ms : DeclaredMessages) → AreSilentMessages ms → flat_map message_causes (message_bodies ms) ≡ []
-  messages_none no_messages all = refl
-  messages_none (more_messages m ms) all = both_none (message_causes (message_body m)) (flat_map message_causes (message_bodies ms)) (message_none m all.0) (messages_none ms all.1)
+  messages_none : (two : Bool) (ms : DeclaredMessages) → AreSilentMessages two ms → flat_map (message_causes two) (message_bodies ms) ≡ []
+  messages_none two no_messages all = refl
+  messages_none two (more_messages m ms) all = both_none (message_causes two (message_body m)) (flat_map (message_causes two) (message_bodies ms)) (message_none two m all.0) (messages_none two ms all.1)
 
 -- FILES
 
-of_file_head : (fs : Fields) → name_causes fs ≡ [] → has_any 7 fs ≡ false → is_proto3 fs ≡ true → file_head_causes fs ≡ []
-of_file_head fs name seven proto3 =
-    both_none (name_causes fs ++ when (has_any 7 fs) cause.Extension) (when (not (is_proto3 fs)) cause.NotProto3)
-    (both_none (name_causes fs) (when (has_any 7 fs) cause.Extension) name (not_when (has_any 7 fs) cause.Extension seven)) (not_when (not (is_proto3 fs)) cause.NotProto3 (ap not proto3))
+of_file_head : (fs : Fields) → name_causes fs ≡ [] → has_any 7 fs ≡ false → has_known_syntax fs ≡ true → file_head_causes fs ≡ []
+of_file_head fs name seven known =
+    both_none (name_causes fs ++ when (has_any 7 fs) cause.Extension) (when (not (has_known_syntax fs)) cause.NotProto3)
+    (both_none (name_causes fs) (when (has_any 7 fs) cause.Extension) name (not_when (has_any 7 fs) cause.Extension seven)) (not_when (not (has_known_syntax fs)) cause.NotProto3 (ap not known))
 
-of_file : (d : Datum) → file_head_causes (fields_in d) ≡ [] → flat_map message_causes (data_at 4 (fields_in d)) ≡ [] → flat_map listed_causes (data_at 5 (fields_in d)) ≡ [] → flat_map listed_causes (data_at 6 (fields_in d)) ≡ [] → file_causes d ≡ []
+of_file : (d : Datum) → file_head_causes (fields_in d) ≡ [] → flat_map (message_causes (is_proto2 (fields_in d))) (data_at 4 (fields_in d)) ≡ [] → flat_map listed_causes (data_at 5 (fields_in d)) ≡ [] → flat_map listed_causes (data_at 6 (fields_in d)) ≡ [] → file_causes d ≡ []
 of_file d head messages enums services =
-    both_none (file_head_causes (fields_in d) ++ messages_at_causes 4 (fields_in d) ++ flat_map listed_causes (data_at 5 (fields_in d))) (flat_map listed_causes (data_at 6 (fields_in d)))
-    (both_none (file_head_causes (fields_in d) ++ messages_at_causes 4 (fields_in d)) (flat_map listed_causes (data_at 5 (fields_in d)))
-    (both_none (file_head_causes (fields_in d)) (messages_at_causes 4 (fields_in d)) head (messages_at_causes-data 4 (fields_in d) ∙ messages)) enums)
+    both_none (file_head_causes (fields_in d) ++ messages_at_causes (is_proto2 (fields_in d)) 4 (fields_in d) ++ flat_map listed_causes (data_at 5 (fields_in d))) (flat_map listed_causes (data_at 6 (fields_in d)))
+    (both_none (file_head_causes (fields_in d) ++ messages_at_causes (is_proto2 (fields_in d)) 4 (fields_in d)) (flat_map listed_causes (data_at 5 (fields_in d)))
+    (both_none (file_head_causes (fields_in d)) (messages_at_causes (is_proto2 (fields_in d)) 4 (fields_in d)) head (messages_at_causes-data (is_proto2 (fields_in d)) 4 (fields_in d) ∙ messages)) enums)
     services
 
-proto3_there : (f : DeclaredFile) → is_proto3 (fields_in (file_body f)) ≡ true
-proto3_there f = ap (λ o. option_map_or (bytes_eq (codes "proto3")) (option_and_then text_in (one_held o)) false) (get_with 12 (file_contents f) refl)
+abbrev is_two : List ℕ → Bool
+is_two s = (length s == 0) || bytes_eq (codes "proto2") s
+
+abbrev is_known : Option Holding → Bool
+is_known o = is_two (unwrap_or (option_and_then text_in (one_held o)) []) || option_map_or (bytes_eq (codes "proto3")) (option_and_then text_in (one_held o)) false
+
+syntax_there : (f : DeclaredFile) → has_known_syntax (fields_in (file_body f)) ≡ true
+syntax_there f = ap is_known (get_with 12 (file_contents f) refl) ∙ either f.is_proto2
+  where
+    either : (two : Bool) → is_known (syntax_text two) ≡ true
+    either true = refl
+    either false = refl
 
 file_none : (f : DeclaredFile) → IsSilentFile f → file_causes (file_body f) ≡ []
 file_none f h =
-    of_file (file_body f) (of_file_head (fields_in (file_body f)) (named_none f.name h.named) (no_list 7 (file_contents f) refl refl) (proto3_there f))
-    (list_none 4 (file_contents f) (message_bodies f.messages) message_causes refl refl (messages_none f.messages h.messages))
+    of_file (file_body f) (of_file_head (fields_in (file_body f)) (named_none f.name h.named) (no_list 7 (file_contents f) refl refl) (syntax_there f))
+    (ap (λ two. flat_map (message_causes two) (data_at 4 (fields_in (file_body f)))) (ap (λ (g : DeclaredFile). g.is_proto2) (file_back f))
+    ∙ list_none 4 (file_contents f) (message_bodies f.messages) (message_causes f.is_proto2) refl refl (messages_none f.is_proto2 f.messages h.messages))
     (enums_none 5 (file_contents f) f.enums refl refl h.enums)
     (list_none 6 (file_contents f) (map service_body f.services) listed_causes refl refl (each_none IsSilentService service_body listed_causes service_none f.services h.services))
 

@@ -6,21 +6,24 @@ use Rattle.pb_schema.specs.declared.types.Kind.{Kind}
 use Rattle.pb_schema.specs.declared.types.Kind.TheVariants as kind
 use Rattle.pb_schema.specs.declared.types.Shape.TheVariants as shape
 use Rattle.pb_schema.specs.Types.{FieldView, message_fields, field_numbered}
-use Rattle.pb_value.specs.Data.{Datum, datums_of, Holding, list, message_depth}
+use Rattle.pb_schema.specs.Kinds.{closed_enum}
+use Rattle.pb_schema.specs.Closed.{declares_in}
+use Rattle.pb_value.specs.WellFormed.{datums_declared}
+use Rattle.pb_value.specs.Data.{Datum, scalar, message as one_message, datums_of, Holding, list, message_depth}
 use Rattle.pb_value.specs.Judge.{is_value_of, are_values_of}
-use Rattle.pb_value.specs.Cause.{or_else, unless, shape_at, at_field, with_member, stored_cause, datum_cause, datums_cause, parts_cause, fields_cause, body_cause, message_cause}
+use Rattle.pb_value.specs.Cause.{or_else, unless, shape_at, at_field, with_member, stored_cause, datum_cause, datums_cause, held_cause, fields_cause, body_cause, message_cause}
 use Rattle.pb_value.specs.declared.error.ValueError.{ValueError}
-use Rattle.pb_value.specs.declared.error.ValueError.TheVariants.{WrongKind, TooDeep}
+use Rattle.pb_value.specs.declared.error.ValueError.TheVariants.{WrongKind, NoSuchValue, TooDeep}
 use Rattle.pb_descr.specs.Decls.{DeclaredField, DeclaredEnum, MessageHead, DeclaredMessage, message, DeclaredMessages, no_messages, more_messages, DeclaredMethod, DeclaredService, DeclaredFile}
 use Rattle.pb_descr.specs.Pool.{descriptor_types, message as message_kind, many, the_set}
-use Rattle.pb_descr.specs.Writing.{fields_with, with_field, a_text, a_number, a_mark, a_list, a_message, options_with, number_of_type, optional, packed_options, field_contents, field_body, range_contents, range_body, value_contents, value_body, text_datum, int_datum, enum_contents, enum_body, oneof_body, message_contents, message_body, message_bodies, method_contents, method_body, service_contents, service_body, package_text, file_contents, file_body, set_body}
+use Rattle.pb_descr.specs.Writing.{fields_with, with_field, a_text, a_number, a_mark, a_list, a_message, options_with, number_of_type, optional, packed_options, field_contents, field_body, range_contents, range_body, value_contents, value_body, text_datum, int_datum, enum_contents, enum_body, oneof_body, message_contents, message_body, message_bodies, method_contents, method_body, service_contents, service_body, package_text, syntax_text, file_contents, file_body, set_body}
 
 -- no member of a oneof is set
 abbrev unset : ℕ → Bool
 unset o = false
 
 abbrev content_cause_at : List FieldView → ℕ → Holding → Option ValueError
-content_cause_at all n h = at_field (field_numbered n all) (λ f. or_else (stored_cause unset f.shape f.kind h) (parts_cause descriptor_types f.shape f.kind h))
+content_cause_at all n h = at_field (field_numbered n all) (λ f. or_else (stored_cause unset f.shape f.kind h) (held_cause descriptor_types f.shape f.kind h))
 
 -- what stands at a number fits the field, if anything does
 abbrev Fits : List FieldView → ℕ → Option Holding → Type 0
@@ -58,13 +61,20 @@ elements_fit k (d ∷ ds) h = ap (λ c. or_else c (datums_cause descriptor_types
 abbrev list_cause : Bool → Option ValueError → Option ValueError
 list_cause b c = or_else (or_else (or_else (unless b WrongKind) None) None) c
 
+-- of a kind that is no closed enum each number stands
+all_declared : (k : Kind) → closed_enum k ≡ None → (ds : List Datum) → datums_declared descriptor_types k (datums_of ds) ≡ true
+all_declared k never [] = refl
+all_declared k never (scalar x ∷ ds) = ap (λ o. declares_in descriptor_types o x && datums_declared descriptor_types k (datums_of ds)) never ∙ all_declared k never ds
+all_declared k never (one_message b ∷ ds) = all_declared k never ds
+
 -- a list of a kind, as a field that holds lists
-list_fits : (all : List FieldView) (n : ℕ) (f : FieldView) → field_numbered n all ≡ Some f → f.shape ≡ shape.List false → (ds : List Datum) → AllByRecursion (IsElement f.kind) ds → Fits all n (a_list ds)
-list_fits all n f there many [] h = tt
-list_fits all n f there many (d ∷ ds) h = (
-  ap (λ o. at_field o (λ f. or_else (stored_cause unset f.shape f.kind held) (parts_cause descriptor_types f.shape f.kind held))) there
-      ∙ ap (λ s. or_else (stored_cause unset s f.kind held) (parts_cause descriptor_types s f.kind held)) many
-      ∙ ap (λ b. list_cause b (datums_cause descriptor_types f.kind (datums_of (d ∷ ds)))) (elements_of_kind f.kind (d ∷ ds) h)
+list_fits : (all : List FieldView) (n : ℕ) (f : FieldView) → field_numbered n all ≡ Some f → f.shape ≡ shape.List false → closed_enum f.kind ≡ None → (ds : List Datum) → AllByRecursion (IsElement f.kind) ds → Fits all n (a_list ds)
+list_fits all n f there many never [] h = tt
+list_fits all n f there many never (d ∷ ds) h = (
+  ap (λ o. at_field o (λ f. or_else (stored_cause unset f.shape f.kind held) (held_cause descriptor_types f.shape f.kind held))) there
+      ∙ ap (λ s. or_else (stored_cause unset s f.kind held) (held_cause descriptor_types s f.kind held)) many
+      ∙ ap (λ b. list_cause b (or_else (unless (datums_declared descriptor_types f.kind (datums_of (d ∷ ds))) NoSuchValue) (datums_cause descriptor_types f.kind (datums_of (d ∷ ds))))) (elements_of_kind f.kind (d ∷ ds) h)
+      ∙ ap (λ b. or_else (unless b NoSuchValue) (datums_cause descriptor_types f.kind (datums_of (d ∷ ds)))) (all_declared f.kind never (d ∷ ds))
       ∙ elements_fit f.kind (d ∷ ds) h,
   ap (λ o. with_member (shape_at o) unset) there ∙ ap (λ s. with_member s unset) many,
 )
@@ -123,13 +133,13 @@ enum_element : (e : DeclaredEnum) → IsElement (message_kind 7) (enum_body e)
 enum_element e = (
   refl,
   made_of 7 (enum_contents e)
-      ((refl, refl), (list_fits (fields_of_type 7) 2 (many 2 (codes "value") (message_kind 9)) refl refl (map value_body e.values) (each_fits (message_kind 9) value_body value_element e.values), (alias_fits e.allows_alias, (list_fits (fields_of_type 7) 4 (many 4 (codes "reserved_range") (message_kind 8)) refl refl (map range_body e.reserved) (each_fits (message_kind 8) range_body enum_range_element e.reserved), (list_fits (fields_of_type 7) 5 (many 5 (codes "reserved_name") kind.Text) refl refl (map text_datum e.reserved_names) (each_fits kind.Text text_datum text_element e.reserved_names), tt))))),
+      ((refl, refl), (list_fits (fields_of_type 7) 2 (many 2 (codes "value") (message_kind 9)) refl refl refl (map value_body e.values) (each_fits (message_kind 9) value_body value_element e.values), (alias_fits e.allows_alias, (list_fits (fields_of_type 7) 4 (many 4 (codes "reserved_range") (message_kind 8)) refl refl refl (map range_body e.reserved) (each_fits (message_kind 8) range_body enum_range_element e.reserved), (list_fits (fields_of_type 7) 5 (many 5 (codes "reserved_name") kind.Text) refl refl refl (map text_datum e.reserved_names) (each_fits kind.Text text_datum text_element e.reserved_names), tt))))),
 )
 
 message_with_fits : (head : MessageHead) (inner : List Datum) → AllByRecursion (IsElement (message_kind 2)) inner → datum_cause descriptor_types (message_kind 2) (a_message (message_contents head inner)) ≡ None
 message_with_fits head inner fit =
     made_of 2 (message_contents head inner)
-    ((refl, refl), (list_fits (fields_of_type 2) 2 (many 2 (codes "field") (message_kind 5)) refl refl (map field_body head.fields) (each_fits (message_kind 5) field_body field_element head.fields), (list_fits (fields_of_type 2) 3 (many 3 (codes "nested_type") (message_kind 2)) refl refl inner fit, (list_fits (fields_of_type 2) 4 (many 4 (codes "enum_type") (message_kind 7)) refl refl (map enum_body head.enums) (each_fits (message_kind 7) enum_body enum_element head.enums), (entry_fits head.is_entry, (list_fits (fields_of_type 2) 8 (many 8 (codes "oneof_decl") (message_kind 6)) refl refl (map oneof_body head.oneofs) (each_fits (message_kind 6) oneof_body oneof_element head.oneofs), (list_fits (fields_of_type 2) 9 (many 9 (codes "reserved_range") (message_kind 3)) refl refl (map range_body head.reserved) (each_fits (message_kind 3) range_body range_element head.reserved), (list_fits (fields_of_type 2) 10 (many 10 (codes "reserved_name") kind.Text) refl refl (map text_datum head.reserved_names) (each_fits kind.Text text_datum text_element head.reserved_names), tt))))))))
+    ((refl, refl), (list_fits (fields_of_type 2) 2 (many 2 (codes "field") (message_kind 5)) refl refl refl (map field_body head.fields) (each_fits (message_kind 5) field_body field_element head.fields), (list_fits (fields_of_type 2) 3 (many 3 (codes "nested_type") (message_kind 2)) refl refl refl inner fit, (list_fits (fields_of_type 2) 4 (many 4 (codes "enum_type") (message_kind 7)) refl refl refl (map enum_body head.enums) (each_fits (message_kind 7) enum_body enum_element head.enums), (entry_fits head.is_entry, (list_fits (fields_of_type 2) 8 (many 8 (codes "oneof_decl") (message_kind 6)) refl refl refl (map oneof_body head.oneofs) (each_fits (message_kind 6) oneof_body oneof_element head.oneofs), (list_fits (fields_of_type 2) 9 (many 9 (codes "reserved_range") (message_kind 3)) refl refl refl (map range_body head.reserved) (each_fits (message_kind 3) range_body range_element head.reserved), (list_fits (fields_of_type 2) 10 (many 10 (codes "reserved_name") kind.Text) refl refl refl (map text_datum head.reserved_names) (each_fits kind.Text text_datum text_element head.reserved_names), tt))))))))
 
 mutual
   message_fits : (m : DeclaredMessage) → IsElement (message_kind 2) (message_body m)
@@ -151,25 +161,29 @@ service_element : (s : DeclaredService) → IsElement (message_kind 10) (service
 service_element s = (
   refl,
   made_of 10 (service_contents s)
-      ((refl, refl), (list_fits (fields_of_type 10) 2 (many 2 (codes "method") (message_kind 11)) refl refl (map method_body s.methods) (each_fits (message_kind 11) method_body method_element s.methods), tt)),
+      ((refl, refl), (list_fits (fields_of_type 10) 2 (many 2 (codes "method") (message_kind 11)) refl refl refl (map method_body s.methods) (each_fits (message_kind 11) method_body method_element s.methods), tt)),
 )
 
 package_fits : (s : List ℕ) → Fits (fields_of_type 1) 2 (package_text s)
 package_fits [] = tt
 package_fits (c ∷ cs) = (refl, refl)
 
+syntax_fits : (two : Bool) → Fits (fields_of_type 1) 12 (syntax_text two)
+syntax_fits true = tt
+syntax_fits false = (refl, refl)
+
 file_element : (f : DeclaredFile) → IsElement (message_kind 1) (file_body f)
 file_element f = (
   refl,
   made_of 1 (file_contents f)
-      ((refl, refl), (package_fits f.package_name, (list_fits (fields_of_type 1) 3 (many 3 (codes "dependency") kind.Text) refl refl (map text_datum f.imports) (each_fits kind.Text text_datum text_element f.imports), (list_fits (fields_of_type 1) 4 (many 4 (codes "message_type") (message_kind 2)) refl refl (message_bodies f.messages) (messages_fit f.messages), (list_fits (fields_of_type 1) 5 (many 5 (codes "enum_type") (message_kind 7)) refl refl (map enum_body f.enums) (each_fits (message_kind 7) enum_body enum_element f.enums), (list_fits (fields_of_type 1) 6 (many 6 (codes "service") (message_kind 10)) refl refl (map service_body f.services) (each_fits (message_kind 10) service_body service_element f.services), (list_fits (fields_of_type 1) 10 (many 10 (codes "public_dependency") kind.Int32) refl refl (map int_datum f.public_indexes) (each_fits kind.Int32 int_datum int_element f.public_indexes), ((refl, refl), tt)))))))),
+      ((refl, refl), (package_fits f.package_name, (list_fits (fields_of_type 1) 3 (many 3 (codes "dependency") kind.Text) refl refl refl (map text_datum f.imports) (each_fits kind.Text text_datum text_element f.imports), (list_fits (fields_of_type 1) 4 (many 4 (codes "message_type") (message_kind 2)) refl refl refl (message_bodies f.messages) (messages_fit f.messages), (list_fits (fields_of_type 1) 5 (many 5 (codes "enum_type") (message_kind 7)) refl refl refl (map enum_body f.enums) (each_fits (message_kind 7) enum_body enum_element f.enums), (list_fits (fields_of_type 1) 6 (many 6 (codes "service") (message_kind 10)) refl refl refl (map service_body f.services) (each_fits (message_kind 10) service_body service_element f.services), (list_fits (fields_of_type 1) 10 (many 10 (codes "public_dependency") kind.Int32) refl refl refl (map int_datum f.public_indexes) (each_fits kind.Int32 int_datum int_element f.public_indexes), (syntax_fits f.is_proto2, tt)))))))),
 )
 
 set_fits : (files : List DeclaredFile) → body_cause descriptor_types the_set (set_body files) ≡ None
 set_fits files =
     ap (λ c. or_else c None)
     (all_fit (fields_of_type 0) ((1, a_list (map file_body files)) ∷ [])
-    (list_fits (fields_of_type 0) 1 (many 1 (codes "file") (message_kind 1)) refl refl (map file_body files) (each_fits (message_kind 1) file_body file_element files), tt))
+    (list_fits (fields_of_type 0) 1 (many 1 (codes "file") (message_kind 1)) refl refl refl (map file_body files) (each_fits (message_kind 1) file_body file_element files), tt))
 
 -- a set is refused for its depth alone
 pub set_refused_by_depth : (files : List DeclaredFile) → message_cause descriptor_types the_set (set_body files) ≡ unless (nat_le (message_depth (set_body files)) 100) TooDeep

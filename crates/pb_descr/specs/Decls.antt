@@ -63,6 +63,8 @@ pub record DeclaredFile : Type 0 where
   pub messages : DeclaredMessages
   pub enums : List DeclaredEnum
   pub services : List DeclaredService
+  -- the syntax is `proto2`, else `proto3`
+  pub is_proto2 : Bool
 
 abbrev pub messages_of : List DeclaredMessage → DeclaredMessages
 messages_of [] = no_messages

@@ -33,7 +33,7 @@ abbrev pub the_file : ℕ
 the_file = 1
 
 abbrev pub descriptor_file : FileView
-descriptor_file = record { name = codes "google/protobuf/descriptor.proto"; package_name = codes "google.protobuf"; imports = [] }
+descriptor_file = record { name = codes "google/protobuf/descriptor.proto"; package_name = codes "google.protobuf"; imports = []; proto2 = false }
 
 abbrev pub descriptor_types : Types
 descriptor_types = record {

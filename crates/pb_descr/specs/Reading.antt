@@ -1,6 +1,7 @@
 -- The declarations that a descriptor set's message stands for (descriptor.proto).
-use Rattle.std.specs.Prelude.{ℕ, zero, suc, ℤ, pos, negsuc, List, [], ◌∷◌, map, Option, None, unwrap_or, option_and_then, slice_get}
+use Rattle.std.specs.Prelude.{ℕ, zero, suc, ℤ, pos, negsuc, List, [], ◌∷◌, codes, length, map, Bool, ◌==◌, ◌||◌, Option, None, unwrap_or, option_and_then, slice_get}
 use Rattle.std.specs.Ordering.{int_eq, nat_cmp, match_ordering}
+use Rattle.std.specs.Str.{bytes_eq}
 use Rattle.pb_value.specs.Data.{Datum, scalar, message as one_message, Datums, no_datums, datum, Holding, one, list, map as a_map, Fields, no_fields, field, Message, body, fields_of}
 use Rattle.pb_descr.specs.declared.decl.TypeCode.{TypeCode}
 use Rattle.pb_descr.specs.declared.decl.TypeCode.TheVariants as code
@@ -100,6 +101,10 @@ method_in d =
 abbrev pub service_in : Datum → DeclaredService
 service_in d = record { name = name_at 1 (fields_in d); methods = map method_in (data_at 2 (fields_in d)) }
 
+-- a syntax that is missing or empty is `proto2`
+abbrev pub is_proto2 : Fields → Bool
+is_proto2 fs = (length (name_at 12 fs) == 0) || bytes_eq (codes "proto2") (name_at 12 fs)
+
 -- the declaration that a file's message stands for
 abbrev pub file_in : Datum → DeclaredFile
 file_in d =
@@ -112,6 +117,7 @@ file_in d =
       messages = messages_at 4 fs;
       enums = map enum_in (data_at 5 fs);
       services = map service_in (data_at 6 fs);
+      is_proto2 = is_proto2 fs;
     }
 
 -- the files of a set

@@ -71,4 +71,5 @@ file_view f = record {
   messages = messages_of (map message_view f.messages.items);
   enums = map enum_view f.enums.items;
   services = map service_view f.services.items;
+  is_proto2 = f.proto2;
 }

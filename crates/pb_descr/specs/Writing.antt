@@ -135,10 +135,15 @@ abbrev pub package_text : List ℕ → Option Holding
 package_text [] = None
 package_text (c ∷ cs) = a_text (c ∷ cs)
 
+-- none for `proto2`
+abbrev pub syntax_text : Bool → Option Holding
+syntax_text true = None
+syntax_text false = a_text (codes "proto3")
+
 abbrev pub file_contents : DeclaredFile → List (ℕ × Option Holding)
 file_contents f =
     (1, a_text f.name) ∷ (2, package_text f.package_name) ∷ (3, a_list (map text_datum f.imports)) ∷ (4, a_list (message_bodies f.messages)) ∷ (5, a_list (map enum_body f.enums))
-    ∷ (6, a_list (map service_body f.services)) ∷ (10, a_list (map int_datum f.public_indexes)) ∷ (12, a_text (codes "proto3")) ∷ []
+    ∷ (6, a_list (map service_body f.services)) ∷ (10, a_list (map int_datum f.public_indexes)) ∷ (12, syntax_text f.is_proto2) ∷ []
 
 abbrev pub file_body : DeclaredFile → Datum
 file_body f = a_message (file_contents f)

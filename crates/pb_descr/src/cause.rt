@@ -17,11 +17,11 @@ pub enum DeclCause {
     BadTypeNumber,
     /// A file or message declares an extension, a message an extension range, or a field extends a message.
     Extension,
-    /// The syntax is not `proto3`.
+    /// The syntax is neither `proto2` nor `proto3`.
     NotProto3,
     /// The label is `required`.
     Required,
-    /// The type is a group.
+    /// The type is a group, and the file is not of proto2.
     Group,
     /// A field has a default value.
     DefaultValue,

@@ -3,11 +3,12 @@
 ghost use Rattle.std.specs.Prelude.{◌≡◌, map, flat_map, is_some, slice_get};
 ghost use Rattle.pb_value.specs.View.{value_view};
 ghost use Rattle.pb_descr.specs.Held.{fields_in, text_at, int_at};
-ghost use Rattle.pb_descr.specs.Causes.{is_label, has_bad_type, is_group, has_any, is_proto3, named_causes, type_causes, proto2_causes, field_causes, listed_causes, head_causes, message_causes, file_head_causes, file_causes, causes_from, Judges};
+ghost use Rattle.pb_descr.specs.Reading.{is_proto2};
+ghost use Rattle.pb_descr.specs.Causes.{is_label, has_bad_type, is_group, has_any, is_proto3, has_known_syntax, named_causes, type_causes, proto2_causes, field_causes, listed_causes, head_causes, message_causes, file_head_causes, file_causes, causes_from, Judges};
 
 use crate::cause::DeclCause;
 use crate::decl::TypeCode;
-use crate::declaring::{OPTIONAL, REPEATED, label_at};
+use crate::declaring::{OPTIONAL, REPEATED, is_proto2, label_at};
 use crate::held::{int_at, name_at, text_at, values_at};
 use pb_value::Value;
 
@@ -76,9 +77,9 @@ fn check_type(field: &Value) -> Result<(), DeclCause>
     Ok(())
 }
 
-/// Checks that a field has nothing that only proto2 has.
-fn check_proto2(field: &Value) -> Result<(), DeclCause>
-    ensures { Judges result (proto2_causes (fields_in (value_view field.now))) }
+/// Checks that a field has nothing that only proto2 has, but for a group in a file of proto2.
+fn check_proto2(field: &Value, proto2: bool) -> Result<(), DeclCause>
+    ensures { Judges result (proto2_causes proto2 (fields_in (value_view field.now))) }
 {
     if has_text(field, 2) {
         return Err(DeclCause::Extension);
@@ -86,7 +87,7 @@ fn check_proto2(field: &Value) -> Result<(), DeclCause>
     if label_at(field) == REQUIRED {
         return Err(DeclCause::Required);
     }
-    if is_group(field) {
+    if !proto2 && is_group(field) {
         return Err(DeclCause::Group);
     }
     if has_text(field, 7) {
@@ -95,20 +96,20 @@ fn check_proto2(field: &Value) -> Result<(), DeclCause>
     Ok(())
 }
 
-fn check_field(field: &Value) -> Result<(), DeclCause>
-    ensures { Judges result (field_causes (value_view field.now)) }
+fn check_field(field: &Value, proto2: bool) -> Result<(), DeclCause>
+    ensures { Judges result (field_causes proto2 (value_view field.now)) }
 {
     check_name(field)?;
     check_type(field)?;
-    check_proto2(field)?;
+    check_proto2(field, proto2)?;
     Ok(())
 }
 
-fn check_fields(fields: &[Value]) -> Result<(), DeclCause>
-    ensures { Judges result (flat_map field_causes (map value_view fields.now)) }
+fn check_fields(fields: &[Value], proto2: bool) -> Result<(), DeclCause>
+    ensures { Judges result (flat_map (field_causes proto2) (map value_view fields.now)) }
 {
     for field in fields {
-        check_field(field)?;
+        check_field(field, proto2)?;
     }
     Ok(())
 }
@@ -143,34 +144,34 @@ fn check_all_listed(declared: &[Value]) -> Result<(), DeclCause>
 }
 
 /// Checks a message itself, its fields and its oneofs.
-fn check_head(message: &Value) -> Result<(), DeclCause>
-    ensures { Judges result (head_causes (fields_in (value_view message.now))) }
+fn check_head(message: &Value, proto2: bool) -> Result<(), DeclCause>
+    ensures { Judges result (head_causes proto2 (fields_in (value_view message.now))) }
 {
     check_name(message)?;
     if has_any(message, 5) || has_any(message, 6) {
         return Err(DeclCause::Extension);
     }
-    check_fields(values_at(message, 2))?;
+    check_fields(values_at(message, 2), proto2)?;
     check_names(values_at(message, 8))?;
     Ok(())
 }
 
 #[cycle(check)]
-fn check_message(message: &Value) -> Result<(), DeclCause>
-    ensures { Judges result (message_causes (value_view message.now)) }
+fn check_message(message: &Value, proto2: bool) -> Result<(), DeclCause>
+    ensures { Judges result (message_causes proto2 (value_view message.now)) }
 {
-    check_head(message)?;
-    check_messages(values_at(message, 3))?;
+    check_head(message, proto2)?;
+    check_messages(values_at(message, 3), proto2)?;
     check_all_listed(values_at(message, 4))?;
     Ok(())
 }
 
 #[cycle(check)]
-fn check_messages(messages: &[Value]) -> Result<(), DeclCause>
-    ensures { Judges result (flat_map message_causes (map value_view messages.now)) }
+fn check_messages(messages: &[Value], proto2: bool) -> Result<(), DeclCause>
+    ensures { Judges result (flat_map (message_causes proto2) (map value_view messages.now)) }
 {
     for message in messages {
-        check_message(message)?;
+        check_message(message, proto2)?;
     }
     Ok(())
 }
@@ -184,6 +185,12 @@ fn is_proto3(file: &Value) -> bool
     }
 }
 
+fn has_known_syntax(file: &Value) -> bool
+    ensures { result ≡ has_known_syntax (fields_in (value_view file.now)) }
+{
+    is_proto2(file) || is_proto3(file)
+}
+
 /// Checks a file itself.
 fn check_file_head(file: &Value) -> Result<(), DeclCause>
     ensures { Judges result (file_head_causes (fields_in (value_view file.now))) }
@@ -192,7 +199,7 @@ fn check_file_head(file: &Value) -> Result<(), DeclCause>
     if has_any(file, 7) {
         return Err(DeclCause::Extension);
     }
-    if !is_proto3(file) {
+    if !has_known_syntax(file) {
         return Err(DeclCause::NotProto3);
     }
     Ok(())
@@ -202,7 +209,8 @@ fn check_file(file: &Value) -> Result<(), DeclCause>
     ensures { Judges result (file_causes (value_view file.now)) }
 {
     check_file_head(file)?;
-    check_messages(values_at(file, 4))?;
+    let proto2 = is_proto2(file);
+    check_messages(values_at(file, 4), proto2)?;
     check_all_listed(values_at(file, 5))?;
     check_all_listed(values_at(file, 6))?;
     Ok(())

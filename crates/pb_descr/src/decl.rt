@@ -14,7 +14,7 @@ pub enum TypeCode {
     Bool,
     /// `string`.
     Text,
-    /// A group of proto2; no set with one is read.
+    /// A group; only files of proto2 have one.
     Group,
     Message,
     Bytes,
@@ -152,7 +152,7 @@ pub struct ServiceDecl {
     pub methods: Vec<MethodDecl>,
 }
 
-/// A file of proto3 (`FileDescriptorProto`).
+/// A file of proto2 or proto3 (`FileDescriptorProto`).
 #[derive(PartialEq, Eq, Debug, Drop)]
 pub struct FileDecl {
     pub name: String,
@@ -165,4 +165,6 @@ pub struct FileDecl {
     pub messages: Vec<MessageDecl>,
     pub enums: Vec<EnumDecl>,
     pub services: Vec<ServiceDecl>,
+    /// The syntax is `proto2`, else `proto3`.
+    pub proto2: bool,
 }

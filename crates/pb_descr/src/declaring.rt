@@ -4,7 +4,7 @@ ghost use Rattle.std.specs.Prelude.{◌≡◌, map, filter_map, option_map, opti
 ghost use Rattle.pb_value.specs.View.{value_view};
 ghost use Rattle.pb_descr.specs.Held.{fields_in, data_at, text_in, int_in, text_at, int_at};
 ghost use Rattle.pb_descr.specs.View.{field_view, numbered_view, enum_view, message_view, method_view, service_view, file_view};
-ghost use Rattle.pb_descr.specs.Reading.{range_in, label_at, type_of_number, field_in, value_in, enum_in, oneof_in, message_in, method_in, service_in, file_in};
+ghost use Rattle.pb_descr.specs.Reading.{range_in, label_at, type_of_number, field_in, value_in, enum_in, oneof_in, message_in, method_in, service_in, is_proto2, file_in};
 
 use crate::decl::{EnumDecl, FieldDecl, FileDecl, MessageDecl, MethodDecl, ServiceDecl, TypeCode};
 use crate::held::{
@@ -242,6 +242,14 @@ fn service_decls(alloc: Global, services: &[Value]) -> Result<Vec<ServiceDecl>, 
     Ok(decls)
 }
 
+/// Whether the syntax of a file is `proto2`, as it is where none is given.
+pub(crate) fn is_proto2(file: &Value) -> bool
+    ensures { result ≡ is_proto2 (fields_in (value_view file.now)) }
+{
+    let syntax = name_at(file, 12);
+    syntax.is_empty() || syntax == "proto2"
+}
+
 fn file_decl(alloc: Global, file: &Value) -> Result<FileDecl, AllocError>
     ensures { IfOk result (λ f. file_view f ≡ file_in (value_view file.now)) }
 {
@@ -260,6 +268,7 @@ fn file_decl(alloc: Global, file: &Value) -> Result<FileDecl, AllocError>
         messages,
         enums,
         services,
+        proto2: is_proto2(file),
     })
 }
 

@@ -5,7 +5,7 @@ ghost use Rattle.pb_value.specs.Data.{levels_of, datums_depth, datums_of, messag
 ghost use Rattle.pb_value.specs.View.{content_view, value_view, body_view};
 ghost use Rattle.pb_descr.specs.Decls.{inner_of, messages_of};
 ghost use Rattle.pb_descr.specs.View.{message_view, file_view};
-ghost use Rattle.pb_descr.specs.Writing.{a_list, package_text, message_body, message_bodies, file_body, set_body};
+ghost use Rattle.pb_descr.specs.Writing.{a_list, package_text, syntax_text, message_body, message_bodies, file_body, set_body};
 ghost use Rattle.pb_descr.specs.Sets.{CutAt};
 
 use crate::bodies::{enums, fields, numbers, oneofs, options, ranges, services, texts};
@@ -91,6 +91,17 @@ fn package_content(alloc: Global, name: &str) -> Result<Option<Content>, AllocEr
     Ok(Some(written))
 }
 
+/// The syntax, but of a file of proto2, where none is written.
+fn syntax_content(alloc: Global, proto2: bool) -> Result<Option<Content>, AllocError>
+    ensures { IfOk result (λ c. option_map content_view c ≡ syntax_text proto2) }
+{
+    if proto2 {
+        return Ok(None);
+    }
+    let written = text(alloc, "proto3")?;
+    Ok(Some(written))
+}
+
 /// A file beside its messages.
 fn file_with(alloc: Global, file: &FileDecl, messages: Option<Content>) -> Result<Value, AllocError>
     requires { option_map content_view messages ≡ a_list (message_bodies (file_view file.now).messages) }
@@ -102,7 +113,7 @@ fn file_with(alloc: Global, file: &FileDecl, messages: Option<Content>) -> Resul
     let enums = enums(alloc, &file.enums)?;
     let services = services(alloc, &file.services)?;
     let public = numbers(alloc, &file.public)?;
-    let syntax = text(alloc, "proto3")?;
+    let syntax = syntax_content(alloc, file.proto2)?;
     message(
         alloc,
         [
@@ -113,7 +124,7 @@ fn file_with(alloc: Global, file: &FileDecl, messages: Option<Content>) -> Resul
             (5, enums),
             (6, services),
             (10, public),
-            (12, Some(syntax)),
+            (12, syntax),
         ],
     )
 }

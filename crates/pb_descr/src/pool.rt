@@ -181,6 +181,7 @@ fn descriptor_file(alloc: Global) -> Result<FileInfo, AllocError>
         name,
         package,
         imports: Vec::new(alloc),
+        proto2: false,
     })
 }
 

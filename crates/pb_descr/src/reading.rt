@@ -74,8 +74,8 @@ fn declared_files(alloc: Global, set: Body) -> Result<Vec<FileDecl>, DescrError>
 /// The files that a descriptor set declares, in their order.
 ///
 /// The bytes are the text of a `google.protobuf.FileDescriptorSet`, of at most 2^31 - 1 bytes and at most 100 levels below the set, and
-/// each file is one of proto3 that shows no [`DeclCause`](crate::DeclCause). What declarations do not keep is passed over. A missing
-/// number is 0, a missing mark false, a missing label `optional`, and a missing package or method type empty.
+/// each file is one of proto2 or proto3 that shows no [`DeclCause`](crate::DeclCause). What declarations do not keep is passed over. A missing
+/// number is 0, a missing mark false, a missing label `optional`, a missing package or method type empty, and a missing or empty syntax `proto2`.
 ///
 /// Else the fault of the bytes is told, or the first cause: by file, then by declaration, then by number. A file comes before what it
 /// declares, in the order of messages (each with its fields, its oneofs, its nested messages and its enums), enums (each with its values)

@@ -42,8 +42,8 @@ fn set_message<'p>(
 
 /// The descriptor set of some files, in canonical form: fields by rising number, each list an element a record, all varints shortest.
 ///
-/// Written are every name, number, range bound, method type and element of a list, a package that is not empty, the syntax `proto3`, a
-/// label for each field, a type number, a type name and a oneof's index where they are given, the option `packed` where it is given, and
+/// Written are every name, number, range bound, method type and element of a list, a package that is not empty, the syntax of a file of
+/// proto3, a label for each field, a type number, a type name and a oneof's index where they are given, the option `packed` where it is given, and
 /// `map_entry`, `allow_alias`, `proto3_optional` and the streaming marks where they are true. Nothing is judged: what was written is read
 /// back where it shows no cause. Refused where the set would nest more than 100 levels deep, where its bytes would pass 2^31 - 1, and for
 /// want of memory.

@@ -34,6 +34,7 @@ fn nested(alloc: Global, depth: usize) -> Result<Vec<FileDecl>, AllocError> {
         messages,
         enums: Vec::new(alloc),
         services: Vec::new(alloc),
+        proto2: false,
     };
     Ok(vec![in alloc; file]?)
 }

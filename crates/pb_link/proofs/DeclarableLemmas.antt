@@ -95,6 +95,14 @@ key_names messages enums (kind.Enum e) h = absurd (no_key h)
   where
     no_key : IsTrue false → ⊥
     no_key x = cc
+key_names messages enums (kind.ClosedEnum e) h = absurd (no_key h)
+  where
+    no_key : IsTrue false → ⊥
+    no_key x = cc
+key_names messages enums (kind.Group e) h = absurd (no_key h)
+  where
+    no_key : IsTrue false → ⊥
+    no_key x = cc
 key_names messages enums (kind.Message m) h = absurd (no_key h)
   where
     no_key : IsTrue false → ⊥

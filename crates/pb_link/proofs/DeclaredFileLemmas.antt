@@ -81,7 +81,7 @@ imports_again ts pool (j ∷ is) all =
 each_again : (ts : Types) → IsPool ts → (k : ℕ) (fs : List FileView) → AllByRecursion (λ f. AllByRecursion (λ j. j < length ts.files) f.imports) fs → map (file_of (decls_of ts)) (map (declared_file ts) (enumerate_from k fs)) ≡ fs
 each_again ts pool k [] all = refl
 each_again ts pool k (f ∷ fs) all =
-    (λ i. record { name = f.name; package_name = f.package_name; imports = imports_again ts pool f.imports all.0 i } ∷ map (file_of (decls_of ts)) (map (declared_file ts) (enumerate_from (k + 1) fs)))
+    (λ i. record { name = f.name; package_name = f.package_name; imports = imports_again ts pool f.imports all.0 i; proto2 = f.proto2 } ∷ map (file_of (decls_of ts)) (map (declared_file ts) (enumerate_from (k + 1) fs)))
     ∙ ap (λ l. f ∷ l) (each_again ts pool (k + 1) fs all.1)
 
 pub files_again : (ts : Types) → IsPool ts → files_of (decls_of ts) ≡ ts.files

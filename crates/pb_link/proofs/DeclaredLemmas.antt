@@ -195,13 +195,13 @@ pub fields_start : (xs : List DeclaredField) → [] ++ xs ≡ xs
 fields_start xs = refl
 
 -- one more field is declared
-pub fields_more : (ts : Types) (scope : List ℕ) {X : Type 0} (view : X → FieldView) (xs : List X) (i : ℕ) (x : X) (synthetic next : ℕ) (held now : List DeclaredField) (d : DeclaredField) (whole : List DeclaredField) → i < length xs → x ≡ get_or xs i x → d ≡ declared_field ts scope synthetic (view x) → now ≡ held ++ d ∷ [] → next ≡ (if is_optional_view (view x) then synthetic + 1 else synthetic) → held ++ declared_fields ts scope synthetic (map view (drop i xs)) ≡ whole → now ++ declared_fields ts scope next (map view (drop (i + 1) xs)) ≡ whole
-fields_more ts scope view xs i x synthetic next held now d whole less there made pushed goes so_far =
-    ap (λ l. l ++ declared_fields ts scope next (map view (drop (i + 1) xs))) pushed
-    ∙ append_assoc held (d ∷ []) (declared_fields ts scope next (map view (drop (i + 1) xs)))
-    ∙ ap (λ y. held ++ y ∷ declared_fields ts scope next (map view (drop (i + 1) xs))) made
-    ∙ ap (λ n. held ++ declared_field ts scope synthetic (view x) ∷ declared_fields ts scope n (map view (drop (i + 1) xs))) goes
-    ∙ ap (λ l. held ++ declared_fields ts scope synthetic (map view l)) (sym (drop_more xs i x less ∙ ap (λ y. y ∷ drop (i + 1) xs) (sym there)))
+pub fields_more : (two : Bool) (ts : Types) (scope : List ℕ) {X : Type 0} (view : X → FieldView) (xs : List X) (i : ℕ) (x : X) (synthetic next : ℕ) (held now : List DeclaredField) (d : DeclaredField) (whole : List DeclaredField) → i < length xs → x ≡ get_or xs i x → d ≡ declared_field two ts scope synthetic (view x) → now ≡ held ++ d ∷ [] → next ≡ (if is_optional_view two (view x) then synthetic + 1 else synthetic) → held ++ declared_fields two ts scope synthetic (map view (drop i xs)) ≡ whole → now ++ declared_fields two ts scope next (map view (drop (i + 1) xs)) ≡ whole
+fields_more two ts scope view xs i x synthetic next held now d whole less there made pushed goes so_far =
+    ap (λ l. l ++ declared_fields two ts scope next (map view (drop (i + 1) xs))) pushed
+    ∙ append_assoc held (d ∷ []) (declared_fields two ts scope next (map view (drop (i + 1) xs)))
+    ∙ ap (λ y. held ++ y ∷ declared_fields two ts scope next (map view (drop (i + 1) xs))) made
+    ∙ ap (λ n. held ++ declared_field two ts scope synthetic (view x) ∷ declared_fields two ts scope n (map view (drop (i + 1) xs))) goes
+    ∙ ap (λ l. held ++ declared_fields two ts scope synthetic (map view l)) (sym (drop_more xs i x less ∙ ap (λ y. y ∷ drop (i + 1) xs) (sym there)))
     ∙ so_far
 
 past : {X : Type 0} (xs : List X) (i : ℕ) → length xs ≤ i → drop i xs ≡ []
@@ -210,9 +210,9 @@ past [] (suc i) h = refl
 past (x ∷ xs) zero h = absurd (omega (arith, h))
 past (x ∷ xs) (suc i) h = past xs i (omega (arith, h))
 
-pub fields_end : (ts : Types) (scope : List ℕ) {X : Type 0} (view : X → FieldView) (xs : List X) (i synthetic : ℕ) (held whole : List DeclaredField) → length xs ≤ i → held ++ declared_fields ts scope synthetic (map view (drop i xs)) ≡ whole → held ≡ whole
-fields_end ts scope view xs i synthetic held whole far so_far =
-    sym (append-nil held) ∙ ap (λ l. held ++ declared_fields ts scope synthetic (map view l)) (sym (past xs i far)) ∙ so_far
+pub fields_end : (two : Bool) (ts : Types) (scope : List ℕ) {X : Type 0} (view : X → FieldView) (xs : List X) (i synthetic : ℕ) (held whole : List DeclaredField) → length xs ≤ i → held ++ declared_fields two ts scope synthetic (map view (drop i xs)) ≡ whole → held ≡ whole
+fields_end two ts scope view xs i synthetic held whole far so_far =
+    sym (append-nil held) ∙ ap (λ l. held ++ declared_fields two ts scope synthetic (map view l)) (sym (past xs i far)) ∙ so_far
 
 -- ENTRIES
 

@@ -31,7 +31,7 @@ public_imports ts files k f =
 each_public : (ts : Types) (files : List DeclaredFile) (k : ℕ) (fs : List FileView) → map (public_file_of files) (map (declared_file ts) (enumerate_from k fs)) ≡ map (file_of files) (map (declared_file ts) (enumerate_from k fs))
 each_public ts files k [] = refl
 each_public ts files k (f ∷ fs) =
-    (λ i. record { name = f.name; package_name = f.package_name; imports = public_imports ts files k f i } ∷ map (public_file_of files) (map (declared_file ts) (enumerate_from (k + 1) fs)))
+    (λ i. record { name = f.name; package_name = f.package_name; imports = public_imports ts files k f i; proto2 = f.proto2 } ∷ map (public_file_of files) (map (declared_file ts) (enumerate_from (k + 1) fs)))
     ∙ ap (λ l. file_of files (declared_file ts (k, f)) ∷ l) (each_public ts files (k + 1) fs)
 
 -- each import is public

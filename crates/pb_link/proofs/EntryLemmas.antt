@@ -11,7 +11,7 @@ use Rattle.pb_descr.specs.Decls.{DeclaredField, MessageHead, DeclaredMessages}
 use Rattle.pb_link.specs.declared.cause.LinkCause.TheVariants as cause
 use Rattle.pb_link.specs.Declarations.{Item, a_message, a_field, Declaration, full_name}
 use Rattle.pb_link.specs.Lookup.{Found, found, not_found, not_visible, not_a_type, looked_up}
-use Rattle.pb_link.specs.Rules.{World, uses, is_found_at, is_used_rightly, is_map_field, has_one_use, has_key_and_value, has_nothing_inside, are_key_and_value, is_part, is_key_code, is_no_entry, key_name, value_name, place_found, is_entry}
+use Rattle.pb_link.specs.Rules.{World, uses, is_found_at, is_used_rightly, is_map_field, has_one_use, has_key_and_value, has_nothing_inside, are_key_and_value, is_part, is_value_part, is_group, is_key_code, is_no_entry, key_name, value_name, place_found, is_entry}
 use Rattle.pb_link.specs.Link.{holds, NothingFails}
 use Rattle.pb_link.specs.PoolOf.{entry_of, entry_declared, entry_by_item, part_named}
 use Rattle.pb_link.proofs.TypeLemmas.{some_same, and_left, and_right, place_holds}
@@ -78,6 +78,9 @@ pub record HasParts (w : World) (entry : Declaration) (head : MessageHead) : Typ
   pub value_found : part_named value_name head ≡ Some value
   pub key_kind : option_map_or is_key_code key.type_code false ≡ true
   pub value_type : option_map_or (is_no_entry w entry) value.type_name true ≡ true
+  pub value_single : is_group value.type_code ≡ false
+  pub value_index : ℕ
+  pub value_there : slice_get head.fields value_index ≡ Some value
 
 part_name : (name : List ℕ) (n : ℕ) (f : DeclaredField) → is_part name n f ≡ true → bytes_eq name f.name ≡ true
 part_name name n f h = and_left (bytes_eq name f.name) _ (and_left (bytes_eq name f.name && _) _ (and_left (bytes_eq name f.name && _ && _) _ h))
@@ -98,13 +101,20 @@ entry_parts w entry head h = by_fields head.fields h
     kv_key k v h = part_name key_name 1 k (and_left (is_part key_name 1 k) _ (and_left (is_part key_name 1 k && _) _ (and_left (is_part key_name 1 k && _ && _) _ h)))
 
     kv_value : (k v : DeclaredField) → are_key_and_value w entry k v ≡ true → bytes_eq value_name v.name ≡ true
-    kv_value k v h = part_name value_name 2 v (and_right (is_part key_name 1 k) (is_part value_name 2 v) (and_left (is_part key_name 1 k && is_part value_name 2 v) _ (and_left (is_part key_name 1 k && is_part value_name 2 v && _) _ h)))
+    kv_value k v h = part_name value_name 2 v (and_left (is_part value_name 2 v) (not (is_group v.type_code)) (and_right (is_part key_name 1 k) (is_value_part v) (and_left (is_part key_name 1 k && is_value_part v) _ (and_left (is_part key_name 1 k && is_value_part v && _) _ h))))
+
+    turned : (b : Bool) → not b ≡ true → b ≡ false
+    turned true h = absurd (false≢true h)
+    turned false h = refl
+
+    kv_single : (k v : DeclaredField) → are_key_and_value w entry k v ≡ true → is_group v.type_code ≡ false
+    kv_single k v h = turned (is_group v.type_code) (and_right (is_part value_name 2 v) (not (is_group v.type_code)) (and_right (is_part key_name 1 k) (is_value_part v) (and_left (is_part key_name 1 k && is_value_part v) _ (and_left (is_part key_name 1 k && is_value_part v && _) _ h))))
 
     kv_code : (k v : DeclaredField) → are_key_and_value w entry k v ≡ true → option_map_or is_key_code k.type_code false ≡ true
-    kv_code k v h = and_right (is_part key_name 1 k && is_part value_name 2 v) (option_map_or is_key_code k.type_code false) (and_left (is_part key_name 1 k && is_part value_name 2 v && option_map_or is_key_code k.type_code false) _ h)
+    kv_code k v h = and_right (is_part key_name 1 k && is_value_part v) (option_map_or is_key_code k.type_code false) (and_left (is_part key_name 1 k && is_value_part v && option_map_or is_key_code k.type_code false) _ h)
 
     kv_type : (k v : DeclaredField) → are_key_and_value w entry k v ≡ true → option_map_or (is_no_entry w entry) v.type_name true ≡ true
-    kv_type k v h = and_right (is_part key_name 1 k && is_part value_name 2 v && option_map_or is_key_code k.type_code false) (option_map_or (is_no_entry w entry) v.type_name true) h
+    kv_type k v h = and_right (is_part key_name 1 k && is_value_part v && option_map_or is_key_code k.type_code false) (option_map_or (is_no_entry w entry) v.type_name true) h
 
     either : (f g : DeclaredField) (a b : Bool) → are_key_and_value w entry f g ≡ a → are_key_and_value w entry g f ≡ b → (a || b) ≡ true → HasParts w entry (record head { fields = f ∷ g ∷ [] })
     either f g true b first second h = record {
@@ -114,6 +124,9 @@ entry_parts w entry head h = by_fields head.fields h
       value_found = second_found (λ x. bytes_eq value_name x.name) f g (other_name f value_name key_name refl (kv_key f g first)) (kv_value f g first);
       key_kind = kv_code f g first;
       value_type = kv_type f g first;
+      value_single = kv_single f g first;
+      value_index = 1;
+      value_there = refl;
     }
     either f g false true first second h = record {
       key = g;
@@ -122,6 +135,9 @@ entry_parts w entry head h = by_fields head.fields h
       value_found = first_found (λ x. bytes_eq value_name x.name) f g (kv_value g f second);
       key_kind = kv_code g f second;
       value_type = kv_type g f second;
+      value_single = kv_single g f second;
+      value_index = 0;
+      value_there = refl;
     }
     either f g false false first second h = absurd (false≢true h)
 

@@ -9,9 +9,9 @@ use Rattle.pb_schema.specs.Nesting.{parent_of, IsWithin, itself, deeper}
 use Rattle.pb_schema.specs.Rules.{FollowsParent, EnumsStandInOrder, StandsBefore, EndsNoLater}
 use Rattle.pb_descr.specs.Decls.{DeclaredEnum, MessageHead, DeclaredMessages, DeclaredFile}
 use Rattle.pb_link.specs.Declarations.{Item, a_file, a_message, a_field, a_oneof, an_enum, a_value, a_service, a_method, Declaration}
-use Rattle.pb_link.specs.Rules.{World, item_of, is_message}
+use Rattle.pb_link.specs.Rules.{World, item_of, is_message, is_message_type}
 use Rattle.pb_link.specs.Link.{NothingFails, IsWorldOf}
-use Rattle.pb_link.specs.PoolOf.{is_message_type, message_type, message_by_item, message_of_head, message_index, enum_type, enum_by_item, parent_type, parent_by_item, pool_of}
+use Rattle.pb_link.specs.PoolOf.{message_type, message_by_item, message_of_head, message_index, enum_type, enum_by_item, parent_type, parent_by_item, pool_of}
 use Rattle.pb_link.proofs.BehindLemmas.{StandsBehind, MayStandIn}
 use Rattle.pb_link.proofs.TypeLemmas.{some_same}
 use Rattle.pb_link.proofs.KindLemmas.{stands_behind, is_a_message}

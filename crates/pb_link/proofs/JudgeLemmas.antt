@@ -11,7 +11,7 @@ use Rattle.pb_descr.specs.Decls.{DeclaredField, DeclaredEnum, MessageHead, Decla
 use Rattle.pb_link.specs.declared.cause.LinkCause.TheVariants as cause
 use Rattle.pb_link.specs.Declarations.{Declaration, a_file, a_message, a_field, a_oneof, an_enum, a_value, a_service, a_method}
 use Rattle.pb_link.specs.Lookup.{not_found, not_visible, not_a_type}
-use Rattle.pb_link.specs.Rules.{World, name_is_right, name_is_free, is_looked_up, is_field_number, number_is_free, is_not_reserved, is_oneof_right, is_map_right, is_packed_right, begins_at_zero, is_type_right, ranges_are_right, is_packable, is_packable_by, is_type_by, passes, is_message, is_enum, lookups}
+use Rattle.pb_link.specs.Rules.{World, name_is_right, name_is_free, is_looked_up, is_field_number, number_is_free, is_not_reserved, is_oneof_right, is_map_right, is_packed_right, begins_right, is_two, is_enum_right, is_message_type, is_type_right, ranges_are_right, is_packable, is_packable_by, is_type_by, passes, is_message, is_enum, lookups}
 use Rattle.pb_link.specs.Link.{first_cause, holds}
 use Rattle.pb_link.specs.Judging.{first_failing}
 
@@ -31,7 +31,7 @@ pub message_judged : (w : World) (place file parent : ℕ) (scope : List ℕ) (h
     → first_failing ((cause.BadName, name) ∷ (cause.NameTaken, free) ∷ (cause.BadMap, entry) ∷ (cause.BadRange, ranges) ∷ []) ≡ first_cause w place (record { file = file; parent = parent; scope = scope; item = a_message head inner })
 message_judged w place file parent scope head inner name free entry ranges h1 h2 h3 h4 = λ i. first_failing ((cause.BadName, h1 i) ∷ (cause.NameTaken, h2 i) ∷ (cause.BadMap, h3 i) ∷ (cause.BadRange, h4 i) ∷ [])
 
-pub field_judged : (w : World) (place file parent : ℕ) (scope : List ℕ) (head : MessageHead) (index : ℕ) (f : DeclaredField) (name free found visible type number first kept oneof entry packed kind : Bool)
+pub field_judged : (w : World) (place file parent : ℕ) (scope : List ℕ) (head : MessageHead) (index : ℕ) (f : DeclaredField) (name free found visible type number first kept oneof entry packed kind closed : Bool)
     → name ≡ name_is_right (a_field head index f)
     → free ≡ name_is_free w place (record { file = file; parent = parent; scope = scope; item = a_field head index f })
     → found ≡ is_looked_up not_found w (record { file = file; parent = parent; scope = scope; item = a_field head index f })
@@ -40,12 +40,13 @@ pub field_judged : (w : World) (place file parent : ℕ) (scope : List ℕ) (hea
     → number ≡ is_field_number f.number
     → first ≡ number_is_free (a_field head index f)
     → kept ≡ is_not_reserved (a_field head index f)
-    → oneof ≡ is_oneof_right (a_field head index f)
+    → oneof ≡ (not (f.is_optional && is_two w.files file) && is_oneof_right (a_field head index f))
     → entry ≡ is_map_right w place (record { file = file; parent = parent; scope = scope; item = a_field head index f })
     → packed ≡ is_packed_right w (record { file = file; parent = parent; scope = scope; item = a_field head index f }) f
     → kind ≡ is_type_right w (record { file = file; parent = parent; scope = scope; item = a_field head index f }) f
-    → first_failing ((cause.BadName, name) ∷ (cause.NameTaken, free) ∷ (cause.NotFound, found) ∷ (cause.NotVisible, visible) ∷ (cause.NotAType, type) ∷ (cause.BadNumber, number) ∷ (cause.NumberTaken, first) ∷ (cause.Reserved, kept) ∷ (cause.BadOneof, oneof) ∷ (cause.BadMap, entry) ∷ (cause.BadPacked, packed) ∷ (cause.KindMismatch, kind) ∷ []) ≡ first_cause w place (record { file = file; parent = parent; scope = scope; item = a_field head index f })
-field_judged w place file parent scope head index f name free found visible type number first kept oneof entry packed kind h1 h2 h3 h4 h5 h6 h7 h8 h9 h10 h11 h12 = λ i. first_failing ((cause.BadName, h1 i) ∷ (cause.NameTaken, h2 i) ∷ (cause.NotFound, h3 i) ∷ (cause.NotVisible, h4 i) ∷ (cause.NotAType, h5 i) ∷ (cause.BadNumber, h6 i) ∷ (cause.NumberTaken, h7 i) ∷ (cause.Reserved, h8 i) ∷ (cause.BadOneof, h9 i) ∷ (cause.BadMap, h10 i) ∷ (cause.BadPacked, h11 i) ∷ (cause.KindMismatch, h12 i) ∷ [])
+    → closed ≡ is_enum_right w (record { file = file; parent = parent; scope = scope; item = a_field head index f })
+    → first_failing ((cause.BadName, name) ∷ (cause.NameTaken, free) ∷ (cause.NotFound, found) ∷ (cause.NotVisible, visible) ∷ (cause.NotAType, type) ∷ (cause.BadNumber, number) ∷ (cause.NumberTaken, first) ∷ (cause.Reserved, kept) ∷ (cause.BadOneof, oneof) ∷ (cause.BadMap, entry) ∷ (cause.BadPacked, packed) ∷ (cause.KindMismatch, kind) ∷ (cause.ClosedEnum, closed) ∷ []) ≡ first_cause w place (record { file = file; parent = parent; scope = scope; item = a_field head index f })
+field_judged w place file parent scope head index f name free found visible type number first kept oneof entry packed kind closed h1 h2 h3 h4 h5 h6 h7 h8 h9 h10 h11 h12 h13 = λ i. first_failing ((cause.BadName, h1 i) ∷ (cause.NameTaken, h2 i) ∷ (cause.NotFound, h3 i) ∷ (cause.NotVisible, h4 i) ∷ (cause.NotAType, h5 i) ∷ (cause.BadNumber, h6 i) ∷ (cause.NumberTaken, h7 i) ∷ (cause.Reserved, h8 i) ∷ (cause.BadOneof, h9 i) ∷ (cause.BadMap, h10 i) ∷ (cause.BadPacked, h11 i) ∷ (cause.KindMismatch, h12 i) ∷ (cause.ClosedEnum, h13 i) ∷ [])
 
 pub value_judged : (w : World) (place file parent : ℕ) (scope : List ℕ) (e : DeclaredEnum) (index : ℕ) (v : List ℕ × ℤ) (name free first kept : Bool)
     → name ≡ name_is_right (a_value e index v)
@@ -65,7 +66,7 @@ oneof_judged w place file parent scope head index o name free right h1 h2 h3 = �
 pub enum_judged : (w : World) (place file parent : ℕ) (scope : List ℕ) (e : DeclaredEnum) (name free zero_first ranges : Bool)
     → name ≡ name_is_right (an_enum e)
     → free ≡ name_is_free w place (record { file = file; parent = parent; scope = scope; item = an_enum e })
-    → zero_first ≡ begins_at_zero e
+    → zero_first ≡ begins_right (is_two w.files file) e
     → ranges ≡ ranges_are_right (an_enum e)
     → first_failing ((cause.BadName, name) ∷ (cause.NameTaken, free) ∷ (cause.BadEnum, zero_first) ∷ (cause.BadRange, ranges) ∷ []) ≡ first_cause w place (record { file = file; parent = parent; scope = scope; item = an_enum e })
 enum_judged w place file parent scope e name free zero_first ranges h1 h2 h3 h4 = λ i. first_failing ((cause.BadName, h1 i) ∷ (cause.NameTaken, h2 i) ∷ (cause.BadEnum, h3 i) ∷ (cause.BadRange, h4 i) ∷ [])
@@ -147,11 +148,11 @@ pub enum_told : (w : World) (place : ℕ) (d : Declaration) (e : DeclaredEnum) (
     → d.item ≡ an_enum e
     → name ≡ name_is_right d.item
     → free ≡ holds w place d cause.NameTaken
-    → zero_first ≡ begins_at_zero e
+    → zero_first ≡ begins_right (is_two w.files d.file) e
     → ranges ≡ ranges_are_right d.item
     → first_failing ((cause.BadName, name) ∷ (cause.NameTaken, free) ∷ (cause.BadEnum, zero_first) ∷ (cause.BadRange, ranges) ∷ []) ≡ first_cause w place d
 enum_told w place d e name free zero_first ranges is =
-    let P : Item → Type 0 = λ it. name ≡ name_is_right it → free ≡ holds w place (record { file = d.file; parent = d.parent; scope = d.scope; item = it }) cause.NameTaken → zero_first ≡ begins_at_zero e → ranges ≡ ranges_are_right it → first_failing ((cause.BadName, name) ∷ (cause.NameTaken, free) ∷ (cause.BadEnum, zero_first) ∷ (cause.BadRange, ranges) ∷ []) ≡ first_cause w place (record { file = d.file; parent = d.parent; scope = d.scope; item = it }) in
+    let P : Item → Type 0 = λ it. name ≡ name_is_right it → free ≡ holds w place (record { file = d.file; parent = d.parent; scope = d.scope; item = it }) cause.NameTaken → zero_first ≡ begins_right (is_two w.files d.file) e → ranges ≡ ranges_are_right it → first_failing ((cause.BadName, name) ∷ (cause.NameTaken, free) ∷ (cause.BadEnum, zero_first) ∷ (cause.BadRange, ranges) ∷ []) ≡ first_cause w place (record { file = d.file; parent = d.parent; scope = d.scope; item = it }) in
     subst P (sym is) (enum_judged w place d.file d.parent d.scope e name free zero_first ranges)
 
 pub service_told : (w : World) (place : ℕ) (d : Declaration) (s : DeclaredService) (name free : Bool)
@@ -177,7 +178,7 @@ method_told w place d m name free found visible type entry kind is =
     let P : Item → Type 0 = λ it. name ≡ name_is_right it → free ≡ holds w place (record { file = d.file; parent = d.parent; scope = d.scope; item = it }) cause.NameTaken → found ≡ is_looked_up not_found w (record { file = d.file; parent = d.parent; scope = d.scope; item = it }) → visible ≡ is_looked_up not_visible w (record { file = d.file; parent = d.parent; scope = d.scope; item = it }) → type ≡ is_looked_up not_a_type w (record { file = d.file; parent = d.parent; scope = d.scope; item = it }) → entry ≡ holds w place (record { file = d.file; parent = d.parent; scope = d.scope; item = it }) cause.BadMap → kind ≡ list_all (passes w is_message) (lookups w (record { file = d.file; parent = d.parent; scope = d.scope; item = it })) → first_failing ((cause.BadName, name) ∷ (cause.NameTaken, free) ∷ (cause.NotFound, found) ∷ (cause.NotVisible, visible) ∷ (cause.NotAType, type) ∷ (cause.BadMap, entry) ∷ (cause.KindMismatch, kind) ∷ []) ≡ first_cause w place (record { file = d.file; parent = d.parent; scope = d.scope; item = it }) in
     subst P (sym is) (method_judged w place d.file d.parent d.scope m name free found visible type entry kind)
 
-pub field_told : (w : World) (place : ℕ) (d : Declaration) (head : MessageHead) (index : ℕ) (f : DeclaredField) (name free found visible type number first kept oneof entry packed kind : Bool)
+pub field_told : (w : World) (place : ℕ) (d : Declaration) (head : MessageHead) (index : ℕ) (f : DeclaredField) (name free found visible type number first kept oneof entry packed kind closed : Bool)
     → d.item ≡ a_field head index f
     → name ≡ name_is_right d.item
     → free ≡ holds w place d cause.NameTaken
@@ -187,14 +188,15 @@ pub field_told : (w : World) (place : ℕ) (d : Declaration) (head : MessageHead
     → number ≡ is_field_number f.number
     → first ≡ number_is_free d.item
     → kept ≡ is_not_reserved d.item
-    → oneof ≡ is_oneof_right d.item
+    → oneof ≡ (not (f.is_optional && is_two w.files d.file) && is_oneof_right d.item)
     → entry ≡ holds w place d cause.BadMap
     → packed ≡ is_packed_right w d f
     → kind ≡ is_type_right w d f
-    → first_failing ((cause.BadName, name) ∷ (cause.NameTaken, free) ∷ (cause.NotFound, found) ∷ (cause.NotVisible, visible) ∷ (cause.NotAType, type) ∷ (cause.BadNumber, number) ∷ (cause.NumberTaken, first) ∷ (cause.Reserved, kept) ∷ (cause.BadOneof, oneof) ∷ (cause.BadMap, entry) ∷ (cause.BadPacked, packed) ∷ (cause.KindMismatch, kind) ∷ []) ≡ first_cause w place d
-field_told w place d head index f name free found visible type number first kept oneof entry packed kind is =
-    let P : Item → Type 0 = λ it. name ≡ name_is_right it → free ≡ holds w place (record { file = d.file; parent = d.parent; scope = d.scope; item = it }) cause.NameTaken → found ≡ is_looked_up not_found w (record { file = d.file; parent = d.parent; scope = d.scope; item = it }) → visible ≡ is_looked_up not_visible w (record { file = d.file; parent = d.parent; scope = d.scope; item = it }) → type ≡ is_looked_up not_a_type w (record { file = d.file; parent = d.parent; scope = d.scope; item = it }) → number ≡ is_field_number f.number → first ≡ number_is_free it → kept ≡ is_not_reserved it → oneof ≡ is_oneof_right it → entry ≡ holds w place (record { file = d.file; parent = d.parent; scope = d.scope; item = it }) cause.BadMap → packed ≡ is_packed_right w (record { file = d.file; parent = d.parent; scope = d.scope; item = it }) f → kind ≡ is_type_right w (record { file = d.file; parent = d.parent; scope = d.scope; item = it }) f → first_failing ((cause.BadName, name) ∷ (cause.NameTaken, free) ∷ (cause.NotFound, found) ∷ (cause.NotVisible, visible) ∷ (cause.NotAType, type) ∷ (cause.BadNumber, number) ∷ (cause.NumberTaken, first) ∷ (cause.Reserved, kept) ∷ (cause.BadOneof, oneof) ∷ (cause.BadMap, entry) ∷ (cause.BadPacked, packed) ∷ (cause.KindMismatch, kind) ∷ []) ≡ first_cause w place (record { file = d.file; parent = d.parent; scope = d.scope; item = it }) in
-    subst P (sym is) (field_judged w place d.file d.parent d.scope head index f name free found visible type number first kept oneof entry packed kind)
+    → closed ≡ is_enum_right w d
+    → first_failing ((cause.BadName, name) ∷ (cause.NameTaken, free) ∷ (cause.NotFound, found) ∷ (cause.NotVisible, visible) ∷ (cause.NotAType, type) ∷ (cause.BadNumber, number) ∷ (cause.NumberTaken, first) ∷ (cause.Reserved, kept) ∷ (cause.BadOneof, oneof) ∷ (cause.BadMap, entry) ∷ (cause.BadPacked, packed) ∷ (cause.KindMismatch, kind) ∷ (cause.ClosedEnum, closed) ∷ []) ≡ first_cause w place d
+field_told w place d head index f name free found visible type number first kept oneof entry packed kind closed is =
+    let P : Item → Type 0 = λ it. name ≡ name_is_right it → free ≡ holds w place (record { file = d.file; parent = d.parent; scope = d.scope; item = it }) cause.NameTaken → found ≡ is_looked_up not_found w (record { file = d.file; parent = d.parent; scope = d.scope; item = it }) → visible ≡ is_looked_up not_visible w (record { file = d.file; parent = d.parent; scope = d.scope; item = it }) → type ≡ is_looked_up not_a_type w (record { file = d.file; parent = d.parent; scope = d.scope; item = it }) → number ≡ is_field_number f.number → first ≡ number_is_free it → kept ≡ is_not_reserved it → oneof ≡ (not (f.is_optional && is_two w.files d.file) && is_oneof_right it) → entry ≡ holds w place (record { file = d.file; parent = d.parent; scope = d.scope; item = it }) cause.BadMap → packed ≡ is_packed_right w (record { file = d.file; parent = d.parent; scope = d.scope; item = it }) f → kind ≡ is_type_right w (record { file = d.file; parent = d.parent; scope = d.scope; item = it }) f → closed ≡ is_enum_right w (record { file = d.file; parent = d.parent; scope = d.scope; item = it }) → first_failing ((cause.BadName, name) ∷ (cause.NameTaken, free) ∷ (cause.NotFound, found) ∷ (cause.NotVisible, visible) ∷ (cause.NotAType, type) ∷ (cause.BadNumber, number) ∷ (cause.NumberTaken, first) ∷ (cause.Reserved, kept) ∷ (cause.BadOneof, oneof) ∷ (cause.BadMap, entry) ∷ (cause.BadPacked, packed) ∷ (cause.KindMismatch, kind) ∷ (cause.ClosedEnum, closed) ∷ []) ≡ first_cause w place (record { file = d.file; parent = d.parent; scope = d.scope; item = it }) in
+    subst P (sym is) (field_judged w place d.file d.parent d.scope head index f name free found visible type number first kept oneof entry packed kind closed)
 
 pub packable_by_name : (w : World) (d : Declaration) (f : DeclaredField) (r n a : Bool) → f.type_code ≡ None → r ≡ (n && a) → n ≡ is_some f.type_name → a ≡ list_all (passes w is_enum) (lookups w d) → r ≡ is_packable w d f
 packable_by_name w d f r n a none both named enums = both ∙ ap (λ b. b && a) named ∙ ap (λ b. is_some f.type_name && b) enums ∙ ap (is_packable_by w d f.type_name) (sym none)
@@ -208,3 +210,11 @@ message_by_name w d f r n a is both named messages = both ∙ ap (λ b. b && a) 
 
 pub enum_by_name : (w : World) (d : Declaration) (f : DeclaredField) (r n a : Bool) → f.type_code ≡ Some code.Enum → r ≡ (n && a) → n ≡ is_some f.type_name → a ≡ list_all (passes w is_enum) (lookups w d) → r ≡ is_type_right w d f
 enum_by_name w d f r n a is both named enums = both ∙ ap (λ b. b && a) named ∙ ap (λ b. is_some f.type_name && b) enums ∙ ap (is_type_by w d f.type_name) (sym is)
+
+pub group_by_name :
+    (w : World) (d : Declaration) (f : DeclaredField) (r inner two n a : Bool) → f.type_code ≡ Some code.Group → r ≡ (two && inner) → two ≡ is_two w.files d.file → inner ≡ (n && a) → n ≡ is_some f.type_name → a ≡ list_all (passes w is_message_type) (lookups w d) →
+    r ≡ is_type_right w d f
+group_by_name w d f r inner two n a is whole syntax both named messages =
+    whole ∙ ap (λ b. b && inner) syntax
+    ∙ ap (λ b. is_two w.files d.file && b) (both ∙ ap (λ b. b && a) named ∙ ap (λ b. is_some f.type_name && b) messages)
+    ∙ ap (is_type_by w d f.type_name) (sym is)

@@ -18,9 +18,9 @@ use Rattle.pb_descr.specs.Decls.{DeclaredField, DeclaredEnum, MessageHead, Decla
 use Rattle.pb_link.specs.Sees.{files_of}
 use Rattle.pb_link.specs.Declarations.{Item, a_file, a_message, a_field, an_enum, Declaration, full_name, is_type, has_name}
 use Rattle.pb_link.specs.Lookup.{Found, found, not_found, not_visible, not_a_type, looked_up, type_found, type_named, decided_name, unless_found, every_file, is_no_type}
-use Rattle.pb_link.specs.Rules.{World, item_of, is_entry, is_enum, is_field, place_found, is_key_code, is_no_entry, passes}
+use Rattle.pb_link.specs.Rules.{World, item_of, is_entry, is_enum, is_field, place_found, is_key_code, is_no_entry, passes, is_message_type, is_two, is_group}
 use Rattle.pb_link.specs.Link.{NothingFails, IsWorldOf}
-use Rattle.pb_link.specs.PoolOf.{message_type, enum_type, is_message_type, message_index, enum_index, kind_of_code, kind_by_item, message_of_head, parent_type, type_place, kind_by_place, kind_of_field, entry_of, entry_declared, entry_by_item, field_type, field_by_entry, list_shape, singular_shape, pool_of}
+use Rattle.pb_link.specs.PoolOf.{message_type, enum_type, message_index, enum_index, kind_of_code, kind_by_item, message_of_head, parent_type, type_place, kind_by_place, kind_of_field, entry_of, entry_declared, entry_by_item, field_type, field_by_entry, list_shape, singular_shape, pool_of, kind_at, kind_declared, enum_kind, group_of, grouped}
 use Rattle.pb_link.proofs.BehindLemmas.{StandsBehind}
 use Rattle.pb_link.proofs.TypeLemmas.{built, some_same, and_left, and_right, each_message, all_mapped, field_there}
 use Rattle.pb_link.proofs.SeenLemmas.{seen-reached}
@@ -156,13 +156,26 @@ right_scalar ts file (Some c) = right_code ts file c
 pub right_kind : (files : List DeclaredFile) (w : World) → IsWorldOf files w → (file : ℕ) (scope : List ℕ) (f : DeclaredField) → ((q : ℕ) (d : Declaration) → type_place w file scope f ≡ Some q → slice_get w.declared q ≡ Some d → is_entry d.item ≡ false) → IsRightKind (pool_of files w) file (kind_of_field w file scope f)
 right_kind files w world file scope f plain = by_place (type_place w file scope f) refl
   where
-    by_item : (q dfile parent : ℕ) (dscope : List ℕ) (it : Item) → slice_get w.declared q ≡ Some (record { file = dfile; parent = parent; scope = dscope; item = it }) → is_entry it ≡ false → IsSeen (files_of files) file dfile → IsRightKind (pool_of files w) file (kind_by_item w q (Some it))
+    enum_right : (b : Bool) (n : ℕ) → n < length (pool_of files w).enums → IfSome (slice_get (pool_of files w).enums n) (λ t. IsSeen (files_of files) file t.file) → IsRightKind (pool_of files w) file (enum_kind b n)
+    enum_right true n less seen = record { names = less; seen = seen }
+    enum_right false n less seen = record { names = less; seen = seen }
+
+    group_right : (k : Kind) → IsRightKind (pool_of files w) file k → IsRightKind (pool_of files w) file (group_of k)
+    group_right (kind.Message m) right = record { names = right.names; seen = right.seen }
+    group_right k right = right
+
+    grouped_right : (b : Bool) (k : Kind) → IsRightKind (pool_of files w) file k → IsRightKind (pool_of files w) file (grouped b k)
+    grouped_right true k right = group_right k right
+    grouped_right false k right = right
+
+    by_item : (q dfile parent : ℕ) (dscope : List ℕ) (it : Item) → slice_get w.declared q ≡ Some (record { file = dfile; parent = parent; scope = dscope; item = it }) → is_entry it ≡ false → IsSeen (files_of files) file dfile → IsRightKind (pool_of files w) file (kind_by_item w dfile q it)
     by_item q dfile parent dscope (a_message head inner) there none seen =
         let t = message_there files w q dfile parent dscope head inner there none in
         record { names = get-less (pool_of files w).messages (message_index w q) t.0 t.1; seen = some_seen (λ t. IsSeen (files_of files) file t.file) (slice_get (pool_of files w).messages (message_index w q)) t.0 t.1 (subst (λ i. IsSeen (files_of files) file i) (sym t.2) seen) }
     by_item q dfile parent dscope (an_enum e) there none seen =
         let t = enum_there files w q dfile parent dscope e there in
-        record { names = get-less (pool_of files w).enums (enum_index w q) t.0 t.1; seen = some_seen (λ t. IsSeen (files_of files) file t.file) (slice_get (pool_of files w).enums (enum_index w q)) t.0 t.1 (subst (λ i. IsSeen (files_of files) file i) (sym t.2) seen) }
+        enum_right (is_two w.files dfile) (enum_index w q) (get-less (pool_of files w).enums (enum_index w q) t.0 t.1)
+        (some_seen (λ t. IsSeen (files_of files) file t.file) (slice_get (pool_of files w).enums (enum_index w q)) t.0 t.1 (subst (λ i. IsSeen (files_of files) file i) (sym t.2) seen))
     by_item q dfile parent dscope (a_file g) there none seen = record { names = tt; seen = tt }
     by_item q dfile parent dscope it there none seen = record { names = tt; seen = tt }
 
@@ -171,7 +184,8 @@ right_kind files w world file scope f plain = by_place (type_place w file scope 
     by_place (Some q) is =
         let at = found_type w file scope f q is in
         let d = at.declared in
-        subst (λ i. IsRightKind (pool_of files w) file (kind_by_item w q i)) (sym (ap item_of at.there)) (by_item q d.file d.parent d.scope d.item at.there (plain q d is at.there) (seen-reached files file d.file ((world.sight.sees file d.file).0 at.seen)))
+        grouped_right (is_group f.type_code) (kind_at w q)
+        (subst (λ o. IsRightKind (pool_of files w) file (kind_declared w q o)) (sym at.there) (by_item q d.file d.parent d.scope d.item at.there (plain q d is at.there) (seen-reached files file d.file ((world.sight.sees file d.file).0 at.seen))))
 
 -- FIELDS
 
@@ -229,23 +243,27 @@ pub record IsRightField (ts : Types) (file : ℕ) (f : FieldView) : Type 0 where
   pub kind : IsRightKind ts file f.kind
   pub key : HasKeyKind f.shape
 
-plain_key : (f : DeclaredField) (k : Kind) (b : Bool) → HasKeyKind (if b then list_shape k f else singular_shape k f)
-plain_key f k true = tt
-plain_key f k false = by_mark f.is_optional f.oneof
+plain_key : (two : Bool) (f : DeclaredField) (k : Kind) (b : Bool) → HasKeyKind (if b then list_shape two k f else singular_shape two k f)
+plain_key two f k true = tt
+plain_key two f k false = by_mark f.is_optional f.oneof
   where
-    by_mark : (b : Bool) (o : Option ℤ) → HasKeyKind (singular_shape k (record f { is_optional = b; oneof = o }))
+    by_mark : (b : Bool) (o : Option ℤ) → HasKeyKind (singular_shape two k (record f { is_optional = b; oneof = o }))
     by_mark true o = tt
     by_mark false (Some (pos o)) = tt
-    by_mark false (Some (negsuc o)) = kinds k
+    by_mark false (Some (negsuc o)) = kinds two k
       where
-        kinds : (v : Kind) → HasKeyKind (singular_shape v (record f { is_optional = false; oneof = Some (negsuc o) }))
-        kinds (kind.Message m) = tt
-        kinds v = tt
-    by_mark false None = kinds k
+        kinds : (b : Bool) (v : Kind) → HasKeyKind (singular_shape b v (record f { is_optional = false; oneof = Some (negsuc o) }))
+        kinds true v = tt
+        kinds false (kind.Message m) = tt
+        kinds false (kind.Group m) = tt
+        kinds false v = tt
+    by_mark false None = kinds two k
       where
-        kinds : (v : Kind) → HasKeyKind (singular_shape v (record f { is_optional = false; oneof = None }))
-        kinds (kind.Message m) = tt
-        kinds v = tt
+        kinds : (b : Bool) (v : Kind) → HasKeyKind (singular_shape b v (record f { is_optional = false; oneof = None }))
+        kinds true v = tt
+        kinds false (kind.Message m) = tt
+        kinds false (kind.Group m) = tt
+        kinds false v = tt
 
 key_code : (c : TypeCode) → is_key_code c ≡ true → is_key_kind (kind_of_code c) ≡ true
 key_code code.Double h = absurd (false≢true h)
@@ -281,7 +299,7 @@ right_field files w world nothing k file parent scope head j f there = by_entry 
         is_a_head _ = false
 
     by_entry : (o : Option (MessageHead × List ℕ)) → entry_of w file scope f ≡ o → IsRightField (pool_of files w) file (field_by_entry w file scope f o)
-    by_entry None is = record { kind = right_kind files w world file scope f (no_entry_there w file scope f is); key = plain_key f (kind_of_field w file scope f) f.is_repeated }
+    by_entry None is = record { kind = right_kind files w world file scope f (no_entry_there w file scope f is); key = plain_key (is_two w.files file) f (kind_of_field w file scope f) f.is_repeated }
     by_entry (Some (h, name)) is =
         let u = entry_used w nothing k file parent scope head j f there h name is in
         by_uses h name u (right_entry w nothing u.place u.entry h u.inner u.there u.item u.is_entry).parts

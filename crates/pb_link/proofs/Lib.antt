@@ -33,6 +33,7 @@ pub mod GraphLemmas
 pub mod ComponentLemmas
 pub mod NameSetsLemmas
 pub mod ScopeSteps
+pub mod SyntaxLemmas
 pub mod PlacesLemmas
 pub mod NamesLemmas
 pub mod UseLemmas

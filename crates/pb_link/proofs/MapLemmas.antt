@@ -95,8 +95,8 @@ plain_field files w world all told k file parent scope head inner there j n same
     ∙ plain_name w (record { file = file; parent = parent; scope = scope; item = a_message head inner }) d f.type_name refl refl
 
 -- what a row tells of names that were found is what a world of that row tells
-pub plain_here : (w : World) (ds : List Declaration) (names at : TypeNames) (b : Bool) → w.declared ≡ ds → ((s : Sight) → b ≡ list_all (passes (world_of ds s) is_not_entry) (type_names_view names)) → names ≡ at → b ≡ are_plain w at
-plain_here w ds names at b is all same = of_world ds (λ v. b ≡ are_plain v names) all w is ∙ ap (are_plain w) same
+pub plain_here : (w : World) (ds : List Declaration) (names at : TypeNames) (b : Bool) → w.declared ≡ ds → ((fs : List DeclaredFile) (s : Sight) → b ≡ list_all (passes (world_of fs ds s) is_not_entry) (type_names_view names)) → names ≡ at → b ≡ are_plain w at
+plain_here w ds names at b is all same = of_world w.files ds (λ v. b ≡ are_plain v names) (all w.files) w refl is ∙ ap (are_plain w) same
 
 pub entry_right : (w : World) (all : List TypeNames) (place : ℕ) (m : MessageDecl) (fields : List FieldDecl) (is_used parts bare b : Bool) → fields ≡ (out-MessageDecl m).fields.items → parts ≡ right_parts (map field_view fields) (are_plain w (names_of_place all (place + 1))) (are_plain w (names_of_place all (place + 2))) → bare ≡ has_nothing_inside (head_of (message_view m)) (inner_of (message_view m)) → b ≡ is_right_entry (out-MessageDecl m).map_entry is_used parts bare → b ≡ entry_rule w all place (message_view m) is_used
 entry_right w all place m fields is_used parts bare b fields_is parts_is bare_is is =

@@ -14,9 +14,9 @@ use Rattle.pb_descr.specs.Decls.{DeclaredField, MessageHead, DeclaredMessages, D
 use Rattle.pb_link.specs.declared.cause.LinkCause.TheVariants as cause
 use Rattle.pb_link.specs.Declarations.{a_file, a_message, a_field, Declaration, files_declared, file_declared}
 use Rattle.pb_link.specs.Sees.{file_of, files_of}
-use Rattle.pb_link.specs.Rules.{World, is_field_number}
+use Rattle.pb_link.specs.Rules.{World, is_field_number, is_two}
 use Rattle.pb_link.specs.Link.{NothingFails, IsWorldOf}
-use Rattle.pb_link.specs.PoolOf.{field_type, field_by_entry, entry_of, list_shape, singular_shape, number_of, pool_of}
+use Rattle.pb_link.specs.PoolOf.{field_type, field_by_entry, entry_of, list_shape, singular_shape, number_of, pool_of, kind_of_field}
 use Rattle.pb_link.proofs.TypeLemmas.{some_same, place_holds, differ_twice, none_before, field_there, each_message, each_field}
 
 -- NUMBERS
@@ -95,29 +95,33 @@ file_names_differ files w world nothing = differ_twice (λ f. f.name) (file_of f
 
 -- SHAPES AND KINDS
 
-implicit_singular : (f : DeclaredField) (k : Kind) → MayBeImplicit (singular_shape k f) k
-implicit_singular f k = by_mark f.is_optional f.oneof
+implicit_singular : (two : Bool) (f : DeclaredField) (k : Kind) → MayBeImplicit (singular_shape two k f) k
+implicit_singular two f k = by_mark f.is_optional f.oneof
   where
-    by_mark : (b : Bool) (o : Option ℤ) → MayBeImplicit (singular_shape k (record f { is_optional = b; oneof = o })) k
+    by_mark : (b : Bool) (o : Option ℤ) → MayBeImplicit (singular_shape two k (record f { is_optional = b; oneof = o })) k
     by_mark true o = tt
     by_mark false (Some (pos o)) = tt
-    by_mark false (Some (negsuc o)) = kinds k
+    by_mark false (Some (negsuc o)) = kinds two k
       where
-        kinds : (v : Kind) → MayBeImplicit (singular_shape v (record f { is_optional = false; oneof = Some (negsuc o) })) v
-        kinds (kind.Message m) = tt
-        kinds v = tt
-    by_mark false None = kinds k
+        kinds : (b : Bool) (v : Kind) → MayBeImplicit (singular_shape b v (record f { is_optional = false; oneof = Some (negsuc o) })) v
+        kinds true v = tt
+        kinds false (kind.Message m) = tt
+        kinds false (kind.Group m) = tt
+        kinds false v = tt
+    by_mark false None = kinds two k
       where
-        kinds : (v : Kind) → MayBeImplicit (singular_shape v (record f { is_optional = false; oneof = None })) v
-        kinds (kind.Message m) = tt
-        kinds v = tt
+        kinds : (b : Bool) (v : Kind) → MayBeImplicit (singular_shape b v (record f { is_optional = false; oneof = None })) v
+        kinds true v = tt
+        kinds false (kind.Message m) = tt
+        kinds false (kind.Group m) = tt
+        kinds false v = tt
 
-implicit_kind : (f : DeclaredField) (k : Kind) (b : Bool) → MayBeImplicit (if b then list_shape k f else singular_shape k f) k
-implicit_kind f k true = tt
-implicit_kind f k false = implicit_singular f k
+implicit_kind : (two : Bool) (f : DeclaredField) (k : Kind) (b : Bool) → MayBeImplicit (if b then list_shape two k f else singular_shape two k f) k
+implicit_kind two f k true = tt
+implicit_kind two f k false = implicit_singular two f k
 
 implicit_field : (w : World) (file : ℕ) (scope : List ℕ) (f : DeclaredField) (o : Option (MessageHead × List ℕ)) → MayBeImplicit (field_by_entry w file scope f o).shape (field_by_entry w file scope f o).kind
-implicit_field w file scope f None = implicit_kind f _ f.is_repeated
+implicit_field w file scope f None = implicit_kind (is_two w.files file) f (kind_of_field w file scope f) f.is_repeated
 implicit_field w file scope f (Some (head, name)) = tt
 
 pub implicit_right : (files : List DeclaredFile) (w : World) → IsWorldOf files w → NothingFails w → ImplicitAreScalars (pool_of files w).messages

@@ -20,7 +20,7 @@ use Rattle.pb_link.specs.declared.cause.LinkCause.TheVariants as cause
 use Rattle.pb_link.specs.Sees.{file_of, files_of}
 use Rattle.pb_link.specs.Declarations.{Item, a_file, a_message, a_field, a_oneof, an_enum, a_value, a_service, a_method, Declaration, full_name, has_name, is_named, is_synthetic}
 use Rattle.pb_link.specs.Lookup.{makes_package, is_package_name, every_file}
-use Rattle.pb_link.specs.Rules.{World, is_message, is_enum, is_field, uses, has_one_use, is_one_map_field}
+use Rattle.pb_link.specs.Rules.{World, is_message, is_enum, is_field, uses, has_one_use, is_one_map_field, is_two}
 use Rattle.pb_link.specs.Link.{NothingFails, IsWorldOf}
 use Rattle.pb_link.specs.PoolOf.{message_type, message_by_item, enum_type, enum_by_item, message_of_head, message_index, parent_type, parent_by_item, field_type, field_by_entry, entry_of, kind_of_field, list_shape, singular_shape, number_of, real_oneofs, pool_of}
 use Rattle.pb_link.proofs.BehindLemmas.{StandsBehind, scope_in}
@@ -89,23 +89,27 @@ same_scope files w world k l d e at_d at_e no_d no_e same =
 
 -- NAMES
 
-plain_names : (f : DeclaredField) (k : Kind) (b : Bool) → names_of_field (record { name = f.name; number = number_of f.number; kind = k; shape = if b then list_shape k f else singular_shape k f }) ≡ f.name ∷ []
-plain_names f k true = refl
-plain_names f k false = by_mark f.is_optional f.oneof
+plain_names : (two : Bool) (f : DeclaredField) (k : Kind) (b : Bool) → names_of_field (record { name = f.name; number = number_of f.number; kind = k; shape = if b then list_shape two k f else singular_shape two k f }) ≡ f.name ∷ []
+plain_names two f k true = refl
+plain_names two f k false = by_mark f.is_optional f.oneof
   where
-    by_mark : (b : Bool) (o : Option ℤ) → names_of_field (record { name = f.name; number = number_of f.number; kind = k; shape = singular_shape k (record f { is_optional = b; oneof = o }) }) ≡ f.name ∷ []
+    by_mark : (b : Bool) (o : Option ℤ) → names_of_field (record { name = f.name; number = number_of f.number; kind = k; shape = singular_shape two k (record f { is_optional = b; oneof = o }) }) ≡ f.name ∷ []
     by_mark true o = refl
     by_mark false (Some (pos o)) = refl
-    by_mark false (Some (negsuc o)) = kinds k
+    by_mark false (Some (negsuc o)) = kinds two k
       where
-        kinds : (v : Kind) → names_of_field (record { name = f.name; number = number_of f.number; kind = k; shape = singular_shape v (record f { is_optional = false; oneof = Some (negsuc o) }) }) ≡ f.name ∷ []
-        kinds (kind.Message m) = refl
-        kinds v = refl
-    by_mark false None = kinds k
+        kinds : (b : Bool) (v : Kind) → names_of_field (record { name = f.name; number = number_of f.number; kind = k; shape = singular_shape b v (record f { is_optional = false; oneof = Some (negsuc o) }) }) ≡ f.name ∷ []
+        kinds true v = refl
+        kinds false (kind.Message m) = refl
+        kinds false (kind.Group m) = refl
+        kinds false v = refl
+    by_mark false None = kinds two k
       where
-        kinds : (v : Kind) → names_of_field (record { name = f.name; number = number_of f.number; kind = k; shape = singular_shape v (record f { is_optional = false; oneof = None }) }) ≡ f.name ∷ []
-        kinds (kind.Message m) = refl
-        kinds v = refl
+        kinds : (b : Bool) (v : Kind) → names_of_field (record { name = f.name; number = number_of f.number; kind = k; shape = singular_shape b v (record f { is_optional = false; oneof = None }) }) ≡ f.name ∷ []
+        kinds true v = refl
+        kinds false (kind.Message m) = refl
+        kinds false (kind.Group m) = refl
+        kinds false v = refl
 
 entry_full : (e : Declaration) (h : MessageHead) (inner : DeclaredMessages) (scope : List ℕ) → e.item ≡ a_message h inner → e.scope ≡ scope → full_name e ≡ in_scope scope h.name
 entry_full e h inner scope is same = subst (λ x. full_name (record e { item = x }) ≡ in_scope e.scope h.name) (sym is) refl ∙ ap (λ s. in_scope s h.name) same
@@ -230,7 +234,7 @@ field_names files w world nothing q file k scope head j f there = by_entry (entr
     own_class p same = ap (class_at w) same ∙ (is_of w q (record { file = file; parent = k; scope = scope; item = a_field head j f }) there).class
 
     by_entry : (o : Option (MessageHead × List ℕ)) → entry_of w file scope f ≡ o → ArePlaced (λ p n. IsNamedAt w p (in_scope scope n)) (Serves w k q) (f.name ∷ []) → ArePlaced (λ p n. IsNamedAt w p (in_scope scope n)) (Serves w k q) (names_of_field (field_by_entry w file scope f o))
-    by_entry None none own = subst (ArePlaced (λ p n. IsNamedAt w p (in_scope scope n)) (Serves w k q)) (sym (plain_names f (kind_of_field w file scope f) f.is_repeated)) own
+    by_entry None none own = subst (ArePlaced (λ p n. IsNamedAt w p (in_scope scope n)) (Serves w k q)) (sym (plain_names (is_two w.files file) f (kind_of_field w file scope f) f.is_repeated)) own
     by_entry (Some (h, name)) uses own = placed_append (λ p n. IsNamedAt w p (in_scope scope n)) (λ p. p ≡ q) (λ p. Serves w k q p × (class_at w p ≡ 3)) (Serves w k q)
         (λ p same entry. omega (arith, own_class p same, entry.1))
         (λ p same. let here = is_of w q (record { file = file; parent = k; scope = scope; item = a_field head j f }) there in (ap (owner_at w) same ∙ here.owner, inl (sym same, own_class p same)))

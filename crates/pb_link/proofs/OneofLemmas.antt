@@ -14,7 +14,7 @@ use Rattle.pb_schema.specs.Rules.{MembersNameOneofs, NamesOneof, OneofsHaveMembe
 use Rattle.pb_descr.specs.Decls.{DeclaredField, MessageHead, DeclaredMessages, DeclaredFile}
 use Rattle.pb_link.specs.declared.cause.LinkCause.TheVariants as cause
 use Rattle.pb_link.specs.Declarations.{Item, a_file, a_message, a_field, a_oneof, is_member_of, is_synthetic}
-use Rattle.pb_link.specs.Rules.{World, oneof_of_field_is_right, oneof_is_right, how_many, members_with, same_oneof, gives_name}
+use Rattle.pb_link.specs.Rules.{World, oneof_of_field_is_right, oneof_is_right, how_many, members_with, same_oneof, gives_name, is_two}
 use Rattle.pb_link.specs.Link.{NothingFails, IsWorldOf}
 use Rattle.pb_link.specs.PoolOf.{field_type, field_by_entry, entry_of, kind_of_field, list_shape, singular_shape, real_oneofs, pool_of}
 use Rattle.pb_link.proofs.TypeLemmas.{some_same, and_left, and_right, place_holds, all_mapped, field_there, oneof_there, each_message}
@@ -116,7 +116,7 @@ pub record OneofsAreRight (head : MessageHead) : Type 0 where
 
 pub oneofs_right : (files : List DeclaredFile) (w : World) → IsWorldOf files w → NothingFails w → (k file parent : ℕ) (scope : List ℕ) (head : MessageHead) (inner : DeclaredMessages) → slice_get w.declared k ≡ Some (record { file = file; parent = parent; scope = scope; item = a_message head inner }) → OneofsAreRight head
 oneofs_right files w world nothing k file parent scope head inner there = record {
-  of_field = λ j f at. place_holds w nothing (k + 1 + j) (record { file = file; parent = k; scope = in_scope scope head.name; item = a_field head j f }) cause.BadOneof (field_there files w world k file parent scope head inner there j f at);
+  of_field = λ j f at. and_right (not (f.is_optional && is_two w.files file)) (oneof_of_field_is_right head f) (place_holds w nothing (k + 1 + j) (record { file = file; parent = k; scope = in_scope scope head.name; item = a_field head j f }) cause.BadOneof (field_there files w world k file parent scope head inner there j f at));
   of_oneof = λ o name at. place_holds w nothing (k + 1 + (length head.fields + o)) (record { file = file; parent = k; scope = in_scope scope head.name; item = a_oneof head o name }) cause.BadOneof (oneof_there files w world k file parent scope head inner there o name at);
 }
 
@@ -235,29 +235,33 @@ real_member head right o less =
 
 -- THE TYPES
 
-oneof_of_shape : (head : MessageHead) → OneofsAreRight head → (j : ℕ) (f : DeclaredField) → slice_get head.fields j ≡ Some f → (k : Kind) → NamesOneof (length (real_oneofs head)) (if f.is_repeated then list_shape k f else singular_shape k f)
-oneof_of_shape head right j f at k = by_list f.is_repeated
+oneof_of_shape : (two : Bool) (head : MessageHead) → OneofsAreRight head → (j : ℕ) (f : DeclaredField) → slice_get head.fields j ≡ Some f → (k : Kind) → NamesOneof (length (real_oneofs head)) (if f.is_repeated then list_shape two k f else singular_shape two k f)
+oneof_of_shape two head right j f at k = by_list f.is_repeated
   where
-    by_mark : (b : Bool) (o : Option ℤ) → f.is_optional ≡ b → f.oneof ≡ o → NamesOneof (length (real_oneofs head)) (singular_shape k (record f { is_optional = b; oneof = o }))
+    by_mark : (b : Bool) (o : Option ℤ) → f.is_optional ≡ b → f.oneof ≡ o → NamesOneof (length (real_oneofs head)) (singular_shape two k (record f { is_optional = b; oneof = o }))
     by_mark true o plain is = tt
     by_mark false (Some (pos o)) plain is = real_index head right j f o at plain is
-    by_mark false (Some (negsuc o)) plain is = by_kind k
+    by_mark false (Some (negsuc o)) plain is = by_kind two k
       where
-        by_kind : (v : Kind) → NamesOneof (length (real_oneofs head)) (singular_shape v (record f { is_optional = false; oneof = Some (negsuc o) }))
-        by_kind (kind.Message m) = tt
-        by_kind v = tt
-    by_mark false None plain is = by_kind k
+        by_kind : (b : Bool) (v : Kind) → NamesOneof (length (real_oneofs head)) (singular_shape b v (record f { is_optional = false; oneof = Some (negsuc o) }))
+        by_kind true v = tt
+        by_kind false (kind.Message m) = tt
+        by_kind false (kind.Group m) = tt
+        by_kind false v = tt
+    by_mark false None plain is = by_kind two k
       where
-        by_kind : (v : Kind) → NamesOneof (length (real_oneofs head)) (singular_shape v (record f { is_optional = false; oneof = None }))
-        by_kind (kind.Message m) = tt
-        by_kind v = tt
+        by_kind : (b : Bool) (v : Kind) → NamesOneof (length (real_oneofs head)) (singular_shape b v (record f { is_optional = false; oneof = None }))
+        by_kind true v = tt
+        by_kind false (kind.Message m) = tt
+        by_kind false (kind.Group m) = tt
+        by_kind false v = tt
 
-    by_list : (b : Bool) → NamesOneof (length (real_oneofs head)) (if b then list_shape k f else singular_shape k f)
+    by_list : (b : Bool) → NamesOneof (length (real_oneofs head)) (if b then list_shape two k f else singular_shape two k f)
     by_list true = tt
     by_list false = by_mark f.is_optional f.oneof refl refl
 
 shape_names_oneof : (w : World) (file : ℕ) (scope : List ℕ) (head : MessageHead) → OneofsAreRight head → (j : ℕ) (f : DeclaredField) → slice_get head.fields j ≡ Some f → (o : Option (MessageHead × List ℕ)) → NamesOneof (length (real_oneofs head)) (field_by_entry w file scope f o).shape
-shape_names_oneof w file scope head right j f at None = oneof_of_shape head right j f at (kind_of_field w file scope f)
+shape_names_oneof w file scope head right j f at None = oneof_of_shape (is_two w.files file) head right j f at (kind_of_field w file scope f)
 shape_names_oneof w file scope head right j f at (Some (h, name)) = tt
 
 pub members_name_oneofs : (files : List DeclaredFile) (w : World) → IsWorldOf files w → NothingFails w → MembersNameOneofs (pool_of files w).messages
@@ -274,11 +278,11 @@ repeated_of head j f (a_message e inner) h = and_left f.is_repeated _ h
 repeated_of head j f (a_file g) h = absurd (false≢true h)
 repeated_of head j f it h = absurd (false≢true h)
 
-member_shape : (f : DeclaredField) (o : ℕ) (k : Kind) → f.is_optional ≡ false → f.oneof ≡ Some (pos o) → f.is_repeated ≡ false → IsMemberOf o (if f.is_repeated then list_shape k f else singular_shape k f)
-member_shape f o k plain is single =
-    subst (λ b. IsMemberOf o (if b then list_shape k f else singular_shape k f)) (sym single)
-    (subst (λ b. IsMemberOf o (singular_shape k (record f { is_optional = b }))) (sym plain)
-    (subst (λ i. IsMemberOf o (singular_shape k (record f { is_optional = false; oneof = i }))) (sym is) refl))
+member_shape : (two : Bool) (f : DeclaredField) (o : ℕ) (k : Kind) → f.is_optional ≡ false → f.oneof ≡ Some (pos o) → f.is_repeated ≡ false → IsMemberOf o (if f.is_repeated then list_shape two k f else singular_shape two k f)
+member_shape two f o k plain is single =
+    subst (λ b. IsMemberOf o (if b then list_shape two k f else singular_shape two k f)) (sym single)
+    (subst (λ b. IsMemberOf o (singular_shape two k (record f { is_optional = b }))) (sym plain)
+    (subst (λ i. IsMemberOf o (singular_shape two k (record f { is_optional = false; oneof = i }))) (sym is) refl))
 
 pub oneofs_have_members : (files : List DeclaredFile) (w : World) → IsWorldOf files w → NothingFails w → OneofsHaveMembers (pool_of files w).messages
 oneofs_have_members files w world nothing = each_message w EachOneofHasMember (λ k file parent scope head inner there plain o less. of_message k file parent scope head inner there o less)
@@ -291,7 +295,7 @@ oneofs_have_members files w world nothing = each_message w EachOneofHasMember (�
         has_member_at o (field_type w file name) head.fields m.0 m.1 m.2 (by_entry k file scope head m.0 m.1 o at m.3 m.4 m.5 (entry_of w file name m.1) refl)
       where
         by_entry : (k file : ℕ) (scope : List ℕ) (head : MessageHead) (j : ℕ) (f : DeclaredField) (o : ℕ) → slice_get w.declared (k + 1 + j) ≡ Some (record { file = file; parent = k; scope = in_scope scope head.name; item = a_field head j f }) → f.is_optional ≡ false → f.oneof ≡ Some (pos o) → f.is_repeated ≡ false → (e : Option (MessageHead × List ℕ)) → entry_of w file (in_scope scope head.name) f ≡ e → IsMemberOf o (field_by_entry w file (in_scope scope head.name) f e).shape
-        by_entry k file scope head j f o at plain is single None none = member_shape f o (kind_of_field w file (in_scope scope head.name) f) plain is single
+        by_entry k file scope head j f o at plain is single None none = member_shape (is_two w.files file) f o (kind_of_field w file (in_scope scope head.name) f) plain is single
         by_entry k file scope head j f o at plain is single (Some (h, name)) uses =
             let u = entry_used w nothing (k + 1 + j) file k (in_scope scope head.name) head j f at h name uses in
             absurd (false≢true (sym single ∙ repeated_of head j f u.entry.item (and_right (k == u.entry.parent) _ u.is_map)))

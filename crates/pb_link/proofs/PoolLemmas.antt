@@ -11,6 +11,7 @@ use Rattle.pb_link.proofs.FileLemmas.{files_named, packages_named, imports_few, 
 use Rattle.pb_link.proofs.FieldLemmas.{enums_begin, numbers_right, packed_right}
 use Rattle.pb_link.proofs.MemberLemmas.{file_names_differ, numbers_differ, implicit_right}
 use Rattle.pb_link.proofs.KindLemmas.{types_seen, keys_right}
+use Rattle.pb_link.proofs.SyntaxLemmas.{values_right, syntax_fields, syntax_enums}
 use Rattle.pb_link.proofs.OneofLemmas.{oneofs_have_members}
 use Rattle.pb_link.proofs.WordLemmas.{message_words, enum_words}
 use Rattle.pb_link.proofs.IndexLemmas.{index_rules}
@@ -38,6 +39,7 @@ field_rules files w world nothing = record {
     keys = keys_right files w world nothing;
     packed = packed_right files w world nothing;
     implicit = implicit_right files w world nothing;
+    values = values_right files w world nothing;
   };
 }
 
@@ -49,5 +51,5 @@ linked_pool files w world nothing = record {
   enums_in_order = enums_in_order files w world nothing;
   names = record { message_words = message_words files w world nothing; enum_words = enum_words files w world nothing; names_differ = names_differ files w world nothing; packages_free = packages_free files w world nothing };
   fields = field_rules files w world nothing;
-  enums_begin_at_zero = enums_begin files w nothing;
+  syntax = record { fields = syntax_fields files w world nothing; enums = syntax_enums files w world nothing; first_values = enums_begin files w world nothing };
 }

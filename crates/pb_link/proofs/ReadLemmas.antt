@@ -20,11 +20,12 @@ use Rattle.pb_descr.specs.Decls.{DeclaredField, MessageHead, DeclaredMessages, D
 use Rattle.pb_link.specs.Sees.{files_of}
 use Rattle.pb_link.specs.Declarations.{Item, a_file, a_message, a_field, a_oneof, an_enum, a_value, a_service, a_method, Declaration}
 use Rattle.pb_link.specs.Lookup.{Found, found, not_found, not_visible, not_a_type, looked_up}
-use Rattle.pb_link.specs.Rules.{World, item_of, lookups, uses, is_found_at, is_enum, is_message, is_field, place_found, has_key_and_value, key_name, value_name}
+use Rattle.pb_link.specs.Rules.{World, item_of, lookups, uses, is_found_at, is_enum, is_message, is_field, place_found, has_key_and_value, key_name, value_name, is_message_type, is_two, is_group}
 use Rattle.pb_link.specs.Link.{NothingFails, IsWorldOf}
-use Rattle.pb_link.specs.PoolOf.{is_message_type, message_index, enum_index, kind_at, kind_by_item, parent_type, parent_by_item, type_place, kind_by_place, kind_of_field, part_named, entry_declared, entry_by_item, with_kind, field_by_entry, field_type, message_of_head, message_type, message_by_item, enum_type, enum_by_item, pool_of}
+use Rattle.pb_link.specs.PoolOf.{message_index, enum_index, kind_at, kind_by_item, kind_declared, enum_kind, parent_type, parent_by_item, type_place, kind_by_place, kind_of_field, part_named, entry_declared, entry_by_item, with_kind, field_by_entry, field_type, message_of_head, message_type, message_by_item, enum_type, enum_by_item, pool_of, grouped}
 use Rattle.pb_link.specs.View.{declaration_view, type_names_view}
-use Rattle.pb_link.specs.Parts.{kind_here, kinds_from, one_if, first_place, place_named, kind_of_number, kind_read, fields_of_entry, entry_read, parts_read, map_field, field_by_fields, field_by_place, fields_read, message_of_kind, parent_read, message_part, enum_part, messages_read, enums_read}
+use Rattle.pb_descr.specs.View.{file_view as declared_file_view}
+use Rattle.pb_link.specs.Parts.{kind_here, kinds_from, one_if, first_place, place_named, kind_of_number, kind_read, fields_of_entry, entry_read, parts_read, map_field, field_by_fields, field_by_place, fields_read, message_of_kind, parent_read, message_part, enum_part, messages_read, enums_read, is_read_two}
 use Rattle.pb_link.specs.declared.parts.tables.Tables.{Tables}
 use Rattle.pb_link.proofs.TypeLemmas.{some_same, and_left, field_there}
 use Rattle.pb_link.proofs.EntryLemmas.{UsesEntry, entry_used, HasParts, IsRightEntry, right_entry, other_name}
@@ -34,7 +35,8 @@ use Rattle.pb_link.proofs.KindLemmas.{same_file}
 pub record AreTables (w : World) (t : Tables) : Type 0 where
   pub declared : w.declared ≡ map declaration_view t.row.now
   pub found : map type_names_view t.found.now ≡ map (lookups w) w.declared
-  pub kinds : t.kinds.items ≡ kinds_from 0 0 w.declared
+  pub kinds : t.kinds.items ≡ kinds_from w.files 0 0 w.declared
+  pub files : map declared_file_view t.files.now ≡ w.files
 
 zero_plus : (n : ℕ) → 0 + n ≡ n
 zero_plus n = omega arith
@@ -45,55 +47,59 @@ one_if_plus : {X : Type 0} (b : Bool) (n : ℕ) (x : X) (xs : List X) → one_if
 one_if_plus true n x xs = omega arith
 one_if_plus false n x xs = refl
 
-kinds_get : (m e : ℕ) (ds : List Declaration) (p : ℕ) (d : Declaration) → slice_get ds p ≡ Some d → slice_get (kinds_from m e ds) p ≡ Some (kind_here (m + length (filter (λ x. is_message_type x.item) (take p ds))) (e + length (filter (λ x. is_enum x.item) (take p ds))) d.item)
-kinds_get m e [] p d there = absurd (none-some d there)
-kinds_get m e (x ∷ ds) zero d there =
+kinds_get : (fs : List DeclaredFile) (m e : ℕ) (ds : List Declaration) (p : ℕ) (d : Declaration) → slice_get ds p ≡ Some d → slice_get (kinds_from fs m e ds) p ≡ Some (kind_here (is_two fs d.file) (m + length (filter (λ x. is_message_type x.item) (take p ds))) (e + length (filter (λ x. is_enum x.item) (take p ds))) d.item)
+kinds_get fs m e [] p d there = absurd (none-some d there)
+kinds_get fs m e (x ∷ ds) zero d there =
     let no_messages : m ≡ m + 0 = sym (add-zero m) in
     let no_enums : e ≡ e + 0 = sym (add-zero e) in
-    λ i. Some (kind_here (no_messages i) (no_enums i) (some_same x d there i).item)
-kinds_get m e (x ∷ ds) (suc p) d there =
-    kinds_get (one_if (is_message_type x.item) m) (one_if (is_enum x.item) e) ds p d there
-    ∙ λ i. Some (kind_here (one_if_plus (is_message_type x.item) m x (filter (λ x. is_message_type x.item) (take p ds)) i) (one_if_plus (is_enum x.item) e x (filter (λ x. is_enum x.item) (take p ds)) i) d.item)
+    λ i. Some (kind_here (is_two fs (some_same x d there i).file) (no_messages i) (no_enums i) (some_same x d there i).item)
+kinds_get fs m e (x ∷ ds) (suc p) d there =
+    kinds_get fs (one_if (is_message_type x.item) m) (one_if (is_enum x.item) e) ds p d there
+    ∙ λ i. Some (kind_here (is_two fs d.file) (one_if_plus (is_message_type x.item) m x (filter (λ x. is_message_type x.item) (take p ds)) i) (one_if_plus (is_enum x.item) e x (filter (λ x. is_enum x.item) (take p ds)) i) d.item)
 
-kinds_past : (m e : ℕ) (ds : List Declaration) (p : ℕ) → slice_get ds p ≡ None → slice_get (kinds_from m e ds) p ≡ None
-kinds_past m e [] p past = refl
-kinds_past m e (x ∷ ds) zero past = absurd (none-some x (sym past))
-kinds_past m e (x ∷ ds) (suc p) past = kinds_past (one_if (is_message_type x.item) m) (one_if (is_enum x.item) e) ds p past
+kinds_past : (fs : List DeclaredFile) (m e : ℕ) (ds : List Declaration) (p : ℕ) → slice_get ds p ≡ None → slice_get (kinds_from fs m e ds) p ≡ None
+kinds_past fs m e [] p past = refl
+kinds_past fs m e (x ∷ ds) zero past = absurd (none-some x (sym past))
+kinds_past fs m e (x ∷ ds) (suc p) past = kinds_past fs (one_if (is_message_type x.item) m) (one_if (is_enum x.item) e) ds p past
 
-kind_by_here : (w : World) (p : ℕ) (it : Item) → kind_here (0 + message_index w p) (0 + enum_index w p) it ≡ kind_by_item w p (Some it)
-kind_by_here w p (a_message head inner) = λ i. kind.Message (record { 0 = zero_plus (message_index w p) i })
-kind_by_here w p (an_enum e) = λ i. kind.Enum (record { 0 = zero_plus (enum_index w p) i })
-kind_by_here w p (a_file f) = refl
-kind_by_here w p (a_field head i f) = refl
-kind_by_here w p (a_oneof head i name) = refl
-kind_by_here w p (a_value e i v) = refl
-kind_by_here w p (a_service s) = refl
-kind_by_here w p (a_method m) = refl
+kind_by_here : (w : World) (file p : ℕ) (it : Item) → kind_here (is_two w.files file) (0 + message_index w p) (0 + enum_index w p) it ≡ kind_by_item w file p it
+kind_by_here w file p (a_message head inner) = λ i. kind.Message (record { 0 = zero_plus (message_index w p) i })
+kind_by_here w file p (an_enum e) = ap (enum_kind (is_two w.files file)) (zero_plus (enum_index w p))
+kind_by_here w file p (a_file f) = refl
+kind_by_here w file p (a_field head i f) = refl
+kind_by_here w file p (a_oneof head i name) = refl
+kind_by_here w file p (a_value e i v) = refl
+kind_by_here w file p (a_service s) = refl
+kind_by_here w file p (a_method m) = refl
 
 -- the kinds of the table are those of the pool
 kind_there : (w : World) (t : Tables) → AreTables w t → (p : ℕ) → option_map_or (λ k. k) (slice_get t.kinds.items p) kind.Bool ≡ kind_at w p
 kind_there w t tables p = ap (λ ks. option_map_or (λ k. k) (slice_get ks p) kind.Bool) tables.kinds ∙ by_declared (slice_get w.declared p) refl
   where
-    by_declared : (o : Option Declaration) → slice_get w.declared p ≡ o → option_map_or (λ k. k) (slice_get (kinds_from 0 0 w.declared) p) kind.Bool ≡ kind_at w p
-    by_declared None there = ap (λ o. option_map_or (λ k. k) o kind.Bool) (kinds_past 0 0 w.declared p there) ∙ sym (ap (λ o. kind_by_item w p (item_of o)) there)
-    by_declared (Some d) there = ap (λ o. option_map_or (λ k. k) o kind.Bool) (kinds_get 0 0 w.declared p d there) ∙ kind_by_here w p d.item ∙ sym (ap (λ o. kind_by_item w p (item_of o)) there)
+    by_declared : (o : Option Declaration) → slice_get w.declared p ≡ o → option_map_or (λ k. k) (slice_get (kinds_from w.files 0 0 w.declared) p) kind.Bool ≡ kind_at w p
+    by_declared None there = ap (λ o. option_map_or (λ k. k) o kind.Bool) (kinds_past w.files 0 0 w.declared p there) ∙ sym (ap (kind_declared w p) there)
+    by_declared (Some d) there = ap (λ o. option_map_or (λ k. k) o kind.Bool) (kinds_get w.files 0 0 w.declared p d there) ∙ kind_by_here w d.file p d.item ∙ sym (ap (kind_declared w p) there)
 
-parent_by_kind : (w : World) (p : ℕ) (it : Item) → message_of_kind (kind_by_item w p (Some it)) ≡ parent_by_item w p (Some it)
-parent_by_kind w p (a_message head inner) = refl
-parent_by_kind w p (an_enum e) = refl
-parent_by_kind w p (a_file f) = refl
-parent_by_kind w p (a_field head i f) = refl
-parent_by_kind w p (a_oneof head i name) = refl
-parent_by_kind w p (a_value e i v) = refl
-parent_by_kind w p (a_service s) = refl
-parent_by_kind w p (a_method m) = refl
+parent_by_kind : (w : World) (file p : ℕ) (it : Item) → message_of_kind (kind_by_item w file p it) ≡ parent_by_item w p (Some it)
+parent_by_kind w file p (a_message head inner) = refl
+parent_by_kind w file p (an_enum e) = no_parent (is_two w.files file) (enum_index w p)
+  where
+    no_parent : (b : Bool) (n : ℕ) → message_of_kind (enum_kind b n) ≡ None
+    no_parent true n = refl
+    no_parent false n = refl
+parent_by_kind w file p (a_file f) = refl
+parent_by_kind w file p (a_field head i f) = refl
+parent_by_kind w file p (a_oneof head i name) = refl
+parent_by_kind w file p (a_value e i v) = refl
+parent_by_kind w file p (a_service s) = refl
+parent_by_kind w file p (a_method m) = refl
 
 parent_there : (w : World) (t : Tables) → AreTables w t → (p : ℕ) → parent_read t p ≡ parent_type w p
 parent_there w t tables p = ap (λ ks. option_and_then message_of_kind (slice_get ks p)) tables.kinds ∙ by_declared (slice_get w.declared p) refl
   where
-    by_declared : (o : Option Declaration) → slice_get w.declared p ≡ o → option_and_then message_of_kind (slice_get (kinds_from 0 0 w.declared) p) ≡ parent_type w p
-    by_declared None there = ap (option_and_then message_of_kind) (kinds_past 0 0 w.declared p there) ∙ sym (ap (λ o. parent_by_item w p (item_of o)) there)
-    by_declared (Some d) there = ap (option_and_then message_of_kind) (kinds_get 0 0 w.declared p d there) ∙ ap message_of_kind (kind_by_here w p d.item) ∙ parent_by_kind w p d.item ∙ sym (ap (λ o. parent_by_item w p (item_of o)) there)
+    by_declared : (o : Option Declaration) → slice_get w.declared p ≡ o → option_and_then message_of_kind (slice_get (kinds_from w.files 0 0 w.declared) p) ≡ parent_type w p
+    by_declared None there = ap (option_and_then message_of_kind) (kinds_past w.files 0 0 w.declared p there) ∙ sym (ap (λ o. parent_by_item w p (item_of o)) there)
+    by_declared (Some d) there = ap (option_and_then message_of_kind) (kinds_get w.files 0 0 w.declared p d there) ∙ ap message_of_kind (kind_by_here w d.file p d.item) ∙ parent_by_kind w d.file p d.item ∙ sym (ap (λ o. parent_by_item w p (item_of o)) there)
 
 -- TYPE NAMES
 
@@ -127,7 +133,7 @@ kind_is w t tables file scope f = by_place (type_place w file scope f)
   where
     by_place : (o : Option ℕ) → kind_read t o f.type_code ≡ kind_by_place w f o
     by_place None = refl
-    by_place (Some p) = kind_there w t tables p
+    by_place (Some p) = ap (grouped (is_group f.type_code)) (kind_there w t tables p)
 
 -- ENTRIES
 
@@ -206,14 +212,14 @@ entry_there w t tables p =
     then_map declaration_view (λ d. fields_of_entry d.item) (slice_get t.row.now p)
     ∙ ap (option_and_then (λ d. fields_of_entry d.item)) (sym (slice_get-map declaration_view t.row.now p) ∙ ap (λ ds. slice_get ds p) (sym tables.declared))
 
-field_is : (files : List DeclaredFile) (w : World) → IsWorldOf files w → NothingFails w → (t : Tables) → AreTables w t → (q file parent : ℕ) (scope : List ℕ) (head : MessageHead) (j : ℕ) (f : DeclaredField) → slice_get w.declared q ≡ Some (record { file = file; parent = parent; scope = scope; item = a_field head j f }) → field_by_place t f (type_place w file scope f) ≡ field_type w file scope f
+field_is : (files : List DeclaredFile) (w : World) → IsWorldOf files w → NothingFails w → (t : Tables) → AreTables w t → (q file parent : ℕ) (scope : List ℕ) (head : MessageHead) (j : ℕ) (f : DeclaredField) → slice_get w.declared q ≡ Some (record { file = file; parent = parent; scope = scope; item = a_field head j f }) → field_by_place (is_two w.files file) t f (type_place w file scope f) ≡ field_type w file scope f
 field_is files w world nothing t tables q file parent scope head j f there = by_place (type_place w file scope f) refl
   where
     eq_of : (a b : ℕ) → (a == b) ≡ true → a ≡ b
     eq_of a b e = grind (arith, nat_tests)
 
-    plain : (p : ℕ) → type_place w file scope f ≡ Some p → with_kind f (kind_read t (Some p) f.type_code) ≡ with_kind f (kind_of_field w file scope f)
-    plain p is = ap (with_kind f) (kind_there w t tables p ∙ sym (ap (kind_by_place w f) is))
+    plain : (p : ℕ) → type_place w file scope f ≡ Some p → with_kind (is_two w.files file) f (kind_read t (Some p) f.type_code) ≡ with_kind (is_two w.files file) f (kind_of_field w file scope f)
+    plain p is = ap (with_kind (is_two w.files file) f) (ap (grouped (is_group f.type_code)) (kind_there w t tables p) ∙ sym (ap (kind_by_place w f) is))
 
     by_used : (p : ℕ) (e : Declaration) (h : MessageHead) (inner : DeclaredMessages) → type_place w file scope f ≡ Some p → slice_get w.declared p ≡ Some e → e.item ≡ a_message h inner → (h2 : MessageHead) (name : List ℕ) → UsesEntry w (record { file = file; parent = parent; scope = scope; item = a_field head j f }) h2 name → e.file ≡ file
     by_used p e h inner is at item h2 name u =
@@ -222,7 +228,7 @@ field_is files w world nothing t tables q file parent scope head j f there = by_
         ap (λ x. x.file) (sym entry)
         ∙ sym (same_file files w world q u.place (record { file = file; parent = parent; scope = scope; item = a_field head j f }) u.entry there u.there (λ g is. false≢true (sym (ap is_field is))) (λ g is. false≢true (ap is_message (sym is ∙ u.item))) (eq_of parent u.entry.parent (and_left (parent == u.entry.parent) _ u.is_map)))
 
-    by_mark : (p efile eparent : ℕ) (escope : List ℕ) (h : MessageHead) (inner : DeclaredMessages) (b : Bool) → h.is_entry ≡ b → type_place w file scope f ≡ Some p → slice_get w.declared p ≡ Some (record { file = efile; parent = eparent; scope = escope; item = a_message h inner }) → field_by_fields t p f (if b then Some h.fields else None) ≡ field_by_entry w file scope f (if b then Some (h, in_scope escope h.name) else None)
+    by_mark : (p efile eparent : ℕ) (escope : List ℕ) (h : MessageHead) (inner : DeclaredMessages) (b : Bool) → h.is_entry ≡ b → type_place w file scope f ≡ Some p → slice_get w.declared p ≡ Some (record { file = efile; parent = eparent; scope = escope; item = a_message h inner }) → field_by_fields (is_two w.files file) t p f (if b then Some h.fields else None) ≡ field_by_entry w file scope f (if b then Some (h, in_scope escope h.name) else None)
     by_mark p efile eparent escope h inner false mark is at = plain p is
     by_mark p efile eparent escope h inner true mark is at =
         let e : Declaration = record { file = efile; parent = eparent; scope = escope; item = a_message h inner } in
@@ -231,7 +237,7 @@ field_is files w world nothing t tables q file parent scope head j f there = by_
         let entry : IsRightEntry w p e h inner = right_entry w nothing p e h inner at refl mark in
         ap (map_field f) (parts_are files w world t tables p efile eparent escope h inner at entry.two entry.parts ∙ ap (λ n. kinds_of_entry w n (in_scope escope h.name) (part_named key_name h) (part_named value_name h)) same)
 
-    by_item : (p efile eparent : ℕ) (escope : List ℕ) (it : Item) → type_place w file scope f ≡ Some p → slice_get w.declared p ≡ Some (record { file = efile; parent = eparent; scope = escope; item = it }) → field_by_fields t p f (fields_of_entry it) ≡ field_by_entry w file scope f (entry_by_item (record { file = efile; parent = eparent; scope = escope; item = it }) it)
+    by_item : (p efile eparent : ℕ) (escope : List ℕ) (it : Item) → type_place w file scope f ≡ Some p → slice_get w.declared p ≡ Some (record { file = efile; parent = eparent; scope = escope; item = it }) → field_by_fields (is_two w.files file) t p f (fields_of_entry it) ≡ field_by_entry w file scope f (entry_by_item (record { file = efile; parent = eparent; scope = escope; item = it }) it)
     by_item p efile eparent escope (a_message h inner) is at = by_mark p efile eparent escope h inner h.is_entry refl is at
     by_item p efile eparent escope (a_file g) is at = plain p is
     by_item p efile eparent escope (a_field x i g) is at = plain p is
@@ -241,19 +247,19 @@ field_is files w world nothing t tables q file parent scope head j f there = by_
     by_item p efile eparent escope (a_service s) is at = plain p is
     by_item p efile eparent escope (a_method m) is at = plain p is
 
-    by_declared : (p : ℕ) (o : Option Declaration) → type_place w file scope f ≡ Some p → slice_get w.declared p ≡ o → field_by_fields t p f (option_and_then (λ d. fields_of_entry d.item) o) ≡ field_by_entry w file scope f (option_and_then entry_declared o)
+    by_declared : (p : ℕ) (o : Option Declaration) → type_place w file scope f ≡ Some p → slice_get w.declared p ≡ o → field_by_fields (is_two w.files file) t p f (option_and_then (λ d. fields_of_entry d.item) o) ≡ field_by_entry w file scope f (option_and_then entry_declared o)
     by_declared p None is at = plain p is
     by_declared p (Some d) is at = by_item p d.file d.parent d.scope d.item is at
 
-    by_place : (o : Option ℕ) → type_place w file scope f ≡ o → field_by_place t f o ≡ field_by_entry w file scope f (option_and_then (λ place. option_and_then entry_declared (slice_get w.declared place)) o)
-    by_place None is = ap (with_kind f) (sym (ap (kind_by_place w f) is))
-    by_place (Some p) is = ap (field_by_fields t p f) (entry_there w t tables p) ∙ by_declared p (slice_get w.declared p) is refl
+    by_place : (o : Option ℕ) → type_place w file scope f ≡ o → field_by_place (is_two w.files file) t f o ≡ field_by_entry w file scope f (option_and_then (λ place. option_and_then entry_declared (slice_get w.declared place)) o)
+    by_place None is = ap (with_kind (is_two w.files file) f) (sym (ap (kind_by_place w f) is))
+    by_place (Some p) is = ap (field_by_fields (is_two w.files file) t p f) (entry_there w t tables p) ∙ by_declared p (slice_get w.declared p) is refl
 
-fields_are : (files : List DeclaredFile) (w : World) → IsWorldOf files w → NothingFails w → (t : Tables) → AreTables w t → (k file : ℕ) (scope : List ℕ) (head : MessageHead) (i : ℕ) (fs : List DeclaredField) → ((j : ℕ) (f : DeclaredField) → slice_get fs j ≡ Some f → slice_get w.declared (k + 1 + (i + j)) ≡ Some (record { file = file; parent = k; scope = scope; item = a_field head (i + j) f })) → fields_read t (drop (k + 1) t.found.now) i fs ≡ map (field_type w file scope) fs
+fields_are : (files : List DeclaredFile) (w : World) → IsWorldOf files w → NothingFails w → (t : Tables) → AreTables w t → (k file : ℕ) (scope : List ℕ) (head : MessageHead) (i : ℕ) (fs : List DeclaredField) → ((j : ℕ) (f : DeclaredField) → slice_get fs j ≡ Some f → slice_get w.declared (k + 1 + (i + j)) ≡ Some (record { file = file; parent = k; scope = scope; item = a_field head (i + j) f })) → fields_read (is_two w.files file) t (drop (k + 1) t.found.now) i fs ≡ map (field_type w file scope) fs
 fields_are files w world nothing t tables k file scope head i [] each = refl
 fields_are files w world nothing t tables k file scope head i (f ∷ fs) each =
     let here : slice_get w.declared (k + 1 + i) ≡ Some (record { file = file; parent = k; scope = scope; item = a_field head i f }) = ap (λ n. slice_get w.declared (k + 1 + n)) (sym (add-zero i)) ∙ each 0 f refl ∙ λ z. Some (record { file = file; parent = k; scope = scope; item = a_field head (add-zero i z) f }) in
-    let own : field_by_place t f (place_named (drop (k + 1) t.found.now) i) ≡ field_type w file scope f = ap (field_by_place t f) (names_there w t tables k i (record { file = file; parent = k; scope = scope; item = a_field head i f }) here ∙ type_read w file k scope head i f) ∙ field_is files w world nothing t tables (k + 1 + i) file k scope head i f here in
+    let own : field_by_place (is_two w.files file) t f (place_named (drop (k + 1) t.found.now) i) ≡ field_type w file scope f = ap (field_by_place (is_two w.files file) t f) (names_there w t tables k i (record { file = file; parent = k; scope = scope; item = a_field head i f }) here ∙ type_read w file k scope head i f) ∙ field_is files w world nothing t tables (k + 1 + i) file k scope head i f here in
     let rest = fields_are files w world nothing t tables k file scope head (i + 1) fs (λ j g at. subst (λ n. slice_get w.declared (k + 1 + n) ≡ Some (record { file = file; parent = k; scope = scope; item = a_field head n g })) (omega arith) (each (suc j) g at)) in
     λ z. own z ∷ rest z
 
@@ -262,7 +268,8 @@ fields_are files w world nothing t tables k file scope head i (f ∷ fs) each =
 message_is : (files : List DeclaredFile) (w : World) → IsWorldOf files w → NothingFails w → (t : Tables) → AreTables w t → (k file parent : ℕ) (scope : List ℕ) (it : Item) → slice_get w.declared k ≡ Some (record { file = file; parent = parent; scope = scope; item = it }) → message_part t k (record { file = file; parent = parent; scope = scope; item = it }) it ≡ message_by_item w (record { file = file; parent = parent; scope = scope; item = it }) it
 message_is files w world nothing t tables k file parent scope (a_message head inner) there =
     let name = in_scope scope head.name in
-    let fields : fields_read t (drop (k + 1) t.found.now) 0 head.fields ≡ map (field_type w file name) head.fields = fields_are files w world nothing t tables k file name head 0 head.fields (λ j f at. subst (λ n. slice_get w.declared (k + 1 + n) ≡ Some (record { file = file; parent = k; scope = name; item = a_field head n f })) (sym (zero_plus j)) (field_there files w world k file parent scope head inner there j f at)) in
+    let fields : fields_read (is_read_two t file) t (drop (k + 1) t.found.now) 0 head.fields ≡ map (field_type w file name) head.fields =
+    ap (λ fs. fields_read (is_two fs file) t (drop (k + 1) t.found.now) 0 head.fields) tables.files ∙ fields_are files w world nothing t tables k file name head 0 head.fields (λ j f at. subst (λ n. slice_get w.declared (k + 1 + n) ≡ Some (record { file = file; parent = k; scope = name; item = a_field head n f })) (sym (zero_plus j)) (field_there files w world k file parent scope head inner there j f at)) in
     λ i. if head.is_entry then None else Some (record (message_of_head w (record { file = file; parent = parent; scope = scope; item = a_message head inner }) head) { parent = parent_there w t tables parent i; fields = fields i })
 message_is files w world nothing t tables k file parent scope (a_file f) there = refl
 message_is files w world nothing t tables k file parent scope (a_field x i f) there = refl
@@ -298,9 +305,10 @@ enums_are w t tables (d ∷ ds) =
 
 -- THE POOL
 
-pub pool_read : (all : List DeclaredFile) (w : World) → IsWorldOf all w → NothingFails w → (t : Tables) → w.declared ≡ map declaration_view t.row.now → map type_names_view t.found.now ≡ map (lookups w) w.declared → t.kinds.items ≡ kinds_from 0 0 (map declaration_view t.row.now) → (files : List FileInfo) (messages : List MessageType) (enums : List EnumType) → map file_view files ≡ files_of all → map message_view messages ≡ messages_read t 0 (map declaration_view t.row.now) → map enum_view enums ≡ enums_read t (map declaration_view t.row.now) → types_of files messages enums ≡ pool_of all w
-pool_read all w world nothing t declared found_is kinds files messages enums files_is messages_is enums_is =
-    let tables : AreTables w t = record { declared = declared; found = found_is; kinds = kinds ∙ ap (kinds_from 0 0) (sym declared) } in
+pub pool_read : (all : List DeclaredFile) (w : World) → IsWorldOf all w → NothingFails w → (t : Tables) → w.declared ≡ map declaration_view t.row.now → map type_names_view t.found.now ≡ map (lookups w) w.declared → t.kinds.items ≡ kinds_from (map declared_file_view t.files.now) 0 0 (map declaration_view t.row.now) → map declared_file_view t.files.now ≡ all → (files : List FileInfo) (messages : List MessageType) (enums : List EnumType) → map file_view files ≡ files_of all → map message_view messages ≡ messages_read t 0 (map declaration_view t.row.now) → map enum_view enums ≡ enums_read t (map declaration_view t.row.now) → types_of files messages enums ≡ pool_of all w
+pool_read all w world nothing t declared found_is kinds listed files messages enums files_is messages_is enums_is =
+    let in_files : map declared_file_view t.files.now ≡ w.files = listed ∙ sym world.in_files in
+    let tables : AreTables w t = record { declared = declared; found = found_is; kinds = kinds ∙ ap (λ fs. kinds_from fs 0 0 (map declaration_view t.row.now)) in_files ∙ ap (kinds_from w.files 0 0) (sym declared); files = in_files } in
     let same_messages = messages_is ∙ ap (messages_read t 0) (sym declared) ∙ messages_are all w world nothing t tables 0 w.declared (λ j d at. ap (slice_get w.declared) (zero_plus j) ∙ at) in
     let same_enums = enums_is ∙ ap (enums_read t) (sym declared) ∙ enums_are w t tables w.declared in
     λ i. record { files = files_is i; messages = same_messages i; enums = same_enums i }

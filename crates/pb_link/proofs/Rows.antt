@@ -99,7 +99,7 @@ no_word = refl
 
 -- package p; message q { } message M { message p { } p.q f = 1; }
 abbrev shadowed : List ℕ → List DeclaredFile
-shadowed ty = record { name = codes "x"; package_name = codes "p"; imports = []; public_indexes = []; messages = messages_of (in_message (codes "q") [] [] ∷ in_message (codes "M") (typed ty (codes "f") 1 ∷ []) (in_message (codes "p") [] [] ∷ []) ∷ []); enums = []; services = [] } ∷ []
+shadowed ty = record { name = codes "x"; package_name = codes "p"; imports = []; public_indexes = []; messages = messages_of (in_message (codes "q") [] [] ∷ in_message (codes "M") (typed ty (codes "f") 1 ∷ []) (in_message (codes "p") [] [] ∷ []) ∷ []); enums = []; services = []; is_proto2 = false } ∷ []
 
 inner_scope_decides : told (shadowed (codes "p.q")) ≡ Some (3, cause.NotFound)
 inner_scope_decides = refl
@@ -109,7 +109,7 @@ leading_dot = refl
 
 -- package p; message p { message X { } } message M { p.X f = 1; }
 abbrev same_name : List ℕ → List DeclaredFile
-same_name ty = record { name = codes "x"; package_name = codes "p"; imports = []; public_indexes = []; messages = messages_of (in_message (codes "p") [] (in_message (codes "X") [] [] ∷ []) ∷ in_message (codes "M") (typed ty (codes "f") 1 ∷ []) [] ∷ []); enums = []; services = [] } ∷ []
+same_name ty = record { name = codes "x"; package_name = codes "p"; imports = []; public_indexes = []; messages = messages_of (in_message (codes "p") [] (in_message (codes "X") [] [] ∷ []) ∷ in_message (codes "M") (typed ty (codes "f") 1 ∷ []) [] ∷ []); enums = []; services = []; is_proto2 = false } ∷ []
 
 message_in_package : told (same_name (codes "p.X")) ≡ None
 message_in_package = refl
@@ -159,7 +159,7 @@ pool_of_map : pool_of (map_set (codes "a") (codes "key") (codes "value")) (alone
 pool_of_map = refl
 
 -- package p; message M { p f = 1; }: a package is no type
-package_as_type : told (record { name = codes "x"; package_name = codes "p"; imports = []; public_indexes = []; messages = messages_of (in_message (codes "M") (typed (codes "p") (codes "f") 1 ∷ []) [] ∷ []); enums = []; services = [] } ∷ []) ≡ Some (2, cause.NotAType)
+package_as_type : told (record { name = codes "x"; package_name = codes "p"; imports = []; public_indexes = []; messages = messages_of (in_message (codes "M") (typed (codes "p") (codes "f") 1 ∷ []) [] ∷ []); enums = []; services = []; is_proto2 = false } ∷ []) ≡ Some (2, cause.NotAType)
 package_as_type = refl
 
 abbrev member : List ℕ → ℕ → ℕ → Bool → DeclaredField
@@ -199,7 +199,7 @@ entry_elsewhere = refl
 
 -- a name that goes through a service
 abbrev through_service : List DeclaredMethod → List DeclaredFile
-through_service methods = record { name = codes "x"; package_name = []; imports = []; public_indexes = []; messages = messages_of (in_message (codes "M") (typed (codes "S.r") (codes "f") 1 ∷ []) [] ∷ []); enums = []; services = record { name = codes "S"; methods = methods } ∷ [] } ∷ []
+through_service methods = record { name = codes "x"; package_name = []; imports = []; public_indexes = []; messages = messages_of (in_message (codes "M") (typed (codes "S.r") (codes "f") 1 ∷ []) [] ∷ []); enums = []; services = record { name = codes "S"; methods = methods } ∷ []; is_proto2 = false } ∷ []
 
 service_without : told (through_service []) ≡ Some (2, cause.NotFound)
 service_without = refl

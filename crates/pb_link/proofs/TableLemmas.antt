@@ -17,6 +17,7 @@ use Rattle.pb_link.specs.Declarations.{Declaration}
 use Rattle.pb_link.specs.Sees.{Sight}
 use Rattle.pb_link.specs.Rules.{World, lookups}
 use Rattle.pb_link.specs.Link.{holds, first_cause, first_told, first_fault}
+use Rattle.pb_descr.specs.Decls.{DeclaredFile}
 use Rattle.pb_link.specs.Judging.{world_of}
 use Rattle.pb_link.specs.Tables.{holds_table, AreTablesOf, TellsAt, is_elsewhere, at_place}
 use Rattle.pb_link.specs.View.{declaration_view, type_names_view}
@@ -112,43 +113,46 @@ tells_at w row n map_marks i x tables before h there = record {
     inside = let P : ℕ → Type 0 = λ m. i < m in subst P (sym (sym (length-map n.found.items type_names_view) ∙ ap length shown ∙ length-map (map declaration_view row) (lookups w) ∙ length-map row declaration_view)) h
 
 -- what holds of each sight holds of the world's
-pub of_world : (ds : List Declaration) (P : World → Type 0) → ((s : Sight) → P (world_of ds s)) → (w : World) → w.declared ≡ ds → P w
-of_world ds P all w is = let Q : List Declaration → Type 0 = λ l. P (world_of l w.sight) in subst Q (sym is) (all w.sight)
+pub of_world : (files : List DeclaredFile) (ds : List Declaration) (P : World → Type 0) → ((s : Sight) → P (world_of files ds s)) → (w : World) → w.files ≡ files → w.declared ≡ ds → P w
+of_world files ds P all w in_files is =
+    let Q : List Declaration → Type 0 = λ l. P (world_of w.files l w.sight) in
+    let R : List DeclaredFile → Type 0 = λ fs. P (world_of fs ds w.sight) in
+    subst Q (sym is) (subst R (sym in_files) (all w.sight))
 
 -- A WALK: of all worlds with these tables, what is told comes from a place on, and no file before it reaches itself
-abbrev pub IsWalked : List DeclarationValue → Names → List Bool → ℕ → Type 0
-IsWalked row n map_marks i = (w : World) → AreTablesOf w (map declaration_view row) n map_marks → (first_told (first_cause w) 0 (map declaration_view row) ≡ first_told (first_cause w) i (map declaration_view (drop i row))) × IsHeldBefore w i
+abbrev pub IsWalked : List DeclaredFile → List DeclarationValue → Names → List Bool → ℕ → Type 0
+IsWalked files row n map_marks i = (w : World) → w.files ≡ files → AreTablesOf w (map declaration_view row) n map_marks → (first_told (first_cause w) 0 (map declaration_view row) ≡ first_told (first_cause w) i (map declaration_view (drop i row))) × IsHeldBefore w i
 
 -- a judge of what the tables tell
-abbrev pub IsJudged : List DeclarationValue → DeclarationValue → At → Option LinkCause → Type 0
-IsJudged row x at told = (s : Sight) (place : ℕ) → TellsAt (world_of (map declaration_view row) s) place (declaration_view x) at → told ≡ first_cause (world_of (map declaration_view row) s) place (declaration_view x)
+abbrev pub IsJudged : List DeclaredFile → List DeclarationValue → DeclarationValue → At → Option LinkCause → Type 0
+IsJudged files row x at told = (s : Sight) (place : ℕ) → TellsAt (world_of files (map declaration_view row) s) place (declaration_view x) at → told ≡ first_cause (world_of files (map declaration_view row) s) place (declaration_view x)
 
-pub walk_begins : (row : List DeclarationValue) (n : Names) (map_marks : List Bool) → IsWalked row n map_marks 0
-walk_begins row n map_marks w tables = (refl, λ q less. absurd (omega (arith, less)))
+pub walk_begins : (files : List DeclaredFile) (row : List DeclarationValue) (n : Names) (map_marks : List Bool) → IsWalked files row n map_marks 0
+walk_begins files row n map_marks w in_files tables = (refl, λ q less. absurd (omega (arith, less)))
 
-cause_at : (row : List DeclarationValue) (n : Names) (map_marks : List Bool) (i : ℕ) (x : DeclarationValue) (at : At) (told : Option LinkCause) → i < length row → x ≡ get_or row i x → at ≡ at_place n map_marks i → IsJudged row x at told → (s : Sight) → AreTablesOf (world_of (map declaration_view row) s) (map declaration_view row) n map_marks → IsHeldBefore (world_of (map declaration_view row) s) i → told ≡ first_cause (world_of (map declaration_view row) s) i (declaration_view x)
-cause_at row n map_marks i x at told h there is judged s tables before =
-    let w = world_of (map declaration_view row) s in
+cause_at : (files : List DeclaredFile) (row : List DeclarationValue) (n : Names) (map_marks : List Bool) (i : ℕ) (x : DeclarationValue) (at : At) (told : Option LinkCause) → i < length row → x ≡ get_or row i x → at ≡ at_place n map_marks i → IsJudged files row x at told → (s : Sight) → AreTablesOf (world_of files (map declaration_view row) s) (map declaration_view row) n map_marks → IsHeldBefore (world_of files (map declaration_view row) s) i → told ≡ first_cause (world_of files (map declaration_view row) s) i (declaration_view x)
+cause_at files row n map_marks i x at told h there is judged s tables before =
+    let w = world_of files (map declaration_view row) s in
     let P : At → Type 0 = λ a. TellsAt w i (declaration_view x) a in
     judged s i (subst P (sym is) (tells_at w row n map_marks i x tables before h there))
 
-pub walked_some : (row : List DeclarationValue) (n : Names) (map_marks : List Bool) (i : ℕ) (x : DeclarationValue) (at : At) (told : Option LinkCause) (c : LinkCause) → i < length row → x ≡ get_or row i x → at ≡ at_place n map_marks i → told ≡ Some c → IsJudged row x at told → IsWalked row n map_marks i → (w : World) → AreTablesOf w (map declaration_view row) n map_marks → Some (i, c) ≡ first_fault w 0 w.declared
-walked_some row n map_marks i x at told c h there is some judged walked w tables =
-    of_world (map declaration_view row) (λ v. AreTablesOf v (map declaration_view row) n map_marks → Some (i, c) ≡ first_fault v 0 v.declared) all w tables.declared tables
+pub walked_some : (files : List DeclaredFile) (row : List DeclarationValue) (n : Names) (map_marks : List Bool) (i : ℕ) (x : DeclarationValue) (at : At) (told : Option LinkCause) (c : LinkCause) → i < length row → x ≡ get_or row i x → at ≡ at_place n map_marks i → told ≡ Some c → IsJudged files row x at told → IsWalked files row n map_marks i → (w : World) → w.files ≡ files → AreTablesOf w (map declaration_view row) n map_marks → Some (i, c) ≡ first_fault w 0 w.declared
+walked_some files row n map_marks i x at told c h there is some judged walked w in_files tables =
+    of_world files (map declaration_view row) (λ v. AreTablesOf v (map declaration_view row) n map_marks → Some (i, c) ≡ first_fault v 0 v.declared) all w in_files tables.declared tables
   where
-    all : (s : Sight) → AreTablesOf (world_of (map declaration_view row) s) (map declaration_view row) n map_marks → Some (i, c) ≡ first_told (first_cause (world_of (map declaration_view row) s)) 0 (map declaration_view row)
+    all : (s : Sight) → AreTablesOf (world_of files (map declaration_view row) s) (map declaration_view row) n map_marks → Some (i, c) ≡ first_told (first_cause (world_of files (map declaration_view row) s)) 0 (map declaration_view row)
     all s t =
-        let v = world_of (map declaration_view row) s in
-        sym (told_some (first_cause v) declaration_view row i x c (first_told (first_cause v) 0 (map declaration_view row)) h there (walked v t).0 (sym (cause_at row n map_marks i x at told h there is judged s t (walked v t).1) ∙ some))
+        let v = world_of files (map declaration_view row) s in
+        sym (told_some (first_cause v) declaration_view row i x c (first_told (first_cause v) 0 (map declaration_view row)) h there (walked v refl t).0 (sym (cause_at files row n map_marks i x at told h there is judged s t (walked v refl t).1) ∙ some))
 
-pub walked_none : (row : List DeclarationValue) (n : Names) (map_marks : List Bool) (i : ℕ) (x : DeclarationValue) (at : At) (told : Option LinkCause) → i < length row → x ≡ get_or row i x → at ≡ at_place n map_marks i → told ≡ None → IsJudged row x at told → IsWalked row n map_marks i → IsWalked row n map_marks (i + 1)
-walked_none row n map_marks i x at told h there is none judged walked w tables =
-    of_world (map declaration_view row) (λ v. AreTablesOf v (map declaration_view row) n map_marks → (first_told (first_cause v) 0 (map declaration_view row) ≡ first_told (first_cause v) (i + 1) (map declaration_view (drop (i + 1) row))) × IsHeldBefore v (i + 1)) all w tables.declared tables
+pub walked_none : (files : List DeclaredFile) (row : List DeclarationValue) (n : Names) (map_marks : List Bool) (i : ℕ) (x : DeclarationValue) (at : At) (told : Option LinkCause) → i < length row → x ≡ get_or row i x → at ≡ at_place n map_marks i → told ≡ None → IsJudged files row x at told → IsWalked files row n map_marks i → IsWalked files row n map_marks (i + 1)
+walked_none files row n map_marks i x at told h there is none judged walked w in_files tables =
+    of_world files (map declaration_view row) (λ v. AreTablesOf v (map declaration_view row) n map_marks → (first_told (first_cause v) 0 (map declaration_view row) ≡ first_told (first_cause v) (i + 1) (map declaration_view (drop (i + 1) row))) × IsHeldBefore v (i + 1)) all w in_files tables.declared tables
   where
-    all : (s : Sight) → AreTablesOf (world_of (map declaration_view row) s) (map declaration_view row) n map_marks → (first_told (first_cause (world_of (map declaration_view row) s)) 0 (map declaration_view row) ≡ first_told (first_cause (world_of (map declaration_view row) s)) (i + 1) (map declaration_view (drop (i + 1) row))) × IsHeldBefore (world_of (map declaration_view row) s) (i + 1)
+    all : (s : Sight) → AreTablesOf (world_of files (map declaration_view row) s) (map declaration_view row) n map_marks → (first_told (first_cause (world_of files (map declaration_view row) s)) 0 (map declaration_view row) ≡ first_told (first_cause (world_of files (map declaration_view row) s)) (i + 1) (map declaration_view (drop (i + 1) row))) × IsHeldBefore (world_of files (map declaration_view row) s) (i + 1)
     all s t =
-        let v = world_of (map declaration_view row) s in
-        let nothing = sym (cause_at row n map_marks i x at told h there is judged s t (walked v t).1) ∙ none in (
-          told_none (first_cause v) declaration_view row i x (first_told (first_cause v) 0 (map declaration_view row)) h there (walked v t).0 nothing,
-          held_more v row i x refl h there (ap not (first_cause-none v i (declaration_view x) nothing cause.ImportCycle)) (walked v t).1,
+        let v = world_of files (map declaration_view row) s in
+        let nothing = sym (cause_at files row n map_marks i x at told h there is judged s t (walked v refl t).1) ∙ none in (
+          told_none (first_cause v) declaration_view row i x (first_told (first_cause v) 0 (map declaration_view row)) h there (walked v refl t).0 nothing,
+          held_more v row i x refl h there (ap not (first_cause-none v i (declaration_view x) nothing cause.ImportCycle)) (walked v refl t).1,
         )

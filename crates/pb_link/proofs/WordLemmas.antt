@@ -12,30 +12,34 @@ use Rattle.pb_schema.specs.Rules.{AreWords, MessageIsOfWords, MessageNamesAreWor
 use Rattle.pb_descr.specs.Decls.{DeclaredField, MessageHead, DeclaredMessages, DeclaredFile}
 use Rattle.pb_link.specs.declared.cause.LinkCause.TheVariants as cause
 use Rattle.pb_link.specs.Declarations.{Item, a_message, a_field, a_oneof, an_enum, a_value, is_synthetic}
-use Rattle.pb_link.specs.Rules.{World, name_is_right, gives_name}
+use Rattle.pb_link.specs.Rules.{World, name_is_right, gives_name, is_two}
 use Rattle.pb_link.specs.Link.{NothingFails, IsWorldOf}
 use Rattle.pb_link.specs.PoolOf.{field_type, field_by_entry, entry_of, kind_of_field, list_shape, singular_shape, number_of, real_oneofs, pool_of}
 use Rattle.pb_link.proofs.TypeLemmas.{some_same, and_right, place_holds, all_mapped, field_there, oneof_there, value_there, each_message, each_enum}
 use Rattle.pb_link.proofs.EntryLemmas.{entry_used}
 use Rattle.pb_link.proofs.OneofLemmas.{enumerated_get}
 
-plain_words : (f : DeclaredField) (k : Kind) (b : Bool) → is_word f.name ≡ true → AreWords (names_of_field (record { name = f.name; number = number_of f.number; kind = k; shape = if b then list_shape k f else singular_shape k f }))
-plain_words f k true word = (word, tt)
-plain_words f k false word = by_mark f.is_optional f.oneof
+plain_words : (two : Bool) (f : DeclaredField) (k : Kind) (b : Bool) → is_word f.name ≡ true → AreWords (names_of_field (record { name = f.name; number = number_of f.number; kind = k; shape = if b then list_shape two k f else singular_shape two k f }))
+plain_words two f k true word = (word, tt)
+plain_words two f k false word = by_mark f.is_optional f.oneof
   where
-    by_mark : (b : Bool) (o : Option ℤ) → AreWords (names_of_field (record { name = f.name; number = number_of f.number; kind = k; shape = singular_shape k (record f { is_optional = b; oneof = o }) }))
+    by_mark : (b : Bool) (o : Option ℤ) → AreWords (names_of_field (record { name = f.name; number = number_of f.number; kind = k; shape = singular_shape two k (record f { is_optional = b; oneof = o }) }))
     by_mark true o = (word, tt)
     by_mark false (Some (pos o)) = (word, tt)
-    by_mark false (Some (negsuc o)) = kinds k
+    by_mark false (Some (negsuc o)) = kinds two k
       where
-        kinds : (v : Kind) → AreWords (names_of_field (record { name = f.name; number = number_of f.number; kind = k; shape = singular_shape v (record f { is_optional = false; oneof = Some (negsuc o) }) }))
-        kinds (kind.Message m) = (word, tt)
-        kinds v = (word, tt)
-    by_mark false None = kinds k
+        kinds : (b : Bool) (v : Kind) → AreWords (names_of_field (record { name = f.name; number = number_of f.number; kind = k; shape = singular_shape b v (record f { is_optional = false; oneof = Some (negsuc o) }) }))
+        kinds true v = (word, tt)
+        kinds false (kind.Message m) = (word, tt)
+        kinds false (kind.Group m) = (word, tt)
+        kinds false v = (word, tt)
+    by_mark false None = kinds two k
       where
-        kinds : (v : Kind) → AreWords (names_of_field (record { name = f.name; number = number_of f.number; kind = k; shape = singular_shape v (record f { is_optional = false; oneof = None }) }))
-        kinds (kind.Message m) = (word, tt)
-        kinds v = (word, tt)
+        kinds : (b : Bool) (v : Kind) → AreWords (names_of_field (record { name = f.name; number = number_of f.number; kind = k; shape = singular_shape b v (record f { is_optional = false; oneof = None }) }))
+        kinds true v = (word, tt)
+        kinds false (kind.Message m) = (word, tt)
+        kinds false (kind.Group m) = (word, tt)
+        kinds false v = (word, tt)
 
 -- the entry of a map field has the name that the field gives it
 pub entry_name_is : (head h : MessageHead) (inner : DeclaredMessages) (j : ℕ) (f : DeclaredField) (it : Item) → it ≡ a_message h inner → gives_name (a_field head j f) it ≡ true → entry_name f.name ≡ h.name
@@ -45,7 +49,7 @@ field_words : (w : World) → NothingFails w → (k file parent : ℕ) (scope : 
 field_words w nothing k file parent scope head j f there = by_entry (entry_of w file scope f) refl (place_holds w nothing k (record { file = file; parent = parent; scope = scope; item = a_field head j f }) cause.BadName there)
   where
     by_entry : (o : Option (MessageHead × List ℕ)) → entry_of w file scope f ≡ o → is_word f.name ≡ true → AreWords (names_of_field (field_by_entry w file scope f o))
-    by_entry None none word = plain_words f (kind_of_field w file scope f) f.is_repeated word
+    by_entry None none word = plain_words (is_two w.files file) f (kind_of_field w file scope f) f.is_repeated word
     by_entry (Some (h, name)) uses word =
         let u = entry_used w nothing k file parent scope head j f there h name uses in
         let named : entry_name f.name ≡ h.name = entry_name_is head h u.inner j f u.entry.item u.item (and_right (parent == u.entry.parent) _ u.is_map) in

@@ -104,4 +104,4 @@ a_sight files = (
 )
 
 pub a_world : (files : List DeclaredFile) → (w : World) × IsWorldOf files w
-a_world files = (record { declared = declarations files; sight = (a_sight files).0 }, record { declared = refl; sight = (a_sight files).1 })
+a_world files = (record { declared = declarations files; sight = (a_sight files).0; files = files }, record { declared = refl; sight = (a_sight files).1; in_files = refl })

@@ -21,6 +21,7 @@ cause_number cause.BadPacked = 84
 cause_number cause.BadEnum = 85
 cause_number cause.KindMismatch = 86
 cause_number cause.BadRange = 87
+cause_number cause.ClosedEnum = 89
 
 abbrev pub cause_name : LinkCause → List ℕ
 cause_name cause.TwoFiles = codes "TwoFiles"
@@ -40,3 +41,4 @@ cause_name cause.BadPacked = codes "BadPacked"
 cause_name cause.BadEnum = codes "BadEnum"
 cause_name cause.KindMismatch = codes "KindMismatch"
 cause_name cause.BadRange = codes "BadRange"
+cause_name cause.ClosedEnum = codes "ClosedEnum"

@@ -1,12 +1,13 @@
 -- What a judge reads.
 use Rattle.std.specs.Prelude.{List, [], ◌∷◌, Bool, not, if◌then◌else◌, Option, Some, None}
 use Rattle.pb_link.specs.declared.cause.LinkCause.{LinkCause}
+use Rattle.pb_descr.specs.Decls.{DeclaredFile}
 use Rattle.pb_link.specs.Declarations.{Declaration}
 use Rattle.pb_link.specs.Sees.{Sight}
 use Rattle.pb_link.specs.Rules.{World}
 
-abbrev pub world_of : List Declaration → Sight → World
-world_of ds s = record { declared = ds; sight = s }
+abbrev pub world_of : List DeclaredFile → List Declaration → Sight → World
+world_of files ds s = record { declared = ds; sight = s; files = files }
 
 -- the first cause whose rule does not hold
 abbrev pub first_failing : List (LinkCause × Bool) → Option LinkCause

@@ -1,5 +1,5 @@
 -- When declarations link, and what is told where they don't: the least failing rule, by file, declaration and cause.
-use Rattle.std.specs.Prelude.{◌≡◌, ℕ, ◌+◌, ◌<◌, ◌≤◌, ◌⊎◌, List, [], ◌∷◌, Bool, true, not, Option, Some, None, IsFalse, find, slice_get}
+use Rattle.std.specs.Prelude.{◌≡◌, ℕ, ◌+◌, ◌<◌, ◌≤◌, ◌⊎◌, List, [], ◌∷◌, Bool, true, not, ◌&&◌, Option, Some, None, IsFalse, find, slice_get}
 use Rattle.pb_descr.specs.Decls.{DeclaredFile}
 use Rattle.pb_link.specs.declared.cause.LinkCause.{LinkCause}
 use Rattle.pb_link.specs.declared.cause.LinkCause.TheVariants as cause
@@ -7,7 +7,7 @@ use Rattle.pb_link.specs.CauseName.{cause_number}
 use Rattle.pb_link.specs.Sees.{IsSightOf}
 use Rattle.pb_link.specs.Declarations.{Item, a_file, a_message, a_field, a_oneof, an_enum, a_value, a_service, a_method, Declaration, declarations}
 use Rattle.pb_link.specs.Lookup.{not_found, not_visible, not_a_type}
-use Rattle.pb_link.specs.Rules.{World, file_name_is_first, imports_are_there, reaches_no_cycle, name_is_right, name_is_free, is_looked_up, is_field_number, number_is_free, is_not_reserved, is_oneof_right, is_map_right, is_packed_right, begins_at_zero, is_type_right, ranges_are_right, passes, is_message, lookups}
+use Rattle.pb_link.specs.Rules.{World, file_name_is_first, imports_are_there, reaches_no_cycle, name_is_right, name_is_free, is_looked_up, is_field_number, number_is_free, is_not_reserved, is_oneof_right, is_map_right, is_packed_right, begins_right, is_type_right, is_two, is_marked_optional, is_enum_right, ranges_are_right, passes, is_message, lookups}
 use Rattle.std.specs.List.{list_all}
 
 -- the rule of a cause holds of the declaration at a place
@@ -45,7 +45,7 @@ holds w place d c = by_cause c
     packed (a_method m) = true
 
     zero_first : Item → Bool
-    zero_first (an_enum e) = begins_at_zero e
+    zero_first (an_enum e) = begins_right (is_two w.files d.file) e
     zero_first (a_file f) = true
     zero_first (a_message head inner) = true
     zero_first (a_field head i f) = true
@@ -64,6 +64,16 @@ holds w place d c = by_cause c
     kind (a_value e i v) = true
     kind (a_service s) = true
 
+    open_enum : Item → Bool
+    open_enum (a_field head i f) = is_enum_right w d
+    open_enum (a_file f) = true
+    open_enum (a_message head inner) = true
+    open_enum (a_oneof head i name) = true
+    open_enum (an_enum e) = true
+    open_enum (a_value e i v) = true
+    open_enum (a_service s) = true
+    open_enum (a_method m) = true
+
     by_cause : LinkCause → Bool
     by_cause cause.TwoFiles = of_file (file_name_is_first w place) d.item
     by_cause cause.MissingImport = of_file (imports_are_there w) d.item
@@ -76,12 +86,13 @@ holds w place d c = by_cause c
     by_cause cause.BadNumber = number d.item
     by_cause cause.NumberTaken = number_is_free d.item
     by_cause cause.Reserved = is_not_reserved d.item
-    by_cause cause.BadOneof = is_oneof_right d.item
+    by_cause cause.BadOneof = not (is_marked_optional d.item && is_two w.files d.file) && is_oneof_right d.item
     by_cause cause.BadMap = is_map_right w place d
     by_cause cause.BadPacked = packed d.item
     by_cause cause.BadEnum = zero_first d.item
     by_cause cause.KindMismatch = kind d.item
     by_cause cause.BadRange = ranges_are_right d.item
+    by_cause cause.ClosedEnum = open_enum d.item
 
 -- the rule of the cause fails at a place
 abbrev pub Fails : World → ℕ → LinkCause → Type 0
@@ -99,13 +110,14 @@ pub record FailsFirst (w : World) (place : ℕ) (c : LinkCause) : Type 0 where
 pub record IsWorldOf (files : List DeclaredFile) (w : World) : Type 0 where
   pub declared : w.declared ≡ declarations files
   pub sight : IsSightOf files w.sight
+  pub in_files : w.files ≡ files
 
 -- the causes by their numbers
 abbrev pub all_causes : List LinkCause
 all_causes =
     cause.TwoFiles ∷ cause.MissingImport ∷ cause.ImportCycle ∷ cause.BadName ∷ cause.NameTaken ∷ cause.NotFound ∷ cause.NotVisible
     ∷ cause.NotAType ∷ cause.BadNumber ∷ cause.NumberTaken ∷ cause.Reserved ∷ cause.BadOneof ∷ cause.BadMap ∷ cause.BadPacked
-    ∷ cause.BadEnum ∷ cause.KindMismatch ∷ cause.BadRange ∷ []
+    ∷ cause.BadEnum ∷ cause.KindMismatch ∷ cause.BadRange ∷ cause.ClosedEnum ∷ []
 
 -- the least cause of a rule that fails at a place
 abbrev pub first_cause : World → ℕ → Declaration → Option LinkCause

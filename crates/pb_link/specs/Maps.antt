@@ -7,11 +7,11 @@ use Rattle.pb_link.specs.declared.found.TypeNames.{TypeNames}
 use Rattle.pb_link.specs.declared.found.TypeNames.TheVariants as type_names
 use Rattle.pb_link.specs.Declarations.{Item, a_file, a_message, a_field, a_oneof, an_enum, a_value, a_service, a_method, Declaration, head_of}
 use Rattle.pb_link.specs.View.{type_names_view}
-use Rattle.pb_link.specs.Rules.{World, passes, is_not_entry, is_used_rightly, has_nothing_inside, is_part, key_name, value_name, is_key_code}
+use Rattle.pb_link.specs.Rules.{World, passes, is_not_entry, is_used_rightly, has_nothing_inside, is_part, is_value_part, key_name, is_key_code}
 
 -- the key and the value of an entry, by whether the value is no entry
 abbrev pub are_right_parts : DeclaredField → DeclaredField → Bool → Bool
-are_right_parts k v is_plain = is_part key_name 1 k && is_part value_name 2 v && option_map_or is_key_code k.type_code false && is_plain
+are_right_parts k v is_plain = is_part key_name 1 k && is_value_part v && option_map_or is_key_code k.type_code false && is_plain
 
 -- two fields are a key and a value, by which of them are no entries
 abbrev pub right_parts : List DeclaredField → Bool → Bool → Bool

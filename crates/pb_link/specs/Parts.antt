@@ -8,34 +8,35 @@ use Rattle.pb_schema.specs.declared.types.Kind.TheVariants as kind
 use Rattle.pb_schema.specs.declared.types.Shape.TheVariants as shape
 use Rattle.pb_schema.specs.Types.{FieldView, MessageView, EnumView}
 use Rattle.pb_descr.specs.declared.decl.TypeCode.{TypeCode}
-use Rattle.pb_descr.specs.Decls.{DeclaredField, DeclaredEnum, MessageHead}
+use Rattle.pb_descr.specs.Decls.{DeclaredField, DeclaredEnum, MessageHead, DeclaredFile}
 use Rattle.pb_link.specs.Declarations.{Item, a_file, a_message, a_field, a_oneof, an_enum, a_value, a_service, a_method, Declaration, is_synthetic}
 use Rattle.pb_link.specs.Lookup.{Found}
-use Rattle.pb_link.specs.Rules.{is_enum, place_found, key_name}
-use Rattle.pb_link.specs.PoolOf.{is_message_type, kind_of_code, with_kind, number_of, real_oneofs}
+use Rattle.pb_link.specs.Rules.{is_two, is_enum, is_message_type, is_group, place_found, key_name}
+use Rattle.pb_link.specs.PoolOf.{kind_of_code, enum_kind, grouped, with_kind, number_of, real_oneofs}
+use Rattle.pb_descr.specs.View.{file_view}
 use Rattle.pb_link.specs.View.{declaration_view, type_names_view}
 use Rattle.pb_link.specs.declared.found.TypeNames.{TypeNames}
 use Rattle.pb_link.specs.declared.parts.tables.Tables.{Tables}
 
--- the kind of what stands behind so many message types and enums; of what is no type Bool
-abbrev pub kind_here : ℕ → ℕ → Item → Kind
-kind_here messages enums (a_message head inner) = kind.Message (record { 0 = messages })
-kind_here messages enums (an_enum e) = kind.Enum (record { 0 = enums })
-kind_here messages enums (a_file f) = kind.Bool
-kind_here messages enums (a_field head i f) = kind.Bool
-kind_here messages enums (a_oneof head i name) = kind.Bool
-kind_here messages enums (a_value e i v) = kind.Bool
-kind_here messages enums (a_service s) = kind.Bool
-kind_here messages enums (a_method m) = kind.Bool
+-- the kind of what stands behind so many message types and enums, by whether its file is of proto2; of what is no type Bool
+abbrev pub kind_here : Bool → ℕ → ℕ → Item → Kind
+kind_here two messages enums (a_message head inner) = kind.Message (record { 0 = messages })
+kind_here two messages enums (an_enum e) = enum_kind two enums
+kind_here two messages enums (a_file f) = kind.Bool
+kind_here two messages enums (a_field head i f) = kind.Bool
+kind_here two messages enums (a_oneof head i name) = kind.Bool
+kind_here two messages enums (a_value e i v) = kind.Bool
+kind_here two messages enums (a_service s) = kind.Bool
+kind_here two messages enums (a_method m) = kind.Bool
 
 abbrev pub one_if : Bool → ℕ → ℕ
 one_if true n = n + 1
 one_if false n = n
 
 -- the kinds of declarations that stand behind so many message types and enums
-abbrev pub kinds_from : ℕ → ℕ → List Declaration → List Kind
-kinds_from messages enums [] = []
-kinds_from messages enums (d ∷ ds) = kind_here messages enums d.item ∷ kinds_from (one_if (is_message_type d.item) messages) (one_if (is_enum d.item) enums) ds
+abbrev pub kinds_from : List DeclaredFile → ℕ → ℕ → List Declaration → List Kind
+kinds_from files messages enums [] = []
+kinds_from files messages enums (d ∷ ds) = kind_here (is_two files d.file) messages enums d.item ∷ kinds_from files (one_if (is_message_type d.item) messages) (one_if (is_enum d.item) enums) ds
 
 -- the type that was found first
 abbrev pub first_place : List Found → Option ℕ
@@ -52,7 +53,7 @@ kind_of_number c = option_map_or kind_of_code c kind.Bool
 -- the kind of a field that names the type at a place, if it names one
 abbrev pub kind_read : Tables → Option ℕ → Option TypeCode → Kind
 kind_read t None c = kind_of_number c
-kind_read t (Some p) c = option_map_or (λ k. k) (slice_get t.kinds.items p) kind.Bool
+kind_read t (Some p) c = grouped (is_group c) (option_map_or (λ k. k) (slice_get t.kinds.items p) kind.Bool)
 
 abbrev pub fields_of_entry : Item → Option (List DeclaredField)
 fields_of_entry (a_message head inner) = if head.is_entry then Some head.fields else None
@@ -81,18 +82,18 @@ abbrev pub map_field : DeclaredField → Kind × Kind → FieldView
 map_field f parts = record { name = f.name; number = number_of f.number; kind = parts.1; shape = shape.Map parts.0 }
 
 -- a field that names the type at a place, which is an entry with these fields, or is none
-abbrev pub field_by_fields : Tables → ℕ → DeclaredField → Option (List DeclaredField) → FieldView
-field_by_fields t p f None = with_kind f (kind_read t (Some p) f.type_code)
-field_by_fields t p f (Some fs) = map_field f (parts_read t (drop (p + 1) t.found.now) fs)
+abbrev pub field_by_fields : Bool → Tables → ℕ → DeclaredField → Option (List DeclaredField) → FieldView
+field_by_fields two t p f None = with_kind two f (kind_read t (Some p) f.type_code)
+field_by_fields two t p f (Some fs) = map_field f (parts_read t (drop (p + 1) t.found.now) fs)
 
-abbrev pub field_by_place : Tables → DeclaredField → Option ℕ → FieldView
-field_by_place t f None = with_kind f (kind_of_number f.type_code)
-field_by_place t f (Some p) = field_by_fields t p f (entry_read t p)
+abbrev pub field_by_place : Bool → Tables → DeclaredField → Option ℕ → FieldView
+field_by_place two t f None = with_kind two f (kind_of_number f.type_code)
+field_by_place two t f (Some p) = field_by_fields two t p f (entry_read t p)
 
--- the fields of a message, from an index on
-abbrev pub fields_read : Tables → List TypeNames → ℕ → List DeclaredField → List FieldView
-fields_read t names i [] = []
-fields_read t names i (f ∷ fs) = field_by_place t f (place_named names i) ∷ fields_read t names (i + 1) fs
+-- the fields of a message, from an index on, by whether its file is of proto2
+abbrev pub fields_read : Bool → Tables → List TypeNames → ℕ → List DeclaredField → List FieldView
+fields_read two t names i [] = []
+fields_read two t names i (f ∷ fs) = field_by_place two t f (place_named names i) ∷ fields_read two t names (i + 1) fs
 
 -- the names of those of a message's oneofs, from an index on, that are not synthetic
 abbrev pub real_from : MessageHead → ℕ → List (List ℕ) → List (List ℕ)
@@ -101,6 +102,8 @@ real_from head i names = map (λ e. e.1) (filter (λ e. not (is_synthetic head e
 abbrev pub message_of_kind : Kind → Option ℕ
 message_of_kind (kind.Message m) = Some m.0
 message_of_kind (kind.Enum _) = None
+message_of_kind (kind.Group _) = None
+message_of_kind (kind.ClosedEnum _) = None
 message_of_kind kind.Double = None
 message_of_kind kind.Float = None
 message_of_kind kind.Int64 = None
@@ -121,12 +124,16 @@ message_of_kind kind.Sint64 = None
 abbrev pub parent_read : Tables → ℕ → Option ℕ
 parent_read t p = option_and_then message_of_kind (slice_get t.kinds.items p)
 
+-- the file of an index is of proto2
+abbrev pub is_read_two : Tables → ℕ → Bool
+is_read_two t file = is_two (map file_view t.files.now) file
+
 abbrev pub message_read : Tables → ℕ → Declaration → MessageHead → MessageView
 message_read t place d head = record {
   name = head.name;
   file = d.file;
   parent = parent_read t d.parent;
-  fields = fields_read t (drop (place + 1) t.found.now) 0 head.fields;
+  fields = fields_read (is_read_two t d.file) t (drop (place + 1) t.found.now) 0 head.fields;
   oneofs = real_oneofs head;
 }
 

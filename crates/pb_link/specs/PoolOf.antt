@@ -16,18 +16,7 @@ use Rattle.pb_descr.specs.Decls.{DeclaredField, MessageHead, DeclaredFile}
 use Rattle.pb_link.specs.Sees.{files_of}
 use Rattle.pb_link.specs.Declarations.{Item, a_file, a_message, a_field, a_oneof, an_enum, a_value, a_service, a_method, Declaration, full_name, is_synthetic}
 use Rattle.pb_link.specs.Lookup.{looked_up}
-use Rattle.pb_link.specs.Rules.{World, item_at, is_enum, place_found, value_name, key_name}
-
--- a message is a type where it is no entry
-abbrev pub is_message_type : Item → Bool
-is_message_type (a_message head inner) = not head.is_entry
-is_message_type (a_file f) = false
-is_message_type (a_field head i f) = false
-is_message_type (a_oneof head i name) = false
-is_message_type (an_enum e) = false
-is_message_type (a_value e i v) = false
-is_message_type (a_service s) = false
-is_message_type (a_method m) = false
+use Rattle.pb_link.specs.Rules.{World, is_two, item_at, is_enum, is_message_type, is_group, place_found, value_name, key_name}
 
 -- how many declarations before a place pass a test
 abbrev pub count_before : (Item → Bool) → World → ℕ → ℕ
@@ -61,20 +50,55 @@ kind_of_code code.Group = kind.Bool
 kind_of_code code.Message = kind.Bool
 kind_of_code code.Enum = kind.Bool
 
-abbrev pub kind_by_item : World → ℕ → Option Item → Kind
-kind_by_item w place (Some (a_message head inner)) = kind.Message (record { 0 = message_index w place })
-kind_by_item w place (Some (an_enum e)) = kind.Enum (record { 0 = enum_index w place })
-kind_by_item w place None = kind.Bool
-kind_by_item w place (Some (a_file f)) = kind.Bool
-kind_by_item w place (Some (a_field head i f)) = kind.Bool
-kind_by_item w place (Some (a_oneof head i name)) = kind.Bool
-kind_by_item w place (Some (a_value e i v)) = kind.Bool
-kind_by_item w place (Some (a_service s)) = kind.Bool
-kind_by_item w place (Some (a_method m)) = kind.Bool
+-- the kind of an enum, by whether its file is of proto2
+abbrev pub enum_kind : Bool → ℕ → Kind
+enum_kind true e = kind.ClosedEnum (record { 0 = e })
+enum_kind false e = kind.Enum (record { 0 = e })
+
+abbrev pub kind_by_item : World → ℕ → ℕ → Item → Kind
+kind_by_item w file place (a_message head inner) = kind.Message (record { 0 = message_index w place })
+kind_by_item w file place (an_enum e) = enum_kind (is_two w.files file) (enum_index w place)
+kind_by_item w file place (a_file f) = kind.Bool
+kind_by_item w file place (a_field head i f) = kind.Bool
+kind_by_item w file place (a_oneof head i name) = kind.Bool
+kind_by_item w file place (a_value e i v) = kind.Bool
+kind_by_item w file place (a_service s) = kind.Bool
+kind_by_item w file place (a_method m) = kind.Bool
+
+abbrev pub kind_declared : World → ℕ → Option Declaration → Kind
+kind_declared w place None = kind.Bool
+kind_declared w place (Some d) = kind_by_item w d.file place d.item
 
 -- the kind of the type at a place
 abbrev pub kind_at : World → ℕ → Kind
-kind_at w place = kind_by_item w place (item_at w place)
+kind_at w place = kind_declared w place (slice_get w.declared place)
+
+-- a message as a group
+abbrev pub group_of : Kind → Kind
+group_of (kind.Message m) = kind.Group m
+group_of (kind.Enum e) = kind.Enum e
+group_of (kind.Group m) = kind.Group m
+group_of (kind.ClosedEnum e) = kind.ClosedEnum e
+group_of kind.Double = kind.Double
+group_of kind.Float = kind.Float
+group_of kind.Int64 = kind.Int64
+group_of kind.Uint64 = kind.Uint64
+group_of kind.Int32 = kind.Int32
+group_of kind.Fixed64 = kind.Fixed64
+group_of kind.Fixed32 = kind.Fixed32
+group_of kind.Bool = kind.Bool
+group_of kind.Text = kind.Text
+group_of kind.Bytes = kind.Bytes
+group_of kind.Uint32 = kind.Uint32
+group_of kind.Sfixed32 = kind.Sfixed32
+group_of kind.Sfixed64 = kind.Sfixed64
+group_of kind.Sint32 = kind.Sint32
+group_of kind.Sint64 = kind.Sint64
+
+-- a kind, as a group where that is the type number
+abbrev pub grouped : Bool → Kind → Kind
+grouped true k = group_of k
+grouped false k = k
 
 -- the place of the type that a field of a scope names
 abbrev pub type_place : World → ℕ → List ℕ → DeclaredField → Option ℕ
@@ -82,7 +106,7 @@ type_place w file scope f = option_and_then (λ name. place_found (looked_up w.d
 
 -- the kind of the type at a place, if the field names one, else what its type number says
 abbrev pub kind_by_place : World → DeclaredField → Option ℕ → Kind
-kind_by_place w f (Some place) = kind_at w place
+kind_by_place w f (Some place) = grouped (is_group f.type_code) (kind_at w place)
 kind_by_place w f None = option_map_or kind_of_code f.type_code kind.Bool
 
 abbrev pub kind_of_field : World → ℕ → List ℕ → DeclaredField → Kind
@@ -109,17 +133,20 @@ entry_declared d = entry_by_item d d.item
 abbrev pub entry_of : World → ℕ → List ℕ → DeclaredField → Option (MessageHead × List ℕ)
 entry_of w file scope f = option_and_then (λ place. option_and_then entry_declared (slice_get w.declared place)) (type_place w file scope f)
 
--- a list of a packable kind is packed unless `packed` is false
-abbrev pub list_shape : Kind → DeclaredField → Shape
-list_shape k f = shape.List (is_packable k && option_map_or (λ b. b) f.packed true)
+-- a list of a packable kind is packed unless `packed` is false; in a file of proto2 where it is true
+abbrev pub list_shape : Bool → Kind → DeclaredField → Shape
+list_shape two k f = shape.List (is_packable k && option_map_or (λ b. b) f.packed (not two))
 
--- A member of a real oneof is OneofMember. Any other message, and an optional field, is Explicit. Any other field is Implicit.
-abbrev pub singular_shape : Kind → DeclaredField → Shape
-singular_shape k f = if f.is_optional then shape.Explicit else by_oneof f.oneof
+-- A member of a real oneof is OneofMember. Any other message, an optional field, and any other field in a file of proto2 is Explicit. Any other
+-- field is Implicit.
+abbrev pub singular_shape : Bool → Kind → DeclaredField → Shape
+singular_shape two k f = if f.is_optional then shape.Explicit else by_oneof f.oneof
   where
     by_kind : Kind → Shape
     by_kind (kind.Message _) = shape.Explicit
+    by_kind (kind.Group _) = shape.Explicit
     by_kind (kind.Enum _) = shape.Implicit
+    by_kind (kind.ClosedEnum _) = shape.Implicit
     by_kind kind.Double = shape.Implicit
     by_kind kind.Float = shape.Implicit
     by_kind kind.Int64 = shape.Implicit
@@ -136,21 +163,25 @@ singular_shape k f = if f.is_optional then shape.Explicit else by_oneof f.oneof
     by_kind kind.Sint32 = shape.Implicit
     by_kind kind.Sint64 = shape.Implicit
 
+    alone : Bool → Shape
+    alone true = shape.Explicit
+    alone false = by_kind k
+
     by_oneof : Option ℤ → Shape
     by_oneof (Some (pos o)) = shape.OneofMember o
-    by_oneof (Some (negsuc o)) = by_kind k
-    by_oneof None = by_kind k
+    by_oneof (Some (negsuc o)) = alone two
+    by_oneof None = alone two
 
 abbrev pub number_of : ℤ → ℕ
 number_of (pos n) = n
 number_of (negsuc n) = 0
 
-abbrev pub with_kind : DeclaredField → Kind → FieldView
-with_kind f k = record { name = f.name; number = number_of f.number; kind = k; shape = if f.is_repeated then list_shape k f else singular_shape k f }
+abbrev pub with_kind : Bool → DeclaredField → Kind → FieldView
+with_kind two f k = record { name = f.name; number = number_of f.number; kind = k; shape = if f.is_repeated then list_shape two k f else singular_shape two k f }
 
 -- a field of a scope of a file, by the entry message that it uses, if it does
 abbrev pub field_by_entry : World → ℕ → List ℕ → DeclaredField → Option (MessageHead × List ℕ) → FieldView
-field_by_entry w file scope f None = with_kind f (kind_of_field w file scope f)
+field_by_entry w file scope f None = with_kind (is_two w.files file) f (kind_of_field w file scope f)
 field_by_entry w file scope f (Some (head, name)) = record {
   name = f.name;
   number = number_of f.number;

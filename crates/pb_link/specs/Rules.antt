@@ -12,10 +12,19 @@ use Rattle.pb_link.specs.Sees.{Sight}
 use Rattle.pb_link.specs.Declarations.{Item, a_file, a_message, a_field, a_oneof, an_enum, a_value, a_service, a_method, Declaration, simple_name, is_named, full_name, has_name, is_member_of, is_synthetic}
 use Rattle.pb_link.specs.Lookup.{Found, found, not_found, not_visible, not_a_type, looked_up, is_package_name, every_file}
 
--- WHAT THE RULES SPEAK OF: all declarations, and what files see
+-- WHAT THE RULES SPEAK OF: all declarations, what files see, and the files
 pub record World : Type 0 where
   pub declared : List Declaration
   pub sight : Sight
+  pub files : List DeclaredFile
+
+abbrev pub two_of : Option DeclaredFile → Bool
+two_of None = false
+two_of (Some f) = f.is_proto2
+
+-- the file of an index is of the syntax proto2
+abbrev pub is_two : List DeclaredFile → ℕ → Bool
+is_two files i = two_of (slice_get files i)
 
 abbrev pub item_of : Option Declaration → Option Item
 item_of None = None
@@ -52,6 +61,13 @@ place_found (found place) = Some place
 place_found not_found = None
 place_found not_visible = None
 place_found not_a_type = None
+
+-- the same test of what is declared
+abbrev pub passes_declared : World → (Declaration → Bool) → Found → Bool
+passes_declared w test (found place) = option_map_or test (slice_get w.declared place) true
+passes_declared w test not_found = true
+passes_declared w test not_visible = true
+passes_declared w test not_a_type = true
 
 -- what was found passes a test; a name that is not found rests on nothing, and passes
 abbrev pub passes : World → (Item → Bool) → Found → Bool
@@ -92,6 +108,17 @@ is_enum (an_enum e) = true
 is_enum (a_value e i v) = false
 is_enum (a_service s) = false
 is_enum (a_method m) = false
+
+-- a message is a type where it is no entry
+abbrev pub is_message_type : Item → Bool
+is_message_type (a_message head inner) = not head.is_entry
+is_message_type (a_file f) = false
+is_message_type (a_field head i f) = false
+is_message_type (a_oneof head i name) = false
+is_message_type (an_enum e) = false
+is_message_type (a_value e i v) = false
+is_message_type (a_service s) = false
+is_message_type (a_method m) = false
 
 abbrev pub is_field : Item → Bool
 is_field (a_file f) = false
@@ -236,6 +263,17 @@ oneof_of_field_is_right head f = option_map_or is_index f.oneof true && (not f.i
     is_index (pos o) = nat_lt o (length head.oneofs) && not f.is_repeated
     is_index (negsuc o) = false
 
+-- a field that is marked `proto3_optional`
+abbrev pub is_marked_optional : Item → Bool
+is_marked_optional (a_field head i f) = f.is_optional
+is_marked_optional (a_file f) = false
+is_marked_optional (a_message head inner) = false
+is_marked_optional (a_oneof head i name) = false
+is_marked_optional (an_enum e) = false
+is_marked_optional (a_value e i v) = false
+is_marked_optional (a_service s) = false
+is_marked_optional (a_method m) = false
+
 -- BadOneof at a oneof: it has a member; a real one does not follow a synthetic one
 abbrev pub oneof_is_right : MessageHead → ℕ → Bool
 oneof_is_right head o =
@@ -296,6 +334,28 @@ is_one_map_field entry (d ∷ e ∷ ds) = false
 abbrev pub has_one_use : World → ℕ → Declaration → Bool
 has_one_use w place entry = is_one_map_field entry (filter (uses w place) w.declared)
 
+-- the type number of a group
+abbrev pub is_group : Option TypeCode → Bool
+is_group None = false
+is_group (Some code.Group) = true
+is_group (Some code.Double) = false
+is_group (Some code.Float) = false
+is_group (Some code.Int64) = false
+is_group (Some code.Uint64) = false
+is_group (Some code.Int32) = false
+is_group (Some code.Fixed64) = false
+is_group (Some code.Fixed32) = false
+is_group (Some code.Bool) = false
+is_group (Some code.Text) = false
+is_group (Some code.Message) = false
+is_group (Some code.Bytes) = false
+is_group (Some code.Uint32) = false
+is_group (Some code.Enum) = false
+is_group (Some code.Sfixed32) = false
+is_group (Some code.Sfixed64) = false
+is_group (Some code.Sint32) = false
+is_group (Some code.Sint64) = false
+
 -- the type numbers of key types
 abbrev pub is_key_code : TypeCode → Bool
 is_key_code code.Int64 = true
@@ -327,14 +387,18 @@ key_name = codes "key"
 abbrev pub value_name : List ℕ
 value_name = codes "value"
 
+-- the value of an entry, which is no group
+abbrev pub is_value_part : DeclaredField → Bool
+is_value_part f = is_part value_name 2 f && not (is_group f.type_code)
+
 -- a type name in an entry means no entry
 abbrev pub is_no_entry : World → Declaration → List ℕ → Bool
 is_no_entry w entry name = passes w is_not_entry (looked_up w.declared (w.sight.sees entry.file) (full_name entry) name)
 
--- the fields key = 1, of a key type, and value = 2, which is no entry
+-- the fields key = 1, of a key type, and value = 2, which is no group and no entry
 abbrev pub are_key_and_value : World → Declaration → DeclaredField → DeclaredField → Bool
 are_key_and_value w entry k v =
-    is_part key_name 1 k && is_part value_name 2 v && option_map_or is_key_code k.type_code false
+    is_part key_name 1 k && is_value_part v && option_map_or is_key_code k.type_code false
     && option_map_or (is_no_entry w entry) v.type_name true
 
 abbrev pub has_key_and_value : World → Declaration → List DeclaredField → Bool
@@ -409,17 +473,18 @@ is_packable w d f = is_packable_by w d f.type_name f.type_code
 abbrev pub is_packed_right : World → Declaration → DeclaredField → Bool
 is_packed_right w d f = not (option_map_or (λ b. b) f.packed false) || (f.is_repeated && is_packable w d f)
 
--- BadEnum: there is a first value and its number is 0
-abbrev pub begins_at_zero : DeclaredEnum → Bool
-begins_at_zero e = is_zero_first e.values
+-- BadEnum: there is a first value, and its number is 0 but in a file of proto2
+abbrev pub begins_right : Bool → DeclaredEnum → Bool
+begins_right two e = is_right_first two e.values
   where
-    is_zero_first : List (List ℕ × ℤ) → Bool
-    is_zero_first [] = false
-    is_zero_first (v ∷ vs) = int_eq v.1 (pos 0)
+    is_right_first : Bool → List (List ℕ × ℤ) → Bool
+    is_right_first two [] = false
+    is_right_first true (v ∷ vs) = true
+    is_right_first false (v ∷ vs) = int_eq v.1 (pos 0)
 
 abbrev pub is_type_by : World → Declaration → Option (List ℕ) → Option TypeCode → Bool
 is_type_by w d name None = is_some name
-is_type_by w d name (Some code.Group) = false
+is_type_by w d name (Some code.Group) = is_two w.files d.file && (is_some name && list_all (passes w is_message_type) (lookups w d))
 is_type_by w d name (Some code.Message) = is_some name && list_all (passes w is_message) (lookups w d)
 is_type_by w d name (Some code.Enum) = is_some name && list_all (passes w is_enum) (lookups w d)
 is_type_by w d name (Some code.Double) = is_none name
@@ -438,10 +503,32 @@ is_type_by w d name (Some code.Sfixed64) = is_none name
 is_type_by w d name (Some code.Sint32) = is_none name
 is_type_by w d name (Some code.Sint64) = is_none name
 
--- KindMismatch at a field: a type number or a type name is given; a given number is not GROUP and agrees with what the name means; a scalar has
--- no type name; MESSAGE and ENUM have one
+-- KindMismatch at a field: a type number or a type name is given; a given number agrees with what the name means; a scalar has no type name;
+-- MESSAGE and ENUM have one, and GROUP, which stands in files of proto2 alone, has one that means no entry
 abbrev pub is_type_right : World → Declaration → DeclaredField → Bool
 is_type_right w d f = is_type_by w d f.type_name f.type_code
+
+-- a field of an entry
+abbrev pub is_of_entry : Item → Bool
+is_of_entry (a_field head i f) = head.is_entry
+is_of_entry (a_file f) = false
+is_of_entry (a_message head inner) = false
+is_of_entry (a_oneof head i name) = false
+is_of_entry (an_enum e) = false
+is_of_entry (a_value e i v) = false
+is_of_entry (a_service s) = false
+is_of_entry (a_method m) = false
+
+-- an enum of a file of proto2
+abbrev pub is_closed : List DeclaredFile → Declaration → Bool
+is_closed files e = is_enum e.item && is_two files e.file
+
+abbrev pub is_open : List DeclaredFile → Declaration → Bool
+is_open files e = not (is_closed files e)
+
+-- ClosedEnum: the field is of an enum of a file of proto2 only where it stands in such a file itself, and not in an entry
+abbrev pub is_enum_right : World → Declaration → Bool
+is_enum_right w d = (is_two w.files d.file && not (is_of_entry d.item)) || list_all (passes_declared w (is_open w.files)) (lookups w d)
 
 -- two ranges have a number in common
 abbrev pub message_ranges_overlap : ℤ × ℤ → ℤ × ℤ → Bool

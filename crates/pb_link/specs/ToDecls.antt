@@ -8,7 +8,7 @@ use Rattle.pb_schema.specs.declared.types.Shape.{Shape}
 use Rattle.pb_schema.specs.declared.types.Shape.TheVariants as shape
 use Rattle.pb_schema.specs.Kinds.{is_packable, message_of_kind}
 use Rattle.pb_schema.specs.Names.{in_scope, entry_name, message_names, enum_names, name_at}
-use Rattle.pb_schema.specs.Types.{FieldView, MessageView, EnumView, FileView, Types}
+use Rattle.pb_schema.specs.Types.{FieldView, MessageView, EnumView, FileView, Types, is_proto2}
 use Rattle.pb_descr.specs.declared.decl.TypeCode.{TypeCode}
 use Rattle.pb_descr.specs.declared.decl.TypeCode.TheVariants as code
 use Rattle.pb_descr.specs.Decls.{DeclaredField, DeclaredEnum, MessageHead, DeclaredMessage, message, no_messages, messages_of, DeclaredFile}
@@ -35,11 +35,15 @@ code_of_kind kind.Sint32 = code.Sint32
 code_of_kind kind.Sint64 = code.Sint64
 code_of_kind (kind.Enum _) = code.Enum
 code_of_kind (kind.Message _) = code.Message
+code_of_kind (kind.Group _) = code.Group
+code_of_kind (kind.ClosedEnum _) = code.Enum
 
 -- a dot and the full name of the type that a kind names
 abbrev pub name_of_kind : Types → Kind → Option (List ℕ)
 name_of_kind ts (kind.Enum e) = Some (46 ∷ name_at (enum_names ts) e.0)
 name_of_kind ts (kind.Message m) = Some (46 ∷ name_at (message_names ts) m.0)
+name_of_kind ts (kind.Group m) = Some (46 ∷ name_at (message_names ts) m.0)
+name_of_kind ts (kind.ClosedEnum e) = Some (46 ∷ name_at (enum_names ts) e.0)
 name_of_kind ts kind.Double = None
 name_of_kind ts kind.Float = None
 name_of_kind ts kind.Int64 = None
@@ -65,13 +69,13 @@ is_repeated_shape shape.Implicit = false
 is_repeated_shape shape.Explicit = false
 is_repeated_shape (shape.OneofMember o) = false
 
--- the field is optional: Explicit, and no message
-abbrev pub is_optional_field : Shape → Kind → Bool
-is_optional_field shape.Explicit k = is_none (message_of_kind k)
-is_optional_field shape.Implicit k = false
-is_optional_field (shape.OneofMember o) k = false
-is_optional_field (shape.List packed) k = false
-is_optional_field (shape.Map key) k = false
+-- the field is optional: Explicit, no message, and not in a file of proto2
+abbrev pub is_optional_field : Bool → Shape → Kind → Bool
+is_optional_field two shape.Explicit k = not two && is_none (message_of_kind k)
+is_optional_field two shape.Implicit k = false
+is_optional_field two (shape.OneofMember o) k = false
+is_optional_field two (shape.List packed) k = false
+is_optional_field two (shape.Map key) k = false
 
 -- a map field's type is its entry message
 abbrev pub code_of_field : Shape → Kind → TypeCode
@@ -89,46 +93,50 @@ name_of_type ts scope name shape.Explicit k = name_of_kind ts k
 name_of_type ts scope name (shape.OneofMember o) k = name_of_kind ts k
 name_of_type ts scope name (shape.List packed) k = name_of_kind ts k
 
--- an unpacked list of a packable kind says so
-abbrev pub packed_of_field : Shape → Kind → Option Bool
-packed_of_field (shape.List packed) k = if is_packable k && not packed then Some false else None
-packed_of_field shape.Implicit k = None
-packed_of_field shape.Explicit k = None
-packed_of_field (shape.OneofMember o) k = None
-packed_of_field (shape.Map key) k = None
+-- an unpacked list of a packable kind says so; in a file of proto2 a packed list does
+abbrev pub packed_of_list : Bool → Bool → Kind → Option Bool
+packed_of_list true packed k = if packed then Some true else None
+packed_of_list false packed k = if is_packable k && not packed then Some false else None
+
+abbrev pub packed_of_field : Bool → Shape → Kind → Option Bool
+packed_of_field two (shape.List packed) k = packed_of_list two packed k
+packed_of_field two shape.Implicit k = None
+packed_of_field two shape.Explicit k = None
+packed_of_field two (shape.OneofMember o) k = None
+packed_of_field two (shape.Map key) k = None
 
 -- the oneof of a field, which is a synthetic one of an index where the field is optional
-abbrev pub oneof_of_field : ℕ → Shape → Kind → Option ℤ
-oneof_of_field synthetic shape.Explicit k = if is_none (message_of_kind k) then Some (pos synthetic) else None
-oneof_of_field synthetic (shape.OneofMember o) k = Some (pos o)
-oneof_of_field synthetic shape.Implicit k = None
-oneof_of_field synthetic (shape.List packed) k = None
-oneof_of_field synthetic (shape.Map key) k = None
+abbrev pub oneof_of_field : Bool → ℕ → Shape → Kind → Option ℤ
+oneof_of_field two synthetic shape.Explicit k = if not two && is_none (message_of_kind k) then Some (pos synthetic) else None
+oneof_of_field two synthetic (shape.OneofMember o) k = Some (pos o)
+oneof_of_field two synthetic shape.Implicit k = None
+oneof_of_field two synthetic (shape.List packed) k = None
+oneof_of_field two synthetic (shape.Map key) k = None
 
--- a field of a message, by the message's full name and the index that its synthetic oneof would have
-abbrev pub declared_field : Types → List ℕ → ℕ → FieldView → DeclaredField
-declared_field ts scope synthetic f = record {
+-- a field of a message, by whether its file is of proto2, the message's full name and the index that its synthetic oneof would have
+abbrev pub declared_field : Bool → Types → List ℕ → ℕ → FieldView → DeclaredField
+declared_field two ts scope synthetic f = record {
   name = f.name;
   number = pos f.number;
   is_repeated = is_repeated_shape f.shape;
   type_code = Some (code_of_field f.shape f.kind);
   type_name = name_of_type ts scope f.name f.shape f.kind;
-  packed = packed_of_field f.shape f.kind;
-  oneof = oneof_of_field synthetic f.shape f.kind;
-  is_optional = is_optional_field f.shape f.kind;
+  packed = packed_of_field two f.shape f.kind;
+  oneof = oneof_of_field two synthetic f.shape f.kind;
+  is_optional = is_optional_field two f.shape f.kind;
 }
 
-abbrev pub is_optional_view : FieldView → Bool
-is_optional_view f = is_optional_field f.shape f.kind
+abbrev pub is_optional_view : Bool → FieldView → Bool
+is_optional_view two f = is_optional_field two f.shape f.kind
 
 -- the fields, where the next synthetic oneof has this index
-abbrev pub declared_fields : Types → List ℕ → ℕ → List FieldView → List DeclaredField
-declared_fields ts scope synthetic [] = []
-declared_fields ts scope synthetic (f ∷ fs) = declared_field ts scope synthetic f ∷ declared_fields ts scope (if is_optional_view f then synthetic + 1 else synthetic) fs
+abbrev pub declared_fields : Bool → Types → List ℕ → ℕ → List FieldView → List DeclaredField
+declared_fields two ts scope synthetic [] = []
+declared_fields two ts scope synthetic (f ∷ fs) = declared_field two ts scope synthetic f ∷ declared_fields two ts scope (if is_optional_view two f then synthetic + 1 else synthetic) fs
 
 -- the synthetic oneofs of fields
-abbrev pub synthetic_names : List FieldView → List (List ℕ)
-synthetic_names fs = map (λ f. 95 ∷ f.name) (filter is_optional_view fs)
+abbrev pub synthetic_names : Bool → List FieldView → List (List ℕ)
+synthetic_names two fs = map (λ f. 95 ∷ f.name) (filter (is_optional_view two) fs)
 
 -- MAPS
 
@@ -185,9 +193,9 @@ enums_in ts i = filter (λ e. is_parent i e.parent) ts.enums
 abbrev pub declared_head : Types → ℕ → MessageView → MessageHead
 declared_head ts i t = record {
   name = t.name;
-  fields = declared_fields ts (name_at (message_names ts) i) (length t.oneofs) t.fields;
+  fields = declared_fields (is_proto2 ts.files t.file) ts (name_at (message_names ts) i) (length t.oneofs) t.fields;
   enums = map declared_enum (enums_in ts i);
-  oneofs = t.oneofs ++ synthetic_names t.fields;
+  oneofs = t.oneofs ++ synthetic_names (is_proto2 ts.files t.file) t.fields;
   reserved = [];
   reserved_names = [];
   is_entry = false;
@@ -221,6 +229,7 @@ declared_file ts (i, f) = record {
   messages = messages_of (map (declared_message (length ts.messages) ts) (outermost_messages ts i));
   enums = map declared_enum (outermost_enums ts i);
   services = [];
+  is_proto2 = f.proto2;
 }
 
 abbrev pub decls_of : Types → List DeclaredFile

@@ -31,22 +31,24 @@ pub enum LinkCause {
     NumberTaken,
     /// The number or the name is reserved.
     Reserved,
-    /// A oneof's index or its members are not right.
+    /// A oneof's index or its members are not right, or a field of proto2 is marked `proto3_optional`.
     BadOneof,
     /// An entry message or a use of one is not that of a map field.
     BadMap,
     /// `packed` stands on a field that is no list of a packable kind.
     BadPacked,
-    /// An enum's first value is not 0, or there is none.
+    /// An enum has no first value, or that is not 0 in a file of proto3.
     BadEnum,
-    /// The type's number and its name do not agree, or a method's type is no message.
+    /// The type's number and its name do not agree, a group stands in a file of proto3, or a method's type is no message.
     KindMismatch,
     /// A reserved range is empty, out of bounds, or overlaps another.
     BadRange,
+    /// A field of an entry message, or in a file of proto3, is of an enum of a file of proto2.
+    ClosedEnum,
 }
 
 impl LinkCause {
-    /// The cause's number, from 71 to 87.
+    /// The cause's number, from 71 to 89; 88 is want of memory.
     pub fn number(self) -> u8
         ensures { result ≡ cause_number self }
     {
@@ -68,6 +70,7 @@ impl LinkCause {
             LinkCause::BadEnum => 85,
             LinkCause::KindMismatch => 86,
             LinkCause::BadRange => 87,
+            LinkCause::ClosedEnum => 89,
         }
     }
 
@@ -93,6 +96,7 @@ impl LinkCause {
             LinkCause::BadEnum => "BadEnum",
             LinkCause::KindMismatch => "KindMismatch",
             LinkCause::BadRange => "BadRange",
+            LinkCause::ClosedEnum => "ClosedEnum",
         }
     }
 }

@@ -94,6 +94,7 @@ fn file_decl(
         messages,
         enums: inside.enums,
         services: Vec::new(alloc),
+        proto2: file.proto2,
     })
 }
 

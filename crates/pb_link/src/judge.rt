@@ -1,6 +1,8 @@
 //! The least rule that fails at a declaration.
 
-ghost use Rattle.std.specs.Prelude.{◌≡◌, ◌∷◌, [], ◌<◌, ℕ, map, length};
+ghost use Rattle.std.specs.Prelude.{◌≡◌, ◌∷◌, ◌&&◌, [], ◌<◌, ℕ, map, length, not};
+ghost use Rattle.pb_descr.specs.View.{field_view, file_view, message_view};
+ghost use Rattle.pb_link.specs.Declarations.{head_of};
 ghost use Rattle.pb_link.specs.ItemView.{item_view};
 ghost use Rattle.pb_link.specs.Sees.{Sight};
 ghost use Rattle.pb_link.specs.Marks.{marks_of};
@@ -16,9 +18,11 @@ use crate::item::Item;
 use crate::marks::Marks;
 use crate::names::At;
 use crate::rules::kinds::{
-    are_found, are_messages, are_types, are_visible, is_packed_right, is_type_right,
+    are_found, are_messages, are_types, are_visible, is_enum_right, is_packed_right, is_two,
+    is_type_right,
 };
-use crate::rules::numbers::{begins_at_zero, is_field_number};
+use crate::rules::numbers::{begins_right, is_field_number};
+use pb_descr::{FieldDecl, FileDecl, MessageDecl};
 use pb_schema::{is_package, is_word};
 
 /// The first cause whose rule does not hold.
@@ -59,12 +63,32 @@ fn name_is_right(declaration: &Declaration) -> bool
     }
 }
 
+/// Whether the rules of oneofs hold at a field, by whether they do beside its file's syntax.
+fn may_be_member(proto2: bool, field: &FieldDecl, is_right: bool) -> bool
+    ensures { result ≡ (not ((field_view field.now).is_optional && proto2) && is_right) }
+{
+    !(field.proto3_optional && proto2) && is_right
+}
+
+/// Whether a field of a message may be of an enum of a file of proto2.
+fn may_be_closed(proto2: bool, message: &MessageDecl) -> bool
+    ensures { result ≡ (proto2 && not (head_of (message_view message.now)).is_entry) }
+{
+    proto2 && !message.map_entry
+}
+
 /// The least cause at a declaration, by what the tables tell at its place.
-pub(crate) fn judge(row: &[Declaration], declaration: &Declaration, at: At) -> Option<LinkCause>
-    ensures { (s : Sight) (place : ℕ) → TellsAt (world_of (map declaration_view row.now) s) place (declaration_view declaration.now) at → result ≡ first_cause (world_of (map declaration_view row.now) s) place (declaration_view declaration.now) }
+pub(crate) fn judge(
+    files: &[FileDecl],
+    row: &[Declaration],
+    declaration: &Declaration,
+    at: At,
+) -> Option<LinkCause>
+    ensures { (s : Sight) (place : ℕ) → TellsAt (world_of (map file_view files.now) (map declaration_view row.now) s) place (declaration_view declaration.now) at → result ≡ first_cause (world_of (map file_view files.now) (map declaration_view row.now) s) place (declaration_view declaration.now) }
 {
     let name_is_right = name_is_right(declaration);
     let marks = marks_of(declaration);
+    let proto2 = is_two(files, declaration.file);
     match declaration.item {
         Item::File(_) => first_failing(&[
             (LinkCause::TwoFiles, at.file_is_first),
@@ -78,7 +102,7 @@ pub(crate) fn judge(row: &[Declaration], declaration: &Declaration, at: At) -> O
             (LinkCause::BadMap, at.is_map_right),
             (LinkCause::BadRange, marks.ranges_are_right),
         ]),
-        Item::Field(_, _, field) => first_failing(&[
+        Item::Field(message, _, field) => first_failing(&[
             (LinkCause::BadName, name_is_right),
             (LinkCause::NameTaken, at.is_free),
             (LinkCause::NotFound, are_found(at.found)),
@@ -87,10 +111,20 @@ pub(crate) fn judge(row: &[Declaration], declaration: &Declaration, at: At) -> O
             (LinkCause::BadNumber, is_field_number(field.number)),
             (LinkCause::NumberTaken, marks.number_is_free),
             (LinkCause::Reserved, marks.is_not_reserved),
-            (LinkCause::BadOneof, marks.is_oneof_right),
+            (
+                LinkCause::BadOneof,
+                may_be_member(proto2, field, marks.is_oneof_right),
+            ),
             (LinkCause::BadMap, at.is_map_right),
             (LinkCause::BadPacked, is_packed_right(row, at.found, field)),
-            (LinkCause::KindMismatch, is_type_right(row, at.found, field)),
+            (
+                LinkCause::KindMismatch,
+                is_type_right(row, at.found, field, proto2),
+            ),
+            (
+                LinkCause::ClosedEnum,
+                is_enum_right(files, row, at.found, may_be_closed(proto2, message)),
+            ),
         ]),
         Item::Oneof(_, _, _) => first_failing(&[
             (LinkCause::BadName, name_is_right),
@@ -100,7 +134,7 @@ pub(crate) fn judge(row: &[Declaration], declaration: &Declaration, at: At) -> O
         Item::Enum(entry) => first_failing(&[
             (LinkCause::BadName, name_is_right),
             (LinkCause::NameTaken, at.is_free),
-            (LinkCause::BadEnum, begins_at_zero(entry)),
+            (LinkCause::BadEnum, begins_right(proto2, entry)),
             (LinkCause::BadRange, marks.ranges_are_right),
         ]),
         Item::Value(_, _, _) => first_failing(&[

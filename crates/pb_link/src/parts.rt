@@ -41,9 +41,10 @@ pub(crate) fn linked_pool(
     ensures refused { (w : World) → IsWorldOf (map file_view files.now) w → NothingFails w → w.declared ≡ map declaration_view row.now → map type_names_view found.now ≡ map (lookups w) w.declared → IfErr result (λ e. e ≡ Memory) }
 {
     let tables = Tables {
+        files,
         row,
         found,
-        kinds: kinds(alloc, row)?,
+        kinds: kinds(alloc, files, row)?,
     };
     let infos = files_of(alloc, files, imports)?;
     let messages = messages_of(alloc, &tables)?;

@@ -47,7 +47,7 @@ pub(crate) fn verdict(
     ensures accepted { (w : World) → IsWorldOf (map file_view files.now) w → NothingFails w → MatchResult result (λ _. ⊤) (λ e. e ≡ Memory) }
     ensures fault { (file name : List ℕ) (c : CauseValue) → LinkFault (map file_view files.now) file name c → IsErrAnd result (TellsLinkFault file name c) }
 {
-    let Some((place, cause)) = first_fault(row, names, map_marks) else {
+    let Some((place, cause)) = first_fault(files, row, names, map_marks) else {
         return Ok(());
     };
     let declaration = &row[place];

@@ -1,6 +1,7 @@
 //! The first declaration at which a rule fails.
 
 ghost use Rattle.std.specs.Prelude.{◌≡◌, map};
+ghost use Rattle.pb_descr.specs.View.{file_view};
 ghost use Rattle.pb_link.specs.Rules.{World};
 ghost use Rattle.pb_link.specs.View.{declaration_view};
 ghost use Rattle.pb_link.specs.Link.{first_fault};
@@ -10,18 +11,20 @@ use crate::cause::LinkCause;
 use crate::declaration::Declaration;
 use crate::judge::judge;
 use crate::names::{Names, at_place};
+use pb_descr::FileDecl;
 
 /// The first place at which a rule fails, and the least cause there.
 pub(crate) fn first_fault(
+    files: &[FileDecl],
     row: &[Declaration],
     names: &Names,
     map_marks: &[bool],
 ) -> Option<(usize, LinkCause)>
-    ensures { (w : World) → AreTablesOf w (map declaration_view row.now) names.now map_marks.now → result ≡ first_fault w 0 w.declared }
+    ensures { (w : World) → w.files ≡ map file_view files.now → AreTablesOf w (map declaration_view row.now) names.now map_marks.now → result ≡ first_fault w 0 w.declared }
 {
     for (place, declaration) in row.iter().enumerate() {
         let at = at_place(names, map_marks, place);
-        if let Some(cause) = judge(row, declaration, at) {
+        if let Some(cause) = judge(files, row, declaration, at) {
             return Some((place, cause));
         }
     }

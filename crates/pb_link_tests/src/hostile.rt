@@ -62,6 +62,7 @@ fn file(alloc: Global, messages: Vec<MessageDecl>) -> Result<FileDecl, AllocErro
         messages,
         enums: Vec::new(alloc),
         services: Vec::new(alloc),
+        proto2: false,
     })
 }
 

@@ -71,6 +71,8 @@ names_of_kind pool kind.Sint32 = []
 names_of_kind pool kind.Sint64 = []
 names_of_kind pool (kind.Enum e) = enum_values pool e.0
 names_of_kind pool (kind.Message m) = []
+names_of_kind pool (kind.Group m) = []
+names_of_kind pool (kind.ClosedEnum e) = enum_values pool e.0
 
 -- a value that is no message; of a message nothing
 abbrev pub datum_text : List (List ℕ × ℤ) → Datum → List ℕ

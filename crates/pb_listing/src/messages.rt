@@ -217,6 +217,8 @@ impl<O: Output> Buffered<'_, O> {
             // No message nests so deep.
             Kind::Message(_) if level == DEEPEST => {}
             Kind::Message(id) => self.put_message(level + 1, pool, id, body)?,
+            Kind::Group(_) if level == DEEPEST => {}
+            Kind::Group(id) => self.put_message(level + 1, pool, id, body)?,
             Kind::Double
             | Kind::Float
             | Kind::Int64
@@ -232,7 +234,8 @@ impl<O: Output> Buffered<'_, O> {
             | Kind::Sfixed64
             | Kind::Sint32
             | Kind::Sint64
-            | Kind::Enum(_) => {}
+            | Kind::Enum(_)
+            | Kind::ClosedEnum(_) => {}
         }
         Ok(())
     }

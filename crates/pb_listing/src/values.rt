@@ -153,6 +153,7 @@ fn value_name(pool: &Pool, kind: Kind, number: i32) -> Option<&str>
 {
     match kind {
         Kind::Enum(id) => pool.value_name(id, number),
+        Kind::ClosedEnum(id) => pool.value_name(id, number),
         Kind::Double
         | Kind::Float
         | Kind::Int64
@@ -168,6 +169,7 @@ fn value_name(pool: &Pool, kind: Kind, number: i32) -> Option<&str>
         | Kind::Sfixed64
         | Kind::Sint32
         | Kind::Sint64
-        | Kind::Message(_) => None,
+        | Kind::Message(_)
+        | Kind::Group(_) => None,
     }
 }

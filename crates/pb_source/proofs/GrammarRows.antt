@@ -98,6 +98,7 @@ of_fields fs inner = record {
   messages = more_messages (message_decl (record { name = codes "M"; fields = fs; enums = []; oneofs = []; reserved = []; reserved_names = []; is_entry = false }) inner) no_messages;
   enums = [];
   services = [];
+  is_proto2 = false;
 }
 
 abbrev in_message : List Symbol → List Symbol
@@ -142,6 +143,7 @@ an_optional : FileSyntax (codes "m.proto") (in_message (w "optional" ∷ int_fie
       no_messages;
   enums = [];
   services = [];
+  is_proto2 = false;
 })
 unfolding opened
 an_optional = (
@@ -218,6 +220,7 @@ reserved_ranges : FileSyntax (codes "m.proto") (in_message ranges) (record {
       no_messages;
   enums = [];
   services = [];
+  is_proto2 = false;
 })
 unfolding opened
 reserved_ranges = (
@@ -338,6 +341,7 @@ streams : FileSyntax (codes "m.proto") (proto3 ++ package_a ++ a_service) (recor
   messages = no_messages;
   enums = [];
   services = record { name = codes "S"; methods = a_method ∷ [] } ∷ [];
+  is_proto2 = false;
 })
 unfolding opened
 streams = (
@@ -363,6 +367,7 @@ aliases : FileSyntax (codes "m.proto") (proto3 ++ an_enum) (record {
   messages = no_messages;
   enums = values ∷ [];
   services = [];
+  is_proto2 = false;
 })
 unfolding opened
 aliases = (

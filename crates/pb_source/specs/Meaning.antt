@@ -360,4 +360,5 @@ file_of name ss = record {
   messages = all_scoped (package_of ss) (file_messages ss);
   enums = all_said file_enums_said ss;
   services = all_said services_said ss;
+  is_proto2 = false;
 }

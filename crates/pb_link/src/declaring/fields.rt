@@ -6,7 +6,7 @@ ghost use Rattle.pb_schema.specs.View.{field_view as view_of_field};
 ghost use Rattle.pb_schema.specs.Names.{entry_name};
 ghost use Rattle.pb_schema.specs.Rules.{IsPool, NamesType, NamesOneof};
 ghost use Rattle.pb_descr.specs.View.{field_view, message_view};
-ghost use Rattle.pb_link.specs.ToDecls.{code_of_kind, name_of_kind, is_repeated_shape, is_optional_field, code_of_field, name_of_type, packed_of_field, oneof_of_field, declared_field, declared_fields, synthetic_names, entry_part, entry_message, entry_of_field};
+ghost use Rattle.pb_link.specs.ToDecls.{code_of_kind, name_of_kind, is_repeated_shape, is_optional_field, code_of_field, name_of_type, packed_of_list, packed_of_field, oneof_of_field, declared_field, declared_fields, synthetic_names, entry_part, entry_message, entry_of_field};
 ghost use Rattle.pb_link.specs.Rules.{key_name, value_name};
 ghost use Rattle.pb_link.specs.Declarable.{IsDeclarable, AreDeclarable};
 
@@ -37,6 +37,8 @@ fn code_of_kind(kind: Kind) -> TypeCode
         Kind::Sint64 => TypeCode::Sint64,
         Kind::Enum(_) => TypeCode::Enum,
         Kind::Message(_) => TypeCode::Message,
+        Kind::Group(_) => TypeCode::Group,
+        Kind::ClosedEnum(_) => TypeCode::Enum,
     }
 }
 
@@ -52,6 +54,14 @@ fn name_of_kind(alloc: Global, pool: &Pool, kind: Kind) -> Result<Option<String>
             Ok(Some(name))
         }
         Kind::Enum(id) => {
+            let name = dotted(alloc, pool.enum_name(id))?;
+            Ok(Some(name))
+        }
+        Kind::Group(id) => {
+            let name = dotted(alloc, pool.message_name(id))?;
+            Ok(Some(name))
+        }
+        Kind::ClosedEnum(id) => {
             let name = dotted(alloc, pool.enum_name(id))?;
             Ok(Some(name))
         }
@@ -87,7 +97,7 @@ fn is_scalar(kind: Kind) -> bool
     ensures { result ≡ is_none (message_of_kind kind) }
 {
     match kind {
-        Kind::Message(_) => false,
+        Kind::Message(_) | Kind::Group(_) => false,
         Kind::Double
         | Kind::Float
         | Kind::Int64
@@ -103,16 +113,17 @@ fn is_scalar(kind: Kind) -> bool
         | Kind::Sfixed64
         | Kind::Sint32
         | Kind::Sint64
-        | Kind::Enum(_) => true,
+        | Kind::Enum(_)
+        | Kind::ClosedEnum(_) => true,
     }
 }
 
-/// A field of explicit presence that is no message.
-pub(crate) fn is_optional(shape: Shape, kind: Kind) -> bool
-    ensures { result ≡ is_optional_field shape kind }
+/// A field of explicit presence that is no message, and not in a file of proto2.
+pub(crate) fn is_optional(proto2: bool, shape: Shape, kind: Kind) -> bool
+    ensures { result ≡ is_optional_field proto2 shape kind }
 {
     match shape {
-        Shape::Explicit => is_scalar(kind),
+        Shape::Explicit => !proto2 && is_scalar(kind),
         Shape::Implicit | Shape::OneofMember(_) | Shape::List { .. } | Shape::Map { .. } => false,
     }
 }
@@ -152,32 +163,39 @@ fn name_of_type(
     }
 }
 
-/// An unpacked list of a packable kind says so.
-fn packed_of_field(shape: Shape, kind: Kind) -> Option<bool>
-    ensures { result ≡ packed_of_field shape kind }
+/// An unpacked list of a packable kind says so; in a file of proto2 a packed list does.
+fn packed_of_list(proto2: bool, packed: bool, kind: Kind) -> Option<bool>
+    ensures { result ≡ packed_of_list proto2 packed kind }
+{
+    if proto2 {
+        return if packed { Some(true) } else { None };
+    }
+    if kind.is_packable() && !packed {
+        Some(false)
+    } else {
+        None
+    }
+}
+
+fn packed_of_field(proto2: bool, shape: Shape, kind: Kind) -> Option<bool>
+    ensures { result ≡ packed_of_field proto2 shape kind }
 {
     match shape {
-        Shape::List { packed } => {
-            if kind.is_packable() && !packed {
-                Some(false)
-            } else {
-                None
-            }
-        }
+        Shape::List { packed } => packed_of_list(proto2, packed, kind),
         Shape::Implicit | Shape::Explicit | Shape::OneofMember(_) | Shape::Map { .. } => None,
     }
 }
 
 /// The oneof of a field, which is a synthetic one of this index where the field is optional.
-fn oneof_of_field(synthetic: usize, shape: Shape, kind: Kind) -> Option<i32>
+fn oneof_of_field(proto2: bool, synthetic: usize, shape: Shape, kind: Kind) -> Option<i32>
     requires few { synthetic < 2 ^ 31 }
     requires member { NamesOneof (2 ^ 31) shape }
-    ensures { result ≡ oneof_of_field synthetic shape kind }
+    ensures { result ≡ oneof_of_field proto2 synthetic shape kind }
 {
     match shape {
         Shape::OneofMember(oneof) => Some(oneof as i32),
         Shape::Explicit => {
-            if is_scalar(kind) {
+            if !proto2 && is_scalar(kind) {
                 Some(synthetic as i32)
             } else {
                 None
@@ -191,6 +209,7 @@ fn oneof_of_field(synthetic: usize, shape: Shape, kind: Kind) -> Option<i32>
 fn field_decl(
     alloc: Global,
     pool: &Pool,
+    proto2: bool,
     scope: &[u8],
     synthetic: usize,
     field: &Field,
@@ -199,7 +218,7 @@ fn field_decl(
     requires scope { IsAscii scope.now }
     requires few { synthetic < 2 ^ 31 }
     requires field { IsDeclarable pool.now (view_of_field field.now) }
-    ensures { IfOk result (λ d. field_view d ≡ declared_field pool.now scope.now synthetic (view_of_field field.now)) }
+    ensures { IfOk result (λ d. field_view d ≡ declared_field proto2 pool.now scope.now synthetic (view_of_field field.now)) }
 {
     let name = field.name.clone()?;
     let type_name = name_of_type(alloc, pool, scope, field)?;
@@ -209,18 +228,18 @@ fn field_decl(
         repeated: is_repeated(field.shape),
         ty: Some(code_of_field(field.shape, field.kind)),
         type_name,
-        packed: packed_of_field(field.shape, field.kind),
-        oneof: oneof_of_field(synthetic, field.shape, field.kind),
-        proto3_optional: is_optional(field.shape, field.kind),
+        packed: packed_of_field(proto2, field.shape, field.kind),
+        oneof: oneof_of_field(proto2, synthetic, field.shape, field.kind),
+        proto3_optional: is_optional(proto2, field.shape, field.kind),
     })
 }
 
 /// The index of the next synthetic oneof behind a field.
-fn behind(synthetic: usize, field: &Field) -> usize
+fn behind(proto2: bool, synthetic: usize, field: &Field) -> usize
     requires { synthetic < 2 ^ 31 }
-    ensures { result ≡ (if is_optional_field field.now.shape field.now.kind then synthetic + 1 else synthetic) }
+    ensures { result ≡ (if is_optional_field proto2 field.now.shape field.now.kind then synthetic + 1 else synthetic) }
 {
-    if is_optional(field.shape, field.kind) {
+    if is_optional(proto2, field.shape, field.kind) {
         synthetic + 1
     } else {
         synthetic
@@ -231,6 +250,7 @@ fn behind(synthetic: usize, field: &Field) -> usize
 pub(crate) fn field_decls(
     alloc: Global,
     pool: &Pool,
+    proto2: bool,
     scope: &[u8],
     oneofs: usize,
     fields: &[Field],
@@ -239,14 +259,14 @@ pub(crate) fn field_decls(
     requires scope { IsAscii scope.now }
     requires few { oneofs + length fields.now < 2 ^ 31 }
     requires fields { AreDeclarable pool.now (map view_of_field fields.now) }
-    ensures { IfOk result (λ v. map field_view v.items ≡ declared_fields pool.now scope.now oneofs (map view_of_field fields.now)) }
+    ensures { IfOk result (λ v. map field_view v.items ≡ declared_fields proto2 pool.now scope.now oneofs (map view_of_field fields.now)) }
 {
     let mut decls = Vec::with_capacity(alloc, fields.len())?;
     let mut synthetic = oneofs;
     for field in fields {
-        let decl = field_decl(alloc, pool, scope, synthetic, field)?;
+        let decl = field_decl(alloc, pool, proto2, scope, synthetic, field)?;
         decls.push(decl)?;
-        synthetic = behind(synthetic, field);
+        synthetic = behind(proto2, synthetic, field);
     }
     Ok(decls)
 }
@@ -254,13 +274,14 @@ pub(crate) fn field_decls(
 /// Puts the names of the synthetic oneofs of some fields behind those of the others.
 pub(crate) fn add_synthetic(
     alloc: Global,
+    proto2: bool,
     fields: &[Field],
     oneofs: &mut Vec<String>,
 ) -> Result<(), AllocError>
-    ensures { OnOk result (map string_bytes oneofs.new.items ≡ map string_bytes oneofs.old.items ++ synthetic_names (map view_of_field fields.now)) }
+    ensures { OnOk result (map string_bytes oneofs.new.items ≡ map string_bytes oneofs.old.items ++ synthetic_names proto2 (map view_of_field fields.now)) }
 {
     for field in fields {
-        if is_optional(field.shape, field.kind) {
+        if is_optional(proto2, field.shape, field.kind) {
             let name = synthetic_name(alloc, field.name.as_str())?;
             oneofs.push(name)?;
         }

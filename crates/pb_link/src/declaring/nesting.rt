@@ -1,7 +1,7 @@
 //! Messages and enums in the messages and files that declare them.
 
 ghost use Rattle.std.specs.Prelude.{◌≡◌, ◌<◌, ◌+◌, ◌++◌, ◌∷◌, [], ℕ, length, map, drop, take, reverse, filter_map, string_bytes, Some, slice_get, IfOk, OnOk};
-ghost use Rattle.pb_schema.specs.Types.{MessageView};
+ghost use Rattle.pb_schema.specs.Types.{MessageView, is_proto2};
 ghost use Rattle.pb_schema.specs.View.{field_view as view_of_field, message_view as view_of_message, parent_view};
 ghost use Rattle.pb_schema.specs.Rules.{IsPool};
 ghost use Rattle.pb_descr.specs.View.{enum_view, message_view};
@@ -128,12 +128,26 @@ fn inner_messages(
 }
 
 /// The names of the oneofs of a message, and behind them those of its optional fields.
-fn oneof_names(alloc: Global, message: &MessageType) -> Result<Vec<String>, AllocError>
-    ensures { IfOk result (λ v. map string_bytes v.items ≡ (view_of_message message.now).oneofs ++ synthetic_names (view_of_message message.now).fields) }
+fn oneof_names(
+    alloc: Global,
+    proto2: bool,
+    message: &MessageType,
+) -> Result<Vec<String>, AllocError>
+    ensures { IfOk result (λ v. map string_bytes v.items ≡ (view_of_message message.now).oneofs ++ synthetic_names proto2 (view_of_message message.now).fields) }
 {
     let mut names = copied(alloc, &message.oneofs)?;
-    add_synthetic(alloc, &message.fields, &mut names)?;
+    add_synthetic(alloc, proto2, &message.fields, &mut names)?;
     Ok(names)
+}
+
+/// Whether the file of an index is of proto2.
+fn is_two(pool: &Pool, file: usize) -> bool
+    ensures { result ≡ is_proto2 pool.now.files file }
+{
+    match pool.files().get(file) {
+        Some(file) => file.proto2,
+        None => false,
+    }
 }
 
 /// The declaration of a message, in which this stands.
@@ -149,9 +163,17 @@ fn message_decl(
 {
     let message = &pool.messages()[index];
     let scope = pool.message_name(MessageId(index));
-    let fields = field_decls(alloc, pool, scope, message.oneofs.len(), &message.fields)?;
+    let proto2 = is_two(pool, message.file);
+    let fields = field_decls(
+        alloc,
+        pool,
+        proto2,
+        scope,
+        message.oneofs.len(),
+        &message.fields,
+    )?;
     let messages = inner_messages(alloc, pool, &message.fields, inside.messages)?;
-    let oneofs = oneof_names(alloc, message)?;
+    let oneofs = oneof_names(alloc, proto2, message)?;
     let name = message.name.clone()?;
     Ok(MessageDecl {
         name,

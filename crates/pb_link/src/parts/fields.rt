@@ -18,15 +18,15 @@ use pb_descr::{FieldDecl, MessageDecl};
 use pb_schema::{Field, Kind, Shape};
 use std::alloc::{AllocError, Global};
 
-fn list_shape(kind: Kind, field: &FieldDecl) -> Shape
-    ensures { result ≡ list_shape kind (declared_view field.now) }
+fn list_shape(proto2: bool, kind: Kind, field: &FieldDecl) -> Shape
+    ensures { result ≡ list_shape proto2 kind (declared_view field.now) }
 {
-    let packed = kind.is_packable() && field.packed != Some(false);
+    let packed = kind.is_packable() && field.packed.unwrap_or(!proto2);
     Shape::List { packed }
 }
 
-fn singular_shape(kind: Kind, field: &FieldDecl) -> Shape
-    ensures { result ≡ singular_shape kind (declared_view field.now) }
+fn singular_shape(proto2: bool, kind: Kind, field: &FieldDecl) -> Shape
+    ensures { result ≡ singular_shape proto2 kind (declared_view field.now) }
 {
     if field.proto3_optional {
         return Shape::Explicit;
@@ -36,8 +36,11 @@ fn singular_shape(kind: Kind, field: &FieldDecl) -> Shape
             return Shape::OneofMember(oneof as u32);
         }
     }
+    if proto2 {
+        return Shape::Explicit;
+    }
     match kind {
-        Kind::Message(_) => Shape::Explicit,
+        Kind::Message(_) | Kind::Group(_) => Shape::Explicit,
         Kind::Double
         | Kind::Float
         | Kind::Int64
@@ -53,18 +56,19 @@ fn singular_shape(kind: Kind, field: &FieldDecl) -> Shape
         | Kind::Sfixed64
         | Kind::Sint32
         | Kind::Sint64
-        | Kind::Enum(_) => Shape::Implicit,
+        | Kind::Enum(_)
+        | Kind::ClosedEnum(_) => Shape::Implicit,
     }
 }
 
 /// The shape of a field that is no map.
-fn shape_of(kind: Kind, field: &FieldDecl) -> Shape
-    ensures { result ≡ (if (declared_view field.now).is_repeated then list_shape kind (declared_view field.now) else singular_shape kind (declared_view field.now)) }
+fn shape_of(proto2: bool, kind: Kind, field: &FieldDecl) -> Shape
+    ensures { result ≡ (if (declared_view field.now).is_repeated then list_shape proto2 kind (declared_view field.now) else singular_shape proto2 kind (declared_view field.now)) }
 {
     if field.repeated {
-        list_shape(kind, field)
+        list_shape(proto2, kind, field)
     } else {
-        singular_shape(kind, field)
+        singular_shape(proto2, kind, field)
     }
 }
 
@@ -125,10 +129,15 @@ fn parts_of(tables: &Tables<'_>, names: &[TypeNames], entry: &[FieldDecl]) -> (K
 }
 
 /// What a field is, by the place of the type that it names.
-fn kind_and_shape(tables: &Tables<'_>, place: Option<usize>, field: &FieldDecl) -> (Kind, Shape)
+fn kind_and_shape(
+    tables: &Tables<'_>,
+    proto2: bool,
+    place: Option<usize>,
+    field: &FieldDecl,
+) -> (Kind, Shape)
     requires sizes { length tables.now.found.now ≡ length tables.now.row.now }
-    ensures kind { result.0 ≡ (field_by_place tables.now (declared_view field.now) place).kind }
-    ensures shape { result.1 ≡ (field_by_place tables.now (declared_view field.now) place).shape }
+    ensures kind { result.0 ≡ (field_by_place proto2 tables.now (declared_view field.now) place).kind }
+    ensures shape { result.1 ≡ (field_by_place proto2 tables.now (declared_view field.now) place).shape }
 {
     if let Some(at) = place {
         if let Some(entry) = entry_at(tables, at) {
@@ -137,19 +146,20 @@ fn kind_and_shape(tables: &Tables<'_>, place: Option<usize>, field: &FieldDecl) 
         }
     }
     let kind = tables.kind(place, field.ty);
-    (kind, shape_of(kind, field))
+    (kind, shape_of(proto2, kind, field))
 }
 
 /// The type of a field that names the type at a place, if it names one.
 fn field_of(
     tables: &Tables<'_>,
+    proto2: bool,
     place: Option<usize>,
     field: &FieldDecl,
 ) -> Result<Field, AllocError>
     requires sizes { length tables.now.found.now ≡ length tables.now.row.now }
-    ensures { IfOk result (λ f. field_view f ≡ field_by_place tables.now (declared_view field.now) place) }
+    ensures { IfOk result (λ f. field_view f ≡ field_by_place proto2 tables.now (declared_view field.now) place) }
 {
-    let (kind, shape) = kind_and_shape(tables, place, field);
+    let (kind, shape) = kind_and_shape(tables, proto2, place, field);
     Ok(Field {
         name: field.name.clone()?,
         number: number_of(field.number),
@@ -158,19 +168,20 @@ fn field_of(
     })
 }
 
-/// The fields of a message, which name these types.
+/// The fields of a message, which name these types, by whether its file is of proto2.
 pub(crate) fn fields_of(
     alloc: Global,
     tables: &Tables<'_>,
+    proto2: bool,
     names: &[TypeNames],
     fields: &[FieldDecl],
 ) -> Result<Vec<Field>, AllocError>
     requires sizes { length tables.now.found.now ≡ length tables.now.row.now }
-    ensures { IfOk result (λ v. map field_view v.items ≡ fields_read tables.now names.now 0 (map declared_view fields.now)) }
+    ensures { IfOk result (λ v. map field_view v.items ≡ fields_read proto2 tables.now names.now 0 (map declared_view fields.now)) }
 {
     let mut types: Vec<Field> = Vec::new(alloc);
     for (index, field) in fields.iter().enumerate() {
-        let made = field_of(tables, place_named(names, index), field)?;
+        let made = field_of(tables, proto2, place_named(names, index), field)?;
         types.push(made)?;
     }
     Ok(types)

@@ -1,21 +1,27 @@
 //! Kinds by place.
 
-ghost use Rattle.std.specs.Prelude.{◌≡◌, ◌+◌, ◌<◌, ◌^◌, map, option_map, IfOk};
-ghost use Rattle.pb_link.specs.Rules.{is_enum};
-ghost use Rattle.pb_link.specs.PoolOf.{is_message_type, kind_of_code};
+ghost use Rattle.std.specs.Prelude.{◌≡◌, ◌+◌, ◌<◌, ◌^◌, map, option_map, slice_get, IfOk};
+ghost use Rattle.std.specs.Option.{option_map_or};
+ghost use Rattle.pb_schema.specs.declared.types.Kind.TheVariants as kind;
+ghost use Rattle.pb_descr.specs.View.{file_view};
+ghost use Rattle.pb_link.specs.Rules.{is_enum, is_group, is_message_type, is_two};
+ghost use Rattle.pb_link.specs.PoolOf.{kind_of_code, enum_kind, grouped};
 ghost use Rattle.pb_link.specs.View.{declaration_view};
-ghost use Rattle.pb_link.specs.Parts.{kind_of_number, kind_here, kinds_from, one_if, place_named, kind_read, parent_read};
+ghost use Rattle.pb_link.specs.Parts.{kind_of_number, kind_here, kinds_from, one_if, place_named, kind_read, is_read_two, parent_read};
 
 use crate::declaration::Declaration;
 use crate::found::{Found, TypeNames};
 use crate::item::Item;
-use pb_descr::TypeCode;
+use crate::rules::kinds::is_two;
+use crate::rules::maps::is_group;
+use pb_descr::{FileDecl, TypeCode};
 use pb_schema::{EnumId, Kind, MessageId};
 use std::alloc::{AllocError, Global};
 
 /// What the parts of a pool are read from, by place.
 #[derive(Drop)]
 pub(crate) struct Tables<'a> {
+    pub(crate) files: &'a [FileDecl],
     pub(crate) row: &'a [Declaration<'a>],
     /// What the type names of each declaration came to.
     pub(crate) found: &'a [TypeNames],
@@ -55,13 +61,29 @@ pub(crate) fn kind_of_number(code: Option<TypeCode>) -> Kind
     }
 }
 
+/// The kind of an enum, by whether its file is of proto2.
+fn enum_kind(proto2: bool, index: usize) -> Kind
+    ensures { result ≡ enum_kind proto2 index }
+{
+    if proto2 {
+        Kind::ClosedEnum(EnumId(index))
+    } else {
+        Kind::Enum(EnumId(index))
+    }
+}
+
 /// The kind of what stands behind so many message types and enums.
-fn kind_here(declaration: &Declaration<'_>, messages: usize, enums: usize) -> Kind
-    ensures { result ≡ kind_here messages enums (declaration_view declaration.now).item }
+fn kind_here(
+    files: &[FileDecl],
+    declaration: &Declaration<'_>,
+    messages: usize,
+    enums: usize,
+) -> Kind
+    ensures { result ≡ kind_here (is_two (map file_view files.now) (declaration_view declaration.now).file) messages enums (declaration_view declaration.now).item }
 {
     match declaration.item {
         Item::Message(_) => Kind::Message(MessageId(messages)),
-        Item::Enum(_) => Kind::Enum(EnumId(enums)),
+        Item::Enum(_) => enum_kind(is_two(files, declaration.file), enums),
         Item::File(_)
         | Item::Field(_, _, _)
         | Item::Oneof(_, _, _)
@@ -95,15 +117,19 @@ fn one_if(is: bool, count: usize) -> usize
 }
 
 /// The kinds of all types.
-pub(crate) fn kinds(alloc: Global, row: &[Declaration<'_>]) -> Result<Vec<Kind>, AllocError>
-    ensures { IfOk result (λ v. v.items ≡ kinds_from 0 0 (map declaration_view row.now)) }
+pub(crate) fn kinds(
+    alloc: Global,
+    files: &[FileDecl],
+    row: &[Declaration<'_>],
+) -> Result<Vec<Kind>, AllocError>
+    ensures { IfOk result (λ v. v.items ≡ kinds_from (map file_view files.now) 0 0 (map declaration_view row.now)) }
 {
     let mut kinds: Vec<Kind> = Vec::new(alloc);
     let mut messages: usize = 0;
     let mut enums: usize = 0;
     for place in 0..row.len() {
         let declaration = &row[place];
-        kinds.push(kind_here(declaration, messages, enums))?;
+        kinds.push(kind_here(files, declaration, messages, enums))?;
         messages = one_if(is_message_type(declaration), messages);
         enums = one_if(is_enum(declaration), enums);
     }
@@ -121,7 +147,30 @@ pub(crate) fn place_named(names: &[TypeNames], index: usize) -> Option<usize>
     }
 }
 
+/// A message's kind as that of a group, where it is one; any other stays.
+fn grouped(is_group: bool, kind: Kind) -> Kind
+    ensures { result ≡ grouped is_group kind }
+{
+    if !is_group {
+        return kind;
+    }
+    match kind {
+        Kind::Message(message) => Kind::Group(message),
+        other => other,
+    }
+}
+
 impl Tables<'_> {
+    /// The kind of the type at a place.
+    fn kind_at(&self, place: usize) -> Kind
+        ensures { result ≡ option_map_or (λ k. k) (slice_get self.now.kinds.items place) kind.Bool }
+    {
+        match self.kinds.get(place) {
+            Some(kind) => *kind,
+            None => Kind::Bool,
+        }
+    }
+
     /// The kind of a field that names the type at a place, if it names one.
     pub(crate) fn kind(&self, place: Option<usize>, code: Option<TypeCode>) -> Kind
         ensures { result ≡ kind_read self.now place code }
@@ -129,10 +178,14 @@ impl Tables<'_> {
         let Some(place) = place else {
             return kind_of_number(code);
         };
-        match self.kinds.get(place) {
-            Some(kind) => *kind,
-            None => Kind::Bool,
-        }
+        grouped(is_group(code), self.kind_at(place))
+    }
+
+    /// Whether the file of an index is of proto2.
+    pub(crate) fn is_two(&self, file: usize) -> bool
+        ensures { result ≡ is_read_two self.now file }
+    {
+        is_two(self.files, file)
     }
 
     /// The message at a place.

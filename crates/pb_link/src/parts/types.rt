@@ -69,7 +69,13 @@ fn message_of(
         name: message.name.clone()?,
         file: declaration.file,
         parent: tables.parent(declaration.parent),
-        fields: fields_of(alloc, tables, &tables.found[place + 1..], &message.fields)?,
+        fields: fields_of(
+            alloc,
+            tables,
+            tables.is_two(declaration.file),
+            &tables.found[place + 1..],
+            &message.fields,
+        )?,
         oneofs: real_oneofs(alloc, message)?,
     })
 }

@@ -41,6 +41,7 @@ fn resolve_file(
         messages,
         enums,
         services,
+        proto2: file.proto2,
     })
 }
 

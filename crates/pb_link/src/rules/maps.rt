@@ -7,7 +7,7 @@ ghost use Rattle.pb_descr.specs.Decls.{DeclaredFile, inner_of};
 ghost use Rattle.pb_descr.specs.View.{field_view, message_view};
 ghost use Rattle.pb_link.specs.declared.found.TypeNames.TheVariants as type_names;
 ghost use Rattle.pb_link.specs.Declarations.{head_of};
-ghost use Rattle.pb_link.specs.Rules.{World, lookups, is_key_code, is_part, key_name, value_name, is_used_rightly, has_nothing_inside};
+ghost use Rattle.pb_link.specs.Rules.{World, lookups, is_key_code, is_group, is_part, is_value_part, key_name, value_name, is_used_rightly, has_nothing_inside};
 ghost use Rattle.pb_link.specs.Link.{IsWorldOf};
 ghost use Rattle.pb_link.specs.Tables.{holds_table};
 ghost use Rattle.pb_link.specs.declared.cause.LinkCause.TheVariants as cause;
@@ -49,6 +49,33 @@ fn is_key_code(code: TypeCode) -> bool
     }
 }
 
+/// Whether the type is that of a group.
+pub(crate) fn is_group(code: Option<TypeCode>) -> bool
+    ensures { result ≡ is_group code }
+{
+    match code {
+        Some(TypeCode::Group) => true,
+        None
+        | Some(TypeCode::Double)
+        | Some(TypeCode::Float)
+        | Some(TypeCode::Int64)
+        | Some(TypeCode::Uint64)
+        | Some(TypeCode::Int32)
+        | Some(TypeCode::Fixed64)
+        | Some(TypeCode::Fixed32)
+        | Some(TypeCode::Bool)
+        | Some(TypeCode::Text)
+        | Some(TypeCode::Message)
+        | Some(TypeCode::Bytes)
+        | Some(TypeCode::Uint32)
+        | Some(TypeCode::Enum)
+        | Some(TypeCode::Sfixed32)
+        | Some(TypeCode::Sfixed64)
+        | Some(TypeCode::Sint32)
+        | Some(TypeCode::Sint64) => false,
+    }
+}
+
 fn has_key_code(field: &FieldDecl) -> bool
     ensures { result ≡ option_map_or is_key_code (field_view field.now).type_code false }
 {
@@ -65,11 +92,17 @@ fn is_key(field: &FieldDecl) -> bool
     "key" == field.name.as_str() && 1 == field.number && !field.repeated && field.oneof.is_none()
 }
 
-/// Whether a field of an entry is its value.
-fn is_value(field: &FieldDecl) -> bool
+fn is_second(field: &FieldDecl) -> bool
     ensures { result ≡ is_part value_name 2 (field_view field.now) }
 {
     "value" == field.name.as_str() && 2 == field.number && !field.repeated && field.oneof.is_none()
+}
+
+/// Whether a field of an entry is its value, which is no group.
+fn is_value(field: &FieldDecl) -> bool
+    ensures { result ≡ is_value_part (field_view field.now) }
+{
+    is_second(field) && !is_group(field.ty)
 }
 
 /// Whether fields are the key and the value of an entry, by whether the value is no entry.

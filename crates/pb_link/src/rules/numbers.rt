@@ -2,7 +2,7 @@
 
 ghost use Rattle.std.specs.Prelude.{◌≡◌};
 ghost use Rattle.pb_descr.specs.View.{enum_view};
-ghost use Rattle.pb_link.specs.Rules.{is_field_number, begins_at_zero};
+ghost use Rattle.pb_link.specs.Rules.{is_field_number, begins_right};
 
 use pb_descr::EnumDecl;
 
@@ -13,12 +13,12 @@ pub(crate) fn is_field_number(number: i32) -> bool
     (1..19_000).contains(&number) || (20_000..536_870_912).contains(&number)
 }
 
-/// Whether there is a first value and its number is 0.
-pub(crate) fn begins_at_zero(entry: &EnumDecl) -> bool
-    ensures { result ≡ begins_at_zero (enum_view entry.now) }
+/// Whether there is a first value and, but in a file of proto2, its number is 0.
+pub(crate) fn begins_right(proto2: bool, entry: &EnumDecl) -> bool
+    ensures { result ≡ begins_right proto2 (enum_view entry.now) }
 {
     match entry.values.first() {
-        Some(value) => value.1 == 0,
+        Some(value) => proto2 || value.1 == 0,
         None => false,
     }
 }

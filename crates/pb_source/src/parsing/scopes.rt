@@ -109,5 +109,6 @@ pub(crate) fn file_of(alloc: Global, name: &str, parts: FileParts) -> Result<Fil
         messages,
         enums: parts.enums,
         services: parts.services,
+        proto2: false,
     })
 }

@@ -10,7 +10,7 @@ use Rattle.pb_descr.proofs.checking.+check.Goals as goal
 pub check_message-returns-in_err-check_head : goal.check_message-returns-in_err-check_head
 check_message-returns-in_err-check_head t c =
     let p = err_from_is_err_and c.from_residual.result c.from_residual.ensures.1 in
-    rw (p.1, p.2) (message_head_told (value_view c.args.message.now) c.in_err-check_head.field-0.0 c.in_err-check_head.ensures)
+    rw (p.1, p.2) (message_head_told c.args.proto2 (value_view c.args.message.now) c.in_err-check_head.field-0.0 c.in_err-check_head.ensures)
 
 pub check_message-check_messages-requires : goal.check_message-check_messages-requires
 check_message-check_messages-requires t c =
@@ -22,18 +22,18 @@ pub check_message-returns-in_err-check_messages : goal.check_message-returns-in_
 check_message-returns-in_err-check_messages t c =
     let p = err_from_is_err_and c.from_residual-in_err-check_messages.result c.from_residual-in_err-check_messages.ensures.1 in
     rw (p.1, p.2)
-    (message_inner_told (value_view c.args.message.now) c.in_err-check_messages.field-0.0 (map value_view c.values_at.result.now) c.values_at.ensures c.in_ok-check_head.ensures c.in_err-check_messages.ensures)
+    (message_inner_told c.args.proto2 (value_view c.args.message.now) c.in_err-check_messages.field-0.0 (map value_view c.values_at.result.now) c.values_at.ensures c.in_ok-check_head.ensures c.in_err-check_messages.ensures)
 
 pub check_message-returns-in_err-check_all_listed : goal.check_message-returns-in_err-check_all_listed
 check_message-returns-in_err-check_all_listed t c =
     let p = err_from_is_err_and c.from_residual-in_err-check_all_listed.result c.from_residual-in_err-check_all_listed.ensures.1 in
     rw (p.1, p.2)
-    (message_enums_told (value_view c.args.message.now) c.in_err-check_all_listed.field-0.0 (map value_view c.values_at.result.now) (map value_view c.values_at-2.result.now) c.values_at.ensures c.values_at-2.ensures
+    (message_enums_told c.args.proto2 (value_view c.args.message.now) c.in_err-check_all_listed.field-0.0 (map value_view c.values_at.result.now) (map value_view c.values_at-2.result.now) c.values_at.ensures c.values_at-2.ensures
     c.in_ok-check_head.ensures c.in_ok-check_messages.ensures c.in_err-check_all_listed.ensures)
 
 pub check_message-returns : goal.check_message-returns
 check_message-returns t c =
-    message_silent (value_view c.args.message.now) (map value_view c.values_at.result.now) (map value_view c.values_at-2.result.now) c.values_at.ensures c.values_at-2.ensures
+    message_silent c.args.proto2 (value_view c.args.message.now) (map value_view c.values_at.result.now) (map value_view c.values_at-2.result.now) c.values_at.ensures c.values_at-2.ensures
     c.in_ok-check_head.ensures c.in_ok-check_messages.ensures c.in_ok-check_all_listed.ensures
 
 pub check_messages-check_message-requires : goal.check_messages-check_message-requires
@@ -46,4 +46,4 @@ pub check_messages-returns-in_err-check_message : goal.check_messages-returns-in
 check_messages-returns-in_err-check_message t c =
     let p = err_from_is_err_and c.from_residual.result c.from_residual.ensures.1 in
     rw (p.1, p.2)
-    (stopped message_causes value_view c.args.messages.now c.loop-message.message-index c.message-item.result c.in_err-check_message.field-0.0 (omega arith) c.message-item.is c.loop-message.invariant c.in_err-check_message.ensures)
+    (stopped (message_causes c.args.proto2) value_view c.args.messages.now c.loop-message.message-index c.message-item.result c.in_err-check_message.field-0.0 (omega arith) c.message-item.is c.loop-message.invariant c.in_err-check_message.ensures)

@@ -14,4 +14,4 @@ abbrev pub decreases-check_messages : goal.decreases-check_messages
 decreases-check_messages l = weight (map value_view l.messages.now)
 
 abbrev pub invariant-check_messages-loop-message : goal.invariant-check_messages-loop-message
-invariant-check_messages-loop-message l = flat_map message_causes (map value_view l.messages) ≡ causes_of_rest message_causes value_view l.message-index l.messages
+invariant-check_messages-loop-message l = flat_map (message_causes l.proto2) (map value_view l.messages) ≡ causes_of_rest (message_causes l.proto2) value_view l.message-index l.messages

@@ -5,4 +5,4 @@ use Rattle.pb_descr.proofs.JudgeLemmas.{causes_of_rest}
 use Rattle.pb_descr.proofs.checking.check_fields.Given as goal
 
 abbrev pub invariant-loop-field : goal.invariant-loop-field
-invariant-loop-field l = flat_map field_causes (map value_view l.fields) ≡ causes_of_rest field_causes value_view l.field-index l.fields
+invariant-loop-field l = flat_map (field_causes l.proto2) (map value_view l.fields) ≡ causes_of_rest (field_causes l.proto2) value_view l.field-index l.fields

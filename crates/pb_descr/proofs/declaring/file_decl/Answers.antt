@@ -16,4 +16,5 @@ returns c = λ i. record {
   messages = (ap messages_of (c.in_ok-messages.ensures ∙ ap (map message_in) c.values_at-3.ensures) ∙ sym (messages_at-data 4 (fields_in (value_view c.args.file.now)))) i;
   enums = (c.in_ok-enums.ensures ∙ ap (map enum_in) c.values_at-4.ensures) i;
   services = (c.in_ok-services.ensures ∙ ap (map service_in) c.values_at-5.ensures) i;
+  is_proto2 = c.is_proto2.ensures i;
 }

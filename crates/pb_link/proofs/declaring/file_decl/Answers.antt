@@ -43,5 +43,6 @@ returns c v at =
       messages = messages_of ((ap (map message_view) c.reverse.ensures.items ∙ map-reverse message_view c.args.inside.messages.items ∙ in_file_whole ts i (inside_view c.args.inside) c.requires.inside) k);
       enums = ap (λ (x : Insides). x.enums) c.requires.inside k;
       services = map service_view (c.new.ensures.items k);
+      is_proto2 = f.proto2;
     })
     ∙ ap (λ (u : FileView). declared_file ts (i, u)) (some_same (view_of_file f) v there at)

@@ -9,7 +9,7 @@ use Rattle.pb_schema.proofs.NameTreeLemmas.{name_at-get}
 use Rattle.pb_descr.specs.Decls.{message, messages_of}
 use Rattle.pb_link.specs.Declarable.{AreDeclarable}
 use Rattle.pb_link.specs.Nested.{Insides, inside_view, whole_message}
-use Rattle.pb_link.specs.ToDecls.{declared_fields, entry_of_field}
+use Rattle.pb_link.specs.ToDecls.{declared_fields, entry_of_field, synthetic_names}
 use Rattle.pb_link.proofs.AsciiLemmas.{message_name_ascii}
 use Rattle.pb_link.proofs.DeclarableLemmas.{declarable, few_fields, few_members}
 use Rattle.pb_link.proofs.DeclaredLemmas.{listed_size, viewed_get}
@@ -69,9 +69,9 @@ returns c t at =
     message_view-roll c.in_ok-name.name c.in_ok-fields.fields c.in_ok-messages.messages c.args.inside.enums c.in_ok-oneofs.oneofs c.new.result c.new-2.result false
     ∙ (λ k. message (record {
       name = named k;
-      fields = (c.in_ok-fields.ensures ∙ (λ j. declared_fields ts (scope j) (members j) (map view_of_field (c.deref.ensures.value j)))) k;
+      fields = (c.in_ok-fields.ensures ∙ (λ j. declared_fields (c.is_two-proto2.ensures j) ts (scope j) (members j) (map view_of_field (c.deref.ensures.value j)))) k;
       enums = ap (λ (x : Insides). x.enums) c.requires.inside k;
-      oneofs = c.in_ok-oneofs.ensures k;
+      oneofs = (c.in_ok-oneofs.ensures ∙ ap (λ b. (view_of_message m).oneofs ++ synthetic_names b (view_of_message m).fields) c.is_two-proto2.ensures) k;
       reserved = c.new.ensures.items k;
       reserved_names = map string_bytes (c.new-2.ensures.items k);
       is_entry = false;

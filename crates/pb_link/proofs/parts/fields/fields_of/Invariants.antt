@@ -5,4 +5,4 @@ use Rattle.pb_link.specs.Parts.{fields_read}
 use Rattle.pb_link.proofs.parts.fields.fields_of.Given as goal
 
 abbrev pub invariant-loop-index : goal.invariant-loop-index
-invariant-loop-index l = map field_view l.types.items ++ fields_read l.tables l.names l.index (map declared_view (drop l.index l.fields)) ≡ fields_read l.tables l.names 0 (map declared_view l.fields)
+invariant-loop-index l = map field_view l.types.items ++ fields_read l.proto2 l.tables l.names l.index (map declared_view (drop l.index l.fields)) ≡ fields_read l.proto2 l.tables l.names 0 (map declared_view l.fields)

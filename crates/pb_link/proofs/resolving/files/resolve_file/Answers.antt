@@ -26,6 +26,7 @@ returns-clause-file c =
       messages = (ap messages_of read ∙ messages_listed ds (drop 1 ns) ms) k;
       enums = (c.in_ok-enums.ensures ∙ ap (map enum_view) c.deref-6.ensures.value) k;
       services = (c.in_ok-services.ensures.services ∙ (λ j. services_read ds (types j) (map service_view (c.deref-3.ensures.value j)))) k;
+      is_proto2 = f.proto2;
     }
 
 pub returns-clause-behind : goal.returns-clause-behind

@@ -1,4 +1,4 @@
-use Rattle.std.proofs.Common.{ap, ◌∙◌}
+use Rattle.std.proofs.Common.{ap, ◌∙◌, false}
 use Rattle.pb_descr.specs.Decls.{messages_of}
 use Rattle.pb_source.specs.Meaning.{all_scoped, file_messages}
 use Rattle.pb_source.proofs.ScopeSteps.{messages_scoped}
@@ -18,4 +18,5 @@ returns c ss h =
           ∙ ap (λ s. all_scoped s (file_messages ss)) package_said) i;
       enums = h.enums i;
       services = h.services i;
+      is_proto2 = false;
     }
