@@ -14,6 +14,7 @@ pub mod AddLemmas
 pub mod TableLemmas
 pub mod MemberLemmas
 pub mod NumberLemmas
+pub mod ValueLemmas
 pub mod RuleLemmas
 pub mod LookupLemmas
 pub mod PackedLemmas

@@ -14,7 +14,7 @@ use Rattle.pb_schema.specs.declared.names.set.NameSet.{NameSet}
 use Rattle.pb_schema.specs.Nesting.{ParentsStandBefore}
 use Rattle.pb_schema.specs.Names.{AllDiffer, in_scope, scope_of, scope_by_names, message_name, enum_name, message_names, enum_names, names_in_message, declared_by_message, declared_by_enum}
 use Rattle.pb_schema.specs.Names.Set.{IsSetOf}
-use Rattle.pb_schema.specs.Tables.{IsNumbered, AreNumberTables, AreMemberTables, AreNameTables, HasTables, place_of, field_named}
+use Rattle.pb_schema.specs.Tables.{IsNumbered, place_of, field_named}
 use Rattle.pb_schema.specs.Rules.{IsPool, IsFieldOf, NamesOneof}
 use Rattle.pb_schema.proofs.NameSetLemmas.{all_back, AllDiffer-front, AllDiffer-back}
 use Rattle.pb_schema.proofs.NameLemmas.{scope_of-names}
@@ -156,14 +156,13 @@ enum_names_by ts names ok same = each ts.enums
     each [] = refl
     each (e ∷ es) = ap (λ n. n ∷ map (λ d. in_scope (scope_by_names ts.files names d.file d.parent) d.name) es) (one e) ∙ ap (λ l. enum_name ts.files ts.messages e ∷ l) (each es)
 
-pub pool_tables : (ts : Types) (names others : List (List ℕ)) (messages enums : NameSet) (numbers : List (Vec (ℕ × ℕ) Global)) (members : List (Vec (Vec ℕ Global) Global)) (fields : List (Option NameSet)) → IsPool ts → names ≡ message_names ts → IsSetOf names messages → others ≡ enum_names ts → IsSetOf others enums → AreNumberTables ts.messages numbers → AreMemberTables ts.messages members → AreNameTables ts.messages fields → HasTables ts messages.table.keys enums.table.keys numbers members fields
-pool_tables ts names others messages enums numbers members fields ok same is_messages same' is_enums are are' of_fields = record {
-  messages = is_messages.ordered (is_messages.differ.1 (subst AllDiffer (sym same) (pool_message_names ts ok))) ∙ same;
-  enums = is_enums.ordered (is_enums.differ.1 (subst AllDiffer (sym same') (pool_enum_names ts ok))) ∙ same';
-  numbers = are;
-  members = are';
-  names = of_fields;
-}
+-- NAMES IN SETS
+
+pub set_of_messages : (ts : Types) (names : List (List ℕ)) (set : NameSet) → IsPool ts → names ≡ message_names ts → IsSetOf names set → bytes_of set.table.keys ≡ message_names ts
+set_of_messages ts names set ok same is = is.ordered (is.differ.1 (subst AllDiffer (sym same) (pool_message_names ts ok))) ∙ same
+
+pub set_of_enums : (ts : Types) (names : List (List ℕ)) (set : NameSet) → IsPool ts → names ≡ enum_names ts → IsSetOf names set → bytes_of set.table.keys ≡ enum_names ts
+set_of_enums ts names set ok same is = is.ordered (is.differ.1 (subst AllDiffer (sym same) (pool_enum_names ts ok))) ∙ same
 
 -- FIELDS BY NAME
 

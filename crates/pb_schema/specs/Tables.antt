@@ -2,18 +2,22 @@
 pub mod Numbers
 pub mod Members
 pub mod Names
+pub mod Values
 pub use Rattle.pb_schema.specs.Tables.Numbers.{IsNumbered, IsNumberTable}
 pub use Rattle.pb_schema.specs.Tables.Members.{IsMemberTable}
 pub use Rattle.pb_schema.specs.Tables.Names.{IsNameTable, place_of, field_named}
-use Rattle.std.specs.Prelude.{◌≡◌, ℕ, length, List, [], ◌∷◌, Option, Vec}
+pub use Rattle.pb_schema.specs.Tables.Values.{IsValueTable}
+use Rattle.std.specs.Prelude.{◌≡◌, ℕ, ℤ, length, List, [], ◌∷◌, Option, Vec}
 use Rattle.std.specs.declared.alloc.Global.{Global}
+use Rattle.indexmap.specs.IndexSet.{IndexSet}
 use Rattle.pb_schema.specs.declared.names.set.NameSet.{NameSet}
+use Rattle.pb_schema.specs.declared.tables.Tables.{Tables}
 use Rattle.pb_schema.specs.View.{bytes_of}
-use Rattle.pb_schema.specs.Types.{MessageView, Types}
+use Rattle.pb_schema.specs.Types.{MessageView, EnumView, Types}
 use Rattle.pb_schema.specs.Names.{message_names, enum_names}
 
--- a table for each message
-abbrev pub HaveTables : {X : Type 0} → (MessageView → X → Type 0) → List MessageView → List X → Type 0
+-- a table for each part
+abbrev pub HaveTables : {T X : Type 0} → (T → X → Type 0) → List T → List X → Type 0
 HaveTables P [] [] = Unit {0}
 HaveTables P [] (x ∷ xs) = ⊥
 HaveTables P (t ∷ ts) [] = ⊥
@@ -28,10 +32,15 @@ AreMemberTables ts tables = HaveTables (λ t v. IsMemberTable (length t.oneofs) 
 abbrev pub AreNameTables : List MessageView → List (Option NameSet) → Type 0
 AreNameTables ts tables = HaveTables (λ t n. IsNameTable t.fields n) ts tables
 
--- the tables of a pool: the full names of messages and enums in their order, and the numbers, the oneofs' members and the names of the fields of each message
-pub record HasTables (ts : Types) (message_keys enum_keys : List (Vec ℕ Global)) (number_tables : List (Vec (ℕ × ℕ) Global)) (member_tables : List (Vec (Vec ℕ Global) Global)) (name_tables : List (Option NameSet)) : Type 0 where
-  pub messages : bytes_of message_keys ≡ message_names ts
-  pub enums : bytes_of enum_keys ≡ enum_names ts
-  pub numbers : AreNumberTables ts.messages number_tables
-  pub members : AreMemberTables ts.messages member_tables
-  pub names : AreNameTables ts.messages name_tables
+abbrev pub AreValueTables : {S : Type 0} → List EnumView → List (IndexSet ℤ S) → Type 0
+AreValueTables es tables = HaveTables (λ e v. IsValueTable e.values v.keys) es tables
+
+-- the tables of a pool: the full names of messages and enums in their order, the numbers, the oneofs' members and the names of the fields of
+-- each message, and the numbers of the values of each enum
+pub record HasTables (ts : Types) (t : Tables) : Type 0 where
+  pub messages : bytes_of t.messages.keys ≡ message_names ts
+  pub enums : bytes_of t.enums.keys ≡ enum_names ts
+  pub numbers : AreNumberTables ts.messages t.numbers.items
+  pub members : AreMemberTables ts.messages t.members.items
+  pub names : AreNameTables ts.messages t.names.items
+  pub values : AreValueTables ts.enums t.values.items

@@ -6,6 +6,7 @@ use crate::error::PoolError;
 use crate::pool::same::{same_enums, same_files, same_messages};
 use crate::tables::names::field_named;
 use crate::tables::numbers::field_at;
+use crate::tables::values::has_number;
 use crate::tables::{Tables, checked};
 use crate::types::{EnumId, EnumType, Field, FileInfo, MessageId, MessageType};
 use std::alloc::Global;
@@ -31,7 +32,7 @@ impl Model for Pool {
 
     ghost view = { λ p. types_of p.files.items p.messages.items p.enums.items };
 
-    ghost invariant = { λ p. IsPool (types_of p.files.items p.messages.items p.enums.items) × HasTables (types_of p.files.items p.messages.items p.enums.items) p.tables.messages.keys p.tables.enums.keys p.tables.numbers.items p.tables.members.items p.tables.names.items };
+    ghost invariant = { λ p. let ts = types_of p.files.items p.messages.items p.enums.items in IsPool ts × HasTables ts p.tables };
 }
 
 impl Pool {
@@ -163,10 +164,10 @@ impl Pool {
     pub fn declares(&self, entry: EnumId, number: i32) -> bool
         ensures { result ≡ declares self.now entry.0 number }
     {
-        if entry.0 >= self.enums.len() {
-            return false;
+        match self.tables.values.get(entry.0) {
+            Some(table) => has_number(table, number),
+            None => false,
         }
-        is_among(&self.enums[entry.0].values, number)
     }
 
     /// The field of a number in a message type.
@@ -211,10 +212,7 @@ impl Pool {
     }
 }
 
-ghost use Rattle.std.specs.Prelude.{◌≡◌, ℕ, ℤ, List, map, option_map};
-ghost use Rattle.std.specs.Prelude.{string_bytes};
-ghost use Rattle.std.specs.List.{list_any};
-ghost use Rattle.std.specs.Ordering.{int_eq};
+ghost use Rattle.std.specs.Prelude.{◌≡◌, map, option_map, string_bytes};
 ghost use Rattle.pb_schema.specs.EnumValues.{value_name as named_value};
 
 fn first_named(values: &[(String, i32)], number: i32) -> Option<&str>
@@ -226,15 +224,4 @@ fn first_named(values: &[(String, i32)], number: i32) -> Option<&str>
         }
     }
     None
-}
-
-fn is_among(values: &[(String, i32)], number: i32) -> bool
-    ensures { result ≡ list_any (λ (v : List ℕ × ℤ). int_eq v.1 number) (map (λ v. (string_bytes v.0, v.1)) values.now) }
-{
-    for value in values {
-        if value.1 == number {
-            return true;
-        }
-    }
-    false
 }

@@ -3,6 +3,7 @@
 pub(crate) mod members;
 pub(crate) mod names;
 pub(crate) mod numbers;
+pub(crate) mod values;
 
 ghost use Rattle.std.specs.Prelude.{◌≡◌, IfOk, IfSome, IfNone};
 ghost use Rattle.pb_schema.specs.View.{types_of};
@@ -15,12 +16,13 @@ use crate::rules::meet_rules;
 use crate::tables::members::{MemberTable, member_tables};
 use crate::tables::names::{NameTable, name_tables};
 use crate::tables::numbers::{NumberTable, number_tables};
+use crate::tables::values::{ValueTable, value_tables};
 use crate::types::{EnumType, FileInfo, MessageType};
 use indexmap::IndexSet;
 use std::alloc::{AllocError, Global};
 
-/// The full names of messages and enums in their order, and of each message the numbers of its fields, the members of its oneofs
-/// and the names of many fields.
+/// The full names of messages and enums in their order, of each message the numbers of its fields, the members of its oneofs and the
+/// names of many fields, and of each enum the numbers of its values.
 #[derive(Debug, Drop)]
 pub(crate) struct Tables {
     pub(crate) messages: IndexSet<Vec<u8>>,
@@ -28,6 +30,7 @@ pub(crate) struct Tables {
     pub(crate) numbers: Vec<NumberTable>,
     pub(crate) members: Vec<MemberTable>,
     pub(crate) names: Vec<NameTable>,
+    pub(crate) values: Vec<ValueTable>,
 }
 
 /// The tables of parts that meet every rule; None where they do not.
@@ -38,7 +41,7 @@ pub(crate) fn checked(
     enums: &[EnumType],
 ) -> Result<Option<Tables>, AllocError>
     ensures meets { IfOk result (λ o. IfSome o (λ t. IsPool (types_of files.now messages.now enums.now))) }
-    ensures tables { IfOk result (λ o. IfSome o (λ t. HasTables (types_of files.now messages.now enums.now) t.messages.keys t.enums.keys t.numbers.items t.members.items t.names.items)) }
+    ensures tables { IfOk result (λ o. IfSome o (λ t. HasTables (types_of files.now messages.now enums.now) t)) }
     ensures none { IfOk result (λ o. IfNone o (¬ IsPool (types_of files.now messages.now enums.now))) }
 {
     let holds = meet_rules(alloc, files, messages, enums)?;
@@ -52,11 +55,13 @@ pub(crate) fn checked(
     let numbers = number_tables(alloc, messages)?;
     let members = member_tables(alloc, messages)?;
     let field_names = name_tables(alloc, messages)?;
+    let values = value_tables(alloc, enums)?;
     Ok(Some(Tables {
         messages: message_set.table,
         enums: enum_set.table,
         numbers,
         members,
         names: field_names,
+        values,
     }))
 }

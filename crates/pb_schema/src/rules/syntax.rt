@@ -84,7 +84,23 @@ impl FieldRule for HasRightEnum<'_> {
         match field.kind {
             Kind::Enum(index) => enum_is_of(self.files, self.enums, index, false),
             Kind::ClosedEnum(index) => enum_is_of(self.files, self.enums, index, true),
-            _ => true,
+            Kind::Double
+            | Kind::Float
+            | Kind::Int64
+            | Kind::Uint64
+            | Kind::Int32
+            | Kind::Fixed64
+            | Kind::Fixed32
+            | Kind::Bool
+            | Kind::Text
+            | Kind::Bytes
+            | Kind::Uint32
+            | Kind::Sfixed32
+            | Kind::Sfixed64
+            | Kind::Sint32
+            | Kind::Sint64
+            | Kind::Message(_)
+            | Kind::Group(_) => true,
         }
     }
 }

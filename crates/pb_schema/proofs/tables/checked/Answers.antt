@@ -1,6 +1,6 @@
 use Rattle.std.proofs.Common.{◌∙◌, ap}
 use Rattle.pb_schema.specs.View.{bytes_of, types_of}
-use Rattle.pb_schema.proofs.LookupLemmas.{pool_parents, pool_tables, enum_names_by}
+use Rattle.pb_schema.proofs.LookupLemmas.{pool_parents, set_of_messages, set_of_enums, enum_names_by}
 use Rattle.pb_schema.proofs.tables.checked.Goals as goal
 
 pub message_names-requires : goal.message_names-requires
@@ -12,4 +12,11 @@ returns-clause-tables c =
     let ts = types_of c.args.files.now c.args.messages.now c.args.enums.now in
     let ok = c.in_ok-holds.ensures.0 c.if-not-holds.false in
     let of_enums = c.in_ok-names_of_enums.ensures ∙ enum_names_by ts (bytes_of c.deref.result.now) ok (ap bytes_of c.deref.ensures.value ∙ c.in_ok-names.ensures) in
-    pool_tables ts (bytes_of c.in_ok-names.names.items) (bytes_of c.in_ok-names_of_enums.names_of_enums.items) c.in_ok-message_set.message_set c.in_ok-enum_set.enum_set c.in_ok-numbers.numbers.items c.in_ok-members.members.items c.in_ok-field_names.field_names.items ok c.in_ok-names.ensures c.in_ok-message_set.ensures of_enums c.in_ok-enum_set.ensures c.in_ok-numbers.ensures c.in_ok-members.ensures c.in_ok-field_names.ensures
+    record {
+      messages = set_of_messages ts (bytes_of c.in_ok-names.names.items) c.in_ok-message_set.message_set ok c.in_ok-names.ensures c.in_ok-message_set.ensures;
+      enums = set_of_enums ts (bytes_of c.in_ok-names_of_enums.names_of_enums.items) c.in_ok-enum_set.enum_set ok of_enums c.in_ok-enum_set.ensures;
+      numbers = c.in_ok-numbers.ensures;
+      members = c.in_ok-members.ensures;
+      names = c.in_ok-field_names.ensures;
+      values = c.in_ok-values.ensures;
+    }
