@@ -2,7 +2,8 @@
 ghost use Rattle.std.specs.Prelude.{◌≡◌, false, IfOk};
 ghost use Rattle.clap.specs.Words.{app_of, rule_of};
 ghost use Rattle.clap.specs.declared.builder.command.Command.TheViews.{out-Command};
-ghost use Rattle.pb_cli.specs.Words.{canon_command, check_command, compile_command, frames_command, of_source, raw_command, show_command, tool, tool_top, wanted};
+ghost use Rattle.pb_cli.specs.Words.{canon_command, check_command, compile_command, frames_command, raw_command, show_command};
+ghost use Rattle.pb_cli.specs.Words.{of_source, tool, tool_top, wanted};
 
 use clap::{Arg, ArgAction, Command};
 use std::alloc::{AllocError, Global};

@@ -13,7 +13,7 @@ ghost use Rattle.pb_command.specs.Refusal.{Refuses};
 ghost use Rattle.pb_command.specs.Report.{fault_line};
 ghost use Rattle.pb_value.specs.WellFormed.{IsWellFormed};
 ghost use Rattle.pb_command.specs.Answers.{FaultAt, TextAt};
-ghost use Rattle.pb_command.specs.Steps.{IsReadOf, OfFiles, OfInput};
+ghost use Rattle.pb_command.specs.Steps.{IsMissing, IsReadOf, OfFiles, OfInput};
 ghost use Rattle.pb_command.specs.TypeAnswer.{HasType, NoType};
 
 use crate::command::Source;
@@ -37,7 +37,8 @@ pub fn find_type<'a, F: Files>(
     ensures found { IfOk result (λ p. (set : List ℕ) × IsReadOf F.contents F.is_steady files.old (full.bytes + 1) source.now.set.now (Some set)
         × HasType source.now.type_name.now set p.0 p.1.0) }
     ensures within { IfOk result (λ p. p.1.0 < length p.0.messages) }
-    ensures refused { IfErr result (Refuses (λ a. (content : Option (List ℕ)) × IsReadOf F.contents F.is_steady files.old (full.bytes + 1) source.now.set.now content
+    ensures refused { IfErr result (Refuses (λ a. (content : Option (List ℕ))
+        × IsReadOf F.contents F.is_steady files.old (full.bytes + 1) source.now.set.now content
         × NoType source.now.type_name.now source.now.set.now content a)) }
     ensures kept { OnOk result (F.failures files.new ≡ F.failures files.old) }
     ensures steady { F.is_steady files.old ≡ true → F.is_steady files.new ≡ true }
@@ -54,7 +55,8 @@ pub fn find_type<'a, F: Files>(
 fn pool_at<'a, F: Files>(alloc: Global, path: &'a str, files: &mut F) -> Result<Pool, Refusal<'a>>
     ensures made { IfOk result (λ pool. (set : List ℕ) × IsReadOf F.contents F.is_steady files.old (full.bytes + 1) path.entry.now (Some set)
         × ((declared : List DeclaredFile) × IsSetOf full set declared × Links declared pool)) }
-    ensures refused { (name : List ℕ) → IfErr result (Refuses (λ a. (content : Option (List ℕ)) × IsReadOf F.contents F.is_steady files.old (full.bytes + 1) path.entry.now content
+    ensures refused { (name : List ℕ) → IfErr result (Refuses (λ a. (content : Option (List ℕ))
+        × IsReadOf F.contents F.is_steady files.old (full.bytes + 1) path.entry.now content
         × NoType name path.entry.now content a)) }
     ensures kept { OnOk result (F.failures files.new ≡ F.failures files.old) }
     ensures steady { F.is_steady files.old ≡ true → F.is_steady files.new ≡ true }
@@ -85,9 +87,11 @@ pub fn read_message<'p, 'a, F: Files>(
 ) -> Result<DynamicMessage<'p>, Refusal<'a>>
     requires { kind.0 < length pool.now.messages }
     ensures of_type { IfOk result (λ m. (m.pool ≡ pool.now) × (m.kind ≡ kind.0)) }
-    ensures read { IfOk result (λ m. IsWellFormed pool.now kind.0 m.body × OfFiles F.contents F.is_steady files.old path.entry.now (λ content. TextAt content pool.now kind.0 m.body)) }
-    ensures refused { IfErr result (Refuses (λ a. (OfFiles F.contents F.is_steady files.old path.entry.now (λ content. content ≡ None) × (a ≡ device_failed path.entry.now))
-        ⊎ ((f : Fault) × OfFiles F.contents F.is_steady files.old path.entry.now (λ content. FaultAt content pool.now kind.0 f) × (a ≡ refused (fault_line f))))) }
+    ensures read { IfOk result (λ m. IsWellFormed pool.now kind.0 m.body
+        × OfFiles F.contents F.is_steady files.old path.entry.now (λ content. TextAt content pool.now kind.0 m.body)) }
+    ensures refused { IfErr result (Refuses (λ a. IsMissing F.contents F.is_steady files.old path.entry.now a
+        ⊎ ((f : Fault) × OfFiles F.contents F.is_steady files.old path.entry.now (λ content. FaultAt content pool.now kind.0 f)
+        × (a ≡ refused (fault_line f))))) }
     ensures kept { OnOk result (F.failures files.new ≡ F.failures files.old) }
     ensures files { KeepsMap (F.contents files.old) (F.contents files.new) }
 {

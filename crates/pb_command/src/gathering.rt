@@ -39,7 +39,8 @@ pub fn gather<'a, F: Files>(
     names: &[&str],
     files: &mut F,
 ) -> Result<Vec<FileDecl>, Refusal<'a>>
-    ensures gathered { IfOk result (λ v. (g : Gathered) × GathersOf F.contents F.is_steady files.old root.now given (texts_of names.now) nothing_yet (gathered g)
+    ensures gathered { IfOk result (λ v. (g : Gathered)
+        × GathersOf F.contents F.is_steady files.old root.now given (texts_of names.now) nothing_yet (gathered g)
         × (map file_view v.items ≡ g.files)) }
     ensures refused { IfErr result (Refuses (StopsOf F.contents F.is_steady files.old root.now given (texts_of names.now) nothing_yet)) }
     ensures kept { OnOk result (F.failures files.new ≡ F.failures files.old) }
@@ -78,7 +79,8 @@ impl Gathering {
         name: &str,
         files: &mut F,
     ) -> Result<(), Refusal<'a>>
-        ensures taken { OnOk result (GathersOf F.contents F.is_steady files.old root.now given (name.now ∷ []) (reached self.old) (gathered (reached self.new))) }
+        ensures taken { OnOk result
+            (GathersOf F.contents F.is_steady files.old root.now given (name.now ∷ []) (reached self.old) (gathered (reached self.new))) }
         ensures refused { IfErr result (Refuses (StopsOf F.contents F.is_steady files.old root.now given (name.now ∷ []) (reached self.old))) }
         ensures kept { OnOk result (F.failures files.new ≡ F.failures files.old) }
         ensures steady { F.is_steady files.old ≡ true → F.is_steady files.new ≡ true }
@@ -101,7 +103,8 @@ impl Gathering {
         file: FileDecl,
         files: &mut F,
     ) -> Result<(), Refusal<'a>>
-        ensures closed { OnOk result ((g : Gathered) × GathersOf F.contents F.is_steady files.old root.now imported (file_view file).imports (reached self.old) (gathered g)
+        ensures closed { OnOk result ((g : Gathered)
+            × GathersOf F.contents F.is_steady files.old root.now imported (file_view file).imports (reached self.old) (gathered g)
             × (reached self.new ≡ with_file (file_view file) g)) }
         ensures refused { IfErr result (Refuses (StopsOf F.contents F.is_steady files.old root.now imported (file_view file).imports (reached self.old))) }
         ensures kept { OnOk result (F.failures files.new ≡ F.failures files.old) }
@@ -131,7 +134,8 @@ impl Gathering {
     ) -> Result<(), Refusal<'a>>
         ensures moved { OnOk result (Moves (AbsentOf F.contents F.is_steady files.old root.now) (DeclaredOf F.contents F.is_steady files.old root.now)
             (reached self.old) (open_view innermost ∷ stack_of stack.old.items) (reached self.new) (stack_of stack.new.items)) }
-        ensures refused { IfErr result (Refuses (StopsInside (TroubleOf F.contents F.is_steady files.old root.now) root.now (reached self.old) (open_view innermost).left)) }
+        ensures refused { IfErr result
+            (Refuses (StopsInside (TroubleOf F.contents F.is_steady files.old root.now) root.now (reached self.old) (open_view innermost).left)) }
         ensures kept { OnOk result (F.failures files.new ≡ F.failures files.old) }
         ensures steady { F.is_steady files.old ≡ true → F.is_steady files.new ≡ true }
         ensures files { KeepsMap (F.contents files.old) (F.contents files.new) }
@@ -159,9 +163,10 @@ impl Gathering {
         name: &str,
         files: &mut F,
     ) -> Result<Option<FileDecl>, Refusal<'a>>
-        ensures found { IfOk result (λ o. FindsImport (AbsentOf F.contents F.is_steady files.old root.now) (DeclaredOf F.contents F.is_steady files.old root.now)
-            (reached self.old) name.now (reached self.new) (option_map file_view o)) }
-        ensures refused { IfErr result (Refuses (λ a. (t : Trouble) × RefusesImport (TroubleOf F.contents F.is_steady files.old root.now) (reached self.old) name.now t
+        ensures found { IfOk result (λ o. FindsImport (AbsentOf F.contents F.is_steady files.old root.now)
+            (DeclaredOf F.contents F.is_steady files.old root.now) (reached self.old) name.now (reached self.new) (option_map file_view o)) }
+        ensures refused { IfErr result (Refuses (λ a. (t : Trouble)
+            × RefusesImport (TroubleOf F.contents F.is_steady files.old root.now) (reached self.old) name.now t
             × (a ≡ told_of root.now name.now t))) }
         ensures kept { OnOk result (F.failures files.new ≡ F.failures files.old) }
         ensures steady { F.is_steady files.old ≡ true → F.is_steady files.new ≡ true }

@@ -3,7 +3,8 @@
 ghost use Rattle.std.specs.Prelude.{◌≡◌, ◌≤◌, ◌++◌, codes, decimal, length, MatchResult};
 ghost use Rattle.pb_wire.specs.Fault.{fault};
 ghost use Rattle.pb_wire.specs.PathText.{dotted, path_text, step_text};
-ghost use Rattle.pb_command.specs.Report.{cause_end, device_line, fault_line, frame_fault_line, link_line, set_cause_line, set_fault_line, shown_name, source_line, type_line};
+ghost use Rattle.pb_command.specs.Report.{cause_end, device_line, fault_line, frame_fault_line, link_line};
+ghost use Rattle.pb_command.specs.Report.{set_cause_line, set_fault_line, shown_name, source_line, type_line};
 ghost use Rattle.pb_command.specs.Refusal.{refusal_line, refusal_status};
 ghost use Rattle.pb_listing.specs.Sending.{Cut, Puts, Sent, SentOrCut};
 

@@ -9,7 +9,8 @@ ghost use Rattle.pb_schema.specs.View.{field_view};
 ghost use Rattle.pb_value.specs.Data.{message_depth, fields_depth, holding_depth, datums_depth, entries_depth, levels_of};
 ghost use Rattle.pb_value.specs.View.{body_view, content_view, entries_view, fields_view, value_view, values_view};
 ghost use Rattle.pb_listing.specs.Label.{key_text, label_text};
-ghost use Rattle.pb_listing.specs.Listing.{datum_lines, datum_text, each_lines, entries_lines, fields_lines, holding_lines, listing, listing_at, message_lines, names_of_kind};
+ghost use Rattle.pb_listing.specs.Listing.{datum_lines, datum_text, each_lines, entries_lines, fields_lines, holding_lines};
+ghost use Rattle.pb_listing.specs.Listing.{listing, listing_at, message_lines, names_of_kind};
 ghost use Rattle.pb_listing.specs.RawListing.{indent, line};
 ghost use Rattle.pb_listing.specs.Sending.{Cut, Puts, Sent};
 
@@ -27,7 +28,8 @@ struct Label<'a> {
     key: Option<&'a MapKey>,
 }
 
-/// Writes the listing of a message.
+/// Writes the listing of a message: its fields by rising number, and then its unknown records. An error says that the output
+/// failed, after a beginning of the listing.
 pub fn write_message<O: Output>(
     out: &mut O,
     message: &DynamicMessage<'_>,

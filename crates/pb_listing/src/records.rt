@@ -19,13 +19,15 @@ use pb_wire::{DeviceFault, Limits, MAX_DEPTH, Output, Payload, RecordIter};
 const INDENT: [u8; 202] = [b' '; 202];
 
 /// The greatest level of a line: a frame's message is one level in, and at most 100 levels stand below a message.
-pub const DEEPEST: usize = 101;
+pub(crate) const DEEPEST: usize = 101;
 
 /// No line of a record is longer, but for the bytes of a payload: the indentation, a mark, two numbers of at most twenty
 /// digits and a word.
 const LINE: usize = 256;
 
-/// Writes a line for each record that the bytes spell.
+/// Writes a line for each record that the bytes spell, groups nested. They are bytes that `judge_raw` takes within
+/// `Limits::FULL`: of any others it writes the whole records before the first fault. An error says that the output failed, after
+/// a beginning of the listing.
 pub fn write_listing<O: Output>(out: &mut O, bytes: &[u8]) -> Result<(), DeviceFault>
     ensures { (rs : List Record) → IsText blank tt full bytes.now rs
         → MatchResult result (λ _. Sent O.written O.failures out.old out.new (raw_listing rs))
@@ -84,7 +86,7 @@ impl<O: Output> Buffered<'_, O> {
     }
 
     #[inline]
-    pub fn put_varint_line(
+    pub(crate) fn put_varint_line(
         &mut self,
         level: usize,
         mark: &[u8],
@@ -104,7 +106,7 @@ impl<O: Output> Buffered<'_, O> {
     }
 
     /// A value of four or eight bytes, the highest first.
-    pub fn put_fixed_line(
+    pub(crate) fn put_fixed_line(
         &mut self,
         level: usize,
         mark: &[u8],
@@ -126,7 +128,7 @@ impl<O: Output> Buffered<'_, O> {
         Ok(())
     }
 
-    pub fn put_len_line(
+    pub(crate) fn put_len_line(
         &mut self,
         level: usize,
         mark: &[u8],
@@ -158,7 +160,7 @@ impl<O: Output> Buffered<'_, O> {
         Ok(())
     }
 
-    pub fn put_group_start(
+    pub(crate) fn put_group_start(
         &mut self,
         level: usize,
         mark: &[u8],
@@ -176,7 +178,7 @@ impl<O: Output> Buffered<'_, O> {
     }
 
     /// The line behind the records of a group, or the lines of a message.
-    pub fn put_end(&mut self, level: usize) -> Result<(), DeviceFault>
+    pub(crate) fn put_end(&mut self, level: usize) -> Result<(), DeviceFault>
         requires { level ≤ 101 }
         ensures { Puts O.written O.failures self.old self.new result (line level (codes "}")) }
     {
@@ -204,7 +206,7 @@ fn push_start(buffer: &mut OutputBuffer, level: usize, mark: &[u8], number: u32,
 
 /// The spaces of a level. Most records stand in no group.
 #[inline]
-pub fn push_indent(buffer: &mut OutputBuffer, level: usize)
+pub(crate) fn push_indent(buffer: &mut OutputBuffer, level: usize)
     requires low { level ≤ 101 }
     requires room { length buffer.old + 202 ≤ 8192 }
     ensures after { buffer.new ≡ buffer.old ++ indent level }

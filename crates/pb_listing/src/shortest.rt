@@ -16,7 +16,8 @@ ghost use Rattle.pb_listing.specs.Sending.{Cut, Puts, Sent};
 use crate::buffered::Buffered;
 use pb_wire::{DeviceFault, Limits, MAX_DEPTH, Output, Payload, RecordIter, put_varint};
 
-/// Writes the shortest spelling of the records that the bytes spell, as a line of hexadecimal.
+/// Writes the shortest spelling of the records that the bytes spell, as a line of hexadecimal. They are bytes that `judge_raw`
+/// takes within `Limits::FULL`, as for `write_listing`. An error says that the output failed, after a beginning of the line.
 pub fn write_shortest<O: Output>(out: &mut O, bytes: &[u8]) -> Result<(), DeviceFault>
     ensures { (rs : List Record) → IsText blank tt full bytes.now rs
         → MatchResult result (λ _. Sent O.written O.failures out.old out.new (encode_lower (shortest_records rs) ++ line_feed))

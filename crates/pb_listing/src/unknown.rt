@@ -13,7 +13,7 @@ use pb_wire::{DeviceFault, Output, Unknown};
 
 impl<O: Output> Buffered<'_, O> {
     /// The lines of the records that fit no field, with a mark before the first of each.
-    pub fn put_unknown(
+    pub(crate) fn put_unknown(
         &mut self,
         level: usize,
         records: &[(u32, Unknown)],

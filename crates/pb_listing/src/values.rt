@@ -17,7 +17,12 @@ use pb_wire::{DeviceFault, Output};
 
 impl<O: Output> Buffered<'_, O> {
     /// A value that is no message; of a message nothing.
-    pub fn put_scalar(&mut self, pool: &Pool, kind: Kind, value: &Value) -> Result<(), DeviceFault>
+    pub(crate) fn put_scalar(
+        &mut self,
+        pool: &Pool,
+        kind: Kind,
+        value: &Value,
+    ) -> Result<(), DeviceFault>
         requires { NamesType (length pool.now.messages) (length pool.now.enums) kind }
         ensures { Puts O.written O.failures self.old self.new result
             (datum_text (names_of_kind pool.now kind) (value_view value.now)) }
@@ -38,7 +43,7 @@ impl<O: Output> Buffered<'_, O> {
     }
 
     /// A key, which is written like a value.
-    pub fn put_key(&mut self, key: &MapKey) -> Result<(), DeviceFault>
+    pub(crate) fn put_key(&mut self, key: &MapKey) -> Result<(), DeviceFault>
         ensures { Puts O.written O.failures self.old self.new result (scalar_text [] (key_view key.now)) }
     {
         match key {
