@@ -85,6 +85,7 @@ pub mod ResolvedNestLemmas
 pub mod ResolvingLemmas
 pub mod TypedLemmas
 pub mod DeclaredSightLemmas
+pub mod DeclaredSyntaxLemmas
 pub mod CutLemmas
 pub mod RowCountLemmas
 pub mod DeclaredPlaces
