@@ -79,6 +79,7 @@ pub mod EntryUseLemmas
 pub mod NameRuleLemmas
 pub mod SilentDeclaredLemmas
 pub mod TypeRuleLemmas
+pub mod SyntaxRuleLemmas
 pub mod VerdictLemmas
 pub mod ResolvedLemmas
 pub mod ResolvedNestLemmas

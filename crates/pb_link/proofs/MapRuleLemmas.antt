@@ -11,25 +11,25 @@ use Rattle.std.proofs.lemmas.Slice.Eq.{bytes_eq-Decides}
 use Rattle.pb_schema.specs.declared.types.Kind.{Kind}
 use Rattle.pb_schema.specs.declared.types.Shape.{Shape}
 use Rattle.pb_schema.specs.declared.types.Shape.TheVariants as shape
-use Rattle.pb_schema.specs.Kinds.{is_key_kind}
+use Rattle.pb_schema.specs.Kinds.{is_key_kind, is_of_proto2}
 use Rattle.pb_schema.specs.Names.{in_scope, entry_name}
 use Rattle.pb_schema.specs.Types.{FieldView, MessageView, Types}
-use Rattle.pb_schema.specs.Rules.{IsPool, NamesType, TypeIsSeen, HasKeyKind}
+use Rattle.pb_schema.specs.Rules.{IsPool, NamesType, TypeIsSeen, HasKeyKind, MayBeValue}
 use Rattle.pb_descr.specs.Decls.{MessageHead, no_messages}
 use Rattle.pb_link.specs.Declarations.{a_message, a_field, Declaration}
 use Rattle.pb_link.specs.Lookup.{found, looked_up}
 use Rattle.pb_link.specs.Rules.{World, lookups, is_entry, is_map_field, gives_name, is_used_rightly}
 use Rattle.pb_link.specs.Link.{IsWorldOf}
 use Rattle.pb_link.specs.ToDecls.{is_optional_view, is_repeated_shape, name_of_kind, name_of_type, declared_field, declared_fields, declared_head, decls_of}
-use Rattle.pb_link.proofs.DeclarableLemmas.{key_names}
 use Rattle.pb_link.proofs.FlatLemmas.{Stands}
 use Rattle.pb_link.proofs.WholeLemmas.{all_at}
 use Rattle.pb_link.proofs.EachDeclaredLemmas.{Name}
 use Rattle.pb_link.proofs.FromLemmas.{Two, IsMapField, entry_head}
 use Rattle.pb_link.proofs.DeclaredSightLemmas.{sees_right}
+use Rattle.pb_link.proofs.DeclaredSyntaxLemmas.{rule_at, stands_in, enum_right, not_in_proto3}
 use Rattle.pb_link.proofs.DeclaredLookupLemmas.{message_placed, EntryPlaced, entry_placed}
 use Rattle.pb_link.proofs.InMessageLemmas.{field_parent, entry_parent}
-use Rattle.pb_link.proofs.TypeCaseLemmas.{KindCase, kind_case, key_seen, field_at}
+use Rattle.pb_link.proofs.TypeCaseLemmas.{KindCase, kind_case, case_of_key, field_at}
 use Rattle.pb_link.proofs.UsedRightlyLemmas.{kind_used}
 
 some_same : {A : Type 0} (a b : A) → Some a ≡ Some b → a ≡ b
@@ -60,14 +60,20 @@ module _ (ts : Types) (pool : IsPool ts) (w : World) (world : IsWorldOf (decls_o
 
   pub seen_kind : (m : ℕ × MessageView) → Stands ts m → (j : ℕ) (g : FieldView) → slice_get m.1.fields j ≡ Some g → (scope : List ℕ) → KindCase ts w m.1.file scope g.kind
   seen_kind m there j g at scope = kind_case ts pool w world m.1.file scope g.kind
-      (all_at (λ f. NamesType (length ts.messages) (length ts.enums) f.kind) m.1.fields j g (all_at (λ t. AllByRecursion (λ f. NamesType (length ts.messages) (length ts.enums) f.kind) t.fields) ts.messages m.0 m.1 pool.indexes.kinds there) at)
-      (all_at (λ f. TypeIsSeen ts m.1.file f.kind) m.1.fields j g (all_at (λ t. AllByRecursion (λ f. TypeIsSeen ts t.file f.kind) t.fields) ts.messages m.0 m.1 pool.fields.types_seen there) at)
+      (rule_at (λ t f. NamesType (length ts.messages) (length ts.enums) f.kind) ts pool.indexes.kinds m there j g at)
+      (rule_at (λ t f. TypeIsSeen ts t.file f.kind) ts pool.fields.types_seen m there j g at)
+      (enum_right ts pool m there j g at)
+      (not_in_proto3 (Two ts m) g.shape g.kind (stands_in ts pool m there j g at))
 
   pub is_key : (m : ℕ × MessageView) → Stands ts m → (j : ℕ) (g : FieldView) (key : Kind) → IsMapField m j g key → IsTrue (is_key_kind key)
   is_key m there j g key is = subst HasKeyKind is.is_map (all_at (λ f. HasKeyKind f.shape) m.1.fields j g (all_at (λ t. AllByRecursion (λ f. HasKeyKind f.shape) t.fields) ts.messages m.0 m.1 pool.fields.shapes.keys there) is.there)
 
   pub key_case : (m : ℕ × MessageView) → Stands ts m → (j : ℕ) (g : FieldView) (key : Kind) → IsMapField m j g key → (scope : List ℕ) → KindCase ts w m.1.file scope key
-  key_case m there j g key is scope = let k = is_key m there j g key is in kind_case ts pool w world m.1.file scope key (key_names (length ts.messages) (length ts.enums) key k) (key_seen ts m.1.file key k)
+  key_case m there j g key is scope = case_of_key ts pool w world m.1.file scope key (is_key m there j g key is)
+
+  -- the value of a map is of a kind of proto3
+  pub value_three : (m : ℕ × MessageView) → Stands ts m → (j : ℕ) (g : FieldView) (key : Kind) → IsMapField m j g key → is_of_proto2 g.kind ≡ false
+  value_three m there j g key is = subst (λ s. MayBeValue s g.kind) is.is_map (rule_at (λ t f. MayBeValue f.shape f.kind) ts pool.fields.shapes.values m there j g is.there)
 
   -- A MAP FIELD
 

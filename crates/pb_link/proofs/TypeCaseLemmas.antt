@@ -95,7 +95,7 @@ IfNamed ts w file scope k P = (n : List ℕ) → name_of_kind ts k ≡ Some n �
 pub record KindCase (ts : Types) (w : World) (file : ℕ) (scope : List ℕ) (k : Kind) : Type 0 where
   pub case : TypeCase w file scope (name_of_kind ts k) (code_of_kind k)
   pub no_entry : IfNamed ts w file scope k (λ t. is_entry t.item ≡ false)
-  pub is_open : is_of_proto2 k ≡ false → IfNamed ts w file scope k (λ t. is_open w.files t ≡ true)
+  pub open_enum : is_of_proto2 k ≡ false → IfNamed ts w file scope k (λ t. is_open w.files t ≡ true)
 
 some_same : {A : Type 0} (a b : A) → Some a ≡ Some b → a ≡ b
 some_same a b h = cc
@@ -120,7 +120,7 @@ module _ (ts : Types) (pool : IsPool ts) (w : World) (world : IsWorldOf (decls_o
   plain k none right = record {
     case = scalar none right;
     no_entry = λ n is p looked t there. none_some (sym none ∙ is);
-    is_open = λ three n is p looked t there. none_some (sym none ∙ is);
+    open_enum = λ three n is p looked t there. none_some (sym none ∙ is);
   }
 
   -- what holds of the type at the place that a kind's name means
@@ -136,7 +136,7 @@ module _ (ts : Types) (pool : IsPool ts) (w : World) (world : IsWorldOf (decls_o
       record {
         case = type_named name called (record { place = p.place; type = p.declared; looked = looked; there = p.there; right = right p.declared.item (ap is_message p.item) (ap is_message_type p.item) });
         no_entry = placed k name p.place p.declared (λ d. is_entry d.item ≡ false) called looked p.there (ap is_entry p.item);
-        is_open = λ three. placed k name p.place p.declared (λ d. is_open w.files d ≡ true) called looked p.there (ap (λ it. not (is_enum it && is_two w.files p.declared.file)) p.item);
+        open_enum = λ three. placed k name p.place p.declared (λ d. is_open w.files d ≡ true) called looked p.there (ap (λ it. not (is_enum it && is_two w.files p.declared.file)) p.item);
       }
 
   -- the enum of an index
@@ -148,7 +148,7 @@ module _ (ts : Types) (pool : IsPool ts) (w : World) (world : IsWorldOf (decls_o
       record {
         case = type_named name called (record { place = p.place; type = p.declared; looked = looked; there = p.there; right = as_enum coded (ap is_enum p.item) });
         no_entry = placed k name p.place p.declared (λ d. is_entry d.item ≡ false) called looked p.there (ap is_entry p.item);
-        is_open = λ h. placed k name p.place p.declared (λ d. is_open w.files d ≡ true) called looked p.there
+        open_enum = λ h. placed k name p.place p.declared (λ d. is_open w.files d ≡ true) called looked p.there
             (ap (λ it. not (is_enum it && is_two w.files p.declared.file)) p.item ∙ ap not (two_again ts pool w world p.declared.file ∙ ap (is_proto2 ts.files) p.file ∙ three h));
       }
 
@@ -193,26 +193,26 @@ module _ (ts : Types) (pool : IsPool ts) (w : World) (world : IsWorldOf (decls_o
       enum_case (kind.ClosedEnum e) e.0 t.0 t.1 (seen_there (slice_get ts.enums e.0) t.0 (λ u. IsSeen ts.files file u.file) t.1 seen) refl refl (λ h. absurd (false≢true (sym h)))
 
   -- a key is a scalar
-  pub key_case : (k : Kind) → IsTrue (is_key_kind k) → KindCase ts w file scope k
-  key_case kind.Int64 h = plain kind.Int64 refl (λ d. refl)
-  key_case kind.Uint64 h = plain kind.Uint64 refl (λ d. refl)
-  key_case kind.Int32 h = plain kind.Int32 refl (λ d. refl)
-  key_case kind.Fixed64 h = plain kind.Fixed64 refl (λ d. refl)
-  key_case kind.Fixed32 h = plain kind.Fixed32 refl (λ d. refl)
-  key_case kind.Bool h = plain kind.Bool refl (λ d. refl)
-  key_case kind.Text h = plain kind.Text refl (λ d. refl)
-  key_case kind.Uint32 h = plain kind.Uint32 refl (λ d. refl)
-  key_case kind.Sfixed32 h = plain kind.Sfixed32 refl (λ d. refl)
-  key_case kind.Sfixed64 h = plain kind.Sfixed64 refl (λ d. refl)
-  key_case kind.Sint32 h = plain kind.Sint32 refl (λ d. refl)
-  key_case kind.Sint64 h = plain kind.Sint64 refl (λ d. refl)
-  key_case kind.Double h = absurd (false≢true h)
-  key_case kind.Float h = absurd (false≢true h)
-  key_case kind.Bytes h = absurd (false≢true h)
-  key_case (kind.Enum e) h = absurd (false≢true h)
-  key_case (kind.ClosedEnum e) h = absurd (false≢true h)
-  key_case (kind.Message m) h = absurd (false≢true h)
-  key_case (kind.Group m) h = absurd (false≢true h)
+  pub case_of_key : (k : Kind) → IsTrue (is_key_kind k) → KindCase ts w file scope k
+  case_of_key kind.Int64 h = plain kind.Int64 refl (λ d. refl)
+  case_of_key kind.Uint64 h = plain kind.Uint64 refl (λ d. refl)
+  case_of_key kind.Int32 h = plain kind.Int32 refl (λ d. refl)
+  case_of_key kind.Fixed64 h = plain kind.Fixed64 refl (λ d. refl)
+  case_of_key kind.Fixed32 h = plain kind.Fixed32 refl (λ d. refl)
+  case_of_key kind.Bool h = plain kind.Bool refl (λ d. refl)
+  case_of_key kind.Text h = plain kind.Text refl (λ d. refl)
+  case_of_key kind.Uint32 h = plain kind.Uint32 refl (λ d. refl)
+  case_of_key kind.Sfixed32 h = plain kind.Sfixed32 refl (λ d. refl)
+  case_of_key kind.Sfixed64 h = plain kind.Sfixed64 refl (λ d. refl)
+  case_of_key kind.Sint32 h = plain kind.Sint32 refl (λ d. refl)
+  case_of_key kind.Sint64 h = plain kind.Sint64 refl (λ d. refl)
+  case_of_key kind.Double h = absurd (false≢true h)
+  case_of_key kind.Float h = absurd (false≢true h)
+  case_of_key kind.Bytes h = absurd (false≢true h)
+  case_of_key (kind.Enum e) h = absurd (false≢true h)
+  case_of_key (kind.ClosedEnum e) h = absurd (false≢true h)
+  case_of_key (kind.Message m) h = absurd (false≢true h)
+  case_of_key (kind.Group m) h = absurd (false≢true h)
 
 -- its type number is that of a key
 pub key_code : (k : Kind) → IsTrue (is_key_kind k) → is_key_code (code_of_kind k) ≡ true
