@@ -37,6 +37,28 @@ same_entry ts s t f g key k d e same at_d at_e is_d is_e =
     ap (λ x. in_scope x (entry_name f.name)) (sym at_d ∙ ap (λ (x : Declaration). x.scope) same ∙ at_e)
     ∙ ap (λ x. in_scope t (simple_name x)) (sym is_d ∙ ap (λ (x : Declaration). x.item) same ∙ is_e)
 
+-- the value of an entry is no group
+value_part : (k : Kind) → is_of_proto2 k ≡ false → is_value_part (entry_part ts value_name 2 k) ≡ true
+value_part (kind.Group n) three = absurd (false≢true (sym three))
+value_part (kind.ClosedEnum n) three = refl
+value_part (kind.Message n) three = refl
+value_part (kind.Enum n) three = refl
+value_part kind.Double three = refl
+value_part kind.Float three = refl
+value_part kind.Int64 three = refl
+value_part kind.Uint64 three = refl
+value_part kind.Int32 three = refl
+value_part kind.Fixed64 three = refl
+value_part kind.Fixed32 three = refl
+value_part kind.Bool three = refl
+value_part kind.Text three = refl
+value_part kind.Bytes three = refl
+value_part kind.Uint32 three = refl
+value_part kind.Sfixed32 three = refl
+value_part kind.Sfixed64 three = refl
+value_part kind.Sint32 three = refl
+value_part kind.Sint64 three = refl
+
 module _ (ts : Types) (pool : IsPool ts) (w : World) (world : IsWorldOf (decls_of ts) w) where
   -- THE MAP FIELD OF AN ENTRY
 
@@ -145,31 +167,10 @@ module _ (ts : Types) (pool : IsPool ts) (w : World) (world : IsWorldOf (decls_o
     key_right : is_key_code (code_of_kind key) ≡ true
     key_right = key_code key (is_key ts pool w world m there j g key is)
 
-    value_single : (k : Kind) → is_of_proto2 k ≡ false → is_value_part (entry_part ts value_name 2 k) ≡ true
-    value_single (kind.Group n) three = absurd (false≢true (sym three))
-    value_single (kind.ClosedEnum n) three = refl
-    value_single (kind.Message n) three = refl
-    value_single (kind.Enum n) three = refl
-    value_single kind.Double three = refl
-    value_single kind.Float three = refl
-    value_single kind.Int64 three = refl
-    value_single kind.Uint64 three = refl
-    value_single kind.Int32 three = refl
-    value_single kind.Fixed64 three = refl
-    value_single kind.Fixed32 three = refl
-    value_single kind.Bool three = refl
-    value_single kind.Text three = refl
-    value_single kind.Bytes three = refl
-    value_single kind.Uint32 three = refl
-    value_single kind.Sfixed32 three = refl
-    value_single kind.Sfixed64 three = refl
-    value_single kind.Sint32 three = refl
-    value_single kind.Sint64 three = refl
-
     has_both : has_key_and_value w It (entry_head ts g key).fields ≡ true
     has_both =
         ap (λ b. b || are_key_and_value w It (entry_part ts value_name 2 g.kind) (entry_part ts key_name 1 key))
-        (ap (λ b. is_part key_name 1 (entry_part ts key_name 1 key) && b && is_key_code (code_of_kind key) && option_map_or (is_no_entry w It) (name_of_kind ts g.kind) true) (value_single g.kind (value_three ts pool w world m there j g key is))
+        (ap (λ b. is_part key_name 1 (entry_part ts key_name 1 key) && b && is_key_code (code_of_kind key) && option_map_or (is_no_entry w It) (name_of_kind ts g.kind) true) (value_part g.kind (value_three ts pool w world m there j g key is))
         ∙ ap (λ b. true && b && option_map_or (is_no_entry w It) (name_of_kind ts g.kind) true) key_right
         ∙ ap (λ b. true && b) value_plain)
 

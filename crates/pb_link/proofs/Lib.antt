@@ -1,5 +1,6 @@
 mod Samples
 mod Rows
+mod Proto2Rows
 pub mod FirstLemmas
 pub mod ExactLemmas
 pub mod RowLemmas
