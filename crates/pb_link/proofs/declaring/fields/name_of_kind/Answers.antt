@@ -11,4 +11,5 @@ pub dotted-requires-in-Group : goal.dotted-requires-in-Group
 dotted-requires-in-Group c = message_name_ascii c.args.pool.now c.requires.pool c.in-Group.id.0 c.message_name-in-Group.result.now c.message_name-in-Group.ensures.found
 
 pub dotted-requires-in-ClosedEnum : goal.dotted-requires-in-ClosedEnum
-dotted-requires-in-ClosedEnum c = enum_name_ascii c.args.pool.now c.requires.pool c.in-ClosedEnum.id.0 c.enum_name-in-ClosedEnum.result.now c.enum_name-in-ClosedEnum.ensures.found
+dotted-requires-in-ClosedEnum c =
+    enum_name_ascii c.args.pool.now c.requires.pool c.in-ClosedEnum.id.0 c.enum_name-in-ClosedEnum.result.now c.enum_name-in-ClosedEnum.ensures.found
