@@ -93,7 +93,7 @@ module _ (ts : Types) (pool : IsPool ts) (w : World) (world : IsWorldOf (decls_o
   kind_open : (file parent : ℕ) (scope : List ℕ) (head : MessageHead) (i : ℕ) (f : DeclaredField) (k : Kind) → f.type_name ≡ name_of_kind ts k → KindCase ts w file scope k → is_of_proto2 k ≡ false → Open (field_at file parent scope head i f)
   kind_open file parent scope head i f k named c three = subst (λ o. Open (At o)) (sym named) (by c.case)
     where
-      abbrev At : Option (List ℕ) → Declaration
+      At : Option (List ℕ) → Declaration
       At o = field_at file parent scope head i (record f { type_name = o })
 
       by : TypeCase w file scope (name_of_kind ts k) (code_of_kind k) → Open (At (name_of_kind ts k))
@@ -107,7 +107,7 @@ module _ (ts : Types) (pool : IsPool ts) (w : World) (world : IsWorldOf (decls_o
   field_open : (m : ℕ × MessageView) → Stands ts m → (p i r : ℕ) (g : FieldView) → slice_get m.1.fields i ≡ Some g → is_enum_right w (Field ts pool w world m p i r g) ≡ true
   field_open m there p i r g at = ap (λ b. (b && true) || list_all (passes_declared w (is_open w.files)) (lookups w d)) (two_again ts pool w world m.1.file) ∙ by (Two ts m) refl
     where
-      abbrev d : Declaration
+      d : Declaration
       d = Field ts pool w world m p i r g
 
       plain : (s : Shape) → g.shape ≡ s → name_of_type ts (Name ts m.0) g.name s g.kind ≡ name_of_kind ts g.kind → is_of_proto2 g.kind ≡ false → Open d

@@ -61,7 +61,7 @@ named_rules w place file parent scope head i f n c t = record {
   kind = by t.right;
 }
   where
-    abbrev d : Declaration
+    d : Declaration
     d = field_at file parent scope head i (record f { type_name = Some n; type_code = Some c })
 
     -- what the name means passes a test that the type passes
