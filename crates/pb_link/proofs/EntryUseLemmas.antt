@@ -38,26 +38,26 @@ same_entry ts s t f g key k d e same at_d at_e is_d is_e =
     ∙ ap (λ x. in_scope t (simple_name x)) (sym is_d ∙ ap (λ (x : Declaration). x.item) same ∙ is_e)
 
 -- the value of an entry is no group
-value_part : (k : Kind) → is_of_proto2 k ≡ false → is_value_part (entry_part ts value_name 2 k) ≡ true
-value_part (kind.Group n) three = absurd (false≢true (sym three))
-value_part (kind.ClosedEnum n) three = refl
-value_part (kind.Message n) three = refl
-value_part (kind.Enum n) three = refl
-value_part kind.Double three = refl
-value_part kind.Float three = refl
-value_part kind.Int64 three = refl
-value_part kind.Uint64 three = refl
-value_part kind.Int32 three = refl
-value_part kind.Fixed64 three = refl
-value_part kind.Fixed32 three = refl
-value_part kind.Bool three = refl
-value_part kind.Text three = refl
-value_part kind.Bytes three = refl
-value_part kind.Uint32 three = refl
-value_part kind.Sfixed32 three = refl
-value_part kind.Sfixed64 three = refl
-value_part kind.Sint32 three = refl
-value_part kind.Sint64 three = refl
+value_part : (ts : Types) (k : Kind) → is_of_proto2 k ≡ false → is_value_part (entry_part ts value_name 2 k) ≡ true
+value_part ts (kind.Group n) three = absurd (false≢true (sym three))
+value_part ts (kind.ClosedEnum n) three = refl
+value_part ts (kind.Message n) three = refl
+value_part ts (kind.Enum n) three = refl
+value_part ts kind.Double three = refl
+value_part ts kind.Float three = refl
+value_part ts kind.Int64 three = refl
+value_part ts kind.Uint64 three = refl
+value_part ts kind.Int32 three = refl
+value_part ts kind.Fixed64 three = refl
+value_part ts kind.Fixed32 three = refl
+value_part ts kind.Bool three = refl
+value_part ts kind.Text three = refl
+value_part ts kind.Bytes three = refl
+value_part ts kind.Uint32 three = refl
+value_part ts kind.Sfixed32 three = refl
+value_part ts kind.Sfixed64 three = refl
+value_part ts kind.Sint32 three = refl
+value_part ts kind.Sint64 three = refl
 
 module _ (ts : Types) (pool : IsPool ts) (w : World) (world : IsWorldOf (decls_of ts) w) where
   -- THE MAP FIELD OF AN ENTRY
@@ -170,7 +170,7 @@ module _ (ts : Types) (pool : IsPool ts) (w : World) (world : IsWorldOf (decls_o
     has_both : has_key_and_value w It (entry_head ts g key).fields ≡ true
     has_both =
         ap (λ b. b || are_key_and_value w It (entry_part ts value_name 2 g.kind) (entry_part ts key_name 1 key))
-        (ap (λ b. is_part key_name 1 (entry_part ts key_name 1 key) && b && is_key_code (code_of_kind key) && option_map_or (is_no_entry w It) (name_of_kind ts g.kind) true) (value_part g.kind (value_three ts pool w world m there j g key is))
+        (ap (λ b. is_part key_name 1 (entry_part ts key_name 1 key) && b && is_key_code (code_of_kind key) && option_map_or (is_no_entry w It) (name_of_kind ts g.kind) true) (value_part ts g.kind (value_three ts pool w world m there j g key is))
         ∙ ap (λ b. true && b && option_map_or (is_no_entry w It) (name_of_kind ts g.kind) true) key_right
         ∙ ap (λ b. true && b) value_plain)
 
