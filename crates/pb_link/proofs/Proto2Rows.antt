@@ -24,8 +24,8 @@ repeated packed f = record f { is_repeated = true; packed = packed }
 abbrev q_set : List DeclaredFile
 q_set = a_set_of_two (
     in_message (codes "Q") (
-      int32 (codes "a") 1 ∷ repeated None (int32 (codes "e") 2) ∷ coded code.Group (Some (codes ".Q.G")) (codes "g") 3
-      ∷ coded code.Enum (Some (codes ".E")) (codes "k") 4 ∷ repeated (Some true) (coded code.Enum (Some (codes ".E")) (codes "l") 5) ∷ [])
+    int32 (codes "a") 1 ∷ repeated None (int32 (codes "e") 2) ∷ coded code.Group (Some (codes ".Q.G")) (codes "g") 3
+    ∷ coded code.Enum (Some (codes ".E")) (codes "k") 4 ∷ repeated (Some true) (coded code.Enum (Some (codes ".E")) (codes "l") 5) ∷ [])
     (in_message (codes "G") (int32 (codes "x") 1 ∷ []) [] ∷ []) ∷ [])
     (enum_of (codes "E") ((codes "ONE", pos 1) ∷ (codes "TWO", pos 2) ∷ []) ∷ [])
 

@@ -1,21 +1,19 @@
 -- The declarations of a pool's types meet the rules that go by the syntax of files: optional fields, first values and closed enums.
-use Rattle.std.proofs.Common.{◌≡◌, ℕ, ◌⊎◌, inl, inr, List, [], ◌∷◌, Bool, true, false, not, ◌&&◌, ◌||◌, refl, sym, ap, ◌∙◌, subst, Option, Some, None}
+use Rattle.std.proofs.Common.{◌≡◌, ℕ, List, [], ◌∷◌, Bool, true, false, not, ◌&&◌, ◌||◌, refl, sym, ap, ◌∙◌, subst, Option, Some}
 use Rattle.std.specs.Prelude.{ℤ, pos, slice_get, is_none}
 use Rattle.std.specs.List.{list_all}
 use Rattle.std.specs.Option.{option_map_or}
-use Rattle.std.specs.Ordering.{int_eq}
-use Rattle.std.proofs.lemmas.Bool.{false≢true}
 use Rattle.std.proofs.lemmas.Bool.Decides.{Decides-int_eq}
 use Rattle.pb_schema.specs.declared.types.Kind.{Kind}
 use Rattle.pb_schema.specs.declared.types.Shape.{Shape}
 use Rattle.pb_schema.specs.declared.types.Shape.TheVariants as shape
 use Rattle.pb_schema.specs.Kinds.{message_of_kind, is_of_proto2}
 use Rattle.pb_schema.specs.Names.{in_scope, entry_name}
-use Rattle.pb_schema.specs.Types.{FieldView, MessageView, EnumView, Types, is_proto2}
-use Rattle.pb_schema.specs.Rules.{IsPool, MayBeValue, BeginsRight}
+use Rattle.pb_schema.specs.Types.{FieldView, MessageView, Types, is_proto2}
+use Rattle.pb_schema.specs.Rules.{IsPool, BeginsRight}
 use Rattle.pb_descr.specs.Decls.{DeclaredField, MessageHead}
 use Rattle.pb_link.specs.declared.cause.LinkCause.TheVariants as cause
-use Rattle.pb_link.specs.Declarations.{Declaration, an_enum}
+use Rattle.pb_link.specs.Declarations.{Declaration}
 use Rattle.pb_link.specs.Rules.{World, is_two, is_marked_optional, is_oneof_right, begins_right, is_enum, is_open, is_enum_right, passes_declared, lookups, key_name, value_name}
 use Rattle.pb_link.specs.Link.{IsWorldOf, holds}
 use Rattle.pb_link.specs.ToDecls.{is_optional_field, code_of_kind, name_of_kind, name_of_type, declared_field, declared_enum, declared_head, entry_part, decls_of}
@@ -23,7 +21,7 @@ use Rattle.pb_link.proofs.FlatLemmas.{Stands}
 use Rattle.pb_link.proofs.WholeLemmas.{all_at}
 use Rattle.pb_link.proofs.EachDeclaredLemmas.{Name}
 use Rattle.pb_link.proofs.FromLemmas.{Two, IsFrom, from_file, from_message, from_field, from_oneof, from_entry, from_key, from_value, from_enum, from_enum_value, IsMapField, entry_head}
-use Rattle.pb_link.proofs.DeclaredSyntaxLemmas.{two_again, rule_at, stands_in, not_in_proto3}
+use Rattle.pb_link.proofs.DeclaredSyntaxLemmas.{two_again, stands_in, not_in_proto3}
 use Rattle.pb_link.proofs.TypeCaseLemmas.{TypeCase, scalar, type_named, KindCase, key_plain, field_at}
 use Rattle.pb_link.proofs.MapRuleLemmas.{is_key, value_three, seen_kind, key_case, Entry, map_looked, map_name, Field}
 
