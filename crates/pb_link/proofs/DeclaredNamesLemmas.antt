@@ -1,13 +1,13 @@
 -- The full names of the declarations of a pool's types, in another order: those of its messages with those of their fields, oneofs and
 -- entries, and those of its enums with their values.
-use Rattle.std.proofs.Common.{◌≡◌, ℕ, ◌+◌, ◌<◌, ◌≤◌, List, [], ◌∷◌, ◌++◌, true, false, not, cond, map, length, refl, sym, ap, ◌∙◌, arith}
+use Rattle.std.proofs.Common.{◌≡◌, ℕ, ◌+◌, ◌<◌, ◌≤◌, List, [], ◌∷◌, ◌++◌, Bool, true, false, not, cond, map, length, refl, sym, ap, ◌∙◌, arith}
 use Rattle.std.specs.Prelude.{ℤ, if◌then◌else◌, filter_map}
 use Rattle.std.specs.List.{flat_map, enumerate_from, cons_option}
 use Rattle.std.proofs.lemmas.List.{append_assoc, append-nil, length-append}
 use Rattle.pb_schema.specs.declared.types.Shape.{Shape}
 use Rattle.pb_schema.specs.declared.types.Shape.TheVariants as shape
 use Rattle.pb_schema.specs.Names.{in_scope, entry_name, message_name, declared_by_enum}
-use Rattle.pb_schema.specs.Types.{FieldView, MessageView, EnumView, Types}
+use Rattle.pb_schema.specs.Types.{FieldView, MessageView, EnumView, Types, is_proto2}
 use Rattle.pb_schema.specs.Rules.{IsPool}
 use Rattle.pb_schema.proofs.NameLemmas.{scope_of-names}
 use Rattle.pb_descr.specs.Decls.{MessageHead, message, DeclaredMessages, messages_of}
@@ -60,9 +60,9 @@ flat_append g (x ∷ xs) ys = ap (λ l. g x ++ l) (flat_append g xs ys) ∙ sym 
 
 -- PARTS
 
-fields_names : (ts : Types) (file place : ℕ) (name : List ℕ) (head : MessageHead) (k s : ℕ) (fs : List FieldView) → names_of (map (λ e. record { file = file; parent = place; scope = name; item = a_field head e.0 e.1 }) (enumerate_from k (declared_fields ts name s fs))) ≡ flat_map (field_names name) fs
-fields_names ts file place name head k s [] = refl
-fields_names ts file place name head k s (f ∷ fs) = ap (λ l. in_scope name f.name ∷ l) (fields_names ts file place name head (k + 1) (cond (is_optional_view f) (s + 1) s) fs)
+fields_names : (two : Bool) (ts : Types) (file place : ℕ) (name : List ℕ) (head : MessageHead) (k s : ℕ) (fs : List FieldView) → names_of (map (λ e. record { file = file; parent = place; scope = name; item = a_field head e.0 e.1 }) (enumerate_from k (declared_fields two ts name s fs))) ≡ flat_map (field_names name) fs
+fields_names two ts file place name head k s [] = refl
+fields_names two ts file place name head k s (f ∷ fs) = ap (λ l. in_scope name f.name ∷ l) (fields_names two ts file place name head (k + 1) (cond (is_optional_view two f) (s + 1) s) fs)
 
 abbrev oneofs_from : ℕ → ℕ → List ℕ → MessageHead → ℕ → List (List ℕ) → List Declaration
 oneofs_from file place name head k xs = map (λ e. record { file = file; parent = place; scope = name; item = a_oneof head e.0 e.1 }) (enumerate_from k xs)
@@ -125,10 +125,10 @@ module _ (ts : Types) (pool : IsPool ts) where
       let head = declared_head ts m.0 m.1 in
       ap (λ n. n ∷ names_of (fields_of m.1.file place name head head.fields ++ oneofs_of m.1.file place name head head.oneofs)) (named ts pool m there)
       ∙ ap (λ l. name ∷ l) (flat_append names_at (fields_of m.1.file place name head head.fields) (oneofs_of m.1.file place name head head.oneofs)
-      ∙ ap (λ l. l ++ names_of (oneofs_of m.1.file place name head head.oneofs)) (fields_names ts m.1.file place name head 0 (length m.1.oneofs) m.1.fields)
-      ∙ ap (λ l. flat_map (field_names name) m.1.fields ++ l) (oneof_names m.1.file place name head 0 m.1.oneofs (synthetic_names m.1.fields)
+      ∙ ap (λ l. l ++ names_of (oneofs_of m.1.file place name head head.oneofs)) (fields_names (is_proto2 ts.files m.1.file) ts m.1.file place name head 0 (length m.1.oneofs) m.1.fields)
+      ∙ ap (λ l. flat_map (field_names name) m.1.fields ++ l) (oneof_names m.1.file place name head 0 m.1.oneofs (synthetic_names (is_proto2 ts.files m.1.file) m.1.fields)
       (λ i less. real_oneof ts pool m there i (omega (arith, less)))
-      (λ i low high. let size = length-append m.1.oneofs (synthetic_names m.1.fields) in made_oneof ts pool m there i (omega (arith, low)) (omega (arith, high, size)))))
+      (λ i low high. let size = length-append m.1.oneofs (synthetic_names (is_proto2 ts.files m.1.file) m.1.fields) in made_oneof ts pool m there i (omega (arith, low)) (omega (arith, high, size)))))
       ∙ ap (λ n. message_own n m.1) (called ts pool m there)
 
   enum_names : (e : ℕ × EnumView) (parent place : ℕ) → names_of (enum_declared e.1.file parent (Scope ts e.1.file e.1.parent) place (declared_enum e.1)) ≡ of_enum ts e

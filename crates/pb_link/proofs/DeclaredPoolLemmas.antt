@@ -17,6 +17,7 @@ use Rattle.pb_link.proofs.FromLemmas.{IsFrom}
 use Rattle.pb_link.proofs.InMessageLemmas.{from_at}
 use Rattle.pb_link.proofs.TypeCaseLemmas.{MeetsTypeRules}
 use Rattle.pb_link.proofs.TypeRuleLemmas.{type_rules}
+use Rattle.pb_link.proofs.SyntaxRuleLemmas.{oneof_right, first_value, open_right}
 use Rattle.pb_link.proofs.EntryUseLemmas.{map_right}
 use Rattle.pb_link.proofs.NameRuleLemmas.{name_right, name_free}
 
@@ -33,12 +34,13 @@ module _ (ts : Types) (pool : IsPool ts) (w : World) (world : IsWorldOf (decls_o
   each_rule place d at from own type cause.BadNumber = own.number
   each_rule place d at from own type cause.NumberTaken = own.number_is_free
   each_rule place d at from own type cause.Reserved = own.not_reserved
-  each_rule place d at from own type cause.BadOneof = own.oneof
+  each_rule place d at from own type cause.BadOneof = oneof_right ts pool w world place d from own.oneof
   each_rule place d at from own type cause.BadMap = map_right ts pool w world place d at from
   each_rule place d at from own type cause.BadPacked = own.packed
-  each_rule place d at from own type cause.BadEnum = own.first_value
+  each_rule place d at from own type cause.BadEnum = first_value ts pool w world place d from
   each_rule place d at from own type cause.KindMismatch = type.kind
   each_rule place d at from own type cause.BadRange = own.ranges
+  each_rule place d at from own type cause.ClosedEnum = open_right ts pool w world place d from
 
   -- no rule fails
   pub nothing_fails : NothingFails w

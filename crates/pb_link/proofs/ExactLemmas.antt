@@ -31,6 +31,7 @@ cause_of-number cause.BadPacked = refl
 cause_of-number cause.BadEnum = refl
 cause_of-number cause.KindMismatch = refl
 cause_of-number cause.BadRange = refl
+cause_of-number cause.ClosedEnum = refl
 
 some_same : {A : Type 0} (a b : A) → Some a ≡ Some b → a ≡ b
 some_same a b h = cc
@@ -76,6 +77,7 @@ one_world files v w one other = λ i. record {
     sees = λ j k. (same_test (v.sight.sees j k) (w.sight.sees j k) (λ h. (other.sight.sees j k).1 ((one.sight.sees j k).0 h)) (λ h. (one.sight.sees j k).1 ((other.sight.sees j k).0 h))) i;
     is_cyclic = λ j. (same_test (v.sight.is_cyclic j) (w.sight.is_cyclic j) (λ h. (other.sight.is_cyclic j).1 ((one.sight.is_cyclic j).0 h)) (λ h. (one.sight.is_cyclic j).1 ((other.sight.is_cyclic j).0 h))) i;
   };
+  files = (one.in_files ∙ sym other.in_files) i;
 }
 
 -- where files link, the walk over their one world tells nothing; and where they have a least fault, it tells that

@@ -87,6 +87,7 @@ every_cause cause.BadPacked = later (later (later (later (later (later (later (l
 every_cause cause.BadEnum = later (later (later (later (later (later (later (later (later (later (later (later (later (later first)))))))))))))
 every_cause cause.KindMismatch = later (later (later (later (later (later (later (later (later (later (later (later (later (later (later first))))))))))))))
 every_cause cause.BadRange = later (later (later (later (later (later (later (later (later (later (later (later (later (later (later (later first)))))))))))))))
+every_cause cause.ClosedEnum = later (later (later (later (later (later (later (later (later (later (later (later (later (later (later (later (later first))))))))))))))))
 
 not_false : (b : Bool) → not b ≡ true → b ≡ false
 not_false true h = absurd (false≢true h)

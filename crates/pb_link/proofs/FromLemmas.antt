@@ -1,12 +1,12 @@
 -- What each declaration of a pool's types is declared from.
-use Rattle.std.proofs.Common.{◌≡◌, ℕ, suc, ◌+◌, List, [], ◌∷◌, ◌++◌, map, length, cond, refl, sym, ap, ◌∙◌, arith, Some}
+use Rattle.std.proofs.Common.{◌≡◌, ℕ, suc, ◌+◌, List, [], ◌∷◌, ◌++◌, map, length, Bool, cond, refl, sym, ap, ◌∙◌, arith, Some}
 use Rattle.std.specs.Prelude.{ℤ, slice_get, filter_map}
 use Rattle.std.specs.List.{AllByRecursion, enumerate_from, cons_option}
 use Rattle.pb_schema.specs.declared.types.Kind.{Kind}
 use Rattle.pb_schema.specs.declared.types.Shape.{Shape}
 use Rattle.pb_schema.specs.declared.types.Shape.TheVariants as shape
 use Rattle.pb_schema.specs.Names.{in_scope, entry_name}
-use Rattle.pb_schema.specs.Types.{FieldView, MessageView, EnumView, FileView, Types}
+use Rattle.pb_schema.specs.Types.{FieldView, MessageView, EnumView, FileView, Types, is_proto2}
 use Rattle.pb_schema.specs.Rules.{IsPool}
 use Rattle.pb_descr.specs.Decls.{MessageHead, message, DeclaredMessages, no_messages, messages_of}
 use Rattle.pb_link.specs.Declarations.{a_file, a_message, a_field, a_oneof, an_enum, a_value, Declaration, head_of, fields_of, oneofs_of, enum_declared, head_row, messages_declared, declarations}
@@ -15,6 +15,10 @@ use Rattle.pb_link.specs.ToDecls.{declared_field, declared_fields, declared_head
 use Rattle.pb_link.proofs.ForestLemmas.{all_append}
 use Rattle.pb_link.proofs.FlatLemmas.{Stands, all_numbered}
 use Rattle.pb_link.proofs.EachDeclaredLemmas.{Name, Scope, entries_of, tell}
+
+-- a message stands in a file of proto2
+abbrev pub Two : Types → ℕ × MessageView → Bool
+Two ts m = is_proto2 ts.files m.1.file
 
 abbrev pub entry_head : Types → FieldView → Kind → MessageHead
 entry_head ts g key = head_of (entry_message ts g.name key g.kind)
@@ -29,7 +33,7 @@ pub record IsMapField (m : ℕ × MessageView) (j : ℕ) (g : FieldView) (key : 
 pub data IsFrom (ts : Types) : Declaration → Type 0 where
   from_file : (i place : ℕ) (f : FileView) → slice_get ts.files i ≡ Some f → IsFrom ts (record { file = i; parent = place; scope = []; item = a_file (declared_file ts (i, f)) })
   from_message : (m : ℕ × MessageView) → Stands ts m → (parent : ℕ) (inner : DeclaredMessages) → IsFrom ts (record { file = m.1.file; parent = parent; scope = Scope ts m.1.file m.1.parent; item = a_message (declared_head ts m.0 m.1) inner })
-  from_field : (m : ℕ × MessageView) → Stands ts m → (parent i r : ℕ) (g : FieldView) → slice_get m.1.fields i ≡ Some g → IsFrom ts (record { file = m.1.file; parent = parent; scope = Name ts m.0; item = a_field (declared_head ts m.0 m.1) i (declared_field ts (Name ts m.0) r g) })
+  from_field : (m : ℕ × MessageView) → Stands ts m → (parent i r : ℕ) (g : FieldView) → slice_get m.1.fields i ≡ Some g → IsFrom ts (record { file = m.1.file; parent = parent; scope = Name ts m.0; item = a_field (declared_head ts m.0 m.1) i (declared_field (Two ts m) ts (Name ts m.0) r g) })
   from_oneof : (m : ℕ × MessageView) → Stands ts m → (parent i : ℕ) (name : List ℕ) → slice_get (declared_head ts m.0 m.1).oneofs i ≡ Some name → IsFrom ts (record { file = m.1.file; parent = parent; scope = Name ts m.0; item = a_oneof (declared_head ts m.0 m.1) i name })
   from_entry : (m : ℕ × MessageView) → Stands ts m → (parent j : ℕ) (g : FieldView) (key : Kind) → IsMapField m j g key → IsFrom ts (record { file = m.1.file; parent = parent; scope = Name ts m.0; item = a_message (entry_head ts g key) no_messages })
   from_key : (m : ℕ × MessageView) → Stands ts m → (parent j : ℕ) (g : FieldView) (key : Kind) → IsMapField m j g key → IsFrom ts (record { file = m.1.file; parent = parent; scope = in_scope (Name ts m.0) (entry_name g.name); item = a_field (entry_head ts g key) 0 (entry_part ts key_name 1 key) })
@@ -48,12 +52,12 @@ each_at : {X : Type 0} (xs : List X) → AllByRecursion (λ (m : ℕ × X). slic
 each_at xs = all_numbered xs 0 xs (λ j. let e : j ≡ 0 + j = omega arith in ap (slice_get xs) e)
 
 -- the fields of a message, from an index on
-fields_from : (ts : Types) (m : ℕ × MessageView) → Stands ts m → (place k s : ℕ) (fs : List FieldView) → ((i : ℕ) → slice_get fs i ≡ slice_get m.1.fields (k + i)) → AllFrom ts (map (λ e. record { file = m.1.file; parent = place; scope = Name ts m.0; item = a_field (declared_head ts m.0 m.1) e.0 e.1 }) (enumerate_from k (declared_fields ts (Name ts m.0) s fs)))
+fields_from : (ts : Types) (m : ℕ × MessageView) → Stands ts m → (place k s : ℕ) (fs : List FieldView) → ((i : ℕ) → slice_get fs i ≡ slice_get m.1.fields (k + i)) → AllFrom ts (map (λ e. record { file = m.1.file; parent = place; scope = Name ts m.0; item = a_field (declared_head ts m.0 m.1) e.0 e.1 }) (enumerate_from k (declared_fields (Two ts m) ts (Name ts m.0) s fs)))
 fields_from ts m there place k s [] same = tt
 fields_from ts m there place k s (g ∷ fs) same =
     let zero_k : k ≡ k + 0 = omega arith in (
       from_field m there place k s g (ap (slice_get m.1.fields) zero_k ∙ sym (same 0)),
-      fields_from ts m there place (k + 1) (cond (is_optional_view g) (s + 1) s) fs (λ i. let e : k + suc i ≡ k + 1 + i = omega arith in same (suc i) ∙ ap (slice_get m.1.fields) e),
+      fields_from ts m there place (k + 1) (cond (is_optional_view (Two ts m) g) (s + 1) s) fs (λ i. let e : k + suc i ≡ k + 1 + i = omega arith in same (suc i) ∙ ap (slice_get m.1.fields) e),
     )
 
 -- the entries of a message, from an index of its fields on

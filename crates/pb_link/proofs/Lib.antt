@@ -1,5 +1,6 @@
 mod Samples
 mod Rows
+mod Proto2Rows
 pub mod FirstLemmas
 pub mod ExactLemmas
 pub mod RowLemmas
@@ -79,12 +80,14 @@ pub mod EntryUseLemmas
 pub mod NameRuleLemmas
 pub mod SilentDeclaredLemmas
 pub mod TypeRuleLemmas
+pub mod SyntaxRuleLemmas
 pub mod VerdictLemmas
 pub mod ResolvedLemmas
 pub mod ResolvedNestLemmas
 pub mod ResolvingLemmas
 pub mod TypedLemmas
 pub mod DeclaredSightLemmas
+pub mod DeclaredSyntaxLemmas
 pub mod CutLemmas
 pub mod RowCountLemmas
 pub mod DeclaredPlaces

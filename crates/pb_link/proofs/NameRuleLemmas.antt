@@ -29,7 +29,7 @@ use Rattle.pb_link.proofs.ReorderLemmas.{reordered_all, reordered_back}
 use Rattle.pb_link.proofs.DeclaredNamesLemmas.{names_of}
 use Rattle.pb_link.proofs.NamesDifferLemmas.{parts_in, all_entries, all_others, names_split}
 use Rattle.pb_link.proofs.NamesApartLemmas.{all_of_in, is_known, empty_no_entry}
-use Rattle.pb_link.proofs.FromLemmas.{IsFrom, from_file, from_message, from_field, from_oneof, from_entry, from_key, from_value, from_enum, from_enum_value, IsMapField}
+use Rattle.pb_link.proofs.FromLemmas.{Two, IsFrom, from_file, from_message, from_field, from_oneof, from_entry, from_key, from_value, from_enum, from_enum_value, IsMapField}
 use Rattle.pb_link.proofs.OneNameLemmas.{name_among, none_before}
 use Rattle.pb_link.proofs.DeclaredLookupLemmas.{world_differs}
 use Rattle.pb_link.proofs.InMessageLemmas.{from_at}
@@ -156,11 +156,11 @@ module _ (ts : Types) (pool : IsPool ts) where
   field_words : (m : ℕ × MessageView) → Stands ts m → (j : ℕ) (g : FieldView) → slice_get m.1.fields j ≡ Some g → AreWords (names_of_field g)
   field_words m there j g at = all_at (λ f. AreWords (names_of_field f)) m.1.fields j g (words_of m there).1 at
 
-  made_words : (fs : List FieldView) → AllByRecursion (λ f. AreWords (names_of_field f)) fs → AllByRecursion (λ name. is_word name ≡ true) (synthetic_names fs)
-  made_words [] all = tt
-  made_words (f ∷ fs) all = by (is_optional_view f) (made_words fs all.1)
+  made_words : (two : Bool) (fs : List FieldView) → AllByRecursion (λ f. AreWords (names_of_field f)) fs → AllByRecursion (λ name. is_word name ≡ true) (synthetic_names two fs)
+  made_words two [] all = tt
+  made_words two (f ∷ fs) all = by (is_optional_view two f) (made_words two fs all.1)
     where
-      by : (b : Bool) → AllByRecursion (λ name. is_word name ≡ true) (synthetic_names fs) → AllByRecursion (λ name. is_word name ≡ true) (map (λ (g : FieldView). 95 ∷ g.name) (if b then f ∷ filter is_optional_view fs else filter is_optional_view fs))
+      by : (b : Bool) → AllByRecursion (λ name. is_word name ≡ true) (synthetic_names two fs) → AllByRecursion (λ name. is_word name ≡ true) (map (λ (g : FieldView). 95 ∷ g.name) (if b then f ∷ filter (is_optional_view two) fs else filter (is_optional_view two) fs))
       by true rest = (line_word f.name (first_word f all.0), rest)
       by false rest = rest
 
@@ -188,7 +188,7 @@ module _ (ts : Types) (pool : IsPool ts) where
   name_right d (from_message m there p inner) = (words_of m there).0
   name_right d (from_field m there p i r g at) = first_word g (field_words m there i g at)
   name_right d (from_oneof m there p i name at) =
-      or_second (not (is_named d.item)) (is_word name) (all_at (λ n. is_word n ≡ true) (declared_head ts m.0 m.1).oneofs i name (all_append (λ n. is_word n ≡ true) m.1.oneofs (synthetic_names m.1.fields) (words_of m there).2 (made_words m.1.fields (words_of m there).1)) at)
+      or_second (not (is_named d.item)) (is_word name) (all_at (λ n. is_word n ≡ true) (declared_head ts m.0 m.1).oneofs i name (all_append (λ n. is_word n ≡ true) m.1.oneofs (synthetic_names (Two ts m) m.1.fields) (words_of m there).2 (made_words (Two ts m) m.1.fields (words_of m there).1)) at)
   name_right d (from_entry m there p j g key is) = map_word g m j key is (field_words m there j g is.there)
   name_right d (from_key m there p j g key is) = refl
   name_right d (from_value m there p j g key is) = refl

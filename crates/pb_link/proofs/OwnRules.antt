@@ -1,16 +1,15 @@
--- The rules that rest on no other declaration than the message or the enum around one: numbers, what is reserved, oneofs, packed lists,
--- first values and ranges.
+-- The rules that rest on no other declaration than the message or the enum around one, whatever file it stands in: numbers, what is reserved,
+-- the members of oneofs, packed lists and ranges.
 use Rattle.std.specs.Prelude.{◌≡◌, ℕ, true}
 use Rattle.pb_link.specs.declared.cause.LinkCause.TheVariants as cause
 use Rattle.pb_link.specs.Declarations.{Declaration}
-use Rattle.pb_link.specs.Rules.{World}
+use Rattle.pb_link.specs.Rules.{World, is_oneof_right}
 use Rattle.pb_link.specs.Link.{holds}
 
 pub record MeetsOwnRules (w : World) (place : ℕ) (d : Declaration) : Type 0 where
   pub number : holds w place d cause.BadNumber ≡ true
   pub number_is_free : holds w place d cause.NumberTaken ≡ true
   pub not_reserved : holds w place d cause.Reserved ≡ true
-  pub oneof : holds w place d cause.BadOneof ≡ true
+  pub oneof : is_oneof_right d.item ≡ true
   pub packed : holds w place d cause.BadPacked ≡ true
-  pub first_value : holds w place d cause.BadEnum ≡ true
   pub ranges : holds w place d cause.BadRange ≡ true

@@ -86,7 +86,7 @@ no_value : told (a_set [] (enum_of (codes "E") [] ∷ [])) ≡ Some (1, cause.Ba
 no_value = refl
 
 -- enum E { Z = 0; } message M { } service S { rpc r(E) returns (M); }
-enum_as_input : told (record { name = codes "m"; package_name = []; imports = []; public_indexes = []; messages = messages_of (in_message (codes "M") [] [] ∷ []); enums = enum_of (codes "E") ((codes "Z", pos 0) ∷ []) ∷ []; services = record { name = codes "S"; methods = record { name = codes "r"; input = codes "E"; output = codes "M"; client_streams = false; server_streams = false } ∷ [] } ∷ [] } ∷ []) ≡ Some (5, cause.KindMismatch)
+enum_as_input : told (record { name = codes "m"; package_name = []; imports = []; public_indexes = []; messages = messages_of (in_message (codes "M") [] [] ∷ []); enums = enum_of (codes "E") ((codes "Z", pos 0) ∷ []) ∷ []; services = record { name = codes "S"; methods = record { name = codes "r"; input = codes "E"; output = codes "M"; client_streams = false; server_streams = false } ∷ [] } ∷ []; is_proto2 = false } ∷ []) ≡ Some (5, cause.KindMismatch)
 enum_as_input = refl
 
 -- message M { reserved 5 to 4; }
@@ -120,9 +120,9 @@ no_further_scope = refl
 -- a: import "b"; message A { C f = 1; }, b: import "c", publicly or not, c: message C { }
 abbrev three_files : List ℤ → List DeclaredFile
 three_files shown =
-    record { name = codes "a"; package_name = []; imports = codes "b" ∷ []; public_indexes = []; messages = messages_of (in_message (codes "A") (typed (codes "C") (codes "f") 1 ∷ []) [] ∷ []); enums = []; services = [] }
-    ∷ record { name = codes "b"; package_name = []; imports = codes "c" ∷ []; public_indexes = shown; messages = no_messages; enums = []; services = [] }
-    ∷ record { name = codes "c"; package_name = []; imports = []; public_indexes = []; messages = messages_of (in_message (codes "C") [] [] ∷ []); enums = []; services = [] }
+    record { name = codes "a"; package_name = []; imports = codes "b" ∷ []; public_indexes = []; messages = messages_of (in_message (codes "A") (typed (codes "C") (codes "f") 1 ∷ []) [] ∷ []); enums = []; services = []; is_proto2 = false }
+    ∷ record { name = codes "b"; package_name = []; imports = codes "c" ∷ []; public_indexes = shown; messages = no_messages; enums = []; services = []; is_proto2 = false }
+    ∷ record { name = codes "c"; package_name = []; imports = []; public_indexes = []; messages = messages_of (in_message (codes "C") [] [] ∷ []); enums = []; services = []; is_proto2 = false }
     ∷ []
 
 -- what a sees: itself and b
@@ -144,7 +144,7 @@ optional_links = refl
 
 -- the pool of message M { int32 a = 1; optional int32 b = 2; }, with its synthetic oneof left out
 pool_of_optional : pool_of with_optional (alone with_optional) ≡ record {
-  files = record { name = codes "m"; package_name = []; imports = [] } ∷ [];
+  files = record { name = codes "m"; package_name = []; imports = []; proto2 = false } ∷ [];
   messages = record { name = codes "M"; file = 0; parent = None; fields = record { name = codes "a"; number = 1; kind = kind.Int32; shape = shape.Implicit } ∷ record { name = codes "b"; number = 2; kind = kind.Int32; shape = shape.Explicit } ∷ []; oneofs = [] } ∷ [];
   enums = [];
 }
@@ -152,7 +152,7 @@ pool_of_optional = refl
 
 -- and of the map field
 pool_of_map : pool_of (map_set (codes "a") (codes "key") (codes "value")) (alone (map_set (codes "a") (codes "key") (codes "value"))) ≡ record {
-  files = record { name = codes "m"; package_name = []; imports = [] } ∷ [];
+  files = record { name = codes "m"; package_name = []; imports = []; proto2 = false } ∷ [];
   messages = record { name = codes "M"; file = 0; parent = None; fields = record { name = codes "a"; number = 1; kind = kind.Int32; shape = shape.Map kind.Text } ∷ []; oneofs = [] } ∷ [];
   enums = [];
 }
@@ -210,7 +210,7 @@ method_as_type = refl
 -- A pool, its declarations, and the pool that they make: a map, an optional field, an unpacked list, a oneof, a nested message with an enum, an alias
 abbrev some_types : Types
 some_types = record {
-  files = record { name = codes "t"; package_name = codes "p"; imports = [] } ∷ [];
+  files = record { name = codes "t"; package_name = codes "p"; imports = []; proto2 = false } ∷ [];
   messages =
       record {
         name = codes "T";

@@ -1,19 +1,20 @@
 -- The shape of a declared field of a pool is the field's own, and so are the oneofs of a declared message.
-use Rattle.std.proofs.Common.{◌≡◌, ℕ, zero, suc, ◌+◌, ◌<◌, List, [], ◌∷◌, ◌++◌, Bool, true, false, not, cond, ◌&&◌, map, length, refl, sym, ap, ◌∙◌, arith, Some, None, length-append}
-use Rattle.std.specs.Prelude.{filter, slice_get}
+use Rattle.std.proofs.Common.{◌≡◌, ℕ, zero, suc, ◌+◌, ◌<◌, List, [], ◌∷◌, ◌++◌, Bool, true, false, not, cond, ◌&&◌, map, length, refl, sym, ap, ◌∙◌, arith, Option, Some, None, length-append}
+use Rattle.std.specs.Prelude.{filter, slice_get, if◌then◌else◌}
 use Rattle.std.specs.List.{enumerate_from}
 use Rattle.std.specs.Option.{option_map_or}
+use Rattle.std.proofs.lemmas.Bool.{false≢true}
 use Rattle.pb_schema.specs.declared.types.Kind.{Kind}
 use Rattle.pb_schema.specs.declared.types.Kind.TheVariants as kind
 use Rattle.pb_schema.specs.declared.types.Shape.{Shape}
 use Rattle.pb_schema.specs.declared.types.Shape.TheVariants as shape
 use Rattle.pb_schema.specs.Kinds.{is_packable}
-use Rattle.pb_schema.specs.Types.{MessageView, Types}
-use Rattle.pb_schema.specs.Rules.{IsPool, MayBePacked, MayBeImplicit}
+use Rattle.pb_schema.specs.Types.{MessageView, Types, is_proto2}
+use Rattle.pb_schema.specs.Rules.{IsPool, MayBePacked, MayBeImplicit, MayStandIn}
 use Rattle.pb_descr.specs.Decls.{DeclaredField}
 use Rattle.pb_link.specs.Declarations.{is_synthetic}
 use Rattle.pb_link.specs.PoolOf.{list_shape, singular_shape, real_oneofs}
-use Rattle.pb_link.specs.ToDecls.{declared_field, declared_head, synthetic_names}
+use Rattle.pb_link.specs.ToDecls.{packed_of_list, declared_field, declared_head, synthetic_names}
 use Rattle.pb_link.proofs.FlatLemmas.{Stands}
 use Rattle.pb_link.proofs.DeclaredOneofLemmas.{real_oneof, made_oneof}
 
@@ -27,73 +28,96 @@ IsNoMap shape.Explicit = Unit {0}
 IsNoMap (shape.OneofMember o) = Unit {0}
 IsNoMap (shape.List packed) = Unit {0}
 
-abbrev pub shape_made : Kind → DeclaredField → Shape
-shape_made k f = cond f.is_repeated (list_shape k f) (singular_shape k f)
+abbrev pub shape_made : Bool → Kind → DeclaredField → Shape
+shape_made two k f = cond f.is_repeated (list_shape two k f) (singular_shape two k f)
 
-packed_list : (packed b : Bool) → (packed ≡ true → b ≡ true) → (b && option_map_or (λ (x : Bool). x) (cond (b && not packed) (Some false) None) true) ≡ packed
-packed_list true true may = refl
-packed_list true false may = may refl
-packed_list false true may = refl
-packed_list false false may = refl
+-- what a list says of being packed, by whether its kind is packable
+abbrev said : Bool → Bool → Bool → Option Bool
+said true packed b = if packed then Some true else None
+said false packed b = if b && not packed then Some false else None
 
-module _ (ts : Types) (scope : List ℕ) (r : ℕ) where
+-- in a file of proto2 a packed list says so, and in one of proto3 an unpacked one of a packable kind
+packed_list : (two packed b : Bool) → (packed ≡ true → b ≡ true) → (b && option_map_or (λ (x : Bool). x) (said two packed b) (not two)) ≡ packed
+packed_list true true b may = ap (λ x. x && true) (may refl)
+packed_list true false true may = refl
+packed_list true false false may = refl
+packed_list false true true may = refl
+packed_list false true false may = may refl
+packed_list false false true may = refl
+packed_list false false false may = refl
+
+module _ (two : Bool) (ts : Types) (scope : List ℕ) (r : ℕ) where
   abbrev Made : List ℕ → ℕ → Kind → Shape → Shape
-  Made name number k s = shape_made k (declared_field ts scope r (record { name = name; number = number; kind = k; shape = s }))
+  Made name number k s = shape_made two k (declared_field two ts scope r (record { name = name; number = number; kind = k; shape = s }))
 
   list_again : (name : List ℕ) (number : ℕ) (packed : Bool) (k : Kind) → MayBePacked (shape.List packed) k → Made name number k (shape.List packed) ≡ shape.List packed
-  list_again name number packed k may = ap shape.List (packed_list packed (is_packable k) (by packed may))
+  list_again name number packed k may = ap (λ o. shape.List (is_packable k && option_map_or (λ (x : Bool). x) o (not two))) (same two) ∙ ap shape.List (packed_list two packed (is_packable k) (by packed may))
     where
+      same : (t : Bool) → packed_of_list t packed k ≡ said t packed (is_packable k)
+      same true = refl
+      same false = refl
+
       by : (b : Bool) → MayBePacked (shape.List b) k → b ≡ true → is_packable k ≡ true
       by true h e = h
-      by false h e = absurd (false_true e)
-        where
-          false_true : ◌≡◌ {A = Bool} false true → ⊥
-          false_true e = cc
+      by false h e = absurd (false≢true e)
 
-  explicit_again : (name : List ℕ) (number : ℕ) (k : Kind) → Made name number k shape.Explicit ≡ shape.Explicit
-  explicit_again name number (kind.Message m) = refl
-  explicit_again name number (kind.Enum e) = refl
-  explicit_again name number kind.Double = refl
-  explicit_again name number kind.Float = refl
-  explicit_again name number kind.Int64 = refl
-  explicit_again name number kind.Uint64 = refl
-  explicit_again name number kind.Int32 = refl
-  explicit_again name number kind.Fixed64 = refl
-  explicit_again name number kind.Fixed32 = refl
-  explicit_again name number kind.Bool = refl
-  explicit_again name number kind.Text = refl
-  explicit_again name number kind.Bytes = refl
-  explicit_again name number kind.Uint32 = refl
-  explicit_again name number kind.Sfixed32 = refl
-  explicit_again name number kind.Sfixed64 = refl
-  explicit_again name number kind.Sint32 = refl
-  explicit_again name number kind.Sint64 = refl
+  -- without a oneof and a mark a field is Explicit in a file of proto2, and by its kind in one of proto3
+  explicit_again : (name : List ℕ) (number : ℕ) (k : Kind) → MayStandIn two shape.Explicit k → Made name number k shape.Explicit ≡ shape.Explicit
+  explicit_again name number k may = by two k may
+    where
+      by : (t : Bool) (k : Kind) → MayStandIn t shape.Explicit k → shape_made t k (declared_field t ts scope r (record { name = name; number = number; kind = k; shape = shape.Explicit })) ≡ shape.Explicit
+      by true k may = refl
+      by false (kind.Message m) may = refl
+      by false (kind.Group m) may = refl
+      by false (kind.Enum e) may = refl
+      by false (kind.ClosedEnum e) may = refl
+      by false kind.Double may = refl
+      by false kind.Float may = refl
+      by false kind.Int64 may = refl
+      by false kind.Uint64 may = refl
+      by false kind.Int32 may = refl
+      by false kind.Fixed64 may = refl
+      by false kind.Fixed32 may = refl
+      by false kind.Bool may = refl
+      by false kind.Text may = refl
+      by false kind.Bytes may = refl
+      by false kind.Uint32 may = refl
+      by false kind.Sfixed32 may = refl
+      by false kind.Sfixed64 may = refl
+      by false kind.Sint32 may = refl
+      by false kind.Sint64 may = refl
 
-  implicit_again : (name : List ℕ) (number : ℕ) (k : Kind) → MayBeImplicit shape.Implicit k → Made name number k shape.Implicit ≡ shape.Implicit
-  implicit_again name number (kind.Message m) may = absurd may
-  implicit_again name number (kind.Enum e) may = refl
-  implicit_again name number kind.Double may = refl
-  implicit_again name number kind.Float may = refl
-  implicit_again name number kind.Int64 may = refl
-  implicit_again name number kind.Uint64 may = refl
-  implicit_again name number kind.Int32 may = refl
-  implicit_again name number kind.Fixed64 may = refl
-  implicit_again name number kind.Fixed32 may = refl
-  implicit_again name number kind.Bool may = refl
-  implicit_again name number kind.Text may = refl
-  implicit_again name number kind.Bytes may = refl
-  implicit_again name number kind.Uint32 may = refl
-  implicit_again name number kind.Sfixed32 may = refl
-  implicit_again name number kind.Sfixed64 may = refl
-  implicit_again name number kind.Sint32 may = refl
-  implicit_again name number kind.Sint64 may = refl
+  implicit_again : (name : List ℕ) (number : ℕ) (k : Kind) → MayBeImplicit shape.Implicit k → MayStandIn two shape.Implicit k → Made name number k shape.Implicit ≡ shape.Implicit
+  implicit_again name number k scalar may = by two k scalar may
+    where
+      by : (t : Bool) (k : Kind) → MayBeImplicit shape.Implicit k → MayStandIn t shape.Implicit k → shape_made t k (declared_field t ts scope r (record { name = name; number = number; kind = k; shape = shape.Implicit })) ≡ shape.Implicit
+      by true k scalar may = absurd may
+      by false (kind.Message m) scalar may = absurd scalar
+      by false (kind.Group m) scalar may = absurd scalar
+      by false (kind.Enum e) scalar may = refl
+      by false (kind.ClosedEnum e) scalar may = refl
+      by false kind.Double scalar may = refl
+      by false kind.Float scalar may = refl
+      by false kind.Int64 scalar may = refl
+      by false kind.Uint64 scalar may = refl
+      by false kind.Int32 scalar may = refl
+      by false kind.Fixed64 scalar may = refl
+      by false kind.Fixed32 scalar may = refl
+      by false kind.Bool scalar may = refl
+      by false kind.Text scalar may = refl
+      by false kind.Bytes scalar may = refl
+      by false kind.Uint32 scalar may = refl
+      by false kind.Sfixed32 scalar may = refl
+      by false kind.Sfixed64 scalar may = refl
+      by false kind.Sint32 scalar may = refl
+      by false kind.Sint64 scalar may = refl
 
-  pub shape_again : (name : List ℕ) (number : ℕ) (k : Kind) (s : Shape) → IsNoMap s → MayBePacked s k → MayBeImplicit s k → Made name number k s ≡ s
-  shape_again name number k (shape.Map key) plain packed implicit = absurd plain
-  shape_again name number k (shape.List b) plain packed implicit = list_again name number b k packed
-  shape_again name number k shape.Explicit plain packed implicit = explicit_again name number k
-  shape_again name number k shape.Implicit plain packed implicit = implicit_again name number k implicit
-  shape_again name number k (shape.OneofMember o) plain packed implicit = refl
+  pub shape_again : (name : List ℕ) (number : ℕ) (k : Kind) (s : Shape) → IsNoMap s → MayBePacked s k → MayBeImplicit s k → MayStandIn two s k → Made name number k s ≡ s
+  shape_again name number k (shape.Map key) plain packed implicit may = absurd plain
+  shape_again name number k (shape.List b) plain packed implicit may = list_again name number b k packed
+  shape_again name number k shape.Explicit plain packed implicit may = explicit_again name number k may
+  shape_again name number k shape.Implicit plain packed implicit may = implicit_again name number k implicit may
+  shape_again name number k (shape.OneofMember o) plain packed implicit may = refl
 
 -- ONEOFS
 
@@ -125,9 +149,10 @@ get_less (y ∷ xs) (suc i) x h = let rest = get_less xs i x h in omega (arith, 
 pub oneofs_again : (ts : Types) → IsPool ts → (m : ℕ × MessageView) → Stands ts m → real_oneofs (declared_head ts m.0 m.1) ≡ m.1.oneofs
 oneofs_again ts pool m there =
     let head = declared_head ts m.0 m.1 in
-    first_kept (λ e. not (is_synthetic head e.0)) 0 m.1.oneofs (synthetic_names m.1.fields)
+    let names = synthetic_names (is_proto2 ts.files m.1.file) m.1.fields in
+    first_kept (λ e. not (is_synthetic head e.0)) 0 m.1.oneofs names
     (λ i x at. let less = get_less m.1.oneofs i x at in let e : 0 + i ≡ i = omega arith in ap (λ n. not (is_synthetic head n)) e ∙ ap not (real_oneof ts pool m there i less))
     (λ i y at.
-    let less = get_less (synthetic_names m.1.fields) i y at in
-    let size = length-append m.1.oneofs (synthetic_names m.1.fields) in
+    let less = get_less names i y at in
+    let size = length-append m.1.oneofs names in
     ap not (made_oneof ts pool m there (0 + length m.1.oneofs + i) (omega arith) (omega (arith, less, size))))

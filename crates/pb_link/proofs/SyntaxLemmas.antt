@@ -1,5 +1,5 @@
 -- Where no rule fails, what stands in a file goes with the file's syntax: groups and closed enums in files of proto2 alone.
-use Rattle.std.proofs.Common.{◌≡◌, ℕ, ℤ, pos, negsuc, ◌+◌, List, [], ◌∷◌, Bool, true, false, not, ◌&&◌, ◌||◌, ◌==◌, refl, sym, ap, ◌∙◌, subst, arith, Option, Some, None, IfSome}
+use Rattle.std.proofs.Common.{◌≡◌, ℕ, ℤ, pos, negsuc, ◌+◌, List, Bool, true, false, not, ◌&&◌, ◌||◌, ◌==◌, refl, sym, ap, ◌∙◌, subst, arith, Option, Some, None, IfSome}
 use Rattle.std.specs.Prelude.{slice_get, if◌then◌else◌, option_and_then}
 use Rattle.std.specs.List.{list_all, AllByRecursion}
 use Rattle.std.specs.Option.{option_map_or}
@@ -7,7 +7,6 @@ use Rattle.std.proofs.lemmas.Bool.{false≢true}
 use Rattle.std.proofs.lemmas.Bool.Decides.{nat_tests}
 use Rattle.pb_schema.specs.declared.types.Kind.{Kind}
 use Rattle.pb_schema.specs.declared.types.Kind.TheVariants as kind
-use Rattle.pb_schema.specs.declared.types.Shape.{Shape}
 use Rattle.pb_schema.specs.declared.types.Shape.TheVariants as shape
 use Rattle.pb_schema.specs.Kinds.{is_of_proto2}
 use Rattle.pb_schema.specs.Names.{in_scope}
@@ -18,15 +17,15 @@ use Rattle.pb_descr.specs.Decls.{DeclaredField, MessageHead, DeclaredFile}
 use Rattle.pb_link.specs.declared.cause.LinkCause.TheVariants as cause
 use Rattle.pb_link.specs.Declarations.{Item, a_message, a_field, an_enum, Declaration, simple_name}
 use Rattle.pb_link.specs.Lookup.{Found, found, not_found, not_visible, not_a_type, looked_up}
-use Rattle.pb_link.specs.Rules.{World, is_two, is_group, is_open, is_enum_right, is_type_right, is_field, is_message, place_found, passes_declared, lookups, lookups_if, is_type_by, key_name}
+use Rattle.pb_link.specs.Rules.{World, is_two, is_group, is_open, is_field, place_found, passes_declared, lookups, lookups_if, is_type_by, key_name}
 use Rattle.pb_schema.specs.Types.{FieldView, EnumView, is_proto2}
 use Rattle.pb_link.specs.Sees.{files_of}
 use Rattle.pb_link.proofs.FieldLemmas.{same_syntax}
 use Rattle.pb_link.specs.Link.{NothingFails, IsWorldOf}
 use Rattle.pb_link.specs.PoolOf.{kind_of_code, kind_by_item, kind_declared, kind_at, kind_by_place, kind_of_field, enum_kind, enum_index, grouped, part_named, entry_of, field_by_entry, list_shape, singular_shape, pool_of, field_type, type_place, group_of}
 use Rattle.pb_link.specs.Rules.{value_name}
-use Rattle.pb_link.proofs.TypeLemmas.{and_left, and_right, place_holds, field_there, each_field, each_message, all_mapped}
-use Rattle.pb_link.proofs.EntryLemmas.{UsesEntry, entry_used, HasParts, right_entry}
+use Rattle.pb_link.proofs.TypeLemmas.{and_left, place_holds, field_there, each_field, each_message, all_mapped}
+use Rattle.pb_link.proofs.EntryLemmas.{entry_used, right_entry}
 use Rattle.pb_link.proofs.KindLemmas.{same_file, enum_there}
 
 -- A KIND THAT MAY STAND IN FILES OF PROTO3

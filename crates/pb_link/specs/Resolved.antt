@@ -77,7 +77,6 @@ abbrev pub resolved_file : World → ℕ → DeclaredFile → DeclaredFile
 resolved_file w file f = record f {
   messages = resolved_messages w file f.package_name f.messages;
   services = map (resolved_service w file f.package_name) f.services;
-  is_proto2 = f.is_proto2;
 }
 
 -- all files, each at its index

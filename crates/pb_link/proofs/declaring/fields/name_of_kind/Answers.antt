@@ -6,3 +6,10 @@ dotted-requires c = message_name_ascii c.args.pool.now c.requires.pool c.in-Mess
 
 pub dotted-requires-in-Enum : goal.dotted-requires-in-Enum
 dotted-requires-in-Enum c = enum_name_ascii c.args.pool.now c.requires.pool c.in-Enum.id.0 c.enum_name.result.now c.enum_name.ensures.found
+
+pub dotted-requires-in-Group : goal.dotted-requires-in-Group
+dotted-requires-in-Group c = message_name_ascii c.args.pool.now c.requires.pool c.in-Group.id.0 c.message_name-in-Group.result.now c.message_name-in-Group.ensures.found
+
+pub dotted-requires-in-ClosedEnum : goal.dotted-requires-in-ClosedEnum
+dotted-requires-in-ClosedEnum c =
+    enum_name_ascii c.args.pool.now c.requires.pool c.in-ClosedEnum.id.0 c.enum_name-in-ClosedEnum.result.now c.enum_name-in-ClosedEnum.ensures.found
