@@ -1,8 +1,10 @@
 #!/usr/bin/env python3
-"""Writes texts of the type in messages.proto, the same each time: make_texts.py MEGABYTES FOLDER.
+"""Writes texts of the types in messages.proto and old.proto, the same each time, and wide.proto, whose enum is large:
+make_texts.py MEGABYTES FOLDER.
 
-Each text is the canonical bytes of its message: fields by rising number, map entries by rising key, the shortest spelling of each
-record. So what a codec encodes again is the text itself."""
+Each text in the folders Texts and Old, named as its type, is the canonical bytes of its message: fields by rising number, map entries by
+rising key, the shortest spelling of each record. So what a codec encodes again is the text itself. Not so the texts in the folder
+Old.decode, which have undeclared numbers of closed enums inside runs of declared ones."""
 import os
 import sys
 
@@ -93,6 +95,42 @@ def repeat(i):
     return tag(170, 0) + varint(mixed(i) % 2**14)
 
 
+def group(i):
+    """The same as `small`, in groups."""
+    return tag(1, 3) + item(i) + tag(1, 4)
+
+
+def inner_groups(i, levels):
+    """Groups inside messages inside groups, each group with a few numbers."""
+    inside = b""
+    for level in range(levels):
+        numbers = length_delimited(1, varint(level) + varint(1 + mixed(i) % 1000))
+        inside = tag(2, 3) + numbers + (length_delimited(2, inside) if level else b"") + tag(2, 4)
+    return inside
+
+
+# The closed enum with many values: how many, and their numbers, which have gaps and do not rise.
+WIDE = 100_000
+
+
+def wide_number(i):
+    return i * 7919 % WIDE * 7
+
+
+def wide(count, gap=0):
+    """Numbers of Wide, and where a gap is told a number that it does not declare at each one of so many."""
+    return b"".join(varint(wide_number(mixed(i) % WIDE) + (1 if gap and i % gap == 0 else 0)) for i in range(count))
+
+
+def few(count, gap=0):
+    return b"".join(varint(9 if gap and i % gap == 0 else mixed(i) % 5) for i in range(count))
+
+
+def wide_proto():
+    values = "".join(f"  V{i} = {wide_number(i)};\n" for i in range(WIDE))
+    return 'syntax = "proto2";\n\nenum Wide {\n%s}\n' % values
+
+
 def until(size, part):
     """Parts until there are so many bytes."""
     out = bytearray()
@@ -104,19 +142,34 @@ def until(size, part):
 
 
 def main():
-    size = int(float(sys.argv[1]) * 1_000_000)
+    size, folder = int(float(sys.argv[1]) * 1_000_000), sys.argv[2]
+    # A million elements for ten megabytes, of up to three bytes each.
+    count = size // 10
     texts = {
-        "small": lambda: until(size, small),
-        "strings": lambda: until(size // 2, long) + until(size // 2, blob),
-        "packed": lambda: length_delimited(4, until(size // 3, packed)) + length_delimited(5, until(size // 3, change)) + length_delimited(6, until(size // 3, place)),
-        "maps": lambda: until(size // 2, counted) + until(size // 2, entry),
-        "nests": lambda: until(size, lambda i: nest(i, 90)),
-        "unknown": lambda: until(size, unknown),
-        "repeats": lambda: length_delimited(11, until(size, repeat)),
+        "Texts/small": lambda: until(size, small),
+        "Texts/strings": lambda: until(size // 2, long) + until(size // 2, blob),
+        "Texts/packed": lambda: b"".join(length_delimited(4 + k, until(size // 3, part)) for k, part in enumerate((packed, change, place))),
+        "Texts/maps": lambda: until(size // 2, counted) + until(size // 2, entry),
+        "Texts/nests": lambda: until(size, lambda i: nest(i, 90)),
+        "Texts/unknown": lambda: until(size, unknown),
+        "Texts/repeats": lambda: length_delimited(11, until(size, repeat)),
+        # Open enums, to compare closed ones with: the elements of both are the same.
+        "Texts/open": lambda: length_delimited(12, wide(count)),
+        "Texts/openfew": lambda: length_delimited(12, few(count)),
+        "Old/groups": lambda: until(size, group),
+        "Old/inner": lambda: until(size, lambda i: inner_groups(i, 45)),
+        "Old/closed": lambda: length_delimited(3, wide(count)),
+        "Old/few": lambda: length_delimited(4, few(count)),
+        "Old.decode/gaps": lambda: length_delimited(3, wide(count, 10)),
+        "Old.decode/fewgaps": lambda: length_delimited(4, few(count, 10)),
+        "Old.decode/allgaps": lambda: length_delimited(4, few(count, 1)),
     }
     for name, text in texts.items():
-        with open(os.path.join(sys.argv[2], name), "wb") as out:
+        os.makedirs(os.path.dirname(os.path.join(folder, name)), exist_ok=True)
+        with open(os.path.join(folder, name), "wb") as out:
             out.write(text())
+    with open(os.path.join(folder, "wide.proto"), "w") as out:
+        out.write(wide_proto())
 
 
 main()
