@@ -8,6 +8,8 @@ mod declarations;
 #[cfg(test)]
 mod hostile;
 #[cfg(test)]
+mod kinds;
+#[cfg(test)]
 mod parts;
 #[cfg(test)]
 mod resolved;
