@@ -15,3 +15,5 @@ mod parts;
 mod resolved;
 #[cfg(test)]
 mod rows;
+#[cfg(test)]
+mod sources;
