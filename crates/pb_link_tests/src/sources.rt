@@ -1,9 +1,9 @@
 //! Sources of proto3 that import a file of proto2, which a set holds.
 
-use super::rows::files_answer;
-use pb_descr::{FileDecl, read_set};
+use super::rows::{files_answer, files_of};
+use pb_descr::FileDecl;
 use pb_source::{SourceFault, parse};
-use std::alloc::{AllocError, Global};
+use std::alloc::Global;
 use std::test::Fail;
 
 /// What `protoc` writes of q.proto, which is of proto2: enum E { ONE = 1; TWO = 2; }
@@ -33,22 +33,21 @@ fn parsed(alloc: Global, source: &str) -> Result<FileDecl, SourceFault> {
 }
 
 /// The files of the set, and behind them that of a source.
-fn files_with(alloc: Global, set: &[u8], source: &str) -> Result<Vec<FileDecl>, Fail> {
-    let mut files = read_set(alloc, set)?;
+fn files_with(alloc: Global, source: &str) -> Result<Vec<FileDecl>, Fail> {
+    let mut files = files_of(alloc, SET)?;
     files.push(parsed(alloc, source)?)?;
     Ok(files)
 }
 
-fn source_of(alloc: Global, written: &str) -> Result<String, AllocError> {
-    format!(in alloc; "syntax = \"proto3\"; import \"q.proto\"; {written}")
+fn source_answers(alloc: Global, source: &str, wanted: &str) -> Result<bool, Fail> {
+    let files = files_with(alloc, source)?;
+    Ok(files_answer(alloc, &files, wanted)?)
 }
 
 fn is_told(alloc: Global, row: &str) -> Result<bool, Fail> {
     let (written, wanted) = row.split_once(" => ").ok_or("no answer")?;
-    let set = hex::decode(alloc, SET)?;
-    let source = source_of(alloc, written)?;
-    let files = files_with(alloc, &set, &source)?;
-    Ok(files_answer(alloc, &files, wanted)?)
+    let source = format!(in alloc; "syntax = \"proto3\"; import \"q.proto\"; {written}")?;
+    source_answers(alloc, source.as_str(), wanted)
 }
 
 #[test]
