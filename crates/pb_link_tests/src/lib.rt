@@ -8,8 +8,12 @@ mod declarations;
 #[cfg(test)]
 mod hostile;
 #[cfg(test)]
+mod kinds;
+#[cfg(test)]
 mod parts;
 #[cfg(test)]
 mod resolved;
 #[cfg(test)]
 mod rows;
+#[cfg(test)]
+mod sources;

@@ -1,5 +1,5 @@
 -- The listing of a message by its pool: the fields by rising number, the elements of a list and the entries of a map each by themselves, a
--- message between two lines, and behind the fields the records that fit none.
+-- message or a group between two lines, and behind the fields the unknown records.
 use Rattle.std.specs.Prelude.{ℕ, ℤ, suc, List, [], ◌∷◌, ◌++◌, Bool, true, false, ◌==◌, ◌||◌, nat_lt, unwrap_or, codes, decimal, if◌then◌else◌}
 use Rattle.std.specs.Fmt.{signed_decimal}
 use Rattle.std.specs.Int.{to_be_bytes, w32, w64}
@@ -85,7 +85,7 @@ bracketed key = codes "[" ++ scalar_text [] key ++ codes "]"
 
 -- LINES
 
--- the lines of the records that fit no field, with a mark before the first of each
+-- the lines of unknown records, with a mark before the first of each
 abbrev pub unknown_lines : ℕ → List Record → List ℕ
 unknown_lines level [] = []
 unknown_lines level (r ∷ rs) = record_lines (codes "? ") level r.number r.payload ++ unknown_lines level rs

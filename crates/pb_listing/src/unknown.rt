@@ -1,4 +1,4 @@
-//! The listing of the records of a message that fit no field.
+//! The listing of the unknown records of a message.
 
 ghost use Rattle.std.specs.Prelude.{◌≡◌, ◌+◌, ◌≤◌, [], length};
 ghost use Rattle.pb_wire.specs.Record.{depth, group_depth, group_of, records_depth};
@@ -12,7 +12,7 @@ use crate::records::DEEPEST;
 use pb_wire::{DeviceFault, Output, Unknown};
 
 impl<O: Output> Buffered<'_, O> {
-    /// The lines of the records that fit no field, with a mark before the first of each.
+    /// The lines of unknown records, with a mark before the first of each.
     pub(crate) fn put_unknown(
         &mut self,
         level: usize,

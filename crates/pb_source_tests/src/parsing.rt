@@ -15,6 +15,7 @@ message M { int32 a = 010; } => 0a210a076d2e70726f746f220e0a014d12090a0161180820
 message M { int32 a = 0x1F; } => 0a210a076d2e70726f746f220e0a014d12090a0161181f20012805620670726f746f33
 message M { int32 message = 1; } => 0a270a076d2e70726f746f22140a014d120f0a076d657373616765180120012805620670726f746f33
 message M { map<string, int32> my_map = 9; } => 0a630a076d2e70726f746f22500a014d121d0a066d795f6d617018092003280b320d2e4d2e4d794d6170456e7472791a2c0a0a4d794d6170456e747279120b0a036b6579180120012809120d0a0576616c75651802200128053a023801620670726f746f33
+message M { group g = 1; } => 0a260a076d2e70726f746f22130a014d120e0a016718012001320567726f7570620670726f746f33
 import 'a'; import public 'b' \"c\"; import weak 'd'; package p.q; import public 'e'; => 0a270a076d2e70726f746f1203702e711a01611a0262631a01641a016550015003620670726f746f33
 package p; message M { message N { map<int64, .x.Y> m = 1; } map n = 2; map.o r = 3; } => 0a84010a076d2e70726f746f120170226e0a014d120c0a016e1802200132036d6170120e0a01721803200132056d61702e6f1a4b0a014e12180a016d18012003280b320d2e702e4d2e4e2e4d456e7472791a2c0a064d456e747279120b0a036b657918012001280312110a0576616c75651802200132042e782e593a023801620670726f746f33
 message M { repeated double d = 1 [packed = false, x.y = -1, packed = true]; oneof o { option a = 'b'; M m = 2; ; bytes b = 3; } optional string s = 4; oneof p { int32.x i = 5; } } => 0a740a076d2e70726f746f22610a014d120d0a016418012003280142021001120c0a016d1802200132014d4800120b0a016218032001280c4800120e0a0173180420012809480288010112120a0169180520013207696e7433322e78480142030a016f42030a017042040a025f73620670726f746f33
@@ -22,6 +23,7 @@ message M { reserved 5, 7 to 9, 10 to max; reserved 'a', \"b\" 'c'; enum E { A =
 enum E { option allow_alias = false; A = 0; B = -2147483648 [x = 1, y.z = +inf]; ; option allow_alias = true; reserved -4 to -2, 7 to max; reserved 'q'; option z = 'r' 's'; C = 0; } => 0a5d0a076d2e70726f746f2a4a0a014512050a01411000120e0a01421080808080f8ffffffff0112050a014310001a021001221608fcffffffffffffffff0110feffffffffffffffff012208080710ffffffff072a0171620670726f746f33
 service S { rpc A (stream stream) returns (.a.b); option x = 1; rpc B (c) returns (stream .stream) { option y = z; ; } ; } => 0a3e0a076d2e70726f746f322b0a015312130a0141120673747265616d1a042e612e62280112110a01421201631a072e73747265616d3001620670726f746f33
 message M { required int32 a = 1; } => 31 Unexpected
+message M { optional group G = 1 { } } => 52 Unexpected
 message M { int32 a = 1 [(x) = 1]; } => 44 CustomOption
 message M { int32 a = 2147483648; } => 41 NumberTooLarge
 message M { int32 a = 99999999999999999999999; } => 41 NumberTooLarge
@@ -92,6 +94,11 @@ const WHOLE: &[(&[u8], &str)] = &[
     (b"/**/", "4 NotProto3"),
     (b"; syntax = \"proto3\";", "0 NotProto3"),
     (b"syntax = \"proto2\";", "9 NotProto3"),
+    (b"syntax = \"\";", "9 NotProto3"),
+    (
+        b"syntax = \"proto2\"; message M { optional group G = 1 { } }",
+        "9 NotProto3",
+    ),
     (b"syntax = \"proto3\"", "17 Unexpected"),
     (
         b"\xef\xbb\xbfsyntax = \"proto3\"; message M { required int32 a = 1; }",

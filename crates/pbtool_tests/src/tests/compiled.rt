@@ -127,6 +127,15 @@ const ROWS: &[Row] = &[
         &["a.proto", "c.proto"],
         Told::Refused(1, "source b.proto byte 0 cause NotProto3\n"),
     ),
+    // Sources are of proto3, also those that are imported.
+    Row(
+        &[
+            ("ROOT/a.proto", "syntax = \"proto3\"; import \"b.proto\";"),
+            ("ROOT/b.proto", "syntax = \"proto2\";"),
+        ],
+        &["a.proto"],
+        Told::Refused(1, "source b.proto byte 9 cause NotProto3\n"),
+    ),
     Row(
         &[
             ("ROOT/a.proto", "syntax = \"proto3\"; import \"b.proto\"; ?"),

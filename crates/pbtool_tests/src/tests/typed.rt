@@ -1,4 +1,4 @@
-//! The commands that read messages by a type. The sets T, F and M are what protoc writes of these files; what is told is worked out
+//! The commands that read messages by a type. The sets T, F, M, Q and R are what protoc writes of these files; what is told is worked out
 //! by the rules of messages, of their canonical form and of listings.
 
 use super::{Failures, NONE, Run, after, files_of, run_words};
@@ -23,6 +23,22 @@ const F: &str =
 
 /// message M { int32 a = 1; }
 const M: &str = "0a240a076d2e70726f746f22110a014d120c0a0161180120012805520161620670726f746f33";
+
+/// Of proto2: enum E { ONE = 1; TWO = 2; }
+/// message Q {
+///   optional int32 a = 1; repeated int32 e = 2; optional group G = 3 { optional int32 x = 1; } optional E k = 4;
+///   repeated E l = 5 [packed = true];
+/// }
+const Q: &str =
+    "0a90010a07712e70726f746f226e0a0151120c0a0161180120012805520161120c0a016518022003280552016512120a016718032001280a32042e512e4752016712100a016b18042001280e32022e4552016b12140a016c18052003280e32022e454202100152016c1a110a0147120c0a01781801200128055201782a150a014512070a034f4e45100112070a0354574f1002";
+
+/// Of proto2: message R {
+///   repeated group L = 1 { optional int32 x = 1; } oneof o { group H = 2 { optional R r = 1; } int32 n = 3; }
+///   map<int32, R> m = 4; repeated sint32 p = 5 [packed = false]; repeated fixed32 f = 6 [packed = true]; optional string s = 7;
+///   optional R r = 8;
+/// }
+const R: &str =
+    "0a8f020a07722e70726f746f2283020a015212120a016c18012003280a32042e522e4c52016c12140a016818022001280a32042e522e484800520168120e0a016e180320012805480052016e12170a016d18042003280b32092e522e4d456e74727952016d12100a01701805200328114202100052017012100a016618062003280742021001520166120c0a017318072001280952017312100a017218082001280b32022e525201721a110a014c120c0a01781801200128055201781a150a014812100a017218012001280b32022e525201721a380a064d456e74727912100a036b657918012001280552036b657912180a0576616c756518022001280b32022e52520576616c75653a02380142030a016f";
 
 /// A set, whose message type has its name, and the bytes of a message; behind the first bar its canonical bytes, and behind each
 /// other one a line of its listing.
@@ -61,6 +77,32 @@ T 4a050a016210024a050a01611001|4a050a016110014a050a01621002|m["a"]: 1|m["b"]: 2
 F 1207225c007fc3a961|1207225c007fc3a961|b: "\"\\\x00\x7féa"
 F 7a02ff00|7a02ff00|w: h'ff00'
 F 92010801000000ffffffff|92010801000000ffffffff|h: 1|h: 4294967295
+Q 0800|0800|a: 0
+Q 12020102|10011002|e: 1|e: 2
+Q 1b08051c1b08061c|1b08061c|g {|  x: 6|}
+Q 1b08051c1b10071c|1b080510071c|g {|  x: 5|  ? 2 varint 7|}
+Q 1b1c|1b1c|g {|}
+Q 1a020805|1a020805|? 3 len 2 0805
+Q 20072002|20022007|k: TWO|? 4 varint 7
+Q 22002001|20012200|k: ONE|? 4 len 0
+Q 208180808010|2001|k: ONE
+Q 208780808010|208780808010|? 4 varint 4294967303
+Q 2a0401070209|2a02010228072809|l: ONE|l: TWO|? 5 varint 7|? 5 varint 9
+Q 28072801|2a01012807|l: ONE|? 5 varint 7
+Q 1b08051c2002|1b08051c2002|g {|  x: 5|}|k: TWO
+Q 2b08052c|2b08052c|? 5 group {|  1 varint 5|}
+R 0b08010c0b0c|0b08010c0b0c|l {|  x: 1|}|l {|}
+R 13140b0c|0b0c1314|l {|}|h {|}
+R 130a02180514|130a02180514|h {|  r {|    n: 5|  }|}
+R 1805130a02180714|130a02180714|h {|  r {|    n: 7|  }|}
+R 130a02180514130a02180714|130a02180714|h {|  r {|    n: 7|  }|}
+R 13141805|1805|n: 5
+R 13140805|13140805|h {|}|? 1 varint 5
+R 0a020805|0a020805|? 1 len 2 0805
+R 2206080512021314|2206080512021314|m[5] {|  h {|  }|}
+R 2a020204|28022804|p: 1|p: 2
+R 3501000000|320401000000|f: 1
+R 3a004200|3a004200|s: ""|r {|}
 "#;
 
 /// A command, a set, a type and the bytes of a file; behind each bar a line that is printed, or behind a mark told.
@@ -76,7 +118,21 @@ check M N 089601|!type N unknown
 check - M -|!type M unknown
 check 0a M -|!set byte 1 path 1[0] cause Truncated
 check 0a00 M -|!set file 0 cause MissingName
-check 0a030a016d M -|!set file 0 cause NotProto3
+check 0a030a016d M -|!type M unknown
+check 0a0b0a016d620670726f746f34 M -|!set file 0 cause NotProto3
+check 0a170a016d220a0a014d12050a0161280a620670726f746f33 M -|!set file 0 cause Group
+check 0a110a016d220c0a014d12070a016120022805 M -|!set file 0 cause Required
+check 0a170a07712e70726f746f2a0c0a014512070a034f4e4510010a2e0a07702e70726f746f1a07712e70726f746f22120a0150120d0a016b18012001280e32022e45620670726f746f33 P -|!link p.proto at P.k cause ClosedEnum
+check Q Q 1b08051c2002|ok
+check Q Q.G 0805|ok
+canon Q Q 1b08051c1b08061c|1b08061c
+show Q Q 1b0896|!byte 3 path 3[0].1[0] cause Truncated
+show Q Q 1b24|!byte 1 path 3[0] cause WrongEnd
+check Q Q 1b|!byte 1 path 3[0] cause Truncated
+check Q Q 1c|!byte 0 path - cause StrayEnd
+check Q Q 1b1c1b08|!byte 4 path 3[1].1[0] cause Truncated
+frames Q Q 041b08051c022002|frame 0 at 0 size 5|  g {|    x: 5|  }|frame 1 at 5 size 3|  k: TWO
+frames Q Q 021b1c011b1c|frame 0 at 0 size 3|  g {|  }|!frame 1 byte 2 path 3[0] cause PastEnd
 check 0a0b0a016d620670726f746f330a0b0a016d620670726f746f33 M -|!link m at - cause TwoFiles
 check 0a0e0a016d1a016d620670726f746f33 M -|!link m at - cause ImportCycle
 frames T T ffffffff0f|!frame 0 byte 0 path - cause LengthTooLarge
@@ -96,6 +152,8 @@ fn bytes_of(alloc: Global, word: &str) -> Result<Vec<u8>, Fail> {
         "T" => T,
         "F" => F,
         "M" => M,
+        "Q" => Q,
+        "R" => R,
         "-" => "",
         digits => digits,
     };
