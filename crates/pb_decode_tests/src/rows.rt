@@ -99,6 +99,10 @@ decode second_group_cut - - 1b1c1b0896 ! 5 3[1].1[0] Truncated
 decode wrong_type_in_group - - 1b0a01411c = 1b0a01411c
 onto group_goes_on - - 1b08051c 1b1c = 1b08051c
 onto closed_list_goes_on - - 2a03010702 2a020901 = 2a0301020128072809
+onto undeclared_number_leaves_it - - 2002 2007 = 20022007
+onto list_cut - - 2a0107 2a0107280a2a0196 ! 7 5[2] PastEnd
+merge closed_enums - - 2002200728012809 20082a0102 = 20022a020102200728092008
+merge groups - - 1b08051c 1b08061c = 1b08061c
 push group - - 0 2 1b ok
 push number_in_group - - 1 2 1b,0896 ok;ok
 push group_ends - - 0 1 1b0805,1c ok;ok
@@ -108,10 +112,6 @@ push wrong_end - - 0 0 1b,24 ok;! 1 3[0] WrongEnd
 push finished_in_a_group - - 0 0 1b08,05,finish ok;ok;! 3 3[0] Truncated
 frame group_past_its_end - - 1 3 1b08051c ? ! 4 3[0] PastEnd
 frame whole_group - - 1 4 1b08051c 0 = 1b08051c
-grow proto2-3 - - 1b08051c1b08061c = 1b08061c
-grow proto2-5 - - 20072002 = 20022007
-grow proto2-8 - - 2a0401070209 = 2a02010228072809
-grow wrong_end - - 1b24 ! 1 3[0] WrongEnd
 ";
 
 /// The same of the type `R`.
@@ -134,8 +134,49 @@ decode deep_enough - 1 0b0c = 0b0c
 decode message_too_deep - 1 0b0a000c ! 1 1[0].1[0] TooDeep
 decode closed_list - - 28012807 = 28012807
 decode packed_spelling - - 2a020107 = 28012807
-grow list_of_groups - - 0b10050c0b0c = 0b10050c0b0c
-grow group_goes_on - - 1b08011c1b1c = 1b08011c
+decode group_again - - 1b08011c1b08021c = 1b08021c
+decode group_by_length - - 0a001a00 = 0a001a00
+decode group_for_a_message - - 0b0b0c0c = 0b0b0c0c
+decode unknown_group - - 5b1b08051c5c = 5b1b08051c5c
+decode no_text_in_unknown_group - - 5b2a01ff5c = 5b2a01ff5c
+decode group_in_entry - - 3206080112021b1c = 3206080112021b1c
+decode group_for_a_value - - 32021314 = 320408001200
+decode group_at_end_of_entry - - 3205080112011b ! 7 6[0].2[0].3[0] PastEnd
+decode declared_member - - 3801 = 3801
+decode undeclared_member - - 38013807 = 38013807
+decode undeclared_beside_group - - 1b08011c3807 = 1b08011c3807
+decode undeclared_ends_no_run - - 1b08011c38071b1c = 1b08011c3807
+decode declared_ends_a_run - - 1b08011c38011b1c = 1b1c
+decode undeclared_beside_number - - 20053807 = 20053807
+push group_in_oneof - - 0 2 3801,1b ok;ok
+onto undeclared_member - - 1b08011c 38071b1c = 1b08011c3807
+";
+
+/// The same of groups in groups.
+pub(crate) const NESTED: &str = "
+decode group_in_typed_group - - 0b1b08051c0c = 0b1b08051c0c
+decode three_groups - - 0b1b1b08051c1c0c = 0b1b1b08051c1c0c
+decode list_in_group - - 0b1b1b1c1b08011c1c0c = 0b1b1b1c1b08011c1c0c
+decode group_in_group_goes_on - - 0b1b08011c1b10011c0c = 0b1b080110011c0c
+decode list_in_group_goes_on - - 0b1b1b1c1c1b1b08011c1c0c = 0b1b1b1c1b08011c1c0c
+decode groups_of_a_list_stay_apart - - 0b1b08011c0c0b1b10011c0c = 0b1b08011c0c0b1b10011c0c
+decode undeclared_in_group - - 0b1b10071c0c = 0b1b10071c0c
+decode undeclared_before_declared - - 0b1b100710011c0c = 0b1b100110071c0c
+decode text_in_group - - 0b1b2a01411c0c = 0b1b2a01411c0c
+decode bad_text_in_group - - 0b1b2a01ff1c0c ! 4 1[0].3[0].5[0] BadText
+decode end_of_the_group_around - - 0b1b0c ! 2 1[0].3[0] WrongEnd
+decode end_of_another_group - - 0b1b1b24 ! 3 1[0].3[0].3[0] WrongEnd
+decode cut_in_three_groups - - 0b1b1b0896 ! 5 1[0].3[0].3[0].1[0] Truncated
+decode second_of_each - - 0b0c0b1b1c1b1b1c1b0896 ! 11 1[1].3[1].3[1].1[0] Truncated
+decode third_group_too_deep - 2 0b1b1b1c1c0c ! 2 1[0].3[0].3[0] TooDeep
+decode three_levels - 3 0b1b1b1c1c0c = 0b1b1b1c1c0c
+push three_groups - - 0 4 0b1b1b ok
+push third_group_ends - - 0 3 0b1b1b,1c ok;ok
+push number_in_three_groups - - 1 4 0b1b,1b0896 ok;ok
+push end_of_the_group_around - - 0 0 0b1b,0c ok;! 2 1[0].3[0] WrongEnd
+onto list_of_groups - - 0b1b08011c0c 0b1b10011c0c = 0b1b08011c0c0b1b10011c0c
+frame three_groups - - 1 6 0b1b1b1c1c0cff 1 = 0b1b1b1c1c0c
+frame group_at_its_end - - 1 5 0b1b1b1c1c0c ? ! 6 1[0] PastEnd
 ";
 
 /// The bytes of a message, those that come onto it, and the answer. Lengths and places are those of the new bytes alone.
@@ -235,6 +276,29 @@ grow nesting-7 - - 4a030a01ff ! 4 9[0].1[0] BadText
 grow occurrences-2 - - 1a0208011a031201ff ! 8 3[1].2[0] BadText
 grow occurrences-3 - - 300132020396 ! 5 6[1] PastEnd
 grow occurrences-4 - - 0801a30108010802ac01 ! 8 20[0] WrongEnd
+";
+
+/// The same of the type `Q`.
+pub(crate) const CLOSED_GROWTHS: &str = "
+grow proto2-3 - - 1b08051c1b08061c = 1b08061c
+grow proto2-5 - - 20072002 = 20022007
+grow proto2-8 - - 2a0401070209 = 2a02010228072809
+grow undeclared_run - - 2a06010702090801 = 2a03010201280728092808
+grow unknown_group_in_group - - 1b5b08015c1c = 1b5b08015c1c
+grow second_group_cut - - 1b1c1b0896 ! 5 3[1].1[0] Truncated
+grow wrong_end - - 1b24 ! 1 3[0] WrongEnd
+";
+
+/// The same of the type `R`.
+pub(crate) const GROUP_GROWTHS: &str = "
+grow list_of_groups - - 0b10050c0b0c = 0b10050c0b0c
+grow group_goes_on - - 1b08011c1b1c = 1b08011c
+grow group_leaves_oneof - - 1b08011c2005 = 2005
+grow list_in_group_goes_on - - 0b1b1b1c1c1b1b08011c1c0c = 0b1b1b1c1b08011c1c0c
+grow undeclared_in_group - - 0b1b100710011c0c = 0b1b100110071c0c
+grow group_in_entry - - 3206080112021b1c = 3206080112021b1c
+grow message_in_group_goes_on - - 0b0a0220050a0428010b0c0c = 0b0a060b0c200528010c
+grow second_of_each - - 0b0c0b1b1c1b1b1c1b0896 ! 11 1[1].3[1].3[1].1[0] Truncated
 ";
 
 /// A piece, how often it comes, how often it is taken, and the answer.

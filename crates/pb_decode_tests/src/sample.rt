@@ -12,8 +12,9 @@
 //! enum C { ONE = 1; TWO = 2; }
 //! message Q { optional int32 a = 1; repeated int32 e = 2; optional group G = 3 { optional int32 x = 1; } optional C k = 4;
 //! repeated C l = 5 [packed = true]; }
-//! message R { repeated group H = 1 { optional R r = 1; optional int32 x = 2; } oneof o { group V = 3 { optional int32 x = 1; }
-//! int32 y = 4; } repeated C l = 5; }
+//! message R { repeated group H = 1 { optional R r = 1; optional int32 x = 2; optional group W = 3 { optional int32 x = 1; optional C k = 2;
+//! repeated group Y = 3 { optional int32 x = 1; } optional string t = 5; } } oneof o { group V = 3 { optional int32 x = 1; } int32 y = 4; C z = 7; }
+//! repeated C l = 5; map<int32, R> m = 6; }
 
 ghost use Rattle.std.specs.Prelude.{◌<◌, length};
 
@@ -38,7 +39,11 @@ const R: MessageId = MessageId(4);
 
 const H: Kind = Kind::Group(MessageId(5));
 
-const V: Kind = Kind::Group(MessageId(6));
+const W: Kind = Kind::Group(MessageId(6));
+
+const Y: Kind = Kind::Group(MessageId(7));
+
+const V: Kind = Kind::Group(MessageId(8));
 
 const PACKED: Shape = Shape::List { packed: true };
 
@@ -88,11 +93,21 @@ const FIELDS_OF_R: &[FieldRow] = &[
     ("v", 3, V, Shape::OneofMember(0)),
     ("y", 4, Kind::Int32, Shape::OneofMember(0)),
     ("l", 5, C, UNPACKED),
+    ("m", 6, Kind::Message(R), Shape::Map { key: Kind::Int32 }),
+    ("z", 7, C, Shape::OneofMember(0)),
 ];
 
 const FIELDS_OF_H: &[FieldRow] = &[
     ("r", 1, Kind::Message(R), Shape::Explicit),
     ("x", 2, Kind::Int32, Shape::Explicit),
+    ("w", 3, W, Shape::Explicit),
+];
+
+const FIELDS_OF_W: &[FieldRow] = &[
+    ("x", 1, Kind::Int32, Shape::Explicit),
+    ("k", 2, C, Shape::Explicit),
+    ("y", 3, Y, UNPACKED),
+    ("t", 5, Kind::Text, Shape::Explicit),
 ];
 
 /// The types by name, their files, what they are declared in, their fields and the names of their oneofs.
@@ -111,6 +126,8 @@ const TYPES: &[TypeRow] = &[
     ("G", 1, Some(MessageId(2)), FIELDS_OF_G, &[]),
     ("R", 1, None, FIELDS_OF_R, &["o"]),
     ("H", 1, Some(R), FIELDS_OF_H, &[]),
+    ("W", 1, Some(MessageId(5)), FIELDS_OF_W, &[]),
+    ("Y", 1, Some(MessageId(6)), FIELDS_OF_G, &[]),
     ("V", 1, Some(R), FIELDS_OF_G, &[]),
 ];
 

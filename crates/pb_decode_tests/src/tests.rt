@@ -5,8 +5,8 @@ use super::hostile::{are_alive, are_falling, are_fronts, is_repeated};
 use super::messages::{is_merged, is_put_onto};
 use super::pieces::is_pushed;
 use super::rows::{
-    ALIVE, CLOSED, DEEP, FALLING, FLAT, FRAMES, FRONTS, GROUPS, GROWTHS, MANY_RECORDS, MERGES,
-    ONE_RECORD, ONTO, PIECES, WORKED,
+    ALIVE, CLOSED, CLOSED_GROWTHS, DEEP, FALLING, FLAT, FRAMES, FRONTS, GROUP_GROWTHS, GROUPS,
+    GROWTHS, MANY_RECORDS, MERGES, NESTED, ONE_RECORD, ONTO, PIECES, WORKED,
 };
 use super::sample::{Schema, sample};
 use super::words::{limits_of, word};
@@ -80,6 +80,13 @@ fn groups(rt: HostRuntime) -> Result<(), Fail> {
 }
 
 #[test]
+fn groups_in_groups(rt: HostRuntime) -> Result<(), Fail> {
+    let wrong = wrong_row(rt.alloc(), "R", NESTED)?;
+    assert!(rt; wrong.is_none(), "{wrong:?}");
+    Ok(())
+}
+
+#[test]
 fn onto(rt: HostRuntime) -> Result<(), Fail> {
     let wrong = wrong_row(rt.alloc(), "T", ONTO)?;
     assert!(rt; wrong.is_none(), "{wrong:?}");
@@ -139,6 +146,22 @@ fn many_decoders(rt: HostRuntime) -> Result<(), Fail> {
 #[test]
 fn refused_growths(rt: HostRuntime) -> Result<(), Fail> {
     let wrong = wrong_row(rt.alloc(), "T", GROWTHS)?;
+    assert!(rt; wrong.is_none(), "{wrong:?}");
+    Ok(())
+}
+
+/// The same.
+#[test]
+fn refused_growths_of_closed_enums(rt: HostRuntime) -> Result<(), Fail> {
+    let wrong = wrong_row(rt.alloc(), "Q", CLOSED_GROWTHS)?;
+    assert!(rt; wrong.is_none(), "{wrong:?}");
+    Ok(())
+}
+
+/// The same.
+#[test]
+fn refused_growths_of_groups(rt: HostRuntime) -> Result<(), Fail> {
+    let wrong = wrong_row(rt.alloc(), "R", GROUP_GROWTHS)?;
     assert!(rt; wrong.is_none(), "{wrong:?}");
     Ok(())
 }

@@ -130,11 +130,14 @@ fn content_of(alloc: Global, word: &str) -> Result<Content, Fail> {
     Ok(Content::One(value_of(alloc, word)?))
 }
 
-/// An unknown payload: numbers by `v`, `I` and `i`, bytes given as text by `l`, and by `g` a group of a varint of number 1.
+/// An unknown payload: numbers by `v`, `I` and `i`, bytes given as text by `l` or in hexadecimal by `x`, and by `g` a group of a varint of number 1.
 fn unknown_of(alloc: Global, word: &str) -> Result<Unknown, Fail> {
     let (form, rest) = word.split_at_checked(1).ok_or("no payload")?;
     if form == "l" {
         return Ok(Unknown::Len(String::from_str(alloc, rest)?.into_bytes()));
+    }
+    if form == "x" {
+        return Ok(Unknown::Len(hex::decode(alloc, rest)?));
     }
     let number = rest.parse::<u64>()?;
     Ok(match form {

@@ -61,6 +61,33 @@ W | 536870911:[f1065353216,f2147483648] | 1 | faffffff0f080000803f00000080
 T | 19?i1 19?I2 1?g0 19?l | 0 | 9d0101000000990102000000000000000b08000c9a0100
 ";
 
+/// The same of the type `Q`.
+const CLOSED: &str = "
+Q | 1:i0 | 0 | 0800
+Q | 2:[i1,i2] | 0 | 10011002
+Q | 3:m1=i6 | 0 | 1b08061c
+Q | 3:m | 0 | 1b1c
+Q | 3?x0805 | 0 | 1a020805
+Q | 4:e2 4?v7 | 0 | 20022007
+Q | 4:e1 | 0 | 2001
+Q | 4:e-1 | 0 | 20ffffffffffffffffff01
+Q | 4?v4294967303 | 0 | 208780808010
+Q | 5:[e1,e2] 5?v7 5?v9 | 1 | 2a02010228072809
+Q | 5:[e1,e2,e-1] | 1 | 2a0c0102ffffffffffffffffff01
+Q | 9:[e1,e-1] | 0 | 480148ffffffffffffffffff01
+Q | 6:e1 | 0 | 3001
+Q | 536870911:m1=i7 | 0 | fbffffff0f0807fcffffff0f
+Q | 3:m1=i5 4:e2 | 0 | 1b08051c2002
+Q | 3:m1=i5;2=e2 | 0 | 1b080510021c
+Q | 3:n1 | 1 | 1b1a001c
+Q | 3:n2 | 1 | 1b1a021b1c1c
+Q | 3:n26 | 13 | 1b1a321b1a2e1b1a2a1b1a261b1a221b1a1e1b1a1a1b1a161b1a121b1a0e1b1a0a1b1a061b1a021b1c1c1c1c1c1c1c1c1c1c1c1c1c1c
+Q | 16:[m1=i5,m,m1=i-1] | 0 | 83010805840183018401830108ffffffffffffffffff018401
+Q | 16:[n2,n1] | 2 | 83011a021b1c840183011a008401
+Q | 10:{i1=n1} | 2 | 5206080112021b1c
+Q | 10:{i1=m4=e2,i-1=m} | 4 | 520d08ffffffffffffffffff0112005206080112022002
+";
+
 /// A message of a type and these fields.
 fn message_of<'p>(
     alloc: Global,
@@ -104,14 +131,21 @@ fn first_wrong<'a>(alloc: Global, pool: &Pool, rows: &'a str) -> Result<Option<&
     Ok(None)
 }
 
-fn wrong_row(alloc: Global) -> Result<Option<&'static str>, Fail> {
+fn wrong_row(alloc: Global, rows: &'static str) -> Result<Option<&'static str>, Fail> {
     let pool = pool(alloc)?;
-    first_wrong(alloc, &pool, ROWS)
+    first_wrong(alloc, &pool, rows)
 }
 
 #[test]
 fn rows(rt: HostRuntime) -> Result<(), Fail> {
-    let wrong = wrong_row(rt.alloc())?;
+    let wrong = wrong_row(rt.alloc(), ROWS)?;
+    assert!(rt; wrong.is_none(), "{wrong:?}");
+    Ok(())
+}
+
+#[test]
+fn groups_and_closed_enums(rt: HostRuntime) -> Result<(), Fail> {
+    let wrong = wrong_row(rt.alloc(), CLOSED)?;
     assert!(rt; wrong.is_none(), "{wrong:?}");
     Ok(())
 }
@@ -171,24 +205,34 @@ fn long_texts(rt: HostRuntime) -> Result<(), Fail> {
     Ok(())
 }
 
-/// Fields of `T`, and the bytes of that message.
-const GROWING: &str = "3:m1=i1 6:[i3,i4] 9:{tk=i7} 12:{u3=m}";
+/// A type, its fields, and the bytes of that message.
+type Growth = (&'static str, &'static str, &'static str);
 
-const GROWN: &str = "1a020801320203044a050a016b1007620408031200";
+const GROWTH: Growth = (
+    "T",
+    "3:m1=i1 6:[i3,i4] 9:{tk=i7} 12:{u3=m}",
+    "1a020801320203044a050a016b1007620408031200",
+);
 
-fn is_grown(alloc: Global, message: &DynamicMessage<'_>) -> Result<bool, Fail> {
-    let bytes = hex::decode(alloc, GROWN)?;
+const CLOSED_GROWTH: Growth = (
+    "Q",
+    "3:n2 5:[e1,e2] 5?v7 16:[m1=i5,m]",
+    "1b1a021b1c1c2a020102830108058401830184012807",
+);
+
+fn is_grown(alloc: Global, message: &DynamicMessage<'_>, text: &str) -> Result<bool, Fail> {
+    let bytes = hex::decode(alloc, text)?;
     Ok(is_written_or_memory(alloc, message, &bytes))
 }
 
-fn is_grown_in(alloc: Global, pool: &Pool) -> Result<bool, Fail> {
-    let message = message_of(alloc, pool, "T", GROWING)?;
-    is_grown(alloc, &message)
+fn is_grown_in(alloc: Global, pool: &Pool, growth: Growth) -> Result<bool, Fail> {
+    let message = message_of(alloc, pool, growth.0, growth.1)?;
+    is_grown(alloc, &message, growth.2)
 }
 
 fn are_growths_told(alloc: Global) -> Result<bool, Fail> {
     let pool = pool(alloc)?;
-    is_grown_in(alloc, &pool)
+    Ok(is_grown_in(alloc, &pool, GROWTH)? && is_grown_in(alloc, &pool, CLOSED_GROWTH)?)
 }
 
 /// What the calls answer where a growth of memory is refused, which `.ci/growths` does.

@@ -10,6 +10,13 @@
 //! uint32 h = 8; bool i = 9; repeated bool j = 10; repeated double k = 11; repeated sint64 l = 12; repeated bytes m = 13;
 //! repeated E n = 14; map<bool, string> o = 15; map<sint32, bool> p = 16; map<fixed64, bytes> q = 17; repeated T r = 18;
 //! map<string, E> s = 19; map<int64, float> t = 20; optional string v = 22; repeated float u = 536870911; }
+//!
+//! and of a proto2 file:
+//!
+//! enum C { TWO = 2; ONE = 1; MINUS = -1; }
+//! message Q { optional int32 a = 1; repeated int32 e = 2; optional group G = 3 { optional int32 x = 1; optional C k = 2; optional Q c = 3; }
+//! optional C k = 4; repeated C l = 5 [packed = true]; oneof o { C m = 6; group V = 536870911 { optional int32 x = 1; } }
+//! repeated C r = 9; map<int32, Q> p = 10; repeated group H = 16 { optional int32 x = 1; optional C k = 2; optional Q c = 3; } }
 
 use pb_schema::{EnumId, EnumType, Field, FileInfo, Kind, MessageId, MessageType, Pool, Shape};
 use std::alloc::{AllocError, Global};
@@ -20,6 +27,10 @@ type FieldRow = (&'static str, u32, Kind, Shape);
 const T: Kind = Kind::Message(MessageId(0));
 
 const E: Kind = Kind::Enum(EnumId(0));
+
+const C: Kind = Kind::ClosedEnum(EnumId(1));
+
+const Q: MessageId = MessageId(3);
 
 const PACKED: Shape = Shape::List { packed: true };
 
@@ -79,13 +90,44 @@ const FIELDS_OF_W: &[FieldRow] = &[
     ("u", 536_870_911, Kind::Float, PACKED),
 ];
 
-/// The types by name, their fields and the names of their oneofs.
-type TypeRow = (&'static str, &'static [FieldRow], &'static [&'static str]);
+const FIELDS_OF_Q: &[FieldRow] = &[
+    ("a", 1, Kind::Int32, Shape::Explicit),
+    ("e", 2, Kind::Int32, UNPACKED),
+    ("g", 3, Kind::Group(MessageId(4)), Shape::Explicit),
+    ("k", 4, C, Shape::Explicit),
+    ("l", 5, C, PACKED),
+    ("m", 6, C, Shape::OneofMember(0)),
+    ("r", 9, C, UNPACKED),
+    ("p", 10, Kind::Message(Q), Shape::Map { key: Kind::Int32 }),
+    ("h", 16, Kind::Group(MessageId(5)), UNPACKED),
+    ("v", 536_870_911, Kind::Group(MessageId(6)), Shape::OneofMember(0)),
+];
+
+const FIELDS_OF_G: &[FieldRow] = &[
+    ("x", 1, Kind::Int32, Shape::Explicit),
+    ("k", 2, C, Shape::Explicit),
+    ("c", 3, Kind::Message(Q), Shape::Explicit),
+];
+
+const FIELDS_OF_V: &[FieldRow] = &[("x", 1, Kind::Int32, Shape::Explicit)];
+
+/// The types by name, their files, what they are declared in, their fields and the names of their oneofs.
+type TypeRow = (
+    &'static str,
+    usize,
+    Option<MessageId>,
+    &'static [FieldRow],
+    &'static [&'static str],
+);
 
 const TYPES: &[TypeRow] = &[
-    ("T", FIELDS_OF_T, &["o"]),
-    ("F", FIELDS_OF_F, &[]),
-    ("W", FIELDS_OF_W, &[]),
+    ("T", 0, None, FIELDS_OF_T, &["o"]),
+    ("F", 0, None, FIELDS_OF_F, &[]),
+    ("W", 0, None, FIELDS_OF_W, &[]),
+    ("Q", 1, None, FIELDS_OF_Q, &["o"]),
+    ("G", 1, Some(Q), FIELDS_OF_G, &[]),
+    ("H", 1, Some(Q), FIELDS_OF_G, &[]),
+    ("V", 1, Some(Q), FIELDS_OF_V, &[]),
 ];
 
 pub(crate) fn pool(alloc: Global) -> Result<Pool, Fail> {
@@ -95,11 +137,14 @@ pub(crate) fn pool(alloc: Global) -> Result<Pool, Fail> {
 
 fn files(alloc: Global) -> Result<Vec<FileInfo>, AllocError> {
     let mut files = Vec::new(alloc);
-    files.push(FileInfo {
-        name: String::from_str(alloc, "t.proto")?,
-        package: String::new(alloc),
-        imports: Vec::new(alloc),
-    })?;
+    for (name, proto2) in [("t.proto", false), ("q.proto", true)] {
+        files.push(FileInfo {
+            name: String::from_str(alloc, name)?,
+            package: String::new(alloc),
+            imports: Vec::new(alloc),
+            proto2,
+        })?;
+    }
     Ok(files)
 }
 
@@ -126,11 +171,11 @@ fn names_of(alloc: Global, rows: &[&str]) -> Result<Vec<String>, AllocError> {
 
 fn messages(alloc: Global) -> Result<Vec<MessageType>, AllocError> {
     let mut messages = Vec::new(alloc);
-    for (name, fields, oneofs) in TYPES {
+    for (name, file, parent, fields, oneofs) in TYPES {
         messages.push(MessageType {
             name: String::from_str(alloc, name)?,
-            file: 0,
-            parent: None,
+            file: *file,
+            parent: *parent,
             fields: fields_of(alloc, fields)?,
             oneofs: names_of(alloc, oneofs)?,
         })?;
@@ -138,16 +183,28 @@ fn messages(alloc: Global) -> Result<Vec<MessageType>, AllocError> {
     Ok(messages)
 }
 
-fn enums(alloc: Global) -> Result<Vec<EnumType>, AllocError> {
+/// An enum of these values.
+fn enum_of(
+    alloc: Global,
+    name: &str,
+    file: usize,
+    rows: &[(&str, i32)],
+) -> Result<EnumType, AllocError> {
     let mut values = Vec::new(alloc);
-    values.push((String::from_str(alloc, "Z")?, 0))?;
-    values.push((String::from_str(alloc, "NEG")?, -1))?;
-    let mut enums = Vec::new(alloc);
-    enums.push(EnumType {
-        name: String::from_str(alloc, "E")?,
-        file: 0,
+    for (name, number) in rows {
+        values.push((String::from_str(alloc, name)?, *number))?;
+    }
+    Ok(EnumType {
+        name: String::from_str(alloc, name)?,
+        file,
         parent: None,
         values,
-    })?;
+    })
+}
+
+fn enums(alloc: Global) -> Result<Vec<EnumType>, AllocError> {
+    let mut enums = Vec::new(alloc);
+    enums.push(enum_of(alloc, "E", 0, &[("Z", 0), ("NEG", -1)])?)?;
+    enums.push(enum_of(alloc, "C", 1, &[("TWO", 2), ("ONE", 1), ("MINUS", -1)])?)?;
     Ok(enums)
 }

@@ -1,5 +1,6 @@
 pub mod Samples
 pub mod Rows
+mod FaultRows
 pub mod WordLemmas
 pub mod EntryNames
 pub mod Loops

@@ -1,16 +1,16 @@
 -- Worked rows of the definitions.
-use Rattle.std.proofs.Common.{◌≡◌, ℕ, [], ◌∷◌, pos, negsuc, true, false, Some, None, refl, map}
+use Rattle.std.proofs.Common.{◌≡◌, ℕ, List, [], ◌∷◌, pos, negsuc, true, false, Some, None, refl, map}
 use Rattle.pb_wire.specs.Schema as wire
-use Rattle.pb_wire.specs.Record.{varint, len, group, no_more, fixed32}
+use Rattle.pb_wire.specs.Record.{Payload, varint, len, group, no_more, more, fixed32, Record}
 use Rattle.pb_schema.specs.declared.types.Kind.TheVariants as kind
 use Rattle.pb_schema.specs.Scalar.{int32, uint32, boolean, enum, text}
 use Rattle.pb_schema.specs.Kinds.{read, written}
 use Rattle.pb_schema.specs.Packed.{elements}
 use Rattle.pb_schema.specs.Fits.{fits}
-use Rattle.pb_schema.specs.Closed.{unknown}
+use Rattle.pb_schema.specs.Closed.{declares, known, unknown}
 use Rattle.pb_schema.specs.Context.{Context, a_message, an_entry, unknown_group, schema_of}
 use Rattle.pb_schema.specs.Types.{message_fields}
-use Rattle.pb_schema.proofs.Samples.{pool_t, e_field, v_field, the_message}
+use Rattle.pb_schema.proofs.Samples.{pool_t, e_field, v_field, the_message, pool_q}
 
 -- fe ff ff ff 0f is the int32 -2, which is written as 2 ^ 64 - 2, in ten bytes
 minus_two-read : read kind.Int32 (varint 0xfffffffe) ≡ Some (int32 (negsuc 1))
@@ -97,3 +97,58 @@ entry-unknown = refl
 
 group-unknown : reading unknown_group 2 ≡ wire.unread
 group-unknown = refl
+
+-- GROUPS AND CLOSED ENUMS
+
+abbrev q_reading : Context → ℕ → wire.Reading Context
+q_reading = (schema_of pool_q).reading
+
+abbrev q_group : Context → ℕ → Context
+q_group = (schema_of pool_q).group_context
+
+-- a group of a field is a message of its type, also in a group; an entry and a group of no field are not looked into
+g-group : q_group (a_message 0) 3 ≡ a_message 1
+g-group = refl
+
+h-group : q_group (a_message 0) 6 ≡ a_message 2
+h-group = refl
+
+group-in-group : q_group (a_message 2) 3 ≡ a_message 1
+group-in-group = refl
+
+no-group : map (q_group (a_message 0)) (1 ∷ 4 ∷ 7 ∷ 9 ∷ []) ≡ unknown_group ∷ unknown_group ∷ unknown_group ∷ unknown_group ∷ []
+no-group = refl
+
+no-group-in-entry : q_group (an_entry kind.Text the_message) 2 ≡ unknown_group
+no-group-in-entry = refl
+
+no-group-in-unknown : q_group unknown_group 3 ≡ unknown_group
+no-group-in-unknown = refl
+
+-- bytes at a group's field are not looked into
+g-reading : q_reading (a_message 0) 3 ≡ wire.unread
+g-reading = refl
+
+l-reading : q_reading (a_message 0) 5 ≡ wire.packed wire.a_varint
+l-reading = refl
+
+declared-numbers : map (λ n. declares pool_q 0 (pos n)) (0 ∷ 1 ∷ 2 ∷ 3 ∷ 4294967297 ∷ []) ≡ false ∷ true ∷ true ∷ false ∷ false ∷ []
+declared-numbers = refl
+
+no-enum : declares pool_q 1 (pos 1) ≡ false
+no-enum = refl
+
+abbrev at : ℕ → Payload → Record
+at n p = record { number = n; payload = p }
+
+abbrev q_records : List Record
+q_records =
+    at 4 (varint 7) ∷ at 4 (varint 4294967297) ∷ at 5 (len (0x01 ∷ 0x07 ∷ 0x02 ∷ [])) ∷ at 3 (group (more 1 (varint 5) no_more)) ∷ at 4 (varint 4294967303)
+    ∷ at 3 (len (0x08 ∷ 0x05 ∷ [])) ∷ at 5 (varint 9) ∷ at 5 (varint 1) ∷ []
+
+-- the low 32 bits of a number are asked for, and all 64 are kept; an element of a packed list is a record in its place
+known-records : known pool_q (message_fields pool_q 0) q_records ≡ at 4 (varint 4294967297) ∷ at 5 (varint 1) ∷ at 5 (varint 2) ∷ at 3 (group (more 1 (varint 5) no_more)) ∷ at 5 (varint 1) ∷ []
+known-records = refl
+
+undeclared-records : unknown pool_q (message_fields pool_q 0) q_records ≡ at 4 (varint 7) ∷ at 5 (varint 7) ∷ at 4 (varint 4294967303) ∷ at 3 (len (0x08 ∷ 0x05 ∷ [])) ∷ at 5 (varint 9) ∷ []
+undeclared-records = refl

@@ -33,6 +33,7 @@ fn chain(alloc: Global, count: usize) -> Result<Vec<FileInfo>, PoolError> {
             name,
             package: String::new(alloc),
             imports,
+            proto2: false,
         })?;
     }
     Ok(files)
@@ -84,6 +85,7 @@ fn wide_pool(alloc: Global, count: u32) -> Result<Pool, PoolError> {
         name: String::from_str(alloc, "wide.proto")?,
         package: String::from_str(alloc, "p")?,
         imports: Vec::new(alloc),
+        proto2: false,
     };
     let files = vec![in alloc; file]?;
     let message = message_of(alloc, "Wide", 0, many(alloc, count)?)?;

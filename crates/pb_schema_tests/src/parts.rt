@@ -1,5 +1,5 @@
-//! Parts of a pool, read from rows: `file NAME PACKAGE [IMPORT]`, `message NAME FILE PARENT` and of that message `oneof NAME` and
-//! `field NAME NUMBER KIND SHAPE`, `enum NAME FILE PARENT` and of that enum `value NAME NUMBER`. A `-` stands for none.
+//! Parts of a pool, read from rows: `file NAME PACKAGE [IMPORT]`, or `proto2` for a file of that syntax, `message NAME FILE PARENT` and of that
+//! message `oneof NAME` and `field NAME NUMBER KIND SHAPE`, `enum NAME FILE PARENT` and of that enum `value NAME NUMBER`. A `-` stands for none.
 
 use pb_schema::{
     EnumId, EnumType, Field, FileInfo, Kind, MessageId, MessageType, Pool, PoolError, Shape,
@@ -37,15 +37,21 @@ fn name_of(alloc: Global, word: &str) -> Result<String, Fail> {
     Ok(String::from_str(alloc, if word == "-" { "" } else { word })?)
 }
 
-/// A scalar kind by its name in a schema, or `message:INDEX` or `enum:INDEX`.
+/// The kind of the message or enum at an index.
+fn kind_at(form: &str, index: usize) -> Result<Kind, Fail> {
+    Ok(match form {
+        "message" => Kind::Message(MessageId(index)),
+        "group" => Kind::Group(MessageId(index)),
+        "enum" => Kind::Enum(EnumId(index)),
+        "closed" => Kind::ClosedEnum(EnumId(index)),
+        _ => return Err(Fail::new("no form of kind")),
+    })
+}
+
+/// A scalar kind by its name in a schema, or `message:INDEX`, `group:INDEX`, `enum:INDEX` or `closed:INDEX`.
 fn kind_of(word: &str) -> Result<Kind, Fail> {
     if let Some((form, index)) = word.split_once(':') {
-        let index = index.parse::<usize>()?;
-        return Ok(if form == "enum" {
-            Kind::Enum(EnumId(index))
-        } else {
-            Kind::Message(MessageId(index))
-        });
+        return kind_at(form, index.parse::<usize>()?);
     }
     Ok(match word {
         "double" => Kind::Double,
@@ -110,6 +116,7 @@ fn add_file(alloc: Global, parts: &mut Parts, words: Words<'_>) -> Result<(), Fa
         name: name_of(alloc, words.first)?,
         package: name_of(alloc, words.second)?,
         imports,
+        proto2: words.what == "proto2",
     })?;
     Ok(())
 }
@@ -170,7 +177,7 @@ fn add(alloc: Global, parts: &mut Parts, row: &str) -> Result<(), Fail> {
     let words = words_of(row);
     match words.what {
         "" => Ok(()),
-        "file" => add_file(alloc, parts, words),
+        "file" | "proto2" => add_file(alloc, parts, words),
         "message" => add_message(alloc, parts, words),
         "field" => add_field(alloc, parts, words),
         "oneof" => add_oneof(alloc, parts, words),

@@ -199,7 +199,7 @@ const IN_KINDS: &[(u32, (u8, u8))] = &[
     (18, (5, 2)),
 ];
 
-fn are_only_fit(pool: &Pool, name: &str, rows: &[(u32, (u8, u8))]) -> bool {
+pub(crate) fn are_only_fit(pool: &Pool, name: &str, rows: &[(u32, (u8, u8))]) -> bool {
     for (number, wire_types) in rows {
         if !only_fit(pool, name, *number, *wire_types) {
             return false;

@@ -35,7 +35,7 @@ value HY -1
 ";
 
 /// Whether the parts meet the rules, the line of the parts in whose place another stands, and that other, with what it is.
-const CASES: &str = "
+const USUAL_CASES: &str = "
 bad 1 file - a.b | no name
 bad 1 file b.proto a.b | the name of another
 bad 1 file a.proto a. | an empty part
@@ -107,18 +107,90 @@ bad 25 value M 1 | the name of a message
 good 25 value GZ 1 | the name of a value in another scope
 ";
 
-fn is_told(alloc: Global, case: &str) -> Result<bool, Fail> {
+/// A file of proto2 between two of proto3, each of which imports the one before it.
+const SYNTAXES: &str = "
+file a.proto a
+proto2 b.proto b 0
+file c.proto c 1
+message M 1 -
+oneof o
+field x 1 int32 explicit
+field g 2 group:1 explicit
+field e 3 closed:2 explicit
+field l 4 closed:2 packed
+field r 5 group:1 list
+field y 6 group:1 oneof:0
+field m 7 int32 map:string
+field f 8 enum:0 explicit
+message G 1 0
+message P 2 -
+field x 1 enum:3 implicit
+field m 2 int32 map:string
+field n 3 message:0 explicit
+enum A 0 -
+value ZERO 0
+enum K 1 0
+value FIVE 5
+enum C 1 -
+value TWO 2
+value ONE 1
+value ALSO_TWO 2
+enum D 2 -
+value FIRST 0
+";
+
+const SYNTAX_CASES: &str = "
+bad 18 field n 3 group:0 explicit | a group in a proto3 file
+bad 18 field n 3 closed:2 explicit | a closed enum in one
+bad 17 field m 2 group:0 map:string | a map of groups in one
+bad 18 field n 3 enum:2 explicit | an open enum that is of a proto2 file
+bad 8 field e 3 enum:2 explicit | the same in that file
+bad 8 field e 3 closed:0 explicit | a closed enum that is of a proto3 file
+bad 12 field m 7 group:1 map:string | a map of groups
+bad 12 field m 7 closed:2 map:string | a map of closed enums
+good 12 field m 7 enum:0 map:string | a map of open enums
+good 12 field m 7 message:1 map:string | a map of messages
+bad 12 field m 7 int32 map:closed:2 | no key
+bad 12 field m 7 int32 map:group:1 | no key
+bad 6 field x 1 int32 implicit | an implicit field in a proto2 file
+bad 8 field e 3 closed:2 implicit | an implicit closed enum
+bad 7 field g 2 group:1 implicit | an implicit group
+good 8 field e 3 closed:2 oneof:0 | a closed enum in a oneof
+good 8 field e 3 closed:2 list | a list of closed enums that is not packed
+bad 10 field r 5 group:1 packed | a packed group
+bad 7 field g 2 group:3 explicit | a group that is not there
+bad 8 field e 3 closed:4 explicit | an enum that is not there
+bad 7 field g 2 group:2 explicit | a group that is not seen
+good 7 field g 2 group:0 explicit | a group of the message that it stands in
+bad 22 | a closed enum without a value
+good 22 value FIVE 0 | a closed enum that begins at 0
+good 22 value FIVE -2147483648 | at the least number
+bad 20 value ZERO 5 | an open enum that begins elsewhere
+bad 20 | an open enum without a value
+bad 2 file b.proto b 0 | what stands in proto2 files in one of proto3
+bad 3 proto2 c.proto c 1 | what stands in proto3 files in one of proto2
+";
+
+fn is_told(alloc: Global, rows: &str, case: &str) -> Result<bool, Fail> {
     let (change, _) = case.split_once('|').ok_or("no case")?;
     let (answer, change) = change.split_once(' ').ok_or("no answer")?;
     let (at, instead) = change.split_once(' ').ok_or("no line")?;
-    let pool = changed_pool(alloc, USUAL, at.parse::<usize>()?, instead)?;
+    let pool = changed_pool(alloc, rows, at.parse::<usize>()?, instead)?;
     Ok(pool.is_some() == (answer == "good"))
 }
 
 #[test]
 fn rules(rt: HostRuntime) -> Result<(), Fail> {
-    for case in CASES.lines() {
-        assert!(rt; case.is_empty() || is_told(rt.alloc(), case)?, "{case}");
+    for case in USUAL_CASES.lines() {
+        assert!(rt; case.is_empty() || is_told(rt.alloc(), USUAL, case)?, "{case}");
+    }
+    Ok(())
+}
+
+#[test]
+fn rules_of_syntaxes(rt: HostRuntime) -> Result<(), Fail> {
+    for case in SYNTAX_CASES.lines() {
+        assert!(rt; case.is_empty() || is_told(rt.alloc(), SYNTAXES, case)?, "{case}");
     }
     Ok(())
 }
@@ -149,6 +221,16 @@ fn are_enums(pool: &Pool, names: &[&str]) -> bool {
 fn parts_that_meet_all_rules(rt: HostRuntime) -> Result<(), Fail> {
     let pool = pool_of(rt.alloc(), USUAL)?;
     assert!(rt; are_messages(&pool, MESSAGES) && are_enums(&pool, ENUMS));
+    Ok(())
+}
+
+#[test]
+fn parts_of_both_syntaxes(rt: HostRuntime) -> Result<(), Fail> {
+    let pool = pool_of(rt.alloc(), SYNTAXES)?;
+    assert!(rt;
+        are_messages(&pool, &["b.M", "b.M.G", "c.P"])
+            && are_enums(&pool, &["a.A", "b.M.K", "b.C", "c.D"])
+    );
     Ok(())
 }
 

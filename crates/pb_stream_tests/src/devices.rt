@@ -1,6 +1,6 @@
 //! Devices that fail in turn.
 
-use super::sample::{Schema, holding, long, sample};
+use super::sample::{Schema, closed_sample, holding, long, sample};
 use pb_decode::DecodeError;
 use pb_encode::{EncodeError, encode};
 use pb_stream::{DelimitedReader, read_delimited, write_delimited};
@@ -45,6 +45,38 @@ fn writes(rt: HostRuntime) -> Result<(), Fail> {
     assert!(rt;
         is_written(alloc, &empty, b"\x00") && is_written(alloc, &full, b"\x03\x08\x96\x01")
     );
+    Ok(())
+}
+
+/// Frames of groups and closed enums in canonical form.
+const CLOSED: &[&[u8]] = &[
+    b"\x06\x1b\x08\x05\x1c\x20\x02",
+    b"\x08\x2a\x02\x01\x02\x28\x07\x28\x09",
+    b"\x02\x1b\x1c",
+];
+
+/// Whether the message of a frame is written as that frame.
+fn is_written_back(alloc: Global, schema: &Schema, frame: &[u8]) -> Result<bool, Fail> {
+    let mut input = MemInput::new(frame, 3, FailurePlan::NEVER);
+    match read_delimited(alloc, &schema.pool, schema.kind, &mut input, Limits::FULL)? {
+        None => Ok(false),
+        Some(message) => Ok(is_written(alloc, &message, frame)),
+    }
+}
+
+fn are_written_back(alloc: Global, schema: &Schema) -> Result<bool, Fail> {
+    for frame in CLOSED {
+        if !is_written_back(alloc, schema, frame)? {
+            return Ok(false);
+        }
+    }
+    Ok(true)
+}
+
+#[test]
+fn writes_groups_and_closed_enums(rt: HostRuntime) -> Result<(), Fail> {
+    let schema = closed_sample(rt.alloc())?;
+    assert!(rt; are_written_back(rt.alloc(), &schema)?);
     Ok(())
 }
 

@@ -2,7 +2,7 @@
 
 ghost use Rattle.std.specs.Prelude.{◌<◌};
 
-use super::sample::{Schema, sample};
+use super::sample::{Schema, closed_sample, sample};
 use pb_decode::DecodeError;
 use pb_encode::encode;
 use pb_stream::{DelimitedReader, read_delimited};
@@ -115,6 +115,71 @@ const ROWS: &[Row] = &[
     },
 ];
 
+/// The same of the type `Q`: groups and closed enums.
+const CLOSED: &[Row] = &[
+    Row {
+        input: "061b08051c2002062a0401070209021b24",
+        most: 100,
+        messages: &[("1b08051c2002", 7), ("2a02010228072809", 14)],
+        refusal: Some(Refusal {
+            byte: 2,
+            number: Some(3),
+            cause: Cause::WrongEnd,
+        }),
+    },
+    Row {
+        input: "081b08051c1b08061c04200720020620878080801000",
+        most: 100,
+        messages: &[
+            ("1b08061c", 9),
+            ("20022007", 14),
+            ("208780808010", 21),
+            ("", 22),
+        ],
+        refusal: None,
+    },
+    Row {
+        input: "021b1c031b08051c",
+        most: 100,
+        messages: &[("1b1c", 3)],
+        refusal: Some(Refusal {
+            byte: 4,
+            number: Some(3),
+            cause: Cause::PastEnd,
+        }),
+    },
+    Row {
+        input: "041b08051c031b0805",
+        most: 100,
+        messages: &[("1b08051c", 5)],
+        refusal: Some(Refusal {
+            byte: 4,
+            number: Some(3),
+            cause: Cause::PastEnd,
+        }),
+    },
+    Row {
+        input: "041b0805",
+        most: 100,
+        messages: &[],
+        refusal: Some(Refusal {
+            byte: 4,
+            number: Some(3),
+            cause: Cause::Truncated,
+        }),
+    },
+    Row {
+        input: "032a020107",
+        most: 100,
+        messages: &[],
+        refusal: Some(Refusal {
+            byte: 2,
+            number: Some(5),
+            cause: Cause::PastEnd,
+        }),
+    },
+];
+
 fn is_path(path: &[PathStep], number: Option<u32>) -> bool {
     match number {
         None => path.is_empty(),
@@ -186,8 +251,8 @@ fn is_read(alloc: Global, schema: &Schema, row: &Row, piece: usize) -> Result<bo
 }
 
 /// Reads each row, and fails with the bytes of one that is read otherwise.
-fn read_rows(alloc: Global, schema: &Schema) -> Result<(), Fail> {
-    for row in ROWS {
+fn read_rows(alloc: Global, schema: &Schema, rows: &[Row]) -> Result<(), Fail> {
+    for row in rows {
         if !is_read(alloc, schema, row, 1)? || !is_read(alloc, schema, row, 100)? {
             return Err(Fail::new(row.input));
         }
@@ -198,7 +263,13 @@ fn read_rows(alloc: Global, schema: &Schema) -> Result<(), Fail> {
 #[test]
 fn rows(rt: HostRuntime) -> Result<(), Fail> {
     let schema = sample(rt.alloc())?;
-    read_rows(rt.alloc(), &schema)
+    read_rows(rt.alloc(), &schema, ROWS)
+}
+
+#[test]
+fn groups_and_closed_enums(rt: HostRuntime) -> Result<(), Fail> {
+    let schema = closed_sample(rt.alloc())?;
+    read_rows(rt.alloc(), &schema, CLOSED)
 }
 
 /// How many bytes are left of an input after one read of a frame that is refused.

@@ -67,6 +67,11 @@ groups_merged : canonical (0x1b ∷ 0x08 ∷ 0x05 ∷ 0x1c ∷ 0x1b ∷ 0x08 ∷
 unfolding value value_within records_spelled front_within first_varint after_varint named_length shortest shortest_within
 groups_merged = refl
 
+-- what a later group doesn't name stays
+group_goes_on : canonical (0x1b ∷ 0x08 ∷ 0x05 ∷ 0x1c ∷ 0x1b ∷ 0x1c ∷ []) ≡ 0x1b ∷ 0x08 ∷ 0x05 ∷ 0x1c ∷ []
+unfolding value value_within records_spelled front_within first_varint after_varint named_length shortest shortest_within
+group_goes_on = refl
+
 group_is_typed : value_of (0x1b ∷ 0x08 ∷ 0x05 ∷ 0x1c ∷ []) ≡ body (field 3 (one (message (body (field 1 (one (int 5)) no_fields) []))) no_fields) []
 unfolding value value_within records_spelled front_within first_varint after_varint named_length
 group_is_typed = refl

@@ -128,6 +128,89 @@ pub(crate) const TABLES: &[&str] = &[
     LEVELS,
 ];
 
+/// Values of closed enums, in each shape: a number that is not declared is refused, and zero is as any other.
+const DECLARED: &str = "
+good 4:e1
+good 4:e-1
+good 1:i0 4:e2 5:[e1,e2,e1,e-1]
+good 6:e1
+good 8:e2
+NoSuchValue 4:e7
+NoSuchValue 4:e0
+NoSuchValue 4:e-2147483648
+NoSuchValue 5:[e1,e7,e2]
+NoSuchValue 5:[e7]
+NoSuchValue 6:e7
+NoSuchValue 3:m2=e7
+NoSuchValue 3:n1.4=e7
+NoSuchValue 7:m2=e0
+NoSuchValue 19:[n0,m2=e7]
+good 19:[n0,m2=e-1,m1=i0]
+WrongKind 4:i1
+WrongKind 5:[e7,i1]
+WrongShape 4:[e7]
+WrongShape 5:e7
+DefaultStored 5:[]
+TwoMembers 6:e1 8:e7
+NoSuchValue 6:e7 8:e1
+NoSuchValue 4:e7 5:[]
+DefaultStored 2:[] 4:e7
+NoSuchValue 3:n101 4:e7
+NoSuchValue 4:e7 0~v5
+";
+
+/// Groups hold messages of their types, one level down.
+const GROUPS: &str = "
+good 3:n0
+good 3:m1=i0
+good 7:m1=i5
+good 19:[n0,m1=i1,n2]
+WrongKind 3:i5
+WrongKind 3:m1=tx
+NoSuchField 3:m4=e1
+WrongShape 3:[n0]
+WrongShape 19:n0
+DefaultStored 19:[]
+TwoMembers 6:e1 7:n0
+good 3:n99
+TooDeep 3:n100
+good 19:[n99]
+TooDeep 19:[n100]
+NoSuchValue 3:n100.2=e7
+";
+
+/// An undeclared number may be kept as an unknown record, and no bytes at a closed list may. A group at a group's field is known.
+const CLOSED_RECORDS: &str = "
+good 4~v7
+good 4~v0
+good 4~v4294967303
+good 4~v18446744073709551614
+good 5~v7 5~v9
+good 6~v7 8~v0
+good 4:e1 4~v7 4~v8
+KnownAsUnknown 4~v1
+KnownAsUnknown 4~v4294967297
+KnownAsUnknown 4~v4294967295
+KnownAsUnknown 4~v18446744073709551615
+KnownAsUnknown 5~v2
+KnownAsUnknown 6~v1
+KnownAsUnknown 4~v7 4~v2
+KnownAsUnknown 5~x
+KnownAsUnknown 5~x07
+KnownAsUnknown 5~x0102
+good 4~x07 6~x01
+good 4~d1 5~w1 5~g1
+good 3~x0805 3~v5
+KnownAsUnknown 3~g1
+KnownAsUnknown 7~g2
+KnownAsUnknown 19~a1
+good 1~g1 4~g1
+KnownAsUnknown 3:n100 4~v1
+TooDeep 3:n100 4~v7
+";
+
+pub(crate) const CLOSED_TABLES: &[&str] = &[DECLARED, GROUPS, CLOSED_RECORDS];
+
 /// Whether a body is told as its row says. One that is a message stays as it is.
 pub(crate) fn is_told(alloc: Global, schema: &Schema, row: &str) -> Result<bool, Fail> {
     let (told, words) = row.split_once(' ').unwrap_or((row, ""));

@@ -69,6 +69,8 @@ const DEFAULTS: &[(Kind, Option<&str>)] = &[
     (Kind::Text, Some("t")),
     (Kind::Bytes, Some("x")),
     (Kind::Message(MessageId(0)), None),
+    (Kind::Group(MessageId(0)), None),
+    (Kind::ClosedEnum(EnumId(0)), None),
 ];
 
 #[test]
@@ -94,6 +96,7 @@ const CAUSES: &[(ValueError, u8, &str)] = &[
     (ValueError::TooDeep, 27, "TooDeep"),
     (ValueError::Memory, 28, "Memory"),
     (ValueError::OtherType, 29, "OtherType"),
+    (ValueError::NoSuchValue, 30, "NoSuchValue"),
 ];
 
 #[test]

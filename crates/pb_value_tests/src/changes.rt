@@ -102,6 +102,58 @@ const INSERTS: &str = "
 1:i5 | insert 12 u1=n100 | !TooDeep
 ";
 
+/// Numbers that a closed enum declares, and others.
+const CLOSED_CHANGES: &str = "
+| set 4 e2 | 4:e2
+| set 4 e-1 | 4:e-1
+4:e1 | set 4 e2 | 4:e2
+| set 4 e7 | !NoSuchValue
+4:e1 | set 4 e7 | !NoSuchValue
+4:e1 | set 4 e0 | !NoSuchValue
+| set 5 [e1,e2] | 5:[e1,e2]
+5:[e1] | set 5 [e2,e7] | !NoSuchValue
+5:[e1] | set 5 [] |
+| set 5 [e7,i1] | !WrongKind
+| set 5 e7 | !WrongShape
+| set 4 [e7] | !WrongShape
+| set 4 i7 | !WrongKind
+6:e1 | set 8 e7 | !NoSuchValue
+6:e1 | set 8 e2 | 8:e2
+7:m1=i1 | set 6 e7 | !NoSuchValue
+5:[e1] | push 5 e2 | 5:[e1,e2]
+| push 5 e-1 | 5:[e-1]
+5:[e1] | push 5 e7 | !NoSuchValue
+| push 5 e0 | !NoSuchValue
+| push 5 i7 | !WrongKind
+| push 4 e7 | !WrongShape
+| set 1 i0 | 1:i0
+6:e1 | choose 8 e2 | 8:e2
+6:e1 | choose 7 m1=i5 | 7:m1=i5
+7:m1=i5 | choose 6 e7 | !NoSuchValue
+";
+
+const GROUP_CHANGES: &str = "
+| set 3 m1=i5 | 3:m1=i5
+3:m1=i5 | set 3 m2=e1 | 3:m2=e1
+3:m1=i5 | set 3 m2=e7 | !NoSuchValue
+| set 3 n1.4=e7 | !NoSuchValue
+| set 3 n99 | 3:n99
+| set 3 n100 | !TooDeep
+| set 3 n100.2=e7 | !NoSuchValue
+| set 3 i5 | !WrongKind
+| set 3 [n0] | !WrongShape
+6:e1 | set 7 n0 | 7:n0
+7:n0 | set 6 e1 | 6:e1
+| push 19 m1=i0 | 19:[m1=i0]
+19:[n0] | push 19 m2=e7 | !NoSuchValue
+19:[n0] | push 19 n99 | 19:[n0,n99]
+| push 19 n100 | !TooDeep
+| push 19 n100.2=e7 | !NoSuchValue
+3:n0 | clear 3 |
+";
+
+pub(crate) const CLOSED_TABLES: &[&str] = &[CLOSED_CHANGES, GROUP_CHANGES];
+
 pub(crate) const TABLES: &[&str] = &[
     SETS,
     ABSENCES,

@@ -66,6 +66,23 @@ const UNKNOWN_RECORDS: &str = "
 | 1~x 536870911~w5 | 1~x 536870911~w5
 ";
 
+/// Groups are merged as messages are, lists of closed enums are joined, and numbers that are not declared stand behind those that were there.
+const CLOSED_MERGES: &str = "
+4:e1 | 4:e2 | 4:e2
+4:e1 4~v7 | 4~v9 | 4:e1 4~v7 4~v9
+5:[e1] 5~v7 | 5:[e2,e1] 5~v9 | 5:[e1,e2,e1] 5~v7 5~v9
+3:m1=i1 | 3:m2=e1 | 3:m1=i1;2=e1
+3:m1=i1 | 3:m1=i2 | 3:m1=i2
+3:n1.1=i1 | 3:n1.4=e2 | 3:n1.1=i1;4=e2
+19:[m1=i1] | 19:[n0,m1=i1] | 19:[m1=i1,n0,m1=i1]
+7:m1=i1 | 7:m2=e1 | 7:m1=i1;2=e1
+6:e1 | 7:n0 | 7:n0
+7:m1=i1 | 6:e2 | 6:e2
+6:e1 | 8~v7 | 6:e1 8~v7
+";
+
+pub(crate) const CLOSED_TABLES: &[&str] = &[CLOSED_MERGES];
+
 pub(crate) const TABLES: &[&str] = &[SCALARS, LISTS, MAPS, MESSAGES, MEMBERS, UNKNOWN_RECORDS];
 
 /// A message of these fields, with another over it.

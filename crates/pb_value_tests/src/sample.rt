@@ -35,25 +35,67 @@ pub(crate) fn sample(alloc: Global) -> Result<Schema, Fail> {
 
 /// A type of the same declarations in a package of this name.
 pub(crate) fn sample_in(alloc: Global, package: &str, name: &str) -> Result<Schema, Fail> {
-    let files = files(alloc, package)?;
-    let pool = Pool::from_parts(alloc, files, messages(alloc)?, enums(alloc)?)?;
+    let files = files(alloc, package, false)?;
+    let pool = Pool::from_parts(alloc, files, messages(alloc, TYPES)?, enums(alloc, VALUES)?)?;
+    typed(pool, name)
+}
+
+/// Of a proto2 file: enum E { TWO = 2; ONE = 1; NEG = -1; } message Q { optional int32 a = 1; repeated int32 e = 2;
+/// optional group G = 3 { optional int32 x = 1; optional E k = 2; optional Q c = 3; } optional E k = 4; repeated E l = 5 [packed = true];
+/// oneof o { E m = 6; group V = 7 { optional int32 x = 1; optional E k = 2; optional Q c = 3; } E n = 8; }
+/// repeated group W = 19 { optional int32 x = 1; optional E k = 2; optional Q c = 3; } }
+pub(crate) fn closed_sample(alloc: Global) -> Result<Schema, Fail> {
+    let files = files(alloc, "", true)?;
+    let messages = messages(alloc, CLOSED_TYPES)?;
+    let pool = Pool::from_parts(alloc, files, messages, enums(alloc, CLOSED_VALUES)?)?;
+    typed(pool, "Q")
+}
+
+fn typed(pool: Pool, name: &str) -> Result<Schema, Fail> {
     let kind = pool.message_by_name(name).ok_or("no type")?;
     Ok(Schema { pool, kind })
 }
 
-fn files(alloc: Global, package: &str) -> Result<Vec<FileInfo>, AllocError> {
+fn files(alloc: Global, package: &str, proto2: bool) -> Result<Vec<FileInfo>, AllocError> {
     let mut files = Vec::new(alloc);
     files.push(FileInfo {
         name: String::from_str(alloc, "t.proto")?,
         package: String::from_str(alloc, package)?,
         imports: Vec::new(alloc),
+        proto2,
     })?;
     Ok(files)
 }
 
 type FieldRow = (&'static str, u32, Kind, Shape);
 
+/// A type's name, what it is declared in, its fields and the names of its oneofs.
+type TypeRow = (
+    &'static str,
+    Option<MessageId>,
+    &'static [FieldRow],
+    &'static [&'static str],
+);
+
+const TYPES: &[TypeRow] = &[
+    ("T", None, FIELDS_OF_T, &["o", "q"]),
+    ("N", Some(MessageId(0)), FIELDS_OF_N, &[]),
+];
+
+const CLOSED_TYPES: &[TypeRow] = &[
+    ("Q", None, FIELDS_OF_Q, &["o"]),
+    ("G", Some(MessageId(0)), FIELDS_OF_G, &[]),
+    ("V", Some(MessageId(0)), FIELDS_OF_G, &[]),
+    ("W", Some(MessageId(0)), FIELDS_OF_G, &[]),
+];
+
+const VALUES: &[(&str, i32)] = &[("Z", 0), ("NEG", -1)];
+
+const CLOSED_VALUES: &[(&str, i32)] = &[("TWO", 2), ("ONE", 1), ("NEG", -1)];
+
 const T: Kind = Kind::Message(MessageId(0));
+
+const E: Kind = Kind::ClosedEnum(EnumId(0));
 
 const FIELDS_OF_T: &[FieldRow] = &[
     ("a", 1, Kind::Int32, Shape::Implicit),
@@ -79,6 +121,24 @@ const FIELDS_OF_T: &[FieldRow] = &[
 
 const FIELDS_OF_N: &[FieldRow] = &[("z", 1, Kind::Text, Shape::Implicit)];
 
+const FIELDS_OF_Q: &[FieldRow] = &[
+    ("a", 1, Kind::Int32, Shape::Explicit),
+    ("e", 2, Kind::Int32, Shape::List { packed: false }),
+    ("g", 3, Kind::Group(MessageId(1)), Shape::Explicit),
+    ("k", 4, E, Shape::Explicit),
+    ("l", 5, E, Shape::List { packed: true }),
+    ("m", 6, E, Shape::OneofMember(0)),
+    ("v", 7, Kind::Group(MessageId(2)), Shape::OneofMember(0)),
+    ("n", 8, E, Shape::OneofMember(0)),
+    ("w", 19, Kind::Group(MessageId(3)), Shape::List { packed: false }),
+];
+
+const FIELDS_OF_G: &[FieldRow] = &[
+    ("x", 1, Kind::Int32, Shape::Explicit),
+    ("k", 2, E, Shape::Explicit),
+    ("c", 3, T, Shape::Explicit),
+];
+
 fn fields_of(alloc: Global, rows: &[FieldRow]) -> Result<Vec<Field>, AllocError> {
     let mut fields = Vec::new(alloc);
     for (name, number, kind, shape) in rows {
@@ -100,29 +160,25 @@ fn names_of(alloc: Global, rows: &[&str]) -> Result<Vec<String>, AllocError> {
     Ok(names)
 }
 
-fn messages(alloc: Global) -> Result<Vec<MessageType>, AllocError> {
+fn messages(alloc: Global, types: &[TypeRow]) -> Result<Vec<MessageType>, AllocError> {
     let mut messages = Vec::new(alloc);
-    messages.push(MessageType {
-        name: String::from_str(alloc, "T")?,
-        file: 0,
-        parent: None,
-        fields: fields_of(alloc, FIELDS_OF_T)?,
-        oneofs: names_of(alloc, &["o", "q"])?,
-    })?;
-    messages.push(MessageType {
-        name: String::from_str(alloc, "N")?,
-        file: 0,
-        parent: Some(MessageId(0)),
-        fields: fields_of(alloc, FIELDS_OF_N)?,
-        oneofs: Vec::new(alloc),
-    })?;
+    for (name, parent, fields, oneofs) in types {
+        messages.push(MessageType {
+            name: String::from_str(alloc, name)?,
+            file: 0,
+            parent: *parent,
+            fields: fields_of(alloc, fields)?,
+            oneofs: names_of(alloc, oneofs)?,
+        })?;
+    }
     Ok(messages)
 }
 
-fn enums(alloc: Global) -> Result<Vec<EnumType>, AllocError> {
+fn enums(alloc: Global, rows: &[(&str, i32)]) -> Result<Vec<EnumType>, AllocError> {
     let mut values = Vec::new(alloc);
-    values.push((String::from_str(alloc, "Z")?, 0))?;
-    values.push((String::from_str(alloc, "NEG")?, -1))?;
+    for (name, number) in rows {
+        values.push((String::from_str(alloc, name)?, *number))?;
+    }
     let mut enums = Vec::new(alloc);
     enums.push(EnumType {
         name: String::from_str(alloc, "E")?,

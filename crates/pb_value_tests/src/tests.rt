@@ -1,6 +1,6 @@
-//! The tests of rows: each reads its tables, on messages of the sample's type.
+//! The tests of rows: each reads its tables, on messages of the type of a sample.
 
-use super::sample::{Schema, sample};
+use super::sample::{Schema, closed_sample, sample};
 use std::alloc::Global;
 use std::test::Fail;
 
@@ -32,6 +32,7 @@ fn is_called(alloc: Global, schema: &Schema, row: &str) -> Result<bool, Fail> {
         "messages inside others" => super::views::are_inner_told(alloc, schema),
         "whole view" => super::views::is_whole_told(alloc, schema),
         "printed messages" => super::views::are_shown(alloc, schema),
+        "groups" => super::views::are_groups_told(alloc, schema),
         _ => Err(Fail::new("no call")),
     }
 }
@@ -71,6 +72,15 @@ fn wrong_row(
     first_wrong(alloc, &schema, form, tables)
 }
 
+fn wrong_closed_row(
+    alloc: Global,
+    form: Form,
+    tables: &[&'static str],
+) -> Result<Option<&'static str>, Fail> {
+    let schema = closed_sample(alloc)?;
+    first_wrong(alloc, &schema, form, tables)
+}
+
 #[test]
 fn bodies(rt: HostRuntime) -> Result<(), Fail> {
     let wrong = wrong_row(rt.alloc(), Form::Bodies, super::bodies::TABLES)?;
@@ -95,6 +105,34 @@ fn merges(rt: HostRuntime) -> Result<(), Fail> {
 #[test]
 fn calls(rt: HostRuntime) -> Result<(), Fail> {
     let wrong = wrong_row(rt.alloc(), Form::Calls, CALLS)?;
+    assert!(rt; wrong.is_none(), "{wrong:?}");
+    Ok(())
+}
+
+#[test]
+fn closed_bodies(rt: HostRuntime) -> Result<(), Fail> {
+    let wrong = wrong_closed_row(rt.alloc(), Form::Bodies, super::bodies::CLOSED_TABLES)?;
+    assert!(rt; wrong.is_none(), "{wrong:?}");
+    Ok(())
+}
+
+#[test]
+fn closed_changes(rt: HostRuntime) -> Result<(), Fail> {
+    let wrong = wrong_closed_row(rt.alloc(), Form::Changes, super::changes::CLOSED_TABLES)?;
+    assert!(rt; wrong.is_none(), "{wrong:?}");
+    Ok(())
+}
+
+#[test]
+fn closed_merges(rt: HostRuntime) -> Result<(), Fail> {
+    let wrong = wrong_closed_row(rt.alloc(), Form::Merges, super::merges::CLOSED_TABLES)?;
+    assert!(rt; wrong.is_none(), "{wrong:?}");
+    Ok(())
+}
+
+#[test]
+fn closed_calls(rt: HostRuntime) -> Result<(), Fail> {
+    let wrong = wrong_closed_row(rt.alloc(), Form::Calls, &["groups"])?;
     assert!(rt; wrong.is_none(), "{wrong:?}");
     Ok(())
 }

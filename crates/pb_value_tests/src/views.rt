@@ -69,6 +69,20 @@ pub(crate) fn are_inner_told(alloc: Global, schema: &Schema) -> Result<bool, Fai
     Ok(has_inner(&message.view()) && has_inner_itself(&message))
 }
 
+fn has_groups(message: &DynamicMessage<'_>) -> bool {
+    number_in(message.message(3)) == Some(5)
+        && number_in(message.message(7)) == Some(6)
+        && number_in(message.message_at(19, 1)) == Some(8)
+        && message.message_at(19, 2).is_none()
+        && message.message(4).is_none()
+        && message.which_oneof(0) == Some(7)
+}
+
+pub(crate) fn are_groups_told(alloc: Global, schema: &Schema) -> Result<bool, Fail> {
+    let message = schema.made(alloc, body_of(alloc, "3:m1=i5 4:e1 7:m1=i6 19:[m1=i7,m1=i8]")?)?;
+    Ok(has_groups(&message))
+}
+
 fn is_whole(view: &MessageRef<'_>, message: &DynamicMessage<'_>, kind: MessageId) -> bool {
     view.body() == message.body()
         && view.message_type() == kind

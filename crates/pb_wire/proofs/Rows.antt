@@ -1,12 +1,12 @@
 -- Small texts, their records and their faults, worked out by the rules.
-use Rattle.std.proofs.Common.{◌≡◌, ◌≢◌, ℕ, ◌+◌, ◌*◌, ◌<◌, ◌≤◌, List, [], ◌∷◌, length, refl, arith, Some, None, lit<, lit≤}
+use Rattle.std.proofs.Common.{◌≡◌, ◌≢◌, ℕ, ◌+◌, ◌*◌, ◌%◌, ◌^◌, ◌<◌, ◌≤◌, List, [], ◌∷◌, ◌++◌, length, drop, refl, sym, ap, subst, ◌∙◌, arith, Some, None, lit<, lit≤}
 use Rattle.std.proofs.lemmas.List.Elements.{All-nil, All-cons}
-use Rattle.pb_wire.specs.Varint.{IsVarint, shortest, shortest_within}
+use Rattle.pb_wire.specs.Varint.{IsVarint, EndsOnce, groups_value, shortest, shortest_within}
 use Rattle.pb_wire.specs.Zigzag.{zigzag, unzigzag}
 use Rattle.std.specs.Prelude.{pos, negsuc}
-use Rattle.pb_wire.specs.Record.{varint, group, no_more, more}
+use Rattle.pb_wire.specs.Record.{varint, len, group, no_more, more}
 use Rattle.pb_wire.specs.Ranges.{IsNumber}
-use Rattle.pb_wire.specs.Spell.{shortest_records}
+use Rattle.pb_wire.specs.Spell.{Spells, shortest_records}
 use Rattle.pb_wire.specs.Fault.{Fault, fault, step, HasTag, IsHigh, VarintFault, FixedFault, LengthFault, TagFault}
 use Rattle.pb_wire.specs.Schema.{blank, records}
 use Rattle.pb_wire.specs.Sound.{Sound, AllSound}
@@ -75,6 +75,20 @@ a_group_in_short : shortest_records (record { number = 20; payload = group (more
 unfolding shortest shortest_within
 a_group_in_short = refl
 
+-- ---- refused
+
+ends_right : (tag end : List ℕ) → 0x0b ∷ 0x14 ∷ [] ≡ tag ++ end → EndsOnce tag → EndsOnce end → groups_value end % 2 ^ 64 ≡ 12 → ⊥
+ends_right [] end e once ends value = once
+ends_right (a ∷ []) end e once ends value = omega (arith, subst (λ (b : List ℕ). groups_value b % 2 ^ 64 ≡ 12) (sym (ap (λ (b : List ℕ). drop 1 b) e)) value)
+ends_right (a ∷ b ∷ []) end e once ends value = subst EndsOnce (sym (ap (λ (b : List ℕ). drop 2 b) e)) ends
+ends_right (a ∷ b ∷ c ∷ cs) end e once ends value = omega (arith, ap (λ (b : List ℕ). length b) e)
+
+-- a group of the number 1 with the end tag of the number 2
+no_other_end : ¬ Spells (record { number = 1; payload = group no_more }) (0x0b ∷ 0x14 ∷ [])
+no_other_end h =
+    let (inside, end, none, ended, split) = h.follows in
+    ends_right h.tag end (h.joined ∙ ap (λ (b : List ℕ). h.tag ++ b) (split ∙ ap (λ (b : List ℕ). b ++ end) none)) h.tagged.ends ended.ends ended.value
+
 -- ---- faults
 
 cut_in_a_tag : HasFault blank tt (record { bytes = 9; depth = 9 }) (0x80 ∷ []) (fault 1 [] Truncated)
@@ -118,6 +132,31 @@ cut_in_a_second_value = behind_a_record 1 (lit< tt, lit< tt) (lit< tt)
 
 cut_behind_another : HasFault blank tt (record { bytes = 9; depth = 9 }) (0x10 ∷ 0x01 ∷ 0x08 ∷ 0x96 ∷ []) (fault 4 (record { number = 1; occurrence = 0 } ∷ []) Truncated)
 cut_behind_another = behind_a_record 2 (lit< tt, lit< tt) (lit< tt)
+
+-- the bytes of one record are no records of their own
+cut_behind_bytes : HasFault blank tt (record { bytes = 9; depth = 9 }) (0x0a ∷ 0x02 ∷ 0x01 ∷ 0x07 ∷ 0x08 ∷ 0x96 ∷ []) (fault 6 (record { number = 1; occurrence = 1 } ∷ []) Truncated)
+cut_behind_bytes =
+    HasFault.bad (lit≤ tt)
+    (Bad.at_record {q = record { at = 4; known = None; rest = 0x08 ∷ 0x96 ∷ [] }} {front = 0x0a ∷ 0x02 ∷ 0x01 ∷ 0x07 ∷ []} (
+      record { number = 1; payload = len (0x01 ∷ 0x07 ∷ []) } ∷ [],
+      (
+        0x0a ∷ 0x02 ∷ 0x01 ∷ 0x07 ∷ [],
+        [],
+        record {
+          number = (lit< tt, lit< tt);
+          tag = 0x0a ∷ [];
+          tagged = record { size = lit≤ tt; ends = lit< tt; value = refl };
+          body = 0x02 ∷ 0x01 ∷ 0x07 ∷ [];
+          follows = (lit< tt, 0x02 ∷ [], record { size = lit≤ tt; ends = lit< tt; value = refl }, refl);
+          joined = refl;
+        },
+        refl,
+        refl,
+      ),
+      AllSound.one (Sound.some_bytes refl) AllSound.none,
+    ) (record { given = refl; within = tt; at = refl; known = refl }) (λ h. cc, λ h g. cc)
+    (RecordFault.varint (tag_here 1 0 4 (0x96 ∷ []) (lit< tt, lit< tt) (lit< tt) (lit< tt))
+    (VarintFault.cut_short (lit< tt) (All-cons IsHigh _ [] (lit≤ tt) (All-nil IsHigh)) (λ h. cc) refl) refl))
 
 a_number_of_zero : HasFault blank tt (record { bytes = 9; depth = 9 }) (0x07 ∷ []) (fault 0 [] NumberZero)
 a_number_of_zero =
