@@ -23,6 +23,7 @@ use Rattle.pb_link.specs.ToDecls.{is_repeated_shape, code_of_kind, code_of_field
 use Rattle.pb_link.proofs.OwnRules.{MeetsOwnRules}
 use Rattle.pb_link.proofs.FlatLemmas.{Stands}
 use Rattle.pb_link.proofs.WholeLemmas.{all_at}
+use Rattle.pb_link.proofs.DeclaredSyntaxLemmas.{rule_at}
 use Rattle.pb_link.proofs.DeclaredOneofLemmas.{field_oneof, oneof_right}
 use Rattle.pb_link.proofs.EachItemLemmas.{OfEnum, OfHead, Of, all_items}
 
@@ -132,7 +133,8 @@ packable_code (kind.ClosedEnum e) may = refl
 
 -- a field that says it is packed is a list of a packable kind
 abbrev IsPackedRight : Bool → Shape → Kind → Type 0
-IsPackedRight two s k = (not (option_map_or (λ b. b) (packed_of_field two s k) false) || (is_repeated_shape s && is_packable_code (code_of_field s k))) ≡ true
+IsPackedRight two s k =
+    (not (option_map_or (λ b. b) (packed_of_field two s k) false) || (is_repeated_shape s && is_packable_code (code_of_field s k))) ≡ true
 
 packed_right : (two : Bool) (s : Shape) (k : Kind) → MayBePacked s k → IsPackedRight two s k
 packed_right true (shape.List true) k may = packable_code k may
@@ -190,7 +192,7 @@ own_head ts pool m there = record {
         let g = from.0 in
         let number : IsFieldNumber g.number = all_at (λ x. IsFieldNumber x.number) m.1.fields i g (all_at (λ t. AllByRecursion (λ x. IsFieldNumber x.number) t.fields) ts.messages m.0 m.1 pool.fields.shapes.numbers there) from.1 in
         let differ : AllDiffer (map (λ x. x.number) m.1.fields) = all_at (λ t. AllDiffer (map (λ x. x.number) t.fields)) ts.messages m.0 m.1 pool.fields.numbers_differ there in
-        let may : MayBePacked g.shape g.kind = all_at (λ x. MayBePacked x.shape x.kind) m.1.fields i g (all_at (λ t. AllByRecursion (λ x. MayBePacked x.shape x.kind) t.fields) ts.messages m.0 m.1 pool.fields.shapes.packed there) from.1 in
+        let may = rule_at (λ t f. MayBePacked f.shape f.kind) ts pool.fields.shapes.packed m there i g from.1 in
         let oneof_at : oneof_of_field_is_right (declared_head ts m.0 m.1) (declared_field two ts (name_at (message_names ts) m.0) from.2.0 g) ≡ true = ap (oneof_of_field_is_right (declared_head ts m.0 m.1)) (sym from.2.1) ∙ field_oneof ts pool m there i f at in
         subst (λ h. Own (a_field (declared_head ts m.0 m.1) i h)) (sym from.2.1) (λ w place file parent scope. record {
           number = field_number g.number number;

@@ -17,6 +17,7 @@ use Rattle.pb_link.specs.Declarations.{Declaration}
 use Rattle.pb_link.specs.Rules.{World, is_two, is_marked_optional, is_oneof_right, begins_right, is_enum, is_open, is_enum_right, passes_declared, lookups, key_name, value_name}
 use Rattle.pb_link.specs.Link.{IsWorldOf, holds}
 use Rattle.pb_link.specs.ToDecls.{is_optional_field, code_of_kind, name_of_kind, name_of_type, declared_field, declared_enum, declared_head, entry_part, decls_of}
+use Rattle.pb_link.proofs.AnyLemmas.{or_second}
 use Rattle.pb_link.proofs.FlatLemmas.{Stands}
 use Rattle.pb_link.proofs.WholeLemmas.{all_at}
 use Rattle.pb_link.proofs.EachDeclaredLemmas.{Name}
@@ -24,13 +25,6 @@ use Rattle.pb_link.proofs.FromLemmas.{Two, IsFrom, from_file, from_message, from
 use Rattle.pb_link.proofs.DeclaredSyntaxLemmas.{two_again, stands_in, not_in_proto3}
 use Rattle.pb_link.proofs.TypeCaseLemmas.{TypeCase, scalar, type_named, KindCase, key_plain, field_at}
 use Rattle.pb_link.proofs.MapRuleLemmas.{is_key, value_three, seen_kind, key_case, Entry, map_looked, map_name, Field}
-
-or_true : (b : Bool) → (b || true) ≡ true
-or_true true = refl
-or_true false = refl
-
-or_second : (a b : Bool) → b ≡ true → (a || b) ≡ true
-or_second a b h = ap (λ c. a || c) h ∙ or_true a
 
 -- OPTIONAL FIELDS
 
