@@ -21,15 +21,18 @@ pub two_again : (ts : Types) → IsPool ts → (w : World) → IsWorldOf (decls_
 two_again ts pool w world i = sym (same_syntax (decls_of ts) w world i) ∙ ap (λ fs. is_proto2 fs i) (files_again ts pool)
 
 -- what a rule says of a field of a message
-pub rule_at : (P : MessageView → FieldView → Type 0) (ts : Types) → EachField P ts.messages → (m : ℕ × MessageView) → Stands ts m → (j : ℕ) (g : FieldView) → slice_get m.1.fields j ≡ Some g → P m.1 g
+pub rule_at : (P : MessageView → FieldView → Type 0) (ts : Types) → EachField P ts.messages → (m : ℕ × MessageView) → Stands ts m → (j : ℕ) (g : FieldView) →
+    slice_get m.1.fields j ≡ Some g → P m.1 g
 rule_at P ts rule m there j g at = all_at (P m.1) m.1.fields j g (all_at (λ t. AllByRecursion (P t) t.fields) ts.messages m.0 m.1 rule there) at
 
 -- the field may stand in the message's file
-pub stands_in : (ts : Types) → IsPool ts → (m : ℕ × MessageView) → Stands ts m → (j : ℕ) (g : FieldView) → slice_get m.1.fields j ≡ Some g → MayStandIn (is_proto2 ts.files m.1.file) g.shape g.kind
+pub stands_in : (ts : Types) → IsPool ts → (m : ℕ × MessageView) → Stands ts m → (j : ℕ) (g : FieldView) → slice_get m.1.fields j ≡ Some g →
+    MayStandIn (is_proto2 ts.files m.1.file) g.shape g.kind
 stands_in ts pool = rule_at (λ t f. MayStandIn (is_proto2 ts.files t.file) f.shape f.kind) ts pool.syntax.fields
 
 -- an enum that the field names is open or closed as its file has it
-pub enum_right : (ts : Types) → IsPool ts → (m : ℕ × MessageView) → Stands ts m → (j : ℕ) (g : FieldView) → slice_get m.1.fields j ≡ Some g → EnumIsRight ts.files ts.enums g.kind
+pub enum_right : (ts : Types) → IsPool ts → (m : ℕ × MessageView) → Stands ts m → (j : ℕ) (g : FieldView) → slice_get m.1.fields j ≡ Some g →
+    EnumIsRight ts.files ts.enums g.kind
 enum_right ts pool = rule_at (λ t f. EnumIsRight ts.files ts.enums f.kind) ts pool.syntax.enums
 
 -- what may stand in a file of proto3 is of no kind of proto2

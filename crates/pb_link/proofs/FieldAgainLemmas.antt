@@ -58,18 +58,22 @@ module _ (ts : Types) (pool : IsPool ts) (w : World) (world : IsWorldOf (decls_o
   abbrev Means : ℕ → List ℕ → DeclaredField → Kind → Type 0
   Means file scope f k = (kind_of_field w file scope f ≡ k) × (entry_of w file scope f ≡ None)
 
-  scalar : (file : ℕ) (scope : List ℕ) (f : DeclaredField) (k : Kind) → f.type_name ≡ None → f.type_code ≡ Some (code_of_kind k) → kind_of_code (code_of_kind k) ≡ k → Means file scope f k
+  scalar : (file : ℕ) (scope : List ℕ) (f : DeclaredField) (k : Kind) → f.type_name ≡ None → f.type_code ≡ Some (code_of_kind k) →
+      kind_of_code (code_of_kind k) ≡ k → Means file scope f k
   scalar file scope f k none code same =
       let nowhere : type_place w file scope f ≡ None = ap (option_and_then (λ name. place_found (looked_up w.declared (w.sight.sees file) scope name))) none in (
         ap (kind_by_place w f) nowhere ∙ ap (λ c. option_map_or kind_of_code c kind.Bool) code ∙ same,
         ap (option_and_then (λ place. option_and_then entry_declared (slice_get w.declared place))) nowhere,
       )
 
-  placed : (file : ℕ) (scope name : List ℕ) (f : DeclaredField) (place : ℕ) → f.type_name ≡ Some name → place_found (looked_up w.declared (w.sight.sees file) scope name) ≡ Some place → type_place w file scope f ≡ Some place
+  placed : (file : ℕ) (scope name : List ℕ) (f : DeclaredField) (place : ℕ) → f.type_name ≡ Some name →
+      place_found (looked_up w.declared (w.sight.sees file) scope name) ≡ Some place → type_place w file scope f ≡ Some place
   placed file scope name f place named there = ap (option_and_then (λ n. place_found (looked_up w.declared (w.sight.sees file) scope n))) named ∙ there
 
   -- a message, which is a group where that is the type number
-  message_means : (group : Bool) (file : ℕ) (scope : List ℕ) (f : DeclaredField) (i : ℕ) (t : MessageView) → slice_get ts.messages i ≡ Some t → IsSeen ts.files file t.file → f.type_name ≡ Some (46 ∷ name_at (message_names ts) i) → is_group f.type_code ≡ group → Means file scope f (grouped group (kind.Message (record { 0 = i })))
+  message_means : (group : Bool) (file : ℕ) (scope : List ℕ) (f : DeclaredField) (i : ℕ) (t : MessageView) → slice_get ts.messages i ≡ Some t →
+      IsSeen ts.files file t.file → f.type_name ≡ Some (46 ∷ name_at (message_names ts) i) → is_group f.type_code ≡ group →
+      Means file scope f (grouped group (kind.Message (record { 0 = i })))
   message_means group file scope f i t there seen named is =
       let p = message_placed ts pool w world i t there in
       let at = placed file scope (46 ∷ name_at (message_names ts) i) f p.place named (ap place_found (p.looked file scope (sees file t.file seen))) in
@@ -79,7 +83,9 @@ module _ (ts : Types) (pool : IsPool ts) (w : World) (world : IsWorldOf (decls_o
       )
 
   -- an enum, which is closed in a file of proto2
-  enum_means : (two : Bool) (file : ℕ) (scope : List ℕ) (f : DeclaredField) (i : ℕ) (e : EnumView) → slice_get ts.enums i ≡ Some e → IsSeen ts.files file e.file → f.type_name ≡ Some (46 ∷ name_at (enum_names ts) i) → is_group f.type_code ≡ false → is_proto2 ts.files e.file ≡ two → Means file scope f (enum_kind two i)
+  enum_means : (two : Bool) (file : ℕ) (scope : List ℕ) (f : DeclaredField) (i : ℕ) (e : EnumView) → slice_get ts.enums i ≡ Some e →
+      IsSeen ts.files file e.file → f.type_name ≡ Some (46 ∷ name_at (enum_names ts) i) → is_group f.type_code ≡ false → is_proto2 ts.files e.file ≡ two →
+      Means file scope f (enum_kind two i)
   enum_means two file scope f i e there seen named single is =
       let p = enum_placed ts pool w world i e there in
       let at = placed file scope (46 ∷ name_at (enum_names ts) i) f p.place named (ap place_found (p.looked file scope (sees file e.file seen))) in
@@ -92,7 +98,8 @@ module _ (ts : Types) (pool : IsPool ts) (w : World) (world : IsWorldOf (decls_o
   seen_there : {X : Type 0} (o : Option X) (x : X) (P : X → Type 0) → o ≡ Some x → IfSome o P → P x
   seen_there o x P is h = subst (λ p. IfSome p P) is h
 
-  means : (file : ℕ) (scope : List ℕ) (f : DeclaredField) (k : Kind) → NamesType (length ts.messages) (length ts.enums) k → TypeIsSeen ts file k → EnumIsRight ts.files ts.enums k → f.type_name ≡ name_of_kind ts k → f.type_code ≡ Some (code_of_kind k) → Means file scope f k
+  means : (file : ℕ) (scope : List ℕ) (f : DeclaredField) (k : Kind) → NamesType (length ts.messages) (length ts.enums) k → TypeIsSeen ts file k →
+      EnumIsRight ts.files ts.enums k → f.type_name ≡ name_of_kind ts k → f.type_code ≡ Some (code_of_kind k) → Means file scope f k
   means file scope f (kind.Message m) named seen right is code =
       let t = get_there ts.messages m.0 named in
       message_means false file scope f m.0 t.0 t.1 (seen_there (slice_get ts.messages m.0) t.0 (λ x. IsSeen ts.files file x.file) t.1 seen) is (ap is_group code)
@@ -145,7 +152,8 @@ module _ (ts : Types) (pool : IsPool ts) (w : World) (world : IsWorldOf (decls_o
     abbrev Again : Shape → Type 0
     Again s = field_type w m.1.file scope (Declared s) ≡ record { name = g.name; number = g.number; kind = g.kind; shape = s }
 
-    plain : (s : Shape) → IsNoMap s → IsRight m g s → name_of_type ts Name g.name s g.kind ≡ name_of_kind ts g.kind → code_of_field s g.kind ≡ code_of_kind g.kind → Again s
+    plain : (s : Shape) → IsNoMap s → IsRight m g s → name_of_type ts Name g.name s g.kind ≡ name_of_kind ts g.kind →
+        code_of_field s g.kind ≡ code_of_kind g.kind → Again s
     plain s bare right called code =
         let k = means m.1.file scope (Declared s) g.kind right.named right.seen right.opens called (ap Some code) in
         ap (field_by_entry w m.1.file scope (Declared s)) k.1
@@ -171,7 +179,8 @@ module _ (ts : Types) (pool : IsPool ts) (w : World) (world : IsWorldOf (decls_o
     by_shape (shape.OneofMember o) is right = plain (shape.OneofMember o) tt right refl refl
     by_shape (shape.List packed) is right = plain (shape.List packed) tt right refl refl
 
-  field_again : (m : ℕ × MessageView) → Stands ts m → (scope : List ℕ) (j : ℕ) (g : FieldView) → slice_get m.1.fields j ≡ Some g → (r : ℕ) → field_type w m.1.file scope (declared_field (Two ts m) ts (name_at (message_names ts) m.0) r g) ≡ g
+  field_again : (m : ℕ × MessageView) → Stands ts m → (scope : List ℕ) (j : ℕ) (g : FieldView) → slice_get m.1.fields j ≡ Some g → (r : ℕ) →
+      field_type w m.1.file scope (declared_field (Two ts m) ts (name_at (message_names ts) m.0) r g) ≡ g
   field_again m there scope j g at r = by_shape m there scope j g at r g.shape refl (record {
     named = rule_at (λ t f. NamesType (length ts.messages) (length ts.enums) f.kind) ts pool.indexes.kinds m there j g at;
     seen = rule_at (λ t f. TypeIsSeen ts t.file f.kind) ts pool.fields.types_seen m there j g at;
@@ -182,7 +191,9 @@ module _ (ts : Types) (pool : IsPool ts) (w : World) (world : IsWorldOf (decls_o
     stands = stands_in ts pool m there j g at;
   })
 
-  each_again : (two : Bool) (file : ℕ) (scope name : List ℕ) (s : ℕ) (fs : List FieldView) → ((j : ℕ) (g : FieldView) → slice_get fs j ≡ Some g → (r : ℕ) → field_type w file scope (declared_field two ts name r g) ≡ g) → map (field_type w file scope) (declared_fields two ts name s fs) ≡ fs
+  each_again : (two : Bool) (file : ℕ) (scope name : List ℕ) (s : ℕ) (fs : List FieldView) →
+      ((j : ℕ) (g : FieldView) → slice_get fs j ≡ Some g → (r : ℕ) → field_type w file scope (declared_field two ts name r g) ≡ g) →
+      map (field_type w file scope) (declared_fields two ts name s fs) ≡ fs
   each_again two file scope name s [] each = refl
   each_again two file scope name s (f ∷ fs) each =
       let next = cond (is_optional_view two f) (s + 1) s in

@@ -50,7 +50,8 @@ module _ (two : Bool) (ts : Types) (scope : List ℕ) (r : ℕ) where
   abbrev Made : List ℕ → ℕ → Kind → Shape → Shape
   Made name number k s = shape_made two k (declared_field two ts scope r (record { name = name; number = number; kind = k; shape = s }))
 
-  list_again : (name : List ℕ) (number : ℕ) (packed : Bool) (k : Kind) → MayBePacked (shape.List packed) k → Made name number k (shape.List packed) ≡ shape.List packed
+  list_again : (name : List ℕ) (number : ℕ) (packed : Bool) (k : Kind) → MayBePacked (shape.List packed) k →
+      Made name number k (shape.List packed) ≡ shape.List packed
   list_again name number packed k may = ap (λ o. shape.List (is_packable k && option_map_or (λ (x : Bool). x) o (not two))) (same two) ∙ ap shape.List (packed_list two packed (is_packable k) (by packed may))
     where
       same : (t : Bool) → packed_of_list t packed k ≡ said t packed (is_packable k)
@@ -65,7 +66,8 @@ module _ (two : Bool) (ts : Types) (scope : List ℕ) (r : ℕ) where
   explicit_again : (name : List ℕ) (number : ℕ) (k : Kind) → MayStandIn two shape.Explicit k → Made name number k shape.Explicit ≡ shape.Explicit
   explicit_again name number k may = by two k may
     where
-      by : (t : Bool) (k : Kind) → MayStandIn t shape.Explicit k → shape_made t k (declared_field t ts scope r (record { name = name; number = number; kind = k; shape = shape.Explicit })) ≡ shape.Explicit
+      by : (t : Bool) (k : Kind) → MayStandIn t shape.Explicit k →
+          shape_made t k (declared_field t ts scope r (record { name = name; number = number; kind = k; shape = shape.Explicit })) ≡ shape.Explicit
       by true k may = refl
       by false (kind.Message m) may = refl
       by false (kind.Group m) may = refl
@@ -87,10 +89,12 @@ module _ (two : Bool) (ts : Types) (scope : List ℕ) (r : ℕ) where
       by false kind.Sint32 may = refl
       by false kind.Sint64 may = refl
 
-  implicit_again : (name : List ℕ) (number : ℕ) (k : Kind) → MayBeImplicit shape.Implicit k → MayStandIn two shape.Implicit k → Made name number k shape.Implicit ≡ shape.Implicit
+  implicit_again : (name : List ℕ) (number : ℕ) (k : Kind) → MayBeImplicit shape.Implicit k → MayStandIn two shape.Implicit k →
+      Made name number k shape.Implicit ≡ shape.Implicit
   implicit_again name number k scalar may = by two k scalar may
     where
-      by : (t : Bool) (k : Kind) → MayBeImplicit shape.Implicit k → MayStandIn t shape.Implicit k → shape_made t k (declared_field t ts scope r (record { name = name; number = number; kind = k; shape = shape.Implicit })) ≡ shape.Implicit
+      by : (t : Bool) (k : Kind) → MayBeImplicit shape.Implicit k → MayStandIn t shape.Implicit k →
+          shape_made t k (declared_field t ts scope r (record { name = name; number = number; kind = k; shape = shape.Implicit })) ≡ shape.Implicit
       by true k scalar may = absurd may
       by false (kind.Message m) scalar may = absurd scalar
       by false (kind.Group m) scalar may = absurd scalar
@@ -112,7 +116,8 @@ module _ (two : Bool) (ts : Types) (scope : List ℕ) (r : ℕ) where
       by false kind.Sint32 scalar may = refl
       by false kind.Sint64 scalar may = refl
 
-  pub shape_again : (name : List ℕ) (number : ℕ) (k : Kind) (s : Shape) → IsNoMap s → MayBePacked s k → MayBeImplicit s k → MayStandIn two s k → Made name number k s ≡ s
+  pub shape_again : (name : List ℕ) (number : ℕ) (k : Kind) (s : Shape) → IsNoMap s → MayBePacked s k → MayBeImplicit s k → MayStandIn two s k →
+      Made name number k s ≡ s
   shape_again name number k (shape.Map key) plain packed implicit may = absurd plain
   shape_again name number k (shape.List b) plain packed implicit may = list_again name number b k packed
   shape_again name number k shape.Explicit plain packed implicit may = explicit_again name number k may
@@ -121,7 +126,8 @@ module _ (two : Bool) (ts : Types) (scope : List ℕ) (r : ℕ) where
 
 -- ONEOFS
 
-none_kept : (t : ℕ × List ℕ → Bool) (k : ℕ) (ys : List (List ℕ)) → ((i : ℕ) (y : List ℕ) → slice_get ys i ≡ Some y → t (k + i, y) ≡ false) → map (λ (e : ℕ × List ℕ). e.1) (filter t (enumerate_from k ys)) ≡ []
+none_kept : (t : ℕ × List ℕ → Bool) (k : ℕ) (ys : List (List ℕ)) → ((i : ℕ) (y : List ℕ) → slice_get ys i ≡ Some y → t (k + i, y) ≡ false) →
+    map (λ (e : ℕ × List ℕ). e.1) (filter t (enumerate_from k ys)) ≡ []
 none_kept t k [] none = refl
 none_kept t k (y ∷ ys) none =
     let e : k + 0 ≡ k = omega arith in
@@ -129,7 +135,9 @@ none_kept t k (y ∷ ys) none =
     ∙ none_kept t (k + 1) ys (λ i z there. let f : k + 1 + i ≡ k + suc i = omega arith in ap (λ n. t (n, z)) f ∙ none (suc i) z there)
 
 -- the first ones pass a test of their index, and those behind them do not
-first_kept : (t : ℕ × List ℕ → Bool) (k : ℕ) (xs ys : List (List ℕ)) → ((i : ℕ) (x : List ℕ) → slice_get xs i ≡ Some x → t (k + i, x) ≡ true) → ((i : ℕ) (y : List ℕ) → slice_get ys i ≡ Some y → t (k + length xs + i, y) ≡ false) → map (λ (e : ℕ × List ℕ). e.1) (filter t (enumerate_from k (xs ++ ys))) ≡ xs
+first_kept : (t : ℕ × List ℕ → Bool) (k : ℕ) (xs ys : List (List ℕ)) → ((i : ℕ) (x : List ℕ) → slice_get xs i ≡ Some x → t (k + i, x) ≡ true) →
+    ((i : ℕ) (y : List ℕ) → slice_get ys i ≡ Some y → t (k + length xs + i, y) ≡ false) →
+    map (λ (e : ℕ × List ℕ). e.1) (filter t (enumerate_from k (xs ++ ys))) ≡ xs
 first_kept t k [] ys some none = none_kept t k ys (λ i y there. let e : k + i ≡ k + 0 + i = omega arith in ap (λ n. t (n, y)) e ∙ none i y there)
 first_kept t k (x ∷ xs) ys some none =
     let e : k + 0 ≡ k = omega arith in

@@ -31,7 +31,8 @@ word_named (c ∷ cs) h = λ e. cc
 words_named : (names : List (List ℕ)) → AreWords names → AllByRecursion IsNamed names
 words_named names words = all_each (λ name. IsTrue (is_word name)) IsNamed names word_named words
 
-all_map : {X Y : Type 0} (P : X → Type 0) (Q : Y → Type 0) (g : X → Y) (xs : List X) → ((x : X) → P x → Q (g x)) → AllByRecursion P xs → AllByRecursion Q (map g xs)
+all_map : {X Y : Type 0} (P : X → Type 0) (Q : Y → Type 0) (g : X → Y) (xs : List X) → ((x : X) → P x → Q (g x)) → AllByRecursion P xs →
+    AllByRecursion Q (map g xs)
 all_map P Q g [] give all = tt
 all_map P Q g (x ∷ xs) give all = (give x all.0, all_map P Q g xs give all.1)
 
@@ -115,7 +116,8 @@ record IsRight (two : Bool) (f : FieldView) : Type 0 where
   value : MayBeValue f.shape f.kind
   stands : MayStandIn two f.shape f.kind
 
-fields_silent : (two : Bool) (ts : Types) (scope : List ℕ) (synthetic : ℕ) (fs : List FieldView) → AllByRecursion (IsRight two) fs → AllByRecursion (IsSilentField two) (declared_fields two ts scope synthetic fs)
+fields_silent : (two : Bool) (ts : Types) (scope : List ℕ) (synthetic : ℕ) (fs : List FieldView) → AllByRecursion (IsRight two) fs →
+    AllByRecursion (IsSilentField two) (declared_fields two ts scope synthetic fs)
 fields_silent two ts scope synthetic [] all = tt
 fields_silent two ts scope synthetic (f ∷ fs) all = (
   (first_named f all.0.words, field_type two f.shape f.kind all.0.stands),
@@ -135,7 +137,8 @@ abbrev IsSilentOption : Bool → Option DeclaredMessage → Type 0
 IsSilentOption two None = ⊤
 IsSilentOption two (Some m) = IsSilentMessage two m
 
-entry_silent : (two : Bool) (ts : Types) (name : List ℕ) (key k : Kind) → IsNamed (entry_name name) → IsTrue (is_key_kind key) → is_of_proto2 k ≡ false → IsSilentMessage two (entry_message ts name key k)
+entry_silent : (two : Bool) (ts : Types) (name : List ℕ) (key k : Kind) → IsNamed (entry_name name) → IsTrue (is_key_kind key) → is_of_proto2 k ≡ false →
+    IsSilentMessage two (entry_message ts name key k)
 entry_silent two ts name key k named is_key three = (
   record { named = named; fields = ((λ e. cc, type_of_proto3 two key (key_plain key is_key)), ((λ e. cc, type_of_proto3 two k three), tt)); oneofs = tt; enums = tt },
   tt,
@@ -144,18 +147,21 @@ entry_silent two ts name key k named is_key three = (
 entry_option : (two : Bool) (ts : Types) (f : FieldView) → IsRight two f → IsSilentOption two (entry_of_field ts f)
 entry_option two ts f right = by f.shape right.words right.key right.value
   where
-    by : (s : Shape) → AreWords (names_of_field (record f { shape = s })) → HasKeyKind s → MayBeValue s f.kind → IsSilentOption two (entry_of_field ts (record f { shape = s }))
+    by : (s : Shape) → AreWords (names_of_field (record f { shape = s })) → HasKeyKind s → MayBeValue s f.kind →
+        IsSilentOption two (entry_of_field ts (record f { shape = s }))
     by (shape.Map key) words is_key value = entry_silent two ts f.name key f.kind (word_named (entry_name f.name) words.1.0) is_key value
     by shape.Implicit words is_key value = tt
     by shape.Explicit words is_key value = tt
     by (shape.OneofMember o) words is_key value = tt
     by (shape.List packed) words is_key value = tt
 
-entries_silent : (two : Bool) (ts : Types) (fs : List FieldView) → AllByRecursion (IsRight two) fs → AllByRecursion (IsSilentMessage two) (filter_map (entry_of_field ts) fs)
+entries_silent : (two : Bool) (ts : Types) (fs : List FieldView) → AllByRecursion (IsRight two) fs →
+    AllByRecursion (IsSilentMessage two) (filter_map (entry_of_field ts) fs)
 entries_silent two ts [] all = tt
 entries_silent two ts (f ∷ fs) all = by (entry_of_field ts f) (entry_option two ts f all.0) (entries_silent two ts fs all.1)
   where
-    by : (o : Option DeclaredMessage) → IsSilentOption two o → AllByRecursion (IsSilentMessage two) (filter_map (entry_of_field ts) fs) → AllByRecursion (IsSilentMessage two) (cons_option o (filter_map (entry_of_field ts) fs))
+    by : (o : Option DeclaredMessage) → IsSilentOption two o → AllByRecursion (IsSilentMessage two) (filter_map (entry_of_field ts) fs) →
+        AllByRecursion (IsSilentMessage two) (cons_option o (filter_map (entry_of_field ts) fs))
     by None here rest = rest
     by (Some m) here rest = (here, rest)
 

@@ -47,7 +47,8 @@ module _ (ts : Types) (pool : IsPool ts) (w : World) (world : IsWorldOf (decls_o
   oneof_right place d from right = ap (λ b. not b && is_oneof_right d.item) (unmarked d from) ∙ right
     where
       unmarked : (d : Declaration) → IsFrom ts d → (is_marked_optional d.item && is_two w.files d.file) ≡ false
-      unmarked d (from_field m there p i r g at) = ap (λ b. is_optional_field (Two ts m) g.shape g.kind && b) (two_again ts pool w world m.1.file) ∙ never_optional (Two ts m) g.shape g.kind
+      unmarked d (from_field m there p i r g at) =
+          ap (λ b. is_optional_field (Two ts m) g.shape g.kind && b) (two_again ts pool w world m.1.file) ∙ never_optional (Two ts m) g.shape g.kind
       unmarked d (from_file i p f there) = refl
       unmarked d (from_message m there p inner) = refl
       unmarked d (from_oneof m there p i name at) = refl
@@ -61,7 +62,8 @@ module _ (ts : Types) (pool : IsPool ts) (w : World) (world : IsWorldOf (decls_o
   pub first_value : (place : ℕ) (d : Declaration) → IsFrom ts d → holds w place d cause.BadEnum ≡ true
   first_value place d (from_enum e there p) =
       ap (λ b. begins_right b (declared_enum e.1)) (two_again ts pool w world e.1.file)
-      ∙ by (is_proto2 ts.files e.1.file) e.1.values (all_at (λ u. BeginsRight (is_proto2 ts.files u.file) u.values) ts.enums e.0 e.1 pool.syntax.first_values there)
+      ∙ by (is_proto2 ts.files e.1.file) e.1.values
+      (all_at (λ u. BeginsRight (is_proto2 ts.files u.file) u.values) ts.enums e.0 e.1 pool.syntax.first_values there)
     where
       by : (two : Bool) (vs : List (List ℕ × ℤ)) → BeginsRight two vs → begins_right two (declared_enum (record e.1 { values = vs })) ≡ true
       by two [] h = absurd h
@@ -82,7 +84,8 @@ module _ (ts : Types) (pool : IsPool ts) (w : World) (world : IsWorldOf (decls_o
   Open d = list_all (passes_declared w (is_open w.files)) (lookups w d) ≡ true
 
   -- a kind of proto3 names no closed enum
-  kind_open : (file parent : ℕ) (scope : List ℕ) (head : MessageHead) (i : ℕ) (f : DeclaredField) (k : Kind) → f.type_name ≡ name_of_kind ts k → KindCase ts w file scope k → is_of_proto2 k ≡ false → Open (field_at file parent scope head i f)
+  kind_open : (file parent : ℕ) (scope : List ℕ) (head : MessageHead) (i : ℕ) (f : DeclaredField) (k : Kind) → f.type_name ≡ name_of_kind ts k →
+      KindCase ts w file scope k → is_of_proto2 k ≡ false → Open (field_at file parent scope head i f)
   kind_open file parent scope head i f k named c three = subst (λ o. Open (At o)) (sym named) (by c.case)
     where
       At : Option (List ℕ) → Declaration
@@ -96,21 +99,27 @@ module _ (ts : Types) (pool : IsPool ts) (w : World) (world : IsWorldOf (decls_o
           ∙ ap (λ b. b && true) (c.open_enum three n is t.place t.looked t.type t.there))
 
   -- a field in a file of proto2, or else one of a kind of proto3
-  field_open : (m : ℕ × MessageView) → Stands ts m → (p i r : ℕ) (g : FieldView) → slice_get m.1.fields i ≡ Some g → is_enum_right w (Field ts pool w world m p i r g) ≡ true
-  field_open m there p i r g at = ap (λ b. (b && true) || list_all (passes_declared w (is_open w.files)) (lookups w d)) (two_again ts pool w world m.1.file) ∙ by (Two ts m) refl
+  field_open : (m : ℕ × MessageView) → Stands ts m → (p i r : ℕ) (g : FieldView) → slice_get m.1.fields i ≡ Some g →
+      is_enum_right w (Field ts pool w world m p i r g) ≡ true
+  field_open m there p i r g at =
+      ap (λ b. (b && true) || list_all (passes_declared w (is_open w.files)) (lookups w d)) (two_again ts pool w world m.1.file) ∙ by (Two ts m) refl
     where
       d : Declaration
       d = Field ts pool w world m p i r g
 
       plain : (s : Shape) → g.shape ≡ s → name_of_type ts (Name ts m.0) g.name s g.kind ≡ name_of_kind ts g.kind → is_of_proto2 g.kind ≡ false → Open d
-      plain s is named = kind_open m.1.file p (Name ts m.0) (declared_head ts m.0 m.1) i (declared_field (Two ts m) ts (Name ts m.0) r g) g.kind (ap (λ x. name_of_type ts (Name ts m.0) g.name x g.kind) is ∙ named) (seen_kind ts pool w world m there i g at (Name ts m.0))
+      plain s is named =
+          kind_open m.1.file p (Name ts m.0) (declared_head ts m.0 m.1) i (declared_field (Two ts m) ts (Name ts m.0) r g) g.kind
+          (ap (λ x. name_of_type ts (Name ts m.0) g.name x g.kind) is ∙ named) (seen_kind ts pool w world m there i g at (Name ts m.0))
 
       by_shape : (s : Shape) → g.shape ≡ s → is_of_proto2 g.kind ≡ false → Open d
       by_shape (shape.Map key) is three =
           let map : IsMapField m i g key = record { there = at; is_map = is } in
           let e = Entry ts pool w world m there i g key map in
-          subst (λ o. Open (field_at m.1.file p (Name ts m.0) (declared_head ts m.0 m.1) i (record (declared_field (Two ts m) ts (Name ts m.0) r g) { type_name = o }))) (sym (map_name ts (Name ts m.0) g.name g.shape g.kind key is))
-          (ap (λ x. passes_declared w (is_open w.files) x && true) (map_looked ts pool w world m there i g key map (Name ts m.0)) ∙ ap (λ o. option_map_or (is_open w.files) o true && true) e.there
+          let named : Option (List ℕ) → DeclaredField = λ o. record (declared_field (Two ts m) ts (Name ts m.0) r g) { type_name = o } in
+          subst (λ o. Open (field_at m.1.file p (Name ts m.0) (declared_head ts m.0 m.1) i (named o))) (sym (map_name ts (Name ts m.0) g.name g.shape g.kind key is))
+          (ap (λ x. passes_declared w (is_open w.files) x && true) (map_looked ts pool w world m there i g key map (Name ts m.0))
+          ∙ ap (λ o. option_map_or (is_open w.files) o true && true) e.there
           ∙ ap (λ it. not (is_enum it && is_two w.files e.declared.file) && true) e.item)
       by_shape shape.Implicit is three = plain shape.Implicit is refl three
       by_shape shape.Explicit is three = plain shape.Explicit is refl three
@@ -126,10 +135,14 @@ module _ (ts : Types) (pool : IsPool ts) (w : World) (world : IsWorldOf (decls_o
   open_right place d (from_field m there p i r g at) = field_open m there p i r g at
   open_right place d (from_key m there p j g key is) =
       let scope = in_scope (Name ts m.0) (entry_name g.name) in
-      or_second _ _ (kind_open m.1.file p scope (entry_head ts g key) 0 (entry_part ts key_name 1 key) key refl (key_case ts pool w world m there j g key is scope) (key_plain key (is_key ts pool w world m there j g key is)))
+      or_second _ _
+      (kind_open m.1.file p scope (entry_head ts g key) 0 (entry_part ts key_name 1 key) key refl
+      (key_case ts pool w world m there j g key is scope) (key_plain key (is_key ts pool w world m there j g key is)))
   open_right place d (from_value m there p j g key is) =
       let scope = in_scope (Name ts m.0) (entry_name g.name) in
-      or_second _ _ (kind_open m.1.file p scope (entry_head ts g key) 1 (entry_part ts value_name 2 g.kind) g.kind refl (seen_kind ts pool w world m there j g is.there scope) (value_three ts pool w world m there j g key is))
+      or_second _ _
+      (kind_open m.1.file p scope (entry_head ts g key) 1 (entry_part ts value_name 2 g.kind) g.kind refl
+      (seen_kind ts pool w world m there j g is.there scope) (value_three ts pool w world m there j g key is))
   open_right place d (from_file i p f there) = refl
   open_right place d (from_message m there p inner) = refl
   open_right place d (from_oneof m there p i name at) = refl

@@ -53,7 +53,8 @@ pub data TypeCase (w : World) (file : ℕ) (scope : List ℕ) (name : Option (Li
 abbrev pub field_at : ℕ → ℕ → List ℕ → MessageHead → ℕ → DeclaredField → Declaration
 field_at file parent scope head i f = record { file = file; parent = parent; scope = scope; item = a_field head i f }
 
-named_rules : (w : World) (place file parent : ℕ) (scope : List ℕ) (head : MessageHead) (i : ℕ) (f : DeclaredField) (n : List ℕ) (c : TypeCode) → NamesAType w file scope n c → MeetsTypeRules w place (field_at file parent scope head i (record f { type_name = Some n; type_code = Some c }))
+named_rules : (w : World) (place file parent : ℕ) (scope : List ℕ) (head : MessageHead) (i : ℕ) (f : DeclaredField) (n : List ℕ) (c : TypeCode) →
+    NamesAType w file scope n c → MeetsTypeRules w place (field_at file parent scope head i (record f { type_name = Some n; type_code = Some c }))
 named_rules w place file parent scope head i f n c t = record {
   is_found = ap (λ r. not (is_same_fault not_found r || false)) t.looked;
   visible = ap (λ r. not (is_same_fault not_visible r || false)) t.looked;
@@ -75,7 +76,8 @@ named_rules w place file parent scope head i f n c t = record {
         subst (λ x. is_type_by w d (Some n) (Some x) ≡ true) (sym is)
         (ap (λ b. b && (passes w is_message_type (looked_up w.declared (w.sight.sees file) scope n) && true)) two ∙ passes_there is_message_type h)
 
-pub field_rules : (w : World) (place file parent : ℕ) (scope : List ℕ) (head : MessageHead) (i : ℕ) (f : DeclaredField) (c : TypeCode) → f.type_code ≡ Some c → TypeCase w file scope f.type_name c → MeetsTypeRules w place (field_at file parent scope head i f)
+pub field_rules : (w : World) (place file parent : ℕ) (scope : List ℕ) (head : MessageHead) (i : ℕ) (f : DeclaredField) (c : TypeCode) → f.type_code ≡ Some c →
+    TypeCase w file scope f.type_name c → MeetsTypeRules w place (field_at file parent scope head i f)
 field_rules w place file parent scope head i f c coded (scalar none right) =
     subst (λ x. MeetsTypeRules w place (field_at file parent scope head i (record f { type_code = x }))) (sym coded)
     (subst (λ o. MeetsTypeRules w place (field_at file parent scope head i (record f { type_name = o; type_code = Some c }))) (sym none)
@@ -107,7 +109,9 @@ found_same : (p q : ℕ) → found p ≡ found q → p ≡ q
 found_same p q e = cc
 
 -- the type at a found place is one
-same_type : (w : World) (file : ℕ) (scope n m : List ℕ) (p q : ℕ) (t u : Declaration) → Some n ≡ Some m → looked_up w.declared (w.sight.sees file) scope n ≡ found p → looked_up w.declared (w.sight.sees file) scope m ≡ found q → slice_get w.declared p ≡ Some t → slice_get w.declared q ≡ Some u → t ≡ u
+same_type : (w : World) (file : ℕ) (scope n m : List ℕ) (p q : ℕ) (t u : Declaration) → Some n ≡ Some m →
+    looked_up w.declared (w.sight.sees file) scope n ≡ found p → looked_up w.declared (w.sight.sees file) scope m ≡ found q → slice_get w.declared p ≡ Some t →
+    slice_get w.declared q ≡ Some u → t ≡ u
 same_type w file scope n m p q t u names first second at_t at_u =
     let places : p ≡ q = found_same p q (sym first ∙ ap (looked_up w.declared (w.sight.sees file) scope) (some_same n m names) ∙ second) in
     some_same t u (sym at_t ∙ ap (slice_get w.declared) places ∙ at_u)
@@ -124,11 +128,14 @@ module _ (ts : Types) (pool : IsPool ts) (w : World) (world : IsWorldOf (decls_o
   }
 
   -- what holds of the type at the place that a kind's name means
-  placed : (k : Kind) (name : List ℕ) (place : ℕ) (d : Declaration) (P : Declaration → Type 0) → name_of_kind ts k ≡ Some name → looked_up w.declared (w.sight.sees file) scope name ≡ found place → slice_get w.declared place ≡ Some d → P d → IfNamed ts w file scope k P
+  placed : (k : Kind) (name : List ℕ) (place : ℕ) (d : Declaration) (P : Declaration → Type 0) → name_of_kind ts k ≡ Some name →
+      looked_up w.declared (w.sight.sees file) scope name ≡ found place → slice_get w.declared place ≡ Some d → P d → IfNamed ts w file scope k P
   placed k name place d P called looked there holds n is q at u there_u = subst P (same_type w file scope name n place q d u (sym called ∙ is) looked at there there_u) holds
 
   -- the message of an index, by the type number that a kind has for it
-  message_case : (k : Kind) (i : ℕ) (t : MessageView) → slice_get ts.messages i ≡ Some t → IsSeen ts.files file t.file → name_of_kind ts k ≡ Some (46 ∷ name_at (message_names ts) i) → ((it : Item) → is_message it ≡ true → is_message_type it ≡ true → IsOfCode (is_two w.files file) (code_of_kind k) it) → KindCase ts w file scope k
+  message_case : (k : Kind) (i : ℕ) (t : MessageView) → slice_get ts.messages i ≡ Some t → IsSeen ts.files file t.file →
+      name_of_kind ts k ≡ Some (46 ∷ name_at (message_names ts) i) →
+      ((it : Item) → is_message it ≡ true → is_message_type it ≡ true → IsOfCode (is_two w.files file) (code_of_kind k) it) → KindCase ts w file scope k
   message_case k i t there seen called right =
       let name = 46 ∷ name_at (message_names ts) i in
       let p = message_placed ts pool w world i t there in
@@ -140,7 +147,9 @@ module _ (ts : Types) (pool : IsPool ts) (w : World) (world : IsWorldOf (decls_o
       }
 
   -- the enum of an index
-  enum_case : (k : Kind) (i : ℕ) (e : EnumView) → slice_get ts.enums i ≡ Some e → IsSeen ts.files file e.file → name_of_kind ts k ≡ Some (46 ∷ name_at (enum_names ts) i) → code_of_kind k ≡ code.Enum → (is_of_proto2 k ≡ false → is_proto2 ts.files e.file ≡ false) → KindCase ts w file scope k
+  enum_case : (k : Kind) (i : ℕ) (e : EnumView) → slice_get ts.enums i ≡ Some e → IsSeen ts.files file e.file →
+      name_of_kind ts k ≡ Some (46 ∷ name_at (enum_names ts) i) → code_of_kind k ≡ code.Enum → (is_of_proto2 k ≡ false → is_proto2 ts.files e.file ≡ false) →
+      KindCase ts w file scope k
   enum_case k i e there seen called coded three =
       let name = 46 ∷ name_at (enum_names ts) i in
       let p = enum_placed ts pool w world i e there in
@@ -161,7 +170,8 @@ module _ (ts : Types) (pool : IsPool ts) (w : World) (world : IsWorldOf (decls_o
   seen_there o x P is h = subst (λ p. IfSome p P) is h
 
   -- a kind that names a type of the pool which the file sees, with the enum's syntax, and in a file of proto3 none of proto2
-  pub kind_case : (k : Kind) → NamesType (length ts.messages) (length ts.enums) k → TypeIsSeen ts file k → EnumIsRight ts.files ts.enums k → (is_proto2 ts.files file ≡ false → is_of_proto2 k ≡ false) → KindCase ts w file scope k
+  pub kind_case : (k : Kind) → NamesType (length ts.messages) (length ts.enums) k → TypeIsSeen ts file k → EnumIsRight ts.files ts.enums k →
+      (is_proto2 ts.files file ≡ false → is_of_proto2 k ≡ false) → KindCase ts w file scope k
   kind_case kind.Double names seen right three = plain kind.Double refl (λ d. refl)
   kind_case kind.Float names seen right three = plain kind.Float refl (λ d. refl)
   kind_case kind.Int64 names seen right three = plain kind.Int64 refl (λ d. refl)
