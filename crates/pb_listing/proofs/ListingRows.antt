@@ -1,6 +1,6 @@
 -- Worked rows: the listing of some bytes by a schema, computed.
 use Rattle.std.proofs.Common.{◌≡◌, ℕ, List, [], ◌∷◌, ◌++◌, refl, codes}
-use Rattle.std.specs.Prelude.{pos, negsuc, true, false, None}
+use Rattle.std.specs.Prelude.{pos, negsuc, true, false, None, Some}
 use Rattle.std.specs.Fmt.{digits}
 use Rattle.hex.specs.Hex.{encode_with}
 use Rattle.pb_wire.specs.Inside.{records_spelled, front_within, first_varint, after_varint, named_length}
@@ -76,6 +76,31 @@ unnamed = refl
 nested : listed 0 (0x1a ∷ 0x07 ∷ 0x1a ∷ 0x02 ∷ 0x08 ∷ 0x01 ∷ 0xa0 ∷ 0x06 ∷ 0x07 ∷ []) ≡ codes "c {\n  c {\n    a: 1\n  }\n  ? 100 varint 7\n}\n"
 unfolding value value_within records_spelled front_within first_varint after_varint named_length digits encode_with
 nested = refl
+
+-- Q of proto2 has a group and a closed enum
+abbrev proto2_pool : Types
+proto2_pool = record {
+  files = record { name = codes "q"; package_name = []; imports = []; proto2 = true } ∷ [];
+  messages =
+      record {
+        name = codes "Q";
+        file = 0;
+        parent = None;
+        fields =
+            the_field (codes "g") 3 (kind.Group (record { 0 = 1 })) shape.Explicit
+            ∷ the_field (codes "k") 4 (kind.ClosedEnum (record { 0 = 0 })) shape.Explicit ∷ [];
+        oneofs = [];
+      }
+      ∷ record { name = codes "G"; file = 0; parent = Some 0; fields = the_field (codes "x") 1 kind.Int32 shape.Explicit ∷ []; oneofs = [] } ∷ [];
+  enums = record { name = codes "E"; file = 0; parent = None; values = (codes "ONE", pos 1) ∷ (codes "TWO", pos 2) ∷ [] } ∷ [];
+}
+
+-- a group is listed as a message, a closed enum by its names, and a number without one as an unknown record
+group_and_closed_enum :
+    listing (record { pool = proto2_pool; kind = 0; body = value proto2_pool 0 (records_spelled (0x1b ∷ 0x08 ∷ 0x05 ∷ 0x1c ∷ 0x20 ∷ 0x02 ∷ 0x20 ∷ 0x07 ∷ [])) })
+    ≡ codes "g {\n  x: 5\n}\nk: TWO\n? 4 varint 7\n"
+unfolding value value_within records_spelled front_within first_varint after_varint named_length digits encode_with
+group_and_closed_enum = refl
 
 -- a text's quotes, backslashes and control characters, and a letter of two bytes
 escapes : scalar_text [] (text (codes "a\"\\" ++ 0 ∷ 31 ∷ 32 ∷ 127 ∷ 0xc3 ∷ 0xa9 ∷ [])) ≡ codes "\"a\\\"\\\\\\x00\\x1f \\x7f" ++ 0xc3 ∷ 0xa9 ∷ 34 ∷ []
