@@ -100,7 +100,12 @@ const FIELDS_OF_Q: &[FieldRow] = &[
     ("r", 9, C, UNPACKED),
     ("p", 10, Kind::Message(Q), Shape::Map { key: Kind::Int32 }),
     ("h", 16, Kind::Group(MessageId(5)), UNPACKED),
-    ("v", 536_870_911, Kind::Group(MessageId(6)), Shape::OneofMember(0)),
+    (
+        "v",
+        536_870_911,
+        Kind::Group(MessageId(6)),
+        Shape::OneofMember(0),
+    ),
 ];
 
 const FIELDS_OF_G: &[FieldRow] = &[

@@ -1,10 +1,10 @@
 -- Small texts of a message with groups and closed enums, and their faults, worked out by the rules.
-use Rattle.std.proofs.Common.{◌≡◌, ℕ, ◌+◌, ◌*◌, ◌<◌, ◌≤◌, List, [], ◌∷◌, length, refl, arith, None, Some, lit<, lit≤}
+use Rattle.std.proofs.Common.{ℕ, ◌+◌, ◌*◌, ◌<◌, List, [], ◌∷◌, length, refl, arith, None, Some, lit<, lit≤}
 use Rattle.std.proofs.lemmas.List.Elements.{All-nil, All-cons}
 use Rattle.pb_wire.specs.Varint.{IsVarint}
 use Rattle.pb_wire.specs.Record.{len}
 use Rattle.pb_wire.specs.Ranges.{IsNumber}
-use Rattle.pb_wire.specs.Schema.{a_varint, records}
+use Rattle.pb_wire.specs.Schema.{a_varint}
 use Rattle.pb_wire.specs.Schema as wire
 use Rattle.pb_wire.specs.Limits.{Bounds}
 use Rattle.pb_wire.specs.Fault.{Fault, fault, step, inside, Place, HasTag, HasLength, IsHigh, VarintFault, TagFault, text_at}

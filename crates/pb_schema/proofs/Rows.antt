@@ -147,8 +147,12 @@ q_records =
     ∷ at 3 (len (0x08 ∷ 0x05 ∷ [])) ∷ at 5 (varint 9) ∷ at 5 (varint 1) ∷ []
 
 -- the low 32 bits of a number are asked for, and all 64 are kept; an element of a packed list is a record in its place
-known-records : known pool_q (message_fields pool_q 0) q_records ≡ at 4 (varint 4294967297) ∷ at 5 (varint 1) ∷ at 5 (varint 2) ∷ at 3 (group (more 1 (varint 5) no_more)) ∷ at 5 (varint 1) ∷ []
+known-records :
+    known pool_q (message_fields pool_q 0) q_records
+    ≡ at 4 (varint 4294967297) ∷ at 5 (varint 1) ∷ at 5 (varint 2) ∷ at 3 (group (more 1 (varint 5) no_more)) ∷ at 5 (varint 1) ∷ []
 known-records = refl
 
-undeclared-records : unknown pool_q (message_fields pool_q 0) q_records ≡ at 4 (varint 7) ∷ at 5 (varint 7) ∷ at 4 (varint 4294967303) ∷ at 3 (len (0x08 ∷ 0x05 ∷ [])) ∷ at 5 (varint 9) ∷ []
+undeclared-records :
+    unknown pool_q (message_fields pool_q 0) q_records
+    ≡ at 4 (varint 7) ∷ at 5 (varint 7) ∷ at 4 (varint 4294967303) ∷ at 3 (len (0x08 ∷ 0x05 ∷ [])) ∷ at 5 (varint 9) ∷ []
 undeclared-records = refl

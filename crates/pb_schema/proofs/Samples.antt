@@ -62,7 +62,13 @@ message_q = record {
 }
 
 abbrev pub message_g : MessageView
-message_g = record { name = codes "G"; file = 0; parent = Some 0; fields = field 1 kind.Int32 shape.Explicit ∷ field 2 kind.Int32 (shape.List false) ∷ []; oneofs = [] }
+message_g = record {
+  name = codes "G";
+  file = 0;
+  parent = Some 0;
+  fields = field 1 kind.Int32 shape.Explicit ∷ field 2 kind.Int32 (shape.List false) ∷ [];
+  oneofs = [];
+}
 
 abbrev pub message_h : MessageView
 message_h = record { name = codes "H"; file = 0; parent = Some 0; fields = field 3 (group_at 1) shape.Explicit ∷ []; oneofs = [] }

@@ -182,7 +182,10 @@ fn is_told(alloc: Global, rows: &str, case: &str) -> Result<bool, Fail> {
 #[test]
 fn rules(rt: HostRuntime) -> Result<(), Fail> {
     for case in USUAL_CASES.lines() {
-        assert!(rt; case.is_empty() || is_told(rt.alloc(), USUAL, case)?, "{case}");
+        assert!(rt;
+            case.is_empty() || is_told(rt.alloc(), USUAL, case)?,
+            "{case}"
+        );
     }
     Ok(())
 }
@@ -190,7 +193,10 @@ fn rules(rt: HostRuntime) -> Result<(), Fail> {
 #[test]
 fn rules_of_syntaxes(rt: HostRuntime) -> Result<(), Fail> {
     for case in SYNTAX_CASES.lines() {
-        assert!(rt; case.is_empty() || is_told(rt.alloc(), SYNTAXES, case)?, "{case}");
+        assert!(rt;
+            case.is_empty() || is_told(rt.alloc(), SYNTAXES, case)?,
+            "{case}"
+        );
     }
     Ok(())
 }

@@ -130,7 +130,12 @@ const FIELDS_OF_Q: &[FieldRow] = &[
     ("m", 6, E, Shape::OneofMember(0)),
     ("v", 7, Kind::Group(MessageId(2)), Shape::OneofMember(0)),
     ("n", 8, E, Shape::OneofMember(0)),
-    ("w", 19, Kind::Group(MessageId(3)), Shape::List { packed: false }),
+    (
+        "w",
+        19,
+        Kind::Group(MessageId(3)),
+        Shape::List { packed: false },
+    ),
 ];
 
 const FIELDS_OF_G: &[FieldRow] = &[

@@ -79,7 +79,10 @@ fn has_groups(message: &DynamicMessage<'_>) -> bool {
 }
 
 pub(crate) fn are_groups_told(alloc: Global, schema: &Schema) -> Result<bool, Fail> {
-    let message = schema.made(alloc, body_of(alloc, "3:m1=i5 4:e1 7:m1=i6 19:[m1=i7,m1=i8]")?)?;
+    let message = schema.made(
+        alloc,
+        body_of(alloc, "3:m1=i5 4:e1 7:m1=i6 19:[m1=i7,m1=i8]")?,
+    )?;
     Ok(has_groups(&message))
 }
 

@@ -1,5 +1,6 @@
 -- Small texts, their records and their faults, worked out by the rules.
-use Rattle.std.proofs.Common.{◌≡◌, ◌≢◌, ℕ, ◌+◌, ◌*◌, ◌%◌, ◌^◌, ◌<◌, ◌≤◌, List, [], ◌∷◌, ◌++◌, length, drop, refl, sym, ap, subst, ◌∙◌, arith, Some, None, lit<, lit≤}
+use Rattle.std.proofs.Common.{◌≡◌, ◌≢◌, ℕ, ◌+◌, ◌*◌, ◌%◌, ◌^◌, ◌<◌, ◌≤◌, List, [], ◌∷◌, ◌++◌, length, drop, refl, sym, ap, ◌∙◌, arith}
+use Rattle.std.proofs.Common.{subst, Some, None, lit<, lit≤}
 use Rattle.std.proofs.lemmas.List.Elements.{All-nil, All-cons}
 use Rattle.pb_wire.specs.Varint.{IsVarint, EndsOnce, groups_value, shortest, shortest_within}
 use Rattle.pb_wire.specs.Zigzag.{zigzag, unzigzag}
@@ -134,7 +135,9 @@ cut_behind_another : HasFault blank tt (record { bytes = 9; depth = 9 }) (0x10 �
 cut_behind_another = behind_a_record 2 (lit< tt, lit< tt) (lit< tt)
 
 -- the bytes of one record are no records of their own
-cut_behind_bytes : HasFault blank tt (record { bytes = 9; depth = 9 }) (0x0a ∷ 0x02 ∷ 0x01 ∷ 0x07 ∷ 0x08 ∷ 0x96 ∷ []) (fault 6 (record { number = 1; occurrence = 1 } ∷ []) Truncated)
+cut_behind_bytes :
+    HasFault blank tt (record { bytes = 9; depth = 9 }) (0x0a ∷ 0x02 ∷ 0x01 ∷ 0x07 ∷ 0x08 ∷ 0x96 ∷ [])
+    (fault 6 (record { number = 1; occurrence = 1 } ∷ []) Truncated)
 cut_behind_bytes =
     HasFault.bad (lit≤ tt)
     (Bad.at_record {q = record { at = 4; known = None; rest = 0x08 ∷ 0x96 ∷ [] }} {front = 0x0a ∷ 0x02 ∷ 0x01 ∷ 0x07 ∷ []} (
