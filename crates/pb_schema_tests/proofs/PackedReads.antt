@@ -130,6 +130,7 @@ readable kind.Sint32 (varint n) can type range = (int32 (unzigzag (n % 2 ^ 32)),
 readable kind.Sint64 (varint n) can type range = (int64 (unzigzag n), refl, grind (arith, ints, nat_tests))
 readable kind.Bool (varint n) can type range = (boolean _, refl, tt)
 readable (kind.Enum e) (varint n) can type range = (enum (cast_signed w32 (n % 2 ^ 32)), refl, grind (arith, ints))
+readable (kind.ClosedEnum e) (varint n) can type range = (enum (cast_signed w32 (n % 2 ^ 32)), refl, grind (arith, ints))
 readable kind.Fixed64 (fixed64 n) can type range = (uint64 n, refl, range)
 readable kind.Sfixed64 (fixed64 n) can type range = (int64 (cast_signed w64 n), refl, grind (arith, ints))
 readable kind.Double (fixed64 n) can type range = (double n, refl, range)
@@ -139,6 +140,7 @@ readable kind.Float (fixed32 n) can type range = (float n, refl, range)
 readable kind.Text p can type range = absurd (false≢true can)
 readable kind.Bytes p can type range = absurd (false≢true can)
 readable (kind.Message m) p can type range = absurd (false≢true can)
+readable (kind.Group m) p can type range = absurd (false≢true can)
 readable k p can type range = absurd (omega (arith, type))
 
 empty_list : (s : List ℕ) → length s ≡ 0 → s ≡ []
