@@ -24,10 +24,7 @@ fn value_table(alloc: Global, values: &[(String, i32)]) -> Result<ValueTable, Al
 }
 
 /// A table for each enum.
-pub(crate) fn value_tables(
-    alloc: Global,
-    enums: &[EnumType],
-) -> Result<Vec<ValueTable>, AllocError>
+pub(crate) fn value_tables(alloc: Global, enums: &[EnumType]) -> Result<Vec<ValueTable>, AllocError>
     ensures { IfOk result (λ tables. AreValueTables (map enum_view enums.now) tables.items) }
 {
     let mut tables = Vec::new(alloc);

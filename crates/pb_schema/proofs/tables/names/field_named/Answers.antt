@@ -1,4 +1,4 @@
-use Rattle.std.proofs.Common.{◌≡◌, ◌∙◌, List, Option, map, sym, ap, subst, position}
+use Rattle.std.proofs.Common.{◌≡◌, ◌∙◌, Option, map, sym, ap, subst, position}
 use Rattle.std.specs.Prelude.{IfSome}
 use Rattle.std.specs.Str.{bytes_eq}
 use Rattle.pb_schema.specs.declared.names.set.NameSet.{NameSet}

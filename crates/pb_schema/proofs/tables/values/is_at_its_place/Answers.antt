@@ -1,7 +1,6 @@
-use Rattle.std.proofs.Common.{◌≡◌, ℤ, Some, sym, ap, ◌∙◌, subst, rules}
-use Rattle.std.specs.Prelude.{FitsSigned, slice_get}
+use Rattle.std.proofs.Common.{◌≡◌, Some, sym, ap, ◌∙◌, rules}
+use Rattle.std.specs.Prelude.{FitsSigned}
 use Rattle.std.specs.Int.{w32}
-use Rattle.std.proofs.lemmas.Int.{to_z-of_z}
 use Rattle.pb_schema.proofs.ValueLemmas.{at_place, same_bits}
 use Rattle.pb_schema.proofs.tables.values.is_at_its_place.Goals as goal
 

@@ -1,4 +1,4 @@
-use Rattle.std.proofs.Common.{◌≡◌, ℕ, ℤ, List, map, take, string_bytes, sym, ap, ◌∙◌, arith, rules}
+use Rattle.std.proofs.Common.{ℕ, ℤ, List, map, take, string_bytes, sym, ap, ◌∙◌, arith, rules}
 use Rattle.std.specs.List.{list_any}
 use Rattle.std.specs.Ordering.{int_eq}
 use Rattle.std.specs.Prelude.{FitsSigned}
@@ -14,7 +14,8 @@ loop-value-preserved c =
     let vs = c.args.values.now in
     let v = c.value-item.result in
     let seen = map (λ w. (string_bytes w.0, w.1)) (take c.loop-value.value-index vs) in
+    let one_more = view-more (λ w. (string_bytes w.0, w.1)) vs c.loop-value.value-index v (omega arith) c.value-item.is in
     let fits : FitsSigned w32 v.1 = search rules in
     λ z. ap (list_any (int_eq z)) (c.in_ok-insert.ensures.keys ∙ ap (insert_key int_eq c.loop-value.table.keys) (to_z-of_z w32 v.1 fits))
-         ∙ with_value seen c.loop-value.table.keys (string_bytes v.0, v.1) c.loop-value.invariant z
-         ∙ ap (list_any (λ (w : List ℕ × ℤ). int_eq w.1 z)) (sym (view-more (λ w. (string_bytes w.0, w.1)) vs c.loop-value.value-index v (omega arith) c.value-item.is))
+    ∙ with_value seen c.loop-value.table.keys (string_bytes v.0, v.1) c.loop-value.invariant z
+    ∙ ap (list_any (λ (w : List ℕ × ℤ). int_eq w.1 z)) (sym one_more)
