@@ -12,7 +12,7 @@ use Rattle.pb_value.specs.Data.{Holding, one, list, map, Fields, no_fields, fiel
 use Rattle.pb_value.specs.Dynamic.{Dynamic}
 use Rattle.pb_value.specs.WellFormed.{HasNoMember, HasOneMemberEach, oneof_of, oneof_at, IsWellFormed}
 use Rattle.pb_value.specs.Judge.{holds_kind, is_absence}
-use Rattle.pb_value.specs.Cause.{or_else, unless, at_field, content_cause, parts_cause}
+use Rattle.pb_value.specs.Cause.{or_else, unless, at_field, content_cause, held_cause}
 use Rattle.pb_value.specs.Oneof.{is_member_at, member_set}
 use Rattle.pb_value.specs.Change.{gives_way, drop_some, set_at, set_cause, with_fields}
 use Rattle.pb_value.proofs.ChangeLemmas.{by_order, at_some, member-oneof_at, oneof_at-member, oneof_at-shape}
@@ -106,7 +106,7 @@ get_field-set_at :
     → set_cause pool m n h ≡ None → get_field n (set_at (message_fields pool m) n h fs) ≡ Some h
 get_field-set_at pool m n o h fs f found own allowed =
     let judged =
-    subst (λ (x : Option FieldView). at_field x (λ (g : FieldView). or_else (content_cause g.shape g.kind h) (or_else (parts_cause pool g.shape g.kind h) (unless (nat_le (holding_depth h) 100) TooDeep))) ≡ None)
+    subst (λ (x : Option FieldView). at_field x (λ (g : FieldView). or_else (content_cause g.shape g.kind h) (or_else (held_cause pool g.shape g.kind h) (unless (nat_le (holding_depth h) 100) TooDeep))) ≡ None)
     found allowed in
     rw found (rw (kept f.shape o f.kind h _ own judged) (get_field-put_field n h (drop_some (gives_way (message_fields pool m) f.shape n fs) fs)))
 
