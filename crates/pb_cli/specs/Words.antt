@@ -9,6 +9,7 @@ use Rattle.clap.specs.Simple.{on_top}
 use Rattle.clap.specs.declared.builder.ArgAction.TheVariants.{Append, Set, SetTrue}
 use Rattle.pb_command.specs.declared.command.Command.{Command}
 use Rattle.pb_command.specs.declared.command.Command.TheVariants.{Raw, Check, Show, Canon, Frames, Compile}
+use Rattle.pb_command.specs.declared.command.Roots.{Roots}
 use Rattle.pb_command.specs.declared.command.Source.{Source}
 use Rattle.pb_command.specs.CompileAnswer.{texts_of}
 
@@ -43,18 +44,26 @@ canon_command = of_source (with_rule (new_app (codes "canon")) out_rule)
 abbrev pub frames_command : App
 frames_command = of_source (new_app (codes "frames"))
 
--- `compile ROOT OUT FILE..`
+-- `-I DIR`, any number of times
+abbrev pub directory_rule : Rule
+directory_rule = record (new_rule (codes "DIR")) { short = Some 73; action = Some Append }
+
+-- `compile [-I DIR].. ROOT OUT FILE..`
 abbrev pub compile_command : App
 compile_command =
-    with_rule (with_rule (with_rule (new_app (codes "compile")) (wanted (codes "ROOT"))) (wanted (codes "OUT")))
+    with_rule (with_rule (with_rule (with_rule (new_app (codes "compile")) directory_rule) (wanted (codes "ROOT"))) (wanted (codes "OUT")))
     (record (wanted (codes "FILE")) { action = Some Append })
 
 -- a subcommand is wanted, and `help` is none
 abbrev pub wants_subcommand : Shape → Shape
 wants_subcommand s = record s { subcommand_required = true; disable_help_subcommand = true }
 
+-- `--version` is known
+abbrev pub with_version : Shape → Shape
+with_version s = record s { has_version = true }
+
 abbrev pub tool_top : App
-tool_top = on_top wants_subcommand (new_app (codes "pbtool"))
+tool_top = on_top wants_subcommand (on_top with_version (new_app (codes "pbtool")))
 
 -- the whole command line
 abbrev pub tool : App
@@ -76,7 +85,7 @@ flag_of id rows = option_map_or (λ text. bytes_eq text (codes "true")) (first_o
 abbrev pub value_of : Text → List Row → Text
 value_of id rows = unwrap_or (first_of id rows) []
 
--- the values of an argument that is required and takes several
+-- the values of an argument that takes several
 abbrev pub values_of : Text → List Row → List Text
 values_of id rows = unwrap_or (all_of id rows) []
 
@@ -89,6 +98,10 @@ abbrev pub IsSource : List Row → Source → Type 0
 IsSource rows s =
     (s.set.now ≡ value_of (codes "SET") rows) × (s.type_name.now ≡ value_of (codes "TYPE") rows) × (s.file.now ≡ value_of (codes "FILE") rows)
 
+-- the values that name roots
+abbrev pub AreRoots : List Row → Roots → Type 0
+AreRoots rows r = (r.root.now ≡ value_of (codes "ROOT") rows) × (texts_of r.others.now ≡ values_of (codes "DIR") rows)
+
 -- the command has this name, these flags and these values
 abbrev pub IsNamed : Text → List Row → Command → Type 0
 IsNamed name rows (Raw short file) = (name ≡ codes "raw") × (short ≡ flag_of (codes "short") rows) × (file.now ≡ value_of (codes "FILE") rows)
@@ -97,8 +110,8 @@ IsNamed name rows (Show source) = (name ≡ codes "show") × IsSource rows sourc
 IsNamed name rows (Canon to source) =
     (name ≡ codes "canon") × (option_map (λ path. path.now) to ≡ option_of (codes "out") rows) × IsSource rows source
 IsNamed name rows (Frames source) = (name ≡ codes "frames") × IsSource rows source
-IsNamed name rows (Compile root out names) =
-    (name ≡ codes "compile") × (root.now ≡ value_of (codes "ROOT") rows) × (out.now ≡ value_of (codes "OUT") rows)
+IsNamed name rows (Compile roots out names) =
+    (name ≡ codes "compile") × AreRoots rows roots × (out.now ≡ value_of (codes "OUT") rows)
     × (texts_of names.now ≡ values_of (codes "FILE") rows)
 
 -- the command is what clap's matches say

@@ -8,13 +8,13 @@ ghost use Rattle.pb_command.specs.CompileAnswer.{texts_of};
 ghost use Rattle.pb_command.specs.FileMap.{IsHonest, IsSaved, IsUnsaved, KeepsMap};
 ghost use Rattle.pb_command.specs.Report.{memory_line};
 ghost use Rattle.pb_listing.specs.Sending.{Cut, Sent, SentOrCut};
-ghost use Rattle.pb_cli.specs.Words.{IsMatched, IsSource, flag_of, value_of, values_of, tool, tool_names, words_of};
+ghost use Rattle.pb_cli.specs.Words.{AreRoots, IsMatched, IsSource, flag_of, value_of, values_of, tool, tool_names, words_of};
 ghost use Rattle.pb_command.specs.declared.command.Command.{Command as Told};
 
 use crate::words::definition;
 use clap::error::ErrorKind;
 use clap::{ArgMatches, Error};
-use pb_command::{Command, Files, Refusal, Source, execute};
+use pb_command::{Command, Files, Refusal, Roots, Source, execute};
 use pb_wire::{Output, write_all};
 use std::alloc::Global;
 
@@ -121,7 +121,7 @@ fn command_of<'m>(matches: &'m ArgMatches<'_>) -> Command<'m>
     }
     if let Some(inner) = matches.subcommand_matches("compile") {
         return Command::Compile {
-            root: value(inner, "ROOT"),
+            roots: roots(inner),
             out: value(inner, "OUT"),
             names: values(inner, "FILE"),
         };
@@ -137,6 +137,16 @@ fn source<'a>(matches: &ArgMatches<'a>) -> Source<'a>
         set: value(matches, "SET"),
         type_name: value(matches, "TYPE"),
         file: value(matches, "FILE"),
+    }
+}
+
+/// Where sources are looked for.
+fn roots<'m>(matches: &'m ArgMatches<'_>) -> Roots<'m>
+    ensures { AreRoots (rows_of (found_of matches.now)) result }
+{
+    Roots {
+        root: value(matches, "ROOT"),
+        others: values(matches, "DIR"),
     }
 }
 
@@ -159,7 +169,7 @@ fn value<'a>(matches: &ArgMatches<'a>, id: &str) -> &'a str
     }
 }
 
-// The values of an argument that `clap` requires and that takes several.
+// The values of an argument that takes several; none where it is not given.
 fn values<'m>(matches: &'m ArgMatches<'_>, id: &str) -> &'m [&'m str]
     ensures { texts_of result.now ≡ values_of id.now (rows_of (found_of matches.now)) }
 {

@@ -3,10 +3,13 @@ ghost use Rattle.std.specs.Prelude.{◌≡◌, false, IfOk};
 ghost use Rattle.clap.specs.Words.{app_of, rule_of};
 ghost use Rattle.clap.specs.declared.builder.command.Command.TheViews.{out-Command};
 ghost use Rattle.pb_cli.specs.Words.{canon_command, check_command, compile_command, frames_command, raw_command, show_command};
-ghost use Rattle.pb_cli.specs.Words.{of_source, tool, tool_top, wanted};
+ghost use Rattle.pb_cli.specs.Words.{directory_rule, of_source, tool, tool_top, wanted};
 
 use clap::{Arg, ArgAction, Command};
 use std::alloc::{AllocError, Global};
+
+/// What `--version` tells.
+const VERSION: &str = "0.1.0";
 
 /// The definition of the command line.
 pub fn definition<'a>(alloc: Global) -> Result<Command<'a>, AllocError>
@@ -29,6 +32,7 @@ fn top<'a>(alloc: Global) -> Command<'a>
     ensures closed { (out-Command result).allow_external_subcommands ≡ false }
 {
     Command::new(alloc, "pbtool")
+        .version(VERSION)
         .about("Reads and shows Protocol Buffers messages")
         .subcommand_required(true)
         .disable_help_subcommand(true)
@@ -45,9 +49,9 @@ fn raw<'a>(alloc: Global) -> Result<Command<'a>, AllocError>
     let file = Arg::new(alloc, "FILE")
         .required(true)
         .help("The file with the bytes of one message");
-    let command = Command::new(alloc, "raw").about(
-        "Print the records of a message, without its schema",
-    );
+    let command = Command::new(alloc, "raw")
+        .about("Print the records of a message, without its schema")
+        .after_help("From a pipe: curl -s URL | ./pbtool raw /dev/stdin");
     let with_short = command.arg(short)?;
     let whole = with_short.arg(file)?;
     Ok(whole)
@@ -102,23 +106,31 @@ fn compile<'a>(alloc: Global) -> Result<Command<'a>, AllocError>
     ensures app { IfOk result (λ c. app_of c ≡ compile_command) }
     ensures local { IfOk result (λ c. (out-Command c).has_globals ≡ false) }
 {
-    let root = Arg::new(alloc, "ROOT")
-        .required(true)
-        .help("The folder of the sources");
-    let out = Arg::new(alloc, "OUT")
-        .required(true)
-        .help("The file to write");
-    let file = Arg::new(alloc, "FILE")
-        .required(true)
-        .action(ArgAction::Append)
-        .help("A source under the folder");
     let command = Command::new(alloc, "compile").about(
         "Write the descriptor set of sources and their imports",
     );
-    let with_root = command.arg(root)?;
+    let directory = directory_option(alloc);
+    let with_directory = command.arg(directory)?;
+    let root = wanted(alloc, "ROOT", "The folder of the sources");
+    let with_root = with_directory.arg(root)?;
+    let out = wanted(alloc, "OUT", "The file to write");
     let with_out = with_root.arg(out)?;
+    let file = wanted(alloc, "FILE", "A source, by its name below the folder").action(
+        ArgAction::Append,
+    );
     let whole = with_out.arg(file)?;
     Ok(whole)
+}
+
+/// A directory where sources are looked for behind the root.
+fn directory_option<'a>(alloc: Global) -> Arg<'a>
+    ensures rule { rule_of result ≡ directory_rule }
+    ensures local { result.global ≡ false }
+{
+    Arg::new(alloc, "DIR")
+        .short('I')
+        .action(ArgAction::Append)
+        .help("Look here for a source or an import that is not under ROOT; may be repeated")
 }
 
 /// The command with the arguments that name a message and its type.

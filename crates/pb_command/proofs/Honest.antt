@@ -20,7 +20,7 @@ use Rattle.pb_command.specs.declared.form.Form.TheVariants as form
 use Rattle.pb_command.proofs.Judged.{answer_whole}
 use Rattle.pb_command.proofs.SetWhole.{has_type_whole, no_type_whole}
 use Rattle.pb_command.proofs.SourceSteps.{compile_of_any, compile_of_map}
-use Rattle.pb_command.specs.CompileAnswer.{texts_of}
+use Rattle.pb_command.specs.CompileAnswer.{roots_of, texts_of}
 
 -- a type of the first bytes of a set is one of the set
 type_at :
@@ -84,14 +84,14 @@ module _ {F : Type 0} (contents : F → Option FileMap) (is_steady : F → Bool)
         type_of_map _ _ source.type_name.now source.set.now source.file.now a
         (λ pool m. frames_map _ _ _ _ _ _ source.file.now pool m a (λ text known. known.1 map honest) (λ count text f known. known.1 map honest)
         (λ text known. known.1 map honest)) h
-    right_of_map (Compile root out names) a h = compile_of_map contents is_steady files root.now out.now (texts_of names.now) a map honest h
+    right_of_map (Compile roots out names) a h = compile_of_map contents is_steady files (roots_of roots) out.now (texts_of names.now) a map honest h
 
     pub begun_of_map : (command : Command) (text : List ℕ) → BegunOf contents is_steady files command text → Begins map command text
     begun_of_map (Raw short file) text h = h
     begun_of_map (Check source) text h = h
     begun_of_map (Show source) text h = h
     begun_of_map (Canon to source) text h = h
-    begun_of_map (Compile root out names) text h = h
+    begun_of_map (Compile roots out names) text h = h
     begun_of_map (Frames source) text (inl nothing) = inl nothing
     begun_of_map (Frames source) text (inr h) =
         let at = type_at source.type_name.now h.0 h.1 h.2 (map source.set.now) (h.3 map honest) h.4 in
@@ -112,14 +112,14 @@ module _ {F : Type 0} (contents : F → Option FileMap) (is_steady : F → Bool)
   right_of_any (Frames source) a h =
       type_any _ _ _ _ source.type_name.now source.set.now source.file.now a
       (λ pool m. frames_map _ _ _ _ _ _ source.file.now pool m a (λ text known. known.0) (λ count text f known. known.0) (λ text known. known.0)) h
-  right_of_any (Compile root out names) a h = compile_of_any contents is_steady files root.now out.now (texts_of names.now) a h
+  right_of_any (Compile roots out names) a h = compile_of_any contents is_steady files (roots_of roots) out.now (texts_of names.now) a h
 
   pub begun_of_any : (command : Command) (text : List ℕ) → BegunOf contents is_steady files command text → AnyBegins command text
   begun_of_any (Raw short file) text h = h
   begun_of_any (Check source) text h = h
   begun_of_any (Show source) text h = h
   begun_of_any (Canon to source) text h = h
-  begun_of_any (Compile root out names) text h = h
+  begun_of_any (Compile roots out names) text h = h
   begun_of_any (Frames source) text (inl nothing) =
       (record { files = []; messages = []; enums = [] }, 0, (0, subst (λ (t : List ℕ). AreFrames (record { files = []; messages = []; enums = [] }) 0 0 t) (sym nothing) none))
   begun_of_any (Frames source) text (inr h) = (h.1, h.2, h.5)

@@ -1,19 +1,48 @@
+-- ---- the lines of refusals
+-- for the path in a line, step by step
 pub mod Paths
+-- for the line that tells a fault of a source
 pub mod SourceLines
+-- ---- what was read
+-- for bytes that were read up to a limit: what the first of them answer, one more than the limit, all of them do
 pub mod Judged
+-- for a set that may be longer than what is read: its first bytes, one more than may be read, tell what all of them do
 pub mod SetWhole
+-- ---- what a command comes to, from what its steps leave
+-- for what follows from what is known of steps
 pub mod Coming
+-- for files after something was opened
 pub mod FileSteps
+-- for a set that gives no type
 pub mod TypeSteps
+-- for the message of a file
 pub mod MessageSteps
+-- for the loop of `frames`: the frames of a stream, one after another
 pub mod Streams
+-- for `raw`
 pub mod RawSteps
+-- for how a run ends
 pub mod Endings
-pub mod NameSetLemmas
-pub mod GatheringLemmas
-pub mod SourceSteps
-pub mod GatherSteps
-pub mod SetLevels
-pub mod CompileSteps
+-- for right answers of a whole command: those of the bytes of honest files, and of the form of one over any files
 pub mod Honest
+-- for `frames`
 pub mod Commands
+-- ---- what `compile` gathers
+-- for the names that were met, added to a set
+pub mod NameSetLemmas
+-- for gathering by parts, and the files that are open
+pub mod GatheringLemmas
+-- for the sources that were read
+pub mod SourceSteps
+-- for texts behind references, in parts
+pub mod TextLists
+-- for a source that is looked for under one root after another
+pub mod RootSteps
+-- where a source is looked for: under one root there is one path, and over a map a name has one file at most
+pub mod RootRows
+-- for the steps of gathering
+pub mod GatherSteps
+-- for the set that is written: sources that link nest at most 100 levels deep
+pub mod SetLevels
+-- for `compile`
+pub mod CompileSteps

@@ -1,5 +1,5 @@
 -- What is known of sources after some of them were read, and of all their bytes from the first ones.
-use Rattle.std.proofs.Common.{◌≡◌, ◌+◌, ◌⊎◌, ℕ, List, Bool, true, Option, None, Some, take, refl, sym, ap, inl, inr, subst}
+use Rattle.std.proofs.Common.{◌≡◌, ◌+◌, ◌⊎◌, ℕ, List, [], ◌∷◌, Bool, true, Option, None, Some, take, refl, sym, ap, inl, inr, subst}
 use Rattle.std.specs.Prelude.{IfSome, option_map}
 use Rattle.pb_wire.specs.Limits.{full}
 use Rattle.pb_descr.specs.Decls.{DeclaredFile}
@@ -11,7 +11,8 @@ use Rattle.pb_source.specs.declared.fault.SourceFault.{SourceFault}
 use Rattle.pb_command.specs.Answer.{Answer, device_failed, refused}
 use Rattle.pb_command.specs.CompileAnswer.{CompileAnswer, untaken, unlinked, too_large as set_too_large, compiled, told_of}
 use Rattle.pb_command.specs.FileMap.{FileMap, IsHonest, IsOpened, KeepsMap}
-use Rattle.pb_command.specs.Gathering.{Gathered, GathersAt, HasTroubleAt, IsAbsentAt, DeclaresAt, IsFaultyAt, Origin, Outcome, Trouble, given, imported, unread, faulty, path_under}
+use Rattle.pb_command.specs.Gathering.{Gathered, GathersUnder, HasTroubleAt, HasTroubleUnder, IsAbsentUnder, IsMissing, IsReached, DeclaresAt, DeclaresUnder, IsFaultyAt, Origin, Outcome, Trouble}
+use Rattle.pb_command.specs.Gathering.{given, imported, unread, faulty, path_under}
 use Rattle.pb_command.specs.Reaching.{Moves, OpenFile}
 use Rattle.pb_command.specs.Refusal.{Refuses}
 use Rattle.pb_command.specs.Report.{source_line}
@@ -23,45 +24,88 @@ use Rattle.pb_command.proofs.FileSteps.{first_read, none_opened, nothing_read, o
 use Rattle.pb_command.proofs.GatheringLemmas.{gathers_map, moves_map}
 use Rattle.pb_command.proofs.Judged.{front_long, front_whole, none_whole}
 
+-- PATHS OF WHICH MORE IS KNOWN
+
+module _ (IsAt At : List ℕ → Option (List ℕ) → Type 0) (none : (path : List ℕ) → IsAt path None → At path None) (name : List ℕ) where
+  pub absent_map : (roots : List (List ℕ)) → IsAbsentUnder IsAt roots name → IsAbsentUnder At roots name
+  absent_map [] h = h
+  absent_map (root ∷ roots) h = (none (path_under root name) h.0, absent_map roots h.1)
+
+  pub reached_map : (roots : List (List ℕ)) (path : List ℕ) → IsReached IsAt roots name path → IsReached At roots name path
+  reached_map [] path h = h
+  reached_map (root ∷ roots) path (inl is) = inl is
+  reached_map (root ∷ roots) path (inr h) = inr (none (path_under root name) h.0, reached_map roots path h.1)
+
+  missing_map : (roots : List (List ℕ)) (o : Origin) (t : Trouble) → IsMissing IsAt roots o name t → IsMissing At roots o name t
+  missing_map [] o t h = absurd h
+  missing_map (root ∷ roots) given (unread path) h = (h.0, absent_map (root ∷ roots) h.1)
+  missing_map (root ∷ roots) given (faulty place c) h = absurd h
+  missing_map (root ∷ roots) imported t h = absurd h
+
+  pub declares_map :
+      (roots : List (List ℕ)) (f : DeclaredFile) → ((path : List ℕ) → DeclaresAt IsAt path name f → DeclaresAt At path name f)
+      → DeclaresUnder IsAt roots name f → DeclaresUnder At roots name f
+  declares_map roots f source h = (h.0, reached_map roots h.0 h.1, source h.0 h.2)
+
+  module _ (Fails Fail : List ℕ → Type 0) (fails : (path : List ℕ) → Fails path → Fail path)
+      (fault : (path : List ℕ) (place : ℕ) (c : Cause) → IsFaultyAt IsAt path place c → IsFaultyAt At path place c) where
+    at_map : (path : List ℕ) (t : Trouble) → HasTroubleAt IsAt path Fails t → HasTroubleAt At path Fail t
+    at_map path (unread p) h = (h.0, fails path h.1)
+    at_map path (faulty place c) h = fault path place c h
+
+    pub trouble_map :
+        (roots : List (List ℕ)) (o : Origin) (t : Trouble) → HasTroubleUnder IsAt Fails roots o name t → HasTroubleUnder At Fail roots o name t
+    trouble_map roots o t (inl h) = inl (h.0, reached_map roots h.0 h.1, at_map h.0 t h.2)
+    trouble_map roots o t (inr h) = inr (missing_map roots o t h)
+
 -- FILES THAT WERE OPENED IN BETWEEN
 
 module _
     {F : Type 0} (contents : F → Option FileMap) (is_steady : F → Bool) (old mid : F) (kept : KeepsMap (contents old) (contents mid))
-    (steady : is_steady old ≡ true → is_steady mid ≡ true) (root : List ℕ) where
-  at_later : (path : List ℕ) (content : Option (List ℕ)) → IsAt contents is_steady mid path content → IsAt contents is_steady old path content
+    (steady : is_steady old ≡ true → is_steady mid ≡ true) where
+  pub at_later : (path : List ℕ) (content : Option (List ℕ)) → IsAt contents is_steady mid path content → IsAt contents is_steady old path content
   at_later path content = of_later path (λ o. content ≡ option_map (take (full.bytes + 1)) o) kept steady
 
-  absent_later : (name : List ℕ) → AbsentOf contents is_steady mid root name → AbsentOf contents is_steady old root name
-  absent_later name h = at_later (path_under root name) None h
+  pub source_later :
+      (path name : List ℕ) (f : DeclaredFile) → DeclaresAt (IsAt contents is_steady mid) path name f → DeclaresAt (IsAt contents is_steady old) path name f
+  source_later path name f h = (h.0, at_later path (Some h.0) h.1, h.2)
 
-  declared_later : (name : List ℕ) (f : DeclaredFile) → DeclaredOf contents is_steady mid root name f → DeclaredOf contents is_steady old root name f
-  declared_later name f h = (h.0, at_later (path_under root name) (Some h.0) h.1, h.2)
-
-  faulty_later :
-      (name : List ℕ) (place : ℕ) (c : Cause) → IsFaultyAt (IsAt contents is_steady mid) root name place c
-      → IsFaultyAt (IsAt contents is_steady old) root name place c
-  faulty_later name place c h = (h.0, at_later (path_under root name) (Some h.0) h.1, h.2)
+  fault_later :
+      (path : List ℕ) (place : ℕ) (c : Cause) → IsFaultyAt (IsAt contents is_steady mid) path place c → IsFaultyAt (IsAt contents is_steady old) path place c
+  fault_later path place c h = (h.0, at_later path (Some h.0) h.1, h.2)
 
   fails_later : (path : List ℕ) → Fails contents is_steady mid path → Fails contents is_steady old path
   fails_later path = of_later path (λ o. ⊥) kept steady
 
-  pub trouble_later :
-      (o : Origin) (name : List ℕ) (t : Trouble) → TroubleOf contents is_steady mid root o name t → TroubleOf contents is_steady old root o name t
-  trouble_later given name unread (inl none) = inl (absent_later name none)
-  trouble_later given name unread (inr fails) = inr (fails_later (path_under root name) fails)
-  trouble_later imported name unread h = fails_later (path_under root name) h
-  trouble_later given name (faulty place c) h = faulty_later name place c h
-  trouble_later imported name (faulty place c) h = faulty_later name place c h
+  pub trouble_at_later :
+      (path : List ℕ) (t : Trouble) → HasTroubleAt (IsAt contents is_steady mid) path (Fails contents is_steady mid) t
+      → HasTroubleAt (IsAt contents is_steady old) path (Fails contents is_steady old) t
+  trouble_at_later path (unread p) h = (h.0, fails_later path h.1)
+  trouble_at_later path (faulty place c) h = fault_later path place c h
 
-  pub gathers_later :
-      {o : Origin} {names : List (List ℕ)} {g : Gathered} {out : Outcome} → GathersOf contents is_steady mid root o names g out
-      → GathersOf contents is_steady old root o names g out
-  gathers_later = gathers_map _ _ _ _ _ _ absent_later declared_later trouble_later
+  module _ (roots : List (List ℕ)) where
+    pub absent_later : (name : List ℕ) → AbsentOf contents is_steady mid roots name → AbsentOf contents is_steady old roots name
+    absent_later name = absent_map (IsAt contents is_steady mid) (IsAt contents is_steady old) (λ path. at_later path None) name roots
 
-  pub moves_later :
-      {g h : Gathered} {s t : List OpenFile} → Moves (AbsentOf contents is_steady mid root) (DeclaredOf contents is_steady mid root) g s h t
-      → Moves (AbsentOf contents is_steady old root) (DeclaredOf contents is_steady old root) g s h t
-  moves_later = moves_map _ _ _ _ _ _ absent_later declared_later trouble_later
+    pub declared_later : (name : List ℕ) (f : DeclaredFile) → DeclaredOf contents is_steady mid roots name f → DeclaredOf contents is_steady old roots name f
+    declared_later name f =
+        declares_map (IsAt contents is_steady mid) (IsAt contents is_steady old) (λ path. at_later path None) name roots f (λ path. source_later path name f)
+
+    pub trouble_later :
+        (o : Origin) (name : List ℕ) (t : Trouble) → TroubleOf contents is_steady mid roots o name t → TroubleOf contents is_steady old roots o name t
+    trouble_later o name t =
+        trouble_map (IsAt contents is_steady mid) (IsAt contents is_steady old) (λ path. at_later path None) name (Fails contents is_steady mid)
+        (Fails contents is_steady old) fails_later fault_later roots o t
+
+    pub gathers_later :
+        {o : Origin} {names : List (List ℕ)} {g : Gathered} {out : Outcome} → GathersOf contents is_steady mid roots o names g out
+        → GathersOf contents is_steady old roots o names g out
+    gathers_later = gathers_map _ _ _ _ _ _ absent_later declared_later trouble_later
+
+    pub moves_later :
+        {g h : Gathered} {s t : List OpenFile} → Moves (AbsentOf contents is_steady mid roots) (DeclaredOf contents is_steady mid roots) g s h t
+        → Moves (AbsentOf contents is_steady old roots) (DeclaredOf contents is_steady old roots) g s h t
+    moves_later = moves_map _ _ _ _ _ _ absent_later declared_later trouble_later
 
 -- READING A SOURCE
 
@@ -109,45 +153,49 @@ module _ {F : Type 0} (contents : F → Option FileMap) (is_steady : F → Bool)
 
 module _
     {F : Type 0} (contents : F → Option FileMap) (is_steady : F → Bool) (files : F) (root name path : List ℕ) (is : path ≡ path_under root name) where
-  pub absent_read : IsAt contents is_steady files path None → AbsentOf contents is_steady files root name
-  absent_read at = subst (λ (p : List ℕ). IsAt contents is_steady files p None) is at
+  abbrev At : List ℕ → Option (List ℕ) → Type 0
+  At = IsAt contents is_steady files
 
-  pub declared_read : (bytes : List ℕ) (f : DeclaredFile) → IsAt contents is_steady files path (Some bytes) → IsSource name bytes f → DeclaredOf contents is_steady files root name f
-  declared_read bytes f at source = (bytes, subst (λ (p : List ℕ). IsAt contents is_steady files p (Some bytes)) is at, source)
+  pub absent_read : At path None → At (path_under root name) None
+  absent_read at = subst (λ (p : List ℕ). At p None) is at
+
+  pub declared_read : (bytes : List ℕ) (f : DeclaredFile) → At path (Some bytes) → IsSource name bytes f → DeclaresAt At (path_under root name) name f
+  declared_read bytes f at source = (bytes, subst (λ (p : List ℕ). At p (Some bytes)) is at, source)
 
   pub faulty_read :
-      (bytes : List ℕ) (f : Refusal) → IsAt contents is_steady files path (Some bytes)
+      (bytes : List ℕ) (f : Refusal) → At path (Some bytes)
       → Refuses (λ a. (place : ℕ) × (c : Cause) × HasFault bytes place c × (a ≡ refused (source_line name place c))) f
-      → Refuses (λ a. (t : Trouble) × TroubleOf contents is_steady files root imported name t × (a ≡ told_of root name t)) f
+      → Refuses (λ a. (t : Trouble) × HasTroubleAt At (path_under root name) (Fails contents is_steady files) t × (a ≡ told_of name t)) f
   faulty_read bytes f at told =
       refuses_map (λ a. (place : ℕ) × (c : Cause) × HasFault bytes place c × (a ≡ refused (source_line name place c)))
-      (λ a. (t : Trouble) × TroubleOf contents is_steady files root imported name t × (a ≡ told_of root name t)) f
-      (λ a h. (faulty h.0 h.1, (bytes, subst (λ (p : List ℕ). IsAt contents is_steady files p (Some bytes)) is at, h.2), h.3)) told
+      (λ a. (t : Trouble) × HasTroubleAt At (path_under root name) (Fails contents is_steady files) t × (a ≡ told_of name t)) f
+      (λ a h. (faulty h.0 h.1, (bytes, subst (λ (p : List ℕ). At p (Some bytes)) is at, h.2), h.3)) told
 
   pub unread_told :
       Fails contents is_steady files path
-      → (t : Trouble) × TroubleOf contents is_steady files root imported name t × (device_failed path ≡ told_of root name t)
-  unread_told fails = (unread, subst (λ (p : List ℕ). Fails contents is_steady files p) is fails, ap device_failed is)
+      → (t : Trouble) × HasTroubleAt At (path_under root name) (Fails contents is_steady files) t × (device_failed path ≡ told_of name t)
+  unread_told fails =
+      (unread (path_under root name), (refl, subst (λ (p : List ℕ). Fails contents is_steady files p) is fails), ap device_failed is)
 
-module _ {F : Type 0} (contents : F → Option FileMap) (is_steady : F → Bool) (files : F) (root name : List ℕ) (f : Refusal) where
-  given_trouble : (t : Trouble) → TroubleOf contents is_steady files root imported name t → TroubleOf contents is_steady files root given name t
-  given_trouble unread fails = inr fails
-  given_trouble (faulty place c) h = h
+module _ {F : Type 0} (contents : F → Option FileMap) (is_steady : F → Bool) (files : F) (root : List ℕ) (others : List (List ℕ)) (name : List ℕ) (f : Refusal)
+  where
+    abbrev ToldOf : Origin → Answer → Type 0
+    ToldOf o a = (t : Trouble) × TroubleOf contents is_steady files (root ∷ others) o name t × (a ≡ told_of name t)
 
-  pub given_refuses :
-      Refuses (λ a. (t : Trouble) × TroubleOf contents is_steady files root imported name t × (a ≡ told_of root name t)) f
-      → Refuses (λ a. (t : Trouble) × TroubleOf contents is_steady files root given name t × (a ≡ told_of root name t)) f
-  given_refuses =
-      refuses_map (λ a. (t : Trouble) × TroubleOf contents is_steady files root imported name t × (a ≡ told_of root name t))
-      (λ a. (t : Trouble) × TroubleOf contents is_steady files root given name t × (a ≡ told_of root name t)) f (λ a h. (h.0, given_trouble h.0 h.1, h.2))
+    given_trouble :
+        (t : Trouble) → TroubleOf contents is_steady files (root ∷ others) imported name t → TroubleOf contents is_steady files (root ∷ others) given name t
+    given_trouble t (inl h) = inl h
+    given_trouble t (inr h) = absurd h
 
-  -- a given file is not there
-  pub missing_refuses :
-      AbsentOf contents is_steady files root name → Refuses (λ a. a ≡ told_of root name unread) f
-      → Refuses (λ a. (t : Trouble) × TroubleOf contents is_steady files root given name t × (a ≡ told_of root name t)) f
-  missing_refuses absent =
-      refuses_map (λ a. a ≡ told_of root name unread)
-      (λ a. (t : Trouble) × TroubleOf contents is_steady files root given name t × (a ≡ told_of root name t)) f (λ a told. (unread, inl absent, told))
+    pub given_refuses : Refuses (ToldOf imported) f → Refuses (ToldOf given) f
+    given_refuses = refuses_map (ToldOf imported) (ToldOf given) f (λ a h. (h.0, given_trouble h.0 h.1, h.2))
+
+    -- no root has a given file
+    pub missing_refuses :
+        AbsentOf contents is_steady files (root ∷ others) name → Refuses (λ a. a ≡ told_of name (unread (path_under root name))) f → Refuses (ToldOf given) f
+    missing_refuses absent =
+        refuses_map (λ a. a ≡ told_of name (unread (path_under root name))) (ToldOf given) f
+        (λ a told. (unread (path_under root name), inr (refl, absent), told))
 
 -- ALL BYTES
 
@@ -179,39 +227,37 @@ faulty_whole read place c (Some b) e h =
 -- THE ANSWER
 
 module _
-    (IsAt At : List ℕ → Option (List ℕ) → Type 0) (Fails Fail : List ℕ → Type 0) (root : List ℕ)
-    (absent : (name : List ℕ) → IsAbsentAt IsAt root name → IsAbsentAt At root name)
-    (declares : (name : List ℕ) (f : DeclaredFile) → DeclaresAt IsAt root name f → DeclaresAt At root name f)
-    (faulty_at : (name : List ℕ) (place : ℕ) (c : Cause) → IsFaultyAt IsAt root name place c → IsFaultyAt At root name place c)
+    (IsAt At : List ℕ → Option (List ℕ) → Type 0) (Fails Fail : List ℕ → Type 0) (roots : List (List ℕ))
+    (none : (path : List ℕ) → IsAt path None → At path None)
+    (source : (path name : List ℕ) (f : DeclaredFile) → DeclaresAt IsAt path name f → DeclaresAt At path name f)
+    (fault : (path : List ℕ) (place : ℕ) (c : Cause) → IsFaultyAt IsAt path place c → IsFaultyAt At path place c)
     (fails : (path : List ℕ) → Fails path → Fail path) where
-  trouble_map : (o : Origin) (name : List ℕ) (t : Trouble) → HasTroubleAt IsAt Fails root o name t → HasTroubleAt At Fail root o name t
-  trouble_map given name unread (inl none) = inl (absent name none)
-  trouble_map given name unread (inr h) = inr (fails (path_under root name) h)
-  trouble_map imported name unread h = fails (path_under root name) h
-  trouble_map given name (faulty place c) h = faulty_at name place c h
-  trouble_map imported name (faulty place c) h = faulty_at name place c h
-
   gathers_known :
-      {o : Origin} {names : List (List ℕ)} {g : Gathered} {out : Outcome} → GathersAt IsAt Fails root o names g out → GathersAt At Fail root o names g out
-  gathers_known = gathers_map _ _ _ _ _ _ absent declares trouble_map
+      {o : Origin} {names : List (List ℕ)} {g : Gathered} {out : Outcome} → GathersUnder IsAt Fails roots o names g out
+      → GathersUnder At Fail roots o names g out
+  gathers_known =
+      gathers_map _ _ _ _ _ _ (λ name. absent_map IsAt At none name roots) (λ name f. declares_map IsAt At none name roots f (λ path. source path name f))
+      (λ o name. trouble_map IsAt At none name Fails Fail fails fault roots o)
 
-  pub compile_map : (out : List ℕ) (names : List (List ℕ)) (a : Answer) → CompileAnswer IsAt Fails root out names a → CompileAnswer At Fail root out names a
+  pub compile_map : (out : List ℕ) (names : List (List ℕ)) (a : Answer) → CompileAnswer IsAt Fails roots out names a → CompileAnswer At Fail roots out names a
   compile_map out names a (untaken g e) = untaken (gathers_known g) e
   compile_map out names a (unlinked g l e) = unlinked (gathers_known g) l e
   compile_map out names a (set_too_large g r long e) = set_too_large (gathers_known g) r long e
   compile_map out names a (compiled g r small e) = compiled (gathers_known g) r small e
 
-module _ {F : Type 0} (contents : F → Option FileMap) (is_steady : F → Bool) (files : F) (root out : List ℕ) (names : List (List ℕ)) (a : Answer) where
+module _
+    {F : Type 0} (contents : F → Option FileMap) (is_steady : F → Bool) (files : F) (roots : List (List ℕ)) (out : List ℕ) (names : List (List ℕ))
+    (a : Answer) where
   -- over honest files
   pub compile_of_map :
-      (map : FileMap) → IsHonest contents is_steady files map → CompileOf contents is_steady files root out names a
-      → CompileAnswer (λ path content. content ≡ map path) (λ path. ⊥) root out names a
+      (map : FileMap) → IsHonest contents is_steady files map → CompileOf contents is_steady files roots out names a
+      → CompileAnswer (λ path content. content ≡ map path) (λ path. ⊥) roots out names a
   compile_of_map map honest =
-      compile_map _ _ _ _ root (λ name none. sym (none_whole (full.bytes + 1) (map (path_under root name)) (sym (none map honest))))
-      (λ name f h. declared_whole name h.0 f (map (path_under root name)) (h.1 map honest) h.2)
-      (λ name place c h. faulty_whole h.0 place c (map (path_under root name)) (h.1 map honest) h.2) (λ path never. never map honest) out names a
+      compile_map _ _ _ _ roots (λ path none. sym (none_whole (full.bytes + 1) (map path) (sym (none map honest))))
+      (λ path name f h. declared_whole name h.0 f (map path) (h.1 map honest) h.2)
+      (λ path place c h. faulty_whole h.0 place c (map path) (h.1 map honest) h.2) (λ path never. never map honest) out names a
 
   -- over any files
-  pub compile_of_any : CompileOf contents is_steady files root out names a → CompileAnswer (λ path content. Unit {0}) (λ path. Unit {0}) root out names a
+  pub compile_of_any : CompileOf contents is_steady files roots out names a → CompileAnswer (λ path content. Unit {0}) (λ path. Unit {0}) roots out names a
   compile_of_any =
-      compile_map _ _ _ _ root (λ name none. tt) (λ name f h. (h.0, tt, h.2)) (λ name place c h. (h.0, tt, h.2)) (λ path h. tt) out names a
+      compile_map _ _ _ _ roots (λ path none. tt) (λ path name f h. (h.0, tt, h.2)) (λ path place c h. (h.0, tt, h.2)) (λ path h. tt) out names a

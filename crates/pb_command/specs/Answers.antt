@@ -11,7 +11,7 @@ use Rattle.pb_value.specs.Derives.{Text}
 use Rattle.pb_value.specs.WellFormed.{IsWellFormed}
 use Rattle.pb_stream.specs.Frame.{FrameFault}
 use Rattle.pb_command.specs.Answer.{Answer, Ends}
-use Rattle.pb_command.specs.CompileAnswer.{CompileAnswer, texts_of}
+use Rattle.pb_command.specs.CompileAnswer.{CompileAnswer, roots_of, texts_of}
 use Rattle.pb_command.specs.FileMap.{FileMap}
 use Rattle.pb_command.specs.FramesAnswer.{AreFrames, BeginsWith, FramesAnswer}
 use Rattle.pb_command.specs.MessageAnswer.{MessageAnswer}
@@ -73,7 +73,7 @@ module _ (map : FileMap) where
   Answers (Show source) = MessageComesTo form.Listing source
   Answers (Canon to source) = MessageComesTo (canonical_form to) source
   Answers (Frames source) = FramesComeTo source
-  Answers (Compile root out names) = CompileAnswer (λ path content. content ≡ map path) (λ path. ⊥) root.now out.now (texts_of names.now)
+  Answers (Compile roots out names) = CompileAnswer (λ path content. content ≡ map path) (λ path. ⊥) (roots_of roots) out.now (texts_of names.now)
 
   -- what is printed before the answer is known: of frames those that were read, and else nothing
   abbrev pub Begins : Command → List ℕ → Type 0
@@ -81,7 +81,7 @@ module _ (map : FileMap) where
   Begins (Check source) text = text ≡ []
   Begins (Show source) text = text ≡ []
   Begins (Canon to source) text = text ≡ []
-  Begins (Compile root out names) text = text ≡ []
+  Begins (Compile roots out names) text = text ≡ []
   Begins (Frames source) text =
       (text ≡ [])
       ⊎ ((set : List ℕ) × (pool : Types) × (m : ℕ) × (map source.set.now ≡ Some set) × HasType source.type_name.now set pool m
@@ -109,14 +109,14 @@ AnyAnswers (Check source) a = AnyMessage form.Check source a
 AnyAnswers (Show source) a = AnyMessage form.Listing source a
 AnyAnswers (Canon to source) a = AnyMessage (canonical_form to) source a
 AnyAnswers (Frames source) a = AnyStream source a
-AnyAnswers (Compile root out names) a = CompileAnswer (λ path content. ⊤) (λ path. ⊤) root.now out.now (texts_of names.now) a
+AnyAnswers (Compile roots out names) a = CompileAnswer (λ path content. ⊤) (λ path. ⊤) (roots_of roots) out.now (texts_of names.now) a
 
 abbrev pub AnyBegins : Command → List ℕ → Type 0
 AnyBegins (Raw short file) text = text ≡ []
 AnyBegins (Check source) text = text ≡ []
 AnyBegins (Show source) text = text ≡ []
 AnyBegins (Canon to source) text = text ≡ []
-AnyBegins (Compile root out names) text = text ≡ []
+AnyBegins (Compile roots out names) text = text ≡ []
 AnyBegins (Frames source) text = (pool : Types) × (m : ℕ) × AnyFrames pool m text
 
 -- THE END OF A RUN

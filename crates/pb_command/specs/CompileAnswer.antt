@@ -1,5 +1,5 @@
 -- What `compile` comes to: its sources are there and are sources, link, and as a set have at most 2^31 - 1 bytes.
-use Rattle.std.specs.Prelude.{◌≡◌, ◌<◌, ◌≤◌, ◌^◌, ℕ, List, Option, length, map}
+use Rattle.std.specs.Prelude.{◌≡◌, ◌<◌, ◌≤◌, ◌^◌, ℕ, List, ◌∷◌, Option, length, map}
 use Rattle.std.specs.Borrow.{Bor}
 use Rattle.pb_descr.specs.Decls.{DeclaredFile}
 use Rattle.pb_descr.specs.Sets.{set_bytes}
@@ -7,30 +7,36 @@ use Rattle.pb_link.specs.Linking.{LinkFault}
 use Rattle.pb_link.specs.Resolved.{Resolves}
 use Rattle.pb_link.specs.declared.cause.LinkCause.{LinkCause}
 use Rattle.pb_command.specs.Answer.{Answer, saves, refused, device_failed}
-use Rattle.pb_command.specs.Gathering.{Gathered, GathersAt, Trouble, unread, faulty, gathered, stopped_at, given, nothing_yet, path_under}
+use Rattle.pb_command.specs.Gathering.{Gathered, GathersUnder, Trouble, unread, faulty, gathered, stopped_at, given, nothing_yet}
 use Rattle.pb_command.specs.Report.{link_line, source_line, too_large_line}
+use Rattle.pb_command.specs.declared.command.Roots.{Roots}
 
 -- the texts behind references
 abbrev pub texts_of : List (Bor (List ℕ)) → List (List ℕ)
 texts_of = map (λ t. t.now)
 
--- how the trouble with a file under a root is told
-abbrev pub told_of : List ℕ → List ℕ → Trouble → Answer
-told_of root name unread = device_failed (path_under root name)
-told_of root name (faulty place c) = refused (source_line name place c)
+-- the paths of the roots
+abbrev pub roots_of : Roots → List (List ℕ)
+roots_of r = r.root.now ∷ texts_of r.others.now
 
--- where IsAt says what stands at paths, and Fails that reading there fails: these files under a root, compiled to the file of a path
+-- how the trouble with a file is told
+abbrev pub told_of : List ℕ → Trouble → Answer
+told_of name (unread path) = device_failed path
+told_of name (faulty place c) = refused (source_line name place c)
+
+-- where IsAt says what stands at paths, and Fails that reading there fails: these files under roots, compiled to the file of a path
 pub data CompileAnswer
-    (IsAt : List ℕ → Option (List ℕ) → Type 0) (Fails : List ℕ → Type 0) (root out : List ℕ) (names : List (List ℕ)) (answer : Answer) : Type 0 where
+    (IsAt : List ℕ → Option (List ℕ) → Type 0) (Fails : List ℕ → Type 0) (roots : List (List ℕ)) (out : List ℕ) (names : List (List ℕ))
+    (answer : Answer) : Type 0 where
   untaken :
-      {name : List ℕ} {t : Trouble} → GathersAt IsAt Fails root given names nothing_yet (stopped_at name t) → answer ≡ told_of root name t
-      → CompileAnswer IsAt Fails root out names answer
+      {name : List ℕ} {t : Trouble} → GathersUnder IsAt Fails roots given names nothing_yet (stopped_at name t) → answer ≡ told_of name t
+      → CompileAnswer IsAt Fails roots out names answer
   unlinked :
-      {g : Gathered} {file full_name : List ℕ} {c : LinkCause} → GathersAt IsAt Fails root given names nothing_yet (gathered g)
-      → LinkFault g.files file full_name c → answer ≡ refused (link_line file full_name c) → CompileAnswer IsAt Fails root out names answer
+      {g : Gathered} {file full_name : List ℕ} {c : LinkCause} → GathersUnder IsAt Fails roots given names nothing_yet (gathered g)
+      → LinkFault g.files file full_name c → answer ≡ refused (link_line file full_name c) → CompileAnswer IsAt Fails roots out names answer
   too_large :
-      {g : Gathered} {files : List DeclaredFile} → GathersAt IsAt Fails root given names nothing_yet (gathered g) → Resolves g.files files
-      → 2 ^ 31 ≤ length (set_bytes files) → answer ≡ refused too_large_line → CompileAnswer IsAt Fails root out names answer
+      {g : Gathered} {files : List DeclaredFile} → GathersUnder IsAt Fails roots given names nothing_yet (gathered g) → Resolves g.files files
+      → 2 ^ 31 ≤ length (set_bytes files) → answer ≡ refused too_large_line → CompileAnswer IsAt Fails roots out names answer
   compiled :
-      {g : Gathered} {files : List DeclaredFile} → GathersAt IsAt Fails root given names nothing_yet (gathered g) → Resolves g.files files
-      → length (set_bytes files) < 2 ^ 31 → answer ≡ saves out (set_bytes files) → CompileAnswer IsAt Fails root out names answer
+      {g : Gathered} {files : List DeclaredFile} → GathersUnder IsAt Fails roots given names nothing_yet (gathered g) → Resolves g.files files
+      → length (set_bytes files) < 2 ^ 31 → answer ≡ saves out (set_bytes files) → CompileAnswer IsAt Fails roots out names answer

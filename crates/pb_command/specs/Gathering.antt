@@ -1,5 +1,5 @@
 -- Which sources `compile` gathers: each file in turn, before it its imports in order, each the same way and once. A file is read as it is
--- reached, before its imports.
+-- reached, before its imports, under the first of the roots that has it.
 use Rattle.std.specs.Prelude.{◌≡◌, ◌⊎◌, ⊤, ℕ, List, [], ◌∷◌, ◌++◌, codes, Bool, true, false, ◌==◌, ◌||◌, Option, None, Some}
 use Rattle.std.specs.List.{list_any, slice_split}
 use Rattle.std.specs.Str.{bytes_eq}
@@ -17,7 +17,7 @@ path_under root name = root ++ codes "/" ++ name
 abbrev pub climbs : List ℕ → Bool
 climbs name = list_any (λ part. bytes_eq part (codes "..")) (slice_split (λ b. b == 47) name)
 
--- an import of this name is no file under the root: the name is empty, begins with a slash, or has a part `..`
+-- an import of this name is no file under a root: the name is empty, begins with a slash, or has a part `..`
 abbrev pub leaves_root : List ℕ → Bool
 leaves_root [] = true
 leaves_root (b ∷ bs) = (b == 47) || climbs (b ∷ bs)
@@ -46,9 +46,9 @@ with_file f g = record g { files = g.files ++ f ∷ [] }
 abbrev pub is_known : Gathered → List ℕ → Bool
 is_known g name = list_any (bytes_eq name) g.names
 
--- why a file is refused: it can't be read, or is no source, for this fault
+-- why a file is refused: nothing can be read at this path, or it is no source, for this fault
 pub data Trouble : Type 0 where
-  unread : Trouble
+  unread : List ℕ → Trouble
   faulty : ℕ → Cause → Trouble
 
 -- what comes of reaching names: all that was gathered, or the first file that is refused
@@ -90,25 +90,42 @@ pub data Gathers
       {o : Origin} {name : List ℕ} {names : List (List ℕ)} {g : Gathered} {t : Trouble} → is_known g name ≡ false → IsTaken o name
       → HasTrouble o name t → Gathers IsAbsent Declares HasTrouble o (name ∷ names) g (stopped_at name t)
 
--- UNDER A ROOT, of what IsAt says that stands at paths, and Fails that reading there fails
+-- AT A PATH, of what IsAt says that stands at paths, and Fails that reading there fails
 
-module _ (IsAt : List ℕ → Option (List ℕ) → Type 0) (root : List ℕ) where
-  abbrev pub IsAbsentAt : List ℕ → Type 0
-  IsAbsentAt name = IsAt (path_under root name) None
-
+module _ (IsAt : List ℕ → Option (List ℕ) → Type 0) (path : List ℕ) where
   abbrev pub DeclaresAt : List ℕ → DeclaredFile → Type 0
-  DeclaresAt name f = (bytes : List ℕ) × IsAt (path_under root name) (Some bytes) × IsSource name bytes f
+  DeclaresAt name f = (bytes : List ℕ) × IsAt path (Some bytes) × IsSource name bytes f
 
-  abbrev pub IsFaultyAt : List ℕ → ℕ → Cause → Type 0
-  IsFaultyAt name place c = (bytes : List ℕ) × IsAt (path_under root name) (Some bytes) × HasFault bytes place c
+  abbrev pub IsFaultyAt : ℕ → Cause → Type 0
+  IsFaultyAt place c = (bytes : List ℕ) × IsAt path (Some bytes) × HasFault bytes place c
 
-module _ (IsAt : List ℕ → Option (List ℕ) → Type 0) (Fails : List ℕ → Type 0) (root : List ℕ) where
-  -- a given file that is not there is refused
-  abbrev pub HasTroubleAt : Origin → List ℕ → Trouble → Type 0
-  HasTroubleAt given name unread = IsAbsentAt IsAt root name ⊎ Fails (path_under root name)
-  HasTroubleAt imported name unread = Fails (path_under root name)
-  HasTroubleAt given name (faulty place c) = IsFaultyAt IsAt root name place c
-  HasTroubleAt imported name (faulty place c) = IsFaultyAt IsAt root name place c
+  abbrev pub HasTroubleAt : (List ℕ → Type 0) → Trouble → Type 0
+  HasTroubleAt Fails (unread p) = (p ≡ path) × Fails path
+  HasTroubleAt Fails (faulty place c) = IsFaultyAt place c
 
-  abbrev pub GathersAt : Origin → List (List ℕ) → Gathered → Outcome → Type 0
-  GathersAt = Gathers (IsAbsentAt IsAt root) (DeclaresAt IsAt root) HasTroubleAt
+-- UNDER ROOTS: a file is looked for under one after another, up to the first that has it
+
+module _ (IsAt : List ℕ → Option (List ℕ) → Type 0) where
+  -- the path of a name under one of the roots, where none before it has the file
+  abbrev pub IsReached : List (List ℕ) → List ℕ → List ℕ → Type 0
+  IsReached [] name path = ⊥
+  IsReached (root ∷ roots) name path = (path ≡ path_under root name) ⊎ (IsAt (path_under root name) None × IsReached roots name path)
+
+  abbrev pub IsAbsentUnder : List (List ℕ) → List ℕ → Type 0
+  IsAbsentUnder [] name = ⊤
+  IsAbsentUnder (root ∷ roots) name = IsAt (path_under root name) None × IsAbsentUnder roots name
+
+  abbrev pub DeclaresUnder : List (List ℕ) → List ℕ → DeclaredFile → Type 0
+  DeclaresUnder roots name f = (path : List ℕ) × IsReached roots name path × DeclaresAt IsAt path name f
+
+  -- a given file that no root has is refused, by its path under the first
+  abbrev pub IsMissing : List (List ℕ) → Origin → List ℕ → Trouble → Type 0
+  IsMissing (root ∷ roots) given name (unread path) = (path ≡ path_under root name) × IsAbsentUnder (root ∷ roots) name
+  IsMissing _ _ _ _ = ⊥
+
+module _ (IsAt : List ℕ → Option (List ℕ) → Type 0) (Fails : List ℕ → Type 0) (roots : List (List ℕ)) where
+  abbrev pub HasTroubleUnder : Origin → List ℕ → Trouble → Type 0
+  HasTroubleUnder o name t = ((path : List ℕ) × IsReached IsAt roots name path × HasTroubleAt IsAt path Fails t) ⊎ IsMissing IsAt roots o name t
+
+  abbrev pub GathersUnder : Origin → List (List ℕ) → Gathered → Outcome → Type 0
+  GathersUnder = Gathers (IsAbsentUnder IsAt roots) (DeclaresUnder IsAt roots) HasTroubleUnder

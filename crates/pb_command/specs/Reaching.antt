@@ -45,9 +45,9 @@ abbrev pub RefusesImport : (Origin → List ℕ → Trouble → Type 0) → Gath
 RefusesImport HasTrouble g name t = (is_known g name ≡ false) × IsTaken imported name × HasTrouble imported name t
 
 -- the next of these imports is refused
-abbrev pub StopsInside : (Origin → List ℕ → Trouble → Type 0) → List ℕ → Gathered → List (List ℕ) → Answer → Type 0
-StopsInside HasTrouble root g left a =
-    (name : List ℕ) × (names : List (List ℕ)) × (t : Trouble) × (left ≡ name ∷ names) × RefusesImport HasTrouble g name t × (a ≡ told_of root name t)
+abbrev pub StopsInside : (Origin → List ℕ → Trouble → Type 0) → Gathered → List (List ℕ) → Answer → Type 0
+StopsInside HasTrouble g left a =
+    (name : List ℕ) × (names : List (List ℕ)) × (t : Trouble) × (left ≡ name ∷ names) × RefusesImport HasTrouble g name t × (a ≡ told_of name t)
 
 -- the innermost file is closed, or its next import is passed over or read
 pub data Moves (IsAbsent : List ℕ → Type 0) (Declares : List ℕ → DeclaredFile → Type 0) :

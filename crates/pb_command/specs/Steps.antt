@@ -9,10 +9,10 @@ use Rattle.pb_value.specs.WellFormed.{IsWellFormed}
 use Rattle.pb_descr.specs.Decls.{DeclaredFile}
 use Rattle.pb_command.specs.Answer.{Answer, stopped, broken, device_failed, IsPrinted}
 use Rattle.pb_command.specs.Answers.{FaultAt, TextAt, FramesAt, FrameFaultAt, FramesBegunAt, AnyFrames, canonical_form}
-use Rattle.pb_command.specs.CompileAnswer.{CompileAnswer, texts_of, told_of}
+use Rattle.pb_command.specs.CompileAnswer.{CompileAnswer, roots_of, texts_of, told_of}
 use Rattle.pb_command.specs.FileMap.{FileMap, IsHonest}
 use Rattle.pb_command.specs.FramesAnswer.{AreFrames, FramesAnswer}
-use Rattle.pb_command.specs.Gathering.{Gathered, GathersAt, HasTroubleAt, IsAbsentAt, DeclaresAt, Origin, Outcome, Trouble, stopped_at}
+use Rattle.pb_command.specs.Gathering.{Gathered, GathersUnder, HasTroubleUnder, IsAbsentUnder, DeclaresUnder, Origin, Outcome, Trouble, stopped_at}
 use Rattle.pb_command.specs.MessageAnswer.{MessageAnswer}
 use Rattle.pb_command.specs.RawAnswer.{RawAnswer}
 use Rattle.pb_command.specs.Refusal.{ByRefusal, Refuses}
@@ -138,25 +138,25 @@ module _ {F : Type 0} (contents : F → Option FileMap) (is_steady : F → Bool)
   abbrev pub Fails : List ℕ → Type 0
   Fails path = OfFiles contents is_steady files path (λ content. ⊥)
 
-  -- of the files under a root: which are not there, what their sources declare, and why they are refused
-  abbrev pub AbsentOf : List ℕ → List ℕ → Type 0
-  AbsentOf root = IsAbsentAt IsAt root
+  -- of the files under roots: which are not there, what their sources declare, and why they are refused
+  abbrev pub AbsentOf : List (List ℕ) → List ℕ → Type 0
+  AbsentOf = IsAbsentUnder IsAt
 
-  abbrev pub DeclaredOf : List ℕ → List ℕ → DeclaredFile → Type 0
-  DeclaredOf root = DeclaresAt IsAt root
+  abbrev pub DeclaredOf : List (List ℕ) → List ℕ → DeclaredFile → Type 0
+  DeclaredOf = DeclaresUnder IsAt
 
-  abbrev pub TroubleOf : List ℕ → Origin → List ℕ → Trouble → Type 0
-  TroubleOf root = HasTroubleAt IsAt Fails root
+  abbrev pub TroubleOf : List (List ℕ) → Origin → List ℕ → Trouble → Type 0
+  TroubleOf = HasTroubleUnder IsAt Fails
 
-  abbrev pub GathersOf : List ℕ → Origin → List (List ℕ) → Gathered → Outcome → Type 0
-  GathersOf root = GathersAt IsAt Fails root
+  abbrev pub GathersOf : List (List ℕ) → Origin → List (List ℕ) → Gathered → Outcome → Type 0
+  GathersOf = GathersUnder IsAt Fails
 
   -- reaching names stops at a file that is refused
-  abbrev pub StopsOf : List ℕ → Origin → List (List ℕ) → Gathered → Answer → Type 0
-  StopsOf root o names g a = (name : List ℕ) × (t : Trouble) × GathersOf root o names g (stopped_at name t) × (a ≡ told_of root name t)
+  abbrev pub StopsOf : List (List ℕ) → Origin → List (List ℕ) → Gathered → Answer → Type 0
+  StopsOf roots o names g a = (name : List ℕ) × (t : Trouble) × GathersOf roots o names g (stopped_at name t) × (a ≡ told_of name t)
 
   -- what `compile` comes to
-  abbrev pub CompileOf : List ℕ → List ℕ → List (List ℕ) → Answer → Type 0
+  abbrev pub CompileOf : List (List ℕ) → List ℕ → List (List ℕ) → Answer → Type 0
   CompileOf = CompileAnswer IsAt Fails
 
   -- a command's right answers, and what is printed before they are known
@@ -167,7 +167,7 @@ module _ {F : Type 0} (contents : F → Option FileMap) (is_steady : F → Bool)
   RightOf (Show source) a = MessageOf form.Listing source a
   RightOf (Canon to source) a = MessageOf (canonical_form to) source a
   RightOf (Frames source) a = StreamOf source a
-  RightOf (Compile root out names) a = CompileOf root.now out.now (texts_of names.now) a
+  RightOf (Compile roots out names) a = CompileOf (roots_of roots) out.now (texts_of names.now) a
 
   abbrev pub BegunOf : Command → List ℕ → Type 0
   BegunOf (Raw short file) text = IsNothing text
@@ -175,4 +175,4 @@ module _ {F : Type 0} (contents : F → Option FileMap) (is_steady : F → Bool)
   BegunOf (Show source) text = IsNothing text
   BegunOf (Canon to source) text = IsNothing text
   BegunOf (Frames source) text = StreamBegun source text
-  BegunOf (Compile root out names) text = IsNothing text
+  BegunOf (Compile roots out names) text = IsNothing text

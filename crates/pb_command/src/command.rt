@@ -9,6 +9,13 @@ pub struct Source<'a> {
     pub file: &'a str,
 }
 
+/// Where sources are looked for: under the root, and one that is not there under the first of the others that has it.
+#[derive(Clone, Copy, Debug, PartialEq, Eq)]
+pub struct Roots<'a> {
+    pub root: &'a str,
+    pub others: &'a [&'a str],
+}
+
 /// A command with its values.
 #[derive(Clone, Copy, Debug, PartialEq, Eq)]
 pub enum Command<'a> {
@@ -34,9 +41,9 @@ pub enum Command<'a> {
     Frames {
         source: Source<'a>,
     },
-    /// Writes the descriptor set of files, which are sources under a root, and of their imports to the file `out`.
+    /// Writes the descriptor set of files, which are sources under roots, and of their imports to the file `out`.
     Compile {
-        root: &'a str,
+        roots: Roots<'a>,
         out: &'a str,
         names: &'a [&'a str],
     },

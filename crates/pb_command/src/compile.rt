@@ -6,12 +6,13 @@ ghost use Rattle.pb_descr.specs.View.{file_view};
 ghost use Rattle.pb_descr.specs.Writing.{set_body};
 ghost use Rattle.pb_value.specs.Data.{message_depth};
 ghost use Rattle.pb_command.specs.Answer.{refused};
-ghost use Rattle.pb_command.specs.CompileAnswer.{texts_of};
+ghost use Rattle.pb_command.specs.CompileAnswer.{roots_of, texts_of};
 ghost use Rattle.pb_command.specs.FileMap.{IsSaved, IsUnsaved};
 ghost use Rattle.pb_command.specs.Refusal.{Refuses};
 ghost use Rattle.pb_command.specs.Report.{too_large_line};
 ghost use Rattle.pb_command.specs.Steps.{Comes, CompileOf, IsNothing};
 
+use crate::command::Roots;
 use crate::files::Files;
 use crate::gathering::gather;
 use crate::report::Refusal;
@@ -22,17 +23,17 @@ use std::alloc::Global;
 /// Writes the descriptor set of sources and their imports to a file: whole, or nothing where they are refused.
 pub fn compile<'a, F: Files>(
     alloc: Global,
-    root: &str,
+    roots: Roots<'_>,
     out: &'a str,
     names: &[&str],
     files: &mut F,
 ) -> Result<(), Refusal<'a>>
     ensures comes { Comes (λ text. text ≡ []) (λ _. ⊥)
         (IsSaved F.contents files.old files.new) (IsUnsaved F.contents F.failures files.old files.new)
-        (CompileOf F.contents F.is_steady files.old root.now out.entry.now (texts_of names.now)) IsNothing result }
+        (CompileOf F.contents F.is_steady files.old (roots_of roots.entry) out.entry.now (texts_of names.now)) IsNothing result }
     ensures kept { OnOk result (F.failures files.new ≡ F.failures files.old) }
 {
-    let gathered = gather(alloc, root, names, files)?;
+    let gathered = gather(alloc, roots, names, files)?;
     let resolved = resolve(alloc, &gathered)?;
     let bytes = bytes_of(alloc, &resolved)?;
     match files.write_whole(out, &bytes) {

@@ -65,10 +65,10 @@ fn perform<'a, F: Files, O: Output>(
         Command::Canon { out: to, source } => message(alloc, form_of(*to), source, files, out),
         Command::Frames { source } => frames(alloc, source, files, out),
         Command::Compile {
-            root,
+            roots,
             out: to,
             names,
-        } => compile(alloc, root, to, names, files),
+        } => compile(alloc, *roots, to, names, files),
     }
 }
 

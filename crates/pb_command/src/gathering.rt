@@ -2,13 +2,14 @@
 
 ghost use Rattle.std.specs.Prelude.{◌≡◌, [], ◌∷◌, map, true, option_map, string_bytes, IfOk, IfErr, OnOk};
 ghost use Rattle.pb_descr.specs.View.{file_view};
-ghost use Rattle.pb_command.specs.CompileAnswer.{texts_of, told_of};
+ghost use Rattle.pb_command.specs.CompileAnswer.{roots_of, texts_of, told_of};
 ghost use Rattle.pb_command.specs.FileMap.{KeepsMap};
 ghost use Rattle.pb_command.specs.Gathering.{Gathered, Trouble, gathered, given, imported, nothing_yet, with_file};
 ghost use Rattle.pb_command.specs.Reaching.{FindsImport, Moves, OpensFound, RefusesImport, StopsInside, open_view, reached, stack_of};
 ghost use Rattle.pb_command.specs.Refusal.{Refuses};
 ghost use Rattle.pb_command.specs.Steps.{AbsentOf, DeclaredOf, GathersOf, StopsOf, TroubleOf};
 
+use crate::command::Roots;
 use crate::files::Files;
 use crate::name_set::NameSet;
 use crate::report::Refusal;
@@ -32,17 +33,17 @@ struct Gathering {
     files: Vec<FileDecl>,
 }
 
-/// The files of these names under a root and their imports, each behind its imports and once.
+/// The files of these names under roots and their imports, each behind its imports and once.
 pub fn gather<'a, F: Files>(
     alloc: Global,
-    root: &str,
+    roots: Roots<'_>,
     names: &[&str],
     files: &mut F,
 ) -> Result<Vec<FileDecl>, Refusal<'a>>
     ensures gathered { IfOk result (λ v. (g : Gathered)
-        × GathersOf F.contents F.is_steady files.old root.now given (texts_of names.now) nothing_yet (gathered g)
+        × GathersOf F.contents F.is_steady files.old (roots_of roots.entry) given (texts_of names.now) nothing_yet (gathered g)
         × (map file_view v.items ≡ g.files)) }
-    ensures refused { IfErr result (Refuses (StopsOf F.contents F.is_steady files.old root.now given (texts_of names.now) nothing_yet)) }
+    ensures refused { IfErr result (Refuses (StopsOf F.contents F.is_steady files.old (roots_of roots.entry) given (texts_of names.now) nothing_yet)) }
     ensures kept { OnOk result (F.failures files.new ≡ F.failures files.old) }
     ensures steady { F.is_steady files.old ≡ true → F.is_steady files.new ≡ true }
     ensures files { KeepsMap (F.contents files.old) (F.contents files.new) }
@@ -52,7 +53,7 @@ pub fn gather<'a, F: Files>(
         files: Vec::new(alloc),
     };
     for name in names {
-        gathering.take_given(alloc, root, name, files)?;
+        gathering.take_given(alloc, roots, name, files)?;
     }
     Ok(gathering.files)
 }
@@ -75,13 +76,13 @@ impl Gathering {
     fn take_given<'a, F: Files>(
         &mut self,
         alloc: Global,
-        root: &str,
+        roots: Roots<'_>,
         name: &str,
         files: &mut F,
     ) -> Result<(), Refusal<'a>>
         ensures taken { OnOk result
-            (GathersOf F.contents F.is_steady files.old root.now given (name.now ∷ []) (reached self.old) (gathered (reached self.new))) }
-        ensures refused { IfErr result (Refuses (StopsOf F.contents F.is_steady files.old root.now given (name.now ∷ []) (reached self.old))) }
+            (GathersOf F.contents F.is_steady files.old (roots_of roots.entry) given (name.now ∷ []) (reached self.old) (gathered (reached self.new))) }
+        ensures refused { IfErr result (Refuses (StopsOf F.contents F.is_steady files.old (roots_of roots.entry) given (name.now ∷ []) (reached self.old))) }
         ensures kept { OnOk result (F.failures files.new ≡ F.failures files.old) }
         ensures steady { F.is_steady files.old ≡ true → F.is_steady files.new ≡ true }
         ensures files { KeepsMap (F.contents files.old) (F.contents files.new) }
@@ -89,9 +90,9 @@ impl Gathering {
         if self.names.contains(name.as_bytes()) {
             return Ok(());
         }
-        let file = read_given(alloc, root, name, files)?;
+        let file = read_given(alloc, roots, name, files)?;
         self.names.add(alloc, name.as_bytes())?;
-        self.close(alloc, root, file, files)?;
+        self.close(alloc, roots, file, files)?;
         Ok(())
     }
 
@@ -99,14 +100,15 @@ impl Gathering {
     fn close<'a, F: Files>(
         &mut self,
         alloc: Global,
-        root: &str,
+        roots: Roots<'_>,
         file: FileDecl,
         files: &mut F,
     ) -> Result<(), Refusal<'a>>
         ensures closed { OnOk result ((g : Gathered)
-            × GathersOf F.contents F.is_steady files.old root.now imported (file_view file).imports (reached self.old) (gathered g)
+            × GathersOf F.contents F.is_steady files.old (roots_of roots.entry) imported (file_view file).imports (reached self.old) (gathered g)
             × (reached self.new ≡ with_file (file_view file) g)) }
-        ensures refused { IfErr result (Refuses (StopsOf F.contents F.is_steady files.old root.now imported (file_view file).imports (reached self.old))) }
+        ensures refused { IfErr result
+            (Refuses (StopsOf F.contents F.is_steady files.old (roots_of roots.entry) imported (file_view file).imports (reached self.old))) }
         ensures kept { OnOk result (F.failures files.new ≡ F.failures files.old) }
         ensures steady { F.is_steady files.old ≡ true → F.is_steady files.new ≡ true }
         ensures files { KeepsMap (F.contents files.old) (F.contents files.new) }
@@ -117,7 +119,7 @@ impl Gathering {
             let Some(innermost) = stack.pop() else {
                 return Ok(());
             };
-            self.go_on(alloc, root, innermost, &mut stack, files)?;
+            self.go_on(alloc, roots, innermost, &mut stack, files)?;
         }
         // No memory holds so many names.
         Err(Refusal::Memory)
@@ -127,15 +129,16 @@ impl Gathering {
     fn go_on<'a, F: Files>(
         &mut self,
         alloc: Global,
-        root: &str,
+        roots: Roots<'_>,
         innermost: Open,
         stack: &mut Vec<Open>,
         files: &mut F,
     ) -> Result<(), Refusal<'a>>
-        ensures moved { OnOk result (Moves (AbsentOf F.contents F.is_steady files.old root.now) (DeclaredOf F.contents F.is_steady files.old root.now)
-            (reached self.old) (open_view innermost ∷ stack_of stack.old.items) (reached self.new) (stack_of stack.new.items)) }
+        ensures moved { OnOk result (Moves (AbsentOf F.contents F.is_steady files.old (roots_of roots.entry))
+            (DeclaredOf F.contents F.is_steady files.old (roots_of roots.entry)) (reached self.old)
+            (open_view innermost ∷ stack_of stack.old.items) (reached self.new) (stack_of stack.new.items)) }
         ensures refused { IfErr result
-            (Refuses (StopsInside (TroubleOf F.contents F.is_steady files.old root.now) root.now (reached self.old) (open_view innermost).left)) }
+            (Refuses (StopsInside (TroubleOf F.contents F.is_steady files.old (roots_of roots.entry)) (reached self.old) (open_view innermost).left)) }
         ensures kept { OnOk result (F.failures files.new ≡ F.failures files.old) }
         ensures steady { F.is_steady files.old ≡ true → F.is_steady files.new ≡ true }
         ensures files { KeepsMap (F.contents files.old) (F.contents files.new) }
@@ -145,7 +148,7 @@ impl Gathering {
             self.files.push(file)?;
             return Ok(());
         };
-        let found = self.find_import(alloc, root, name.as_str(), files)?;
+        let found = self.find_import(alloc, roots, name.as_str(), files)?;
         stack.push(Open {
             file,
             next: next + 1,
@@ -154,20 +157,20 @@ impl Gathering {
         Ok(())
     }
 
-    /// Reads the file of an import that is reached for the first time. One that leaves the root or is not there is left out, so that
+    /// Reads the file of an import that is reached for the first time. One that leaves the roots or is not there is left out, so that
     /// linking tells it.
     fn find_import<'a, F: Files>(
         &mut self,
         alloc: Global,
-        root: &str,
+        roots: Roots<'_>,
         name: &str,
         files: &mut F,
     ) -> Result<Option<FileDecl>, Refusal<'a>>
-        ensures found { IfOk result (λ o. FindsImport (AbsentOf F.contents F.is_steady files.old root.now)
-            (DeclaredOf F.contents F.is_steady files.old root.now) (reached self.old) name.now (reached self.new) (option_map file_view o)) }
+        ensures found { IfOk result (λ o. FindsImport (AbsentOf F.contents F.is_steady files.old (roots_of roots.entry))
+            (DeclaredOf F.contents F.is_steady files.old (roots_of roots.entry)) (reached self.old) name.now (reached self.new) (option_map file_view o)) }
         ensures refused { IfErr result (Refuses (λ a. (t : Trouble)
-            × RefusesImport (TroubleOf F.contents F.is_steady files.old root.now) (reached self.old) name.now t
-            × (a ≡ told_of root.now name.now t))) }
+            × RefusesImport (TroubleOf F.contents F.is_steady files.old (roots_of roots.entry)) (reached self.old) name.now t
+            × (a ≡ told_of name.now t))) }
         ensures kept { OnOk result (F.failures files.new ≡ F.failures files.old) }
         ensures steady { F.is_steady files.old ≡ true → F.is_steady files.new ≡ true }
         ensures files { KeepsMap (F.contents files.old) (F.contents files.new) }
@@ -175,7 +178,7 @@ impl Gathering {
         if self.names.contains(name.as_bytes()) || leaves_root(name) {
             return Ok(None);
         }
-        let Some(file) = read_source(alloc, root, name, files)? else {
+        let Some(file) = read_source(alloc, roots, name, files)? else {
             return Ok(None);
         };
         self.names.add(alloc, name.as_bytes())?;

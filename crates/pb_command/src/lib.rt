@@ -18,7 +18,7 @@ mod reading;
 mod report;
 mod sources;
 
-pub use command::{Command, Source};
+pub use command::{Command, Roots, Source};
 pub use executing::execute;
 pub use files::Files;
 pub use host::HostFiles;

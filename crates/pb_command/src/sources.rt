@@ -1,18 +1,19 @@
-//! Sources, read from files under a root.
+//! Sources, read from files under roots.
 
-ghost use Rattle.std.specs.Prelude.{◌≡◌, ◌+◌, true, ℕ, option_map, string_bytes, IfOk, IfErr, IsErrOf, MatchOption, OnOk};
+ghost use Rattle.std.specs.Prelude.{◌≡◌, ◌+◌, true, ℕ, None, option_map, string_bytes, IfOk, IfErr, IsErrOf, MatchOption, OnOk};
 ghost use Rattle.pb_descr.specs.View.{file_view};
 ghost use Rattle.pb_source.specs.Source.{HasFault, IsSource};
 ghost use Rattle.pb_source.specs.declared.fault.Cause.{Cause as SourceCause};
 ghost use Rattle.pb_wire.specs.Limits.{full};
 ghost use Rattle.pb_command.specs.Answer.{refused};
-ghost use Rattle.pb_command.specs.CompileAnswer.{told_of};
+ghost use Rattle.pb_command.specs.CompileAnswer.{roots_of, texts_of, told_of};
 ghost use Rattle.pb_command.specs.FileMap.{KeepsMap};
-ghost use Rattle.pb_command.specs.Gathering.{Trouble, climbs, given, imported, leaves_root, path_under, unread};
+ghost use Rattle.pb_command.specs.Gathering.{DeclaresAt, HasTroubleAt, Trouble, climbs, given, imported, leaves_root, path_under, unread};
 ghost use Rattle.pb_command.specs.Refusal.{Refuses};
 ghost use Rattle.pb_command.specs.Report.{source_line};
-ghost use Rattle.pb_command.specs.Steps.{AbsentOf, DeclaredOf, Fails, IsReadOf, TroubleOf};
+ghost use Rattle.pb_command.specs.Steps.{AbsentOf, DeclaredOf, Fails, IsAt, IsReadOf, TroubleOf};
 
+use crate::command::Roots;
 use crate::files::Files;
 use crate::report::Refusal;
 use pb_descr::FileDecl;
@@ -30,7 +31,7 @@ fn path_under(alloc: Global, root: &str, name: &str) -> Result<String, AllocErro
     Ok(path)
 }
 
-/// Whether an import of this name is no file under the root.
+/// Whether an import of this name is no file under a root.
 pub fn leaves_root(name: &str) -> bool
     ensures { result ≡ leaves_root name.now }
 {
@@ -100,17 +101,18 @@ fn parse_source<'a>(alloc: Global, name: &str, bytes: &[u8]) -> Result<FileDecl,
     }
 }
 
-/// What the file of this name under a root declares; none where it is not there.
-pub fn read_source<'a, F: Files>(
+/// What the file of this name under one root declares; none where it is not there.
+fn read_under<'a, F: Files>(
     alloc: Global,
     root: &str,
     name: &str,
     files: &mut F,
 ) -> Result<Option<FileDecl>, Refusal<'a>>
-    ensures read { IfOk result (λ o. MatchOption o (AbsentOf F.contents F.is_steady files.old root.now name.now)
-        (λ f. DeclaredOf F.contents F.is_steady files.old root.now name.now (file_view f))) }
-    ensures refused { IfErr result (Refuses (λ a. (t : Trouble) × TroubleOf F.contents F.is_steady files.old root.now imported name.now t
-        × (a ≡ told_of root.now name.now t))) }
+    ensures read { IfOk result (λ o. MatchOption o (IsAt F.contents F.is_steady files.old (path_under root.now name.now) None)
+        (λ f. DeclaresAt (IsAt F.contents F.is_steady files.old) (path_under root.now name.now) name.now (file_view f))) }
+    ensures refused { IfErr result (Refuses (λ a. (t : Trouble)
+        × HasTroubleAt (IsAt F.contents F.is_steady files.old) (path_under root.now name.now) (Fails F.contents F.is_steady files.old) t
+        × (a ≡ told_of name.now t))) }
     ensures kept { OnOk result (F.failures files.new ≡ F.failures files.old) }
     ensures steady { F.is_steady files.old ≡ true → F.is_steady files.new ≡ true }
     ensures files { KeepsMap (F.contents files.old) (F.contents files.new) }
@@ -127,30 +129,74 @@ pub fn read_source<'a, F: Files>(
     }
 }
 
-/// The same of a file that was given: one that is not there is refused.
-pub fn read_given<'a, F: Files>(
+/// What the file of this name declares, under the first of these roots that has it; none where no root has it.
+fn read_first<'a, F: Files>(
     alloc: Global,
-    root: &str,
+    roots: &[&str],
     name: &str,
     files: &mut F,
-) -> Result<FileDecl, Refusal<'a>>
-    ensures read { IfOk result (λ f. DeclaredOf F.contents F.is_steady files.old root.now name.now (file_view f)) }
-    ensures refused { IfErr result (Refuses (λ a. (t : Trouble) × TroubleOf F.contents F.is_steady files.old root.now given name.now t
-        × (a ≡ told_of root.now name.now t))) }
+) -> Result<Option<FileDecl>, Refusal<'a>>
+    ensures read { IfOk result (λ o. MatchOption o (AbsentOf F.contents F.is_steady files.old (texts_of roots.now) name.now)
+        (λ f. DeclaredOf F.contents F.is_steady files.old (texts_of roots.now) name.now (file_view f))) }
+    ensures refused { IfErr result (Refuses (λ a. (t : Trouble)
+        × TroubleOf F.contents F.is_steady files.old (texts_of roots.now) imported name.now t × (a ≡ told_of name.now t))) }
     ensures kept { OnOk result (F.failures files.new ≡ F.failures files.old) }
     ensures steady { F.is_steady files.old ≡ true → F.is_steady files.new ≡ true }
     ensures files { KeepsMap (F.contents files.old) (F.contents files.new) }
 {
-    match read_source(alloc, root, name, files) {
+    for root in roots {
+        if let Some(file) = read_under(alloc, root, name, files)? {
+            return Ok(Some(file));
+        }
+    }
+    Ok(None)
+}
+
+/// The same of all roots.
+pub fn read_source<'a, F: Files>(
+    alloc: Global,
+    roots: Roots<'_>,
+    name: &str,
+    files: &mut F,
+) -> Result<Option<FileDecl>, Refusal<'a>>
+    ensures read { IfOk result (λ o. MatchOption o (AbsentOf F.contents F.is_steady files.old (roots_of roots.entry) name.now)
+        (λ f. DeclaredOf F.contents F.is_steady files.old (roots_of roots.entry) name.now (file_view f))) }
+    ensures refused { IfErr result (Refuses (λ a. (t : Trouble)
+        × TroubleOf F.contents F.is_steady files.old (roots_of roots.entry) imported name.now t × (a ≡ told_of name.now t))) }
+    ensures kept { OnOk result (F.failures files.new ≡ F.failures files.old) }
+    ensures steady { F.is_steady files.old ≡ true → F.is_steady files.new ≡ true }
+    ensures files { KeepsMap (F.contents files.old) (F.contents files.new) }
+{
+    match read_under(alloc, roots.root, name, files)? {
+        Some(file) => Ok(Some(file)),
+        None => read_first(alloc, roots.others, name, files),
+    }
+}
+
+/// The same of a file that was given: one that no root has is refused.
+pub fn read_given<'a, F: Files>(
+    alloc: Global,
+    roots: Roots<'_>,
+    name: &str,
+    files: &mut F,
+) -> Result<FileDecl, Refusal<'a>>
+    ensures read { IfOk result (λ f. DeclaredOf F.contents F.is_steady files.old (roots_of roots.entry) name.now (file_view f)) }
+    ensures refused { IfErr result (Refuses (λ a. (t : Trouble)
+        × TroubleOf F.contents F.is_steady files.old (roots_of roots.entry) given name.now t × (a ≡ told_of name.now t))) }
+    ensures kept { OnOk result (F.failures files.new ≡ F.failures files.old) }
+    ensures steady { F.is_steady files.old ≡ true → F.is_steady files.new ≡ true }
+    ensures files { KeepsMap (F.contents files.old) (F.contents files.new) }
+{
+    match read_source(alloc, roots, name, files) {
         Ok(Some(file)) => Ok(file),
-        Ok(None) => Err(missing(alloc, root, name)),
+        Ok(None) => Err(missing(alloc, roots.root, name)),
         Err(refusal) => Err(refusal),
     }
 }
 
-/// The refusal of a file that is not there.
+/// The refusal of a file that no root has, of which this is the first.
 fn missing<'a>(alloc: Global, root: &str, name: &str) -> Refusal<'a>
-    ensures { Refuses (λ a. a ≡ told_of root.now name.now unread) result }
+    ensures { Refuses (λ a. a ≡ told_of name.now (unread (path_under root.now name.now))) result }
 {
     match path_under(alloc, root, name) {
         Ok(path) => Refusal::File(path),

@@ -1,4 +1,18 @@
 //! Messages from bytes, by a schema.
+//!
+//! ```
+//! use pb_decode::{DecodeError, decode};
+//! use pb_wire::Limits;
+//!
+//! let alloc = rt.alloc(); // a `Global`; `main(rt: HostRuntime)` is given `rt`
+//! let pool = pb_link::link(alloc, &pb_descr::read_set(alloc, set)?)?; // the types of a descriptor set
+//! let kind = pool.message_by_name("M").ok_or("no type M")?;
+//! let line = match decode(alloc, &pool, kind, bytes, Limits::FULL) {
+//!     Ok(message) => format!(in alloc; "{} fields", message.body().fields.len())?,
+//!     Err(DecodeError::Fault { byte, path, cause }) => format!(in alloc; "byte {byte} path {path:?} cause {cause}")?,
+//!     Err(error) => format!(in alloc; "{error}")?,
+//! };
+//! ```
 #![tactic(auto)]
 
 mod begin;

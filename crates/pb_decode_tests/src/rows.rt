@@ -53,6 +53,7 @@ decode nesting-7 - - 4a030a01ff ! 4 9[0].1[0] BadText
 decode nesting-8 - - 4201083805 ! 3 8[0].1[0] PastEnd
 decode nesting-9 - - 420208013805 = 3805
 decode nesting-10 - 0 1a00 ! 0 3[0] TooDeep
+decode nesting-11 - - 6206080112020801620408011200 = 620408011200
 decode occurrences-1 - - 1a050896 ! 4 3[0].1[0] Truncated
 decode occurrences-2 - - 1a0208011a031201ff ! 8 3[1].2[0] BadText
 decode occurrences-3 - - 300132020396 ! 5 6[1] PastEnd
@@ -87,6 +88,7 @@ decode proto2-8 - - 2a0401070209 = 2a02010228072809
 decode proto2-9 - - 1b0896 ! 3 3[0].1[0] Truncated
 decode proto2-10 - - 1b24 ! 1 3[0] WrongEnd
 decode proto2-11 - - 1b08051c2002 = 1b08051c2002
+decode groups_by_long_tags - - 9b0008059c009b0008069c00 = 1b08061c
 decode undeclared_alone - - 2807 = 2807
 decode undeclared_list - - 2a020709 = 28072809
 decode declared_elements - - 280228012a0101 = 2a03020101

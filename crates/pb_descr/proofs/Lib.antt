@@ -1,14 +1,30 @@
+-- for `descriptor_pool`: the fixed types are a pool, each rule shown by a test that computes
 pub mod PoolRules
+-- ---- sets that are written
+-- for fields of rising numbers, one after another
 pub mod FieldsWith
+-- for the loop that makes the fields of a message from their contents
 pub mod ContentLemmas
+-- for what declarations are written as: it fits the fixed types, and only its depth can refuse it
 pub mod WrittenFits
+-- for the depth of the messages that declarations are written as
 pub mod DepthLemmas
+-- for that depth by how deep messages are declared in each other, in the crates above too
 pub mod NestLemmas
+-- for the law that what was written is read back as the declarations
 pub mod RoundTrip
+-- for `write_set`: why a set is refused
 pub mod WriteLemmas
+-- ---- sets that are read
+-- for the messages that a field holds: what they declare, and why they are refused
 pub mod HeldLemmas
+-- for the first of joined causes
 pub mod JudgeLemmas
+-- for what a message stands for, part by part
 pub mod ViewLemmas
+-- for `read_set`: why the message of a set is refused
 pub mod ReadLemmas
+-- for files that are written as a set without a cause, as the declarations of a pool are
 pub mod SilentLemmas
+-- small sets with their declarations, bytes and causes, worked out by the rules
 mod Rows

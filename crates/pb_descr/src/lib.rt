@@ -1,4 +1,15 @@
 //! Descriptor sets: what the files of a set declare, read and written.
+//!
+//! ```
+//! use pb_descr::{DescrError, read_set, write_set};
+//!
+//! let alloc = rt.alloc(); // a `Global`; `main(rt: HostRuntime)` is given `rt`
+//! let line = match read_set(alloc, set) {
+//!     Ok(files) => format!(in alloc; "{} bytes", write_set(alloc, &files)?.len())?,
+//!     Err(DescrError::Decl { file, cause }) => format!(in alloc; "file {file} cause {}", cause.name())?,
+//!     Err(error) => format!(in alloc; "{error}")?,
+//! };
+//! ```
 #![tactic(auto)]
 
 mod bodies;

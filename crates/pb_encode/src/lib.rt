@@ -1,4 +1,17 @@
 //! Messages as canonical bytes: measured once, then written.
+//!
+//! ```
+//! use pb_encode::planning::plan;
+//! use pb_encode::{encode, encode_to};
+//! use pb_wire::WriteOutput;
+//!
+//! let bytes = encode(&message)?; // the canonical bytes of a `pb_value::DynamicMessage`
+//! let mut output = WriteOutput::new(rt.stdout()); // `main(rt: HostRuntime)` is given `rt`
+//! encode_to(&message, &mut output)?; // the same bytes to a device
+//! let plan = plan(&message)?;
+//! let length = plan.len(); // known before a byte goes out
+//! plan.write_to(&mut output)?;
+//! ```
 #![tactic(auto)]
 
 mod encoding;

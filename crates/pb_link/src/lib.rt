@@ -1,4 +1,19 @@
 //! Names and rules of declarations, and the pools that they make.
+//!
+//! ```
+//! use pb_descr::{read_set, write_set};
+//! use pb_link::{link, resolve};
+//! use pb_source::parse;
+//!
+//! let alloc = rt.alloc(); // a `Global`; `main(rt: HostRuntime)` is given `rt`
+//! let mut files = read_set(alloc, set)?; // the files that the source imports
+//! files.push(parse(alloc, "p.proto", source)?)?;
+//! let written = write_set(alloc, &resolve(alloc, &files)?)?; // with each type resolved, as a compiler writes sets
+//! let line = match link(alloc, &files) {
+//!     Ok(pool) => format!(in alloc; "{} types of messages", pool.messages().len())?,
+//!     Err(error) => format!(in alloc; "{error}")?, // the file, the declaration and the cause
+//! };
+//! ```
 #![tactic(auto)]
 
 mod cause;

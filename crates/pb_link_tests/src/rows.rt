@@ -54,6 +54,7 @@ const ROWS: &str = "
 0a1d0a016d22100a014d120b0a03612d62180120012805620670726f746f33 m M.a-b BadName | a name that is no word
 0a0f0a016d1202612e620670726f746f33 m - BadName | a package with an empty part
 0a0b0a016d620670726f746f330a0b0a016d620670726f746f33 m - TwoFiles | files of one name
+0a0b0a016d620670726f746f330a0f0a016d1202612e620670726f746f33 m - TwoFiles | the lesser cause of a file is told
 0a0e0a016d1a016d620670726f746f33 m - ImportCycle | an import of itself
 0a0e0a01621a0161620670726f746f330a0e0a01611a0162620670726f746f33 b - ImportCycle | each imports the other
 0a0e0a016d1a0178620670726f746f33 m - MissingImport | an import that is not there

@@ -1,25 +1,54 @@
+-- ---- what kinds read and write
+-- message types of each shape, for the rows
 pub mod Samples
+-- what payloads, records and lists of records come to, worked out by the definitions
 pub mod Rows
+-- small texts of a message with groups and closed enums, with their faults
 mod FaultRows
-pub mod WordLemmas
-pub mod EntryNames
-pub mod Loops
-pub mod ImportLemmas
-pub mod CycleLemmas
-pub mod SightLemmas
-pub mod OrderLemmas
-pub mod NameSetLemmas
-pub mod NameTreeLemmas
-pub mod NameLemmas
-pub mod AddLemmas
-pub mod TableLemmas
-pub mod MemberLemmas
-pub mod NumberLemmas
-pub mod ValueLemmas
-pub mod RuleLemmas
-pub mod LookupLemmas
+-- for the law of packed lists: the numbers of a packed payload
 pub mod PackedLemmas
-pub mod DeclareLemmas
+-- ---- the rules
+-- for `is_package`: a package's name, read from some byte on
+pub mod WordLemmas
+-- for the names of entry messages: such a name is a text where the field's name is
+pub mod EntryNames
+-- for the loops that test each element: a step stops at one that fails, and goes on past one that passes
+pub mod Loops
+-- for the walks over imports: what is visited, what waits, and what is marked
+pub mod ImportLemmas
+-- for the rule that no file reaches itself
+pub mod CycleLemmas
+-- for the marks of the files that a file sees
+pub mod SightLemmas
+-- for the rules of declaration order, and of messages in messages
+pub mod OrderLemmas
+-- for the rules of oneofs, and of the types that a file sees
+pub mod RuleLemmas
+-- ---- the rule that full names differ
+-- for `NameSet`, and wherever it counts whether a list contains a name or its elements differ
+pub mod NameSetLemmas
+-- for `NameTree`: names as words in scopes
+pub mod NameTreeLemmas
+-- for `message_names`: full names, level by level
+pub mod NameLemmas
+-- for packages, added word by word
 pub mod PackageLemmas
-pub mod PoolEq
+-- for the loops that declare the names of messages, fields, oneofs, enums and values
+pub mod DeclareLemmas
+-- names and packages, worked out by the definitions
 pub mod NameRows
+-- ---- tables and look-ups
+-- for lists that are mapped, joined and taken by loops
+pub mod AddLemmas
+-- for the loops that make a table for each message and each enum
+pub mod TableLemmas
+-- for the members of a oneof
+pub mod MemberLemmas
+-- for fields by their numbers, in tables and in the rule that numbers differ
+pub mod NumberLemmas
+-- for the numbers of an enum's values, and for `Pool::declares`
+pub mod ValueLemmas
+-- for the look-ups of a pool: fields by number and by name, types and values by name
+pub mod LookupLemmas
+-- for `==` of two pools: whether what they stand for is equal
+pub mod PoolEq

@@ -6,12 +6,12 @@ pub mod Values
 pub use Rattle.pb_schema.specs.Tables.Numbers.{IsNumbered, IsNumberTable}
 pub use Rattle.pb_schema.specs.Tables.Members.{IsMemberTable}
 pub use Rattle.pb_schema.specs.Tables.Names.{IsNameTable, place_of, field_named}
-pub use Rattle.pb_schema.specs.Tables.Values.{IsValueTable}
+pub use Rattle.pb_schema.specs.Tables.Values.{AreNumbersOf, AreMarksOf, IsValueTable}
 use Rattle.std.specs.Prelude.{◌≡◌, ℕ, ℤ, length, List, [], ◌∷◌, Option, Vec}
 use Rattle.std.specs.declared.alloc.Global.{Global}
-use Rattle.indexmap.specs.IndexSet.{IndexSet}
 use Rattle.pb_schema.specs.declared.names.set.NameSet.{NameSet}
 use Rattle.pb_schema.specs.declared.tables.Tables.{Tables}
+use Rattle.pb_schema.specs.declared.tables.values.ValueTable.{ValueTable}
 use Rattle.pb_schema.specs.View.{bytes_of}
 use Rattle.pb_schema.specs.Types.{MessageView, EnumView, Types}
 use Rattle.pb_schema.specs.Names.{message_names, enum_names}
@@ -32,8 +32,8 @@ AreMemberTables ts tables = HaveTables (λ t v. IsMemberTable (length t.oneofs) 
 abbrev pub AreNameTables : List MessageView → List (Option NameSet) → Type 0
 AreNameTables ts tables = HaveTables (λ t n. IsNameTable t.fields n) ts tables
 
-abbrev pub AreValueTables : {S : Type 0} → List EnumView → List (IndexSet ℤ S) → Type 0
-AreValueTables es tables = HaveTables (λ e v. IsValueTable e.values v.keys) es tables
+abbrev pub AreValueTables : List EnumView → List ValueTable → Type 0
+AreValueTables es tables = HaveTables (λ e v. IsValueTable e.values v) es tables
 
 -- the tables of a pool: the full names of messages and enums in their order, the numbers, the oneofs' members and the names of the fields of
 -- each message, and the numbers of the values of each enum

@@ -12,7 +12,8 @@ pub(crate) mod syntax;
 ghost use Rattle.std.specs.Prelude.{◌≡◌, ◌↔◌, ℕ, IsTrue, IfOk, map, length};
 ghost use Rattle.pb_schema.specs.View.{file_view, message_view, enum_view, types_of};
 ghost use Rattle.pb_schema.specs.Nesting.{ParentsStandBefore};
-ghost use Rattle.pb_schema.specs.Rules.{ImportsNameFiles, MessagesHaveFiles, FileRules, IndexRules, NameRules, ShapeRules, FieldRules, PackagesAreWords, MessageNamesAreWords, EnumNamesAreWords, FullNamesDiffer, PackagesAreFree, IsPool};
+ghost use Rattle.pb_schema.specs.Rules.{FileRules, IndexRules, NameRules, ShapeRules, FieldRules, IsPool, ImportsNameFiles, MessagesHaveFiles};
+ghost use Rattle.pb_schema.specs.Rules.{PackagesAreWords, MessageNamesAreWords, EnumNamesAreWords, FullNamesDiffer, PackagesAreFree};
 
 use crate::imports::cycles::no_file_reaches_itself;
 use crate::names::declared::{Declarations, add_enums, add_messages};
@@ -97,7 +98,7 @@ fn full_names_meet_rules(
     requires packages { PackagesAreWords (map file_view files.now) }
     requires message_words { MessageNamesAreWords (map message_view messages.now) }
     requires enum_words { EnumNamesAreWords (map enum_view enums.now) }
-    ensures { IfOk result (λ holds. IsTrue holds ↔ (FullNamesDiffer (types_of files.now messages.now enums.now) × PackagesAreFree (types_of files.now messages.now enums.now))) }
+    ensures { let ts = types_of files.now messages.now enums.now in IfOk result (λ holds. IsTrue holds ↔ (FullNamesDiffer ts × PackagesAreFree ts)) }
 {
     let mut tree = NameTree::new(alloc);
     let packages = add_packages(&mut tree, alloc, files)?;

@@ -1,1 +1,2 @@
+-- for the loops that write and read a packed list, number by number
 mod PackedReads

@@ -1,7 +1,7 @@
 //! Look-ups in the samples.
 
 use super::parts::{is_found, pool_of};
-use super::samples::{KINDS, SHAPES};
+use super::samples::{KINDS, NO_ORDER, SHAPES};
 use pb_schema::{EnumId, EnumType, FileInfo, MessageId, MessageType, Pool, fits};
 use std::alloc::Global;
 use std::test::Fail;
@@ -81,6 +81,14 @@ fn fields_of_other_kinds(rt: HostRuntime) -> Result<(), Fail> {
             && !has_one_of(&kinds, "F", &[0, 3, 12, 19, u32::MAX])
             && !has_name(&kinds, "F", "k2")
     );
+    Ok(())
+}
+
+#[test]
+fn fields_in_no_order(rt: HostRuntime) -> Result<(), Fail> {
+    let pool = pool_of(rt.alloc(), NO_ORDER)?;
+    let are_there = are_found(rt.alloc(), &pool, "D", NO_ORDER)?;
+    assert!(rt; are_there && !has_one_of(&pool, "D", &[0, 4, 5, 6, 8]));
     Ok(())
 }
 

@@ -57,6 +57,7 @@ bad 17 message S 0 - | by falling file
 bad 17 message R 1 - | the name of another
 bad 13 message MApEntry 0 0 | the name of an entry message
 bad 17 message a 1 - | the name of a package
+good 17 message M 1 - | the name of a message in a package
 bad 6 field x 0 int32 implicit | no number
 bad 6 field x 2 int32 implicit | the number of another
 good 6 field x 18999 int32 implicit | below the numbers kept for implementations
@@ -223,10 +224,79 @@ fn are_enums(pool: &Pool, names: &[&str]) -> bool {
     true
 }
 
+/// A oneof of M by its index, and the numbers of its members. There are two.
+const MEMBERS: &[(u32, &[u32])] = &[(0, &[2]), (1, &[7]), (2, &[]), (u32::MAX, &[])];
+
+fn are_members(pool: &Pool) -> bool {
+    let Some(message) = pool.message_by_name("a.b.M") else {
+        return false;
+    };
+    for (oneof, numbers) in MEMBERS {
+        if pool.oneof_members(message, *oneof) != *numbers {
+            return false;
+        }
+    }
+    true
+}
+
 #[test]
 fn parts_that_meet_all_rules(rt: HostRuntime) -> Result<(), Fail> {
     let pool = pool_of(rt.alloc(), USUAL)?;
-    assert!(rt; are_messages(&pool, MESSAGES) && are_enums(&pool, ENUMS));
+    assert!(rt; are_messages(&pool, MESSAGES) && are_enums(&pool, ENUMS) && are_members(&pool));
+    Ok(())
+}
+
+/// Whether the pool is the same, the line of the parts in whose place another stands, and that other.
+const ALIKE_CASES: &str = "
+same 1 file a.proto a.b
+other 1 file c.proto a.b
+other 2 file b.proto b 0
+same 6 field x 1 int32 implicit
+other 6 field xx 1 int32 implicit
+other 6 field x 8 int32 implicit
+other 6 field x 1 sint32 implicit
+other 6 field x 1 int32 explicit
+other 4 oneof oo
+other 17 message T 1 -
+other 17
+same 25 value HY -1
+other 25 value HX -1
+other 25 value HY 1
+other 25
+other 23 enum K 0 -
+other 23 enum H 1 -
+";
+
+/// Whether a case's pool is the same as this one, as the case says.
+fn is_alike(alloc: Global, pool: &Pool, case: &str) -> Result<bool, Fail> {
+    let (answer, change) = case.split_once(' ').ok_or("no answer")?;
+    let (at, instead) = change.split_once(' ').unwrap_or((change, ""));
+    let other = changed_pool(alloc, USUAL, at.parse::<usize>()?, instead)?;
+    match other {
+        Some(other) => Ok(pool.equals(&other) == (answer == "same")),
+        None => Err(Fail::new("parts that break a rule")),
+    }
+}
+
+/// The first case that is told otherwise, or none.
+fn first_unlike(alloc: Global, pool: &Pool) -> Result<Option<&'static str>, Fail> {
+    for case in ALIKE_CASES.lines() {
+        if !case.is_empty() && !is_alike(alloc, pool, case)? {
+            return Ok(Some(case));
+        }
+    }
+    Ok(None)
+}
+
+fn wrong_case(alloc: Global) -> Result<Option<&'static str>, Fail> {
+    let pool = pool_of(alloc, USUAL)?;
+    first_unlike(alloc, &pool)
+}
+
+#[test]
+fn pools_that_hold_the_same(rt: HostRuntime) -> Result<(), Fail> {
+    let wrong = wrong_case(rt.alloc())?;
+    assert!(rt; wrong.is_none(), "{wrong:?}");
     Ok(())
 }
 

@@ -1,4 +1,4 @@
-//! Two sample schemas: one of every shape, and one of lists and kinds of other wire types.
+//! Sample schemas: one of every shape, one of lists and kinds of other wire types, and one of fields in no order.
 
 /// message T { int32 a=1; string b=2; T c=3; double d=4; repeated int32 e=6; oneof o { uint32 x=7; T y=8; } map<string,int32> m=9;
 /// optional bool p=10; sint32 s=11; map<uint32,T> n=12; }
@@ -39,4 +39,14 @@ field h 18 fixed32 packed
 enum E 0 -
 value Z 0
 value NEG -1
+";
+
+/// message D { int32 a=3; int32 b=1; int32 c=7; int32 d=2; }
+pub(crate) const NO_ORDER: &str = "
+file d.proto -
+message D 0 -
+field a 3 int32 implicit
+field b 1 int32 implicit
+field c 7 int32 implicit
+field d 2 int32 implicit
 ";

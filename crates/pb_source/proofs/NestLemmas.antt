@@ -5,8 +5,8 @@ use Rattle.pb_descr.specs.Decls.{DeclaredMessage, message as message_decl, Decla
 use Rattle.pb_descr.proofs.NestLemmas.{nests, all_nest}
 use Rattle.pb_source.specs.Symbols.{Symbol}
 use Rattle.pb_source.specs.Language.{Rules, all_rules, Language, nothing}
-use Rattle.pb_source.specs.Meaning.{MessageStatement, FileStatement, scoped, all_scoped, nested_messages, messages_said, message_of, file_messages, file_message_said, file_of, package_of}
-use Rattle.pb_source.specs.Grammar.{Until, mark, message_statement, message, file_statement, file, FileSyntax}
+use Rattle.pb_source.specs.Meaning.{MessageStatement, FileStatement, scoped, all_scoped, nested_messages, messages_said, file_messages, file_message_said, package_of}
+use Rattle.pb_source.specs.Grammar.{Until, mark, message_statement, message, file_statement, FileSyntax}
 use Rattle.pb_source.specs.Source.{IsSource}
 
 -- ---- names of entries change nothing

@@ -28,7 +28,7 @@ mutual
     no_fields : Fields
     field : ℕ → Holding → Fields → Fields
 
-  -- the fields, and the records that fit none
+  -- the fields, and the unknown records
   pub data Message : Type 0 where
     body : Fields → List Record → Message
 

@@ -48,7 +48,7 @@ pub enum Content {
     Map(BTreeMap<MapKey, Value>),
 }
 
-/// What a message holds: contents by field number, and the records that fit no field, in order.
+/// What a message holds: contents by field number, and the unknown records, in order.
 #[cycle(value)]
 #[derive(Debug, PartialEq, Drop)]
 pub struct Body {

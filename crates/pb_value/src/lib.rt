@@ -1,4 +1,18 @@
 //! Dynamic messages: what a message is, what its records mean, and every change exact.
+//!
+//! ```
+//! use pb_value::{Content, DynamicMessage, Value};
+//!
+//! let alloc = rt.alloc(); // a `Global`; `main(rt: HostRuntime)` is given `rt`
+//! let kind = pool.message_by_name("M").ok_or("no type M")?; // of a `pb_schema::Pool`
+//! let mut message = DynamicMessage::new(alloc, &pool, kind);
+//! message.set(1, Content::One(Value::I32(5)))?; // or why not, and the message as it was
+//! message.push(6, Value::I32(7))?; // at the end of a list
+//! let number = match message.get(1) {
+//!     Some(Content::One(Value::I32(number))) => *number,
+//!     _ => 0,
+//! };
+//! ```
 #![tactic(auto)]
 
 mod body;

@@ -3,12 +3,13 @@
 use super::choice::choose;
 use super::reading::{body_of, content_of, key_of, value_of};
 use super::sample::Schema;
-use pb_value::{Body, DynamicMessage, ValueError};
+use pb_value::{Body, DynamicMessage, Value, ValueError};
 use pb_wire::Unknown;
 use std::alloc::Global;
 use std::test::Fail;
 
-/// A row: the fields of a message, a change, and the fields after it or why it is refused.
+/// A row: the fields of a message, a change, and the fields after it or why it is refused. An insertion is followed by the value that stood under
+/// its key, where there was one.
 const SETS: &str = "
 | set 1 i5 | 1:i5
 1:i5 | set 2 tx | 1:i5 2:tx
@@ -88,7 +89,8 @@ const PUSHES: &str = "
 
 const INSERTS: &str = "
 | insert 9 tk=i4 | 9:{tk=i4}
-9:{tk=i4} | insert 9 tk=i0 | 9:{tk=i0}
+9:{tk=i4} | insert 9 tk=i0 i4 | 9:{tk=i0}
+12:{u1=m1=i1,u2=n0} | insert 12 u1=n0 m1=i1 | 12:{u1=n0,u2=n0}
 9:{tk=i4} | insert 9 ta=i8 | 9:{ta=i8,tk=i4}
 1:i5 | insert 12 u1=n99 | 1:i5 12:{u1=n99}
 1:i5 | insert 99 tk=i4 | !NoSuchField
@@ -165,15 +167,33 @@ pub(crate) const TABLES: &[&str] = &[
     INSERTS,
 ];
 
+/// Whether what stood under a key is this value, or none.
+fn is_value(alloc: Global, stood: &Option<Value>, word: Option<&str>) -> Result<bool, Fail> {
+    Ok(match (stood, word) {
+        (Some(stood), Some(word)) => *stood == value_of(alloc, word)?,
+        (None, None) => true,
+        _ => false,
+    })
+}
+
+/// Why an entry is not put in, or none where what stood under its key is told as this value.
 fn insert(
     alloc: Global,
     message: &mut DynamicMessage<'_>,
     number: u32,
     entry: &str,
+    stood: Option<&str>,
 ) -> Result<Option<ValueError>, Fail> {
     let (key, value) = entry.split_once('=').ok_or("no entry")?;
     let key = key_of(alloc, key)?;
-    Ok(message.insert(number, key, value_of(alloc, value)?).err())
+    let old = match message.insert(number, key, value_of(alloc, value)?) {
+        Ok(old) => old,
+        Err(cause) => return Ok(Some(cause)),
+    };
+    if !is_value(alloc, &old, stood)? {
+        return Err(Fail::new("another value stood there"));
+    }
+    Ok(None)
 }
 
 /// Why the change is refused, if it is.
@@ -190,7 +210,7 @@ fn apply(
         "set" => message.set(number, content_of(alloc, rest)?).err(),
         "choose" => choose(message, number, content_of(alloc, rest)?).err(),
         "push" => message.push(number, value_of(alloc, rest)?).err(),
-        "insert" => insert(alloc, message, number, rest)?,
+        "insert" => insert(alloc, message, number, rest, words.next())?,
         "clear" => {
             message.clear(number);
             None

@@ -1,4 +1,17 @@
 //! Varints, records and devices of the wire format.
+//!
+//! ```
+//! use pb_wire::{Limits, RecordIter, read_raw, write_raw};
+//!
+//! let alloc = rt.alloc(); // a `Global`; `main(rt: HostRuntime)` is given `rt`
+//! let records = read_raw(alloc, bytes, Limits::FULL)?; // each number with its payload, or the one fault
+//! let shortest = write_raw(alloc, &records)?; // what was read can always be written
+//! let mut numbers = Vec::new(alloc);
+//! for item in RecordIter::new(bytes, Limits::FULL) {
+//!     let (number, _payload) = item?; // the same records, borrowed from the bytes
+//!     numbers.push(number)?;
+//! }
+//! ```
 #![tactic(auto)]
 
 mod device;

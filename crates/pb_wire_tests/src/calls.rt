@@ -12,16 +12,16 @@ use std::test::Fail;
 fn records(rt: HostRuntime) -> Result<(), Fail> {
     let alloc = rt.alloc();
     let text =
-        b"\x08\x96\x81\x00\x12\x01\x7a\xa3\x01\x08\x01\xa4\x01\x2d\x01\x00\x00\x00\x09\x01\x00\x00\x00\x00\x00\x00\x80";
+        b"\x08\x96\x81\x00\x12\x01\x7a\xa3\x01\x08\x01\xa4\x01\x3d\x01\x00\x00\x00\x09\x01\x00\x00\x00\x00\x00\x00\x80";
     let read = read_raw(alloc, text, Limits::FULL)?;
     let mut wanted = Vec::new(alloc);
     wanted.push((1, Unknown::Varint(150)))?;
     wanted.push((2, Unknown::Len(vec![in alloc; 0x7a]?)))?;
     wanted.push((20, Unknown::Group(vec![in alloc; (1, Unknown::Varint(1))]?)))?;
-    wanted.push((5, Unknown::I32(1)))?;
+    wanted.push((7, Unknown::I32(1)))?;
     wanted.push((1, Unknown::I64(0x8000_0000_0000_0001)))?;
     let short =
-        b"\x08\x96\x01\x12\x01\x7a\xa3\x01\x08\x01\xa4\x01\x2d\x01\x00\x00\x00\x09\x01\x00\x00\x00\x00\x00\x00\x80";
+        b"\x08\x96\x01\x12\x01\x7a\xa3\x01\x08\x01\xa4\x01\x3d\x01\x00\x00\x00\x09\x01\x00\x00\x00\x00\x00\x00\x80";
     assert!(rt;
         read == wanted
             && can_write(&read)

@@ -260,6 +260,9 @@ const NO_COMMANDS: &[&[&str]] = &[
     &["canon", "--out", "f", "T", "f"],
     &["frames", "--out", "g", "f", "T", "f"],
     &["compile", "f", "g"],
+    &["compile", "-I", "d", "f", "g"],
+    &["compile", "f", "g", "h", "-I"],
+    &["--version"],
 ];
 
 #[test]

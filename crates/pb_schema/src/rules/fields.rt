@@ -6,7 +6,8 @@ ghost use Rattle.pb_schema.specs.View.{file_view, message_view, enum_view, field
 ghost use Rattle.pb_schema.specs.Names.{AllDiffer};
 ghost use Rattle.pb_schema.specs.Imports.Sight.{KnowsAll, file_of_kind};
 ghost use Rattle.pb_schema.specs.Loops.Members.{NotesMember, AreMembers};
-ghost use Rattle.pb_schema.specs.Rules.{ImportsNameFiles, MessagesHaveFiles, FieldNumbersDiffer, NumbersDiffer, IsMemberOf, HasMember, EachOneofHasMember, OneofsHaveMembers, TypeIsSeen, TypesAreSeen};
+ghost use Rattle.pb_schema.specs.Rules.{ImportsNameFiles, MessagesHaveFiles, FieldNumbersDiffer, NumbersDiffer, TypeIsSeen, TypesAreSeen};
+ghost use Rattle.pb_schema.specs.Rules.{IsMemberOf, HasMember, EachOneofHasMember, OneofsHaveMembers};
 
 use crate::imports::sight::Sight;
 use crate::types::{EnumType, Field, FileInfo, Kind, MessageType, Shape};

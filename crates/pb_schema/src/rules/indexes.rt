@@ -2,7 +2,8 @@
 
 ghost use Rattle.std.specs.Prelude.{◌≡◌, ◌↔◌, ◌<◌, ℕ, IsTrue, map, length, option_map};
 ghost use Rattle.pb_schema.specs.View.{file_view, message_view, enum_view, parent_view};
-ghost use Rattle.pb_schema.specs.Rules.{MessagesHaveFiles, EnumsHaveFiles, IsInFileOfParent, MessagesShareFileWithParent, EnumsShareFileWithParent, NamesType, KindsNameTypes, NamesOneof, MembersNameOneofs};
+ghost use Rattle.pb_schema.specs.Rules.{MessagesHaveFiles, EnumsHaveFiles, NamesType, KindsNameTypes, NamesOneof, MembersNameOneofs};
+ghost use Rattle.pb_schema.specs.Rules.{IsInFileOfParent, MessagesShareFileWithParent, EnumsShareFileWithParent};
 
 use crate::rules::each_field::{FieldRule, each_field};
 use crate::types::{EnumType, Field, FileInfo, Kind, MessageId, MessageType, Shape};

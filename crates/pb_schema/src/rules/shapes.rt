@@ -2,7 +2,8 @@
 
 ghost use Rattle.std.specs.Prelude.{◌≡◌, ◌↔◌, IsTrue, map, ℕ, length};
 ghost use Rattle.pb_schema.specs.View.{message_view};
-ghost use Rattle.pb_schema.specs.Rules.{IsFieldNumber, NumbersAreFieldNumbers, HasKeyKind, KeysAreKeyKinds, MayBePacked, PackedArePackable, MayBeImplicit, ImplicitAreScalars, MayBeValue, ValuesMayStand};
+ghost use Rattle.pb_schema.specs.Rules.{IsFieldNumber, NumbersAreFieldNumbers, HasKeyKind, KeysAreKeyKinds, MayBePacked, PackedArePackable};
+ghost use Rattle.pb_schema.specs.Rules.{MayBeImplicit, ImplicitAreScalars, MayBeValue, ValuesMayStand};
 
 use crate::rules::each_field::{FieldRule, each_field};
 use crate::types::{Field, Kind, MessageType, Shape};

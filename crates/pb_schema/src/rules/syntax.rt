@@ -3,7 +3,8 @@
 ghost use Rattle.std.specs.Prelude.{◌≡◌, ◌↔◌, IsTrue, IfSome, map, slice_get, string_bytes};
 ghost use Rattle.pb_schema.specs.View.{file_view, message_view, enum_view, types_of};
 ghost use Rattle.pb_schema.specs.Types.{is_proto2};
-ghost use Rattle.pb_schema.specs.Rules.{IsNotImplicit, MayStandIn, FieldsGoWithSyntax, EnumIsRight, EnumsGoWithSyntax, BeginsRight, EnumsBeginRight, SyntaxRules};
+ghost use Rattle.pb_schema.specs.Rules.{IsNotImplicit, MayStandIn, FieldsGoWithSyntax, EnumIsRight, EnumsGoWithSyntax};
+ghost use Rattle.pb_schema.specs.Rules.{BeginsRight, EnumsBeginRight, SyntaxRules};
 
 use crate::rules::each_field::{FieldRule, each_field};
 use crate::types::{EnumId, EnumType, Field, FileInfo, Kind, MessageType, Shape};

@@ -1,7 +1,6 @@
 //! Whether closed enums declare the numbers of values.
 
-ghost use Rattle.std.specs.Prelude.{◌≡◌, ◌<◌, length, true};
-ghost use Rattle.pb_schema.specs.Rules.{NamesType};
+ghost use Rattle.std.specs.Prelude.{◌≡◌};
 ghost use Rattle.pb_value.specs.WellFormed.{datum_declared, datums_declared, holds_declared};
 ghost use Rattle.pb_value.specs.View.{value_view, values_view, content_view};
 
@@ -10,7 +9,6 @@ use pb_schema::{Kind, Pool};
 
 /// Whether a value of a kind that is a closed enum has a number that the enum declares.
 pub(crate) fn is_declared(pool: &Pool, kind: Kind, value: &Value) -> bool
-    requires { NamesType (length pool.now.messages) (length pool.now.enums) kind }
     ensures { result ≡ datum_declared pool.now kind (value_view value.now) }
 {
     let Kind::ClosedEnum(id) = kind else {
@@ -23,7 +21,6 @@ pub(crate) fn is_declared(pool: &Pool, kind: Kind, value: &Value) -> bool
 }
 
 fn are_declared(pool: &Pool, kind: Kind, values: &Vec<Value>) -> bool
-    requires { NamesType (length pool.now.messages) (length pool.now.enums) kind }
     ensures { result ≡ datums_declared pool.now kind (values_view values.now.items) }
 {
     for value in values {
@@ -36,7 +33,6 @@ fn are_declared(pool: &Pool, kind: Kind, values: &Vec<Value>) -> bool
 
 /// Whether each value of a content has such a number. No value of a map is of a closed enum.
 pub(crate) fn holds_declared(pool: &Pool, kind: Kind, content: &Content) -> bool
-    requires { NamesType (length pool.now.messages) (length pool.now.enums) kind }
     ensures { result ≡ holds_declared pool.now kind (content_view content.now) }
 {
     match content {

@@ -7,7 +7,6 @@ ghost use Rattle.pb_wire.specs.Unknown.{payload_of, records_of};
 ghost use Rattle.pb_wire.specs.Ranges.{AreBytes, IsInRange, AreInRange};
 ghost use Rattle.pb_schema.specs.Types.{message_fields};
 ghost use Rattle.pb_schema.specs.View.{field_view};
-ghost use Rattle.pb_schema.specs.Rules.{NamesType};
 ghost use Rattle.pb_schema.specs.Fits.{fits_type};
 ghost use Rattle.pb_schema.specs.Closed.{closed_of, is_undeclared};
 ghost use Rattle.pb_value.specs.Cause.{is_number, is_numbered, is_numbered_group, record_cause, unknown_cause, Judges};
@@ -85,7 +84,6 @@ fn wire_type(payload: &Unknown) -> u8
 
 /// Whether a payload is a number that the closed enum of a field doesn't declare.
 fn is_undeclared(pool: &Pool, field: &Field, payload: &Unknown) -> bool
-    requires { NamesType (length pool.now.messages) (length pool.now.enums) field.now.kind }
     ensures { result ≡ is_undeclared pool.now (closed_of (Some (field_view field.now))) (payload_of payload.now) }
 {
     if matches!(field.shape, Shape::Map { key: _ }) {
@@ -109,7 +107,6 @@ fn low_half(number: u64) -> i32
 
 /// Whether a payload counts for the field of its number.
 fn is_known(pool: &Pool, field: &Field, payload: &Unknown) -> bool
-    requires { NamesType (length pool.now.messages) (length pool.now.enums) field.now.kind }
     ensures { result ≡ (fits_type (field_view field.now) (wire_type (payload_of payload.now)) && not (is_undeclared pool.now (closed_of (Some (field_view field.now))) (payload_of payload.now))) }
 {
     fits(field, wire_type(payload)) && !is_undeclared(pool, field, payload)

@@ -42,6 +42,17 @@ const ROWS: &[Row] = &[
         &["m.proto"],
         Told::Refused(1, "link m.proto at M.a cause BadNumber\n"),
     ),
+    // Types are resolved in the set.
+    Row(
+        &[(
+            "ROOT/m.proto",
+            "syntax = \"proto3\"; message M { M a = 1; }",
+        )],
+        &["m.proto"],
+        Told::Written(
+            "0a250a076d2e70726f746f22120a014d120d0a016118012001280b32022e4d620670726f746f33",
+        ),
+    ),
     Row(
         &[(
             "ROOT/m.proto",
@@ -146,9 +157,125 @@ const ROWS: &[Row] = &[
     ),
 ];
 
+/// Where else sources are looked for, and what comes of that.
+#[derive(Clone, Copy)]
+struct Elsewhere(&'static [&'static str], Row);
+
+const ELSEWHERE: &[Elsewhere] = &[
+    // An import, under the second directory.
+    Elsewhere(
+        &["D", "E"],
+        Row(
+            &[
+                ("ROOT/a.proto", "syntax = \"proto3\"; import \"b.proto\";"),
+                ("E/b.proto", "syntax = \"proto3\"; "),
+            ],
+            &["a.proto"],
+            Told::Written(PAIR),
+        ),
+    ),
+    // A file that is given, whose import stands under the root.
+    Elsewhere(
+        &["D"],
+        Row(
+            &[
+                ("D/a.proto", "syntax = \"proto3\"; import \"b.proto\";"),
+                ("ROOT/b.proto", "syntax = \"proto3\"; "),
+            ],
+            &["a.proto"],
+            Told::Written(PAIR),
+        ),
+    ),
+    // One that is given may leave the directory, as it may leave the root.
+    Elsewhere(
+        &["D"],
+        Row(
+            &[("D/../x.proto", "syntax = \"proto3\"; ")],
+            &["../x.proto"],
+            Told::Written("0a140a0a2e2e2f782e70726f746f620670726f746f33"),
+        ),
+    ),
+    // The root comes first, and then the directories in their order.
+    Elsewhere(
+        &["D"],
+        Row(
+            &[
+                ("ROOT/a.proto", "syntax = \"proto3\"; import \"b.proto\";"),
+                ("D/a.proto", "?"),
+                ("D/b.proto", "?"),
+                ("ROOT/b.proto", "syntax = \"proto3\"; "),
+            ],
+            &["a.proto"],
+            Told::Written(PAIR),
+        ),
+    ),
+    Elsewhere(
+        &["D", "E"],
+        Row(
+            &[
+                ("ROOT/a.proto", "syntax = \"proto3\"; import \"b.proto\";"),
+                ("E/b.proto", "syntax = \"proto3\"; "),
+                ("D/b.proto", ""),
+            ],
+            &["a.proto"],
+            Told::Refused(1, "source b.proto byte 0 cause NotProto3\n"),
+        ),
+    ),
+    Elsewhere(
+        &["E", "D"],
+        Row(
+            &[
+                ("ROOT/a.proto", "syntax = \"proto3\"; import \"b.proto\";"),
+                ("E/b.proto", "syntax = \"proto3\"; "),
+                ("D/b.proto", ""),
+            ],
+            &["a.proto"],
+            Told::Written(PAIR),
+        ),
+    ),
+    // What no directory has is told as without them.
+    Elsewhere(
+        &["D", "E"],
+        Row(&[], &["a.proto"], Told::Refused(3, "device ROOT/a.proto\n")),
+    ),
+    Elsewhere(
+        &["D", "E"],
+        Row(
+            &[("D/a.proto", "syntax = \"proto3\"; import \"b.proto\";")],
+            &["a.proto"],
+            Told::Refused(1, "link a.proto at - cause MissingImport\n"),
+        ),
+    ),
+    Elsewhere(
+        &["D"],
+        Row(
+            &[
+                (
+                    "ROOT/a.proto",
+                    "syntax = \"proto3\"; import \"../x.proto\";",
+                ),
+                ("D/../x.proto", "syntax = \"proto3\"; "),
+            ],
+            &["a.proto"],
+            Told::Refused(1, "link a.proto at - cause MissingImport\n"),
+        ),
+    ),
+];
+
 /// Runs `compile` over sources.
-fn compiled(alloc: Global, names: &[&str], files: &mut MemFiles<'_>) -> Result<Run, Fail> {
-    let mut words = vec![in alloc; "compile", "ROOT", "OUT"]?;
+fn compiled<'w>(
+    alloc: Global,
+    directories: &[&'w str],
+    names: &[&'w str],
+    files: &mut MemFiles<'_>,
+) -> Result<Run, Fail> {
+    let mut words = vec![in alloc; "compile"]?;
+    for directory in directories {
+        words.push("-I")?;
+        words.push(*directory)?;
+    }
+    words.push("ROOT")?;
+    words.push("OUT")?;
     for name in names {
         words.push(*name)?;
     }
@@ -168,10 +295,10 @@ fn sources_of<'a>(
     files_of(alloc, &entries, failures)
 }
 
-fn is_told(alloc: Global, row: &Row) -> Result<bool, Fail> {
+fn is_told(alloc: Global, directories: &[&str], row: &Row) -> Result<bool, Fail> {
     let Row(sources, names, told) = row;
     let mut files = sources_of(alloc, sources, NONE)?;
-    let run = compiled(alloc, names, &mut files)?;
+    let run = compiled(alloc, directories, names, &mut files)?;
     let written = files.bytes_at("OUT");
     Ok(match told {
         Told::Written(digits) => {
@@ -187,30 +314,47 @@ fn is_told(alloc: Global, row: &Row) -> Result<bool, Fail> {
 #[test]
 fn rows(rt: HostRuntime) -> Result<(), Fail> {
     for (index, row) in ROWS.iter().enumerate() {
-        assert!(rt; is_told(rt.alloc(), row)?, "row {index}");
+        assert!(rt; is_told(rt.alloc(), &[], row)?, "row {index}");
     }
     Ok(())
 }
 
+#[test]
+fn directories(rt: HostRuntime) -> Result<(), Fail> {
+    for (index, Elsewhere(directories, row)) in ELSEWHERE.iter().enumerate() {
+        assert!(rt; is_told(rt.alloc(), directories, row)?, "row {index}");
+    }
+    Ok(())
+}
+
+/// The import is longer than the file that is given, and stands under the second directory.
 const CHAIN: &[(&str, &str)] = &[
     ("ROOT/a.proto", "syntax = \"proto3\"; import \"b.proto\";"),
-    ("ROOT/b.proto", "syntax = \"proto3\"; "),
+    (
+        "E/b.proto",
+        "syntax = \"proto3\"; message LongerThanTheOther { }",
+    ),
 ];
 
-/// After how many calls the files fail, and the device that is told.
+/// After how many calls the files fail, and the device that is told. A failure ends the search.
 const UNOPENED: &[(u64, &str)] = &[
     (0, "device ROOT/a.proto\n"),
     (1, "device ROOT/b.proto\n"),
-    (2, "device OUT\n"),
+    (2, "device D/b.proto\n"),
+    (3, "device E/b.proto\n"),
+    (4, "device OUT\n"),
 ];
 
-fn is_unopened(alloc: Global, calls: u64, line: &str) -> Result<bool, Fail> {
-    let open = Failures {
-        open: after(calls),
-        ..NONE
-    };
-    let mut files = sources_of(alloc, CHAIN, open)?;
-    let run = compiled(alloc, &["a.proto"], &mut files)?;
+/// After how many reads each file fails, and the device that is told.
+const UNREAD: &[(u64, &str)] = &[
+    (0, "device ROOT/a.proto\n"),
+    (36, "device ROOT/a.proto\n"),
+    (37, "device E/b.proto\n"),
+];
+
+fn is_failed(alloc: Global, failures: Failures, line: &str) -> Result<bool, Fail> {
+    let mut files = sources_of(alloc, CHAIN, failures)?;
+    let run = compiled(alloc, &["D", "E"], &["a.proto"], &mut files)?;
     Ok(run.is(3, b"", line.as_bytes()) && files.bytes_at("OUT").is_none())
 }
 
@@ -218,7 +362,24 @@ fn is_unopened(alloc: Global, calls: u64, line: &str) -> Result<bool, Fail> {
 #[test]
 fn files_fail(rt: HostRuntime) -> Result<(), Fail> {
     for (calls, line) in UNOPENED {
-        assert!(rt; is_unopened(rt.alloc(), *calls, line)?, "{line}");
+        let open = Failures {
+            open: after(*calls),
+            ..NONE
+        };
+        assert!(rt; is_failed(rt.alloc(), open, line)?, "{line}");
+    }
+    Ok(())
+}
+
+// A source that can't be read, an import among them.
+#[test]
+fn reads_fail(rt: HostRuntime) -> Result<(), Fail> {
+    for (calls, line) in UNREAD {
+        let input = Failures {
+            input: after(*calls),
+            ..NONE
+        };
+        assert!(rt; is_failed(rt.alloc(), input, line)?, "{line}");
     }
     Ok(())
 }
@@ -239,7 +400,7 @@ fn compiled_set(rt: HostRuntime) -> Result<(), Fail> {
     let message = hex::decode(alloc, MESSAGE)?;
     let entries = [("ROOT/t.proto", T.as_bytes()), ("f", message.as_slice())];
     let mut files = files_of(alloc, &entries, NONE)?;
-    let written = compiled(alloc, &["t.proto"], &mut files)?;
+    let written = compiled(alloc, &[], &["t.proto"], &mut files)?;
     let shown = run_words(alloc, &["show", "OUT", "T", "f"], &mut files, NONE)?;
     assert!(rt; written.is(0, b"", b"") && shown.is(0, LISTING, b""));
     Ok(())

@@ -9,4 +9,7 @@ returns-clause-app c =
     let short_is : rule_of c.help-short.result ≡ short_rule = search rules in
     let file_is : rule_of c.help-file.result ≡ wanted (codes "FILE") = search rules in
     c.in_ok-whole.ensures.shape (search rules)
-    ∙ ap₂ with_rule (c.in_ok-with_short.ensures.shape (search rules) ∙ ap₂ with_rule (ap app_of_fields c.about-command.ensures ∙ c.new-3.ensures.app) short_is) file_is
+    ∙ ap₂ with_rule
+    (c.in_ok-with_short.ensures.shape (search rules)
+    ∙ ap₂ with_rule (ap app_of_fields c.after_help-command.ensures ∙ ap app_of_fields c.about.ensures ∙ c.new-3.ensures.app) short_is)
+    file_is

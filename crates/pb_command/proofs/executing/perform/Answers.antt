@@ -24,5 +24,5 @@ returns-in-Compile-clause-comes g c =
     rw c.in-Compile.is
     (nothing_out g.O.Output.written g.O.Output.failures c.args.out.now (IsSaved g.F.Files.contents c.args.files.now c.compile.new.files)
     (IsUnsaved g.F.Files.contents g.F.Files.failures c.args.files.now c.compile.new.files)
-    (RightOf g.F.Files.contents g.F.Files.is_steady c.args.files.now (Compile c.in-Compile.root c.in-Compile.to c.in-Compile.names)) IsNothing
+    (RightOf g.F.Files.contents g.F.Files.is_steady c.args.files.now (Compile c.in-Compile.roots c.in-Compile.to c.in-Compile.names)) IsNothing
     c.compile.result c.compile.ensures.comes)

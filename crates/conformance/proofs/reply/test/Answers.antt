@@ -1,0 +1,13 @@
+use Rattle.pb_wire.specs.Fault.{fault}
+use Rattle.conformance.proofs.ReplyLemmas.{fault_tested, value_tested}
+use Rattle.conformance.proofs.reply.test.Goals as goal
+
+pub returns-in-Ok-clause-made : goal.returns-in-Ok-clause-made
+returns-in-Ok-clause-made c =
+    value_tested _ _ _ c.in-Ok.message c.write.result c.in-Ok.ensures.of_type.0 c.in-Ok.ensures.of_type.1 c.in-Ok.ensures.value c.write.ensures.made
+
+pub returns-in-Err-Fault-clause-made : goal.returns-in-Err-Fault-clause-made
+returns-in-Err-Fault-clause-made c =
+    let has = rw c.in-Err-Fault.field-0-is at c.in-Err-Fault.ensures.fault in
+    fault_tested _ _ _ (fault c.in-Err-Fault.byte c.in-Err-Fault.path.items c.in-Err-Fault.cause) c.tell_fault.result has
+    (rw c.deref.ensures.value at c.tell_fault.ensures.made)

@@ -1,0 +1,4 @@
+pub mod FaultText
+pub mod Stop
+pub mod Reply
+pub mod Frames

@@ -1,0 +1,6 @@
+use Rattle.std.proofs.Common.{map, string_bytes}
+use Rattle.pb_schema.specs.Tables.{AreMarksOf}
+use Rattle.pb_schema.proofs.tables.values.marks_of.Given as goal
+
+abbrev pub invariant-loop-value : goal.invariant-loop-value
+invariant-loop-value l = AreMarksOf (map (λ v. (string_bytes v.0, v.1)) l.values) l.least l.marks.items
