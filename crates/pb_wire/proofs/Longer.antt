@@ -1,16 +1,21 @@
 -- A fault other than Truncated is the fault of every longer text.
-use Rattle.std.proofs.Common.{◌≡◌, ◌≢◌, ℕ, zero, suc, ◌+◌, ◌-◌, ◌*◌, ◌<◌, List, [], ◌∷◌, ◌++◌, length, take, refl, sym, ap, subst, ◌∙◌, arith, append_assoc, length-append, Option, Some, None, ◌⊎◌, inl, inr, All, IsUtf8}
+use Rattle.std.proofs.Common.{◌≡◌, ◌≢◌, ℕ, zero, suc, ◌+◌, ◌-◌, ◌*◌, ◌<◌, ◌≤◌, List, [], ◌∷◌, ◌++◌, length, take, refl, sym, ap, subst, ◌∙◌, arith, append_assoc, length-append, Option, Some, None, ◌⊎◌, inl, inr, All, IsUtf8}
 use Rattle.std.specs.Prelude.{option_map}
 use Rattle.std.specs.Str.Lossy.{utf8_valid_len}
+use Rattle.std.proofs.lemmas.Bool.{cases_lt}
 use Rattle.std.proofs.lemmas.List.{take-append-le, length-take}
+use Rattle.std.proofs.Math.Seq.{take-append-add}
 use Rattle.pb_wire.specs.Varint.{IsVarint}
 use Rattle.pb_wire.specs.Record.{Record}
 use Rattle.pb_wire.specs.declared.fault.PathStep.{PathStep}
-use Rattle.pb_wire.specs.Fault.{Fault, fault, step, inside, Place, window, Moves, Leads, IsHigh, HasTag, HasLength, TagFault, VarintFault, FixedFault, LengthFault}
+use Rattle.pb_wire.specs.Fault.{Fault, fault, step, inside, Place, text_at, window, Moves, Leads, IsHigh, HasTag, HasLength, TagFault, VarintFault, FixedFault, LengthFault}
 use Rattle.pb_wire.specs.Schema.{Schema, Element, a_varint, four_bytes, eight_bytes, Open, records, in_group, open_group}
-use Rattle.pb_wire.specs.Grammar.{Begins, payload_at, Bad, RecordFault, BadElements, ElementFault}
+use Rattle.pb_wire.specs.Limits.{Bounds}
+use Rattle.pb_wire.specs.Grammar.{Whole, Begins, payload_at, Bad, RecordFault, BadElements, ElementFault, HasFault, beyond}
 use Rattle.pb_wire.specs.Exact.{IsRead, longer, IsCut}
-use Rattle.pb_wire.specs.declared.fault.Cause.TheVariants.{BadText}
+use Rattle.pb_wire.specs.declared.fault.Cause.{Cause}
+use Rattle.pb_wire.specs.declared.fault.Cause.TheVariants.{Truncated, BadText}
+use Rattle.pb_wire.specs.declared.fault.Cause.TheVariants as cause
 
 pub moves_longer : {p q : Place} (a more : List ℕ) → Moves p a q → Moves (longer p more) a (longer q more)
 moves_longer {p} {q} a more m = record {
@@ -137,3 +142,55 @@ read_longer S (records c) room p more (inr some) (front, q, w, m, inr e) = absur
     no_end : (e g : Option ℕ) → e ≢ None → g ≡ option_map (λ (n : ℕ). n - length front) e → g ≡ None → ⊥
     no_end None g ne h i = ne refl
     no_end (Some n) g ne h i = cc
+
+-- ---- whole texts, and those past the limit on their length
+
+-- a settled fault of the bytes within the limit is told as it is
+pub beyond_settled : (n : ℕ) (f : Fault) → (IsCut f → ⊥) → f ≡ beyond n f
+beyond_settled n f not_cut = by_cause f.byte f.path f.cause not_cut
+  where
+    by_cause : (byte : ℕ) (path : List PathStep) (c : Cause) → (c ≡ Truncated → ⊥) → fault byte path c ≡ beyond n (fault byte path c)
+    by_cause byte path cause.Truncated never = absurd (never refl)
+    by_cause byte path cause.PastEnd never = refl
+    by_cause byte path cause.VarintTooLong never = refl
+    by_cause byte path cause.TagTooLarge never = refl
+    by_cause byte path cause.NumberZero never = refl
+    by_cause byte path cause.BadType never = refl
+    by_cause byte path cause.StrayEnd never = refl
+    by_cause byte path cause.WrongEnd never = refl
+    by_cause byte path cause.LengthTooLarge never = refl
+    by_cause byte path cause.BadText never = refl
+    by_cause byte path cause.TooDeep never = refl
+    by_cause byte path cause.InputTooLarge never = refl
+
+-- the bytes within the limit of a longer text
+pub front_within : (b more : List ℕ) (max room : ℕ) → length b + room ≡ max → room ≤ length more → b ++ take room more ≡ take max (b ++ more)
+front_within b more max room is enough = sym (take-append-add b more room) ∙ ap (λ (n : ℕ). take n (b ++ more)) is
+
+-- a settled fault of the bytes that were given is that of every text that begins with them
+pub text_bad :
+    {S : Schema} {c : S.Context} {limits : Bounds} (b more : List ℕ) (f : Fault) → length b ≤ limits.bytes → (IsCut f → ⊥)
+    → Bad S (records c) limits.depth (text_at b) f → HasFault S c limits (b ++ more) f
+text_bad {S} {c} {limits} b more f fits settled bad = by_size (cases_lt limits.bytes (length (b ++ more)))
+  where
+    by_size : (limits.bytes < length (b ++ more)) ⊎ (length (b ++ more) ≤ limits.bytes) → HasFault S c limits (b ++ more) f
+    by_size (inr within) = HasFault.bad within (bad_longer more bad settled)
+    by_size (inl past) =
+        let joined = length-append b more in
+        let room : ℕ = limits.bytes - length b in
+        HasFault.bad_front past
+        (subst (λ (z : List ℕ). Bad S (records c) limits.depth (text_at z) f) (front_within b more limits.bytes room (omega (arith, fits)) (omega (arith, past, joined)))
+        (bad_longer (take room more) bad settled)) (beyond_settled limits.bytes f settled)
+
+-- of a text past the limit the bytes within it are the same in every longer text
+pub text_longer :
+    {S : Schema} {c : S.Context} {limits : Bounds} (b more : List ℕ) (f : Fault) → (IsCut f → ⊥) → HasFault S c limits b f → HasFault S c limits (b ++ more) f
+text_longer b more f settled (HasFault.bad fits bad) = text_bad b more f fits settled bad
+text_longer {S} {c} {limits} b more f settled (HasFault.bad_front {g = g} past bad is) =
+    let joined = length-append b more in
+    let same : take limits.bytes (b ++ more) ≡ take limits.bytes b = take-append-le limits.bytes b more (omega (arith, past)) in
+    HasFault.bad_front (omega (arith, past, joined)) (subst (λ (z : List ℕ). Bad S (records c) limits.depth (text_at z) g) (sym same) bad) is
+text_longer {S} {c} {limits} b more f settled (HasFault.too_large past whole is) =
+    let joined = length-append b more in
+    let same : take limits.bytes (b ++ more) ≡ take limits.bytes b = take-append-le limits.bytes b more (omega (arith, past)) in
+    HasFault.too_large (omega (arith, past, joined)) (subst (Whole S c limits.depth) (sym same) whole) is

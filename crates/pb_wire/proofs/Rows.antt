@@ -1,18 +1,18 @@
 -- Small texts, their records and their faults, worked out by the rules.
 use Rattle.std.proofs.Common.{◌≡◌, ◌≢◌, ℕ, ◌+◌, ◌*◌, ◌%◌, ◌^◌, ◌<◌, ◌≤◌, List, [], ◌∷◌, ◌++◌, length, drop, refl, sym, ap, ◌∙◌, arith}
-use Rattle.std.proofs.Common.{subst, Some, None, lit<, lit≤}
-use Rattle.std.proofs.lemmas.List.Elements.{All-nil, All-cons}
+use Rattle.std.proofs.Common.{subst, Some, None, inl, lit<, lit≤}
+use Rattle.std.proofs.lemmas.List.Elements.{All-nil, All-cons, All-replicate}
 use Rattle.pb_wire.specs.Varint.{IsVarint, EndsOnce, groups_value, shortest, shortest_within}
 use Rattle.pb_wire.specs.Zigzag.{zigzag, unzigzag}
 use Rattle.std.specs.Prelude.{pos, negsuc}
-use Rattle.pb_wire.specs.Record.{varint, len, group, no_more, more}
+use Rattle.pb_wire.specs.Record.{varint, fixed64, len, group, fixed32, no_more, more}
 use Rattle.pb_wire.specs.Ranges.{IsNumber}
 use Rattle.pb_wire.specs.Spell.{Spells, shortest_records}
 use Rattle.pb_wire.specs.Fault.{Fault, fault, step, HasTag, IsHigh, VarintFault, FixedFault, LengthFault, TagFault}
 use Rattle.pb_wire.specs.Schema.{blank, records}
 use Rattle.pb_wire.specs.Sound.{Sound, AllSound}
 use Rattle.pb_wire.specs.Grammar.{Bad, RecordFault, IsText, HasFault}
-use Rattle.pb_wire.specs.declared.fault.Cause.TheVariants.{Truncated, PastEnd, TagTooLarge, NumberZero, BadType, StrayEnd, WrongEnd, LengthTooLarge, TooDeep, InputTooLarge}
+use Rattle.pb_wire.specs.declared.fault.Cause.TheVariants.{Truncated, PastEnd, VarintTooLong, TagTooLarge, NumberZero, BadType, StrayEnd, WrongEnd, LengthTooLarge, TooDeep, InputTooLarge}
 use Rattle.pb_wire.proofs.Places.{moves_nothing}
 
 -- a tag of one byte
@@ -43,6 +43,48 @@ the_greatest_varint = record {
   ends = (lit≤ tt, (lit≤ tt, (lit≤ tt, (lit≤ tt, (lit≤ tt, (lit≤ tt, (lit≤ tt, (lit≤ tt, (lit≤ tt, lit< tt)))))))));
   value = refl;
 }
+
+-- of a tenth byte of 2 nothing is left
+a_tenth_byte_of_two : IsVarint 9223372036854775807 (0xff ∷ 0xff ∷ 0xff ∷ 0xff ∷ 0xff ∷ 0xff ∷ 0xff ∷ 0xff ∷ 0xff ∷ 0x02 ∷ [])
+a_tenth_byte_of_two = record {
+  size = lit≤ tt;
+  ends = (lit≤ tt, (lit≤ tt, (lit≤ tt, (lit≤ tt, (lit≤ tt, (lit≤ tt, (lit≤ tt, (lit≤ tt, (lit≤ tt, lit< tt)))))))));
+  value = refl;
+}
+
+shortest_of_0 : shortest 0 ≡ 0x00 ∷ []
+unfolding shortest shortest_within
+shortest_of_0 = refl
+
+shortest_of_127 : shortest 127 ≡ 0x7f ∷ []
+unfolding shortest shortest_within
+shortest_of_127 = refl
+
+shortest_of_128 : shortest 128 ≡ 0x80 ∷ 0x01 ∷ []
+unfolding shortest shortest_within
+shortest_of_128 = refl
+
+-- the ends of four bytes, and of eight
+zigzag_of_the_greatest_32 : zigzag (pos 2147483647) ≡ 4294967294
+zigzag_of_the_greatest_32 = refl
+
+zigzag_of_the_least_32 : zigzag (negsuc 2147483647) ≡ 4294967295
+zigzag_of_the_least_32 = refl
+
+zigzag_of_the_greatest_64 : zigzag (pos 9223372036854775807) ≡ 18446744073709551614
+zigzag_of_the_greatest_64 = refl
+
+zigzag_of_the_least_64 : zigzag (negsuc 9223372036854775807) ≡ 18446744073709551615
+zigzag_of_the_least_64 = refl
+
+unzigzag_of_0 : unzigzag 0 ≡ pos 0
+unzigzag_of_0 = refl
+
+unzigzag_of_1 : unzigzag 1 ≡ negsuc 0
+unzigzag_of_1 = refl
+
+unzigzag_of_the_greatest : unzigzag 18446744073709551615 ≡ negsuc 9223372036854775807
+unzigzag_of_the_greatest = refl
 
 zigzag_of_minus_two : zigzag (negsuc 1) ≡ 3
 zigzag_of_minus_two = refl
@@ -76,6 +118,15 @@ a_group_in_short : shortest_records (record { number = 20; payload = group (more
 unfolding shortest shortest_within
 a_group_in_short = refl
 
+each_type_in_short :
+    shortest_records (
+    record { number = 1; payload = varint 150 } ∷ record { number = 2; payload = fixed64 1 } ∷ record { number = 3; payload = len (0x07 ∷ 0x08 ∷ []) }
+    ∷ record { number = 4; payload = fixed32 0x01020304 } ∷ []
+    )
+    ≡ 0x08 ∷ 0x96 ∷ 0x01 ∷ 0x11 ∷ 0x01 ∷ 0x00 ∷ 0x00 ∷ 0x00 ∷ 0x00 ∷ 0x00 ∷ 0x00 ∷ 0x00 ∷ 0x1a ∷ 0x02 ∷ 0x07 ∷ 0x08 ∷ 0x25 ∷ 0x04 ∷ 0x03 ∷ 0x02 ∷ 0x01 ∷ []
+unfolding shortest shortest_within
+each_type_in_short = refl
+
 -- ---- refused
 
 ends_right : (tag end : List ℕ) → 0x0b ∷ 0x14 ∷ [] ≡ tag ++ end → EndsOnce tag → EndsOnce end → groups_value end % 2 ^ 64 ≡ 12 → ⊥
@@ -94,6 +145,12 @@ no_other_end h =
 
 cut_in_a_tag : HasFault blank tt (record { bytes = 9; depth = 9 }) (0x80 ∷ []) (fault 1 [] Truncated)
 cut_in_a_tag = first (lit≤ tt) (λ h. cc) (RecordFault.tag (TagFault.token (VarintFault.cut_short (lit< tt) (All-cons IsHigh _ [] (lit≤ tt) (All-nil IsHigh)) (λ h. cc) refl)))
+
+-- a tag of ten bytes whose last one says that more follow
+a_long_varint :
+    HasFault blank tt (record { bytes = 10; depth = 9 }) (0x80 ∷ 0x80 ∷ 0x80 ∷ 0x80 ∷ 0x80 ∷ 0x80 ∷ 0x80 ∷ 0x80 ∷ 0x80 ∷ 0x80 ∷ [])
+    (fault 0 [] VarintTooLong)
+a_long_varint = first (lit≤ tt) (λ h. cc) (RecordFault.tag (TagFault.token (VarintFault.too_long (lit≤ tt) (All-replicate IsHigh 10 0x80 (lit≤ tt)) refl)))
 
 cut_in_a_value : HasFault blank tt (record { bytes = 9; depth = 9 }) (0x08 ∷ 0x96 ∷ []) (fault 2 (step 1 [] ∷ []) Truncated)
 cut_in_a_value =
@@ -167,6 +224,13 @@ a_number_of_zero =
     (RecordFault.tag (TagFault.number_zero {n = 7} {q = record { at = 1; known = None; rest = [] }}
     (0x07 ∷ [], record { size = lit≤ tt; ends = lit< tt; value = refl }, record { given = refl; within = tt; at = refl; known = refl }) (lit< tt) refl))
 
+-- the number 0 in an overlong tag
+an_overlong_number_of_zero : HasFault blank tt (record { bytes = 9; depth = 9 }) (0x80 ∷ 0x00 ∷ []) (fault 0 [] NumberZero)
+an_overlong_number_of_zero =
+    first (lit≤ tt) (λ h. cc)
+    (RecordFault.tag (TagFault.number_zero {n = 0} {q = record { at = 2; known = None; rest = [] }}
+    (0x80 ∷ 0x00 ∷ [], record { size = lit≤ tt; ends = (lit≤ tt, lit< tt); value = refl }, record { given = refl; within = tt; at = refl; known = refl }) (lit< tt) refl))
+
 a_wire_type_of_seven : HasFault blank tt (record { bytes = 9; depth = 9 }) (0x0f ∷ []) (fault 0 [] BadType)
 a_wire_type_of_seven =
     first (lit≤ tt) (λ h. cc)
@@ -186,7 +250,16 @@ a_large_tag =
       record { given = refl; within = tt; at = refl; known = refl },
     ) (lit≤ tt) refl))
 
--- an end of another number, two groups down
+-- an end of another number than that of the group that is open
+an_end_of_another : HasFault blank tt (record { bytes = 9; depth = 9 }) (0x0b ∷ 0x14 ∷ []) (fault 1 (step 1 [] ∷ []) WrongEnd)
+an_end_of_another =
+    first (lit≤ tt) (λ h. cc)
+    (RecordFault.in_a_group (tag_here 1 3 0 (0x14 ∷ []) (lit< tt, lit< tt) (lit< tt) (lit< tt))
+    (Bad.at_record ([], refl, AllSound.none) (moves_nothing (record { at = 1; known = None; rest = 0x14 ∷ [] })) (λ h. cc)
+    (RecordFault.tag (TagFault.wrong_end {m = 1} (tag_here 2 4 1 [] (lit< tt, lit< tt) (lit< tt) (lit< tt)) refl (λ h. omega (arith, h)) refl)))
+    refl)
+
+-- and two groups down
 a_wrong_end : HasFault blank tt (record { bytes = 9; depth = 9 }) (0x0b ∷ 0x13 ∷ 0x0c ∷ []) (fault 2 (step 1 [] ∷ step 2 [] ∷ []) WrongEnd)
 a_wrong_end =
     first (lit≤ tt) (λ h. cc)
@@ -209,6 +282,37 @@ a_large_length =
       record { size = lit≤ tt; ends = (lit≤ tt, (lit≤ tt, (lit≤ tt, (lit≤ tt, lit< tt)))); value = refl },
       record { given = refl; within = tt; at = refl; known = refl },
     ) (lit≤ tt) refl) refl)
+
+-- a length of 5, behind which the input has one byte
+a_length_past_the_end : HasFault blank tt (record { bytes = 9; depth = 9 }) (0x0a ∷ 0x05 ∷ 0x01 ∷ []) (fault 3 (step 1 [] ∷ []) Truncated)
+a_length_past_the_end =
+    first (lit≤ tt) (λ h. cc)
+    (RecordFault.cut_payload (tag_here 1 2 0 (0x05 ∷ 0x01 ∷ []) (lit< tt, lit< tt) (lit< tt) (lit< tt)) (inl refl) (record {
+      size = 5;
+      payload = record { at = 2; known = None; rest = 0x01 ∷ [] };
+      length_is = record {
+        length_is = (0x05 ∷ [], record { size = lit≤ tt; ends = lit< tt; value = refl }, record { given = refl; within = tt; at = refl; known = refl });
+        small = lit< tt;
+        within = tt;
+      };
+      cut = lit< tt;
+      fault_is = refl;
+    }) refl)
+
+-- the same in a frame whose end it passes
+a_length_past_the_frame : Bad blank (records tt) 9 (record { at = 0; known = Some 3; rest = 0x0a ∷ 0x05 ∷ 0x01 ∷ [] }) (fault 1 (step 1 [] ∷ []) PastEnd)
+a_length_past_the_frame =
+    Bad.at_record ([], refl, AllSound.none) (moves_nothing (record { at = 0; known = Some 3; rest = 0x0a ∷ 0x05 ∷ 0x01 ∷ [] })) (λ h. cc, λ h. cc)
+    (RecordFault.length_of {k = 1} {q = record { at = 1; known = Some 2; rest = 0x05 ∷ 0x01 ∷ [] }} (record {
+      tag = (0x0a ∷ [], record { size = lit≤ tt; ends = lit< tt; value = refl }, record { given = refl; within = lit≤ tt; at = refl; known = refl });
+      number = (lit< tt, lit< tt);
+      type = lit< tt;
+    }) tt
+    (LengthFault.past_end {n = 5} {q = record { at = 2; known = Some 1; rest = 0x01 ∷ [] }} (
+      0x05 ∷ [],
+      record { size = lit≤ tt; ends = lit< tt; value = refl },
+      record { given = refl; within = lit≤ tt; at = refl; known = refl },
+    ) (lit< tt) (λ h. omega (arith, h)) refl) refl)
 
 cut_in_four_bytes : HasFault blank tt (record { bytes = 9; depth = 9 }) (0x0d ∷ 0x01 ∷ 0x02 ∷ 0x03 ∷ []) (fault 4 (step 1 [] ∷ []) Truncated)
 cut_in_four_bytes =

@@ -19,3 +19,4 @@ pub mod PathText
 pub mod Zigzag
 pub mod Rest
 pub mod RecordIter
+pub mod Plan

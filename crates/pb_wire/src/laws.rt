@@ -32,12 +32,15 @@ pub fn one_fault<C>()
         → Exactly (IsSomeText (schema reading group) c limits b) (HasFault (schema reading group) c limits b) }
 {}
 
-/// A fault other than the end of the input is the fault of every longer text, and what is read whole up to a known end
-/// or the end of a group stays so.
+/// A fault other than the end of the input is the fault of every longer text, also of one past the limit on its length.
+/// What is read whole up to a known end or the end of a group stays so.
 pub fn longer_text<C>()
     ensures fault { (reading : C → ℕ → Reading C) (group : C → ℕ → C) (o : Open C) (room : ℕ) (p : Place) (f : Fault) (more : List ℕ)
         → (IsCut f → ⊥) → Bad (schema reading group) o room p f
         → Bad (schema reading group) o room (longer p more) f }
+    ensures text { (reading : C → ℕ → Reading C) (group : C → ℕ → C) (c : C) (limits : Bounds) (b more : List ℕ) (f : Fault)
+        → (IsCut f → ⊥) → HasFault (schema reading group) c limits b f
+        → HasFault (schema reading group) c limits (b ++ more) f }
     ensures read { (reading : C → ℕ → Reading C) (group : C → ℕ → C) (o : Open C) (room : ℕ) (p : Place) (more : List ℕ)
         → (open_group o ≢ None) ⊎ (p.known ≢ None) → IsRead (schema reading group) o room p
         → IsRead (schema reading group) o room (longer p more) }

@@ -1,6 +1,8 @@
 //! Devices over bytes in memory. They move at most a given number of bytes a call, and can fail at a given call.
 
-ghost use Rattle.std.specs.Prelude.{◌≡◌, ◌+◌, ◌<◌, ℕ, [], Some, None, true, false, is_none};
+ghost use Rattle.std.specs.Prelude.{◌≡◌, ◌≢◌, ◌<◌, ◌≤◌, ◌++◌, ◌↔◌, [], Some, None, true, false, is_none, length, take, drop, min, IsOk, IsErr, IfOk, OnOk, OnErr};
+ghost use Rattle.std.specs.Io.KnownBytes.{ReadConsumes, WriteAppends};
+ghost use Rattle.pb_wire.specs.Plan.{after_call};
 
 use crate::device::{DeviceFault, Input, Output};
 use std::alloc::Global;
@@ -16,9 +18,9 @@ impl FailurePlan {
 
     /// Counts one call, and says whether it fails.
     pub fn count_call(&mut self) -> bool
-        ensures failed { self.old.fails_after ≡ Some 0 → (result ≡ true) × (self.new.fails_after ≡ None) }
+        ensures fails { result ≡ true ↔ self.old.fails_after ≡ Some 0 }
         ensures never { self.old.fails_after ≡ None → (result ≡ false) × (self.new.fails_after ≡ None) }
-        ensures later { (n : ℕ) → self.old.fails_after ≡ Some (n + 1) → (result ≡ false) × (self.new.fails_after ≡ Some n) }
+        ensures counted { self.new.fails_after ≡ after_call self.old.fails_after }
     {
         match self.fails_after {
             None => false,
@@ -50,6 +52,8 @@ impl<'a> MemInput<'a> {
         requires { 0 < most }
         ensures left { ⟦<MemInput<'static> as Input>⟧.left result ≡ Some bytes.entry.now }
         ensures steady { ⟦<MemInput<'static> as Input>⟧.is_steady result ≡ is_none plan.fails_after }
+        ensures most { result.most ≡ most }
+        ensures plan { result.plan ≡ plan }
     {
         MemInput {
             left: bytes,
@@ -67,7 +71,23 @@ impl Input for MemInput<'_> {
 
     ghost is_steady = { λ s. is_none s.plan.fails_after };
 
-    fn read(&mut self, into: &mut [u8]) -> Result<usize, DeviceFault> {
+    /// Gives the next bytes: as many as `most`, the room and the bytes that are left allow, or none at the call that fails
+    /// by the plan.
+    fn read(&mut self, into: &mut [u8]) -> Result<usize, DeviceFault>
+        ensures count { IfOk result (λ n. n ≤ length into.new) }
+        ensures bytes { ReadConsumes (Some self.old.left.now) (Some self.new.left.now) result into.new }
+        ensures kept { OnOk result (self.new.failures ≡ self.old.failures) }
+        ensures failed { OnErr result (self.new.failures ≢ self.old.failures) }
+        ensures succeeds { is_none self.old.plan.fails_after ≡ true → IsOk result }
+        ensures steady { is_none self.old.plan.fails_after ≡ true → is_none self.new.plan.fails_after ≡ true }
+        ensures given { IfOk result (λ n. n ≡ min (min self.old.most (length into.old)) (length self.old.left.now)) }
+        ensures front { IfOk result (λ n. into.new ≡ take n self.old.left.now ++ drop n into.old) }
+        ensures rest { IfOk result (λ n. self.new.left.now ≡ drop n self.old.left.now) }
+        ensures nothing { OnErr result ((self.new.left.now ≡ self.old.left.now) × (into.new ≡ into.old)) }
+        ensures planned { IsErr result ↔ self.old.plan.fails_after ≡ Some 0 }
+        ensures plan { self.new.plan.fails_after ≡ after_call self.old.plan.fails_after }
+        ensures most { self.new.most ≡ self.old.most }
+    {
         if self.plan.count_call() {
             self.failures = self.failures.wrapping_add(1);
             return Err(DeviceFault);
@@ -94,7 +114,9 @@ impl MemOutput {
     /// Takes at most `most` bytes a call, and fails by the plan and where memory runs out.
     pub fn new(alloc: Global, most: usize, plan: FailurePlan) -> MemOutput
         requires { 0 < most }
-        ensures { ⟦<MemOutput as Output>⟧.written result ≡ Some [] }
+        ensures written { ⟦<MemOutput as Output>⟧.written result ≡ Some [] }
+        ensures most { result.most ≡ most }
+        ensures plan { result.plan ≡ plan }
     {
         MemOutput {
             bytes: Vec::new(alloc),
@@ -117,7 +139,19 @@ impl Output for MemOutput {
 
     ghost failures = { λ s. s.failures };
 
-    fn write(&mut self, bytes: &[u8]) -> Result<usize, DeviceFault> {
+    /// Takes the first bytes, as many as `most` allows, or none at the call that fails by the plan or where memory runs
+    /// out.
+    fn write(&mut self, bytes: &[u8]) -> Result<usize, DeviceFault>
+        ensures count { IfOk result (λ n. n ≤ length bytes.now) }
+        ensures some { IfOk result (λ n. 0 < length bytes.now → 0 < n) }
+        ensures bytes { WriteAppends (Some self.old.bytes.items) (Some self.new.bytes.items) result bytes.now }
+        ensures kept { OnOk result (self.new.failures ≡ self.old.failures) }
+        ensures failed { OnErr result (self.new.failures ≢ self.old.failures) }
+        ensures taken { IfOk result (λ n. n ≡ min self.old.most (length bytes.now)) }
+        ensures planned { self.old.plan.fails_after ≡ Some 0 → IsErr result }
+        ensures plan { self.new.plan.fails_after ≡ after_call self.old.plan.fails_after }
+        ensures most { self.new.most ≡ self.old.most }
+    {
         let count = self.most.min(bytes.len());
         if self.plan.count_call() || self.bytes.extend_from_slice(&bytes[..count]).is_err() {
             self.failures = self.failures.wrapping_add(1);
