@@ -19,7 +19,7 @@ ghost use Rattle.pb_decode.specs.Numbers.{scalar_kind as kind_given, put_datum, 
 ghost use Rattle.pb_decode.specs.After.{tag, awaited, After};
 
 use crate::error::DecodeError;
-use crate::number::{Number, low_half, number_value};
+use crate::number::{Number, number_value};
 use crate::part::Part;
 use crate::purpose::Purpose;
 use crate::put_scalar::put_scalar;
@@ -47,13 +47,10 @@ pub(crate) fn scalar_kind(purpose: Purpose) -> Option<Kind>
 pub(crate) fn is_undeclared(pool: &Pool, kind: Kind, value: Number) -> bool
     ensures { result ≡ is_undeclared pool.now (closed_enum kind) (number_view value) }
 {
-    let Kind::ClosedEnum(id) = kind else {
-        return false;
-    };
     let Number::Varint(number) = value else {
         return false;
     };
-    !pool.declares(id, low_half(number).cast_signed())
+    pool.is_undeclared(kind, number)
 }
 
 /// Puts the value that a number stands for into the part that its record stands in.

@@ -30,12 +30,27 @@ fields_in pool (a_message m) = message_fields pool m
 fields_in pool (an_entry key value) = key_field key ∷ value_field value ∷ []
 fields_in pool unknown_group = []
 
--- one element of a packed list of a kind
+-- one element of a packed list of a kind; a kind that is in no packed list has none, and four bytes stand in its place
 abbrev pub element_of : Kind → Element
-element_of k = of_wire_type (wire_type_of k)
-  where
-    of_wire_type : ℕ → Element
-    of_wire_type w = if w == 0 then a_varint else (if w == 1 then eight_bytes else four_bytes)
+element_of kind.Double = eight_bytes
+element_of kind.Float = four_bytes
+element_of kind.Int64 = a_varint
+element_of kind.Uint64 = a_varint
+element_of kind.Int32 = a_varint
+element_of kind.Fixed64 = eight_bytes
+element_of kind.Fixed32 = four_bytes
+element_of kind.Bool = a_varint
+element_of kind.Text = four_bytes
+element_of kind.Bytes = four_bytes
+element_of kind.Uint32 = a_varint
+element_of kind.Sfixed32 = four_bytes
+element_of kind.Sfixed64 = eight_bytes
+element_of kind.Sint32 = a_varint
+element_of kind.Sint64 = a_varint
+element_of (kind.Enum _) = a_varint
+element_of (kind.Message _) = four_bytes
+element_of (kind.Group _) = four_bytes
+element_of (kind.ClosedEnum _) = a_varint
 
 -- a message value of a map entry is at the entry's level
 abbrev pub message_in : Context → ℕ → Reading Context

@@ -33,11 +33,47 @@ wire_type_of (kind.ClosedEnum _) = 0
 
 -- every kind but text, bytes, messages and groups may stand in a packed list
 abbrev pub is_packable : Kind → Bool
-is_packable k = not ((wire_type_of k == 2) || (wire_type_of k == 3))
+is_packable kind.Double = true
+is_packable kind.Float = true
+is_packable kind.Int64 = true
+is_packable kind.Uint64 = true
+is_packable kind.Int32 = true
+is_packable kind.Fixed64 = true
+is_packable kind.Fixed32 = true
+is_packable kind.Bool = true
+is_packable kind.Text = false
+is_packable kind.Bytes = false
+is_packable kind.Uint32 = true
+is_packable kind.Sfixed32 = true
+is_packable kind.Sfixed64 = true
+is_packable kind.Sint32 = true
+is_packable kind.Sint64 = true
+is_packable (kind.Enum _) = true
+is_packable (kind.Message _) = false
+is_packable (kind.Group _) = false
+is_packable (kind.ClosedEnum _) = true
 
 -- the messages of the kind are written as groups
 abbrev pub is_group : Kind → Bool
-is_group k = wire_type_of k == 3
+is_group kind.Double = false
+is_group kind.Float = false
+is_group kind.Int64 = false
+is_group kind.Uint64 = false
+is_group kind.Int32 = false
+is_group kind.Fixed64 = false
+is_group kind.Fixed32 = false
+is_group kind.Bool = false
+is_group kind.Text = false
+is_group kind.Bytes = false
+is_group kind.Uint32 = false
+is_group kind.Sfixed32 = false
+is_group kind.Sfixed64 = false
+is_group kind.Sint32 = false
+is_group kind.Sint64 = false
+is_group (kind.Enum _) = false
+is_group (kind.Message _) = false
+is_group (kind.Group _) = true
+is_group (kind.ClosedEnum _) = false
 
 -- an integer, a bool or a text may be a map's key
 abbrev pub is_key_kind : Kind → Bool

@@ -4,11 +4,12 @@ pub(crate) mod same;
 
 use crate::error::PoolError;
 use crate::pool::same::{same_enums, same_files, same_messages};
+use crate::scalars::low_half;
 use crate::tables::names::field_named;
 use crate::tables::numbers::field_at;
 use crate::tables::values::has_number;
 use crate::tables::{Tables, checked};
-use crate::types::{EnumId, EnumType, Field, FileInfo, MessageId, MessageType};
+use crate::types::{EnumId, EnumType, Field, FileInfo, Kind, MessageId, MessageType};
 use std::alloc::Global;
 use std::marker::Model;
 
@@ -46,7 +47,9 @@ impl Pool {
     ghost use Rattle.pb_schema.specs.Rules.{IsPool, IsFieldOf};
     ghost use Rattle.pb_schema.specs.Oneofs.{member_numbers};
     ghost use Rattle.pb_schema.specs.EnumValues.{value_name, enum_values};
-    ghost use Rattle.pb_schema.specs.Closed.{declares};
+    ghost use Rattle.pb_wire.specs.Record.{varint};
+    ghost use Rattle.pb_schema.specs.Kinds.{closed_enum};
+    ghost use Rattle.pb_schema.specs.Closed.{declares, is_undeclared};
 
     /// The pool of its parts, where they meet every rule.
     ///
@@ -168,6 +171,17 @@ impl Pool {
             Some(table) => has_number(table, number),
             None => false,
         }
+    }
+
+    /// Whether a number that stands in a varint is one that the closed enum of a kind doesn't declare. Its low 32 bits are asked for. A kind
+    /// that is no closed enum has no such number.
+    pub fn is_undeclared(&self, kind: Kind, number: u64) -> bool
+        ensures { result ≡ is_undeclared self.now (closed_enum kind) (varint number) }
+    {
+        let Kind::ClosedEnum(entry) = kind else {
+            return false;
+        };
+        !self.declares(entry, low_half(number).cast_signed())
     }
 
     /// The field of a number in a message type.

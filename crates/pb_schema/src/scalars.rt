@@ -65,8 +65,8 @@ pub trait Scalar {
     ghost reads_back: { (x : ScalarValue) → IsOfKind kind x → read_of kind (written kind x) ≡ Some x };
 }
 
-/// The low 32 bits.
-fn low_half(number: u64) -> u32
+/// The low 32 bits, all that an int32, a uint32, a sint32 or an enum has of a varint.
+pub fn low_half(number: u64) -> u32
     ensures { result ≡ number % 2 ^ 32 }
 {
     (number % 0x1_0000_0000) as u32

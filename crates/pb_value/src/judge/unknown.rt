@@ -1,7 +1,6 @@
 //! Whether records are unknown to a type, and can be written.
 
-ghost use Rattle.std.specs.Prelude.{◌≡◌, ◌<◌, ◌%◌, ◌^◌, ◌&&◌, not, length, IsTrue, true, None, Some, MatchResult};
-ghost use Rattle.std.specs.Int.{cast_signed, w32};
+ghost use Rattle.std.specs.Prelude.{◌≡◌, ◌<◌, ◌&&◌, not, length, IsTrue, true, None, Some, MatchResult};
 ghost use Rattle.pb_wire.specs.Record.{wire_type, group_of};
 ghost use Rattle.pb_wire.specs.Unknown.{payload_of, records_of};
 ghost use Rattle.pb_wire.specs.Ranges.{AreBytes, IsInRange, AreInRange};
@@ -15,7 +14,7 @@ ghost use Rattle.pb_value.specs.Canon.{record_of};
 
 use crate::error::ValueError;
 use crate::lookup::field_at;
-use pb_schema::{Field, Kind, MessageId, Pool, Shape, fits};
+use pb_schema::{Field, MessageId, Pool, Shape, fits};
 use pb_wire::Unknown;
 
 /// The least number above those that a record may have.
@@ -89,20 +88,10 @@ fn is_undeclared(pool: &Pool, field: &Field, payload: &Unknown) -> bool
     if matches!(field.shape, Shape::Map { key: _ }) {
         return false;
     }
-    let Kind::ClosedEnum(id) = field.kind else {
-        return false;
-    };
     let Unknown::Varint(number) = payload else {
         return false;
     };
-    !pool.declares(id, low_half(*number))
-}
-
-/// The low 32 bits of a number as a two's complement.
-fn low_half(number: u64) -> i32
-    ensures { result ≡ cast_signed w32 (number % 2 ^ 32) }
-{
-    ((number % 0x1_0000_0000) as u32).cast_signed()
+    pool.is_undeclared(field.kind, *number)
 }
 
 /// Whether a payload counts for the field of its number.
