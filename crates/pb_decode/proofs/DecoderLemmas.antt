@@ -4,6 +4,7 @@ use Rattle.std.proofs.lemmas.List.{length-map, length-reverse}
 use Rattle.std.specs.Prelude.{Result, Ok, Err, IfOk, IfSome, IsSomeAnd}
 use Rattle.std.proofs.lemmas.Simd.{map-map}
 use Rattle.pb_wire.specs.Limits.{Bounds}
+use Rattle.pb_wire.specs.Schema.{Schema}
 use Rattle.pb_schema.specs.Types.{Types}
 use Rattle.pb_schema.specs.Context.{a_message, schema_of}
 use Rattle.pb_value.specs.Dynamic.{Dynamic}
@@ -49,6 +50,11 @@ pub waits_by : (o : Option Reading) (r : Reading) → Some r ≡ o → IfSome o 
 waits_by o r is h = subst (λ (z : Option Reading). IfSome z (λ x. Waits (state_view x.reader) x.held.items)) (sym is) h
 
 -- HOW MUCH IS HELD AND OPEN
+-- of any bytes at most one length is declared
+pub one_declared :
+    {S : Schema} {x : S.Context} {depth : ℕ} {b : List ℕ} {n k : ℕ} → IsDeclared S x depth b n → IsDeclared S x depth b k → n ≡ k
+one_declared h g = (one_ending h.2 g.2).2
+
 frames_size : (r : Reading) → length (state_view r.reader).frames ≡ vec_len r.reader.frames
 frames_size r =
     let turned = length-reverse (map frame_view r.reader.frames.items) in

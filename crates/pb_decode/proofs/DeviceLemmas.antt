@@ -1,17 +1,15 @@
 -- A reader that goes on over the bytes of an input, piece by piece.
-use Rattle.std.proofs.Common.{◌≡◌, ℕ, ◌+◌, ◌-◌, ◌<◌, ◌≤◌, List, [], ◌++◌, take, length, refl, sym, ap, ◌∙◌, subst, arith, append-nil, append_assoc, length-append, Option, Some, None, inl, inr, ◌⊎◌}
-use Rattle.std.proofs.lemmas.Bool.{cases_lt}
+use Rattle.std.proofs.Common.{◌≡◌, ℕ, ◌+◌, ◌-◌, ◌<◌, ◌≤◌, List, [], ◌++◌, take, length, refl, sym, ap, ◌∙◌, subst, arith, append-nil, append_assoc, length-append, Option, Some, None}
 use Rattle.std.proofs.lemmas.List.{take_at}
 use Rattle.std.specs.Prelude.{Result, Ok, Err, IfErr, IfSome}
 use Rattle.std.specs.Io.KnownBytes.{Consumes, IsAtEnd}
 use Rattle.std.proofs.KnownBytes.{Consumes-nil, Consumes-trans, Consumes-whole}
 use Rattle.pb_wire.specs.Record.{Record}
 use Rattle.pb_wire.specs.Limits.{Bounds}
-use Rattle.pb_wire.specs.Schema.{records as in_records}
 use Rattle.pb_wire.specs.declared.fault.Cause.TheVariants.{InputTooLarge}
-use Rattle.pb_wire.specs.Fault.{Fault, fault, text_at}
-use Rattle.pb_wire.specs.Grammar.{Bad, HasFault}
-use Rattle.pb_wire.proofs.Longer.{bad_longer}
+use Rattle.pb_wire.specs.Fault.{Fault, fault}
+use Rattle.pb_wire.specs.Grammar.{HasFault}
+use Rattle.pb_wire.proofs.Longer.{text_bad}
 use Rattle.pb_schema.specs.Context.{a_message, schema_of}
 use Rattle.pb_schema.specs.Types.{Types}
 use Rattle.pb_value.specs.Data.{Message}
@@ -23,7 +21,6 @@ use Rattle.pb_decode.specs.Reader.{state_view, IfFault}
 use Rattle.pb_decode.specs.Origin.{Origin, origin, further, TookFrom, IsWhole, BadFrom, ToldFrom}
 use Rattle.pb_decode.specs.FromDevice.{IfRefused, TakesAtMost}
 use Rattle.pb_decode.specs.Loops.{ReadsOn, ToldOf}
-use Rattle.pb_decode.proofs.PushLemmas.{beyond_settled, front_within}
 use Rattle.pb_decode.proofs.OntoText.{text_from, whole_fault, beyond_told}
 
 pub further_nil : (o : Origin) → further o [] ≡ o
@@ -111,23 +108,11 @@ err_refused (Err e) P Q h bad = if_fault_refused e P Q h bad
 
 -- A TEXT, from position 0 on, with no known end
 module _ {pool : Types} {k : ℕ} {limits : Bounds} (base : List Record) where
-  -- a fault that no more bytes change is the fault of all that is left
-  settled_fault : (b rest : List ℕ) (f : Fault) → length b ≤ limits.bytes → ToldFrom pool (further (origin k limits.depth base None) b) f → HasFault (schema_of pool) (a_message k) limits (b ++ rest) f
-  settled_fault b rest f few told = by_size (cases_lt limits.bytes (length (b ++ rest)))
-    where
-      by_size : (limits.bytes < length (b ++ rest)) ⊎ (length (b ++ rest) ≤ limits.bytes) → HasFault (schema_of pool) (a_message k) limits (b ++ rest) f
-      by_size (inr fits) = HasFault.bad fits (bad_longer rest told.bad told.settled)
-      by_size (inl more) =
-          let joined = length-append b rest in
-          HasFault.bad_front more
-          (subst (λ (z : List ℕ). Bad (schema_of pool) (in_records (a_message k)) limits.depth (text_at z) f) (front_within b rest limits.bytes (limits.bytes - length b) (omega (arith, few)) (omega (arith, more, joined)))
-          (bad_longer (take (limits.bytes - length b) rest) told.bad told.settled)) (beyond_settled limits.bytes f told.settled)
-
   pub told_left : (x y : Option (List ℕ)) (most : ℕ) (f : Fault) → most ≡ limits.bytes → ToldOf pool (origin k limits.depth base None) x y most f → IfSome x (λ left. HasFault (schema_of pool) (a_message k) limits left f)
   told_left None y most f same h = tt
   told_left (Some left) None most f same h = absurd h.given
   told_left (Some left) (Some rest) most f same h =
-      let few = h.few in subst (λ (z : List ℕ). HasFault (schema_of pool) (a_message k) limits z f) (sym h.given) (settled_fault h.bytes rest f (omega (arith, few, same)) h.told)
+      let few = h.few in subst (λ (z : List ℕ). HasFault (schema_of pool) (a_message k) limits z f) (sym h.given) (text_bad h.bytes rest f (omega (arith, few, same)) h.told.settled h.told.bad)
 
   -- more bytes than the limit allows
   pub more_left :

@@ -11,6 +11,7 @@ use Rattle.pb_wire.specs.Fault.{Fault, fault}
 use Rattle.pb_wire.specs.Grammar.{HasFault}
 use Rattle.pb_wire.specs.Exact.{Exactly, IsSomeText}
 use Rattle.pb_wire.proofs.ExactLemmas.{exactly, text_not_both}
+use Rattle.pb_wire.proofs.Longer.{beyond_settled}
 use Rattle.pb_wire.proofs.Unique.{same_records}
 use Rattle.pb_schema.specs.Types.{Types}
 use Rattle.pb_schema.specs.Rules.{IsPool}
@@ -32,7 +33,6 @@ use Rattle.pb_decode.specs.Origin.{origin, further, TookFrom, IsWhole, BadFrom, 
 use Rattle.pb_decode.specs.Onto.{IsTextOnto}
 use Rattle.pb_decode.specs.Push.{Took}
 use Rattle.pb_decode.proofs.OriginLemmas.{is_message, whole_there}
-use Rattle.pb_decode.proofs.PushLemmas.{beyond_settled}
 
 -- THE START: the canonical records have the message as their value
 pub begun_onto :

@@ -1,17 +1,15 @@
 -- A decoder between pieces: more bytes, too many bytes, and the end.
 use Rattle.std.proofs.Common.{◌≡◌, ℕ, ◌+◌, ◌-◌, ◌<◌, ◌≤◌, ◌^◌, List, [], ◌∷◌, ◌++◌, take, drop, length, refl, sym, ap, ◌∙◌, subst, arith, length-append, inl, inr, None, option_map}
 use Rattle.std.proofs.lemmas.List.{length-take-le}
-use Rattle.std.proofs.Math.Seq.{take-append-add}
 use Rattle.pb_wire.specs.Record.{Record}
 use Rattle.pb_wire.specs.Ranges.{AreBytes}
-use Rattle.pb_wire.specs.declared.fault.Cause.{Cause}
-use Rattle.pb_wire.specs.declared.fault.Cause.TheVariants as cause
 use Rattle.pb_wire.specs.declared.fault.Cause.TheVariants.{Truncated, InputTooLarge}
 use Rattle.pb_wire.specs.Fault.{Fault, fault, Place, text_at}
 use Rattle.pb_wire.specs.Schema.{Open, records}
-use Rattle.pb_wire.specs.Grammar.{Whole, Bad, HasFault, beyond}
-use Rattle.pb_wire.specs.Exact.{IsOver, longer, IsCut}
+use Rattle.pb_wire.specs.Grammar.{Whole, Bad, HasFault}
+use Rattle.pb_wire.specs.Exact.{IsOver, longer}
 use Rattle.pb_wire.specs.Limits.{Bounds}
+use Rattle.pb_wire.proofs.Longer.{beyond_settled, front_within}
 use Rattle.pb_schema.specs.Types.{Types}
 use Rattle.pb_schema.specs.Context.{Context, a_message as in_message, schema_of}
 use Rattle.pb_value.specs.Data.{Message, empty}
@@ -121,27 +119,6 @@ text_there {pool} {m} {limits} b s held size none tag empty h = from_top (is_top
     from_top (v, is) = (v, is, text_read pool m limits b m v s.scope (here s held) size (subst (λ (z : Part). Stands pool m limits.depth 101 [] (text_at b) [] z s.scope (here s held)) is stands) empty)
 
 -- TOO MANY BYTES: those within the limit are read first
-pub beyond_settled : (n : ℕ) (f : Fault) → (IsCut f → ⊥) → f ≡ beyond n f
-beyond_settled n f not_cut = by_cause f.byte f.path f.cause not_cut
-  where
-    by_cause : (byte : ℕ) (path : _) (c : Cause) → (c ≡ Truncated → ⊥) → fault byte path c ≡ beyond n (fault byte path c)
-    by_cause byte path cause.Truncated never = absurd (never refl)
-    by_cause byte path cause.PastEnd never = refl
-    by_cause byte path cause.VarintTooLong never = refl
-    by_cause byte path cause.TagTooLarge never = refl
-    by_cause byte path cause.NumberZero never = refl
-    by_cause byte path cause.BadType never = refl
-    by_cause byte path cause.StrayEnd never = refl
-    by_cause byte path cause.WrongEnd never = refl
-    by_cause byte path cause.LengthTooLarge never = refl
-    by_cause byte path cause.BadText never = refl
-    by_cause byte path cause.TooDeep never = refl
-    by_cause byte path cause.InputTooLarge never = refl
-
--- the bytes within the limit of a longer text
-pub front_within : (b piece : List ℕ) (max room : ℕ) → length b + room ≡ max → room ≤ length piece → b ++ take room piece ≡ take max (b ++ piece)
-front_within b piece max room is enough = sym (take-append-add b piece room) ∙ ap (λ (n : ℕ). take n (b ++ piece)) is
-
 pub front_bad :
     {pool : Types} {m : ℕ} {limits : Bounds} (b piece : List ℕ) (room : ℕ) (f : Fault) → length b + room ≡ limits.bytes → room < length piece → Told pool m limits.depth (longer (text_at b) (take room piece)) f
     → IsSettled pool m limits (b ++ piece) f

@@ -15,7 +15,7 @@ ghost use Rattle.pb_decode.specs.Occurrences.{counts_view};
 ghost use Rattle.pb_decode.specs.PartView.{part_view, scope_view};
 ghost use Rattle.pb_decode.specs.declared.error.DecodeError.TheVariants.{Memory};
 
-use crate::error::DecodeError;
+use crate::error::{DecodeError, memory_alone};
 use crate::part::{Part, Scope, Slot};
 use crate::put::count_one;
 use crate::put_unknown::put_unknown;
@@ -111,7 +111,8 @@ pub(crate) fn put_entry(
     match outer {
         Part::Message(_, body) => match slot {
             Slot::Map(number) => {
-                drop(insert_entry(alloc, body, number, key, value)?);
+                let old = insert_entry(alloc, body, number, key, value).map_err(memory_alone)?;
+                drop(old);
                 Ok(())
             }
             Slot::One(_, _) | Slot::List(_) | Slot::Entry | Slot::Unknown(_) => Ok(()),

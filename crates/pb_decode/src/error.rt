@@ -1,7 +1,9 @@
 //! Why bytes are refused.
 
 ghost use Rattle.std.specs.Prelude.{◌≡◌};
+ghost use Rattle.pb_value.specs.declared.error.ValueError.TheVariants as value;
 ghost use Rattle.pb_decode.specs.ErrorNumber.{number_of};
+ghost use Rattle.pb_decode.specs.declared.error.DecodeError.TheVariants.{Memory};
 
 use pb_value::ValueError;
 use pb_wire::{Cause, PathStep};
@@ -47,8 +49,6 @@ impl DecodeError {
 }
 
 impl From<AllocError> for DecodeError {
-    ghost use Rattle.pb_decode.specs.declared.error.DecodeError.TheVariants.{Memory};
-
     ghost from_gives = { λ _ e. e ≡ Memory };
 
     fn from(_e: AllocError) -> DecodeError {
@@ -57,8 +57,6 @@ impl From<AllocError> for DecodeError {
 }
 
 impl<T: Drop> From<AllocFailed<T>> for DecodeError {
-    ghost use Rattle.pb_decode.specs.declared.error.DecodeError.TheVariants.{Memory};
-
     ghost from_gives = { λ _ e. e ≡ Memory };
 
     fn from(_e: AllocFailed<T>) -> DecodeError {
@@ -66,13 +64,13 @@ impl<T: Drop> From<AllocFailed<T>> for DecodeError {
     }
 }
 
-// The changes that a decoder makes fail for want of memory alone.
-impl From<ValueError> for DecodeError {
-    ghost use Rattle.pb_decode.specs.declared.error.DecodeError.TheVariants.{Memory};
-
-    ghost from_gives = { λ _ e. e ≡ Memory };
-
-    fn from(_e: ValueError) -> DecodeError {
-        DecodeError::Memory
+/// Why a change failed that fails for want of memory alone.
+pub(crate) fn memory_alone(cause: ValueError) -> DecodeError
+    requires { cause ≡ value.Memory }
+    ensures { result ≡ Memory }
+{
+    match cause {
+        ValueError::Memory => DecodeError::Memory,
+        _ => unreachable!(),
     }
 }

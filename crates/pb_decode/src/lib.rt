@@ -24,6 +24,7 @@ mod frame;
 mod from_device;
 mod front;
 mod known_purpose;
+pub mod laws;
 mod number;
 mod number_token;
 mod occurrences;

@@ -131,11 +131,12 @@ impl<'p> PushDecoder<'p> {
         end(self.alloc, self.pool, self.kind, self.limits, reading)
     }
     /// How many bytes are held: those received of the open token, or of the payload of a text, of bytes or of an unknown
-    /// record. They are at most ten, or the length declared for that payload. 0 where the decoder is finished.
+    /// record. They are at most ten, or the one length declared for that payload. 0 where the decoder is finished.
     pub fn pending(&self) -> usize
         ensures held { (b : List ℕ) → After self.now b → IsPending (schema_of self.now.pool) (a_message self.now.kind) self.now.limits.depth b result }
         ensures one { (b : List ℕ) (n : ℕ) → After self.now b → IsPending (schema_of self.now.pool) (a_message self.now.kind) self.now.limits.depth b n → n ≡ result }
         ensures bound { (b : List ℕ) → After self.now b → (n : ℕ) × IsDeclared (schema_of self.now.pool) (a_message self.now.kind) self.now.limits.depth b n × (result ≤ max 10 n) }
+        ensures one_bound { (b : List ℕ) (n k : ℕ) → IsDeclared (schema_of self.now.pool) (a_message self.now.kind) self.now.limits.depth b n → IsDeclared (schema_of self.now.pool) (a_message self.now.kind) self.now.limits.depth b k → n ≡ k }
         ensures closed { self.now.reading ≡ None → result ≡ 0 }
     {
         match &self.reading {

@@ -9,7 +9,7 @@ ghost use Rattle.pb_decode.specs.declared.error.DecodeError.TheVariants.{Memory}
 ghost use Rattle.pb_decode.specs.PartView.{part_view, scope_view};
 ghost use Rattle.pb_decode.specs.Occurrences.{counts_view};
 
-use crate::error::DecodeError;
+use crate::error::{DecodeError, memory_alone};
 use crate::part::{Part, Scope, Slot};
 use pb_schema::{MessageId, Pool};
 use pb_value::{Body, Content, Value, push_element, store};
@@ -31,12 +31,10 @@ fn put_in_message(
     match slot {
         Slot::One(shape, number) => {
             let content = Content::One(Value::Message(message));
-            store(pool, kind, body, shape, number, content)?;
-            Ok(())
+            store(pool, kind, body, shape, number, content).map_err(memory_alone)
         }
         Slot::List(number) => {
-            push_element(alloc, body, number, Value::Message(message))?;
-            Ok(())
+            push_element(alloc, body, number, Value::Message(message)).map_err(memory_alone)
         }
         Slot::Map(_) | Slot::Entry | Slot::Unknown(_) => Ok(()),
     }

@@ -8,7 +8,7 @@ ghost use Rattle.pb_decode.specs.declared.error.DecodeError.TheVariants.{Memory}
 ghost use Rattle.pb_decode.specs.Run.{put_each};
 ghost use Rattle.pb_decode.specs.PartView.{part_view};
 
-use crate::error::DecodeError;
+use crate::error::{DecodeError, memory_alone};
 use crate::part::Part;
 use pb_value::{Body, Content, Value, push_element, put_field};
 use std::alloc::Global;
@@ -24,7 +24,7 @@ fn push_all(
     ensures memory { IfErr result (λ e. e ≡ Memory) }
 {
     for value in values {
-        push_element(alloc, message, number, value)?;
+        push_element(alloc, message, number, value).map_err(memory_alone)?;
     }
     Ok(())
 }
@@ -46,8 +46,10 @@ fn store_all(
     if values.is_empty() {
         return Ok(());
     }
-    put_field(message, number, Content::List(values))?;
-    Ok(())
+    match put_field(message, number, Content::List(values)) {
+        Ok(()) => Ok(()),
+        Err(cause) => Err(memory_alone(cause)),
+    }
 }
 
 /// Puts values at the end of the list of a number in the part that its record stands in.

@@ -9,7 +9,7 @@ ghost use Rattle.pb_decode.specs.declared.error.DecodeError.TheVariants.{Memory}
 ghost use Rattle.pb_decode.specs.PartView.{part_view};
 ghost use Rattle.pb_decode.specs.Numbers.{key_in, put_datum};
 
-use crate::error::DecodeError;
+use crate::error::{DecodeError, memory_alone};
 use crate::part::Part;
 use crate::purpose::Purpose;
 use pb_schema::{MessageId, Pool};
@@ -51,13 +51,9 @@ fn put_in_message(
 {
     match purpose {
         Purpose::One(_, shape) => {
-            store(pool, kind, body, shape, number, Content::One(value))?;
-            Ok(())
+            store(pool, kind, body, shape, number, Content::One(value)).map_err(memory_alone)
         }
-        Purpose::Element(_) => {
-            push_element(alloc, body, number, value)?;
-            Ok(())
-        }
+        Purpose::Element(_) => { push_element(alloc, body, number, value).map_err(memory_alone) }
         Purpose::Packed(_)
         | Purpose::Message(_, _)
         | Purpose::Entry(_, _)

@@ -1,6 +1,7 @@
 //! Devices over bytes in memory. They move at most a given number of bytes a call, and can fail at a given call.
 
-ghost use Rattle.std.specs.Prelude.{◌≡◌, ◌≢◌, ◌<◌, ◌≤◌, ◌++◌, ◌↔◌, [], Some, None, true, false, is_none, length, take, drop, min, IsOk, IsErr, IfOk, OnOk, OnErr};
+ghost use Rattle.std.specs.Prelude.{◌≡◌, ◌≢◌, ◌<◌, ◌≤◌, ◌++◌, ◌↔◌, [], length, take, drop, min};
+ghost use Rattle.std.specs.Prelude.{Some, None, true, false, is_none, IsOk, IsErr, IfOk, OnOk, OnErr};
 ghost use Rattle.std.specs.Io.KnownBytes.{ReadConsumes, WriteAppends};
 ghost use Rattle.pb_wire.specs.Plan.{after_call};
 

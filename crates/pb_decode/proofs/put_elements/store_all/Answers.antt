@@ -14,9 +14,9 @@ returns-then-is_empty-clause-put c =
     let none : length c.args.values.items ≡ 0 = omega (arith, empty) in
     nothing_stored c.args.number _ (body_view c.args.message.now) (no_values c.args.values.items none)
 
-pub returns-clause-put : goal.returns-clause-put
-returns-clause-put c =
+pub returns-in-Ok-clause-put : goal.returns-in-Ok-clause-put
+returns-in-Ok-clause-put c =
     let size : vec_len c.args.values ≡ length c.args.values.items = omega arith in
-    c.in_ok-put_field.ensures.ok
+    c.in-Ok.ensures.ok
     ∙ ap (λ (h : Holding). with_fields (body_view c.args.message.now) (put_field c.args.number h (fields_of (body_view c.args.message.now)))) (content_view-List c.args.values)
-    ∙ listed_first c.args.number _ (body_view c.args.message.now) (some_values c.args.values.items (vec_len c.args.values) size c.if-is_empty.ensures) (absent c.args.number c.args.message.now (sym c.if-contains_key.ensures)) c.in_ok-put_field.ensures.rises
+    ∙ listed_first c.args.number _ (body_view c.args.message.now) (some_values c.args.values.items (vec_len c.args.values) size c.if-is_empty.ensures) (absent c.args.number c.args.message.now (sym c.if-contains_key.ensures)) c.in-Ok.ensures.rises
