@@ -1,0 +1,2 @@
+-- for `decode_pieces`: pieces that are received one by one are answered as their joining is
+mod JoinedLemmas
