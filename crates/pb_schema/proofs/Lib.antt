@@ -3,6 +3,8 @@
 pub mod Samples
 -- what payloads, records and lists of records come to, worked out by the definitions
 pub mod Rows
+-- each kind's wire type, whether it may be packed or a map's key, and whether it is of proto2 alone
+mod KindRows
 -- small texts of a message with groups and closed enums, with their faults
 mod FaultRows
 -- for the law of packed lists: the numbers of a packed payload
@@ -12,6 +14,8 @@ pub mod PackedLemmas
 pub mod WordLemmas
 -- for the names of entry messages: such a name is a text where the field's name is
 pub mod EntryNames
+-- parts that break one rule each, of files, indexes, fields and syntax
+mod RuleRows
 -- for the loops that test each element: a step stops at one that fails, and goes on past one that passes
 pub mod Loops
 -- for the walks over imports: what is visited, what waits, and what is marked
