@@ -24,6 +24,8 @@ pub mod JudgeLemmas
 pub mod ViewLemmas
 -- for `read_set`: why the message of a set is refused
 pub mod ReadLemmas
+-- for the law that bytes are one set, or have one fault or first cause
+pub mod OneSet
 -- for files that are written as a set without a cause, as the declarations of a pool are
 pub mod SilentLemmas
 -- small sets with their declarations, bytes and causes, worked out by the rules

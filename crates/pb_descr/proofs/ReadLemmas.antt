@@ -26,7 +26,7 @@ abbrev cause_of : DeclCause → Option (ℕ × DeclCause) → DeclCause
 cause_of c None = c
 cause_of c (Some told) = told.1
 
-same_cause : (i j : ℕ) (c d : DeclCause) (o : Option (ℕ × DeclCause)) → o ≡ Some (i, c) → o ≡ Some (j, d) → (i ≡ j) × (c ≡ d)
+pub same_cause : (i j : ℕ) (c d : DeclCause) (o : Option (ℕ × DeclCause)) → o ≡ Some (i, c) → o ≡ Some (j, d) → (i ≡ j) × (c ≡ d)
 same_cause i j c d o e f = (ap index_of (sym e ∙ f), ap (cause_of c) (sym e ∙ f))
 
 -- one that shows a cause is refused for its first, or for memory

@@ -4,6 +4,7 @@ pub mod Contents
 pub mod Decls
 pub mod ErrorNumber
 pub mod Held
+pub mod One
 pub mod Pool
 pub mod PoolRows
 pub mod Reading

@@ -33,6 +33,16 @@ pub record IsSetOf (limits : Bounds) (b : List ℕ) (files : List DeclaredFile) 
   pub silent : set_causes set ≡ []
   pub declared : files ≡ files_in set
 
+-- what is told of bytes that are no set of declared files: their fault, or the index of a file and its first cause
+pub data SetFault : Type 0 where
+  of_bytes : Fault → SetFault
+  of_file : ℕ → DeclCause → SetFault
+
+-- bytes are no text of a set's message and have this fault, or are that of one whose first cause this is
+abbrev pub HasSetFault : Bounds → List ℕ → SetFault → Type 0
+HasSetFault limits b (SetFault.of_bytes f) = HasFault (schema_of descriptor_types) (a_message the_set) limits b f
+HasSetFault limits b (SetFault.of_file i c) = (set : Message) × IsSetText limits b set × (slice_get (set_causes set) 0 ≡ Some (i, c))
+
 -- bytes are not the text of a set, or are that of one whose first cause is told, or there is no memory
 abbrev pub IsUnread : Bounds → List ℕ → DescrError → Type 0
 IsUnread limits b (descr.Fault byte path cause) = HasFault (schema_of descriptor_types) (a_message the_set) limits b (fault byte path.items cause)

@@ -29,7 +29,7 @@ mod writing;
 pub use cause::DeclCause;
 pub use decl::{EnumDecl, FieldDecl, FileDecl, MessageDecl, MethodDecl, ServiceDecl, TypeCode};
 pub use error::{DescrError, WriteSetError};
-pub use laws::set_back;
+pub use laws::{one_set, set_back};
 pub use pool::descriptor_pool;
 pub use reading::read_set;
 pub use writing::write_set;
