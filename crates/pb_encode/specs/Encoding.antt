@@ -22,8 +22,8 @@ IsCut written failures old new bytes TooLarge = ⊥
 IsCut written failures old new bytes Memory = ⊥
 IsCut written failures old new bytes (Device n) = (failures new ≢ failures old) × (n < length bytes) × Appends (written old) (written new) (take n bytes)
 
--- the device is as before and the call was refused without it, or the device failed
+-- the device is as before, and the bytes are too many or there was no memory; or they are not too many, and the device failed
 abbrev pub IsUnsent : {D : Type 0} → (D → Option (List ℕ)) → (D → ℕ) → D → D → List ℕ → EncodeError → Type 0
 IsUnsent written failures old new bytes TooLarge = (old ≡ new) × (2 ^ 31 ≤ length bytes)
 IsUnsent written failures old new bytes Memory = old ≡ new
-IsUnsent written failures old new bytes (Device n) = IsCut written failures old new bytes (Device n)
+IsUnsent written failures old new bytes (Device n) = (length bytes < 2 ^ 31) × IsCut written failures old new bytes (Device n)
