@@ -1,9 +1,8 @@
 //! Messages as bytes.
 
-ghost use Rattle.std.specs.Prelude.{◌≡◌, ◌<◌, ◌^◌, ℕ, length, IfOk, IfErr, OnOk};
+ghost use Rattle.std.specs.Prelude.{◌≡◌, ◌<◌, ◌^◌, length, IfOk, IfErr, OnOk};
 ghost use Rattle.std.specs.Io.KnownBytes.{Appends};
 ghost use Rattle.pb_encode.specs.Encoding.{bytes_of, IsRefused, IsUnsent};
-ghost use Rattle.pb_encode.specs.declared.error.EncodeError.TheVariants.{Device};
 
 use crate::error::EncodeError;
 use crate::plan::Plan;
@@ -32,9 +31,6 @@ pub fn encode_to<O: Output>(message: &DynamicMessage, output: &mut O) -> Result<
     ensures kept { OnOk result (O.failures output.new ≡ O.failures output.old) }
     ensures fits { OnOk result (length (bytes_of message.now) < 2 ^ 31) }
     ensures refused { IfErr result (IsUnsent O.written O.failures output.old output.new (bytes_of message.now)) }
-
-    // A device is asked for nothing of bytes that are too many, so its failure is told only of those that fit.
-    ensures sized { IfErr result (λ e. (n : ℕ) → e ≡ Device n → length (bytes_of message.now) < 2 ^ 31) }
 {
     let plan = Plan::new(message)?;
     plan.write_to(output)
