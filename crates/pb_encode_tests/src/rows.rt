@@ -111,14 +111,20 @@ fn is_told(
     Ok(is_written(alloc, message, &bytes, entries)? && is_cut_at_each_byte(alloc, message, &bytes))
 }
 
-/// Whether a row's message is written as the row says.
-fn is_encoded(alloc: Global, pool: &Pool, row: &str) -> Result<bool, Fail> {
+/// The type, the fields, the number of entries and the bytes of a row.
+fn parts_of(row: &str) -> Result<(&str, &str, usize, &str), Fail> {
     let (name, row) = row.split_once('|').ok_or("no type")?;
     let (fields, row) = row.split_once('|').ok_or("no fields")?;
     let (entries, text) = row.split_once('|').ok_or("no entries")?;
     let entries = entries.trim().parse::<usize>()?;
-    let message = message_of(alloc, pool, name.trim(), fields)?;
-    is_told(alloc, &message, text.trim(), entries)
+    Ok((name.trim(), fields, entries, text.trim()))
+}
+
+/// Whether a row's message is written as the row says.
+fn is_encoded(alloc: Global, pool: &Pool, row: &str) -> Result<bool, Fail> {
+    let (name, fields, entries, text) = parts_of(row)?;
+    let message = message_of(alloc, pool, name, fields)?;
+    is_told(alloc, &message, text, entries)
 }
 
 /// The first row that is told otherwise, or none.
@@ -205,34 +211,35 @@ fn long_texts(rt: HostRuntime) -> Result<(), Fail> {
     Ok(())
 }
 
-/// A type, its fields, and the bytes of that message.
-type Growth = (&'static str, &'static str, &'static str);
-
-const GROWTH: Growth = (
-    "T",
-    "3:m1=i1 6:[i3,i4] 9:{tk=i7} 12:{u3=m}",
-    "1a020801320203044a050a016b1007620408031200",
-);
-
-const CLOSED_GROWTH: Growth = (
-    "Q",
-    "3:n2 5:[e1,e2] 5?v7 16:[m1=i5,m]",
-    "1b1a021b1c1c2a020102830108058401830184012807",
-);
-
-fn is_grown(alloc: Global, message: &DynamicMessage<'_>, text: &str) -> Result<bool, Fail> {
+/// Whether a message is written so where no growth of memory is refused.
+fn is_grown(
+    alloc: Global,
+    message: &DynamicMessage<'_>,
+    text: &str,
+    entries: usize,
+) -> Result<bool, Fail> {
     let bytes = hex::decode(alloc, text)?;
-    Ok(is_written_or_memory(alloc, message, &bytes))
+    Ok(is_written_or_memory(alloc, message, &bytes, entries))
 }
 
-fn is_grown_in(alloc: Global, pool: &Pool, growth: Growth) -> Result<bool, Fail> {
-    let message = message_of(alloc, pool, growth.0, growth.1)?;
-    is_grown(alloc, &message, growth.2)
+fn is_row_grown(alloc: Global, pool: &Pool, row: &str) -> Result<bool, Fail> {
+    let (name, fields, entries, text) = parts_of(row)?;
+    let message = message_of(alloc, pool, name, fields)?;
+    is_grown(alloc, &message, text, entries)
+}
+
+fn are_grown(alloc: Global, pool: &Pool, rows: &str) -> Result<bool, Fail> {
+    for row in rows.lines() {
+        if !row.is_empty() && !is_row_grown(alloc, pool, row)? {
+            return Ok(false);
+        }
+    }
+    Ok(true)
 }
 
 fn are_growths_told(alloc: Global) -> Result<bool, Fail> {
     let pool = pool(alloc)?;
-    Ok(is_grown_in(alloc, &pool, GROWTH)? && is_grown_in(alloc, &pool, CLOSED_GROWTH)?)
+    Ok(are_grown(alloc, &pool, ROWS)? && are_grown(alloc, &pool, CLOSED)?)
 }
 
 /// What the calls answer where a growth of memory is refused, which `.ci/growths` does.

@@ -91,12 +91,26 @@ pub(crate) fn is_cut(alloc: Global, message: &DynamicMessage<'_>, bytes: &[u8], 
     true
 }
 
+/// Whether a plan, with the write of this byte refused, sends just the bytes before it.
+fn is_plan_cut_at(
+    alloc: Global,
+    message: &DynamicMessage<'_>,
+    bytes: &[u8],
+    end: usize,
+) -> Result<bool, EncodeError> {
+    let written = end as u64;
+    let mut output = MemOutput::new(alloc, 1, failing_after(written));
+    let is_told = plan(message)?.write_to(&mut output) == Err(EncodeError::Device { written });
+    Ok(is_told && Some(output.bytes()) == bytes.get(..end))
+}
+
 /// Whether, with the write of this byte refused, just the bytes before it went out.
 fn is_cut_at(alloc: Global, message: &DynamicMessage<'_>, bytes: &[u8], end: usize) -> bool {
     let written = end as u64;
     let mut output = MemOutput::new(alloc, 1, failing_after(written));
     encode_to(message, &mut output) == Err(EncodeError::Device { written })
         && Some(output.bytes()) == bytes.get(..end)
+        && is_plan_cut_at(alloc, message, bytes, end) == Ok(true)
 }
 
 /// Whether, with each write of one byte refused in turn, just the bytes before it went out.
@@ -131,14 +145,28 @@ fn is_sent_or_memory(alloc: Global, message: &DynamicMessage<'_>, bytes: &[u8]) 
     }
 }
 
+fn is_planned_or_memory(
+    alloc: Global,
+    message: &DynamicMessage<'_>,
+    bytes: &[u8],
+    entries: usize,
+) -> bool {
+    match is_planned(alloc, message, bytes, entries) {
+        Ok(is_right) => is_right,
+        Err(error) => error != EncodeError::TooLarge,
+    }
+}
+
 /// Whether each call gives the bytes, or fails for want of memory with nothing more written than it tells.
 pub(crate) fn is_written_or_memory(
     alloc: Global,
     message: &DynamicMessage<'_>,
     bytes: &[u8],
+    entries: usize,
 ) -> bool {
     is_encoded_or_memory(message, bytes)
         && is_sent_or_memory(alloc, message, bytes)
+        && is_planned_or_memory(alloc, message, bytes, entries)
         && encoded_len(message) == bytes.len() as u128
 }
 
