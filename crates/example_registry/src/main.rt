@@ -74,7 +74,6 @@ fn kind_text(alloc: Global, pool: &Pool, id: MessageId, number: u32) -> Result<S
     Ok(format!(in alloc; "map of {key:?} to {kind}")?)
 }
 
-// A full name is ASCII.
 fn text(name: &[u8]) -> &str {
-    str::from_utf8(name).unwrap_or("")
+    str::from_utf8(name).unwrap_or("") // a full name is ASCII
 }
