@@ -2,46 +2,31 @@
 //! canonical bytes. Prints the date before and after, and the bytes in hexadecimal.
 //!
 //! A program names the crates that it uses on a line of crates.txt. This one's is
-//! `example_edit: pb_encode pb_decode pb_value pb_link pb_descr pb_schema pb_wire hex thiserror`.
+//! `example_edit: pb_encode pb_decode pb_value pb_link pb_descr pb_schema pb_wire anyhow hex`.
 #![tactic(auto)]
 
 ghost use Rattle.std.specs.Prelude.{◌≡◌, OnErr, OnOk};
 ghost use Rattle.example_edit.specs.Dated.{dated};
 
-use pb_decode::{DecodeError, decode};
-use pb_descr::{DescrError, read_set};
-use pb_encode::{EncodeError, encode};
-use pb_link::{LinkError, link};
+use anyhow::{Context, Result};
+use pb_decode::decode;
+use pb_descr::read_set;
+use pb_encode::encode;
+use pb_link::link;
 use pb_schema::Pool;
-use pb_value::{Content, DynamicMessage, Value, ValueError};
+use pb_value::{Content, DynamicMessage, Value};
 use pb_wire::Limits;
-use std::alloc::{AllocError, Global};
-use std::{fs, io};
-use thiserror::Error;
-
-/// Why no order was written. Each call of the library has its own error type, which `?` turns into this one.
-#[derive(Debug, Drop, Error)]
-#[error("{0}")]
-enum EditError {
-    File(#[from] io::Error),
-    Set(#[from] DescrError),
-    Types(#[from] LinkError),
-    #[error("the set has no type shop.Order")]
-    NoType,
-    Decoding(#[from] DecodeError),
-    Change(#[from] ValueError),
-    Encoding(#[from] EncodeError),
-    Memory(#[from] AllocError),
-}
+use std::alloc::Global;
+use std::fs;
 
 /// The number of the field `placed_on` of shop.Order.
 const PLACED_ON: u32 = 2;
 
-fn main(rt: HostRuntime) -> Result<(), EditError> {
+fn main(rt: HostRuntime) -> Result<()> {
     // The allocator: what takes memory is passed it, and answers an error where there is no memory.
     let alloc = rt.alloc();
-    let set = fs::read(&rt, "shop.set")?;
-    let bytes = fs::read(&rt, "shop_order.bin")?;
+    let set = fs::read(&rt, "shop.set").context("shop.set")?;
+    let bytes = fs::read(&rt, "shop_order.bin").context("shop_order.bin")?;
     // The pool owns the types. Messages borrow it, so it is made here and lent to what makes messages.
     let pool = read_pool(alloc, &set)?;
     let changed = change(&rt, alloc, &pool, &bytes)?;
@@ -51,17 +36,17 @@ fn main(rt: HostRuntime) -> Result<(), EditError> {
 }
 
 /// The types of a descriptor set, as `protoc --descriptor_set_out` or `pbtool compile` writes one.
-fn read_pool(alloc: Global, set: &[u8]) -> Result<Pool, EditError> {
+fn read_pool(alloc: Global, set: &[u8]) -> Result<Pool> {
     let files = read_set(alloc, set)?;
     let pool = link(alloc, &files)?;
     Ok(pool)
 }
 
 /// The canonical bytes of an order with another date.
-fn change(rt: &impl Print, alloc: Global, pool: &Pool, bytes: &[u8]) -> Result<Vec<u8>, EditError> {
-    let Some(kind) = pool.message_by_name("shop.Order") else {
-        return Err(EditError::NoType);
-    };
+fn change(rt: &impl Print, alloc: Global, pool: &Pool, bytes: &[u8]) -> Result<Vec<u8>> {
+    let kind = pool
+        .message_by_name("shop.Order")
+        .context("the set has no type shop.Order")?;
     let mut order = decode(alloc, pool, kind, bytes, Limits::FULL)?;
     let before = placed_on(&order);
     println!(rt; "placed_on was {before}")?;
@@ -73,7 +58,7 @@ fn change(rt: &impl Print, alloc: Global, pool: &Pool, bytes: &[u8]) -> Result<V
 }
 
 /// Sets the date of an order.
-fn place_on(alloc: Global, order: &mut DynamicMessage<'_>, date: &str) -> Result<(), EditError>
+fn place_on(alloc: Global, order: &mut DynamicMessage<'_>, date: &str) -> Result<()>
     ensures dated { OnOk result (order.new ≡ dated date.now order.old) }
     ensures kept { OnErr result (order.new ≡ order.old) }
 {
