@@ -22,18 +22,18 @@ def copy_tree(room):
     subprocess.run(["tar", "-C", room, "-xf", "-"], stdin=packed.stdout, check=True)
 
 
-def edits_of(name, gate):
-    """The edits of a crate, of the gate too where gate is true."""
-    folders = [f"{TOP}/crates/{name}/must-fail"] * gate + [f"{EDITS}/{name}"]
+def edits_of(name, gate, beside):
+    """The edits of a crate: of the folder beside the gate, and of the gate too where gate is true."""
+    folders = [f"{TOP}/crates/{name}/must-fail"] * gate + [f"{beside}/{name}"]
     return [f"{folder}/{it}" for folder in folders if os.path.isdir(folder) for it in sorted(os.listdir(folder)) if it.endswith(".edit")]
 
 
-def chosen(words, gate):
+def chosen(words, gate, beside=EDITS):
     """The edits that words choose, by their crate: NAME chooses those of a crate, NAME/EDIT one of them or of the gate, and no word all."""
     found = {}
     for word in words or sorted(os.listdir(f"{TOP}/crates")):
         name, _, edit = word.partition("/")
-        edits = [it for it in edits_of(name, gate or edit != "") if edit in ("", os.path.basename(it), os.path.basename(it).removesuffix(".edit"))]
+        edits = [it for it in edits_of(name, gate or edit != "", beside) if edit in ("", os.path.basename(it), os.path.basename(it).removesuffix(".edit"))]
         if words and not edits:
             sys.exit(f"{word}: no such edit")
         if edits:
