@@ -136,7 +136,9 @@ impl<'p> PushDecoder<'p> {
         ensures held { (b : List ℕ) → After self.now b → IsPending (schema_of self.now.pool) (a_message self.now.kind) self.now.limits.depth b result }
         ensures one { (b : List ℕ) (n : ℕ) → After self.now b → IsPending (schema_of self.now.pool) (a_message self.now.kind) self.now.limits.depth b n → n ≡ result }
         ensures bound { (b : List ℕ) → After self.now b → (n : ℕ) × IsDeclared (schema_of self.now.pool) (a_message self.now.kind) self.now.limits.depth b n × (result ≤ max 10 n) }
-        ensures one_bound { (b : List ℕ) (n k : ℕ) → IsDeclared (schema_of self.now.pool) (a_message self.now.kind) self.now.limits.depth b n → IsDeclared (schema_of self.now.pool) (a_message self.now.kind) self.now.limits.depth b k → n ≡ k }
+        ensures one_bound { (b : List ℕ) (n k : ℕ)
+            → IsDeclared (schema_of self.now.pool) (a_message self.now.kind) self.now.limits.depth b n
+            → IsDeclared (schema_of self.now.pool) (a_message self.now.kind) self.now.limits.depth b k → n ≡ k }
         ensures closed { self.now.reading ≡ None → result ≡ 0 }
     {
         match &self.reading {
