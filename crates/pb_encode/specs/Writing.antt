@@ -3,5 +3,7 @@ use Rattle.std.specs.Prelude.{◌≡◌, ℕ, List, ◌++◌, drop, false, Optio
 use Rattle.pb_encode.specs.Sink.{Buffered, Puts}
 
 -- the next place has the rest of the table, unless the device failed
-pub record Writes {D : Type 0} (written : D → Option (List ℕ)) (failures : D → ℕ) (old new : D) (a b : Buffered) (table : List ℕ) (at next : ℕ) (inside bytes : List ℕ) : Type 0 where
+pub record Writes
+    {D : Type 0} (written : D → Option (List ℕ)) (failures : D → ℕ) (old new : D) (a b : Buffered) (table : List ℕ) (at next : ℕ) (inside bytes : List ℕ) :
+    Type 0 where
   pub follows : (more : List ℕ) → drop at table ≡ inside ++ more → Puts written failures old new a b bytes × (b.failed ≡ false → drop next table ≡ more)

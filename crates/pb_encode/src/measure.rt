@@ -6,10 +6,12 @@ ghost use Rattle.pb_wire.specs.Spell.{shortest_record, shortest_records};
 ghost use Rattle.pb_schema.specs.Types.{Types, message_fields, field_numbered};
 ghost use Rattle.pb_schema.specs.View.{field_view};
 ghost use Rattle.pb_schema.specs.Rules.{IsPool, NamesType};
-ghost use Rattle.pb_value.specs.Canon.{payload_of, canon_bytes, canon_each, canon_entries, canon_holding, canon_fields, packed_bytes, key_kind, is_packed, record_of, sealed};
+ghost use Rattle.pb_value.specs.Canon.{payload_of, canon_bytes, canon_each, canon_entries, canon_holding, canon_fields, packed_bytes};
+ghost use Rattle.pb_value.specs.Canon.{key_kind, is_packed, record_of, sealed};
 ghost use Rattle.pb_value.specs.RoundTrip.{CanonIsText, CanonIsTextOfOne};
 ghost use Rattle.pb_value.specs.View.{key_view, value_view, values_view, entries_view, content_view, fields_view, body_view};
-ghost use Rattle.pb_encode.specs.Sizes.{capped, entry_records, lengths_in_message, lengths_in_datum, lengths_in_each, lengths_in_entries, lengths_in_holding, lengths_in_fields};
+ghost use Rattle.pb_encode.specs.Sizes.{capped, entry_records, lengths_in_message, lengths_in_datum, lengths_in_each, lengths_in_entries};
+ghost use Rattle.pb_encode.specs.Sizes.{lengths_in_holding, lengths_in_fields};
 ghost use Rattle.pb_encode.specs.Measure.{Measures};
 ghost use Rattle.pb_encode.specs.Encoding.{bytes_of};
 
@@ -30,7 +32,8 @@ pub(crate) fn message_len(
     lengths: &mut Lengths,
 ) -> Result<u128, AllocError>
     requires { kind.0 < length pool.now.messages }
-    ensures { Measures lengths.old lengths.new result (lengths_in_message pool.now kind.0 (body_view body.now)) (length (canon_bytes pool.now kind.0 (body_view body.now))) }
+    ensures { Measures lengths.old lengths.new result (lengths_in_message pool.now kind.0 (body_view body.now))
+        (length (canon_bytes pool.now kind.0 (body_view body.now))) }
 {
     let known = fields_len(pool, kind, &body.fields, lengths)?;
     Ok(known.saturating_add(unknowns_len(&body.unknown)))
@@ -44,7 +47,9 @@ fn fields_len(
     lengths: &mut Lengths,
 ) -> Result<u128, AllocError>
     requires { kind.0 < length pool.now.messages }
-    ensures { let all = message_fields pool.now kind.0 in let fs = fields_view fields.now.entries in Measures lengths.old lengths.new result (lengths_in_fields pool.now all fs) (length (shortest_records (canon_fields pool.now all fs))) }
+    ensures { let all = message_fields pool.now kind.0 in let fs = fields_view fields.now.entries in
+        Measures lengths.old lengths.new result (lengths_in_fields pool.now all fs)
+        (length (shortest_records (canon_fields pool.now all fs))) }
 {
     let mut total = 0u128;
     for (number, content) in fields {
@@ -64,7 +69,9 @@ fn content_len(
     lengths: &mut Lengths,
 ) -> Result<u128, AllocError>
     requires { NamesType (length pool.now.messages) (length pool.now.enums) field.now.kind }
-    ensures { let f = field_view field.now in let h = content_view content.now in Measures lengths.old lengths.new result (lengths_in_holding pool.now f h) (length (shortest_records (canon_holding pool.now f h))) }
+    ensures { let f = field_view field.now in let h = content_view content.now in
+        Measures lengths.old lengths.new result (lengths_in_holding pool.now f h)
+        (length (shortest_records (canon_holding pool.now f h))) }
 {
     match content {
         Content::One(value) => value_len(pool, field.number, field.kind, value, lengths),
@@ -89,7 +96,9 @@ fn value_len(
     lengths: &mut Lengths,
 ) -> Result<u128, AllocError>
     requires { NamesType (length pool.now.messages) (length pool.now.enums) kind }
-    ensures { let d = value_view value.now in Measures lengths.old lengths.new result (lengths_in_datum pool.now kind d) (length (shortest_record number (payload_of pool.now kind d))) }
+    ensures { let d = value_view value.now in
+        Measures lengths.old lengths.new result (lengths_in_datum pool.now kind d)
+        (length (shortest_record number (payload_of pool.now kind d))) }
 {
     match value {
         Value::Message(body) => match kind {
@@ -117,7 +126,9 @@ fn values_len(
     lengths: &mut Lengths,
 ) -> Result<u128, AllocError>
     requires { NamesType (length pool.now.messages) (length pool.now.enums) field.now.kind }
-    ensures { let f = field_view field.now in let ds = values_view values.now.items in Measures lengths.old lengths.new result (lengths_in_each pool.now f.kind ds) (length (shortest_records (canon_each pool.now f ds))) }
+    ensures { let f = field_view field.now in let ds = values_view values.now.items in
+        Measures lengths.old lengths.new result (lengths_in_each pool.now f.kind ds)
+        (length (shortest_records (canon_each pool.now f ds))) }
 {
     let mut total = 0u128;
     for value in values {
@@ -134,7 +145,9 @@ fn entries_len(
     lengths: &mut Lengths,
 ) -> Result<u128, AllocError>
     requires { NamesType (length pool.now.messages) (length pool.now.enums) field.now.kind }
-    ensures { let f = field_view field.now in let es = entries_view entries.now.entries in Measures lengths.old lengths.new result (lengths_in_entries pool.now f es) (length (shortest_records (canon_entries pool.now f es))) }
+    ensures { let f = field_view field.now in let es = entries_view entries.now.entries in
+        Measures lengths.old lengths.new result (lengths_in_entries pool.now f es)
+        (length (shortest_records (canon_entries pool.now f es))) }
 {
     let mut total = 0u128;
     for (key, value) in entries {
@@ -153,7 +166,9 @@ fn entry_len(
     lengths: &mut Lengths,
 ) -> Result<u128, AllocError>
     requires { NamesType (length pool.now.messages) (length pool.now.enums) field.now.kind }
-    ensures { let f = field_view field.now in let rs = entry_records pool.now (key_kind f.shape f.kind) f.kind (key_view key.now) (value_view value.now) in Measures lengths.old lengths.new result (length (shortest_records rs) ∷ lengths_in_datum pool.now f.kind (value_view value.now)) (length (shortest_record f.number (sealed rs))) }
+    ensures { let f = field_view field.now in let rs = entry_records pool.now (key_kind f.shape f.kind) f.kind (key_view key.now) (value_view value.now) in
+        Measures lengths.old lengths.new result (length (shortest_records rs) ∷ lengths_in_datum pool.now f.kind (value_view value.now))
+        (length (shortest_record f.number (sealed rs))) }
 {
     let at = lengths.open()?;
     let first = record_len(1, key_payload(key_kind(field.shape, field.kind), key));
@@ -170,7 +185,9 @@ fn packed_len(
     values: &Vec<Value>,
     lengths: &mut Lengths,
 ) -> Result<u128, AllocError>
-    ensures { let s = packed_bytes kind (values_view values.now.items) in Measures lengths.old lengths.new result (length s ∷ []) (length (shortest_record number (len s))) }
+    ensures { let s = packed_bytes kind (values_view values.now.items) in
+        Measures lengths.old lengths.new result (length s ∷ [])
+        (length (shortest_record number (len s))) }
 {
     let at = lengths.open()?;
     let size = elements_len(kind, values);

@@ -9,7 +9,8 @@ ghost use Rattle.pb_schema.specs.View.{field_view};
 ghost use Rattle.pb_schema.specs.Rules.{NamesType};
 ghost use Rattle.pb_value.specs.Canon.{payload_of, canon_bytes, canon_each, canon_entries, canon_holding, canon_fields, packed_bytes, key_kind, sealed};
 ghost use Rattle.pb_value.specs.View.{key_view, value_view, values_view, entries_view, content_view, fields_view, body_view};
-ghost use Rattle.pb_encode.specs.Sizes.{entry_records, lengths_in_message, lengths_in_datum, lengths_in_each, lengths_in_entries, lengths_in_holding, lengths_in_fields};
+ghost use Rattle.pb_encode.specs.Sizes.{entry_records, lengths_in_message, lengths_in_datum, lengths_in_each, lengths_in_entries};
+ghost use Rattle.pb_encode.specs.Sizes.{lengths_in_holding, lengths_in_fields};
 ghost use Rattle.pb_encode.specs.Writing.{Writes};
 
 use crate::measure::{field_at, is_packed};
@@ -44,7 +45,8 @@ pub(crate) fn write_message<O: Output>(
     at: usize,
 ) -> usize
     requires { kind.0 < length pool.now.messages }
-    ensures { Writes O.written O.failures out.old out.new sink.old sink.new lengths.now at result (lengths_in_message pool.now kind.0 (body_view body.now)) (canon_bytes pool.now kind.0 (body_view body.now)) }
+    ensures { Writes O.written O.failures out.old out.new sink.old sink.new lengths.now at result
+        (lengths_in_message pool.now kind.0 (body_view body.now)) (canon_bytes pool.now kind.0 (body_view body.now)) }
 {
     let next = write_fields(sink, out, pool, kind, &body.fields, lengths, at);
     if sink.has_failed() {
@@ -65,7 +67,9 @@ fn write_fields<O: Output>(
     at: usize,
 ) -> usize
     requires { kind.0 < length pool.now.messages }
-    ensures { let all = message_fields pool.now kind.0 in let fs = fields_view fields.now.entries in Writes O.written O.failures out.old out.new sink.old sink.new lengths.now at result (lengths_in_fields pool.now all fs) (shortest_records (canon_fields pool.now all fs)) }
+    ensures { let all = message_fields pool.now kind.0 in let fs = fields_view fields.now.entries in
+        Writes O.written O.failures out.old out.new sink.old sink.new lengths.now at result
+        (lengths_in_fields pool.now all fs) (shortest_records (canon_fields pool.now all fs)) }
 {
     let mut next = at;
     for (number, content) in fields {
@@ -90,7 +94,9 @@ fn write_content<O: Output>(
     at: usize,
 ) -> usize
     requires { NamesType (length pool.now.messages) (length pool.now.enums) field.now.kind }
-    ensures { let f = field_view field.now in let h = content_view content.now in Writes O.written O.failures out.old out.new sink.old sink.new lengths.now at result (lengths_in_holding pool.now f h) (shortest_records (canon_holding pool.now f h)) }
+    ensures { let f = field_view field.now in let h = content_view content.now in
+        Writes O.written O.failures out.old out.new sink.old sink.new lengths.now at result
+        (lengths_in_holding pool.now f h) (shortest_records (canon_holding pool.now f h)) }
 {
     match content {
         Content::One(value) => {
@@ -134,7 +140,9 @@ fn write_value<O: Output>(
     at: usize,
 ) -> usize
     requires { NamesType (length pool.now.messages) (length pool.now.enums) kind }
-    ensures { let d = value_view value.now in Writes O.written O.failures out.old out.new sink.old sink.new lengths.now at result (lengths_in_datum pool.now kind d) (shortest_record number (payload_of pool.now kind d)) }
+    ensures { let d = value_view value.now in
+        Writes O.written O.failures out.old out.new sink.old sink.new lengths.now at result
+        (lengths_in_datum pool.now kind d) (shortest_record number (payload_of pool.now kind d)) }
 {
     match value {
         Value::Message(body) => match kind {
@@ -176,7 +184,9 @@ fn write_values<O: Output>(
     at: usize,
 ) -> usize
     requires { NamesType (length pool.now.messages) (length pool.now.enums) field.now.kind }
-    ensures { let f = field_view field.now in let ds = values_view values.now.items in Writes O.written O.failures out.old out.new sink.old sink.new lengths.now at result (lengths_in_each pool.now f.kind ds) (shortest_records (canon_each pool.now f ds)) }
+    ensures { let f = field_view field.now in let ds = values_view values.now.items in
+        Writes O.written O.failures out.old out.new sink.old sink.new lengths.now at result
+        (lengths_in_each pool.now f.kind ds) (shortest_records (canon_each pool.now f ds)) }
 {
     let mut next = at;
     for value in values {
@@ -208,7 +218,9 @@ fn write_entries<O: Output>(
     at: usize,
 ) -> usize
     requires { NamesType (length pool.now.messages) (length pool.now.enums) field.now.kind }
-    ensures { let f = field_view field.now in let es = entries_view entries.now.entries in Writes O.written O.failures out.old out.new sink.old sink.new lengths.now at result (lengths_in_entries pool.now f es) (shortest_records (canon_entries pool.now f es)) }
+    ensures { let f = field_view field.now in let es = entries_view entries.now.entries in
+        Writes O.written O.failures out.old out.new sink.old sink.new lengths.now at result
+        (lengths_in_entries pool.now f es) (shortest_records (canon_entries pool.now f es)) }
 {
     let mut next = at;
     for (key, value) in entries {
@@ -232,7 +244,9 @@ fn write_entry<O: Output>(
     at: usize,
 ) -> usize
     requires { NamesType (length pool.now.messages) (length pool.now.enums) field.now.kind }
-    ensures { let f = field_view field.now in let rs = entry_records pool.now (key_kind f.shape f.kind) f.kind (key_view key.now) (value_view value.now) in Writes O.written O.failures out.old out.new sink.old sink.new lengths.now at result (length (shortest_records rs) ∷ lengths_in_datum pool.now f.kind (value_view value.now)) (shortest_record f.number (sealed rs)) }
+    ensures { let f = field_view field.now in let rs = entry_records pool.now (key_kind f.shape f.kind) f.kind (key_view key.now) (value_view value.now) in
+        Writes O.written O.failures out.old out.new sink.old sink.new lengths.now at result
+        (length (shortest_records rs) ∷ lengths_in_datum pool.now f.kind (value_view value.now)) (shortest_record f.number (sealed rs)) }
 {
     let (size, inside) = next_length(lengths, at);
     put_prefix(sink, out, field.number, u64::from(size));
@@ -255,7 +269,9 @@ fn write_packed<O: Output>(
     lengths: &[u32],
     at: usize,
 ) -> usize
-    ensures { let s = packed_bytes kind (values_view values.now.items) in Writes O.written O.failures out.old out.new sink.old sink.new lengths.now at result (length s ∷ []) (shortest_record number (len s)) }
+    ensures { let s = packed_bytes kind (values_view values.now.items) in
+        Writes O.written O.failures out.old out.new sink.old sink.new lengths.now at result
+        (length s ∷ []) (shortest_record number (len s)) }
 {
     let (size, next) = next_length(lengths, at);
     put_prefix(sink, out, number, u64::from(size));

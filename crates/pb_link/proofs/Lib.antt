@@ -22,6 +22,8 @@ pub mod WalkLemmas
 pub mod BehindLemmas
 -- for `link`: it answers what the walk tells
 pub mod LinkLemmas
+-- for the law that files make one pool, or have one fault
+pub mod OnePool
 -- for types by their declarations: they are those of declared messages and enums
 pub mod TypeLemmas
 -- for the row's order: declarations nest, and no file stands in one

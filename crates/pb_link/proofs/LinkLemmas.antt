@@ -78,10 +78,10 @@ told_refused files w p c d f (Fault file name cause) world told there in_file te
 }
 
 -- a fault of these files names what stands where the walk told one
-abbrev SameFault : List DeclaredFile → List ℕ → List ℕ → LinkCause → DeclaredFile → Declaration → LinkCause → Type 0
+abbrev pub SameFault : List DeclaredFile → List ℕ → List ℕ → LinkCause → DeclaredFile → Declaration → LinkCause → Type 0
 SameFault files file name e f d c = (f.name ≡ file) × (full_name d ≡ name) × (c ≡ e)
 
-same_fault : (files : List DeclaredFile) (w : World) (p : ℕ) (c e : LinkCause) (d : Declaration) (f : DeclaredFile) (file name : List ℕ) → IsWorldOf files w → first_fault w 0 w.declared ≡ Some (p, c) → slice_get w.declared p ≡ Some d → slice_get files d.file ≡ Some f → LinkFault files file name e → SameFault files file name e f d c
+pub same_fault : (files : List DeclaredFile) (w : World) (p : ℕ) (c e : LinkCause) (d : Declaration) (f : DeclaredFile) (file name : List ℕ) → IsWorldOf files w → first_fault w 0 w.declared ≡ Some (p, c) → slice_get w.declared p ≡ Some d → slice_get files d.file ≡ Some f → LinkFault files file name e → SameFault files file name e f d c
 same_fault files w p c e d f file name world told there in_file fault =
     let both = some_same (p, c) (fault.place, e) (sym told ∙ first-told files w world fault.place e (fault.world, fault.is_world, fault.fails_first)) in
     let same_place : p ≡ fault.place = ap (λ q. q.0) both in

@@ -1,5 +1,5 @@
 -- Worked rows, computed.
-use Rattle.std.proofs.Common.{◌≡◌, ℕ, ℤ, pos, List, [], ◌∷◌, Bool, true, false, Some, None, refl}
+use Rattle.std.proofs.Common.{◌≡◌, ℕ, ℤ, pos, List, [], ◌∷◌, Bool, true, false, Some, None, refl, lit<}
 use Rattle.std.specs.Prelude.{codes, ◌==◌, ◌||◌, ◌+◌, ◌++◌}
 use Rattle.pb_descr.specs.declared.decl.TypeCode.TheVariants as code
 use Rattle.pb_descr.specs.Decls.{DeclaredField, message, messages_of, no_messages, DeclaredMethod, DeclaredFile}
@@ -7,6 +7,10 @@ use Rattle.pb_link.specs.declared.cause.LinkCause.TheVariants as cause
 use Rattle.pb_schema.specs.declared.types.Kind.TheVariants as kind
 use Rattle.pb_schema.specs.declared.types.Shape.TheVariants as shape
 use Rattle.pb_schema.specs.Types.{Types}
+use Rattle.pb_schema.specs.Imports.{Reaches, directly, further}
+use Rattle.pb_link.specs.Declarations.{declarations}
+use Rattle.pb_link.specs.Sees.{files_of}
+use Rattle.pb_link.specs.Link.{first_fault}
 use Rattle.pb_link.specs.PoolOf.{pool_of}
 use Rattle.pb_link.specs.ToDecls.{decls_of}
 use Rattle.pb_link.proofs.Samples.{int32, typed, in_message, enum_of, a_set, alone, told, told_by}
@@ -135,6 +139,38 @@ visible_in_a = refl
 
 two_files : told (a_set [] [] ++ a_set [] []) ≡ Some (1, cause.TwoFiles)
 two_files = refl
+
+-- a file that imports one
+abbrev importing : List ℕ → List ℕ → DeclaredFile
+importing name other = record {
+  name = name;
+  package_name = [];
+  imports = other ∷ [];
+  public_indexes = [];
+  messages = no_messages;
+  enums = [];
+  services = [];
+  is_proto2 = false;
+}
+
+missing_import : told (importing (codes "a") (codes "b") ∷ []) ≡ Some (0, cause.MissingImport)
+missing_import = refl
+
+-- an import that is there is the file of that name, wherever it stands
+import_there : told_by (λ i j. true) (importing (codes "a") (codes "m") ∷ a_set [] []) ≡ None
+import_there = refl
+
+-- a: import "b", b: import "a": both reach themselves
+abbrev in_a_circle : List DeclaredFile
+in_a_circle = importing (codes "a") (codes "b") ∷ importing (codes "b") (codes "a") ∷ []
+
+import_cycle : first_fault (record { declared = declarations in_a_circle; sight = record { sees = λ i j. true; is_cyclic = λ i. true }; files = in_a_circle }) 0
+    (declarations in_a_circle) ≡ Some (0, cause.ImportCycle)
+import_cycle = refl
+
+-- and it is so that they do
+first_reaches_itself : Reaches (files_of in_a_circle) 0 0
+first_reaches_itself = further {k = 1} (directly (0, lit< tt, refl)) (0, lit< tt, refl)
 
 abbrev with_optional : List DeclaredFile
 with_optional = a_set (message (record { name = codes "M"; fields = int32 (codes "a") 1 ∷ record { name = codes "b"; number = pos 2; is_repeated = false; type_code = Some code.Int32; type_name = None; packed = None; oneof = Some (pos 0); is_optional = true } ∷ []; enums = []; oneofs = codes "_b" ∷ []; reserved = []; reserved_names = []; is_entry = false }) no_messages ∷ []) []

@@ -30,6 +30,13 @@ pub record LinkFault (files : List DeclaredFile) (in_file_name name : List ℕ) 
   pub in_file : slice_get files declaration.file ≡ Some file
   pub file_named : in_file_name ≡ file.name
 
+-- a fault as it is told: the name of the file, the full name of the declaration, and the cause
+abbrev pub ToldFault : Type 0
+ToldFault = List ℕ × List ℕ × LinkCause
+
+abbrev pub HasLinkFault : List DeclaredFile → ToldFault → Type 0
+HasLinkFault files f = LinkFault files f.0 f.1 f.2
+
 -- the files are refused for their least fault, or for want of memory
 abbrev pub IsUnlinked : List DeclaredFile → LinkError → Type 0
 IsUnlinked files (Fault file name cause) = LinkFault files (string_bytes file) (string_bytes name) cause

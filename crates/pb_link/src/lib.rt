@@ -51,6 +51,6 @@ mod walk;
 pub use cause::LinkCause;
 pub use declaring::{declared_order, declared_pool, to_decls};
 pub use error::LinkError;
-pub use laws::{linked_types, resolved_types};
+pub use laws::{linked_types, one_pool, resolved_types};
 pub use linking::link;
 pub use resolving::resolve;

@@ -19,6 +19,8 @@ pub mod TextPieces
 pub mod OnePiece
 -- and none for a whole source: it has one list of tokens, or one fault
 pub mod OneLexing
+-- every source has tokens or a fault
+pub mod SomeLexing
 -- ---- symbols
 -- for what texts mean, as the code computes it
 pub mod TextMeaning
@@ -26,6 +28,8 @@ pub mod TextMeaning
 pub mod SymbolLemmas
 -- for the rules of symbols, which leave no choice: tokens have one list of them
 pub mod OneReading
+-- and every list of tokens has one
+pub mod SomeReading
 -- ---- the loops of the parser, each turn a step of a reader, and what they put together
 -- for loops up to a closing sign
 pub mod UntilSteps
@@ -80,10 +84,16 @@ pub mod FileLaws
 -- ---- whole sources
 -- for faults: a reader of a language tells exactly those, and reads exactly its words
 pub mod FaultLemmas
+-- for readers that may go further: they answer the same, but where they came to the end of how far they might go
+pub mod Growing
+-- for symbols: they are one file, or have one fault
+pub mod OneFile
 -- for sources: what the reader of files gives on their symbols is their declaration or their fault
 pub mod SourceLaws
 -- for what is made of sources, in the crates above: messages stand in each other at most 65 deep
 pub mod NestLemmas
+-- for the laws that a source is one list of tokens and one file, or has one fault
+pub mod OneSource
 -- for `parse`: what it tells is the declaration, or the fault and no other
 pub mod ParseLemmas
 -- for the statements of a message, with the room that is left for nested messages

@@ -60,7 +60,7 @@ pub record Reads {A : Type 0} (n : ℕ) (extends : Symbol → Bool) (R : Rules �
 
 -- ---- one reader and then another
 
-bind_ok : {A B : Type 0} (o : Outcome A) (f : A → List Symbol → Outcome B) (y : B × List Symbol) → on_outcome o f ≡ Ok y → (v : A) × (mid : List Symbol) × (o ≡ Ok (v, mid)) × (f v mid ≡ Ok y)
+pub bind_ok : {A B : Type 0} (o : Outcome A) (f : A → List Symbol → Outcome B) (y : B × List Symbol) → on_outcome o f ≡ Ok y → (v : A) × (mid : List Symbol) × (o ≡ Ok (v, mid)) × (f v mid ≡ Ok y)
 bind_ok (Ok x) f y h = (x.0, x.1, refl, h)
 bind_ok (Err e) f y h = absurd (cc h)
 
