@@ -1,8 +1,11 @@
 -- Small sources, their tokens and their faults, worked out by the rules.
-use Rattle.std.proofs.Common.{◌≡◌, ℕ, List, [], ◌∷◌, ◌++◌, codes, refl, lit<, inl, inr, false, true}
+use Rattle.std.proofs.Common.{◌≡◌, ℕ, List, [], ◌∷◌, ◌++◌, codes, refl, lit<, lit≤, inl, inr, false, true}
 use Rattle.pb_source.specs.Tokens.{AreTokens, Comment, Escape, FaultHere, LexFault, Lexes, PlacedToken, Spelled, Units, is_closed}
-use Rattle.pb_source.specs.Texts.{escape_len}
-use Rattle.pb_source.specs.declared.fault.Cause.TheVariants.{BadToken, OpenComment, OpenText}
+use Rattle.pb_source.specs.Symbols.{Symbol, AreSymbols}
+use Rattle.pb_source.specs.SyntaxFault.{Fault}
+use Rattle.pb_source.specs.Source.{place_in, HasFault}
+use Rattle.pb_source.specs.Texts.{escape_len, text_meaning}
+use Rattle.pb_source.specs.declared.fault.Cause.TheVariants.{BadToken, OpenComment, OpenText, NotProto3}
 use Rattle.pb_source.specs.declared.token.TokenKind.{TokenKind}
 use Rattle.pb_source.specs.declared.token.TokenKind.TheVariants.{Word, Number, Text, Sign}
 use Rattle.pb_source.proofs.TextLemmas.{no_escape}
@@ -93,6 +96,49 @@ three_octal = refl
 
 no_digit : escape_len (codes "xg") ≡ 0
 no_digit = refl
+
+-- what texts mean: as many digits count as may stand there, an octal number by its low eight bits
+means_line_feed : text_meaning (codes "'a\\nb'") ≡ 97 ∷ 10 ∷ 98 ∷ []
+means_line_feed = refl
+
+means_hexadecimal : text_meaning (codes "'\\x41g'") ≡ codes "Ag"
+means_hexadecimal = refl
+
+means_octal : text_meaning (codes "'\\4567'") ≡ codes ".7"
+means_octal = refl
+
+means_character : text_meaning (codes "'\\u00e9'") ≡ 195 ∷ 169 ∷ []
+unfolding lib.Utf8.encode
+means_character = refl
+
+means_quote : text_meaning (codes "'\\\"\"'") ≡ codes "\"\""
+means_quote = refl
+
+-- ---- symbols
+
+-- "a" 'b' is one text, which stands where its first one does
+joined_texts : AreSymbols (token Text 3 (codes "\"a\"") ∷ token Text 7 (codes "'b'") ∷ []) (record { at = 3; symbol = Symbol.text (codes "ab") } ∷ [])
+unfolding token
+joined_texts =
+    AreSymbols.texts (token Text 7 (codes "'b'") ∷ []) [] (
+      codes "a",
+      codes "b",
+      (refl, 34, codes "a", refl, refl, Units.plain refl Units.none),
+      (codes "b", [], (refl, 39, codes "b", refl, refl, Units.plain refl Units.none), refl, refl),
+      refl,
+    )
+    tt AreSymbols.none refl
+
+-- a symbol behind the last is at the end of the source
+place_of_symbol : place_in (record { at = 3; symbol = Symbol.word (codes "a") } ∷ []) 9 0 ≡ 3
+place_of_symbol = refl
+
+place_of_end : place_in (record { at = 3; symbol = Symbol.word (codes "a") } ∷ []) 9 1 ≡ 9
+place_of_end = refl
+
+-- an empty source is refused at its end
+empty_source : HasFault [] 0 NotProto3
+empty_source = HasFault.in_syntax {ts = []} {ss = []} {k = 0} (lit≤ tt) ([], (refl, refl)) no_tokens AreSymbols.none (Fault.no_symbols refl)
 
 -- a quote behind a `\` closes nothing, and a line feed there opens the text
 quote_behind : is_closed 34 (codes "\\\"") ≡ false
