@@ -9,3 +9,5 @@ mod devices;
 mod frames;
 #[cfg(test)]
 mod sample;
+#[cfg(test)]
+mod turns;
