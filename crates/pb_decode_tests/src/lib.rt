@@ -8,6 +8,8 @@ mod answers;
 #[cfg(test)]
 mod devices;
 #[cfg(test)]
+mod first_call;
+#[cfg(test)]
 mod hostile;
 #[cfg(test)]
 mod messages;
