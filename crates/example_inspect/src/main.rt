@@ -1,7 +1,7 @@
 //! Reads orders from standard input, each behind its length, and tells of each whether it is one, or else where it fails: the byte
 //! of the message, the path of records that leads there, and the cause. Behind a message that is refused the next one is read.
 //!
-//! In crates.txt: `example_inspect: pb_decode pb_link pb_descr pb_value pb_schema pb_wire anyhow`.
+//! In crates.txt: `example_inspect: pb_decode pb_link pb_descr pb_schema pb_wire anyhow`.
 #![tactic(auto)]
 
 ghost use Rattle.std.specs.Prelude.{◌<◌, ◌^◌, IfOk, IfSome};
@@ -11,7 +11,6 @@ use pb_decode::{DecodeError, decode_frame};
 use pb_descr::read_set;
 use pb_link::link;
 use pb_schema::Pool;
-use pb_value::DynamicMessage;
 use pb_wire::{Limits, ReadInput, read_varint};
 use std::alloc::Global;
 use std::io::{BufReader, Read};
@@ -37,7 +36,7 @@ fn inspect<R: Read>(rt: &impl Print, alloc: Global, pool: &Pool, input: &mut R) 
         };
         let mut frame = ReadInput::new(input.by_ref().take(u64::from(length)));
         let read = decode_frame(alloc, pool, kind, &mut frame, 0, length, Limits::FULL);
-        tell(rt, index, read)?;
+        tell(rt, index, read.err())?;
         io::copy(&mut frame.into_inner(), &mut io::sink())?;
     }
     Ok(())
@@ -63,17 +62,17 @@ fn read_length(alloc: Global, input: &mut impl Read) -> Result<Option<u32>>
 }
 
 /// Prints where a message fails: the path is of records, each by its number and by how many of that number stand before it.
-fn tell(rt: &impl Print, index: u64, read: Result<DynamicMessage<'_>, DecodeError>) -> Result<()> {
-    match read {
-        Ok(_) => println!(rt; "{index}: an order")?,
-        Err(DecodeError::Fault { byte, path, cause }) => {
+fn tell(rt: &impl Print, index: u64, fault: Option<DecodeError>) -> Result<()> {
+    match fault {
+        None => println!(rt; "{index}: an order")?,
+        Some(DecodeError::Fault { byte, path, cause }) => {
             print!(rt; "{index}: {cause} at byte {byte}, path")?;
             for step in &path {
                 print!(rt; " {step}")?;
             }
             println!(rt; "")?;
         }
-        Err(error) => return Err(error.into()),
+        Some(error) => return Err(error.into()),
     }
     Ok(())
 }
