@@ -1,11 +1,18 @@
 """Wrong bodies, put into a copy of the tree."""
 import os
+import re
 import subprocess
 import sys
 
 TOP = os.path.dirname(os.path.dirname(os.path.realpath(__file__)))
 # The wrong bodies beside the gate; those of the gate stand in crates/NAME/must-fail.
 EDITS = f"{TOP}/.ci/edits"
+
+# A proof file that names what an edit took away, and what cites that proof: by itself it says little of a contract.
+TAKEN_AWAY = re.compile(r"(\./)?proofs/.*(has no field|is not in scope|has no `|was not admitted)")
+# The head of a function, and that of an `impl` with its trait, if any, and its type.
+HEAD = re.compile(r"( *)(?:pub(?:\(crate\))? )?(?:const )?fn (\w+)")
+IMPL = re.compile(r"impl(?:<.*?>)? (?:(?:\w+::)*(\w+).*? for )?(?:\w+::)*(\w+)")
 
 
 def lanes(gigabytes):
@@ -20,6 +27,20 @@ def copy_tree(room):
     tree = ["tar", "-C", TOP, "--exclude=./.git", "--exclude=./crates/*/out", "--exclude=./bench", "-cf", "-", "."]
     packed = subprocess.Popen(tree, stdout=subprocess.PIPE)
     subprocess.run(["tar", "-C", room, "-xf", "-"], stdin=packed.stdout, check=True)
+
+
+def copy_for(name, room):
+    """Copies the tree. Of what is kept, the proofs of this crate are copied, and the built libraries are linked, which a build replaces."""
+    copy_tree(room)
+    for crate in os.listdir(f"{TOP}/crates"):
+        kept = [("rlib", "-al")] + [("incremental", "-a")] * (crate == name)
+        for part, how in kept:
+            if os.path.isdir(f"{TOP}/crates/{crate}/out/{part}"):
+                os.makedirs(f"{room}/crates/{crate}/out", exist_ok=True)
+                paths = [f"{TOP}/crates/{crate}/out/{part}", f"{room}/crates/{crate}/out/{part}"]
+                # (a link needs one file system)
+                if subprocess.run(["cp", how, *paths], stderr=subprocess.DEVNULL).returncode:
+                    subprocess.run(["cp", "-a", *paths], check=True)
 
 
 def edits_of(name, gate, beside):
@@ -39,6 +60,15 @@ def chosen(words, gate, beside=EDITS):
         if edits:
             found.setdefault(name, []).extend(edits)
     return found
+
+
+def folder_of_edits(words):
+    """The folder of the edits beside the gate, which `--from FOLDER` in front of the words names, and the words behind it."""
+    if words[:1] != ["--from"]:
+        return EDITS, words
+    if len(words) < 2 or not os.path.isdir(words[1]):
+        sys.exit("--from: no such folder")
+    return os.path.abspath(words[1]), words[2:]
 
 
 def label(name, edit):
@@ -64,6 +94,46 @@ def edited(edit, folder):
         elif word.rstrip(":") == "new":
             after[path] = after[path].replace(old, text)
     return before, after
+
+
+def owner_of(lines, head):
+    """What a check writes before the name of a method, as a pattern."""
+    for line in reversed(lines[:head]):
+        found = IMPL.match(line)
+        if found:
+            return rf"{found[2]}{found[1]}\w*::" if found[1] else f"{found[2]}::"
+        if line.startswith("}"):
+            break
+    return r"[A-Z]\w*::"
+
+
+def cycle_of(lines, head):
+    """The name of the cycle of calls in the attributes above the head of a function, or none."""
+    for line in reversed(lines[:head]):
+        marked = re.match(r" *#\[cycle\((\w+)\)\]", line)
+        if marked or not line.lstrip().startswith(("#[", "///")):
+            return marked and marked[1]
+    return None
+
+
+def function_at(lines, at):
+    """The function that a line stands in, as a check names it in its module, and its cycle of calls, or none."""
+    for head in range(min(at, len(lines) - 1), -1, -1):
+        found = HEAD.match(lines[head])
+        if found and not any(re.fullmatch(rf" {{0,{len(found[1])}}}\}}", line) for line in lines[head:at]):
+            return (owner_of(lines, head) if found[1] else "") + found[2], cycle_of(lines, head)
+    return None, None
+
+
+def places_of(edit, folder):
+    """The functions that an edit changes, each with its file and its cycle of calls; or a text, why it cannot be put in."""
+    before, after = edited(edit, folder)
+    if isinstance(after, str):
+        return after
+    lines = {path: text.split("\n") for path, text in before.items()}
+    changed = [(path, at) for path in lines for at, new in enumerate(after[path].split("\n")) if new != lines[path][at]]
+    found = {(path, *function_at(lines[path], at)) for path, at in changed}
+    return found if all(function for _, function, _ in found) else "it changes what stands in no function"
 
 
 def write(texts, folder):

@@ -1,77 +1,55 @@
 //! Reads orders from standard input, each behind its length, and tells of each whether it is one, or else where it fails: the byte
 //! of the message, the path of records that leads there, and the cause. Behind a message that is refused the next one is read.
 //!
-//! In crates.txt: `example_inspect: pb_decode pb_link pb_descr pb_schema pb_wire thiserror`.
+//! In crates.txt: `example_inspect: pb_decode pb_link pb_descr pb_schema pb_wire anyhow`.
 #![tactic(auto)]
 
-use pb_decode::{DecodeError, PushDecoder};
-use pb_descr::{DescrError, read_set};
-use pb_link::{LinkError, link};
+ghost use Rattle.std.specs.Prelude.{◌<◌, ◌^◌, IfOk, IfSome};
+
+use anyhow::{Context, Result, ensure};
+use pb_decode::{DecodeError, decode_frame};
+use pb_descr::read_set;
+use pb_link::link;
 use pb_schema::Pool;
-use pb_wire::{Limits, WireFault, read_varint};
-use std::alloc::{AllocError, Global};
+use pb_wire::{Limits, ReadInput, read_varint};
+use std::alloc::Global;
 use std::io::{BufReader, Read};
 use std::{fs, io};
-use thiserror::Error;
 
-/// Why nothing more is read.
-#[derive(Debug, Drop, Error)]
-#[error("{0}")]
-enum InspectError {
-    Device(#[from] io::Error),
-    Set(#[from] DescrError),
-    Types(#[from] LinkError),
-    #[error("the set has no type shop.Order")]
-    NoType,
-    Length(#[from] WireFault),
-    Decoding(#[from] DecodeError),
-    Memory(#[from(alloc)] AllocError),
-}
-
-fn main(rt: HostRuntime) -> Result<(), InspectError> {
+fn main(rt: HostRuntime) -> Result<()> {
     let alloc = rt.alloc();
-    let set = fs::read(&rt, "shop.set")?;
-    let pool = read_pool(alloc, &set)?;
+    let set = fs::read(&rt, "shop.set").context("shop.set")?;
+    let files = read_set(alloc, &set)?;
+    let pool = link(alloc, &files)?;
     let mut input = BufReader::new(alloc, rt.reader())?;
     inspect(&rt, alloc, &pool, &mut input)
 }
 
-fn read_pool(alloc: Global, set: &[u8]) -> Result<Pool, InspectError> {
-    let files = read_set(alloc, set)?;
-    let pool = link(alloc, &files)?;
-    Ok(pool)
-}
-
-/// Tells of each message of an input what it is.
-fn inspect<R: Read>(
-    rt: &impl Print,
-    alloc: Global,
-    pool: &Pool,
-    input: &mut R,
-) -> Result<(), InspectError> {
-    let Some(kind) = pool.message_by_name("shop.Order") else {
-        return Err(InspectError::NoType);
-    };
+/// Tells of each message of an input what it is. What was not read of one that is refused is passed over.
+fn inspect<R: Read>(rt: &impl Print, alloc: Global, pool: &Pool, input: &mut R) -> Result<()> {
+    let kind = pool
+        .message_by_name("shop.Order")
+        .context("the set has no type shop.Order")?;
     for index in 0..u64::MAX {
         let Some(length) = read_length(alloc, input)? else {
             break;
         };
-        let mut message = input.by_ref().take(length);
-        let decoder = PushDecoder::new(alloc, pool, kind, Limits::FULL)?;
-        tell(rt, index, feed(decoder, &mut message))?;
-        // What was not read of a message that is refused is passed over.
-        io::copy(&mut message, &mut io::sink())?;
+        let mut frame = ReadInput::new(input.by_ref().take(u64::from(length)));
+        let read = decode_frame(alloc, pool, kind, &mut frame, 0, length, Limits::FULL);
+        tell(rt, index, read.err())?;
+        io::copy(&mut frame.into_inner(), &mut io::sink())?;
     }
     Ok(())
 }
 
 /// The length before a message, and none where the input ends.
-fn read_length(alloc: Global, input: &mut impl Read) -> Result<Option<u64>, InspectError> {
+fn read_length(alloc: Global, input: &mut impl Read) -> Result<Option<u32>>
+    ensures limit { IfOk result (λ o. IfSome o (λ length. length < 2 ^ 31)) }
+{
     let mut varint = Vec::new(alloc);
     for byte in input.bytes().take(10) {
-        let byte = byte?;
-        varint.push(byte)?;
-        if byte < 0x80 {
+        varint.push(byte?)?;
+        if varint.last().is_some_and(|last| *last < 0x80) {
             break;
         }
     }
@@ -79,35 +57,22 @@ fn read_length(alloc: Global, input: &mut impl Read) -> Result<Option<u64>, Insp
         return Ok(None);
     }
     let (length, _) = read_varint(&varint)?;
-    Ok(Some(length))
-}
-
-/// Feeds a decoder a message in pieces, until it ends or is refused.
-fn feed(mut decoder: PushDecoder<'_>, message: &mut impl Read) -> Result<(), DecodeError> {
-    let mut piece = [0u8; 16];
-    for _ in 0..u64::MAX {
-        match message.read(&mut piece) {
-            Ok(0) => break,
-            Ok(count) => decoder.feed(&piece[..count])?,
-            Err(_) => return Err(DecodeError::Device),
-        }
-    }
-    decoder.finish()?;
-    Ok(())
+    ensure!(length < 1 << 31, "a length of {length} bytes");
+    Ok(Some(length as u32))
 }
 
 /// Prints where a message fails: the path is of records, each by its number and by how many of that number stand before it.
-fn tell(rt: &impl Print, index: u64, judged: Result<(), DecodeError>) -> Result<(), InspectError> {
-    match judged {
-        Ok(()) => println!(rt; "{index}: an order")?,
-        Err(DecodeError::Fault { byte, path, cause }) => {
+fn tell(rt: &impl Print, index: u64, fault: Option<DecodeError>) -> Result<()> {
+    match fault {
+        None => println!(rt; "{index}: an order")?,
+        Some(DecodeError::Fault { byte, path, cause }) => {
             print!(rt; "{index}: {cause} at byte {byte}, path")?;
             for step in &path {
                 print!(rt; " {step}")?;
             }
             println!(rt; "")?;
         }
-        Err(error) => return Err(InspectError::Decoding(error)),
+        Some(error) => return Err(error.into()),
     }
     Ok(())
 }

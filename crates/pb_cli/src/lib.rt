@@ -1,14 +1,29 @@
 //! The words of the command line, and the command that they name. A program that calls commands itself finds them here too.
 //!
-//! ```
-//! use pb_cli::{Command, HostFiles, Source, execute};
-//! use pb_wire::WriteOutput;
+//! ```rust
+//! use pb_cli::{HostFiles, Refusal, run};
+//! use pb_wire::{Output, WriteOutput, write_all};
+//! use std::io::ErrorKind;
+//! use std::process::ExitCode;
+//! use std::{env, io};
 //!
-//! let mut files = HostFiles::new(&rt); // `main(rt: HostRuntime)` is given `rt`
-//! let mut out = WriteOutput::new(rt.stdout());
-//! let mut err = WriteOutput::new(rt.stderr());
-//! let source = Source { set: "orders.set", type_name: "shop.Order", file: "order.bin" };
-//! let status = execute(rt.alloc(), &Command::Show { source }, &mut files, &mut out, &mut err);
+//! fn main(rt: HostRuntime) -> ExitCode {
+//!     let mut err = WriteOutput::new(rt.stderr());
+//!     let args: Vec<String> = match command_line(&rt) {
+//!         Ok(args) => args,
+//!         Err(error) => return ExitCode::from(tell_unread(&error, &mut err)),
+//!     };
+//!     let mut files = HostFiles::new(&rt);
+//!     let mut out = WriteOutput::new(rt.stdout());
+//!     let status = run(rt.alloc(), args.as_slice(), &mut files, &mut out, &mut err);
+//!     ExitCode::from(status)
+//! }
+//!
+//! /// The words of the command line, the program's name first.
+//! fn command_line(rt: &HostRuntime) -> io::Result<Vec<String>> {
+//!     let args = env::args(rt)?.collect(rt.alloc())?;
+//!     Ok(args)
+//! }
 //! ```
 #![tactic(auto)]
 

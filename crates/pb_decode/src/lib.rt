@@ -1,17 +1,20 @@
 //! Messages from bytes, by a schema.
 //!
-//! ```
-//! use pb_decode::{DecodeError, decode};
+//! ```rust
+//! use pb_decode::decode;
+//! use pb_schema::Pool;
 //! use pb_wire::Limits;
+//! use std::alloc::Global;
+//! use std::test::Fail;
 //!
-//! let alloc = rt.alloc(); // a `Global`; `main(rt: HostRuntime)` is given `rt`
-//! let pool = pb_link::link(alloc, &pb_descr::read_set(alloc, set)?)?; // the types of a descriptor set
-//! let kind = pool.message_by_name("M").ok_or("no type M")?;
-//! let line = match decode(alloc, &pool, kind, bytes, Limits::FULL) {
-//!     Ok(message) => format!(in alloc; "{} fields", message.body().fields.len())?,
-//!     Err(DecodeError::Fault { byte, path, cause }) => format!(in alloc; "byte {byte} path {path:?} cause {cause}")?,
-//!     Err(error) => format!(in alloc; "{error}")?,
-//! };
+//! /// How many fields a message of type T has, or where its bytes fail and why.
+//! fn told(alloc: Global, pool: &Pool, bytes: &[u8]) -> Result<String, Fail> {
+//!     let kind = pool.message_by_name("T").ok_or("no type T")?;
+//!     match decode(alloc, pool, kind, bytes, Limits::FULL) {
+//!         Ok(message) => Ok(format!(in alloc; "{} fields", message.body().fields.len())?),
+//!         Err(error) => Ok(format!(in alloc; "{error}")?), // the byte and the cause of a fault, which has a path too
+//!     }
+//! }
 //! ```
 #![tactic(auto)]
 

@@ -44,11 +44,11 @@ fn fault_text(
     format!(in alloc; "! {byte} {path} {cause}")
 }
 
-/// Why there is no message.
+/// Why there is no message. Want of memory is handed on.
 pub(crate) fn refusal_text(alloc: Global, error: DecodeError) -> Result<String, AllocError> {
     match error {
         DecodeError::Fault { byte, path, cause } => fault_text(alloc, byte, &path, cause),
-        DecodeError::Memory => String::from_str(alloc, "memory"),
+        DecodeError::Memory => Err(AllocError),
         DecodeError::Device => String::from_str(alloc, "device"),
         DecodeError::Finished => String::from_str(alloc, "finished"),
     }

@@ -1,6 +1,6 @@
 //! Texts and frames from an input.
 
-use super::answers::{answer_text, is_answered};
+use super::answers::answer_text;
 use super::sample::Schema;
 use super::words::{bytes_of, is_number, word};
 use pb_decode::{decode_frame, decode_from};
@@ -19,20 +19,26 @@ fn read_text(
     answer_text(schema.alloc, answer)
 }
 
-/// Whether the input's failure after so many calls is told, or the fault that stands before it.
+/// Whether the failure after so many calls is told, or the fault that stands before it.
+fn is_failure(answer: &str, calls: u64, told: &str) -> bool {
+    answer == "device" || calls > 0 && told.starts_with('!') && answer == told
+}
+
+fn failing_after(calls: u64) -> FailurePlan {
+    FailurePlan {
+        fails_after: Some(calls),
+    }
+}
+
 fn is_cut(
     schema: &Schema,
     limits: Limits,
     bytes: &[u8],
-    calls: usize,
+    calls: u64,
     told: &str,
 ) -> Result<bool, Fail> {
-    let plan = FailurePlan {
-        fails_after: Some(calls as u64),
-    };
-    let answer = read_text(schema, limits, bytes, plan)?;
-    let is_fault = calls > 0 && told.starts_with('!') && answer.as_str() == told;
-    Ok(answer.as_str() == "device" || is_fault)
+    let answer = read_text(schema, limits, bytes, failing_after(calls))?;
+    Ok(is_failure(answer.as_str(), calls, told))
 }
 
 /// Whether each read that fails in turn is told.
@@ -43,7 +49,7 @@ fn is_cut_at_each_read(
     told: &str,
 ) -> Result<bool, Fail> {
     for calls in 0..=bytes.len() {
-        if !is_cut(schema, limits, bytes, calls, told)? {
+        if !is_cut(schema, limits, bytes, calls as u64, told)? {
             return Ok(false);
         }
     }
@@ -71,7 +77,7 @@ fn left_of(input: &mut MemInput<'_>) -> Result<usize, Fail> {
     Ok(input.read(&mut buffer)?)
 }
 
-/// Whether the frame is answered as told, and just the frame is taken.
+/// Whether the frame is answered as told, just the frame is taken, and a read of it that fails is told.
 pub(crate) fn is_framed(schema: &Schema, limits: Limits, words: &str) -> Result<bool, Fail> {
     let (start, words) = word(words);
     let (size, words) = word(words);
@@ -80,7 +86,33 @@ pub(crate) fn is_framed(schema: &Schema, limits: Limits, words: &str) -> Result<
     let start = start.parse::<u64>()?;
     let size = size.parse::<u32>()?;
     let bytes = bytes_of(schema.alloc, input)?;
-    is_frame(schema, limits, start, size, &bytes, left, told)
+    Ok(
+        is_frame(schema, limits, start, size, &bytes, left, told)?
+            && is_frame_cut_at_each_read(schema, limits, start, size, &bytes, told)?,
+    )
+}
+
+/// The answer to a frame of an input.
+fn frame_text(
+    schema: &Schema,
+    limits: Limits,
+    start: u64,
+    size: u32,
+    input: &mut MemInput<'_>,
+) -> Result<String, Fail> {
+    if start > 10 || size > limits.max_bytes() {
+        return Err(Fail::new("no frame"));
+    }
+    let answer = decode_frame(
+        schema.alloc,
+        &schema.pool,
+        schema.kind,
+        input,
+        start,
+        size,
+        limits,
+    );
+    answer_text(schema.alloc, answer)
 }
 
 fn is_frame(
@@ -92,18 +124,41 @@ fn is_frame(
     left: &str,
     told: &str,
 ) -> Result<bool, Fail> {
-    if start > 10 || size > limits.max_bytes() {
-        return Err(Fail::new("no frame"));
-    }
     let mut input = MemInput::new(bytes, 16, FailurePlan::NEVER);
-    let answer = decode_frame(
-        schema.alloc,
-        &schema.pool,
-        schema.kind,
-        &mut input,
-        start,
-        size,
-        limits,
-    );
-    Ok(is_answered(schema.alloc, answer, told)? && is_number(left_of(&mut input)?, left)?)
+    let answer = frame_text(schema, limits, start, size, &mut input)?;
+    Ok(answer.as_str() == told && is_number(left_of(&mut input)?, left)?)
+}
+
+fn is_frame_cut(
+    schema: &Schema,
+    limits: Limits,
+    start: u64,
+    size: u32,
+    bytes: &[u8],
+    calls: u64,
+    told: &str,
+) -> Result<bool, Fail> {
+    let mut input = MemInput::new(bytes, 1, failing_after(calls));
+    let answer = frame_text(schema, limits, start, size, &mut input)?;
+    Ok(is_failure(answer.as_str(), calls, told))
+}
+
+/// Whether each read of a byte of the frame that fails in turn is told, and that of its end where the input is shorter.
+fn is_frame_cut_at_each_read(
+    schema: &Schema,
+    limits: Limits,
+    start: u64,
+    size: u32,
+    bytes: &[u8],
+    told: &str,
+) -> Result<bool, Fail> {
+    for calls in 0..=bytes.len() {
+        let calls = calls as u64;
+        if calls < u64::from(size)
+            && !is_frame_cut(schema, limits, start, size, bytes, calls, told)?
+        {
+            return Ok(false);
+        }
+    }
+    Ok(true)
 }

@@ -10,6 +10,8 @@ mod caller;
 #[cfg(test)]
 mod devices;
 #[cfg(test)]
+mod first_call;
+#[cfg(test)]
 mod hostile;
 #[cfg(test)]
 mod messages;

@@ -181,6 +181,61 @@ frame three_groups - - 1 6 0b1b1b1c1c0cff 1 = 0b1b1b1c1c0c
 frame group_at_its_end - - 1 5 0b1b1b1c1c0c ? ! 6 1[0] PastEnd
 ";
 
+/// The same of the type `N`, to which every record and group is unknown: those that `pb_wire` reads.
+pub(crate) const RECORDS: &str = "
+decode faults-1 - - - = -
+decode faults-2 - - 0c ! 0 - StrayEnd
+decode faults-3 - - 00 ! 0 - NumberZero
+decode faults-4 - - 07 ! 0 - NumberZero
+decode faults-5 - - 0f ! 0 - BadType
+decode faults-6 - - 8080808010 ! 0 - TagTooLarge
+decode faults-7 - - 808080801000 ! 0 - TagTooLarge
+decode faults-8 - - 08ffffffffffffffffffff ! 1 1[0] VarintTooLong
+decode faults-9 - - 08ffffffffffffffffff7f = 08ffffffffffffffffff01
+decode faults-10 - - 12ffffffff0f ! 1 2[0] LengthTooLarge
+decode faults-11 - - 12ffffffff07 ! 6 2[0] Truncated
+decode faults-12 - - 0896 ! 2 1[0] Truncated
+decode faults-13 - - 80 ! 1 - Truncated
+decode faults-14 - - 120541 ! 3 2[0] Truncated
+decode faults-15 - - 0d010203 ! 4 1[0] Truncated
+decode faults-16 - - 09010203 ! 4 1[0] Truncated
+decode faults-17 - - a301 ! 2 20[0] Truncated
+decode faults-18 - - a3010801ac01 ! 4 20[0] WrongEnd
+decode faults-19 - - 0b130c ! 2 1[0].2[0] WrongEnd
+decode faults-20 - - 0b0c0c ! 2 - StrayEnd
+decode faults-21 - - 0b ! 1 1[0] Truncated
+decode faults-22 - 1 0b13 ! 1 1[0].2[0] TooDeep
+decode faults-23 - 0 0b0c ! 0 1[0] TooDeep
+decode faults-24 - 1 0b0c = 0b0c
+decode faults-25 2 100 089601 ! 2 - InputTooLarge
+decode faults-26 2 100 0896 ! 2 1[0] Truncated
+decode faults-27 2 100 0f0000 ! 0 - BadType
+decode faults-28 2 100 080508 ! 2 - InputTooLarge
+decode faults-29 0 100 08 ! 0 - InputTooLarge
+decode faults-30 0 0 - = -
+decode faults-31 1 100 0805 ! 1 - InputTooLarge
+decode faults-32 - - 0801a30108010802ac01 ! 8 20[0] WrongEnd
+decode faults-33 - - 080110010896 ! 6 1[1] Truncated
+decode faults-34 - - 08010d000000000b0c0896 ! 11 1[3] Truncated
+decode faults-35 - - 0b08010c0b100108011096 ! 11 1[1].2[1] Truncated
+decode faults-36 - - 0a000b1314130c ! 6 1[1].2[1] WrongEnd
+decode faults-37 - 1 0b0c0b13140c ! 3 1[1].2[0] TooDeep
+decode stray_end - - 08050c ! 2 - StrayEnd
+decode wrong_end - - 0b080114 ! 3 1[0] WrongEnd
+decode cut_in_groups - - 08050b13 ! 4 1[1].2[0] Truncated
+decode group_and_more 2 - 0b0c0c ! 2 - InputTooLarge
+decode long_group 2 - 0b08010c ! 2 - InputTooLarge
+decode no_groups - 0 08050b0c ! 2 1[1] TooDeep
+decode group_too_deep - 1 0b13140c ! 1 1[0].2[0] TooDeep
+decode two_levels - 2 0b131413140c = 0b131413140c
+decode each_form - - 0896810012017aa3010801a4013d01000000090100000000000080 = 08960112017aa3010801a4013d01000000090100000000000080
+decode number_and_bytes - - 0896011203616263 = 0896011203616263
+decode group_and_number - - a3010801a4010805 = a3010801a4010805
+decode fixed_widths - - 2d01000000090100000000000000 = 2d01000000090100000000000000
+decode groups_in_groups - - 0b130801140c1a00 = 0b130801140c1a00
+decode long_number - - 08968100f807ffffffff0f = 089601f807ffffffff0f
+";
+
 /// The bytes of a message, those that come onto it, and the answer. Lengths and places are those of the new bytes alone.
 pub(crate) const ONTO: &str = "
 onto example-9b - - 0805 0800 = -

@@ -15,6 +15,7 @@
 //! message R { repeated group H = 1 { optional R r = 1; optional int32 x = 2; optional group W = 3 { optional int32 x = 1; optional C k = 2;
 //! repeated group Y = 3 { optional int32 x = 1; } optional string t = 5; } } oneof o { group V = 3 { optional int32 x = 1; } int32 y = 4; C z = 7; }
 //! repeated C l = 5; map<int32, R> m = 6; }
+//! message N { }
 
 ghost use Rattle.std.specs.Prelude.{◌<◌, length};
 
@@ -129,6 +130,7 @@ const TYPES: &[TypeRow] = &[
     ("W", 1, Some(MessageId(5)), FIELDS_OF_W, &[]),
     ("Y", 1, Some(MessageId(6)), FIELDS_OF_G, &[]),
     ("V", 1, Some(R), FIELDS_OF_G, &[]),
+    ("N", 1, None, &[], &[]),
 ];
 
 /// A pool and a message type of it.

@@ -6,7 +6,7 @@ use super::messages::{is_merged, is_put_onto};
 use super::pieces::is_pushed;
 use super::rows::{
     ALIVE, CLOSED, CLOSED_GROWTHS, DEEP, FALLING, FLAT, FRAMES, FRONTS, GROUP_GROWTHS, GROUPS,
-    GROWTHS, MANY_RECORDS, MERGES, NESTED, ONE_RECORD, ONTO, PIECES, WORKED,
+    GROWTHS, MANY_RECORDS, MERGES, NESTED, ONE_RECORD, ONTO, PIECES, RECORDS, WORKED,
 };
 use super::sample::{Schema, sample};
 use super::words::{limits_of, word};
@@ -82,6 +82,13 @@ fn groups(rt: HostRuntime) -> Result<(), Fail> {
 #[test]
 fn groups_in_groups(rt: HostRuntime) -> Result<(), Fail> {
     let wrong = wrong_row(rt.alloc(), "R", NESTED)?;
+    assert!(rt; wrong.is_none(), "{wrong:?}");
+    Ok(())
+}
+
+#[test]
+fn records_and_groups(rt: HostRuntime) -> Result<(), Fail> {
+    let wrong = wrong_row(rt.alloc(), "N", RECORDS)?;
     assert!(rt; wrong.is_none(), "{wrong:?}");
     Ok(())
 }

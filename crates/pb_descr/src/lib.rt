@@ -1,14 +1,20 @@
 //! Descriptor sets: what the files of a set declare, read and written.
 //!
-//! ```
-//! use pb_descr::{DescrError, read_set, write_set};
+//! ```rust
+//! use pb_descr::{read_set, write_set};
+//! use std::test::Fail;
 //!
-//! let alloc = rt.alloc(); // a `Global`; `main(rt: HostRuntime)` is given `rt`
-//! let line = match read_set(alloc, set) {
-//!     Ok(files) => format!(in alloc; "{} bytes", write_set(alloc, &files)?.len())?,
-//!     Err(DescrError::Decl { file, cause }) => format!(in alloc; "file {file} cause {}", cause.name())?,
-//!     Err(error) => format!(in alloc; "{error}")?,
-//! };
+//! /// The descriptor set of m.proto: message M { int32 a = 1; }
+//! const SET: &[u8] =
+//!     b"\x0a\x21\x0a\x07m.proto\x22\x0e\x0a\x01M\x12\x09\x0a\x01a\x18\x01\x20\x01\x28\x05\x62\x06proto3";
+//!
+//! #[test]
+//! fn first_call(rt: HostRuntime) -> Result<(), Fail> {
+//!     let files = read_set(rt.alloc(), SET)?; // what each file declares, or why the bytes are no set
+//!     let written = write_set(rt.alloc(), &files)?;
+//!     assert!(rt; files.len() == 1 && written.as_slice() == SET);
+//!     Ok(())
+//! }
 //! ```
 #![tactic(auto)]
 

@@ -6,4 +6,6 @@ mod deep;
 #[cfg(test)]
 mod faults;
 #[cfg(test)]
+mod first_call;
+#[cfg(test)]
 mod rows;

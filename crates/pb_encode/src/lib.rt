@@ -1,16 +1,20 @@
 //! Messages as canonical bytes: measured once, then written.
 //!
-//! ```
-//! use pb_encode::planning::plan;
-//! use pb_encode::{encode, encode_to};
-//! use pb_wire::WriteOutput;
+//! ```rust
+//! use pb_encode::encode;
+//! use pb_schema::Pool;
+//! use pb_value::{Content, DynamicMessage, Value};
+//! use std::alloc::Global;
+//! use std::test::Fail;
 //!
-//! let bytes = encode(&message)?; // the canonical bytes of a `pb_value::DynamicMessage`
-//! let mut output = WriteOutput::new(rt.stdout()); // `main(rt: HostRuntime)` is given `rt`
-//! encode_to(&message, &mut output)?; // the same bytes to a device
-//! let plan = plan(&message)?;
-//! let length = plan.len(); // known before a byte goes out
-//! plan.write_to(&mut output)?;
+//! /// The canonical bytes of a message whose int32 field 1 is 150: 08 96 01.
+//! fn encoded(alloc: Global, pool: &Pool) -> Result<Vec<u8>, Fail> {
+//!     let kind = pool.message_by_name("T").ok_or("no type T")?;
+//!     let mut message = DynamicMessage::new(alloc, pool, kind);
+//!     message.set(1, Content::One(Value::I32(150)))?;
+//!     let bytes = encode(&message)?; // or that they are too many, or want of memory
+//!     Ok(bytes)
+//! }
 //! ```
 #![tactic(auto)]
 

@@ -1,18 +1,28 @@
 //! Names and rules of declarations, and the pools that they make.
 //!
-//! ```
-//! use pb_descr::{read_set, write_set};
-//! use pb_link::{link, resolve};
+//! ```rust
+//! use pb_link::link;
+//! use pb_schema::{MessageId, Pool};
 //! use pb_source::parse;
+//! use std::alloc::Global;
+//! use std::test::Fail;
 //!
-//! let alloc = rt.alloc(); // a `Global`; `main(rt: HostRuntime)` is given `rt`
-//! let mut files = read_set(alloc, set)?; // the files that the source imports
-//! files.push(parse(alloc, "p.proto", source)?)?;
-//! let written = write_set(alloc, &resolve(alloc, &files)?)?; // with each type resolved, as a compiler writes sets
-//! let line = match link(alloc, &files) {
-//!     Ok(pool) => format!(in alloc; "{} types of messages", pool.messages().len())?,
-//!     Err(error) => format!(in alloc; "{error}")?, // the file, the declaration and the cause
-//! };
+//! /// The types of a source that imports nothing.
+//! fn types(alloc: Global, source: &str) -> Result<Pool, Fail> {
+//!     let file = parse(alloc, "m.proto", source.as_bytes())?;
+//!     let pool = link(alloc, &[file])?; // or the file, the declaration and the cause
+//!     Ok(pool)
+//! }
+//!
+//! #[test]
+//! fn first_call(rt: HostRuntime) -> Result<(), Fail> {
+//!     let pool = types(
+//!         rt.alloc(),
+//!         "syntax = \"proto3\"; message M { M inner = 1; }",
+//!     )?;
+//!     assert!(rt; pool.message_by_name("M") == Some(MessageId(0)));
+//!     Ok(())
+//! }
 //! ```
 #![tactic(auto)]
 

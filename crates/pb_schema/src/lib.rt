@@ -1,18 +1,36 @@
 //! Types as data: pools of messages and enums that meet their rules, and what their kinds read and write.
 //!
-//! ```
-//! use pb_schema::{Field, FileInfo, Kind, MessageType, Pool, Shape};
+//! ```rust
+//! use pb_schema::{Field, FileInfo, Kind, MessageId, MessageType, Pool, Shape};
+//! use std::alloc::{AllocError, Global};
+//! use std::test::Fail;
 //!
-//! let alloc = rt.alloc(); // a `Global`; `main(rt: HostRuntime)` is given `rt`
-//! let (name, package) = (String::from_str(alloc, "m.proto")?, String::new(alloc));
-//! let file = FileInfo { name, package, imports: Vec::new(alloc), proto2: false };
-//! let name = String::from_str(alloc, "a")?;
-//! let a = Field { name, number: 1, kind: Kind::Int32, shape: Shape::Implicit };
-//! let (name, fields) = (String::from_str(alloc, "M")?, vec![in alloc; a]?);
-//! let message = MessageType { name, file: 0, parent: None, fields, oneofs: Vec::new(alloc) };
-//! let pool = Pool::from_parts(alloc, vec![in alloc; file]?, vec![in alloc; message]?, Vec::new(alloc))?;
-//! let kind = pool.message_by_name("M").ok_or("no type M")?;
-//! let field = pool.field_by_number(kind, 1); // `a`
+//! /// message M { int32 a = 1; }
+//! fn message(alloc: Global) -> Result<MessageType, AllocError> {
+//!     let a = Field {
+//!         name: String::from_str(alloc, "a")?,
+//!         number: 1,
+//!         kind: Kind::Int32,
+//!         shape: Shape::Implicit,
+//!     };
+//!     Ok(MessageType {
+//!         name: String::from_str(alloc, "M")?,
+//!         file: 0,
+//!         parent: None,
+//!         fields: vec![in alloc; a]?,
+//!         oneofs: Vec::new(alloc),
+//!     })
+//! }
+//!
+//! #[test]
+//! fn first_call(rt: HostRuntime) -> Result<(), Fail> {
+//!     let alloc = rt.alloc();
+//!     let files = vec![in alloc; file(alloc)?]?;
+//!     let messages = vec![in alloc; message(alloc)?]?;
+//!     let pool = Pool::from_parts(alloc, files, messages, Vec::new(alloc))?; // or that they break a rule
+//!     assert!(rt; pool.message_by_name("M") == Some(MessageId(0)));
+//!     Ok(())
+//! }
 //! ```
 #![tactic(auto)]
 

@@ -5,6 +5,8 @@
 #[cfg(test)]
 mod closed;
 #[cfg(test)]
+mod first_call;
+#[cfg(test)]
 mod large;
 #[cfg(test)]
 mod packed;

@@ -1,14 +1,31 @@
 //! Sources of proto3: their tokens, and readers of the lines of their grammar.
 //!
-//! ```
+//! ```rust
 //! use pb_source::parse;
+//! use std::alloc::Global;
+//! use std::test::Fail;
 //!
-//! let alloc = rt.alloc(); // a `Global`; `main(rt: HostRuntime)` is given `rt`
-//! let source = b"syntax = \"proto3\"; message M { int32 a = 1; }";
-//! let line = match parse(alloc, "m.proto", source) {
-//!     Ok(file) => format!(in alloc; "{} messages", file.messages.len())?,
-//!     Err(fault) => format!(in alloc; "byte {} cause {}", fault.byte, fault.cause.name())?,
-//! };
+//! /// How many messages a source declares, or where it fails and why.
+//! fn told(alloc: Global, source: &str) -> Result<String, Fail> {
+//!     match parse(alloc, "m.proto", source.as_bytes()) {
+//!         Ok(file) => Ok(format!(in alloc; "{} messages", file.messages.len())?),
+//!         Err(fault) => Ok(format!(in alloc; "{} at byte {}", fault.cause, fault.byte)?),
+//!     }
+//! }
+//!
+//! #[test]
+//! fn first_call(rt: HostRuntime) -> Result<(), Fail> {
+//!     let good = told(
+//!         rt.alloc(),
+//!         "syntax = \"proto3\"; message M { int32 a = 1; }",
+//!     )?;
+//!     let bad = told(
+//!         rt.alloc(),
+//!         "syntax = \"proto3\"; message M { required int32 a = 1; }",
+//!     )?;
+//!     assert!(rt; good.as_str() == "1 messages" && bad.as_str() == "Unexpected at byte 31");
+//!     Ok(())
+//! }
 //! ```
 #![tactic(auto)]
 

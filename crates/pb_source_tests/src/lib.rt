@@ -4,6 +4,8 @@
 #[cfg(test)]
 mod calls;
 #[cfg(test)]
+mod first_call;
+#[cfg(test)]
 mod parsing;
 #[cfg(test)]
 mod rows;

@@ -1,17 +1,26 @@
 //! Messages in a stream, each behind its length.
 //!
-//! ```
-//! use pb_stream::{DelimitedReader, write_delimited};
-//! use pb_wire::{Limits, ReadInput, WriteOutput};
+//! ```rust
+//! use pb_schema::Pool;
+//! use pb_stream::DelimitedReader;
+//! use pb_wire::{FailurePlan, Limits, MemInput};
+//! use std::alloc::Global;
+//! use std::test::Fail;
 //!
-//! let alloc = rt.alloc(); // a `Global`; `main(rt: HostRuntime)` is given `rt`
-//! let kind = pool.message_by_name("M").ok_or("no type M")?; // of a `pb_schema::Pool`
-//! let mut output = WriteOutput::new(rt.stdout());
-//! let mut reader = DelimitedReader::new(alloc, &pool, kind, ReadInput::new(rt.stdin()), Limits::FULL);
-//! while let Some(message) = reader.next()? {
-//!     write_delimited(&message, &mut output)?; // its length, and then its canonical bytes
+//! /// How many messages of type T stand in a stream, each behind its length.
+//! fn count(alloc: Global, pool: &Pool, stream: &[u8]) -> Result<u64, Fail> {
+//!     let kind = pool.message_by_name("T").ok_or("no type T")?;
+//!     let input = MemInput::new(stream, 4096, FailurePlan::NEVER); // or `ReadInput::new(rt.stdin())`
+//!     let mut reader = DelimitedReader::new(alloc, pool, kind, input, Limits::FULL);
+//!     let mut count = 0;
+//!     for index in 1..u64::MAX {
+//!         if reader.next()?.is_none() {
+//!             break;
+//!         }
+//!         count = index;
+//!     }
+//!     Ok(count)
 //! }
-//! let taken = reader.taken(); // how many bytes of the input
 //! ```
 #![tactic(auto)]
 

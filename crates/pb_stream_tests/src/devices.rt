@@ -9,7 +9,7 @@ use pb_wire::{FailurePlan, Limits, MemInput, MemOutput};
 use std::alloc::Global;
 use std::test::Fail;
 
-fn failing_after(calls: u64) -> FailurePlan {
+pub(crate) fn failing_after(calls: u64) -> FailurePlan {
     FailurePlan {
         fails_after: Some(calls),
     }
@@ -56,7 +56,7 @@ const CLOSED: &[&[u8]] = &[
 ];
 
 /// Whether the message of a frame is written as that frame.
-fn is_written_back(alloc: Global, schema: &Schema, frame: &[u8]) -> Result<bool, Fail> {
+pub(crate) fn is_written_back(alloc: Global, schema: &Schema, frame: &[u8]) -> Result<bool, Fail> {
     let mut input = MemInput::new(frame, 3, FailurePlan::NEVER);
     match read_delimited(alloc, &schema.pool, schema.kind, &mut input, Limits::FULL)? {
         None => Ok(false),

@@ -11,7 +11,7 @@ use std::alloc::Global;
 use std::test::Fail;
 
 /// A refusal: its place, the number of the record that it stands in, the first of that number, if there is one, and its cause.
-struct Refusal {
+pub(crate) struct Refusal {
     byte: u64,
     number: Option<u32>,
     cause: Cause,
@@ -19,14 +19,14 @@ struct Refusal {
 
 /// A stream: its bytes, the longest text that is read, for each message its canonical bytes and how many bytes were taken
 /// so far, and the refusal behind them, if there is one.
-struct Row {
-    input: &'static str,
-    most: u32,
-    messages: &'static [(&'static str, u64)],
-    refusal: Option<Refusal>,
+pub(crate) struct Row {
+    pub(crate) input: &'static str,
+    pub(crate) most: u32,
+    pub(crate) messages: &'static [(&'static str, u64)],
+    pub(crate) refusal: Option<Refusal>,
 }
 
-const ROWS: &[Row] = &[
+pub(crate) const ROWS: &[Row] = &[
     Row {
         input: "03089601000208",
         most: 100,
@@ -116,7 +116,7 @@ const ROWS: &[Row] = &[
 ];
 
 /// The same of the type `Q`: groups and closed enums.
-const CLOSED: &[Row] = &[
+pub(crate) const CLOSED: &[Row] = &[
     Row {
         input: "061b08051c2002062a0401070209021b24",
         most: 100,
@@ -193,7 +193,7 @@ fn is_path(path: &[PathStep], number: Option<u32>) -> bool {
     }
 }
 
-fn is_refusal(error: &DecodeError, refusal: &Refusal) -> bool {
+pub(crate) fn is_refusal(error: &DecodeError, refusal: &Refusal) -> bool {
     match error {
         DecodeError::Fault { byte, path, cause } => {
             *byte == refusal.byte && *cause == refusal.cause && is_path(path, refusal.number)

@@ -6,6 +6,10 @@ mod asking;
 #[cfg(test)]
 mod devices;
 #[cfg(test)]
+mod first_call;
+#[cfg(test)]
 mod frames;
 #[cfg(test)]
 mod sample;
+#[cfg(test)]
+mod turns;

@@ -1,17 +1,21 @@
 //! Dynamic messages: what a message is, what its records mean, and every change exact.
 //!
-//! ```
+//! ```rust
+//! use pb_schema::Pool;
 //! use pb_value::{Content, DynamicMessage, Value};
+//! use std::alloc::Global;
+//! use std::test::Fail;
 //!
-//! let alloc = rt.alloc(); // a `Global`; `main(rt: HostRuntime)` is given `rt`
-//! let kind = pool.message_by_name("M").ok_or("no type M")?; // of a `pb_schema::Pool`
-//! let mut message = DynamicMessage::new(alloc, &pool, kind);
-//! message.set(1, Content::One(Value::I32(5)))?; // or why not, and the message as it was
-//! message.push(6, Value::I32(7))?; // at the end of a list
-//! let number = match message.get(1) {
-//!     Some(Content::One(Value::I32(number))) => *number,
-//!     _ => 0,
-//! };
+//! /// Sets the int32 field 1 of a new message, and reads it.
+//! fn set_and_get(alloc: Global, pool: &Pool) -> Result<i32, Fail> {
+//!     let kind = pool.message_by_name("a.b.T").ok_or("no type a.b.T")?;
+//!     let mut message = DynamicMessage::new(alloc, pool, kind);
+//!     message.set(1, Content::One(Value::I32(5)))?; // or why not, and the message as it was
+//!     match message.get(1) {
+//!         Some(Content::One(Value::I32(number))) => Ok(*number),
+//!         _ => Ok(0),
+//!     }
+//! }
 //! ```
 #![tactic(auto)]
 

@@ -11,6 +11,8 @@ mod changes;
 #[cfg(test)]
 mod choice;
 #[cfg(test)]
+mod first_call;
+#[cfg(test)]
 mod merges;
 #[cfg(test)]
 mod reading;

@@ -1,15 +1,18 @@
 //! Varints, records and devices of the wire format.
 //!
-//! ```
-//! use pb_wire::{Limits, RecordIter, read_raw, write_raw};
+//! ```rust
+//! use pb_wire::{Limits, read_raw, write_raw};
+//! use std::test::Fail;
 //!
-//! let alloc = rt.alloc(); // a `Global`; `main(rt: HostRuntime)` is given `rt`
-//! let records = read_raw(alloc, bytes, Limits::FULL)?; // each number with its payload, or the one fault
-//! let shortest = write_raw(alloc, &records)?; // what was read can always be written
-//! let mut numbers = Vec::new(alloc);
-//! for item in RecordIter::new(bytes, Limits::FULL) {
-//!     let (number, _payload) = item?; // the same records, borrowed from the bytes
-//!     numbers.push(number)?;
+//! #[test]
+//! fn first_call(rt: HostRuntime) -> Result<(), Fail> {
+//!     // The allocator: what takes memory is passed it.
+//!     let alloc = rt.alloc();
+//!     // Field 1 with the number 150, in a byte more than it needs.
+//!     let records = read_raw(alloc, b"\x08\x96\x81\x00", Limits::FULL)?; // each number with its payload, or the one fault
+//!     let shortest = write_raw(alloc, &records)?;
+//!     assert!(rt; shortest.as_slice() == b"\x08\x96\x01".as_slice());
+//!     Ok(())
 //! }
 //! ```
 #![tactic(auto)]

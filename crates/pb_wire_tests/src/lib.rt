@@ -10,6 +10,8 @@ mod devices;
 #[cfg(test)]
 mod faults;
 #[cfg(test)]
+mod first_call;
+#[cfg(test)]
 mod growths;
 #[cfg(test)]
 mod rows;

@@ -1,0 +1,25 @@
+//! The example in the crate comment of `pb_value`.
+
+use super::sample::sample;
+use pb_schema::Pool;
+use pb_value::{Content, DynamicMessage, Value};
+use std::alloc::Global;
+use std::test::Fail;
+
+/// Sets the int32 field 1 of a new message, and reads it.
+fn set_and_get(alloc: Global, pool: &Pool) -> Result<i32, Fail> {
+    let kind = pool.message_by_name("a.b.T").ok_or("no type a.b.T")?;
+    let mut message = DynamicMessage::new(alloc, pool, kind);
+    message.set(1, Content::One(Value::I32(5)))?; // or why not, and the message as it was
+    match message.get(1) {
+        Some(Content::One(Value::I32(number))) => Ok(*number),
+        _ => Ok(0),
+    }
+}
+
+#[test]
+fn first_call(rt: HostRuntime) -> Result<(), Fail> {
+    let schema = sample(rt.alloc())?;
+    assert!(rt; set_and_get(rt.alloc(), &schema.pool)? == 5);
+    Ok(())
+}
