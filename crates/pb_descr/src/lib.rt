@@ -8,7 +8,6 @@
 //! const SET: &[u8] =
 //!     b"\x0a\x21\x0a\x07m.proto\x22\x0e\x0a\x01M\x12\x09\x0a\x01a\x18\x01\x20\x01\x28\x05\x62\x06proto3";
 //!
-//! #[test]
 //! fn first_call(rt: HostRuntime) -> Result<(), Fail> {
 //!     let files = read_set(rt.alloc(), SET)?; // what each file declares, or why the bytes are no set
 //!     let written = write_set(rt.alloc(), &files)?;

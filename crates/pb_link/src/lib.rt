@@ -14,7 +14,6 @@
 //!     Ok(pool)
 //! }
 //!
-//! #[test]
 //! fn first_call(rt: HostRuntime) -> Result<(), Fail> {
 //!     let pool = types(
 //!         rt.alloc(),

@@ -22,7 +22,6 @@
 //!     })
 //! }
 //!
-//! #[test]
 //! fn first_call(rt: HostRuntime) -> Result<(), Fail> {
 //!     let alloc = rt.alloc();
 //!     let files = vec![in alloc; file(alloc)?]?;

@@ -13,7 +13,6 @@
 //!     }
 //! }
 //!
-//! #[test]
 //! fn first_call(rt: HostRuntime) -> Result<(), Fail> {
 //!     let good = told(
 //!         rt.alloc(),

@@ -4,7 +4,6 @@
 //! use pb_wire::{Limits, read_raw, write_raw};
 //! use std::test::Fail;
 //!
-//! #[test]
 //! fn first_call(rt: HostRuntime) -> Result<(), Fail> {
 //!     // The allocator: what takes memory is passed it.
 //!     let alloc = rt.alloc();
