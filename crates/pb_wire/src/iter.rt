@@ -135,7 +135,8 @@ fn record_at(bytes: &[u8], at: usize, max_depth: u8) -> Result<(u32, Payload<'_>
     requires depth { max_depth ≤ 100 }
     ensures within { IfOk result (λ r. (at < r.2) × (r.2 ≤ length bytes.now)) }
     ensures ok { IfOk result (λ r. ShowsRecord max_depth (place bytes.now at) (r.0, seen r.1) (place bytes.now r.2)) }
-    ensures fault { IfErr result (λ e. (path : List PathStep) × RecordFault blank (records tt) [] max_depth (place bytes.now at) (fault_with e.byte path e.cause)) }
+    ensures fault { IfErr result (λ e. (path : List PathStep)
+        × RecordFault blank (records tt) [] max_depth (place bytes.now at) (fault_with e.byte path e.cause)) }
 {
     let (number, wire_type, start) = tag_at(bytes, at, None)?;
     match wire_type {
@@ -179,7 +180,8 @@ fn group_end(
     ensures within { IfOk result (λ r. (start ≤ r.0) × (r.0 < r.1) × (r.1 ≤ length bytes.now)) }
     ensures ok { IfOk result (λ r. (rs : List Record) × Front (max_depth - 1) (place bytes.now start) rs (place bytes.now r.0)
         × HasTag (place bytes.now r.0) number 4 (place bytes.now r.1)) }
-    ensures fault { IfErr result (λ e. (path : List PathStep) × Bad blank (in_group number tt) (max_depth - 1) (place bytes.now start) (fault_with e.byte path e.cause)) }
+    ensures fault { IfErr result (λ e. (path : List PathStep)
+        × Bad blank (in_group number tt) (max_depth - 1) (place bytes.now start) (fault_with e.byte path e.cause)) }
 {
     let mut groups = OpenGroups::new(number);
     let mut here = start;
