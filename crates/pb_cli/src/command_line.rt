@@ -43,8 +43,8 @@ pub fn run<F: Files, O: Output, E: Output>(
         (IsSaved F.contents files.old files.new) result }
     ensures usage { result ≡ 2 → (fault_of tool (words_of args.now) ≢ []) × (takes tool (words_of args.now) ≡ false) }
 
-    // Where all is done, the files did not fail either.
-    ensures done { result ≡ 0 → F.failures files.new ≡ F.failures files.old }
+    // Where the files failed, the status tells it.
+    ensures kept { result ≢ 3 → F.failures files.new ≡ F.failures files.old }
 {
     let Ok(definition) = definition(alloc) else {
         return Refusal::Memory.tell(err);
@@ -85,7 +85,7 @@ fn dispatch<F: Files, O: Output, E: Output>(
         (SentOrCut E.written E.failures err.old err.new) (IsSaved F.contents files.old files.new)
         (IsUnsaved F.contents F.failures files.old files.new) result (IsHonest F.contents F.is_steady files.old) command }
     ensures status { result ≢ 2 }
-    ensures kept { result ≡ 0 → F.failures files.new ≡ F.failures files.old }
+    ensures kept { result ≢ 3 → F.failures files.new ≡ F.failures files.old }
 {
     let command = command_of(matches);
     execute(alloc, &command, files, out, err)

@@ -1,6 +1,6 @@
 -- How a run ends, from what its command came to and what was told.
 use Rattle.std.proofs.Common.{◌≡◌, ◌≢◌, ℕ, List, [], Option, None, inl, inr, ap, sym, ◌∙◌, subst, arith}
-use Rattle.std.specs.Prelude.{Result, Ok, Err, MatchResult, OnOk, string_bytes}
+use Rattle.std.specs.Prelude.{Result, Ok, Err, MatchResult, IfErr, OnOk, string_bytes}
 use Rattle.pb_command.specs.Answer.{Answer, stopped, Ends, delivered, output_failed, file_failed, out_of_memory}
 use Rattle.pb_command.specs.Report.{device_line}
 use Rattle.pb_command.specs.Refusal.{refusal_line, refusal_status}
@@ -59,22 +59,10 @@ never_two Quiet Told (Err e) status concluded two = no_two e (sym concluded.0 �
     no_two (File path) is = omega (arith, is)
     no_two Memory is = omega (arith, is)
 
--- what holds of a command that succeeds holds where the status is 0
-pub kept_at_zero :
+-- what holds of a command where its refusal has no status 3 holds where the status is not 3
+pub kept_but_at_three :
     (Quiet : Type 0) (Told : Refusal → Type 0) (r : Result Unit Refusal) (status : ℕ) (Kept : Type 0)
-    → MatchResult r (λ _. (status ≡ 0) × Quiet) (λ e. (status ≡ refusal_status e) × Told e) → OnOk r Kept → status ≡ 0 → Kept
-kept_at_zero Quiet Told (Ok u) status Kept concluded kept zero = kept
-kept_at_zero Quiet Told (Err e) status Kept concluded kept zero = absurd (no_zero e (sym concluded.0 ∙ zero))
-  where
-    no_zero : (e : Refusal) → refusal_status e ≡ 0 → ⊥
-    no_zero (Fault byte path cause) e = omega (arith, e)
-    no_zero (Set byte path cause) e = omega (arith, e)
-    no_zero (SetFile file cause) e = omega (arith, e)
-    no_zero (Link file full_name cause) e = omega (arith, e)
-    no_zero (UnknownType name) e = omega (arith, e)
-    no_zero TooLarge e = omega (arith, e)
-    no_zero (Frame index byte path cause) e = omega (arith, e)
-    no_zero (Source file byte cause) e = omega (arith, e)
-    no_zero (Device path) e = omega (arith, e)
-    no_zero (File path) e = omega (arith, e)
-    no_zero Memory e = omega (arith, e)
+    → MatchResult r (λ _. (status ≡ 0) × Quiet) (λ e. (status ≡ refusal_status e) × Told e) → OnOk r Kept
+    → IfErr r (λ e. refusal_status e ≢ 3 → Kept) → status ≢ 3 → Kept
+kept_but_at_three Quiet Told (Ok u) status Kept concluded kept told other = kept
+kept_but_at_three Quiet Told (Err e) status Kept concluded kept told other = told (λ three. other (concluded.0 ∙ three))

@@ -1,6 +1,6 @@
 //! What each command does.
 
-ghost use Rattle.std.specs.Prelude.{◌≡◌, ◌≢◌, OnOk, MatchResult, []};
+ghost use Rattle.std.specs.Prelude.{◌≡◌, ◌≢◌, OnOk, MatchResult, [], IfErr};
 ghost use Rattle.pb_command.specs.Answer.{Ends};
 ghost use Rattle.pb_command.specs.Answers.{Answers, AnyAnswers, AnyBegins, Begins, canonical_form};
 ghost use Rattle.pb_command.specs.FileMap.{FileMap, IsHonest, IsSaved, IsUnsaved};
@@ -39,8 +39,8 @@ pub fn execute<F: Files, O: Output, E: Output>(
         (IsUnsaved F.contents F.failures files.old files.new) result (AnyAnswers command.now) (AnyBegins command.now) }
     ensures status { result ≢ 2 }
 
-    // Where it is done, the files did not fail either.
-    ensures done { result ≡ 0 → F.failures files.new ≡ F.failures files.old }
+    // Where the files failed, the status tells it.
+    ensures kept { result ≢ 3 → F.failures files.new ≡ F.failures files.old }
 {
     let outcome = perform(alloc, command, files, out);
     conclude(outcome, err)
@@ -57,6 +57,7 @@ fn perform<'a, F: Files, O: Output>(
         (IsSaved F.contents files.old files.new) (IsUnsaved F.contents F.failures files.old files.new)
         (RightOf F.contents F.is_steady files.old command.now) (BegunOf F.contents F.is_steady files.old command.now) result }
     ensures kept { OnOk result (F.failures files.new ≡ F.failures files.old) }
+    ensures told { IfErr result (λ e. refusal_status e ≢ 3 → F.failures files.new ≡ F.failures files.old) }
 {
     match command {
         Command::Raw { short, file } => raw(alloc, Limits::FULL, *short, file, files, out),

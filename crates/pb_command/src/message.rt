@@ -1,9 +1,10 @@
 //! The message of a file, by its type.
 
-ghost use Rattle.std.specs.Prelude.{◌≡◌, ◌<◌, length, OnOk};
+ghost use Rattle.std.specs.Prelude.{◌≡◌, ◌≢◌, ◌<◌, length, OnOk, IfErr};
 ghost use Rattle.pb_command.specs.FileMap.{IsSaved, IsUnsaved};
 ghost use Rattle.pb_listing.specs.Sending.{Cut, Sent};
 ghost use Rattle.pb_command.specs.Steps.{Comes, IsNothing, MessageAt, MessageOf};
+ghost use Rattle.pb_command.specs.Refusal.{refusal_status};
 
 use crate::by_type::{find_type, read_message};
 use crate::command::Source;
@@ -26,6 +27,7 @@ pub fn message<'a, F: Files, O: Output>(
         (IsSaved F.contents files.old files.new) (IsUnsaved F.contents F.failures files.old files.new)
         (MessageOf F.contents F.is_steady files.old form.entry source.now) IsNothing result }
     ensures kept { OnOk result (F.failures files.new ≡ F.failures files.old) }
+    ensures told { IfErr result (λ e. refusal_status e ≢ 3 → F.failures files.new ≡ F.failures files.old) }
 {
     let (pool, kind) = find_type(alloc, source, files)?;
     message_at(alloc, form, &pool, kind, source.file, files, out)
@@ -46,6 +48,7 @@ fn message_at<'a, F: Files, O: Output>(
         (IsSaved F.contents files.old files.new) (IsUnsaved F.contents F.failures files.old files.new)
         (MessageAt F.contents F.is_steady files.old form.entry pool.now kind.0 path.entry.now) IsNothing result }
     ensures kept { OnOk result (F.failures files.new ≡ F.failures files.old) }
+    ensures told { IfErr result (λ e. refusal_status e ≢ 3 → F.failures files.new ≡ F.failures files.old) }
 {
     let message = read_message(alloc, pool, kind, path, files)?;
     make(form, &message, files, out)

@@ -1,9 +1,9 @@
 //! Opening the file that a command reads, and reading it.
 
-ghost use Rattle.std.specs.Prelude.{◌≡◌, ◌+◌, true, None, Some, drop, IfOk, IfErr, IfSome, OnOk};
+ghost use Rattle.std.specs.Prelude.{◌≡◌, ◌≢◌, ◌+◌, true, None, Some, drop, IfOk, IfErr, IfSome, IsErrOf, OnOk};
 ghost use Rattle.pb_command.specs.Answer.{device_failed};
 ghost use Rattle.pb_command.specs.FileMap.{IsOpened, KeepsMap};
-ghost use Rattle.pb_command.specs.Refusal.{Refuses};
+ghost use Rattle.pb_command.specs.Refusal.{Refuses, refusal_status};
 ghost use Rattle.pb_command.specs.Steps.{IsReadFrom, IsReadOf, OfFiles};
 
 use crate::files::Files;
@@ -18,6 +18,7 @@ pub fn open_file<'a, F: Files>(path: &'a str, files: &mut F) -> Result<F::In, Re
     ensures refused { IfErr result (Refuses (λ a. OfFiles F.contents F.is_steady files.old path.entry.now (λ content. content ≡ None)
         × (a ≡ device_failed path.entry.now))) }
     ensures kept { OnOk result (F.failures files.new ≡ F.failures files.old) }
+    ensures told { IfErr result (λ e. refusal_status e ≢ 3 → F.failures files.new ≡ F.failures files.old) }
     ensures steady { F.is_steady files.old ≡ true → F.is_steady files.new ≡ true }
     ensures files { KeepsMap (F.contents files.old) (F.contents files.new) }
 {
@@ -38,6 +39,7 @@ pub fn read_file<'a, F: Files>(
     ensures refused { IfErr result (Refuses (λ a. IsReadOf F.contents F.is_steady files.old (limits.bytes + 1) path.entry.now None
         × (a ≡ device_failed path.entry.now))) }
     ensures kept { OnOk result (F.failures files.new ≡ F.failures files.old) }
+    ensures told { IfErr result (λ e. refusal_status e ≢ 3 → F.failures files.new ≡ F.failures files.old) }
     ensures steady { F.is_steady files.old ≡ true → F.is_steady files.new ≡ true }
     ensures files { KeepsMap (F.contents files.old) (F.contents files.new) }
 {
@@ -56,6 +58,7 @@ fn read_input<'a, I: Input>(
     ensures read { IfOk result (λ v. IsReadFrom I.left I.is_steady input.old (limits.bytes + 1) (Some v.items)) }
     ensures refused { IfErr result (Refuses (λ a. IsReadFrom I.left I.is_steady input.old (limits.bytes + 1) None
         × (a ≡ device_failed path.entry.now))) }
+    ensures memory { IsErrOf result Refusal.Memory → I.failures input.new ≡ I.failures input.old }
     ensures rest { IfSome (I.left input.old) (λ left. OnOk result (I.left input.new ≡ Some (drop (limits.bytes + 1) left))) }
 {
     let most = limits.max_bytes() as usize + 1;

@@ -6,6 +6,7 @@ use Rattle.pb_wire.specs.Grammar.{HasFault}
 use Rattle.pb_schema.specs.Context.{a_message, schema_of}
 use Rattle.pb_value.specs.Data.{Message, message_depth}
 use Rattle.pb_value.specs.Derives.{Text}
+use Rattle.pb_value.specs.WellFormed.{IsWellFormed}
 use Rattle.pb_value.specs.Canon.{canon_bytes}
 use Rattle.pb_descr.specs.declared.cause.DeclCause.{DeclCause}
 use Rattle.pb_descr.specs.declared.error.DescrError.{DescrError}
@@ -21,6 +22,10 @@ use Rattle.pb_descr.specs.Writing.{set_body}
 -- the canonical bytes of the set of some files
 abbrev pub set_bytes : List DeclaredFile → List ℕ
 set_bytes files = canon_bytes descriptor_types the_set (set_body files)
+
+-- the message of some files' set is well formed, and the wire can hold its bytes
+abbrev pub IsWritable : List DeclaredFile → Type 0
+IsWritable files = IsWellFormed descriptor_types the_set (set_body files) × (length (set_bytes files) < 2 ^ 31)
 
 -- bytes are a text of a set's message within the limits
 abbrev pub IsSetText : Bounds → List ℕ → Message → Type 0

@@ -1,6 +1,6 @@
 //! Descriptor sets, written.
 
-ghost use Rattle.std.specs.Prelude.{◌≡◌, ◌<◌, ◌≤◌, ◌^◌, [], length, map, IfOk, IfErr, OnOk, MatchResult};
+ghost use Rattle.std.specs.Prelude.{◌≡◌, ◌≤◌, [], map, IfOk, IfErr, OnOk};
 ghost use Rattle.pb_wire.specs.Limits.{full};
 ghost use Rattle.pb_value.specs.Data.{message_depth};
 ghost use Rattle.pb_value.specs.WellFormed.{IsWellFormed};
@@ -8,7 +8,7 @@ ghost use Rattle.pb_descr.specs.Pool.{the_set, descriptor_types};
 ghost use Rattle.pb_descr.specs.View.{file_view};
 ghost use Rattle.pb_descr.specs.Causes.{set_causes};
 ghost use Rattle.pb_descr.specs.Writing.{set_body};
-ghost use Rattle.pb_descr.specs.Sets.{CutAt, IsSetOf, IsUnwritten, set_bytes};
+ghost use Rattle.pb_descr.specs.Sets.{CutAt, IsSetOf, IsUnwritten, IsWritable, set_bytes};
 ghost use Rattle.pb_descr.specs.declared.error.WriteSetError.TheVariants.{TooDeep, TooLarge, Memory};
 
 use crate::decl::FileDecl;
@@ -49,10 +49,8 @@ fn set_message<'p>(
 /// want of memory.
 pub fn write_set(alloc: Global, files: &[FileDecl]) -> Result<Vec<u8>, WriteSetError>
     ensures canonical { IfOk result (λ b. b.items ≡ set_bytes (map file_view files.now)) }
-    ensures fits { OnOk result ((message_depth (set_body (map file_view files.now)) ≤ 100) × (length (set_bytes (map file_view files.now)) < 2 ^ 31)) }
+    ensures fits { OnOk result ((message_depth (set_body (map file_view files.now)) ≤ 100) × IsWritable (map file_view files.now)) }
     ensures refused { IfErr result (IsUnwritten (map file_view files.now)) }
-    ensures writable { message_depth (set_body (map file_view files.now)) ≤ 100 → length (set_bytes (map file_view files.now)) < 2 ^ 31
-        → MatchResult result (λ b. b.items ≡ set_bytes (map file_view files.now)) (λ e. e ≡ Memory) }
     ensures read_back { set_causes (set_body (map file_view files.now)) ≡ [] → IfOk result (λ b. IsSetOf full b.items (map file_view files.now)) }
 {
     let Ok(pool) = descriptor_pool(alloc) else {

@@ -8,12 +8,14 @@ pub(crate) mod text;
 
 ghost use Rattle.std.specs.Prelude.{◌≡◌, ◌<◌, ◌^◌, [], pos, length, map, drop, string_bytes, Some, slice_get, IfOk, IfErr, OnOk};
 ghost use Rattle.std.specs.List.{enumerate_from};
+ghost use Rattle.pb_wire.specs.Limits.{full};
 ghost use Rattle.pb_schema.specs.Types.{FileView};
 ghost use Rattle.pb_schema.specs.View.{file_view as view_of_file};
 ghost use Rattle.pb_schema.specs.Names.{name_at};
 ghost use Rattle.pb_schema.specs.Rules.{IsPool};
 ghost use Rattle.pb_descr.specs.View.{file_view};
 ghost use Rattle.pb_descr.specs.Causes.{set_causes};
+ghost use Rattle.pb_descr.specs.Sets.{IsSetOf, IsWritable, set_bytes};
 ghost use Rattle.pb_descr.specs.Writing.{set_body};
 ghost use Rattle.pb_link.specs.declared.error.LinkError.TheVariants.{Memory};
 ghost use Rattle.pb_link.specs.Linking.{Links};
@@ -23,7 +25,7 @@ ghost use Rattle.pb_link.specs.Nested.{inside_view, inside_file, AreInside};
 use crate::declaring::nesting::{Inside, nested};
 use crate::error::LinkError;
 pub use order::{declared_order, declared_pool};
-use pb_descr::FileDecl;
+use pb_descr::{FileDecl, set_back};
 use pb_schema::{FileInfo, Pool};
 use std::alloc::{AllocError, Global};
 
@@ -117,16 +119,18 @@ fn pool_decls(alloc: Global, pool: &Pool) -> Result<Vec<FileDecl>, AllocError>
 /// The files of a pool as declarations: no services and no reserved parts, each import public, each type number given and each type
 /// name full behind a dot, and entry messages and the oneofs of optional fields made anew.
 ///
-/// Every rule of linking holds of them, and linking them makes the pool's types again. Their set shows no cause, so that what `write_set`
-/// writes of them is read back.
+/// Every rule of linking holds of them, and linking them makes the pool's types again. Their set shows no cause, so that its canonical
+/// bytes, which `write_set` writes, are a set of them.
 ///
 /// In time and memory by the size of the pool and of the names that its fields mention.
 pub fn to_decls(alloc: Global, pool: &Pool) -> Result<Vec<FileDecl>, LinkError>
     ensures decls { IfOk result (λ v. map file_view v.items ≡ decls_of pool.now) }
     ensures linked { IfOk result (λ v. Links (map file_view v.items) pool.now) }
     ensures silent { IfOk result (λ v. set_causes (set_body (map file_view v.items)) ≡ []) }
+    ensures set { IfOk result (λ v. IsWritable (map file_view v.items) → IsSetOf full (set_bytes (map file_view v.items)) (map file_view v.items)) }
     ensures refused { IfErr result (λ e. e ≡ Memory) }
 {
     let decls = pool_decls(alloc, pool)?;
+    set_back();
     Ok(decls)
 }

@@ -27,6 +27,7 @@ pub fn read_up_to<I: Input>(
     ensures size { IfOk result (λ text. length text.items ≤ limit) }
     ensures kept { OnOk result (I.failures input.new ≡ I.failures input.old) }
     ensures failed { IsErrOf result ReadFault.Device → I.failures input.new ≢ I.failures input.old }
+    ensures memory { IsErrOf result ReadFault.Memory → I.failures input.new ≡ I.failures input.old }
     ensures steady { I.is_steady input.old ≡ true → result ≢ Err ReadFault.Device }
     ensures stays { I.is_steady input.old ≡ true → I.is_steady input.new ≡ true }
 {

@@ -53,11 +53,3 @@ dispatch-requires g c =
     let built_tool = e.parsed.from in
     let there = (e.parsed.parsed (built_tool.globals ∙ c.in-Ok.ensures.local)).checked.subcommand (built_tool.needs_subcommand ∙ ap (λ (a : App). a.top.subcommand_required) app) in
     subcommand_named _ words there ((e.matches (ap is_simple app)).1 ∙ ap (λ (a : App). subcommand_of a words) app)
-
--- ---- a status that is not 0
-
-pub returns-in_default-clause-done : goal.returns-in_default-clause-done
-returns-in_default-clause-done g c = λ zero. absurd (let status = c.tell.ensures.status in omega arith)
-
-pub returns-in-Err-clause-done : goal.returns-in-Err-clause-done
-returns-in-Err-clause-done g c = λ zero. elim c.usage.ensures.status [ inl two ↦ absurd (omega arith) | inr three ↦ absurd (omega arith) ]

@@ -4,7 +4,7 @@ use Rattle.pb_command.specs.FileMap.{IsSaved, IsUnsaved}
 use Rattle.pb_listing.specs.Sending.{Cut, Sent, SentOrCut}
 use Rattle.pb_command.specs.Steps.{BegunOf, RightOf}
 use Rattle.pb_command.proofs.Coming.{comes_map}
-use Rattle.pb_command.proofs.Endings.{ends_from, kept_at_zero, never_two}
+use Rattle.pb_command.proofs.Endings.{ends_from, kept_but_at_three, never_two}
 use Rattle.pb_command.proofs.Honest.{begun_of_any, begun_of_map, right_of_any, right_of_map}
 use Rattle.pb_command.proofs.executing.execute.Goals as goal
 
@@ -43,5 +43,6 @@ returns-clause-any g c =
 pub returns-clause-status : goal.returns-clause-status
 returns-clause-status g c = never_two _ _ c.perform-outcome.result c.conclude.result c.conclude.ensures
 
-pub returns-clause-done : goal.returns-clause-done
-returns-clause-done g c = λ zero. kept_at_zero _ _ c.perform-outcome.result c.conclude.result _ c.conclude.ensures c.perform-outcome.ensures.kept zero
+pub returns-clause-kept : goal.returns-clause-kept
+returns-clause-kept g c = λ other.
+    kept_but_at_three _ _ c.perform-outcome.result c.conclude.result _ c.conclude.ensures c.perform-outcome.ensures.kept c.perform-outcome.ensures.told other

@@ -8,6 +8,6 @@ use Rattle.pb_descr.proofs.laws.set_back.Goals as goal
 pub returns : goal.returns
 returns c = record {
   files = set_back;
-  bytes = λ files. written_is_set files (set_bytes files) refl;
+  bytes = λ files writable. written_is_set files (set_bytes files) refl writable.0 writable.1;
   pool = descriptor_is_pool;
 }

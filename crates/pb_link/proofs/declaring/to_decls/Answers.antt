@@ -1,4 +1,5 @@
-use Rattle.std.proofs.Common.{◌≡◌, [], sym, subst}
+use Rattle.std.proofs.Common.{◌≡◌, [], map, sym, subst}
+use Rattle.pb_descr.specs.View.{file_view}
 use Rattle.pb_descr.specs.Causes.{set_causes}
 use Rattle.pb_descr.specs.Writing.{set_body}
 use Rattle.pb_link.specs.Linking.{Links}
@@ -19,3 +20,8 @@ returns-clause-linked c =
 
 pub returns-clause-silent : goal.returns-clause-silent
 returns-clause-silent c = subst (λ files. set_causes (set_body files) ≡ []) (sym c.in_ok-decls.ensures.decls) (declared_silent c.args.pool.now c.in_ok-decls.ensures.rules)
+
+pub returns-clause-set : goal.returns-clause-set
+returns-clause-set c = λ writable.
+    c.set_back.ensures.bytes (map file_view c.in_ok-decls.decls.items) writable
+    (subst (λ files. set_causes (set_body files) ≡ []) (sym c.in_ok-decls.ensures.decls) (declared_silent c.args.pool.now c.in_ok-decls.ensures.rules))
