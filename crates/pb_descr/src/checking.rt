@@ -4,7 +4,8 @@ ghost use Rattle.std.specs.Prelude.{◌≡◌, map, flat_map, is_some, slice_get
 ghost use Rattle.pb_value.specs.View.{value_view};
 ghost use Rattle.pb_descr.specs.Held.{fields_in, text_at, int_at};
 ghost use Rattle.pb_descr.specs.Reading.{is_proto2};
-ghost use Rattle.pb_descr.specs.Causes.{is_label, has_bad_type, is_group, has_any, is_proto3, has_known_syntax, named_causes, type_causes, proto2_causes, field_causes, listed_causes, head_causes, message_causes, file_head_causes, file_causes, causes_from, Judges};
+ghost use Rattle.pb_descr.specs.Causes.{is_label, has_bad_type, is_group, has_any, is_proto3, has_known_syntax, named_causes, type_causes, proto2_causes};
+ghost use Rattle.pb_descr.specs.Causes.{field_causes, listed_causes, head_causes, message_causes, file_head_causes, file_causes, causes_from, Judges};
 
 use crate::cause::DeclCause;
 use crate::decl::TypeCode;

@@ -4,7 +4,8 @@ ghost use Rattle.std.specs.Prelude.{◌≡◌, map, filter_map, option_map, opti
 ghost use Rattle.pb_value.specs.View.{value_view};
 ghost use Rattle.pb_descr.specs.Held.{fields_in, data_at, text_in, int_in, text_at, int_at};
 ghost use Rattle.pb_descr.specs.View.{field_view, numbered_view, enum_view, message_view, method_view, service_view, file_view};
-ghost use Rattle.pb_descr.specs.Reading.{range_in, label_at, type_of_number, field_in, value_in, enum_in, oneof_in, message_in, method_in, service_in, is_proto2, file_in};
+ghost use Rattle.pb_descr.specs.Reading.{range_in, label_at, type_of_number, field_in, value_in, enum_in};
+ghost use Rattle.pb_descr.specs.Reading.{oneof_in, message_in, method_in, service_in, is_proto2, file_in};
 
 use crate::decl::{EnumDecl, FieldDecl, FileDecl, MessageDecl, MethodDecl, ServiceDecl, TypeCode};
 use crate::held::{

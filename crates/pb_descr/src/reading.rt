@@ -85,7 +85,8 @@ pub fn read_set(alloc: Global, bytes: &[u8]) -> Result<Vec<FileDecl>, DescrError
     ensures refused { IfErr result (IsUnread full bytes.now) }
     ensures accepted { (files : List DeclaredFile) → IsSetOf full bytes.now files → MatchResult result (λ v. map file_view v.items ≡ files) (λ e. e ≡ Memory) }
     ensures fault { (f : Fault) → HasFault (schema_of descriptor_types) (a_message the_set) full bytes.now f → IsErrAnd result (TellsFault f) }
-    ensures cause { (set : Message) (i : ℕ) (c : DeclCause) → IsSetText full bytes.now set → slice_get (set_causes set) 0 ≡ Some (i, c) → IsErrAnd result (TellsCause i c) }
+    ensures cause { (set : Message) (i : ℕ) (c : DeclCause) → IsSetText full bytes.now set → slice_get (set_causes set) 0 ≡ Some (i, c)
+        → IsErrAnd result (TellsCause i c) }
 {
     let set = decode_set(alloc, bytes)?;
     let files = declared_files(alloc, set)?;

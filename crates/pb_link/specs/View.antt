@@ -1,5 +1,5 @@
 -- What the row of declarations stands for, and what type names in it come to.
-use Rattle.std.specs.Prelude.{List, [], ◌∷◌, take, string_bytes}
+use Rattle.std.specs.Prelude.{◌≡◌, List, [], ◌∷◌, ◌++◌, map, take, string_bytes}
 use Rattle.pb_link.specs.Declarations.{Declaration}
 use Rattle.pb_link.specs.ItemView.{item_view}
 use Rattle.pb_link.specs.Lookup.{Found, found, not_found, not_visible, not_a_type}
@@ -11,6 +11,10 @@ use Rattle.pb_link.specs.declared.found.TypeNames.TheVariants as names
 
 abbrev pub declaration_view : DeclarationValue → Declaration
 declaration_view d = record { file = d.file; parent = d.parent; scope = take d.scope_len (string_bytes d.full_name); item = item_view d.item }
+
+-- a row of declarations grew by these, behind those that it had
+abbrev pub Adds : List DeclarationValue → List DeclarationValue → List Declaration → Type 0
+Adds old new more = map declaration_view new ≡ map declaration_view old ++ more
 
 abbrev pub found_view : FoundValue → Found
 found_view (value.Type place) = found place

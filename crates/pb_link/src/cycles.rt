@@ -65,7 +65,8 @@ fn is_cycle_at(
     requires size { vec_len reach.old.bits ≡ vec_len imports.now.all }
     ensures listed { OnOk result (IsListed reach.new) }
     ensures size { OnOk result (vec_len reach.new.bits ≡ vec_len imports.now.all) }
-    ensures exact { IfOk result (λ b. (files : List DeclaredFile) (w : World) (place : ℕ) → AreImports files imports.now → IsWorldOf files w → b ≡ not (holds w place (declaration_view declaration.now) ImportCycle)) }
+    ensures exact { IfOk result (λ b. (files : List DeclaredFile) (w : World) (place : ℕ) → AreImports files imports.now → IsWorldOf files w
+        → b ≡ not (holds w place (declaration_view declaration.now) ImportCycle)) }
 {
     let Some(_) = file_in(declaration.item) else {
         return Ok(false);
@@ -81,7 +82,8 @@ pub(crate) fn first_cycle(
     imports: &Imports,
 ) -> Result<Option<usize>, AllocError>
     requires { LeadToFiles imports.now }
-    ensures { IfOk result (λ first. (files : List DeclaredFile) (w : World) → AreImports files imports.now → IsWorldOf files w → w.declared ≡ map declaration_view row.now → first ≡ position not (holds_table w ImportCycle)) }
+    ensures { IfOk result (λ first. (files : List DeclaredFile) (w : World) → AreImports files imports.now → IsWorldOf files w
+        → w.declared ≡ map declaration_view row.now → first ≡ position not (holds_table w ImportCycle)) }
 {
     let numbers = component_numbers(alloc, &imports.all)?;
     let mut reach = Reach::new(alloc, imports.all.len())?;

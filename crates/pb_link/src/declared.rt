@@ -1,14 +1,17 @@
 //! All declarations of some files in one row, in declaration order.
 
-ghost use Rattle.std.specs.Prelude.{◌≡◌, ◌+◌, ◌++◌, [], ◌∷◌, length, map, IfOk, OnOk, string_bytes, vec_len};
+ghost use Rattle.std.specs.Prelude.{◌≡◌, ◌+◌, [], ◌∷◌, length, map, IfOk, OnOk, string_bytes, vec_len};
 ghost use Rattle.std.specs.List.{enumerate_from};
 ghost use Rattle.pb_schema.specs.Names.{in_scope};
 ghost use Rattle.pb_descr.specs.Decls.{messages_of};
 ghost use Rattle.pb_descr.specs.View.{field_view, message_view, numbered_view, enum_view, method_view, service_view, file_view};
-ghost use Rattle.pb_link.specs.Declarations.{a_field, a_oneof, a_value, fields_of, oneofs_of, values_of, enum_declared, enums_declared, head_row, message_declared, messages_declared, methods_of, service_declared, services_declared, file_declared, files_declared, declarations, head_of, simple_name};
+ghost use Rattle.pb_link.specs.Declarations.{a_field, a_oneof, a_value, fields_of, oneofs_of};
+ghost use Rattle.pb_link.specs.Declarations.{values_of, enum_declared, enums_declared, head_row, message_declared};
+ghost use Rattle.pb_link.specs.Declarations.{messages_declared, methods_of, service_declared, services_declared, file_declared};
+ghost use Rattle.pb_link.specs.Declarations.{files_declared, declarations, head_of, simple_name};
 ghost use Rattle.pb_link.specs.ItemView.{item_view};
 ghost use Rattle.pb_link.specs.Marks.{marks_of};
-ghost use Rattle.pb_link.specs.View.{declaration_view};
+ghost use Rattle.pb_link.specs.View.{declaration_view, Adds};
 
 use crate::declaration::Declaration;
 use crate::item::Item;
@@ -44,7 +47,7 @@ fn add<'a>(
 ) -> Result<(), AllocError>
     requires named { name.now ≡ simple_name (item_view item) }
     requires marked { marks ≡ marks_of (item_view item) }
-    ensures { OnOk result (map declaration_view row.new.items ≡ map declaration_view row.old.items ++ record { file = file; parent = parent; scope = scope.now; item = item_view item.entry } ∷ []) }
+    ensures { OnOk result (Adds row.old.items row.new.items (record { file = file; parent = parent; scope = scope.now; item = item_view item.entry } ∷ [])) }
 {
     row.push(Declaration {
         file,
@@ -68,7 +71,8 @@ fn add_fields<'a>(
     row: &mut Vec<Declaration<'a>>,
 ) -> Result<(), AllocError>
     requires { marks.now ≡ map (λ e. marks_of (a_field (head_of (message_view message.now)) e.0 e.1)) (enumerate_from 0 (map field_view fields.now)) }
-    ensures { OnOk result (map declaration_view row.new.items ≡ map declaration_view row.old.items ++ fields_of file parent scope.now (head_of (message_view message.now)) (map field_view fields.now)) }
+    ensures { OnOk result
+        (Adds row.old.items row.new.items (fields_of file parent scope.now (head_of (message_view message.now)) (map field_view fields.now))) }
 {
     for (index, field) in fields.iter().enumerate() {
         let name = field.name.as_str();
@@ -89,7 +93,8 @@ fn add_oneofs<'a>(
     row: &mut Vec<Declaration<'a>>,
 ) -> Result<(), AllocError>
     requires { marks.now ≡ map (λ e. marks_of (a_oneof (head_of (message_view message.now)) e.0 e.1)) (enumerate_from 0 (map string_bytes oneofs.now)) }
-    ensures { OnOk result (map declaration_view row.new.items ≡ map declaration_view row.old.items ++ oneofs_of file parent scope.now (head_of (message_view message.now)) (map string_bytes oneofs.now)) }
+    ensures { OnOk result
+        (Adds row.old.items row.new.items (oneofs_of file parent scope.now (head_of (message_view message.now)) (map string_bytes oneofs.now))) }
 {
     for (index, oneof) in oneofs.iter().enumerate() {
         let name = oneof.as_str();
@@ -110,7 +115,7 @@ fn add_values<'a>(
     row: &mut Vec<Declaration<'a>>,
 ) -> Result<(), AllocError>
     requires { marks.now ≡ map (λ e. marks_of (a_value (enum_view entry.now) e.0 e.1)) (enumerate_from 0 (map numbered_view values.now)) }
-    ensures { OnOk result (map declaration_view row.new.items ≡ map declaration_view row.old.items ++ values_of file parent scope.now (enum_view entry.now) (map numbered_view values.now)) }
+    ensures { OnOk result (Adds row.old.items row.new.items (values_of file parent scope.now (enum_view entry.now) (map numbered_view values.now))) }
 {
     for (index, value) in values.iter().enumerate() {
         let name = value.0.as_str();
@@ -128,7 +133,7 @@ fn add_enum<'a>(
     entry: &'a EnumDecl,
     row: &mut Vec<Declaration<'a>>,
 ) -> Result<(), AllocError>
-    ensures { OnOk result (map declaration_view row.new.items ≡ map declaration_view row.old.items ++ enum_declared file parent scope.now (length row.old.items) (enum_view entry.now)) }
+    ensures { OnOk result (Adds row.old.items row.new.items (enum_declared file parent scope.now (length row.old.items) (enum_view entry.now))) }
 {
     let place = row.len();
     let reserved = Reserved::of_enum(alloc, entry)?;
@@ -156,7 +161,7 @@ fn add_enums<'a>(
     enums: &'a [EnumDecl],
     row: &mut Vec<Declaration<'a>>,
 ) -> Result<(), AllocError>
-    ensures { OnOk result (map declaration_view row.new.items ≡ map declaration_view row.old.items ++ enums_declared file parent scope.now (length row.old.items) (map enum_view enums.now)) }
+    ensures { OnOk result (Adds row.old.items row.new.items (enums_declared file parent scope.now (length row.old.items) (map enum_view enums.now))) }
 {
     for entry in enums {
         add_enum(alloc, file, parent, scope, entry, row)?;
@@ -174,7 +179,7 @@ fn add_head<'a>(
     message: &'a MessageDecl,
     row: &mut Vec<Declaration<'a>>,
 ) -> Result<(), AllocError>
-    ensures { OnOk result (map declaration_view row.new.items ≡ map declaration_view row.old.items ++ head_row file parent scope.now full_name.now (length row.old.items) (message_view message.now)) }
+    ensures { OnOk result (Adds row.old.items row.new.items (head_row file parent scope.now full_name.now (length row.old.items) (message_view message.now))) }
 {
     let place = row.len();
     let reserved = Reserved::of_message(alloc, message)?;
@@ -223,7 +228,7 @@ fn add_message<'a>(
     message: &'a MessageDecl,
     row: &mut Vec<Declaration<'a>>,
 ) -> Result<(), AllocError>
-    ensures { OnOk result (map declaration_view row.new.items ≡ map declaration_view row.old.items ++ message_declared file parent scope.now (length row.old.items) (message_view message.now)) }
+    ensures { OnOk result (Adds row.old.items row.new.items (message_declared file parent scope.now (length row.old.items) (message_view message.now))) }
 {
     let place = row.len();
     let full_name = scoped(alloc, scope, message.name.as_str())?;
@@ -243,7 +248,8 @@ fn add_messages<'a>(
     messages: &'a [MessageDecl],
     row: &mut Vec<Declaration<'a>>,
 ) -> Result<(), AllocError>
-    ensures { OnOk result (map declaration_view row.new.items ≡ map declaration_view row.old.items ++ messages_declared file parent scope.now (length row.old.items) (messages_of (map message_view messages.now))) }
+    ensures { OnOk result
+        (Adds row.old.items row.new.items (messages_declared file parent scope.now (length row.old.items) (messages_of (map message_view messages.now)))) }
 {
     for message in messages {
         add_message(alloc, file, parent, scope, message, row)?;
@@ -259,7 +265,7 @@ fn add_methods<'a>(
     methods: &'a [MethodDecl],
     row: &mut Vec<Declaration<'a>>,
 ) -> Result<(), AllocError>
-    ensures { OnOk result (map declaration_view row.new.items ≡ map declaration_view row.old.items ++ methods_of file parent scope.now (map method_view methods.now)) }
+    ensures { OnOk result (Adds row.old.items row.new.items (methods_of file parent scope.now (map method_view methods.now))) }
 {
     for method in methods {
         let name = method.name.as_str();
@@ -285,7 +291,7 @@ fn add_service<'a>(
     service: &'a ServiceDecl,
     row: &mut Vec<Declaration<'a>>,
 ) -> Result<(), AllocError>
-    ensures { OnOk result (map declaration_view row.new.items ≡ map declaration_view row.old.items ++ service_declared file parent scope.now (length row.old.items) (service_view service.now)) }
+    ensures { OnOk result (Adds row.old.items row.new.items (service_declared file parent scope.now (length row.old.items) (service_view service.now))) }
 {
     let place = row.len();
     let name = service.name.as_str();
@@ -318,7 +324,7 @@ fn add_services<'a>(
     services: &'a [ServiceDecl],
     row: &mut Vec<Declaration<'a>>,
 ) -> Result<(), AllocError>
-    ensures { OnOk result (map declaration_view row.new.items ≡ map declaration_view row.old.items ++ services_declared file parent scope.now (length row.old.items) (map service_view services.now)) }
+    ensures { OnOk result (Adds row.old.items row.new.items (services_declared file parent scope.now (length row.old.items) (map service_view services.now))) }
 {
     for service in services {
         add_service(alloc, file, parent, scope, service, row)?;
@@ -332,7 +338,7 @@ fn add_file<'a>(
     file: &'a FileDecl,
     row: &mut Vec<Declaration<'a>>,
 ) -> Result<(), AllocError>
-    ensures { OnOk result (map declaration_view row.new.items ≡ map declaration_view row.old.items ++ file_declared index (length row.old.items) (file_view file.now)) }
+    ensures { OnOk result (Adds row.old.items row.new.items (file_declared index (length row.old.items) (file_view file.now))) }
 {
     let place = row.len();
     let scope = file.package.as_str();

@@ -104,7 +104,8 @@ fn imports_of(
     firsts: &Firsts,
     file: &FileDecl,
 ) -> Result<(Vec<usize>, Vec<usize>), AllocError>
-    ensures { (files : List DeclaredFile) → ((name : List ℕ) → first_at firsts.now name ≡ file_named files name) → IfOk result (λ r. (r.0.items ≡ (file_of files (file_view file.now)).imports) × (r.1.items ≡ (public_file_of files (file_view file.now)).imports)) }
+    ensures { (files : List DeclaredFile) → ((name : List ℕ) → first_at firsts.now name ≡ file_named files name)
+        → IfOk result (λ r. (r.0.items ≡ (file_of files (file_view file.now)).imports) × (r.1.items ≡ (public_file_of files (file_view file.now)).imports)) }
 {
     let targets = targets(alloc, firsts, &file.imports)?;
     let all = all_of(alloc, &targets)?;

@@ -84,7 +84,9 @@ pub(crate) fn judge(
     declaration: &Declaration,
     at: At,
 ) -> Option<LinkCause>
-    ensures { (s : Sight) (place : ℕ) → TellsAt (world_of (map file_view files.now) (map declaration_view row.now) s) place (declaration_view declaration.now) at → result ≡ first_cause (world_of (map file_view files.now) (map declaration_view row.now) s) place (declaration_view declaration.now) }
+    ensures { (s : Sight) (place : ℕ)
+        → TellsAt (world_of (map file_view files.now) (map declaration_view row.now) s) place (declaration_view declaration.now) at
+        → result ≡ first_cause (world_of (map file_view files.now) (map declaration_view row.now) s) place (declaration_view declaration.now) }
 {
     let name_is_right = name_is_right(declaration);
     let marks = marks_of(declaration);

@@ -84,7 +84,8 @@ fn is_kept(reserved: &Reserved, field: &FieldDecl) -> bool
 
 /// The marks of a field, where it is told whether it is the first of its number.
 fn field_mark(reserved: &Reserved, oneofs: &Oneofs, field: &FieldDecl, is_first: bool) -> Marks
-    ensures { (head : MessageHead) (i : ℕ) → ReservesInMessage head reserved.now → AreOneofsOf head oneofs.now → is_first ≡ number_is_free (a_field head i (field_view field.now)) → result ≡ marks_of (a_field head i (field_view field.now)) }
+    ensures { (head : MessageHead) (i : ℕ) → ReservesInMessage head reserved.now → AreOneofsOf head oneofs.now
+        → is_first ≡ number_is_free (a_field head i (field_view field.now)) → result ≡ marks_of (a_field head i (field_view field.now)) }
 {
     Marks {
         is_named: true,
@@ -135,7 +136,8 @@ fn oneofs_of(alloc: Global, message: &MessageDecl) -> Result<Oneofs, AllocError>
 fn oneof_mark(oneofs: &Oneofs, index: usize, follows_synthetic: bool) -> Marks
     requires size { index < length oneofs.now.members.items }
     requires sizes { length oneofs.now.are_synthetic.items ≡ length oneofs.now.members.items }
-    ensures { (head : MessageHead) (name : List ℕ) → AreOneofsOf head oneofs.now → follows_synthetic ≡ list_any (λ e. is_synthetic head e.0) (take index (enumerate_from 0 head.oneofs)) → result ≡ marks_of (a_oneof head index name) }
+    ensures { (head : MessageHead) (name : List ℕ) → AreOneofsOf head oneofs.now
+        → follows_synthetic ≡ list_any (λ e. is_synthetic head e.0) (take index (enumerate_from 0 head.oneofs)) → result ≡ marks_of (a_oneof head index name) }
 {
     Marks {
         is_named: !oneofs.are_synthetic[index],
@@ -176,7 +178,8 @@ fn either(one: bool, other: bool) -> bool
 /// The marks of a value, where it is told whether it is the first of its number.
 fn value_mark(reserved: &Reserved, entry: &EnumDecl, value: &(String, i32), is_first: bool) -> Marks
     requires { ReservesInEnum (enum_view entry.now) reserved.now }
-    ensures { (i : ℕ) → is_first ≡ not (list_any (λ u. int_eq value.now.1 u.1) (take i (enum_view entry.now).values)) → result ≡ marks_of (a_value (enum_view entry.now) i (numbered_view value.now)) }
+    ensures { (i : ℕ) → is_first ≡ not (list_any (λ u. int_eq value.now.1 u.1) (take i (enum_view entry.now).values))
+        → result ≡ marks_of (a_value (enum_view entry.now) i (numbered_view value.now)) }
 {
     Marks {
         is_named: true,

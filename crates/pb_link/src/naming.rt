@@ -115,7 +115,8 @@ fn type_names(
 ) -> Result<Vec<TypeNames>, AllocError>
     requires row { map declaration_view row.now ≡ declarations (map file_view files.now) }
     requires ready { IsReady (map file_view files.now) imports.now scene.old }
-    ensures { IfOk result (λ v. (w : World) → IsWorldOf (map file_view files.now) w → map type_names_view v.items ≡ map (lookups w) (map declaration_view row.now)) }
+    ensures { IfOk result (λ v. (w : World) → IsWorldOf (map file_view files.now) w
+        → map type_names_view v.items ≡ map (lookups w) (map declaration_view row.now)) }
 {
     let mut found: Vec<TypeNames> = Vec::new(alloc);
     for declaration in row {

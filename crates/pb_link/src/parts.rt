@@ -37,8 +37,10 @@ pub(crate) fn linked_pool(
 ) -> Result<Pool, PoolError>
     requires imports { map (λ v. v.items) imports.now ≡ map (λ f. f.imports) (files_of (map file_view files.now)) }
     requires sizes { length found.now ≡ length row.now }
-    ensures made { (w : World) → IsWorldOf (map file_view files.now) w → NothingFails w → w.declared ≡ map declaration_view row.now → map type_names_view found.now ≡ map (lookups w) w.declared → IfOk result (λ p. p ≡ pool_of (map file_view files.now) w) }
-    ensures refused { (w : World) → IsWorldOf (map file_view files.now) w → NothingFails w → w.declared ≡ map declaration_view row.now → map type_names_view found.now ≡ map (lookups w) w.declared → IfErr result (λ e. e ≡ Memory) }
+    ensures made { (w : World) → IsWorldOf (map file_view files.now) w → NothingFails w → w.declared ≡ map declaration_view row.now
+        → map type_names_view found.now ≡ map (lookups w) w.declared → IfOk result (λ p. p ≡ pool_of (map file_view files.now) w) }
+    ensures refused { (w : World) → IsWorldOf (map file_view files.now) w → NothingFails w → w.declared ≡ map declaration_view row.now
+        → map type_names_view found.now ≡ map (lookups w) w.declared → IfErr result (λ e. e ≡ Memory) }
 {
     let tables = Tables {
         files,
@@ -64,7 +66,8 @@ pub(crate) fn pool_of_names(
 ) -> Result<Pool, PoolError>
     requires row { map declaration_view row.now ≡ declarations (map file_view files.now) }
     requires sizes { length names.now.found.items ≡ length row.now }
-    ensures made { (w : World) → IsWorldOf (map file_view files.now) w → NothingFails w → AreNamesOf w names.now → IfOk result (λ p. p ≡ pool_of (map file_view files.now) w) }
+    ensures made { (w : World) → IsWorldOf (map file_view files.now) w → NothingFails w → AreNamesOf w names.now
+        → IfOk result (λ p. p ≡ pool_of (map file_view files.now) w) }
     ensures refused { (w : World) → IsWorldOf (map file_view files.now) w → NothingFails w → AreNamesOf w names.now → IfErr result (λ e. e ≡ Memory) }
 {
     let imports = Imports::new(alloc, files)?;

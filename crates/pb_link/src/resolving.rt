@@ -30,7 +30,8 @@ use std::alloc::Global;
 pub fn resolve(alloc: Global, files: &[FileDecl]) -> Result<Vec<FileDecl>, LinkError>
     ensures resolved { IfOk result (λ v. Resolves (map file_view files.now) (map file_view v.items)) }
     ensures refused { IfErr result (IsUnlinked (map file_view files.now)) }
-    ensures accepted { (answer : List DeclaredFile) → Resolves (map file_view files.now) answer → MatchResult result (λ v. map file_view v.items ≡ answer) (λ e. e ≡ Memory) }
+    ensures accepted { (answer : List DeclaredFile) → Resolves (map file_view files.now) answer
+        → MatchResult result (λ v. map file_view v.items ≡ answer) (λ e. e ≡ Memory) }
     ensures fault { (file name : List ℕ) (c : CauseValue) → LinkFault (map file_view files.now) file name c → IsErrAnd result (TellsLinkFault file name c) }
 {
     let row = row(alloc, files)?;

@@ -5,7 +5,8 @@ ghost use Rattle.std.specs.List.{list_any};
 ghost use Rattle.pb_schema.specs.Names.{in_scope};
 ghost use Rattle.pb_link.specs.View.{declaration_view, found_view};
 ghost use Rattle.pb_link.specs.Declarations.{Declaration as DeclarationView};
-ghost use Rattle.pb_link.specs.Lookup.{type_named, is_package_name, can_hold, is_taken, decides, scopes_from, decided_name, type_found, is_taken_if, is_no_type, looked_up};
+ghost use Rattle.pb_link.specs.Lookup.{type_named, is_package_name, can_hold, is_taken, decides, scopes_from};
+ghost use Rattle.pb_link.specs.Lookup.{decided_name, type_found, is_taken_if, is_no_type, looked_up};
 ghost use Rattle.pb_link.specs.Graphs.{sees_by};
 ghost use Rattle.pb_link.specs.Scene.{IsScene, scene_sees};
 
@@ -97,7 +98,8 @@ impl Scene {
         scope: &'a [u8],
     ) -> Result<Option<&'a [u8]>, AllocError>
         requires { IsScene (map declaration_view row.now) self.now }
-        ensures { IfOk result (λ o. option_map (λ s. s.now) o ≡ find (decides (map declaration_view row.now) (scene_sees everywhere self.now) name.now) (scopes_from scope.now)) }
+        ensures { IfOk result (λ o. option_map (λ s. s.now) o ≡ find (decides (map declaration_view row.now) (scene_sees everywhere self.now) name.now)
+            (scopes_from scope.now)) }
     {
         let mut around = Some(scope);
         while let Some(scope) = around {
@@ -119,7 +121,9 @@ impl Scene {
         name: &[u8],
     ) -> Result<Option<Vec<u8>>, AllocError>
         requires { IsScene (map declaration_view row.now) self.now }
-        ensures { IfOk result (λ o. option_map (λ v. v.items) o ≡ option_map (λ s. in_scope s name.now) (find (decides (map declaration_view row.now) (scene_sees everywhere self.now) name.now) (scopes_from scope.now))) }
+        ensures { IfOk result (λ o. option_map (λ v. v.items) o
+            ≡ option_map (λ s. in_scope s name.now) (find (decides (map declaration_view row.now) (scene_sees everywhere self.now) name.now)
+            (scopes_from scope.now))) }
     {
         match self.deciding_scope(alloc, row, everywhere, name, scope)? {
             Some(scope) => Ok(Some(scoped(alloc, scope, name)?)),
@@ -137,7 +141,8 @@ impl Scene {
         name: &[u8],
     ) -> Result<Option<Vec<u8>>, AllocError>
         requires { IsScene (map declaration_view row.now) self.now }
-        ensures { IfOk result (λ o. option_map (λ v. v.items) o ≡ decided_name (map declaration_view row.now) (scene_sees everywhere self.now) scope.now name.now) }
+        ensures { IfOk result (λ o. option_map (λ v. v.items) o
+            ≡ decided_name (map declaration_view row.now) (scene_sees everywhere self.now) scope.now name.now) }
     {
         if !name.is_empty() && name[0] == b'.' {
             return Ok(Some(name[1..].to_vec(alloc)?));
@@ -172,7 +177,8 @@ impl Scene {
         name: &[u8],
     ) -> Result<bool, AllocError>
         requires { IsScene (map declaration_view row.now) self.now }
-        ensures { IfOk result (λ b. b ≡ is_taken_if (map declaration_view row.now) (scene_sees false self.now) (decided_name (map declaration_view row.now) (scene_sees false self.now) scope.now name.now)) }
+        ensures { IfOk result (λ b. b ≡ is_taken_if (map declaration_view row.now) (scene_sees false self.now)
+            (decided_name (map declaration_view row.now) (scene_sees false self.now) scope.now name.now)) }
     {
         match self.decided_name(alloc, row, false, scope, name)? {
             Some(full_name) => Ok(self.is_taken(row, false, &full_name)),
@@ -203,7 +209,8 @@ impl Scene {
         name: &[u8],
     ) -> Result<bool, AllocError>
         requires { IsScene (map declaration_view row.now) self.now }
-        ensures { IfOk result (λ b. b ≡ list_any (λ s. is_taken (map declaration_view row.now) (scene_sees false self.now) (in_scope s name.now)) (scopes_from scope.now)) }
+        ensures { IfOk result (λ b. b ≡ list_any (λ s. is_taken (map declaration_view row.now) (scene_sees false self.now) (in_scope s name.now))
+            (scopes_from scope.now)) }
     {
         let mut around = Some(scope);
         while let Some(scope) = around {

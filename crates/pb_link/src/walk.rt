@@ -20,7 +20,8 @@ pub(crate) fn first_fault(
     names: &Names,
     map_marks: &[bool],
 ) -> Option<(usize, LinkCause)>
-    ensures { (w : World) → w.files ≡ map file_view files.now → AreTablesOf w (map declaration_view row.now) names.now map_marks.now → result ≡ first_fault w 0 w.declared }
+    ensures { (w : World) → w.files ≡ map file_view files.now → AreTablesOf w (map declaration_view row.now) names.now map_marks.now
+        → result ≡ first_fault w 0 w.declared }
 {
     for (place, declaration) in row.iter().enumerate() {
         let at = at_place(names, map_marks, place);

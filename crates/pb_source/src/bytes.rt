@@ -69,7 +69,8 @@ pub(crate) fn line_len(bytes: &[u8]) -> usize
 
 /// How many bytes stand before the first `*/`.
 pub(crate) fn close_at(bytes: &[u8]) -> Option<usize>
-    ensures found { IfSome result (λ i. (i + 1 < length bytes.now) × (slice_index bytes.now i ≡ 42) × (slice_index bytes.now (i + 1) ≡ 47) × (has_close (take (i + 1) bytes.now) ≡ false)) }
+    ensures found { IfSome result (λ i. (i + 1 < length bytes.now) × (slice_index bytes.now i ≡ 42) × (slice_index bytes.now (i + 1) ≡ 47)
+        × (has_close (take (i + 1) bytes.now) ≡ false)) }
     ensures none { IfNone result (has_close bytes.now ≡ false) }
 {
     for i in 1..bytes.len() {

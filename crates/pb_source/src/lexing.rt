@@ -1,6 +1,7 @@
 //! A source as tokens.
 
-ghost use Rattle.std.specs.Prelude.{◌≡◌, ◌≤◌, ◌<◌, ◌+◌, ◌⊎◌, ℕ, List, ◌∷◌, length, drop, All, IfOk, IfErr, IfSome, IfNone, IsErrAnd, MatchResult, slice_index, true};
+ghost use Rattle.std.specs.Prelude.{◌≡◌, ◌≤◌, ◌<◌, ◌+◌, ◌⊎◌, ℕ, List, ◌∷◌, length, drop};
+ghost use Rattle.std.specs.Prelude.{All, IfOk, IfErr, IfSome, IfNone, IsErrAnd, MatchResult, slice_index, true};
 ghost use Rattle.pb_source.specs.Tokens.{PlacedToken, Stops, begins_comment, FaultHere, after_mark, AreTokens, LexFault, is_quote};
 ghost use Rattle.pb_source.specs.TokenView.{tokens_of, IsSliceOf};
 ghost use Rattle.pb_source.specs.Fault.{fault, out_of_memory};

@@ -101,7 +101,8 @@ pub fn parse(alloc: Global, name: &str, source: &[u8]) -> Result<FileDecl, Sourc
 
     // The declaration of a source is answered, and the fault of what is none, unless memory runs out.
     ensures accepted { (d : DeclaredFile) → IsSource name.now source.now d → MatchResult result (λ f. file_view f ≡ d) (λ e. e ≡ out_of_memory) }
-    ensures refused { (place : ℕ) (cause : Cause) → HasFault source.now place cause → MatchResult result (λ f. ⊥) (λ e. (e ≡ fault place cause) ⊎ (e ≡ out_of_memory)) }
+    ensures refused { (place : ℕ) (cause : Cause) → HasFault source.now place cause
+        → MatchResult result (λ f. ⊥) (λ e. (e ≡ fault place cause) ⊎ (e ≡ out_of_memory)) }
 {
     let text = text_of(source)?;
     let symbols = source_symbols(alloc, text)?;

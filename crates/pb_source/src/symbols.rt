@@ -43,7 +43,8 @@ fn symbol_at_front<'a>(
     requires some { 0 < length tokens.now }
     requires meant { All IsMeant (tokens_of tokens.now) }
     ensures within { IfOk result (λ r. (0 < r.1) × (r.1 ≤ length tokens.now)) }
-    ensures read { IfOk result (λ r. (ss : List PlacedSymbol) → AreSymbols (drop r.1 (tokens_of tokens.now)) ss → AreSymbols (tokens_of tokens.now) (placed_of r.0 ∷ ss)) }
+    ensures read { IfOk result (λ r. (ss : List PlacedSymbol) → AreSymbols (drop r.1 (tokens_of tokens.now)) ss
+        → AreSymbols (tokens_of tokens.now) (placed_of r.0 ∷ ss)) }
 {
     let first = &tokens[0];
     let at = first.at;

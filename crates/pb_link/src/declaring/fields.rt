@@ -1,12 +1,15 @@
 //! The declarations of fields, of their oneofs, and of the entry messages of map fields.
 
-ghost use Rattle.std.specs.Prelude.{◌≡◌, ◌<◌, ◌+◌, ◌++◌, ◌^◌, [], ◌∷◌, length, map, filter_map, option_map, is_none, string_bytes, IfOk, OnOk, IsAscii, if◌then◌else◌};
+ghost use Rattle.std.specs.Prelude.{◌≡◌, ◌<◌, ◌+◌, ◌++◌, ◌^◌, [], ◌∷◌, length, map};
+ghost use Rattle.std.specs.Prelude.{filter_map, option_map, is_none, string_bytes, IfOk, OnOk, IsAscii, if◌then◌else◌};
 ghost use Rattle.pb_schema.specs.Kinds.{message_of_kind};
 ghost use Rattle.pb_schema.specs.View.{field_view as view_of_field};
 ghost use Rattle.pb_schema.specs.Names.{entry_name};
 ghost use Rattle.pb_schema.specs.Rules.{IsPool, NamesType, NamesOneof};
 ghost use Rattle.pb_descr.specs.View.{field_view, message_view};
-ghost use Rattle.pb_link.specs.ToDecls.{code_of_kind, name_of_kind, is_repeated_shape, is_optional_field, code_of_field, name_of_type, packed_of_list, packed_of_field, oneof_of_field, declared_field, declared_fields, synthetic_names, entry_part, entry_message, entry_of_field};
+ghost use Rattle.pb_link.specs.ToDecls.{code_of_kind, name_of_kind, is_repeated_shape, is_optional_field};
+ghost use Rattle.pb_link.specs.ToDecls.{code_of_field, name_of_type, packed_of_list, packed_of_field};
+ghost use Rattle.pb_link.specs.ToDecls.{oneof_of_field, declared_field, declared_fields, synthetic_names, entry_part, entry_message, entry_of_field};
 ghost use Rattle.pb_link.specs.Rules.{key_name, value_name};
 ghost use Rattle.pb_link.specs.Declarable.{IsDeclarable, AreDeclarable};
 
@@ -373,7 +376,8 @@ fn add_entry(
 ) -> Result<(), AllocError>
     requires pool { IsPool pool.now }
     requires field { IsDeclarable pool.now (view_of_field field.now) }
-    ensures { OnOk result (map message_view messages.new.items ≡ map message_view messages.old.items ++ filter_map (entry_of_field pool.now) (view_of_field field.now ∷ [])) }
+    ensures { OnOk result (map message_view messages.new.items ≡ map message_view messages.old.items ++ filter_map (entry_of_field pool.now)
+        (view_of_field field.now ∷ [])) }
 {
     match field.shape {
         Shape::Map { key } => {
@@ -397,7 +401,8 @@ pub(crate) fn add_entries(
 ) -> Result<(), AllocError>
     requires pool { IsPool pool.now }
     requires fields { AreDeclarable pool.now (map view_of_field fields.now) }
-    ensures { OnOk result (map message_view messages.new.items ≡ map message_view messages.old.items ++ filter_map (entry_of_field pool.now) (map view_of_field fields.now)) }
+    ensures { OnOk result (map message_view messages.new.items ≡ map message_view messages.old.items ++ filter_map (entry_of_field pool.now)
+        (map view_of_field fields.now)) }
 {
     for field in fields {
         add_entry(alloc, pool, field, messages)?;

@@ -7,7 +7,8 @@ ghost use Rattle.pb_schema.specs.Rules.{IsPool};
 ghost use Rattle.pb_descr.specs.View.{enum_view, message_view};
 ghost use Rattle.pb_link.specs.ToDecls.{numbered, entry_of_field, synthetic_names};
 ghost use Rattle.pb_link.specs.Declarable.{AreDeclarable};
-ghost use Rattle.pb_link.specs.Nested.{inside_view, with_message, with_enum, ChangesAt, PlacesAt, whole_message, inside_message, inside_file, AreInside, AreNested};
+ghost use Rattle.pb_link.specs.Nested.{inside_view, with_message, with_enum, ChangesAt, PlacesAt};
+ghost use Rattle.pb_link.specs.Nested.{whole_message, inside_message, inside_file, AreInside, AreNested};
 
 use crate::declaring::enums::enum_decl;
 use crate::declaring::fields::{add_entries, add_synthetic, field_decls};
@@ -68,7 +69,8 @@ fn place_message(
     files: &mut Vec<Inside>,
     messages: &mut Vec<Inside>,
 ) -> Result<(), AllocError>
-    ensures { OnOk result (PlacesAt file (parent_view parent) (with_message (message_view message)) files.old.items messages.old.items files.new.items messages.new.items) }
+    ensures { OnOk result
+        (PlacesAt file (parent_view parent) (with_message (message_view message)) files.old.items messages.old.items files.new.items messages.new.items) }
 {
     match parent {
         None => add_message(files, file, message)?,
@@ -84,7 +86,8 @@ fn place_enum(
     files: &mut Vec<Inside>,
     messages: &mut Vec<Inside>,
 ) -> Result<(), AllocError>
-    ensures { OnOk result (PlacesAt file (parent_view parent) (with_enum (enum_view entry)) files.old.items messages.old.items files.new.items messages.new.items) }
+    ensures { OnOk result
+        (PlacesAt file (parent_view parent) (with_enum (enum_view entry)) files.old.items messages.old.items files.new.items messages.new.items) }
 {
     match parent {
         None => add_enum(files, file, entry)?,
@@ -119,7 +122,8 @@ fn inner_messages(
 ) -> Result<Vec<MessageDecl>, AllocError>
     requires pool { IsPool pool.now }
     requires fields { AreDeclarable pool.now (map view_of_field fields.now) }
-    ensures { IfOk result (λ v. map message_view v.items ≡ reverse (map message_view reversed.items) ++ filter_map (entry_of_field pool.now) (map view_of_field fields.now)) }
+    ensures { IfOk result (λ v. map message_view v.items ≡ reverse (map message_view reversed.items) ++ filter_map (entry_of_field pool.now)
+        (map view_of_field fields.now)) }
 {
     let mut messages = reversed;
     messages.reverse();
@@ -133,7 +137,8 @@ fn oneof_names(
     proto2: bool,
     message: &MessageType,
 ) -> Result<Vec<String>, AllocError>
-    ensures { IfOk result (λ v. map string_bytes v.items ≡ (view_of_message message.now).oneofs ++ synthetic_names proto2 (view_of_message message.now).fields) }
+    ensures { IfOk result (λ v. map string_bytes v.items
+        ≡ (view_of_message message.now).oneofs ++ synthetic_names proto2 (view_of_message message.now).fields) }
 {
     let mut names = copied(alloc, &message.oneofs)?;
     add_synthetic(alloc, proto2, &message.fields, &mut names)?;
@@ -198,8 +203,10 @@ fn nest_message(
 ) -> Result<(), AllocError>
     requires within { index < length pool.now.messages }
     requires inside { inside_view inside ≡ inside_message pool.now (drop (index + 1) (numbered pool.now)) (take (length pool.now.enums) pool.now.enums) index }
-    requires files { AreInside (length pool.now.files) (inside_file pool.now (drop (index + 1) (numbered pool.now)) (take (length pool.now.enums) pool.now.enums)) files.old.items }
-    requires messages { AreInside index (inside_message pool.now (drop (index + 1) (numbered pool.now)) (take (length pool.now.enums) pool.now.enums)) messages.old.items }
+    requires files { AreInside (length pool.now.files)
+        (inside_file pool.now (drop (index + 1) (numbered pool.now)) (take (length pool.now.enums) pool.now.enums)) files.old.items }
+    requires messages { AreInside index (inside_message pool.now (drop (index + 1) (numbered pool.now))
+        (take (length pool.now.enums) pool.now.enums)) messages.old.items }
     ensures { OnOk result (AreNested pool.now index (length pool.now.enums) files.new.items messages.new.items) }
 {
     let decl = message_decl(alloc, pool, index, inside)?;

@@ -63,7 +63,8 @@ fn singular_shape(proto2: bool, kind: Kind, field: &FieldDecl) -> Shape
 
 /// The shape of a field that is no map.
 fn shape_of(proto2: bool, kind: Kind, field: &FieldDecl) -> Shape
-    ensures { result ≡ (if (declared_view field.now).is_repeated then list_shape proto2 kind (declared_view field.now) else singular_shape proto2 kind (declared_view field.now)) }
+    ensures { result ≡ (if (declared_view field.now).is_repeated then list_shape proto2 kind (declared_view field.now) else singular_shape proto2 kind
+        (declared_view field.now)) }
 {
     if field.repeated {
         list_shape(proto2, kind, field)

@@ -11,7 +11,14 @@ use std::alloc::{AllocError, Global};
 
 /// A file, with the indexes of the files that it imports.
 fn file_of(alloc: Global, file: &FileDecl, imports: &Vec<usize>) -> Result<FileInfo, AllocError>
-    ensures { IfOk result (λ i. file_view i ≡ record { name = (declared_view file.now).name; package_name = (declared_view file.now).package_name; imports = imports.now.items; proto2 = (declared_view file.now).is_proto2 }) }
+    ensures { IfOk result (λ i. file_view i
+        ≡ record {
+          name = (declared_view file.now).name;
+          package_name = (declared_view file.now).package_name;
+          imports = imports.now.items;
+          proto2 =
+              (declared_view file.now).is_proto2;
+        }) }
 {
     Ok(FileInfo {
         name: file.name.clone()?,

@@ -79,7 +79,8 @@ fn kind_here(
     messages: usize,
     enums: usize,
 ) -> Kind
-    ensures { result ≡ kind_here (is_two (map file_view files.now) (declaration_view declaration.now).file) messages enums (declaration_view declaration.now).item }
+    ensures { result ≡ kind_here (is_two (map file_view files.now) (declaration_view declaration.now).file) messages enums
+        (declaration_view declaration.now).item }
 {
     match declaration.item {
         Item::Message(_) => Kind::Message(MessageId(messages)),

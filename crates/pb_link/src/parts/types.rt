@@ -21,7 +21,8 @@ use std::alloc::{AllocError, Global};
 
 /// Puts the name of a oneof behind those before, where it is not synthetic.
 fn add_oneof(is_synthetic: bool, name: &String, names: &mut Vec<String>) -> Result<(), AllocError>
-    ensures { OnOk result (map string_bytes names.new.items ≡ map string_bytes names.old.items ++ (if not is_synthetic then string_bytes name.now ∷ [] else [])) }
+    ensures { OnOk result (map string_bytes names.new.items
+        ≡ map string_bytes names.old.items ++ (if not is_synthetic then string_bytes name.now ∷ [] else [])) }
 {
     if !is_synthetic {
         names.push(name.clone()?)?;
@@ -36,7 +37,8 @@ fn real_names(
     all: &[String],
 ) -> Result<Vec<String>, AllocError>
     requires sizes { length are_synthetic.now ≡ length all.now }
-    ensures { (head : MessageHead) → ((o : ℕ) → o < length all.now → slice_index_or are_synthetic.now o false ≡ is_synthetic head o) → IfOk result (λ v. map string_bytes v.items ≡ real_from head 0 (map string_bytes all.now)) }
+    ensures { (head : MessageHead) → ((o : ℕ) → o < length all.now → slice_index_or are_synthetic.now o false ≡ is_synthetic head o)
+        → IfOk result (λ v. map string_bytes v.items ≡ real_from head 0 (map string_bytes all.now)) }
 {
     let mut names: Vec<String> = Vec::new(alloc);
     for (index, name) in all.iter().enumerate() {
@@ -118,7 +120,9 @@ fn add_message(
 ) -> Result<(), AllocError>
     requires sizes { length tables.now.found.now ≡ length tables.now.row.now }
     requires within { place < length tables.now.row.now }
-    ensures { OnOk result (map message_view types.new.items ≡ map message_view types.old.items ++ cons_option (message_part tables.now place (declaration_view declaration.now) (declaration_view declaration.now).item) []) }
+    ensures { OnOk result (map message_view types.new.items
+        ≡ map message_view types.old.items
+        ++ cons_option (message_part tables.now place (declaration_view declaration.now) (declaration_view declaration.now).item) []) }
 {
     if let Item::Message(message) = declaration.item {
         if !message.map_entry {
@@ -151,7 +155,8 @@ fn add_enum(
     declaration: &Declaration<'_>,
     types: &mut Vec<EnumType>,
 ) -> Result<(), AllocError>
-    ensures { OnOk result (map enum_view types.new.items ≡ map enum_view types.old.items ++ cons_option (enum_part tables.now (declaration_view declaration.now) (declaration_view declaration.now).item) []) }
+    ensures { OnOk result (map enum_view types.new.items
+        ≡ map enum_view types.old.items ++ cons_option (enum_part tables.now (declaration_view declaration.now) (declaration_view declaration.now).item) []) }
 {
     if let Item::Enum(entry) = declaration.item {
         types.push(enum_of(alloc, tables, declaration, entry)?)?;

@@ -19,7 +19,8 @@ fn full_name_if(
     name: &Option<String>,
     meant: Option<&Declaration>,
 ) -> Result<Option<String>, AllocError>
-    ensures { IfOk result (λ n. option_map string_bytes n ≡ option_map (λ name. full_name_or name (option_map (λ d. declaration_view d.now) meant.entry)) (option_map string_bytes name.now)) }
+    ensures { IfOk result (λ n. option_map string_bytes n ≡ option_map (λ name. full_name_or name (option_map (λ d. declaration_view d.now) meant.entry))
+        (option_map string_bytes name.now)) }
 {
     match name {
         Some(name) => {

@@ -53,7 +53,8 @@ pub(crate) fn resolve_messages(
     names: &mut Upcoming,
     messages: &[MessageDecl],
 ) -> Result<Vec<MessageDecl>, AllocError>
-    ensures made { IfOk result (λ v. map message_view v.items ≡ each_read (message_read (map declaration_view row.now)) behind_message (coming names.old) (map message_view messages.now)) }
+    ensures made { IfOk result (λ v. map message_view v.items ≡ each_read (message_read (map declaration_view row.now)) behind_message (coming names.old)
+        (map message_view messages.now)) }
     ensures behind { OnOk result (coming names.new ≡ each_behind behind_message (map message_view messages.now) (coming names.old)) }
 {
     let mut resolved: Vec<MessageDecl> = Vec::new(alloc);

@@ -20,7 +20,9 @@ fn resolve_method(
     names: TypeNames,
     method: &MethodDecl,
 ) -> Result<MethodDecl, AllocError>
-    ensures { IfOk result (λ m. method_view m ≡ method_of_types (method_view method.now) (first_type (map declaration_view row.now) (type_names_view names)) (second_type (map declaration_view row.now) (type_names_view names))) }
+    ensures { IfOk result (λ m. method_view m
+        ≡ method_of_types (method_view method.now) (first_type (map declaration_view row.now) (type_names_view names))
+        (second_type (map declaration_view row.now) (type_names_view names))) }
 {
     let name = method.name.clone()?;
     let input = full_name_or(alloc, &method.input, first_type(row, names))?;
@@ -40,7 +42,8 @@ fn resolve_methods(
     names: &mut Upcoming,
     methods: &[MethodDecl],
 ) -> Result<Vec<MethodDecl>, AllocError>
-    ensures methods { IfOk result (λ v. map method_view v.items ≡ methods_read (map declaration_view row.now) (coming names.old) (map method_view methods.now)) }
+    ensures methods { IfOk result (λ v. map method_view v.items
+        ≡ methods_read (map declaration_view row.now) (coming names.old) (map method_view methods.now)) }
     ensures behind { OnOk result (coming names.new ≡ each_behind behind_one (map method_view methods.now) (coming names.old)) }
 {
     let mut resolved: Vec<MethodDecl> = Vec::new(alloc);
@@ -74,7 +77,8 @@ pub(crate) fn resolve_services(
     names: &mut Upcoming,
     services: &[ServiceDecl],
 ) -> Result<Vec<ServiceDecl>, AllocError>
-    ensures services { IfOk result (λ v. map service_view v.items ≡ services_read (map declaration_view row.now) (coming names.old) (map service_view services.now)) }
+    ensures services { IfOk result (λ v. map service_view v.items
+        ≡ services_read (map declaration_view row.now) (coming names.old) (map service_view services.now)) }
     ensures behind { OnOk result (coming names.new ≡ each_behind behind_service (map service_view services.now) (coming names.old)) }
 {
     let mut resolved: Vec<ServiceDecl> = Vec::new(alloc);

@@ -6,7 +6,8 @@ ghost use Rattle.pb_descr.specs.Decls.{DeclaredFile};
 ghost use Rattle.pb_descr.specs.View.{field_view, file_view};
 ghost use Rattle.pb_link.specs.Declarations.{Declaration as DeclarationView};
 ghost use Rattle.pb_link.specs.Sees.{Sight};
-ghost use Rattle.pb_link.specs.Rules.{lookups, passes, passes_declared, is_message, is_message_type, is_enum, is_two, is_open, is_enum_right, is_of_entry, is_entry, is_not_entry, is_same_fault, is_packable_code, is_packable, is_packed_right, is_type_right};
+ghost use Rattle.pb_link.specs.Rules.{lookups, passes, passes_declared, is_message, is_message_type, is_enum, is_two, is_open, is_enum_right};
+ghost use Rattle.pb_link.specs.Rules.{is_of_entry, is_entry, is_not_entry, is_same_fault, is_packable_code, is_packable, is_packed_right, is_type_right};
 ghost use Rattle.pb_link.specs.Lookup.{not_found, not_visible, not_a_type};
 ghost use Rattle.pb_link.specs.Judging.{world_of};
 ghost use Rattle.pb_link.specs.ItemView.{item_view};
@@ -129,7 +130,9 @@ fn is_open(files: &[FileDecl], declaration: &Declaration) -> bool
 
 /// Whether what was found, if it was, is no enum of a file of proto2.
 fn is_no_closed_enum(files: &[FileDecl], row: &[Declaration], found: Found) -> bool
-    ensures { (s : Sight) → result ≡ passes_declared (world_of (map file_view files.now) (map declaration_view row.now) s) (is_open (map file_view files.now)) (found_view found) }
+    ensures { (s : Sight)
+        → result ≡ passes_declared (world_of (map file_view files.now) (map declaration_view row.now) s) (is_open (map file_view files.now))
+        (found_view found) }
 {
     let Found::Type(place) = found else {
         return true;
@@ -161,7 +164,8 @@ fn either(one: bool, other: bool) -> bool
 
 /// Whether the types that were found are messages.
 pub(crate) fn are_messages(row: &[Declaration], names: TypeNames) -> bool
-    ensures { (fs : List DeclaredFile) (s : Sight) → result ≡ list_all (passes (world_of fs (map declaration_view row.now) s) is_message) (type_names_view names) }
+    ensures { (fs : List DeclaredFile) (s : Sight)
+        → result ≡ list_all (passes (world_of fs (map declaration_view row.now) s) is_message) (type_names_view names) }
 {
     match names {
         TypeNames::None => true,
@@ -183,7 +187,8 @@ fn are_enums(row: &[Declaration], names: TypeNames) -> bool
 
 /// Whether the types that were found are messages and no entries.
 fn are_plain_messages(row: &[Declaration], names: TypeNames) -> bool
-    ensures { (fs : List DeclaredFile) (s : Sight) → result ≡ list_all (passes (world_of fs (map declaration_view row.now) s) is_message_type) (type_names_view names) }
+    ensures { (fs : List DeclaredFile) (s : Sight)
+        → result ≡ list_all (passes (world_of fs (map declaration_view row.now) s) is_message_type) (type_names_view names) }
 {
     match names {
         TypeNames::None => true,
@@ -196,7 +201,9 @@ fn are_plain_messages(row: &[Declaration], names: TypeNames) -> bool
 
 /// Whether the types that were found are no enums of files of proto2.
 fn are_no_closed_enums(files: &[FileDecl], row: &[Declaration], names: TypeNames) -> bool
-    ensures { (s : Sight) → result ≡ list_all (passes_declared (world_of (map file_view files.now) (map declaration_view row.now) s) (is_open (map file_view files.now))) (type_names_view names) }
+    ensures { (s : Sight)
+        → result ≡ list_all (passes_declared (world_of (map file_view files.now) (map declaration_view row.now) s) (is_open (map file_view files.now)))
+        (type_names_view names) }
 {
     match names {
         TypeNames::None => true,
@@ -210,7 +217,8 @@ fn are_no_closed_enums(files: &[FileDecl], row: &[Declaration], names: TypeNames
 
 /// Whether the types that were found are no entries.
 pub(crate) fn are_no_entries(row: &[Declaration], names: TypeNames) -> bool
-    ensures { (fs : List DeclaredFile) (s : Sight) → result ≡ list_all (passes (world_of fs (map declaration_view row.now) s) is_not_entry) (type_names_view names) }
+    ensures { (fs : List DeclaredFile) (s : Sight)
+        → result ≡ list_all (passes (world_of fs (map declaration_view row.now) s) is_not_entry) (type_names_view names) }
 {
     match names {
         TypeNames::None => true,
@@ -276,7 +284,8 @@ fn is_packable_code(code: TypeCode) -> bool
 
 /// Whether the field is of a packable kind.
 fn is_packable(row: &[Declaration], names: TypeNames, field: &FieldDecl) -> bool
-    ensures { (fs : List DeclaredFile) (s : Sight) (d : DeclarationView) → type_names_view names ≡ lookups (world_of fs (map declaration_view row.now) s) d → result ≡ is_packable (world_of fs (map declaration_view row.now) s) d (field_view field.now) }
+    ensures { (fs : List DeclaredFile) (s : Sight) (d : DeclarationView) → type_names_view names ≡ lookups (world_of fs (map declaration_view row.now) s) d
+        → result ≡ is_packable (world_of fs (map declaration_view row.now) s) d (field_view field.now) }
 {
     match field.ty {
         Some(code) => is_packable_code(code),
@@ -286,7 +295,8 @@ fn is_packable(row: &[Declaration], names: TypeNames, field: &FieldDecl) -> bool
 
 /// Whether `packed = true` stands on the field only if that is a list of a packable kind.
 pub(crate) fn is_packed_right(row: &[Declaration], names: TypeNames, field: &FieldDecl) -> bool
-    ensures { (fs : List DeclaredFile) (s : Sight) (d : DeclarationView) → type_names_view names ≡ lookups (world_of fs (map declaration_view row.now) s) d → result ≡ is_packed_right (world_of fs (map declaration_view row.now) s) d (field_view field.now) }
+    ensures { (fs : List DeclaredFile) (s : Sight) (d : DeclarationView) → type_names_view names ≡ lookups (world_of fs (map declaration_view row.now) s) d
+        → result ≡ is_packed_right (world_of fs (map declaration_view row.now) s) d (field_view field.now) }
 {
     if field.packed != Some(true) {
         return true;
@@ -301,7 +311,9 @@ pub(crate) fn is_type_right(
     field: &FieldDecl,
     proto2: bool,
 ) -> bool
-    ensures { (fs : List DeclaredFile) (s : Sight) (d : DeclarationView) → proto2 ≡ is_two fs d.file → type_names_view names ≡ lookups (world_of fs (map declaration_view row.now) s) d → result ≡ is_type_right (world_of fs (map declaration_view row.now) s) d (field_view field.now) }
+    ensures { (fs : List DeclaredFile) (s : Sight) (d : DeclarationView) → proto2 ≡ is_two fs d.file
+        → type_names_view names ≡ lookups (world_of fs (map declaration_view row.now) s) d
+        → result ≡ is_type_right (world_of fs (map declaration_view row.now) s) d (field_view field.now) }
 {
     let is_named = field.type_name.is_some();
     let Some(code) = field.ty else {
@@ -336,7 +348,9 @@ pub(crate) fn is_enum_right(
     names: TypeNames,
     may_be_closed: bool,
 ) -> bool
-    ensures { (s : Sight) (d : DeclarationView) → may_be_closed ≡ (is_two (map file_view files.now) d.file && not (is_of_entry d.item)) → type_names_view names ≡ lookups (world_of (map file_view files.now) (map declaration_view row.now) s) d → result ≡ is_enum_right (world_of (map file_view files.now) (map declaration_view row.now) s) d }
+    ensures { (s : Sight) (d : DeclarationView) → may_be_closed ≡ (is_two (map file_view files.now) d.file && not (is_of_entry d.item))
+        → type_names_view names ≡ lookups (world_of (map file_view files.now) (map declaration_view row.now) s) d
+        → result ≡ is_enum_right (world_of (map file_view files.now) (map declaration_view row.now) s) d }
 {
     either(may_be_closed, are_no_closed_enums(files, row, names))
 }

@@ -149,7 +149,8 @@ fn is_used_rightly(
     declaration: &Declaration,
     found: Found,
 ) -> Result<bool, AllocError>
-    ensures { IfOk result (λ b. (w : World) → w.declared ≡ map declaration_view row.now → b ≡ is_used_rightly w (declaration_view declaration.now) (found_view found)) }
+    ensures { IfOk result (λ b. (w : World) → w.declared ≡ map declaration_view row.now
+        → b ≡ is_used_rightly w (declaration_view declaration.now) (found_view found)) }
 {
     let Found::Type(place) = found else {
         return Ok(true);
@@ -177,7 +178,8 @@ fn are_used_rightly(
     declaration: &Declaration,
     names: TypeNames,
 ) -> Result<bool, AllocError>
-    ensures { IfOk result (λ b. (w : World) → w.declared ≡ map declaration_view row.now → b ≡ list_all (is_used_rightly w (declaration_view declaration.now)) (type_names_view names)) }
+    ensures { IfOk result (λ b. (w : World) → w.declared ≡ map declaration_view row.now
+        → b ≡ list_all (is_used_rightly w (declaration_view declaration.now)) (type_names_view names)) }
 {
     match names {
         TypeNames::None => Ok(true),
@@ -211,7 +213,9 @@ fn is_right_entry(is_entry: bool, is_used: bool, has_parts: bool, is_bare: bool)
 
 /// Whether the fields of an entry, which stand right behind it, are its key and its value.
 fn has_parts(row: &[Declaration], found: &[TypeNames], place: usize, fields: &[FieldDecl]) -> bool
-    ensures { (w : World) → w.declared ≡ map declaration_view row.now → result ≡ right_parts (map field_view fields.now) (are_plain w (slice_index_or found.now (place + 1) type_names.None)) (are_plain w (slice_index_or found.now (place + 2) type_names.None)) }
+    ensures { (w : World) → w.declared ≡ map declaration_view row.now
+        → result ≡ right_parts (map field_view fields.now) (are_plain w (slice_index_or found.now (place + 1) type_names.None))
+        (are_plain w (slice_index_or found.now (place + 2) type_names.None)) }
 {
     let is_first_plain = are_no_entries(row, names_behind(found, place, 1));
     let is_second_plain = are_no_entries(row, names_behind(found, place, 2));
@@ -241,7 +245,8 @@ fn map_mark(
     declaration: &Declaration,
     is_used: bool,
 ) -> Result<bool, AllocError>
-    ensures { IfOk result (λ b. (w : World) → w.declared ≡ map declaration_view row.now → b ≡ map_rule w found.now place (declaration_view declaration.now) is_used (item_view declaration.now.item)) }
+    ensures { IfOk result (λ b. (w : World) → w.declared ≡ map declaration_view row.now
+        → b ≡ map_rule w found.now place (declaration_view declaration.now) is_used (item_view declaration.now.item)) }
 {
     match declaration.item {
         Item::Message(message) => Ok(is_right_message(row, found, place, message, is_used)),
@@ -264,7 +269,8 @@ pub(crate) fn map_marks(
     row: &[Declaration],
     found: &[TypeNames],
 ) -> Result<Vec<bool>, AllocError>
-    ensures { IfOk result (λ v. (files : List DeclaredFile) (w : World) → IsWorldOf files w → w.declared ≡ map declaration_view row.now → map type_names_view found.now ≡ map (lookups w) w.declared → v.items ≡ holds_table w cause.BadMap) }
+    ensures { IfOk result (λ v. (files : List DeclaredFile) (w : World) → IsWorldOf files w → w.declared ≡ map declaration_view row.now
+        → map type_names_view found.now ≡ map (lookups w) w.declared → v.items ≡ holds_table w cause.BadMap) }
 {
     let used = use_marks(alloc, row, found)?;
     let mut marks: Vec<bool> = Vec::new(alloc);

@@ -84,7 +84,8 @@ pub(crate) fn is_member_right(oneofs: &Oneofs, field: &FieldDecl) -> bool
 pub(crate) fn is_oneof_right(oneofs: &Oneofs, index: usize, follows_synthetic: bool) -> bool
     requires size { index < length oneofs.now.members.items }
     requires sizes { length oneofs.now.are_synthetic.items ≡ length oneofs.now.members.items }
-    ensures { result ≡ (nat_lt 0 (slice_index_or oneofs.now.members.items index 0) && (slice_index_or oneofs.now.are_synthetic.items index false || not follows_synthetic)) }
+    ensures { result ≡ (nat_lt 0 (slice_index_or oneofs.now.members.items index 0) &&
+        (slice_index_or oneofs.now.are_synthetic.items index false || not follows_synthetic)) }
 {
     oneofs.members[index] > 0 && (oneofs.are_synthetic[index] || !follows_synthetic)
 }

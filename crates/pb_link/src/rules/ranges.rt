@@ -27,14 +27,16 @@ fn are_enum_ranges(ranges: &[(i32, i32)]) -> bool
 
 /// Whether the reserved ranges of a message are right.
 pub(crate) fn message_ranges_are_right(reserved: &Reserved, ranges: &[(i32, i32)]) -> bool
-    ensures { (names : List (List ℕ)) → Reserves ranges.now names reserved.now → result ≡ (list_all is_message_range ranges.now && none_overlap message_ranges_overlap ranges.now) }
+    ensures { (names : List (List ℕ)) → Reserves ranges.now names reserved.now
+        → result ≡ (list_all is_message_range ranges.now && none_overlap message_ranges_overlap ranges.now) }
 {
     are_message_ranges(ranges) && reserved.are_apart
 }
 
 /// Whether the reserved ranges of an enum are right.
 pub(crate) fn enum_ranges_are_right(reserved: &Reserved, ranges: &[(i32, i32)]) -> bool
-    ensures { (names : List (List ℕ)) → Reserves (map with_end_behind ranges.now) names reserved.now → result ≡ (list_all is_enum_range ranges.now && none_overlap enum_ranges_overlap ranges.now) }
+    ensures { (names : List (List ℕ)) → Reserves (map with_end_behind ranges.now) names reserved.now
+        → result ≡ (list_all is_enum_range ranges.now && none_overlap enum_ranges_overlap ranges.now) }
 {
     are_enum_ranges(ranges) && reserved.are_apart
 }

@@ -165,7 +165,8 @@ fn users_of(
     row: &[Declaration],
     found: &[TypeNames],
 ) -> Result<Vec<Users>, AllocError>
-    ensures { IfOk result (λ v. (w : World) → w.declared ≡ map declaration_view row.now → map type_names_view found.now ≡ map (lookups w) w.declared → (p : ℕ) → p < length row.now → Sums (map declaration_view row.now) (users_at v.items p) (filter (uses w p) (map declaration_view row.now))) }
+    ensures { IfOk result (λ v. (w : World) → w.declared ≡ map declaration_view row.now → map type_names_view found.now ≡ map (lookups w) w.declared
+        → (p : ℕ) → p < length row.now → Sums (map declaration_view row.now) (users_at v.items p) (filter (uses w p) (map declaration_view row.now))) }
 {
     let mut users = vec![in alloc; Users::None; row.len()]?;
     for (place, declaration) in row.iter().enumerate() {
@@ -182,7 +183,8 @@ fn is_used_once(
     entry: &Declaration,
     users: Users,
 ) -> Result<bool, AllocError>
-    ensures { IfOk result (λ b. (of : List DeclarationView) → Sums (map declaration_view row.now) users of → b ≡ is_one_map_field (declaration_view entry.now) of) }
+    ensures { IfOk result (λ b. (of : List DeclarationView) → Sums (map declaration_view row.now) users of
+        → b ≡ is_one_map_field (declaration_view entry.now) of) }
 {
     let Users::One(place) = users else {
         return Ok(false);
@@ -200,7 +202,8 @@ pub(crate) fn use_marks(
     row: &[Declaration],
     found: &[TypeNames],
 ) -> Result<Vec<bool>, AllocError>
-    ensures { IfOk result (λ v. (w : World) → w.declared ≡ map declaration_view row.now → map type_names_view found.now ≡ map (lookups w) w.declared → v.items ≡ map (λ e. has_one_use w e.0 e.1) (enumerate_from 0 w.declared)) }
+    ensures { IfOk result (λ v. (w : World) → w.declared ≡ map declaration_view row.now → map type_names_view found.now ≡ map (lookups w) w.declared
+        → v.items ≡ map (λ e. has_one_use w e.0 e.1) (enumerate_from 0 w.declared)) }
 {
     let users = users_of(alloc, row, found)?;
     let mut marks: Vec<bool> = Vec::new(alloc);

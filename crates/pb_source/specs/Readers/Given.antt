@@ -1,5 +1,5 @@
 -- What a function of the code that reads symbols gives.
-use Rattle.std.specs.Prelude.{◌≡◌, ℕ, List, [], ◌∷◌, map, drop, Option, Result, Ok, Err}
+use Rattle.std.specs.Prelude.{◌≡◌, ◌≤◌, ℕ, List, [], ◌∷◌, length, map, drop, Option, Result, Ok, Err}
 use Rattle.pb_source.specs.declared.fault.Cause.{Cause}
 use Rattle.pb_source.specs.declared.fault.Cause.TheVariants.{NotProto3}
 use Rattle.pb_source.specs.declared.rule.Rule.{Rule}
@@ -11,8 +11,8 @@ use Rattle.pb_source.specs.SymbolView.{symbol_of, symbols_of}
 use Rattle.pb_source.specs.Source.{place_in}
 use Rattle.pb_source.specs.Fault.{fault, out_of_memory}
 use Rattle.pb_source.specs.declared.fault.SourceFault.{SourceFault}
-use Rattle.pb_source.specs.Language.{told}
-use Rattle.pb_source.specs.Readers.Forms.{Outcome}
+use Rattle.pb_source.specs.Language.{all_rules, told}
+use Rattle.pb_source.specs.Readers.Forms.{Outcome, Reader}
 
 -- the symbols from an index on
 abbrev pub symbols_from : List Placed → ℕ → List Symbol
@@ -26,6 +26,14 @@ Fails ps (refusal.At at rule) read = read ≡ Err (symbols_from ps at, rule)
 abbrev pub Gives : {X A : Type 0} → List Placed → (X → A × ℕ) → Result X Refusal → Outcome A → Type 0
 Gives ps view (Ok x) read = read ≡ Ok ((view x).0, symbols_from ps (view x).1)
 Gives ps view (Err e) read = Fails ps e read
+
+-- what the code gives of the symbols from an index on, by what it answers and the index after that
+abbrev pub Reads : {X A : Type 0} → List Placed → ℕ → (X → A × ℕ) → Result X Refusal → Reader A → Type 0
+Reads ps at view result reader = Gives ps view result (reader all_rules (symbols_from ps at))
+
+-- the same of a reader that takes as many steps at most as there are symbols
+abbrev pub ReadsInSteps : {X A : Type 0} → List Placed → ℕ → (X → A × ℕ) → Result X Refusal → (ℕ → Reader A) → Type 0
+ReadsInSteps ps at view result reader = (n : ℕ) → length ps ≤ n → Reads ps at view result (reader n)
 
 -- the cause of symbols that are refused so: a file without symbols does not begin with its syntax
 abbrev pub cause_at : List Placed → Option Rule → Cause

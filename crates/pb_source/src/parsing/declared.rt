@@ -4,7 +4,8 @@ ghost use Rattle.std.specs.Prelude.{◌≡◌, ◌≤◌, ◌<◌, ◌^◌, ◌+
 ghost use Rattle.pb_schema.specs.Names.{entry_name};
 ghost use Rattle.pb_descr.specs.View.{field_view, message_view};
 ghost use Rattle.pb_descr.specs.declared.decl.TypeCode.{TypeCode};
-ghost use Rattle.pb_source.specs.Meaning.{MessageStatement, FileStatement, a_scalar, entry_field, entry_of, map_field, in_oneof, with_own_oneofs, own_oneofs, message_of, public_from};
+ghost use Rattle.pb_source.specs.Meaning.{MessageStatement, FileStatement, a_scalar, entry_field, entry_of, map_field};
+ghost use Rattle.pb_source.specs.Meaning.{in_oneof, with_own_oneofs, own_oneofs, message_of, public_from};
 ghost use Rattle.pb_source.specs.StatementView.{type_view, map_view, message_statement_view, file_statement_view};
 ghost use Rattle.pb_source.specs.PartsView.{with_own_oneof, IsCounted, OnePackage, HoldsSaid, FileHolds};
 
@@ -85,7 +86,8 @@ fn entry_of(
     key: TypeCode,
     value: TypeSaid,
 ) -> Result<MessageDecl, AllocError>
-    ensures { IfOk result (λ m. (number : ℕ) (packed : Option Bool) → message_view m ≡ entry_of (record { key = key; value = type_view value; name = name.now; number = number; packed = packed })) }
+    ensures { IfOk result (λ m. (number : ℕ) (packed : Option Bool)
+        → message_view m ≡ entry_of (record { key = key; value = type_view value; name = name.now; number = number; packed = packed })) }
 {
     let fields = entry_fields(alloc, key, value)?;
     let name = entry_text(alloc, name)?;
@@ -109,7 +111,8 @@ fn map_field(
     packed: Option<bool>,
 ) -> Result<FieldDecl, AllocError>
     requires { number ≤ 2147483647 }
-    ensures { IfOk result (λ f. (key : TypeCode) (value : TypeSaid) → field_view f ≡ map_field (record { key = key; value = type_view value; name = string_bytes name; number = number; packed = packed })) }
+    ensures { IfOk result (λ f. (key : TypeCode) (value : TypeSaid)
+        → field_view f ≡ map_field (record { key = key; value = type_view value; name = string_bytes name; number = number; packed = packed })) }
 {
     let entry = entry_text(alloc, name.as_str())?;
     Ok(FieldDecl {
@@ -175,7 +178,8 @@ fn add_oneof(
     name: String,
     members: Vec<FieldDecl>,
 ) -> Result<(), AllocError>
-    ensures { OnOk result ((ss : List MessageStatement) → HoldsSaid message.old ss → HoldsSaid message.new (ss ++ MessageStatement.a_oneof (string_bytes name) (map field_view members.items) ∷ [])) }
+    ensures { OnOk result ((ss : List MessageStatement) → HoldsSaid message.old ss
+        → HoldsSaid message.new (ss ++ MessageStatement.a_oneof (string_bytes name) (map field_view members.items) ∷ [])) }
 {
     add_members(&mut message.fields, message.oneofs.len(), members)?;
     message.oneofs.push(name)?;
@@ -330,7 +334,8 @@ fn add_public(public: &mut Vec<i32>, is_public: bool, count: usize) -> Result<()
 
 /// Puts an import into a file.
 fn add_import(file: &mut FileParts, is_public: bool, name: String) -> Result<(), AllocError>
-    ensures { OnOk result ((ss : List FileStatement) → FileHolds file.old ss → FileHolds file.new (ss ++ FileStatement.an_import is_public (string_bytes name) ∷ [])) }
+    ensures { OnOk result ((ss : List FileStatement) → FileHolds file.old ss
+        → FileHolds file.new (ss ++ FileStatement.an_import is_public (string_bytes name) ∷ [])) }
 {
     add_public(&mut file.public, is_public, file.imports.len())?;
     file.imports.push(name)?;
@@ -342,7 +347,8 @@ pub(crate) fn add_file_statement(
     file: &mut FileParts,
     statement: FileSaid,
 ) -> Result<(), AllocError>
-    ensures { OnOk result ((ss : List FileStatement) → FileHolds file.old ss → OnePackage (ss ++ file_statement_view statement ∷ []) → FileHolds file.new (ss ++ file_statement_view statement ∷ [])) }
+    ensures { OnOk result ((ss : List FileStatement) → FileHolds file.old ss → OnePackage (ss ++ file_statement_view statement ∷ [])
+        → FileHolds file.new (ss ++ file_statement_view statement ∷ [])) }
 {
     match statement {
         FileSaid::Nothing => Ok(()),

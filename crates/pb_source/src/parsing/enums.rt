@@ -2,12 +2,12 @@
 
 ghost use Rattle.std.specs.Prelude.{◌≡◌, ◌≤◌, ◌<◌, ◌++◌, ◌∷◌, ℕ, List, [], length, codes, string_bytes, IfOk, OnOk};
 ghost use Rattle.pb_descr.specs.View.{enum_view};
-ghost use Rattle.pb_source.specs.Language.{all_rules};
 ghost use Rattle.pb_source.specs.Meaning.{EnumStatement, enum_of};
 ghost use Rattle.pb_source.specs.Readers.Forms.{before, behind, mapped, until, keyword_reader, mark_reader};
-ghost use Rattle.pb_source.specs.Readers.Lines.{is_closing, said_of_alias, setting_reader, enum_range_reader, reserved_reader, value_reader, enum_statement_reader, enum_reader};
+ghost use Rattle.pb_source.specs.Readers.Lines.{is_closing, said_of_alias, setting_reader, enum_range_reader};
+ghost use Rattle.pb_source.specs.Readers.Lines.{reserved_reader, value_reader, enum_statement_reader, enum_reader};
 ghost use Rattle.pb_source.specs.StatementView.{enum_statement_view};
-ghost use Rattle.pb_source.specs.Readers.Given.{symbols_from, Gives};
+ghost use Rattle.pb_source.specs.Readers.Given.{Reads, ReadsInSteps};
 
 use crate::kind::EnumKind;
 use crate::parsing::kinds::enum_kind;
@@ -25,7 +25,7 @@ use std::alloc::{AllocError, Global};
 #[tactic(auto, unfolding(crate::specs::Readers::Lines::value_reader))]
 fn enum_value(alloc: Global, symbols: &[Placed], at: usize) -> Result<(EnumSaid, usize), Refusal>
     ensures within { IfOk result (λ x. (at < x.1) × (x.1 ≤ length symbols.now)) }
-    ensures read { (n : ℕ) → length symbols.now ≤ n → Gives symbols.now (λ x. (enum_statement_view x.0, x.1)) result (value_reader n all_rules (symbols_from symbols.now at)) }
+    ensures read { ReadsInSteps symbols.now at (λ x. (enum_statement_view x.0, x.1)) result (λ n. value_reader n) }
 {
     let (name, after) = name(symbols, at)?;
     let after = mark("=", symbols, after)?;
@@ -49,7 +49,8 @@ fn option_said(said: Option<bool>) -> EnumSaid
 #[tactic(auto, unfolding(crate::specs::Readers::Lines::reserved_reader))]
 fn reserved(alloc: Global, symbols: &[Placed], at: usize) -> Result<(EnumSaid, usize), Refusal>
     ensures within { IfOk result (λ x. (at < x.1) × (x.1 ≤ length symbols.now)) }
-    ensures read { (n : ℕ) → length symbols.now ≤ n → Gives symbols.now (λ x. (enum_statement_view x.0, x.1)) result (reserved_reader n enum_range_reader EnumStatement.reserved_ranges EnumStatement.reserved_names all_rules (symbols_from symbols.now at)) }
+    ensures read { ReadsInSteps symbols.now at (λ x. (enum_statement_view x.0, x.1)) result
+        (λ n. reserved_reader n enum_range_reader EnumStatement.reserved_ranges EnumStatement.reserved_names) }
 {
     let after = keyword("reserved", symbols, at)?;
     if begins_with_text(symbols, after) {
@@ -68,7 +69,7 @@ fn enum_statement(
     at: usize,
 ) -> Result<(EnumSaid, usize), Refusal>
     ensures within { IfOk result (λ x. (at < x.1) × (x.1 ≤ length symbols.now)) }
-    ensures read { (n : ℕ) → length symbols.now ≤ n → Gives symbols.now (λ x. (enum_statement_view x.0, x.1)) result (enum_statement_reader n all_rules (symbols_from symbols.now at)) }
+    ensures read { ReadsInSteps symbols.now at (λ x. (enum_statement_view x.0, x.1)) result (λ n. enum_statement_reader n) }
 {
     let Some(first) = symbol_at(symbols, at) else {
         return Err(Refusal::At { at, rule: None });
@@ -98,7 +99,8 @@ fn enum_statement(
 
 /// Puts what a statement says into an enum.
 fn add_enum_statement(decl: &mut EnumDecl, statement: EnumSaid) -> Result<(), AllocError>
-    ensures { OnOk result ((name : List ℕ) (ss : List EnumStatement) → enum_view decl.old ≡ enum_of name ss → enum_view decl.new ≡ enum_of name (ss ++ enum_statement_view statement ∷ [])) }
+    ensures { OnOk result ((name : List ℕ) (ss : List EnumStatement) → enum_view decl.old ≡ enum_of name ss
+        → enum_view decl.new ≡ enum_of name (ss ++ enum_statement_view statement ∷ [])) }
 {
     match statement {
         EnumSaid::Nothing => Ok(()),
@@ -144,7 +146,8 @@ fn enum_body(
 ) -> Result<(EnumDecl, usize), Refusal>
     requires { at ≤ length symbols.now }
     ensures within { IfOk result (λ x. (at < x.1) × (x.1 ≤ length symbols.now)) }
-    ensures read { (n : ℕ) → length symbols.now ≤ n → Gives symbols.now (λ x. (enum_view x.0, x.1)) result (mapped (enum_of name.now) (until n is_closing (enum_statement_reader n) (mark_reader (codes "}")) []) all_rules (symbols_from symbols.now at)) }
+    ensures read { ReadsInSteps symbols.now at (λ x. (enum_view x.0, x.1)) result
+        (λ n. mapped (enum_of name.now) (until n is_closing (enum_statement_reader n) (mark_reader (codes "}")) [])) }
 {
     let mut decl = empty_enum(alloc, name)?;
     let mut here = at;
@@ -165,7 +168,7 @@ pub(crate) fn enum_line(
     at: usize,
 ) -> Result<(EnumDecl, usize), Refusal>
     ensures within { IfOk result (λ x. (at < x.1) × (x.1 ≤ length symbols.now)) }
-    ensures read { (n : ℕ) → length symbols.now ≤ n → Gives symbols.now (λ x. (enum_view x.0, x.1)) result (enum_reader n all_rules (symbols_from symbols.now at)) }
+    ensures read { ReadsInSteps symbols.now at (λ x. (enum_view x.0, x.1)) result (λ n. enum_reader n) }
 {
     let after = keyword("enum", symbols, at)?;
     let (name, after) = name(symbols, after)?;

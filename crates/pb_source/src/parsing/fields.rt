@@ -8,7 +8,7 @@ ghost use Rattle.pb_source.specs.Readers.Forms.{mapped, until, mark_reader};
 ghost use Rattle.pb_source.specs.Readers.Lines.{is_closing, field_tail_reader, field_reader, map_tail_reader, map_reader, oneof_statement_reader, oneof_reader};
 ghost use Rattle.pb_source.specs.StatementView.{type_view, map_view, message_statement_view};
 ghost use Rattle.pb_source.specs.PartsView.{IsCounted};
-ghost use Rattle.pb_source.specs.Readers.Given.{symbols_from, Gives};
+ghost use Rattle.pb_source.specs.Readers.Given.{symbols_from, Gives, Reads, ReadsInSteps};
 
 use crate::kind::{Label, OneofKind};
 use crate::parsing::kinds::oneof_kind;
@@ -85,7 +85,7 @@ fn field_tail<'a>(
 ) -> Result<(FieldTail<'a>, usize), Refusal>
     ensures within { IfOk result (λ x. (at < x.1) × (x.1 ≤ length symbols.now)) }
     ensures bound { IfOk result (λ x. x.0.number ≤ 2147483647) }
-    ensures read { (n : ℕ) → length symbols.now ≤ n → Gives symbols.now (λ x. ((x.0.name.now, (x.0.number, x.0.packed)), x.1)) result (field_tail_reader n all_rules (symbols_from symbols.now at)) }
+    ensures read { ReadsInSteps symbols.now at (λ x. ((x.0.name.now, (x.0.number, x.0.packed)), x.1)) result (λ n. field_tail_reader n) }
 {
     let (name, after) = name(symbols, at)?;
     let after = mark("=", symbols, after)?;
@@ -108,7 +108,7 @@ pub(crate) fn field(
     at: usize,
 ) -> Result<(FieldDecl, usize), Refusal>
     ensures within { IfOk result (λ x. (at < x.1) × (x.1 ≤ length symbols.now)) }
-    ensures read { (n : ℕ) → length symbols.now ≤ n → Gives symbols.now (λ x. (field_view x.0, x.1)) result (field_reader n label all_rules (symbols_from symbols.now at)) }
+    ensures read { ReadsInSteps symbols.now at (λ x. (field_view x.0, x.1)) result (λ n. field_reader n label) }
 {
     let (said, after) = typed(alloc, symbols, at)?;
     let (tail, after) = field_tail(alloc, symbols, after)?;
@@ -122,7 +122,7 @@ pub(crate) fn field(
 fn map_tail(alloc: Global, symbols: &[Placed], at: usize) -> Result<(MapSaid, usize), Refusal>
     ensures within { IfOk result (λ x. (at < x.1) × (x.1 ≤ length symbols.now)) }
     ensures bound { IfOk result (λ x. x.0.number ≤ 2147483647) }
-    ensures read { (n : ℕ) → length symbols.now ≤ n → Gives symbols.now (λ x. (map_view x.0, x.1)) result (map_tail_reader n all_rules (symbols_from symbols.now at)) }
+    ensures read { ReadsInSteps symbols.now at (λ x. (map_view x.0, x.1)) result (λ n. map_tail_reader n) }
 {
     let after = mark("<", symbols, at)?;
     let (key, after) = key_type(symbols, after)?;
@@ -150,7 +150,7 @@ pub(crate) fn map_or_field(
 ) -> Result<(MessageSaid, usize), Refusal>
     ensures within { IfOk result (λ x. (at < x.1) × (x.1 ≤ length symbols.now)) }
     ensures bound { IfOk result (λ x. IsCounted x.0) }
-    ensures read { (n : ℕ) → length symbols.now ≤ n → Gives symbols.now (λ x. (message_statement_view x.0, x.1)) result (map_reader n all_rules (symbols_from symbols.now at)) }
+    ensures read { ReadsInSteps symbols.now at (λ x. (message_statement_view x.0, x.1)) result (λ n. map_reader n) }
 {
     let after = keyword("map", symbols, at)?;
     if begins_with_mark("<", symbols, after) {
@@ -169,7 +169,7 @@ fn oneof_statement(
     at: usize,
 ) -> Result<(Option<FieldDecl>, usize), Refusal>
     ensures within { IfOk result (λ x. (at < x.1) × (x.1 ≤ length symbols.now)) }
-    ensures read { (n : ℕ) → length symbols.now ≤ n → Gives symbols.now (λ x. (option_map field_view x.0, x.1)) result (oneof_statement_reader n all_rules (symbols_from symbols.now at)) }
+    ensures read { ReadsInSteps symbols.now at (λ x. (option_map field_view x.0, x.1)) result (λ n. oneof_statement_reader n) }
 {
     let Some(first) = symbol_at(symbols, at) else {
         return Err(Refusal::At { at, rule: None });
@@ -209,7 +209,8 @@ fn oneof_body(
 ) -> Result<(Vec<FieldDecl>, usize), Refusal>
     requires { at ≤ length symbols.now }
     ensures within { IfOk result (λ x. (at < x.1) × (x.1 ≤ length symbols.now)) }
-    ensures read { (n : ℕ) → length symbols.now ≤ n → Gives symbols.now (λ x. (map field_view x.0.items, x.1)) result (mapped those_said (until n is_closing (oneof_statement_reader n) (mark_reader (codes "}")) []) all_rules (symbols_from symbols.now at)) }
+    ensures read { ReadsInSteps symbols.now at (λ x. (map field_view x.0.items, x.1)) result
+        (λ n. mapped those_said (until n is_closing (oneof_statement_reader n) (mark_reader (codes "}")) [])) }
 {
     let mut fields = Vec::new(alloc);
     let mut here = at;
@@ -230,7 +231,7 @@ pub(crate) fn oneof(
     at: usize,
 ) -> Result<((String, Vec<FieldDecl>), usize), Refusal>
     ensures within { IfOk result (λ x. (at < x.1) × (x.1 ≤ length symbols.now)) }
-    ensures read { (n : ℕ) → length symbols.now ≤ n → Gives symbols.now (λ x. ((string_bytes x.0.0, map field_view x.0.1.items), x.1)) result (oneof_reader n all_rules (symbols_from symbols.now at)) }
+    ensures read { ReadsInSteps symbols.now at (λ x. ((string_bytes x.0.0, map field_view x.0.1.items), x.1)) result (λ n. oneof_reader n) }
 {
     let after = keyword("oneof", symbols, at)?;
     let (name, after) = name(symbols, after)?;

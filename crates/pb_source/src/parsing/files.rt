@@ -7,9 +7,10 @@ ghost use Rattle.pb_source.specs.Language.{all_rules};
 ghost use Rattle.pb_source.specs.Meaning.{FileStatement, file_of};
 ghost use Rattle.pb_source.specs.declared.rule.Rule.TheVariants.{SyntaxFirst};
 ghost use Rattle.pb_source.specs.Readers.Forms.{symbol, judged, to_end};
-ghost use Rattle.pb_source.specs.Readers.Lines.{access_reader, import_reader, package_reader, file_statement_reader, file_reader, is_package, syntax_reader, syntax_word_in, syntax_text_in};
+ghost use Rattle.pb_source.specs.Readers.Lines.{access_reader, import_reader, package_reader, file_statement_reader, file_reader};
+ghost use Rattle.pb_source.specs.Readers.Lines.{is_package, syntax_reader, syntax_word_in, syntax_text_in};
 ghost use Rattle.pb_source.specs.StatementView.{file_statement_view};
-ghost use Rattle.pb_source.specs.Readers.Given.{symbols_from, Fails, Gives};
+ghost use Rattle.pb_source.specs.Readers.Given.{symbols_from, Fails, Reads, ReadsInSteps};
 
 use crate::kind::FileKind;
 use crate::parsing::declared::{FileParts, add_file_statement};
@@ -34,7 +35,7 @@ const ROOM: u8 = 63;
 /// Reads the word `syntax`.
 fn syntax_word(symbols: &[Placed], at: usize) -> Result<usize, Refusal>
     ensures within { IfOk result (λ after. (at < after) × (after ≤ length symbols.now)) }
-    ensures read { Gives symbols.now (λ after. (tt, after)) result (symbol (judged SyntaxFirst syntax_word_in) all_rules (symbols_from symbols.now at)) }
+    ensures read { Reads symbols.now at (λ after. (tt, after)) result (symbol (judged SyntaxFirst syntax_word_in)) }
 {
     let Some(first) = symbol_at(symbols, at) else {
         return Err(Refusal::At { at, rule: None });
@@ -58,7 +59,7 @@ fn is_proto3(bytes: &[u8]) -> bool
 /// Reads the text `proto3`.
 fn syntax_text(symbols: &[Placed], at: usize) -> Result<usize, Refusal>
     ensures within { IfOk result (λ after. (at < after) × (after ≤ length symbols.now)) }
-    ensures read { Gives symbols.now (λ after. (tt, after)) result (symbol (judged SyntaxFirst syntax_text_in) all_rules (symbols_from symbols.now at)) }
+    ensures read { Reads symbols.now at (λ after. (tt, after)) result (symbol (judged SyntaxFirst syntax_text_in)) }
 {
     if let Some(first) = symbol_at(symbols, at) {
         if let Symbol::Text(bytes) = &first.symbol {
@@ -78,7 +79,7 @@ fn syntax_text(symbols: &[Placed], at: usize) -> Result<usize, Refusal>
 #[tactic(auto, unfolding(crate::specs::Readers::Lines::syntax_reader))]
 fn syntax(symbols: &[Placed], at: usize) -> Result<usize, Refusal>
     ensures within { IfOk result (λ after. (at < after) × (after ≤ length symbols.now)) }
-    ensures read { Gives symbols.now (λ after. (tt, after)) result (syntax_reader all_rules (symbols_from symbols.now at)) }
+    ensures read { Reads symbols.now at (λ after. (tt, after)) result syntax_reader }
 {
     let after = syntax_word(symbols, at)?;
     let after = mark("=", symbols, after)?;
@@ -91,7 +92,7 @@ fn syntax(symbols: &[Placed], at: usize) -> Result<usize, Refusal>
 #[tactic(auto, unfolding(crate::specs::Readers::Lines::access_reader))]
 fn access(symbols: &[Placed], at: usize) -> Result<(bool, usize), Refusal>
     ensures on { IfOk result (λ x. at ≤ x.1) }
-    ensures read { Gives symbols.now (λ x. x) result (access_reader all_rules (symbols_from symbols.now at)) }
+    ensures read { Reads symbols.now at (λ x. x) result access_reader }
 {
     if begins_with("public", symbols, at) {
         let after = keyword("public", symbols, at)?;
@@ -108,7 +109,7 @@ fn access(symbols: &[Placed], at: usize) -> Result<(bool, usize), Refusal>
 #[tactic(auto, unfolding(crate::specs::Readers::Lines::import_reader))]
 fn import(alloc: Global, symbols: &[Placed], at: usize) -> Result<((bool, String), usize), Refusal>
     ensures within { IfOk result (λ x. (at < x.1) × (x.1 ≤ length symbols.now)) }
-    ensures read { Gives symbols.now (λ x. ((x.0.0, string_bytes x.0.1), x.1)) result (import_reader all_rules (symbols_from symbols.now at)) }
+    ensures read { Reads symbols.now at (λ x. ((x.0.0, string_bytes x.0.1), x.1)) result import_reader }
 {
     let after = keyword("import", symbols, at)?;
     let (is_public, after) = access(symbols, after)?;
@@ -122,7 +123,7 @@ fn import(alloc: Global, symbols: &[Placed], at: usize) -> Result<((bool, String
 #[tactic(auto, unfolding(crate::specs::Readers::Lines::package_reader))]
 fn package(alloc: Global, symbols: &[Placed], at: usize) -> Result<(String, usize), Refusal>
     ensures within { IfOk result (λ x. (at < x.1) × (x.1 ≤ length symbols.now)) }
-    ensures read { (n : ℕ) → length symbols.now ≤ n → Gives symbols.now (λ x. (string_bytes x.0, x.1)) result (package_reader n all_rules (symbols_from symbols.now at)) }
+    ensures read { ReadsInSteps symbols.now at (λ x. (string_bytes x.0, x.1)) result (λ n. package_reader n) }
 {
     let after = keyword("package", symbols, at)?;
     let (words, after) = words(alloc, symbols, after)?;
@@ -140,7 +141,7 @@ fn file_statement(
     at: usize,
 ) -> Result<(FileSaid, usize), Refusal>
     ensures within { IfOk result (λ x. (at < x.1) × (x.1 ≤ length symbols.now)) }
-    ensures read { (n : ℕ) → length symbols.now ≤ n → Gives symbols.now (λ x. (file_statement_view x.0, x.1)) result (file_statement_reader n packaged all_rules (symbols_from symbols.now at)) }
+    ensures read { ReadsInSteps symbols.now at (λ x. (file_statement_view x.0, x.1)) result (λ n. file_statement_reader n packaged) }
 {
     let Some(first) = symbol_at(symbols, at) else {
         return Err(Refusal::At { at, rule: None });
@@ -200,7 +201,8 @@ fn file_body(alloc: Global, name: &str, symbols: &[Placed], at: usize) -> Result
     requires { at ≤ length symbols.now }
     ensures read { IfOk result (λ d. (ss : List FileStatement) × (file_view d ≡ file_of name.now ss)
         × ((n : ℕ) → length symbols.now ≤ n → to_end n is_package (file_statement_reader n) false [] all_rules (symbols_from symbols.now at) ≡ Ok (ss, []))) }
-    ensures refused { IfErr result (λ e. (n : ℕ) → length symbols.now ≤ n → Fails symbols.now e (to_end n is_package (file_statement_reader n) false [] all_rules (symbols_from symbols.now at))) }
+    ensures refused { IfErr result (λ e. (n : ℕ) → length symbols.now ≤ n
+        → Fails symbols.now e (to_end n is_package (file_statement_reader n) false [] all_rules (symbols_from symbols.now at))) }
 {
     let mut parts = FileParts::new(alloc);
     let mut here = at;
@@ -218,7 +220,8 @@ fn file_body(alloc: Global, name: &str, symbols: &[Placed], at: usize) -> Result
 /// Reads a file of this name.
 #[tactic(auto, unfolding(crate::specs::Readers::Lines::file_reader))]
 pub(crate) fn file(alloc: Global, name: &str, symbols: &[Placed]) -> Result<FileDecl, Refusal>
-    ensures read { IfOk result (λ d. (ss : List FileStatement) × (file_view d ≡ file_of name.now ss) × ((n : ℕ) → length symbols.now ≤ n → file_reader n all_rules (symbols_from symbols.now 0) ≡ Ok (ss, []))) }
+    ensures read { IfOk result (λ d. (ss : List FileStatement) × (file_view d ≡ file_of name.now ss)
+        × ((n : ℕ) → length symbols.now ≤ n → file_reader n all_rules (symbols_from symbols.now 0) ≡ Ok (ss, []))) }
     ensures refused { IfErr result (λ e. (n : ℕ) → length symbols.now ≤ n → Fails symbols.now e (file_reader n all_rules (symbols_from symbols.now 0))) }
 {
     let after = syntax(symbols, 0)?;

@@ -1,15 +1,15 @@
 //! Messages.
 
-ghost use Rattle.std.specs.Prelude.{◌≡◌, ◌≢◌, ◌≤◌, ◌<◌, ◌∷◌, ℕ, [], length, map, codes, IfOk, Option, Some, true};
+ghost use Rattle.std.specs.Prelude.{◌≡◌, ◌≢◌, ◌≤◌, ◌<◌, ◌∷◌, [], length, map, codes, IfOk, Option, Some, true};
 ghost use Rattle.pb_descr.specs.View.{message_view, field_view};
 ghost use Rattle.pb_descr.specs.Decls.{DeclaredMessage};
-ghost use Rattle.pb_source.specs.Language.{all_rules};
 ghost use Rattle.pb_source.specs.Meaning.{MessageStatement, message_of};
 ghost use Rattle.pb_source.specs.Readers.Forms.{Reader, if_some, behind, mapped, until, keyword_reader, mark_reader};
-ghost use Rattle.pb_source.specs.Readers.Lines.{is_closing, field_reader, message_range_reader, reserved_reader, message_statement_line, room_statement_reader, message_reader};
+ghost use Rattle.pb_source.specs.Readers.Lines.{is_closing, field_reader, message_range_reader, reserved_reader};
+ghost use Rattle.pb_source.specs.Readers.Lines.{message_statement_line, room_statement_reader, message_reader};
 ghost use Rattle.pb_source.specs.StatementView.{message_statement_view};
 ghost use Rattle.pb_source.specs.PartsView.{is_member, is_plain, IsCounted};
-ghost use Rattle.pb_source.specs.Readers.Given.{symbols_from, Gives};
+ghost use Rattle.pb_source.specs.Readers.Given.{Reads, ReadsInSteps};
 
 use crate::kind::{Label, MessageKind};
 use crate::parsing::declared::{MessageParts, add_statement, message_of};
@@ -31,7 +31,8 @@ use std::alloc::Global;
 fn reserved(alloc: Global, symbols: &[Placed], at: usize) -> Result<(MessageSaid, usize), Refusal>
     ensures within { IfOk result (λ x. (at < x.1) × (x.1 ≤ length symbols.now)) }
     ensures bound { IfOk result (λ x. IsCounted x.0) }
-    ensures read { (n : ℕ) → length symbols.now ≤ n → Gives symbols.now (λ x. (message_statement_view x.0, x.1)) result (reserved_reader n message_range_reader MessageStatement.reserved_ranges MessageStatement.reserved_names all_rules (symbols_from symbols.now at)) }
+    ensures read { ReadsInSteps symbols.now at (λ x. (message_statement_view x.0, x.1)) result
+        (λ n. reserved_reader n message_range_reader MessageStatement.reserved_ranges MessageStatement.reserved_names) }
 {
     let after = keyword("reserved", symbols, at)?;
     if begins_with_text(symbols, after) {
@@ -51,7 +52,7 @@ fn labelled_field(
     at: usize,
 ) -> Result<(FieldDecl, usize), Refusal>
     ensures within { IfOk result (λ x. (at < x.1) × (x.1 ≤ length symbols.now)) }
-    ensures read { (n : ℕ) → length symbols.now ≤ n → Gives symbols.now (λ x. (field_view x.0, x.1)) result (behind (keyword_reader word.now) (field_reader n label) all_rules (symbols_from symbols.now at)) }
+    ensures read { ReadsInSteps symbols.now at (λ x. (field_view x.0, x.1)) result (λ n. behind (keyword_reader word.now) (field_reader n label)) }
 {
     let after = keyword(word, symbols, at)?;
     let (field, after) = field(alloc, label, symbols, after)?;
@@ -68,7 +69,8 @@ fn member(
     requires { is_member kind ≡ true }
     ensures within { IfOk result (λ x. (at < x.1) × (x.1 ≤ length symbols.now)) }
     ensures bound { IfOk result (λ x. IsCounted x.0) }
-    ensures read { (inner : Option (Reader DeclaredMessage)) (n : ℕ) → length symbols.now ≤ n → Gives symbols.now (λ x. (message_statement_view x.0, x.1)) result (if_some (message_statement_line n inner kind) all_rules (symbols_from symbols.now at)) }
+    ensures read { (inner : Option (Reader DeclaredMessage))
+        → ReadsInSteps symbols.now at (λ x. (message_statement_view x.0, x.1)) result (λ n. if_some (message_statement_line n inner kind)) }
 {
     match kind {
         MessageKind::Repeated => {
@@ -106,7 +108,8 @@ fn plain_statement(
     requires { is_plain kind ≡ true }
     ensures within { IfOk result (λ x. (at < x.1) × (x.1 ≤ length symbols.now)) }
     ensures bound { IfOk result (λ x. IsCounted x.0) }
-    ensures read { (inner : Option (Reader DeclaredMessage)) (n : ℕ) → length symbols.now ≤ n → Gives symbols.now (λ x. (message_statement_view x.0, x.1)) result (if_some (message_statement_line n inner kind) all_rules (symbols_from symbols.now at)) }
+    ensures read { (inner : Option (Reader DeclaredMessage))
+        → ReadsInSteps symbols.now at (λ x. (message_statement_view x.0, x.1)) result (λ n. if_some (message_statement_line n inner kind)) }
 {
     match kind {
         MessageKind::Message => unreachable!(),
@@ -147,7 +150,7 @@ fn message_statement(
 ) -> Result<(MessageSaid, usize), Refusal>
     ensures within { IfOk result (λ x. (at < x.1) × (x.1 ≤ length symbols.now)) }
     ensures bound { IfOk result (λ x. IsCounted x.0) }
-    ensures read { (n : ℕ) → length symbols.now ≤ n → Gives symbols.now (λ x. (message_statement_view x.0, x.1)) result (room_statement_reader n room all_rules (symbols_from symbols.now at)) }
+    ensures read { ReadsInSteps symbols.now at (λ x. (message_statement_view x.0, x.1)) result (λ n. room_statement_reader n room) }
 {
     let Some(first) = symbol_at(symbols, at) else {
         return Err(Refusal::At { at, rule: None });
@@ -182,7 +185,8 @@ fn message_body(
 ) -> Result<(MessageDecl, usize), Refusal>
     requires { at ≤ length symbols.now }
     ensures within { IfOk result (λ x. (at < x.1) × (x.1 ≤ length symbols.now)) }
-    ensures read { (n : ℕ) → length symbols.now ≤ n → Gives symbols.now (λ x. (message_view x.0, x.1)) result (mapped (message_of name.now) (until n is_closing (room_statement_reader n room) (mark_reader (codes "}")) []) all_rules (symbols_from symbols.now at)) }
+    ensures read { ReadsInSteps symbols.now at (λ x. (message_view x.0, x.1)) result
+        (λ n. mapped (message_of name.now) (until n is_closing (room_statement_reader n room) (mark_reader (codes "}")) [])) }
 {
     let mut parts = MessageParts::new(alloc);
     let mut here = at;
@@ -205,7 +209,7 @@ pub(crate) fn message(
     at: usize,
 ) -> Result<(MessageDecl, usize), Refusal>
     ensures within { IfOk result (λ x. (at < x.1) × (x.1 ≤ length symbols.now)) }
-    ensures read { (n : ℕ) → length symbols.now ≤ n → Gives symbols.now (λ x. (message_view x.0, x.1)) result (message_reader n room all_rules (symbols_from symbols.now at)) }
+    ensures read { ReadsInSteps symbols.now at (λ x. (message_view x.0, x.1)) result (λ n. message_reader n room) }
 {
     let after = keyword("message", symbols, at)?;
     let (name, after) = name(symbols, after)?;

@@ -1,12 +1,11 @@
 //! Names of several words.
 
-ghost use Rattle.std.specs.Prelude.{◌≡◌, ◌≤◌, ◌<◌, ◌++◌, ◌∷◌, ℕ, length, codes, string_bytes, IfOk, OnOk};
-ghost use Rattle.pb_source.specs.Language.{all_rules};
+ghost use Rattle.std.specs.Prelude.{◌≡◌, ◌≤◌, ◌<◌, ◌++◌, ◌∷◌, length, codes, string_bytes, IfOk, OnOk};
 ghost use Rattle.pb_source.specs.Meaning.{joined};
 ghost use Rattle.pb_source.specs.Readers.Forms.{behind, mark_reader};
 ghost use Rattle.pb_source.specs.Readers.Lines.{name_reader, fullname_reader, typename_reader};
 ghost use Rattle.pb_source.specs.StatementView.{words_view};
-ghost use Rattle.pb_source.specs.Readers.Given.{symbols_from, Gives};
+ghost use Rattle.pb_source.specs.Readers.Given.{Reads, ReadsInSteps};
 
 use crate::parsing::single::{begins_with_mark, mark, name};
 use crate::refusal::Refusal;
@@ -16,7 +15,7 @@ use std::alloc::{AllocError, Global};
 /// Reads a dot, and a word.
 fn next_word<'a>(symbols: &[Placed<'a>], at: usize) -> Result<(&'a str, usize), Refusal>
     ensures within { IfOk result (λ x. (at < x.1) × (x.1 ≤ length symbols.now)) }
-    ensures read { Gives symbols.now (λ x. (x.0.now, x.1)) result (behind (mark_reader (codes ".")) name_reader all_rules (symbols_from symbols.now at)) }
+    ensures read { Reads symbols.now at (λ x. (x.0.now, x.1)) result (behind (mark_reader (codes ".")) name_reader) }
 {
     let after = mark(".", symbols, at)?;
     let (word, after) = name(symbols, after)?;
@@ -30,7 +29,7 @@ pub(crate) fn words<'a>(
     at: usize,
 ) -> Result<(Vec<&'a str>, usize), Refusal>
     ensures within { IfOk result (λ x. (at < x.1) × (x.1 ≤ length symbols.now)) }
-    ensures read { (n : ℕ) → length symbols.now ≤ n → Gives symbols.now (λ x. (words_view x.0.items, x.1)) result (fullname_reader n all_rules (symbols_from symbols.now at)) }
+    ensures read { ReadsInSteps symbols.now at (λ x. (words_view x.0.items, x.1)) result (λ n. fullname_reader n) }
 {
     let (first, after) = name(symbols, at)?;
     let mut words = Vec::new(alloc);
@@ -86,7 +85,7 @@ pub(crate) fn typename(
     at: usize,
 ) -> Result<(String, usize), Refusal>
     ensures within { IfOk result (λ x. (at < x.1) × (x.1 ≤ length symbols.now)) }
-    ensures read { (n : ℕ) → length symbols.now ≤ n → Gives symbols.now (λ x. (string_bytes x.0, x.1)) result (typename_reader n all_rules (symbols_from symbols.now at)) }
+    ensures read { ReadsInSteps symbols.now at (λ x. (string_bytes x.0, x.1)) result (λ n. typename_reader n) }
 {
     if begins_with_mark(".", symbols, at) {
         let after = mark(".", symbols, at)?;

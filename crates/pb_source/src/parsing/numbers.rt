@@ -1,13 +1,12 @@
 //! Integers.
 
-ghost use Rattle.std.specs.Prelude.{◌≡◌, ◌≤◌, ◌<◌, ◌^◌, ℕ, min, length, map, IfOk, option_map, pos, neg_ℤ, ◌*◌, ◌+◌};
+ghost use Rattle.std.specs.Prelude.{◌≡◌, ◌≤◌, ◌<◌, ◌^◌, min, length, map, IfOk, option_map, pos, neg_ℤ, ◌*◌, ◌+◌};
 ghost use Rattle.pb_source.specs.SymbolView.{symbol_of};
-ghost use Rattle.pb_source.specs.Language.{all_rules};
 ghost use Rattle.pb_source.specs.Integers.{integer_of};
 ghost use Rattle.pb_source.specs.Readers.Forms.{mapped, symbol, plain};
 ghost use Rattle.pb_source.specs.Readers.Lines.{integer_in, limited_reader, counted_reader, signed_reader};
 ghost use Rattle.pb_source.specs.Digits.{digits_of, capped};
-ghost use Rattle.pb_source.specs.Readers.Given.{symbols_from, Gives};
+ghost use Rattle.pb_source.specs.Readers.Given.{Reads};
 
 use crate::parsing::single::{begins_with_mark, mark, symbol_at};
 use crate::refusal::Refusal;
@@ -78,7 +77,7 @@ fn integer_in(symbol: &Symbol) -> Option<u64>
 #[tactic(auto, using(crate::proofs::NumberSteps::integer_refused, crate::proofs::NumberSteps::integer_read))]
 pub(crate) fn integer(symbols: &[Placed], at: usize) -> Result<usize, Refusal>
     ensures within { IfOk result (λ after. (at < after) × (after ≤ length symbols.now)) }
-    ensures read { Gives symbols.now (λ after. (tt, after)) result (mapped {B = Unit {0}} (λ _. tt) (symbol (plain integer_in)) all_rules (symbols_from symbols.now at)) }
+    ensures read { Reads symbols.now at (λ after. (tt, after)) result (mapped {B = Unit {0}} (λ _. tt) (symbol (plain integer_in))) }
 {
     let Some(first) = symbol_at(symbols, at) else {
         return Err(Refusal::At { at, rule: None });
@@ -94,7 +93,7 @@ pub(crate) fn integer(symbols: &[Placed], at: usize) -> Result<usize, Refusal>
 fn limited(limit: u32, symbols: &[Placed], at: usize) -> Result<(u32, usize), Refusal>
     ensures within { IfOk result (λ x. (at < x.1) × (x.1 ≤ length symbols.now)) }
     ensures bound { IfOk result (λ x. x.0 ≤ limit) }
-    ensures read { Gives symbols.now (λ x. x) result (limited_reader limit all_rules (symbols_from symbols.now at)) }
+    ensures read { Reads symbols.now at (λ x. x) result (limited_reader limit) }
 {
     let Some(first) = symbol_at(symbols, at) else {
         return Err(Refusal::At { at, rule: None });
@@ -115,7 +114,7 @@ fn limited(limit: u32, symbols: &[Placed], at: usize) -> Result<(u32, usize), Re
 pub(crate) fn counted(symbols: &[Placed], at: usize) -> Result<(u32, usize), Refusal>
     ensures within { IfOk result (λ x. (at < x.1) × (x.1 ≤ length symbols.now)) }
     ensures bound { IfOk result (λ x. x.0 ≤ 2147483647) }
-    ensures read { Gives symbols.now (λ x. x) result (counted_reader all_rules (symbols_from symbols.now at)) }
+    ensures read { Reads symbols.now at (λ x. x) result counted_reader }
 {
     let (number, after) = limited(2147483647, symbols, at)?;
     Ok((number, after))
@@ -125,7 +124,7 @@ pub(crate) fn counted(symbols: &[Placed], at: usize) -> Result<(u32, usize), Ref
 #[tactic(auto, unfolding(crate::specs::Readers::Lines::signed_reader))]
 pub(crate) fn signed(symbols: &[Placed], at: usize) -> Result<(i32, usize), Refusal>
     ensures within { IfOk result (λ x. (at < x.1) × (x.1 ≤ length symbols.now)) }
-    ensures read { Gives symbols.now (λ x. x) result (signed_reader all_rules (symbols_from symbols.now at)) }
+    ensures read { Reads symbols.now at (λ x. x) result signed_reader }
 {
     if begins_with_mark("-", symbols, at) {
         let after = mark("-", symbols, at)?;

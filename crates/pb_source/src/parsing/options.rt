@@ -1,14 +1,14 @@
 //! Options.
 
-ghost use Rattle.std.specs.Prelude.{◌≡◌, ◌≤◌, ◌<◌, ℕ, length, codes, IfOk, None};
-ghost use Rattle.pb_source.specs.Language.{all_rules};
+ghost use Rattle.std.specs.Prelude.{◌≡◌, ◌≤◌, ◌<◌, length, codes, IfOk, None};
 ghost use Rattle.pb_source.specs.Meaning.{last_said};
 ghost use Rattle.pb_source.specs.Grammar.{is_the_name};
 ghost use Rattle.pb_source.specs.declared.rule.Rule.TheVariants.{OptionsKnown};
 ghost use Rattle.pb_source.specs.Readers.Forms.{behind, mapped, symbol, plain, judged, mark_reader};
-ghost use Rattle.pb_source.specs.Readers.Lines.{part_in, truth_in, said_reader, listed, optname_reader, plus_or_minus_reader, constant_reader, assignment_reader, option_reader, setting_reader, field_option_reader, field_end_reader, value_end_reader};
+ghost use Rattle.pb_source.specs.Readers.Lines.{part_in, truth_in, said_reader, listed, optname_reader, plus_or_minus_reader, constant_reader};
+ghost use Rattle.pb_source.specs.Readers.Lines.{assignment_reader, option_reader, setting_reader, field_option_reader, field_end_reader, value_end_reader};
 ghost use Rattle.pb_source.specs.StatementView.{words_view};
-ghost use Rattle.pb_source.specs.Readers.Given.{symbols_from, Gives};
+ghost use Rattle.pb_source.specs.Readers.Given.{Reads, ReadsInSteps};
 
 use crate::parsing::names::words;
 use crate::parsing::numbers::integer;
@@ -24,7 +24,7 @@ use std::alloc::Global;
 /// Reads a part of an option's name.
 fn part<'a>(symbols: &[Placed<'a>], at: usize) -> Result<(&'a str, usize), Refusal>
     ensures within { IfOk result (λ x. (at < x.1) × (x.1 ≤ length symbols.now)) }
-    ensures read { Gives symbols.now (λ x. (x.0.now, x.1)) result (symbol (judged OptionsKnown part_in) all_rules (symbols_from symbols.now at)) }
+    ensures read { Reads symbols.now at (λ x. (x.0.now, x.1)) result (symbol (judged OptionsKnown part_in)) }
 {
     let Some(first) = symbol_at(symbols, at) else {
         return Err(Refusal::At { at, rule: None });
@@ -42,7 +42,7 @@ fn part<'a>(symbols: &[Placed<'a>], at: usize) -> Result<(&'a str, usize), Refus
 /// Reads a dot, and a part of an option's name.
 fn next_part<'a>(symbols: &[Placed<'a>], at: usize) -> Result<(&'a str, usize), Refusal>
     ensures within { IfOk result (λ x. (at < x.1) × (x.1 ≤ length symbols.now)) }
-    ensures read { Gives symbols.now (λ x. (x.0.now, x.1)) result (behind (mark_reader (codes ".")) (symbol (judged OptionsKnown part_in)) all_rules (symbols_from symbols.now at)) }
+    ensures read { Reads symbols.now at (λ x. (x.0.now, x.1)) result (behind (mark_reader (codes ".")) (symbol (judged OptionsKnown part_in))) }
 {
     let after = mark(".", symbols, at)?;
     let (word, after) = part(symbols, after)?;
@@ -56,7 +56,7 @@ fn option_name<'a>(
     at: usize,
 ) -> Result<(Vec<&'a str>, usize), Refusal>
     ensures within { IfOk result (λ x. (at < x.1) × (x.1 ≤ length symbols.now)) }
-    ensures read { (n : ℕ) → length symbols.now ≤ n → Gives symbols.now (λ x. (words_view x.0.items, x.1)) result (optname_reader n all_rules (symbols_from symbols.now at)) }
+    ensures read { ReadsInSteps symbols.now at (λ x. (words_view x.0.items, x.1)) result (λ n. optname_reader n) }
 {
     let (first, after) = part(symbols, at)?;
     let mut parts = Vec::new(alloc);
@@ -74,7 +74,7 @@ fn option_name<'a>(
 #[tactic(auto, unfolding(crate::specs::Readers::Lines::plus_or_minus_reader))]
 fn plus_or_minus(symbols: &[Placed], at: usize) -> Result<usize, Refusal>
     ensures on { IfOk result (λ after. at ≤ after) }
-    ensures read { Gives symbols.now (λ after. (tt, after)) result (plus_or_minus_reader all_rules (symbols_from symbols.now at)) }
+    ensures read { Reads symbols.now at (λ after. (tt, after)) result plus_or_minus_reader }
 {
     if begins_with_mark("-", symbols, at) {
         let after = mark("-", symbols, at)?;
@@ -91,7 +91,7 @@ fn plus_or_minus(symbols: &[Placed], at: usize) -> Result<usize, Refusal>
 #[tactic(auto, unfolding(crate::specs::Readers::Lines::constant_reader))]
 fn constant(alloc: Global, symbols: &[Placed], at: usize) -> Result<usize, Refusal>
     ensures within { IfOk result (λ after. (at < after) × (after ≤ length symbols.now)) }
-    ensures read { (n : ℕ) → length symbols.now ≤ n → Gives symbols.now (λ after. (tt, after)) result (constant_reader n all_rules (symbols_from symbols.now at)) }
+    ensures read { ReadsInSteps symbols.now at (λ after. (tt, after)) result (λ n. constant_reader n) }
 {
     if begins_with_text(symbols, at) {
         let after = text(symbols, at)?;
@@ -110,7 +110,7 @@ fn constant(alloc: Global, symbols: &[Placed], at: usize) -> Result<usize, Refus
 #[tactic(auto, unfolding(crate::specs::Readers::Lines::assignment_reader))]
 fn assignment(alloc: Global, symbols: &[Placed], at: usize) -> Result<usize, Refusal>
     ensures within { IfOk result (λ after. (at < after) × (after ≤ length symbols.now)) }
-    ensures read { (n : ℕ) → length symbols.now ≤ n → Gives symbols.now (λ after. (tt, after)) result (assignment_reader n all_rules (symbols_from symbols.now at)) }
+    ensures read { ReadsInSteps symbols.now at (λ after. (tt, after)) result (λ n. assignment_reader n) }
 {
     let (_, after) = option_name(alloc, symbols, at)?;
     let after = mark("=", symbols, after)?;
@@ -122,7 +122,7 @@ fn assignment(alloc: Global, symbols: &[Placed], at: usize) -> Result<usize, Ref
 #[tactic(auto, unfolding(crate::specs::Readers::Lines::option_reader))]
 pub(crate) fn option(alloc: Global, symbols: &[Placed], at: usize) -> Result<usize, Refusal>
     ensures within { IfOk result (λ after. (at < after) × (after ≤ length symbols.now)) }
-    ensures read { (n : ℕ) → length symbols.now ≤ n → Gives symbols.now (λ after. (tt, after)) result (option_reader n all_rules (symbols_from symbols.now at)) }
+    ensures read { ReadsInSteps symbols.now at (λ after. (tt, after)) result (λ n. option_reader n) }
 {
     let after = keyword("option", symbols, at)?;
     let after = assignment(alloc, symbols, after)?;
@@ -133,7 +133,7 @@ pub(crate) fn option(alloc: Global, symbols: &[Placed], at: usize) -> Result<usi
 /// Reads `true` or `false`.
 fn truth(symbols: &[Placed], at: usize) -> Result<(bool, usize), Refusal>
     ensures within { IfOk result (λ x. (at < x.1) × (x.1 ≤ length symbols.now)) }
-    ensures read { Gives symbols.now (λ x. x) result (symbol (plain truth_in) all_rules (symbols_from symbols.now at)) }
+    ensures read { Reads symbols.now at (λ x. x) result (symbol (plain truth_in)) }
 {
     let Some(first) = symbol_at(symbols, at) else {
         return Err(Refusal::At { at, rule: None });
@@ -162,7 +162,7 @@ fn said(
     at: usize,
 ) -> Result<(Option<bool>, usize), Refusal>
     ensures within { IfOk result (λ x. (at < x.1) × (x.1 ≤ length symbols.now)) }
-    ensures read { (n : ℕ) → length symbols.now ≤ n → Gives symbols.now (λ x. x) result (said_reader n counts all_rules (symbols_from symbols.now at)) }
+    ensures read { ReadsInSteps symbols.now at (λ x. x) result (λ n. said_reader n counts) }
 {
     if counts {
         let (value, after) = truth(symbols, at)?;
@@ -181,7 +181,7 @@ pub(crate) fn setting(
     at: usize,
 ) -> Result<(Option<bool>, usize), Refusal>
     ensures within { IfOk result (λ x. (at < x.1) × (x.1 ≤ length symbols.now)) }
-    ensures read { (n : ℕ) → length symbols.now ≤ n → Gives symbols.now (λ x. x) result (setting_reader n word.now all_rules (symbols_from symbols.now at)) }
+    ensures read { ReadsInSteps symbols.now at (λ x. x) result (λ n. setting_reader n word.now) }
 {
     let (name, after) = option_name(alloc, symbols, at)?;
     let after = mark("=", symbols, after)?;
@@ -198,7 +198,7 @@ fn field_option(
     at: usize,
 ) -> Result<(Option<bool>, usize), Refusal>
     ensures within { IfOk result (λ x. (at < x.1) × (x.1 ≤ length symbols.now)) }
-    ensures read { (n : ℕ) → length symbols.now ≤ n → Gives symbols.now (λ x. x) result (field_option_reader n all_rules (symbols_from symbols.now at)) }
+    ensures read { ReadsInSteps symbols.now at (λ x. x) result (λ n. field_option_reader n) }
 {
     let Some(first) = symbol_at(symbols, at) else {
         return Err(Refusal::At { at, rule: None });
@@ -217,7 +217,7 @@ fn next_field_option(
     at: usize,
 ) -> Result<(Option<bool>, usize), Refusal>
     ensures within { IfOk result (λ x. (at < x.1) × (x.1 ≤ length symbols.now)) }
-    ensures read { (n : ℕ) → length symbols.now ≤ n → Gives symbols.now (λ x. x) result (behind (mark_reader (codes ",")) (field_option_reader n) all_rules (symbols_from symbols.now at)) }
+    ensures read { ReadsInSteps symbols.now at (λ x. x) result (λ n. behind (mark_reader (codes ",")) (field_option_reader n)) }
 {
     let after = mark(",", symbols, at)?;
     let (said, after) = field_option(alloc, symbols, after)?;
@@ -231,7 +231,7 @@ fn field_options(
     at: usize,
 ) -> Result<(Vec<Option<bool>>, usize), Refusal>
     ensures within { IfOk result (λ x. (at < x.1) × (x.1 ≤ length symbols.now)) }
-    ensures read { (n : ℕ) → length symbols.now ≤ n → Gives symbols.now (λ x. (x.0.items, x.1)) result (listed n (field_option_reader n) all_rules (symbols_from symbols.now at)) }
+    ensures read { ReadsInSteps symbols.now at (λ x. (x.0.items, x.1)) result (λ n. listed n (field_option_reader n)) }
 {
     let (first, after) = field_option(alloc, symbols, at)?;
     let mut options = Vec::new(alloc);
@@ -266,7 +266,7 @@ pub(crate) fn field_end(
     at: usize,
 ) -> Result<(Option<bool>, usize), Refusal>
     ensures within { IfOk result (λ x. (at < x.1) × (x.1 ≤ length symbols.now)) }
-    ensures read { (n : ℕ) → length symbols.now ≤ n → Gives symbols.now (λ x. x) result (field_end_reader n all_rules (symbols_from symbols.now at)) }
+    ensures read { ReadsInSteps symbols.now at (λ x. x) result (λ n. field_end_reader n) }
 {
     if !begins_with_mark("[", symbols, at) {
         let after = mark(";", symbols, at)?;
@@ -282,7 +282,7 @@ pub(crate) fn field_end(
 /// Reads a comma, and an option of a value.
 fn next_assignment(alloc: Global, symbols: &[Placed], at: usize) -> Result<usize, Refusal>
     ensures within { IfOk result (λ after. (at < after) × (after ≤ length symbols.now)) }
-    ensures read { (n : ℕ) → length symbols.now ≤ n → Gives symbols.now (λ after. (tt, after)) result (behind (mark_reader (codes ",")) (assignment_reader n) all_rules (symbols_from symbols.now at)) }
+    ensures read { ReadsInSteps symbols.now at (λ after. (tt, after)) result (λ n. behind (mark_reader (codes ",")) (assignment_reader n)) }
 {
     let after = mark(",", symbols, at)?;
     let after = assignment(alloc, symbols, after)?;
@@ -292,7 +292,7 @@ fn next_assignment(alloc: Global, symbols: &[Placed], at: usize) -> Result<usize
 /// Reads the options of an enum's value with commas between.
 fn assignments(alloc: Global, symbols: &[Placed], at: usize) -> Result<usize, Refusal>
     ensures within { IfOk result (λ after. (at < after) × (after ≤ length symbols.now)) }
-    ensures read { (n : ℕ) → length symbols.now ≤ n → Gives symbols.now (λ after. (tt, after)) result (mapped {B = Unit {0}} (λ _. tt) (listed n (assignment_reader n)) all_rules (symbols_from symbols.now at)) }
+    ensures read { ReadsInSteps symbols.now at (λ after. (tt, after)) result (λ n. mapped {B = Unit {0}} (λ _. tt) (listed n (assignment_reader n))) }
 {
     let first = assignment(alloc, symbols, at)?;
     let mut here = first;
@@ -307,7 +307,7 @@ fn assignments(alloc: Global, symbols: &[Placed], at: usize) -> Result<usize, Re
 #[tactic(auto, unfolding(crate::specs::Readers::Lines::value_end_reader, crate::specs::Readers::Lines::options_reader))]
 pub(crate) fn value_end(alloc: Global, symbols: &[Placed], at: usize) -> Result<usize, Refusal>
     ensures within { IfOk result (λ after. (at < after) × (after ≤ length symbols.now)) }
-    ensures read { (n : ℕ) → length symbols.now ≤ n → Gives symbols.now (λ after. (tt, after)) result (value_end_reader n all_rules (symbols_from symbols.now at)) }
+    ensures read { ReadsInSteps symbols.now at (λ after. (tt, after)) result (λ n. value_end_reader n) }
 {
     if !begins_with_mark("[", symbols, at) {
         let after = mark(";", symbols, at)?;

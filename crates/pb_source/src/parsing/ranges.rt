@@ -1,12 +1,11 @@
 //! What is reserved.
 
 ghost use Rattle.std.specs.Prelude.{◌≡◌, ◌≤◌, ◌<◌, ℕ, length, map, codes, string_bytes, pos, IfOk};
-ghost use Rattle.pb_source.specs.Language.{all_rules};
 ghost use Rattle.pb_source.specs.Grammar.{end_behind};
 ghost use Rattle.pb_source.specs.Readers.Forms.{before, behind, mapped, mark_reader};
 ghost use Rattle.pb_source.specs.Readers.Lines.{listed, utf8_reader};
 ghost use Rattle.pb_source.specs.RangeView.{HasSign, bound_within, end_within, greatest_within, last_reader, range_within};
-ghost use Rattle.pb_source.specs.Readers.Given.{symbols_from, Gives};
+ghost use Rattle.pb_source.specs.Readers.Given.{Reads, ReadsInSteps};
 
 use crate::parsing::numbers::{counted, signed};
 use crate::parsing::single::{begins_with, begins_with_mark, keyword, mark, utf8_text};
@@ -54,7 +53,7 @@ fn greatest_end(within: Within) -> i32
 fn bound(within: Within, symbols: &[Placed], at: usize) -> Result<(i32, usize), Refusal>
     ensures within { IfOk result (λ x. (at < x.1) × (x.1 ≤ length symbols.now)) }
     ensures sign { IfOk result (λ x. HasSign within x.0) }
-    ensures read { Gives symbols.now (λ x. x) result (bound_within within all_rules (symbols_from symbols.now at)) }
+    ensures read { Reads symbols.now at (λ x. x) result (bound_within within) }
 {
     match within {
         Within::Message => {
@@ -71,7 +70,7 @@ fn bound(within: Within, symbols: &[Placed], at: usize) -> Result<(i32, usize), 
 /// Reads the last bound of a range, and gives the range's end.
 fn last_bound(within: Within, symbols: &[Placed], at: usize) -> Result<(i32, usize), Refusal>
     ensures within { IfOk result (λ x. (at < x.1) × (x.1 ≤ length symbols.now)) }
-    ensures read { Gives symbols.now (λ x. x) result (last_reader within all_rules (symbols_from symbols.now at)) }
+    ensures read { Reads symbols.now at (λ x. x) result (last_reader within) }
 {
     if begins_with("max", symbols, at) {
         let after = keyword("max", symbols, at)?;
@@ -85,7 +84,7 @@ fn last_bound(within: Within, symbols: &[Placed], at: usize) -> Result<(i32, usi
 #[tactic(auto, unfolding(crate::specs::Readers::Lines::range_reader))]
 fn range(within: Within, symbols: &[Placed], at: usize) -> Result<((i32, i32), usize), Refusal>
     ensures within { IfOk result (λ x. (at < x.1) × (x.1 ≤ length symbols.now)) }
-    ensures read { Gives symbols.now (λ x. x) result (range_within within all_rules (symbols_from symbols.now at)) }
+    ensures read { Reads symbols.now at (λ x. x) result (range_within within) }
 {
     let (start, after) = bound(within, symbols, at)?;
     if begins_with("to", symbols, after) {
@@ -99,7 +98,7 @@ fn range(within: Within, symbols: &[Placed], at: usize) -> Result<((i32, i32), u
 /// Reads a comma, and a range.
 fn next_range(within: Within, symbols: &[Placed], at: usize) -> Result<((i32, i32), usize), Refusal>
     ensures within { IfOk result (λ x. (at < x.1) × (x.1 ≤ length symbols.now)) }
-    ensures read { Gives symbols.now (λ x. x) result (behind (mark_reader (codes ",")) (range_within within) all_rules (symbols_from symbols.now at)) }
+    ensures read { Reads symbols.now at (λ x. x) result (behind (mark_reader (codes ",")) (range_within within)) }
 {
     let after = mark(",", symbols, at)?;
     let (range, after) = range(within, symbols, after)?;
@@ -114,7 +113,7 @@ fn ranges(
     at: usize,
 ) -> Result<(Vec<(i32, i32)>, usize), Refusal>
     ensures within { IfOk result (λ x. (at < x.1) × (x.1 ≤ length symbols.now)) }
-    ensures read { (n : ℕ) → length symbols.now ≤ n → Gives symbols.now (λ x. (x.0.items, x.1)) result (listed n (range_within within) all_rules (symbols_from symbols.now at)) }
+    ensures read { ReadsInSteps symbols.now at (λ x. (x.0.items, x.1)) result (λ n. listed n (range_within within)) }
 {
     let (first, after) = range(within, symbols, at)?;
     let mut ranges = Vec::new(alloc);
@@ -136,7 +135,7 @@ pub(crate) fn ranges_line(
     at: usize,
 ) -> Result<(Vec<(i32, i32)>, usize), Refusal>
     ensures within { IfOk result (λ x. (at < x.1) × (x.1 ≤ length symbols.now)) }
-    ensures read { (n : ℕ) → length symbols.now ≤ n → Gives symbols.now (λ x. (x.0.items, x.1)) result (before (listed n (range_within within)) (mark_reader (codes ";")) all_rules (symbols_from symbols.now at)) }
+    ensures read { ReadsInSteps symbols.now at (λ x. (x.0.items, x.1)) result (λ n. before (listed n (range_within within)) (mark_reader (codes ";"))) }
 {
     let (ranges, after) = ranges(alloc, within, symbols, at)?;
     let after = mark(";", symbols, after)?;
@@ -146,7 +145,7 @@ pub(crate) fn ranges_line(
 /// Reads a text that is UTF-8, as one of its own.
 fn owned_text(alloc: Global, symbols: &[Placed], at: usize) -> Result<(String, usize), Refusal>
     ensures within { IfOk result (λ x. (at < x.1) × (x.1 ≤ length symbols.now)) }
-    ensures read { Gives symbols.now (λ x. (string_bytes x.0, x.1)) result (utf8_reader all_rules (symbols_from symbols.now at)) }
+    ensures read { Reads symbols.now at (λ x. (string_bytes x.0, x.1)) result utf8_reader }
 {
     let (text, after) = utf8_text(symbols, at)?;
     let owned = String::from_str(alloc, text)?;
@@ -156,7 +155,7 @@ fn owned_text(alloc: Global, symbols: &[Placed], at: usize) -> Result<(String, u
 /// Reads a comma, and a text.
 fn next_text(alloc: Global, symbols: &[Placed], at: usize) -> Result<(String, usize), Refusal>
     ensures within { IfOk result (λ x. (at < x.1) × (x.1 ≤ length symbols.now)) }
-    ensures read { Gives symbols.now (λ x. (string_bytes x.0, x.1)) result (behind (mark_reader (codes ",")) utf8_reader all_rules (symbols_from symbols.now at)) }
+    ensures read { Reads symbols.now at (λ x. (string_bytes x.0, x.1)) result (behind (mark_reader (codes ",")) utf8_reader) }
 {
     let after = mark(",", symbols, at)?;
     let (text, after) = owned_text(alloc, symbols, after)?;
@@ -166,7 +165,7 @@ fn next_text(alloc: Global, symbols: &[Placed], at: usize) -> Result<(String, us
 /// Reads texts with commas between.
 fn texts(alloc: Global, symbols: &[Placed], at: usize) -> Result<(Vec<String>, usize), Refusal>
     ensures within { IfOk result (λ x. (at < x.1) × (x.1 ≤ length symbols.now)) }
-    ensures read { (n : ℕ) → length symbols.now ≤ n → Gives symbols.now (λ x. (map string_bytes x.0.items, x.1)) result (listed n utf8_reader all_rules (symbols_from symbols.now at)) }
+    ensures read { ReadsInSteps symbols.now at (λ x. (map string_bytes x.0.items, x.1)) result (λ n. listed n utf8_reader) }
 {
     let (first, after) = owned_text(alloc, symbols, at)?;
     let mut texts = Vec::new(alloc);
@@ -187,7 +186,7 @@ pub(crate) fn names_line(
     at: usize,
 ) -> Result<(Vec<String>, usize), Refusal>
     ensures within { IfOk result (λ x. (at < x.1) × (x.1 ≤ length symbols.now)) }
-    ensures read { (n : ℕ) → length symbols.now ≤ n → Gives symbols.now (λ x. (map string_bytes x.0.items, x.1)) result (before (listed n utf8_reader) (mark_reader (codes ";")) all_rules (symbols_from symbols.now at)) }
+    ensures read { ReadsInSteps symbols.now at (λ x. (map string_bytes x.0.items, x.1)) result (λ n. before (listed n utf8_reader) (mark_reader (codes ";"))) }
 {
     let (texts, after) = texts(alloc, symbols, at)?;
     let after = mark(";", symbols, after)?;

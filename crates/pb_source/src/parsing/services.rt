@@ -1,12 +1,12 @@
 //! Services.
 
-ghost use Rattle.std.specs.Prelude.{◌≡◌, ◌≤◌, ◌<◌, ◌++◌, ℕ, [], length, map, codes, string_bytes, option_map, option_to_list, IfOk, OnOk};
+ghost use Rattle.std.specs.Prelude.{◌≡◌, ◌≤◌, ◌<◌, ◌++◌, [], length, map, codes, string_bytes, option_map, option_to_list, IfOk, OnOk};
 ghost use Rattle.pb_descr.specs.View.{method_view, service_view};
-ghost use Rattle.pb_source.specs.Language.{all_rules};
 ghost use Rattle.pb_source.specs.Meaning.{those_said};
 ghost use Rattle.pb_source.specs.Readers.Forms.{mapped, until, mark_reader};
-ghost use Rattle.pb_source.specs.Readers.Lines.{is_closing, streamed_reader, parameter_reader, method_statement_reader, method_end_reader, method_reader, service_statement_reader, service_reader, service_from};
-ghost use Rattle.pb_source.specs.Readers.Given.{symbols_from, Gives};
+ghost use Rattle.pb_source.specs.Readers.Lines.{is_closing, streamed_reader, parameter_reader, method_statement_reader, method_end_reader};
+ghost use Rattle.pb_source.specs.Readers.Lines.{method_reader, service_statement_reader, service_reader, service_from};
+ghost use Rattle.pb_source.specs.Readers.Given.{Reads, ReadsInSteps};
 
 use crate::kind::{MethodKind, ServiceKind};
 use crate::parsing::kinds::{method_kind, service_kind};
@@ -26,7 +26,7 @@ fn streamed(
     at: usize,
 ) -> Result<((bool, String), usize), Refusal>
     ensures within { IfOk result (λ x. (at < x.1) × (x.1 ≤ length symbols.now)) }
-    ensures read { (n : ℕ) → length symbols.now ≤ n → Gives symbols.now (λ x. ((x.0.0, string_bytes x.0.1), x.1)) result (streamed_reader n all_rules (symbols_from symbols.now at)) }
+    ensures read { ReadsInSteps symbols.now at (λ x. ((x.0.0, string_bytes x.0.1), x.1)) result (λ n. streamed_reader n) }
 {
     if begins_with("stream", symbols, at) {
         let after = keyword("stream", symbols, at)?;
@@ -45,7 +45,7 @@ fn parameter(
     at: usize,
 ) -> Result<((bool, String), usize), Refusal>
     ensures within { IfOk result (λ x. (at < x.1) × (x.1 ≤ length symbols.now)) }
-    ensures read { (n : ℕ) → length symbols.now ≤ n → Gives symbols.now (λ x. ((x.0.0, string_bytes x.0.1), x.1)) result (parameter_reader n all_rules (symbols_from symbols.now at)) }
+    ensures read { ReadsInSteps symbols.now at (λ x. ((x.0.0, string_bytes x.0.1), x.1)) result (λ n. parameter_reader n) }
 {
     let after = mark("(", symbols, at)?;
     let (parameter, after) = streamed(alloc, symbols, after)?;
@@ -57,7 +57,7 @@ fn parameter(
 #[tactic(auto, unfolding(crate::specs::Readers::Lines::method_statement_reader))]
 fn method_statement(alloc: Global, symbols: &[Placed], at: usize) -> Result<usize, Refusal>
     ensures within { IfOk result (λ after. (at < after) × (after ≤ length symbols.now)) }
-    ensures read { (n : ℕ) → length symbols.now ≤ n → Gives symbols.now (λ after. (tt, after)) result (method_statement_reader n all_rules (symbols_from symbols.now at)) }
+    ensures read { ReadsInSteps symbols.now at (λ after. (tt, after)) result (λ n. method_statement_reader n) }
 {
     let Some(first) = symbol_at(symbols, at) else {
         return Err(Refusal::At { at, rule: None });
@@ -79,7 +79,8 @@ fn method_statement(alloc: Global, symbols: &[Placed], at: usize) -> Result<usiz
 fn method_body(alloc: Global, symbols: &[Placed], at: usize) -> Result<usize, Refusal>
     requires { at ≤ length symbols.now }
     ensures within { IfOk result (λ after. (at < after) × (after ≤ length symbols.now)) }
-    ensures read { (n : ℕ) → length symbols.now ≤ n → Gives symbols.now (λ after. (tt, after)) result (mapped {B = Unit {0}} (λ _. tt) (until n is_closing (method_statement_reader n) (mark_reader (codes "}")) []) all_rules (symbols_from symbols.now at)) }
+    ensures read { ReadsInSteps symbols.now at (λ after. (tt, after)) result
+        (λ n. mapped {B = Unit {0}} (λ _. tt) (until n is_closing (method_statement_reader n) (mark_reader (codes "}")) [])) }
 {
     let mut here = at;
     while !begins_with_mark("}", symbols, here) {
@@ -94,7 +95,7 @@ fn method_body(alloc: Global, symbols: &[Placed], at: usize) -> Result<usize, Re
 #[tactic(auto, unfolding(crate::specs::Readers::Lines::method_end_reader))]
 fn method_end(alloc: Global, symbols: &[Placed], at: usize) -> Result<usize, Refusal>
     ensures within { IfOk result (λ after. (at < after) × (after ≤ length symbols.now)) }
-    ensures read { (n : ℕ) → length symbols.now ≤ n → Gives symbols.now (λ after. (tt, after)) result (method_end_reader n all_rules (symbols_from symbols.now at)) }
+    ensures read { ReadsInSteps symbols.now at (λ after. (tt, after)) result (λ n. method_end_reader n) }
 {
     if begins_with_mark("{", symbols, at) {
         let after = mark("{", symbols, at)?;
@@ -109,7 +110,7 @@ fn method_end(alloc: Global, symbols: &[Placed], at: usize) -> Result<usize, Ref
 #[tactic(auto, unfolding(crate::specs::Readers::Lines::method_reader))]
 fn method(alloc: Global, symbols: &[Placed], at: usize) -> Result<(MethodDecl, usize), Refusal>
     ensures within { IfOk result (λ x. (at < x.1) × (x.1 ≤ length symbols.now)) }
-    ensures read { (n : ℕ) → length symbols.now ≤ n → Gives symbols.now (λ x. (method_view x.0, x.1)) result (method_reader n all_rules (symbols_from symbols.now at)) }
+    ensures read { ReadsInSteps symbols.now at (λ x. (method_view x.0, x.1)) result (λ n. method_reader n) }
 {
     let after = keyword("rpc", symbols, at)?;
     let (name, after) = name(symbols, after)?;
@@ -136,7 +137,7 @@ fn service_statement(
     at: usize,
 ) -> Result<(Option<MethodDecl>, usize), Refusal>
     ensures within { IfOk result (λ x. (at < x.1) × (x.1 ≤ length symbols.now)) }
-    ensures read { (n : ℕ) → length symbols.now ≤ n → Gives symbols.now (λ x. (option_map method_view x.0, x.1)) result (service_statement_reader n all_rules (symbols_from symbols.now at)) }
+    ensures read { ReadsInSteps symbols.now at (λ x. (option_map method_view x.0, x.1)) result (λ n. service_statement_reader n) }
 {
     let Some(first) = symbol_at(symbols, at) else {
         return Err(Refusal::At { at, rule: None });
@@ -176,7 +177,8 @@ fn service_body(
 ) -> Result<(Vec<MethodDecl>, usize), Refusal>
     requires { at ≤ length symbols.now }
     ensures within { IfOk result (λ x. (at < x.1) × (x.1 ≤ length symbols.now)) }
-    ensures read { (n : ℕ) → length symbols.now ≤ n → Gives symbols.now (λ x. (map method_view x.0.items, x.1)) result (mapped those_said (until n is_closing (service_statement_reader n) (mark_reader (codes "}")) []) all_rules (symbols_from symbols.now at)) }
+    ensures read { ReadsInSteps symbols.now at (λ x. (map method_view x.0.items, x.1)) result
+        (λ n. mapped those_said (until n is_closing (service_statement_reader n) (mark_reader (codes "}")) [])) }
 {
     let mut methods = Vec::new(alloc);
     let mut here = at;
@@ -197,7 +199,7 @@ pub(crate) fn service(
     at: usize,
 ) -> Result<(ServiceDecl, usize), Refusal>
     ensures within { IfOk result (λ x. (at < x.1) × (x.1 ≤ length symbols.now)) }
-    ensures read { (n : ℕ) → length symbols.now ≤ n → Gives symbols.now (λ x. (service_view x.0, x.1)) result (service_reader n all_rules (symbols_from symbols.now at)) }
+    ensures read { ReadsInSteps symbols.now at (λ x. (service_view x.0, x.1)) result (λ n. service_reader n) }
 {
     let after = keyword("service", symbols, at)?;
     let (name, after) = name(symbols, after)?;

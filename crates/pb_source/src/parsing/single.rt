@@ -3,10 +3,9 @@
 ghost use Rattle.std.specs.Prelude.{◌≡◌, ◌≤◌, ◌<◌, ◌+◌, [], ◌∷◌, length, IfOk, IfSome, IfNone, true, false};
 ghost use Rattle.std.specs.Str.{is_utf8};
 ghost use Rattle.pb_source.specs.SymbolView.{symbol_of};
-ghost use Rattle.pb_source.specs.Language.{all_rules};
 ghost use Rattle.pb_source.specs.Readers.Forms.{first_passes, is_keyword, is_mark, tested, keyword_reader, mark_reader};
 ghost use Rattle.pb_source.specs.Readers.Lines.{is_text, is_number, name_reader, utf8_reader};
-ghost use Rattle.pb_source.specs.Readers.Given.{symbols_from, Gives};
+ghost use Rattle.pb_source.specs.Readers.Given.{symbols_from, Reads};
 
 use crate::refusal::Refusal;
 use crate::rule::Rule;
@@ -14,7 +13,8 @@ use crate::symbol::{Placed, Symbol, is_keyword, is_mark, is_number, is_text};
 
 /// The symbol at an index.
 pub(crate) fn symbol_at<'t, 'a>(symbols: &'t [Placed<'a>], at: usize) -> Option<&'t Placed<'a>>
-    ensures found { IfSome result (λ p. (at < length symbols.now) × (symbols_from symbols.now at ≡ symbol_of p.now.symbol ∷ symbols_from symbols.now (at + 1))) }
+    ensures found { IfSome result (λ p. (at < length symbols.now)
+        × (symbols_from symbols.now at ≡ symbol_of p.now.symbol ∷ symbols_from symbols.now (at + 1))) }
     ensures none { IfNone result (symbols_from symbols.now at ≡ []) }
 {
     symbols.get(at)
@@ -63,7 +63,7 @@ pub(crate) fn begins_with_number(symbols: &[Placed], at: usize) -> bool
 /// Reads this word, and tells the index after it.
 pub(crate) fn keyword(word: &str, symbols: &[Placed], at: usize) -> Result<usize, Refusal>
     ensures within { IfOk result (λ after. (at < after) × (after ≤ length symbols.now)) }
-    ensures read { Gives symbols.now (λ after. (tt, after)) result (keyword_reader word.now all_rules (symbols_from symbols.now at)) }
+    ensures read { Reads symbols.now at (λ after. (tt, after)) result (keyword_reader word.now) }
 {
     if let Some(first) = symbol_at(symbols, at) {
         if is_keyword(&first.symbol, word) {
@@ -76,7 +76,7 @@ pub(crate) fn keyword(word: &str, symbols: &[Placed], at: usize) -> Result<usize
 /// Reads this sign.
 pub(crate) fn mark(sign: &str, symbols: &[Placed], at: usize) -> Result<usize, Refusal>
     ensures within { IfOk result (λ after. (at < after) × (after ≤ length symbols.now)) }
-    ensures read { Gives symbols.now (λ after. (tt, after)) result (mark_reader sign.now all_rules (symbols_from symbols.now at)) }
+    ensures read { Reads symbols.now at (λ after. (tt, after)) result (mark_reader sign.now) }
 {
     if let Some(first) = symbol_at(symbols, at) {
         if is_mark(&first.symbol, sign) {
@@ -89,7 +89,7 @@ pub(crate) fn mark(sign: &str, symbols: &[Placed], at: usize) -> Result<usize, R
 /// Reads a text.
 pub(crate) fn text(symbols: &[Placed], at: usize) -> Result<usize, Refusal>
     ensures within { IfOk result (λ after. (at < after) × (after ≤ length symbols.now)) }
-    ensures read { Gives symbols.now (λ after. (tt, after)) result (tested is_text all_rules (symbols_from symbols.now at)) }
+    ensures read { Reads symbols.now at (λ after. (tt, after)) result (tested is_text) }
 {
     if let Some(first) = symbol_at(symbols, at) {
         if is_text(&first.symbol) {
@@ -103,7 +103,7 @@ pub(crate) fn text(symbols: &[Placed], at: usize) -> Result<usize, Refusal>
 #[tactic(auto, unfolding(crate::specs::Readers::Lines::name_reader))]
 pub(crate) fn name<'a>(symbols: &[Placed<'a>], at: usize) -> Result<(&'a str, usize), Refusal>
     ensures within { IfOk result (λ x. (at < x.1) × (x.1 ≤ length symbols.now)) }
-    ensures read { Gives symbols.now (λ x. (x.0.now, x.1)) result (name_reader all_rules (symbols_from symbols.now at)) }
+    ensures read { Reads symbols.now at (λ x. (x.0.now, x.1)) result name_reader }
 {
     if let Some(first) = symbol_at(symbols, at) {
         if let Symbol::Word(word) = &first.symbol {
@@ -128,7 +128,7 @@ fn utf8_of(bytes: &[u8]) -> Option<&str>
 #[tactic(auto, unfolding(crate::specs::Readers::Lines::utf8_reader))]
 pub(crate) fn utf8_text<'t>(symbols: &'t [Placed], at: usize) -> Result<(&'t str, usize), Refusal>
     ensures within { IfOk result (λ x. (at < x.1) × (x.1 ≤ length symbols.now)) }
-    ensures read { Gives symbols.now (λ x. (x.0.now, x.1)) result (utf8_reader all_rules (symbols_from symbols.now at)) }
+    ensures read { Reads symbols.now at (λ x. (x.0.now, x.1)) result utf8_reader }
 {
     if let Some(first) = symbol_at(symbols, at) {
         if let Symbol::Text(bytes) = &first.symbol {

@@ -1,12 +1,11 @@
 //! Types of fields.
 
-ghost use Rattle.std.specs.Prelude.{◌≡◌, ◌≤◌, ◌<◌, ℕ, length, string_bytes, option_map, IfOk};
-ghost use Rattle.pb_source.specs.Language.{all_rules};
+ghost use Rattle.std.specs.Prelude.{◌≡◌, ◌≤◌, ◌<◌, length, string_bytes, option_map, IfOk};
 ghost use Rattle.pb_source.specs.Meaning.{code_said, name_said};
 ghost use Rattle.pb_source.specs.Grammar.{scalar_code, found_in, key_words};
 ghost use Rattle.pb_source.specs.Readers.Lines.{type_of, type_reader, key_reader};
 ghost use Rattle.pb_source.specs.StatementView.{words_view, type_view, scalar_of_words};
-ghost use Rattle.pb_source.specs.Readers.Given.{symbols_from, Gives};
+ghost use Rattle.pb_source.specs.Readers.Given.{Reads, ReadsInSteps};
 
 use crate::parsing::names::{joined, joined_behind_dot, words};
 use crate::parsing::single::{begins_with_mark, mark, symbol_at};
@@ -53,7 +52,7 @@ fn key_code(word: &str) -> Option<TypeCode>
 #[tactic(auto, unfolding(crate::specs::Readers::Lines::key_reader))]
 pub(crate) fn key_type(symbols: &[Placed], at: usize) -> Result<(TypeCode, usize), Refusal>
     ensures within { IfOk result (λ x. (at < x.1) × (x.1 ≤ length symbols.now)) }
-    ensures read { Gives symbols.now (λ x. x) result (key_reader all_rules (symbols_from symbols.now at)) }
+    ensures read { Reads symbols.now at (λ x. x) result key_reader }
 {
     if let Some(first) = symbol_at(symbols, at) {
         if let Symbol::Word(word) = &first.symbol {
@@ -95,7 +94,7 @@ pub(crate) fn typed(
     at: usize,
 ) -> Result<(TypeSaid, usize), Refusal>
     ensures within { IfOk result (λ x. (at < x.1) × (x.1 ≤ length symbols.now)) }
-    ensures read { (n : ℕ) → length symbols.now ≤ n → Gives symbols.now (λ x. (type_view x.0, x.1)) result (type_reader n all_rules (symbols_from symbols.now at)) }
+    ensures read { ReadsInSteps symbols.now at (λ x. (type_view x.0, x.1)) result (λ n. type_reader n) }
 {
     if begins_with_mark(".", symbols, at) {
         let after = mark(".", symbols, at)?;
