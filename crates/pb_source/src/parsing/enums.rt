@@ -25,7 +25,7 @@ use std::alloc::{AllocError, Global};
 #[tactic(auto, unfolding(crate::specs::Readers::Lines::value_reader))]
 fn enum_value(alloc: Global, symbols: &[Placed], at: usize) -> Result<(EnumSaid, usize), Refusal>
     ensures within { IfOk result (λ x. (at < x.1) × (x.1 ≤ length symbols.now)) }
-    ensures read { ReadsInSteps symbols.now at (λ x. (enum_statement_view x.0, x.1)) result (λ n. value_reader n) }
+    ensures read { ReadsInSteps symbols.now at (λ x. (enum_statement_view x.0, x.1)) result value_reader }
 {
     let (name, after) = name(symbols, at)?;
     let after = mark("=", symbols, after)?;
@@ -69,7 +69,7 @@ fn enum_statement(
     at: usize,
 ) -> Result<(EnumSaid, usize), Refusal>
     ensures within { IfOk result (λ x. (at < x.1) × (x.1 ≤ length symbols.now)) }
-    ensures read { ReadsInSteps symbols.now at (λ x. (enum_statement_view x.0, x.1)) result (λ n. enum_statement_reader n) }
+    ensures read { ReadsInSteps symbols.now at (λ x. (enum_statement_view x.0, x.1)) result enum_statement_reader }
 {
     let Some(first) = symbol_at(symbols, at) else {
         return Err(Refusal::At { at, rule: None });
@@ -168,7 +168,7 @@ pub(crate) fn enum_line(
     at: usize,
 ) -> Result<(EnumDecl, usize), Refusal>
     ensures within { IfOk result (λ x. (at < x.1) × (x.1 ≤ length symbols.now)) }
-    ensures read { ReadsInSteps symbols.now at (λ x. (enum_view x.0, x.1)) result (λ n. enum_reader n) }
+    ensures read { ReadsInSteps symbols.now at (λ x. (enum_view x.0, x.1)) result enum_reader }
 {
     let after = keyword("enum", symbols, at)?;
     let (name, after) = name(symbols, after)?;

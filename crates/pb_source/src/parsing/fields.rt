@@ -85,7 +85,7 @@ fn field_tail<'a>(
 ) -> Result<(FieldTail<'a>, usize), Refusal>
     ensures within { IfOk result (λ x. (at < x.1) × (x.1 ≤ length symbols.now)) }
     ensures bound { IfOk result (λ x. x.0.number ≤ 2147483647) }
-    ensures read { ReadsInSteps symbols.now at (λ x. ((x.0.name.now, (x.0.number, x.0.packed)), x.1)) result (λ n. field_tail_reader n) }
+    ensures read { ReadsInSteps symbols.now at (λ x. ((x.0.name.now, (x.0.number, x.0.packed)), x.1)) result field_tail_reader }
 {
     let (name, after) = name(symbols, at)?;
     let after = mark("=", symbols, after)?;
@@ -122,7 +122,7 @@ pub(crate) fn field(
 fn map_tail(alloc: Global, symbols: &[Placed], at: usize) -> Result<(MapSaid, usize), Refusal>
     ensures within { IfOk result (λ x. (at < x.1) × (x.1 ≤ length symbols.now)) }
     ensures bound { IfOk result (λ x. x.0.number ≤ 2147483647) }
-    ensures read { ReadsInSteps symbols.now at (λ x. (map_view x.0, x.1)) result (λ n. map_tail_reader n) }
+    ensures read { ReadsInSteps symbols.now at (λ x. (map_view x.0, x.1)) result map_tail_reader }
 {
     let after = mark("<", symbols, at)?;
     let (key, after) = key_type(symbols, after)?;
@@ -150,7 +150,7 @@ pub(crate) fn map_or_field(
 ) -> Result<(MessageSaid, usize), Refusal>
     ensures within { IfOk result (λ x. (at < x.1) × (x.1 ≤ length symbols.now)) }
     ensures bound { IfOk result (λ x. IsCounted x.0) }
-    ensures read { ReadsInSteps symbols.now at (λ x. (message_statement_view x.0, x.1)) result (λ n. map_reader n) }
+    ensures read { ReadsInSteps symbols.now at (λ x. (message_statement_view x.0, x.1)) result map_reader }
 {
     let after = keyword("map", symbols, at)?;
     if begins_with_mark("<", symbols, after) {
@@ -169,7 +169,7 @@ fn oneof_statement(
     at: usize,
 ) -> Result<(Option<FieldDecl>, usize), Refusal>
     ensures within { IfOk result (λ x. (at < x.1) × (x.1 ≤ length symbols.now)) }
-    ensures read { ReadsInSteps symbols.now at (λ x. (option_map field_view x.0, x.1)) result (λ n. oneof_statement_reader n) }
+    ensures read { ReadsInSteps symbols.now at (λ x. (option_map field_view x.0, x.1)) result oneof_statement_reader }
 {
     let Some(first) = symbol_at(symbols, at) else {
         return Err(Refusal::At { at, rule: None });
@@ -231,7 +231,7 @@ pub(crate) fn oneof(
     at: usize,
 ) -> Result<((String, Vec<FieldDecl>), usize), Refusal>
     ensures within { IfOk result (λ x. (at < x.1) × (x.1 ≤ length symbols.now)) }
-    ensures read { ReadsInSteps symbols.now at (λ x. ((string_bytes x.0.0, map field_view x.0.1.items), x.1)) result (λ n. oneof_reader n) }
+    ensures read { ReadsInSteps symbols.now at (λ x. ((string_bytes x.0.0, map field_view x.0.1.items), x.1)) result oneof_reader }
 {
     let after = keyword("oneof", symbols, at)?;
     let (name, after) = name(symbols, after)?;

@@ -123,7 +123,7 @@ fn import(alloc: Global, symbols: &[Placed], at: usize) -> Result<((bool, String
 #[tactic(auto, unfolding(crate::specs::Readers::Lines::package_reader))]
 fn package(alloc: Global, symbols: &[Placed], at: usize) -> Result<(String, usize), Refusal>
     ensures within { IfOk result (λ x. (at < x.1) × (x.1 ≤ length symbols.now)) }
-    ensures read { ReadsInSteps symbols.now at (λ x. (string_bytes x.0, x.1)) result (λ n. package_reader n) }
+    ensures read { ReadsInSteps symbols.now at (λ x. (string_bytes x.0, x.1)) result package_reader }
 {
     let after = keyword("package", symbols, at)?;
     let (words, after) = words(alloc, symbols, after)?;

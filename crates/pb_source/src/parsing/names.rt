@@ -29,7 +29,7 @@ pub(crate) fn words<'a>(
     at: usize,
 ) -> Result<(Vec<&'a str>, usize), Refusal>
     ensures within { IfOk result (λ x. (at < x.1) × (x.1 ≤ length symbols.now)) }
-    ensures read { ReadsInSteps symbols.now at (λ x. (words_view x.0.items, x.1)) result (λ n. fullname_reader n) }
+    ensures read { ReadsInSteps symbols.now at (λ x. (words_view x.0.items, x.1)) result fullname_reader }
 {
     let (first, after) = name(symbols, at)?;
     let mut words = Vec::new(alloc);
@@ -85,7 +85,7 @@ pub(crate) fn typename(
     at: usize,
 ) -> Result<(String, usize), Refusal>
     ensures within { IfOk result (λ x. (at < x.1) × (x.1 ≤ length symbols.now)) }
-    ensures read { ReadsInSteps symbols.now at (λ x. (string_bytes x.0, x.1)) result (λ n. typename_reader n) }
+    ensures read { ReadsInSteps symbols.now at (λ x. (string_bytes x.0, x.1)) result typename_reader }
 {
     if begins_with_mark(".", symbols, at) {
         let after = mark(".", symbols, at)?;

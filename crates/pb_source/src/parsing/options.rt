@@ -56,7 +56,7 @@ fn option_name<'a>(
     at: usize,
 ) -> Result<(Vec<&'a str>, usize), Refusal>
     ensures within { IfOk result (λ x. (at < x.1) × (x.1 ≤ length symbols.now)) }
-    ensures read { ReadsInSteps symbols.now at (λ x. (words_view x.0.items, x.1)) result (λ n. optname_reader n) }
+    ensures read { ReadsInSteps symbols.now at (λ x. (words_view x.0.items, x.1)) result optname_reader }
 {
     let (first, after) = part(symbols, at)?;
     let mut parts = Vec::new(alloc);
@@ -91,7 +91,7 @@ fn plus_or_minus(symbols: &[Placed], at: usize) -> Result<usize, Refusal>
 #[tactic(auto, unfolding(crate::specs::Readers::Lines::constant_reader))]
 fn constant(alloc: Global, symbols: &[Placed], at: usize) -> Result<usize, Refusal>
     ensures within { IfOk result (λ after. (at < after) × (after ≤ length symbols.now)) }
-    ensures read { ReadsInSteps symbols.now at (λ after. (tt, after)) result (λ n. constant_reader n) }
+    ensures read { ReadsInSteps symbols.now at (λ after. (tt, after)) result constant_reader }
 {
     if begins_with_text(symbols, at) {
         let after = text(symbols, at)?;
@@ -110,7 +110,7 @@ fn constant(alloc: Global, symbols: &[Placed], at: usize) -> Result<usize, Refus
 #[tactic(auto, unfolding(crate::specs::Readers::Lines::assignment_reader))]
 fn assignment(alloc: Global, symbols: &[Placed], at: usize) -> Result<usize, Refusal>
     ensures within { IfOk result (λ after. (at < after) × (after ≤ length symbols.now)) }
-    ensures read { ReadsInSteps symbols.now at (λ after. (tt, after)) result (λ n. assignment_reader n) }
+    ensures read { ReadsInSteps symbols.now at (λ after. (tt, after)) result assignment_reader }
 {
     let (_, after) = option_name(alloc, symbols, at)?;
     let after = mark("=", symbols, after)?;
@@ -122,7 +122,7 @@ fn assignment(alloc: Global, symbols: &[Placed], at: usize) -> Result<usize, Ref
 #[tactic(auto, unfolding(crate::specs::Readers::Lines::option_reader))]
 pub(crate) fn option(alloc: Global, symbols: &[Placed], at: usize) -> Result<usize, Refusal>
     ensures within { IfOk result (λ after. (at < after) × (after ≤ length symbols.now)) }
-    ensures read { ReadsInSteps symbols.now at (λ after. (tt, after)) result (λ n. option_reader n) }
+    ensures read { ReadsInSteps symbols.now at (λ after. (tt, after)) result option_reader }
 {
     let after = keyword("option", symbols, at)?;
     let after = assignment(alloc, symbols, after)?;
@@ -198,7 +198,7 @@ fn field_option(
     at: usize,
 ) -> Result<(Option<bool>, usize), Refusal>
     ensures within { IfOk result (λ x. (at < x.1) × (x.1 ≤ length symbols.now)) }
-    ensures read { ReadsInSteps symbols.now at (λ x. x) result (λ n. field_option_reader n) }
+    ensures read { ReadsInSteps symbols.now at (λ x. x) result field_option_reader }
 {
     let Some(first) = symbol_at(symbols, at) else {
         return Err(Refusal::At { at, rule: None });
@@ -266,7 +266,7 @@ pub(crate) fn field_end(
     at: usize,
 ) -> Result<(Option<bool>, usize), Refusal>
     ensures within { IfOk result (λ x. (at < x.1) × (x.1 ≤ length symbols.now)) }
-    ensures read { ReadsInSteps symbols.now at (λ x. x) result (λ n. field_end_reader n) }
+    ensures read { ReadsInSteps symbols.now at (λ x. x) result field_end_reader }
 {
     if !begins_with_mark("[", symbols, at) {
         let after = mark(";", symbols, at)?;
@@ -307,7 +307,7 @@ fn assignments(alloc: Global, symbols: &[Placed], at: usize) -> Result<usize, Re
 #[tactic(auto, unfolding(crate::specs::Readers::Lines::value_end_reader, crate::specs::Readers::Lines::options_reader))]
 pub(crate) fn value_end(alloc: Global, symbols: &[Placed], at: usize) -> Result<usize, Refusal>
     ensures within { IfOk result (λ after. (at < after) × (after ≤ length symbols.now)) }
-    ensures read { ReadsInSteps symbols.now at (λ after. (tt, after)) result (λ n. value_end_reader n) }
+    ensures read { ReadsInSteps symbols.now at (λ after. (tt, after)) result value_end_reader }
 {
     if !begins_with_mark("[", symbols, at) {
         let after = mark(";", symbols, at)?;

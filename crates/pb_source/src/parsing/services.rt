@@ -26,7 +26,7 @@ fn streamed(
     at: usize,
 ) -> Result<((bool, String), usize), Refusal>
     ensures within { IfOk result (λ x. (at < x.1) × (x.1 ≤ length symbols.now)) }
-    ensures read { ReadsInSteps symbols.now at (λ x. ((x.0.0, string_bytes x.0.1), x.1)) result (λ n. streamed_reader n) }
+    ensures read { ReadsInSteps symbols.now at (λ x. ((x.0.0, string_bytes x.0.1), x.1)) result streamed_reader }
 {
     if begins_with("stream", symbols, at) {
         let after = keyword("stream", symbols, at)?;
@@ -45,7 +45,7 @@ fn parameter(
     at: usize,
 ) -> Result<((bool, String), usize), Refusal>
     ensures within { IfOk result (λ x. (at < x.1) × (x.1 ≤ length symbols.now)) }
-    ensures read { ReadsInSteps symbols.now at (λ x. ((x.0.0, string_bytes x.0.1), x.1)) result (λ n. parameter_reader n) }
+    ensures read { ReadsInSteps symbols.now at (λ x. ((x.0.0, string_bytes x.0.1), x.1)) result parameter_reader }
 {
     let after = mark("(", symbols, at)?;
     let (parameter, after) = streamed(alloc, symbols, after)?;
@@ -57,7 +57,7 @@ fn parameter(
 #[tactic(auto, unfolding(crate::specs::Readers::Lines::method_statement_reader))]
 fn method_statement(alloc: Global, symbols: &[Placed], at: usize) -> Result<usize, Refusal>
     ensures within { IfOk result (λ after. (at < after) × (after ≤ length symbols.now)) }
-    ensures read { ReadsInSteps symbols.now at (λ after. (tt, after)) result (λ n. method_statement_reader n) }
+    ensures read { ReadsInSteps symbols.now at (λ after. (tt, after)) result method_statement_reader }
 {
     let Some(first) = symbol_at(symbols, at) else {
         return Err(Refusal::At { at, rule: None });
@@ -95,7 +95,7 @@ fn method_body(alloc: Global, symbols: &[Placed], at: usize) -> Result<usize, Re
 #[tactic(auto, unfolding(crate::specs::Readers::Lines::method_end_reader))]
 fn method_end(alloc: Global, symbols: &[Placed], at: usize) -> Result<usize, Refusal>
     ensures within { IfOk result (λ after. (at < after) × (after ≤ length symbols.now)) }
-    ensures read { ReadsInSteps symbols.now at (λ after. (tt, after)) result (λ n. method_end_reader n) }
+    ensures read { ReadsInSteps symbols.now at (λ after. (tt, after)) result method_end_reader }
 {
     if begins_with_mark("{", symbols, at) {
         let after = mark("{", symbols, at)?;
@@ -110,7 +110,7 @@ fn method_end(alloc: Global, symbols: &[Placed], at: usize) -> Result<usize, Ref
 #[tactic(auto, unfolding(crate::specs::Readers::Lines::method_reader))]
 fn method(alloc: Global, symbols: &[Placed], at: usize) -> Result<(MethodDecl, usize), Refusal>
     ensures within { IfOk result (λ x. (at < x.1) × (x.1 ≤ length symbols.now)) }
-    ensures read { ReadsInSteps symbols.now at (λ x. (method_view x.0, x.1)) result (λ n. method_reader n) }
+    ensures read { ReadsInSteps symbols.now at (λ x. (method_view x.0, x.1)) result method_reader }
 {
     let after = keyword("rpc", symbols, at)?;
     let (name, after) = name(symbols, after)?;
@@ -137,7 +137,7 @@ fn service_statement(
     at: usize,
 ) -> Result<(Option<MethodDecl>, usize), Refusal>
     ensures within { IfOk result (λ x. (at < x.1) × (x.1 ≤ length symbols.now)) }
-    ensures read { ReadsInSteps symbols.now at (λ x. (option_map method_view x.0, x.1)) result (λ n. service_statement_reader n) }
+    ensures read { ReadsInSteps symbols.now at (λ x. (option_map method_view x.0, x.1)) result service_statement_reader }
 {
     let Some(first) = symbol_at(symbols, at) else {
         return Err(Refusal::At { at, rule: None });
@@ -199,7 +199,7 @@ pub(crate) fn service(
     at: usize,
 ) -> Result<(ServiceDecl, usize), Refusal>
     ensures within { IfOk result (λ x. (at < x.1) × (x.1 ≤ length symbols.now)) }
-    ensures read { ReadsInSteps symbols.now at (λ x. (service_view x.0, x.1)) result (λ n. service_reader n) }
+    ensures read { ReadsInSteps symbols.now at (λ x. (service_view x.0, x.1)) result service_reader }
 {
     let after = keyword("service", symbols, at)?;
     let (name, after) = name(symbols, after)?;

@@ -94,7 +94,7 @@ pub(crate) fn typed(
     at: usize,
 ) -> Result<(TypeSaid, usize), Refusal>
     ensures within { IfOk result (λ x. (at < x.1) × (x.1 ≤ length symbols.now)) }
-    ensures read { ReadsInSteps symbols.now at (λ x. (type_view x.0, x.1)) result (λ n. type_reader n) }
+    ensures read { ReadsInSteps symbols.now at (λ x. (type_view x.0, x.1)) result type_reader }
 {
     if begins_with_mark(".", symbols, at) {
         let after = mark(".", symbols, at)?;
