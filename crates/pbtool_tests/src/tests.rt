@@ -274,8 +274,14 @@ fn usage(rt: HostRuntime) -> Result<(), Fail> {
             "{words:?}"
         );
     }
+    // The text of usage is clap's.
+    let told = run_over(rt.alloc(), &["show", "f", "T"], b"", NONE)?;
+    assert!(rt; told.is(2, b"", WITHOUT_A_FILE));
     Ok(())
 }
+
+const WITHOUT_A_FILE: &[u8] =
+    b"error: the following required arguments were not provided:\n  <FILE>\n\nUsage: pbtool show <SET> <TYPE> <FILE>\n\nFor more information, try '--help'.\n";
 
 const FLAT: &[u8] = b"\x08\x96\x81\x00\x12\x01\x7a\x2d\x01\x00\x00\x00";
 
