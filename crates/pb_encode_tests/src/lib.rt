@@ -4,8 +4,6 @@
 #[cfg(test)]
 mod first_call;
 #[cfg(test)]
-mod reading;
-#[cfg(test)]
 mod rows;
 #[cfg(test)]
 mod schema;

@@ -18,11 +18,12 @@
 //! optional C k = 4; repeated C l = 5 [packed = true]; oneof o { C m = 6; group V = 536870911 { optional int32 x = 1; } }
 //! repeated C r = 9; map<int32, Q> p = 10; repeated group H = 16 { optional int32 x = 1; optional C k = 2; optional Q c = 3; } }
 
-use pb_schema::{EnumId, EnumType, Field, FileInfo, Kind, MessageId, MessageType, Pool, Shape};
-use std::alloc::{AllocError, Global};
+use pb_samples::{
+    EnumRow, FIELDS_OF_F, FIELDS_OF_T, FieldRow, FileRow, PACKED, TypeRow, UNPACKED, pool_of,
+};
+use pb_schema::{EnumId, Kind, MessageId, Pool, Shape};
+use std::alloc::Global;
 use std::test::Fail;
-
-type FieldRow = (&'static str, u32, Kind, Shape);
 
 const T: Kind = Kind::Message(MessageId(0));
 
@@ -31,39 +32,6 @@ const E: Kind = Kind::Enum(EnumId(0));
 const C: Kind = Kind::ClosedEnum(EnumId(1));
 
 const Q: MessageId = MessageId(3);
-
-const PACKED: Shape = Shape::List { packed: true };
-
-const UNPACKED: Shape = Shape::List { packed: false };
-
-const FIELDS_OF_T: &[FieldRow] = &[
-    ("a", 1, Kind::Int32, Shape::Implicit),
-    ("b", 2, Kind::Text, Shape::Implicit),
-    ("c", 3, T, Shape::Explicit),
-    ("d", 4, Kind::Double, Shape::Implicit),
-    ("e", 6, Kind::Int32, PACKED),
-    ("x", 7, Kind::Uint32, Shape::OneofMember(0)),
-    ("y", 8, T, Shape::OneofMember(0)),
-    ("m", 9, Kind::Int32, Shape::Map { key: Kind::Text }),
-    ("p", 10, Kind::Bool, Shape::Explicit),
-    ("s", 11, Kind::Sint32, Shape::Implicit),
-    ("n", 12, T, Shape::Map { key: Kind::Uint32 }),
-];
-
-const FIELDS_OF_F: &[FieldRow] = &[
-    ("a", 1, Kind::Int32, Shape::Implicit),
-    ("b", 2, Kind::Text, Shape::Implicit),
-    ("d", 4, Kind::Double, Shape::Implicit),
-    ("e", 6, Kind::Int32, PACKED),
-    ("p", 10, Kind::Bool, Shape::Explicit),
-    ("s", 11, Kind::Sint32, Shape::Implicit),
-    ("u", 13, Kind::Text, UNPACKED),
-    ("v", 14, Kind::Sint32, UNPACKED),
-    ("w", 15, Kind::Bytes, Shape::Implicit),
-    ("g", 16, Kind::Float, Shape::Implicit),
-    ("k", 17, E, Shape::Implicit),
-    ("h", 18, Kind::Fixed32, PACKED),
-];
 
 const FIELDS_OF_W: &[FieldRow] = &[
     ("a", 1, Kind::Int64, Shape::Implicit),
@@ -116,15 +84,6 @@ const FIELDS_OF_G: &[FieldRow] = &[
 
 const FIELDS_OF_V: &[FieldRow] = &[("x", 1, Kind::Int32, Shape::Explicit)];
 
-/// The types by name, their files, what they are declared in, their fields and the names of their oneofs.
-type TypeRow = (
-    &'static str,
-    usize,
-    Option<MessageId>,
-    &'static [FieldRow],
-    &'static [&'static str],
-);
-
 const TYPES: &[TypeRow] = &[
     ("T", 0, None, FIELDS_OF_T, &["o"]),
     ("F", 0, None, FIELDS_OF_F, &[]),
@@ -135,81 +94,13 @@ const TYPES: &[TypeRow] = &[
     ("V", 1, Some(Q), FIELDS_OF_V, &[]),
 ];
 
+const FILES: &[FileRow<'static>] = &[("t.proto", "", false), ("q.proto", "", true)];
+
+const ENUMS: &[EnumRow] = &[
+    ("E", 0, &[("Z", 0), ("NEG", -1)]),
+    ("C", 1, &[("TWO", 2), ("ONE", 1), ("MINUS", -1)]),
+];
+
 pub(crate) fn pool(alloc: Global) -> Result<Pool, Fail> {
-    let files = files(alloc)?;
-    Ok(Pool::from_parts(alloc, files, messages(alloc)?, enums(alloc)?)?)
-}
-
-fn files(alloc: Global) -> Result<Vec<FileInfo>, AllocError> {
-    let mut files = Vec::new(alloc);
-    for (name, proto2) in [("t.proto", false), ("q.proto", true)] {
-        files.push(FileInfo {
-            name: String::from_str(alloc, name)?,
-            package: String::new(alloc),
-            imports: Vec::new(alloc),
-            proto2,
-        })?;
-    }
-    Ok(files)
-}
-
-fn fields_of(alloc: Global, rows: &[FieldRow]) -> Result<Vec<Field>, AllocError> {
-    let mut fields = Vec::new(alloc);
-    for (name, number, kind, shape) in rows {
-        fields.push(Field {
-            name: String::from_str(alloc, name)?,
-            number: *number,
-            kind: *kind,
-            shape: *shape,
-        })?;
-    }
-    Ok(fields)
-}
-
-fn names_of(alloc: Global, rows: &[&str]) -> Result<Vec<String>, AllocError> {
-    let mut names = Vec::new(alloc);
-    for name in rows {
-        names.push(String::from_str(alloc, name)?)?;
-    }
-    Ok(names)
-}
-
-fn messages(alloc: Global) -> Result<Vec<MessageType>, AllocError> {
-    let mut messages = Vec::new(alloc);
-    for (name, file, parent, fields, oneofs) in TYPES {
-        messages.push(MessageType {
-            name: String::from_str(alloc, name)?,
-            file: *file,
-            parent: *parent,
-            fields: fields_of(alloc, fields)?,
-            oneofs: names_of(alloc, oneofs)?,
-        })?;
-    }
-    Ok(messages)
-}
-
-/// An enum of these values.
-fn enum_of(
-    alloc: Global,
-    name: &str,
-    file: usize,
-    rows: &[(&str, i32)],
-) -> Result<EnumType, AllocError> {
-    let mut values = Vec::new(alloc);
-    for (name, number) in rows {
-        values.push((String::from_str(alloc, name)?, *number))?;
-    }
-    Ok(EnumType {
-        name: String::from_str(alloc, name)?,
-        file,
-        parent: None,
-        values,
-    })
-}
-
-fn enums(alloc: Global) -> Result<Vec<EnumType>, AllocError> {
-    let mut enums = Vec::new(alloc);
-    enums.push(enum_of(alloc, "E", 0, &[("Z", 0), ("NEG", -1)])?)?;
-    enums.push(enum_of(alloc, "C", 1, &[("TWO", 2), ("ONE", 1), ("MINUS", -1)])?)?;
-    Ok(enums)
+    pool_of(alloc, FILES, TYPES, ENUMS)
 }

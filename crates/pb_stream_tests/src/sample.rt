@@ -2,9 +2,10 @@
 
 ghost use Rattle.std.specs.Prelude.{◌<◌, length};
 
-use pb_schema::{EnumId, EnumType, Field, FileInfo, Kind, MessageId, MessageType, Pool, Shape};
+use pb_samples::{EnumRow, FieldRow, FileRow, TypeRow, pool_of};
+use pb_schema::{EnumId, Kind, MessageId, Pool, Shape};
 use pb_value::{Content, DynamicMessage, Value};
-use std::alloc::{AllocError, Global};
+use std::alloc::Global;
 use std::test::Fail;
 
 /// A pool and a message type of it.
@@ -27,25 +28,10 @@ pub(crate) fn closed_sample(alloc: Global) -> Result<Schema, Fail> {
 }
 
 fn sample_of(alloc: Global, name: &str) -> Result<Schema, Fail> {
-    let pool = Pool::from_parts(alloc, files(alloc)?, messages(alloc)?, enums(alloc)?)?;
+    let pool = pool_of(alloc, FILES, TYPES, ENUMS)?;
     let kind = pool.message_by_name(name).ok_or("no type")?;
     Ok(Schema { pool, kind })
 }
-
-fn files(alloc: Global) -> Result<Vec<FileInfo>, AllocError> {
-    let mut files = Vec::new(alloc);
-    for (name, proto2) in [("t.proto", false), ("q.proto", true)] {
-        files.push(FileInfo {
-            name: String::from_str(alloc, name)?,
-            package: String::new(alloc),
-            imports: Vec::new(alloc),
-            proto2,
-        })?;
-    }
-    Ok(files)
-}
-
-type FieldRow = (&'static str, u32, Kind, Shape);
 
 const C: Kind = Kind::ClosedEnum(EnumId(0));
 
@@ -64,54 +50,15 @@ const FIELDS_OF_Q: &[FieldRow] = &[
 
 const FIELDS_OF_G: &[FieldRow] = &[("x", 1, Kind::Int32, Shape::Explicit)];
 
-/// The types by name, their files, what they are declared in, and their fields.
-const TYPES: &[(&str, usize, Option<MessageId>, &[FieldRow])] = &[
-    ("T", 0, None, FIELDS_OF_T),
-    ("Q", 1, None, FIELDS_OF_Q),
-    ("G", 1, Some(MessageId(1)), FIELDS_OF_G),
+const TYPES: &[TypeRow] = &[
+    ("T", 0, None, FIELDS_OF_T, &[]),
+    ("Q", 1, None, FIELDS_OF_Q, &[]),
+    ("G", 1, Some(MessageId(1)), FIELDS_OF_G, &[]),
 ];
 
-fn fields_of(alloc: Global, rows: &[FieldRow]) -> Result<Vec<Field>, AllocError> {
-    let mut fields = Vec::new(alloc);
-    for (name, number, kind, shape) in rows {
-        fields.push(Field {
-            name: String::from_str(alloc, name)?,
-            number: *number,
-            kind: *kind,
-            shape: *shape,
-        })?;
-    }
-    Ok(fields)
-}
+const FILES: &[FileRow<'static>] = &[("t.proto", "", false), ("q.proto", "", true)];
 
-fn messages(alloc: Global) -> Result<Vec<MessageType>, AllocError> {
-    let mut messages = Vec::new(alloc);
-    for (name, file, parent, fields) in TYPES {
-        messages.push(MessageType {
-            name: String::from_str(alloc, name)?,
-            file: *file,
-            parent: *parent,
-            fields: fields_of(alloc, fields)?,
-            oneofs: Vec::new(alloc),
-        })?;
-    }
-    Ok(messages)
-}
-
-fn enums(alloc: Global) -> Result<Vec<EnumType>, AllocError> {
-    let mut values = Vec::new(alloc);
-    for (name, number) in [("ONE", 1), ("TWO", 2)] {
-        values.push((String::from_str(alloc, name)?, number))?;
-    }
-    let mut enums = Vec::new(alloc);
-    enums.push(EnumType {
-        name: String::from_str(alloc, "C")?,
-        file: 1,
-        parent: None,
-        values,
-    })?;
-    Ok(enums)
-}
+const ENUMS: &[EnumRow] = &[("C", 1, &[("ONE", 1), ("TWO", 2)])];
 
 /// A message whose field 1 is this number.
 pub(crate) fn holding(

@@ -1,7 +1,7 @@
 //! Each call once.
 
-use super::reading::{body_of, key_of, value_of};
 use super::sample::Schema;
+use pb_samples::{body_of, key_of, value_of};
 use pb_schema::{EnumId, Kind, MessageId};
 use pb_value::{
     Content, DynamicMessage, Value, ValueError, canonical_spelling, default_value, joined_records,

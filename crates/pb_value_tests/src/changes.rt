@@ -1,8 +1,8 @@
 //! What changes leave, and which are refused.
 
 use super::choice::choose;
-use super::reading::{body_of, content_of, key_of, value_of};
 use super::sample::Schema;
+use pb_samples::{body_of, content_of, key_of, value_of};
 use pb_value::{Body, DynamicMessage, Value, ValueError};
 use pb_wire::Unknown;
 use std::alloc::Global;

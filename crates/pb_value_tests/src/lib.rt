@@ -15,8 +15,6 @@ mod first_call;
 #[cfg(test)]
 mod merges;
 #[cfg(test)]
-mod reading;
-#[cfg(test)]
 mod sample;
 #[cfg(test)]
 mod tests;

@@ -1,7 +1,7 @@
 //! Messages inside others, seen in their place.
 
-use super::reading::body_of;
 use super::sample::Schema;
+use pb_samples::body_of;
 use pb_schema::MessageId;
 use pb_value::{Content, DynamicMessage, MapKey, MessageRef, Value};
 use std::alloc::{AllocError, Global};

@@ -17,8 +17,17 @@ fn nest(alloc: Global, inside: Body, levels: u32) -> Result<Body, AllocError> {
     Ok(body)
 }
 
+/// A body whose field 12 has an empty message under 0.
+fn with_entry(alloc: Global) -> Result<Body, Fail> {
+    let mut entries = BTreeMap::new(alloc);
+    drop(entries.insert(MapKey::U32(0), Value::Message(empty_body(alloc)))?);
+    let mut body = empty_body(alloc);
+    drop(body.fields.insert(12, Content::Map(entries))?);
+    Ok(body)
+}
+
 /// A scalar by a letter and what follows it: `i`, `I`, `u`, `U`, `b`, `f`, `F` and `e` a number (of a float its bits), `t` a text,
-/// `x` bytes in hexadecimal.
+/// `x` bytes in hexadecimal, `y` bytes that are the text.
 fn scalar_of(alloc: Global, form: &str, rest: &str) -> Result<Value, Fail> {
     Ok(match form {
         "i" => Value::I32(rest.parse::<i32>()?),
@@ -31,6 +40,7 @@ fn scalar_of(alloc: Global, form: &str, rest: &str) -> Result<Value, Fail> {
         "e" => Value::Enum(rest.parse::<i32>()?),
         "t" => Value::Text(String::from_str(alloc, rest)?),
         "x" => Value::Bytes(hex::decode(alloc, rest)?),
+        "y" => Value::Bytes(String::from_str(alloc, rest)?.into_bytes()),
         _ => return Err(Fail::new("no form of value")),
     })
 }
@@ -62,20 +72,23 @@ fn nest_of(alloc: Global, words: &str) -> Result<Body, Fail> {
 }
 
 /// A value: a message of scalars behind `m`, as `m1=i5`; so many messages inside each other behind `n`, of which the innermost has
-/// what follows the dot, as `n2.1=i5`; or a scalar.
-pub(crate) fn value_of(alloc: Global, word: &str) -> Result<Value, Fail> {
+/// what follows the dot, as `n2.1=i5`; the same behind `w` around an entry of field 12, as `w2`; or a scalar.
+pub fn value_of(alloc: Global, word: &str) -> Result<Value, Fail> {
     let (form, rest) = word.split_at_checked(1).ok_or("no value")?;
     Ok(match form {
         "m" => Value::Message(flat_of(alloc, rest)?),
         "n" => Value::Message(nest_of(alloc, rest)?),
+        "w" => Value::Message(nest(alloc, with_entry(alloc)?, rest.parse::<u32>()?)?),
         _ => scalar_of(alloc, form, rest)?,
     })
 }
 
-pub(crate) fn key_of(alloc: Global, word: &str) -> Result<MapKey, Fail> {
+pub fn key_of(alloc: Global, word: &str) -> Result<MapKey, Fail> {
     Ok(match value_of(alloc, word)? {
         Value::I32(number) => MapKey::I32(number),
+        Value::I64(number) => MapKey::I64(number),
         Value::U32(number) => MapKey::U32(number),
+        Value::U64(number) => MapKey::U64(number),
         Value::Bool(truth) => MapKey::Bool(truth),
         Value::Text(text) => MapKey::Text(text),
         _ => return Err(Fail::new("no form of key")),
@@ -111,7 +124,7 @@ fn map_of(alloc: Global, words: &str) -> Result<Content, Fail> {
 }
 
 /// A list is written `[i1,i2]`, a map `{tk=i1,tl=i2}`, and anything else is one value.
-pub(crate) fn content_of(alloc: Global, word: &str) -> Result<Content, Fail> {
+pub fn content_of(alloc: Global, word: &str) -> Result<Content, Fail> {
     if let Some(words) = word.strip_prefix('[') {
         return list_of(alloc, words.trim_end_matches(']'));
     }
@@ -133,8 +146,9 @@ fn groups(alloc: Global, levels: u32) -> Result<Unknown, AllocError> {
     Ok(payload)
 }
 
-/// The payload of an unknown record: `v` a varint, `d` eight bytes, `w` four bytes, `x` bytes in hexadecimal, `g` so many groups of number 1
-/// in each other of which the innermost is empty, `a` a group that holds a varint of this number.
+/// The payload of an unknown record: `v` a varint, `d` eight bytes, `w` four bytes, `x` bytes in hexadecimal, `l` bytes that are the text, `g` so
+/// many groups of number 1 in each other of which the innermost is empty, `a` a group that holds a 5 of this number, `o` one that holds this
+/// number as its record 1.
 fn payload_of(alloc: Global, word: &str) -> Result<Unknown, Fail> {
     let (form, rest) = word.split_at_checked(1).ok_or("no payload")?;
     Ok(match form {
@@ -142,8 +156,10 @@ fn payload_of(alloc: Global, word: &str) -> Result<Unknown, Fail> {
         "d" => Unknown::I64(rest.parse::<u64>()?),
         "w" => Unknown::I32(rest.parse::<u32>()?),
         "x" => Unknown::Len(hex::decode(alloc, rest)?),
+        "l" => Unknown::Len(String::from_str(alloc, rest)?.into_bytes()),
         "g" => groups(alloc, rest.parse::<u32>()?)?,
         "a" => group(alloc, rest.parse::<u32>()?, Unknown::Varint(5))?,
+        "o" => group(alloc, 1, Unknown::Varint(rest.parse::<u64>()?))?,
         _ => return Err(Fail::new("no form of payload")),
     })
 }
@@ -169,7 +185,7 @@ fn add_word(alloc: Global, body: &mut Body, word: &str) -> Result<(), Fail> {
 }
 
 /// A body is fields as `1:i5 6:[i1,i0]` and unknown records as `99~v7`.
-pub(crate) fn body_of(alloc: Global, words: &str) -> Result<Body, Fail> {
+pub fn body_of(alloc: Global, words: &str) -> Result<Body, Fail> {
     let mut body = empty_body(alloc);
     for word in words.split_whitespace() {
         add_word(alloc, &mut body, word)?;
