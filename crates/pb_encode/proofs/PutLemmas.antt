@@ -11,8 +11,8 @@ use Rattle.pb_value.specs.Data.{Datum, scalar, message, Datums, no_datums, datum
 use Rattle.pb_value.specs.Canon.{packed_bytes}
 use Rattle.pb_value.specs.View.{value_view, values_view}
 use Rattle.pb_value.specs.declared.body.Value.{Value}
-use Rattle.pb_encode.specs.Sink.{Buffered, Puts}
-use Rattle.pb_encode.proofs.SinkLemmas.{puts_none, puts_then, puts_lost}
+use Rattle.pb_output.specs.Sink.{Buffered, Puts}
+use Rattle.pb_output.proofs.SinkLemmas.{puts_none, puts_then, puts_lost}
 
 -- of a whole some was put, and these bytes are left
 pub record ToPut {D : Type 0} (written : D → Option (List ℕ)) (failures : D → ℕ) (start now : D) (a b : Buffered) (rest all : List ℕ) : Type 0 where

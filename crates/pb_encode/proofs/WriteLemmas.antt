@@ -21,10 +21,10 @@ use Rattle.pb_value.specs.declared.body.Body.{Body}
 use Rattle.pb_encode.specs.Sizes.{is_plain, plain_payload, entry_records, lengths_by_field, lengths_in_datum, lengths_in_message, lengths_in_each, lengths_in_entries, lengths_in_holding, lengths_in_fields}
 use Rattle.std.specs.Io.KnownBytes.{Appends}
 use Rattle.std.proofs.KnownBytes.{Appends-nil}
-use Rattle.pb_encode.specs.Sink.{Buffered, IsRest, Carries, Puts}
+use Rattle.pb_output.specs.Sink.{Buffered, IsRest, Carries, Puts}
 use Rattle.pb_encode.specs.Writing.{Writes}
 use Rattle.pb_encode.proofs.MeasureLemmas.{shortest_records-append, plain_parts}
-use Rattle.pb_encode.proofs.SinkLemmas.{puts_then, puts_lost}
+use Rattle.pb_output.proofs.SinkLemmas.{puts_then, puts_lost}
 use Rattle.pb_encode.proofs.PutLemmas.{ToPut, to_put_start, to_put_more, to_put_done, to_put_lost}
 
 -- a length in the table, and the lengths behind it

@@ -1,6 +1,6 @@
 -- What sending a part puts, where the table has the lengths in the part from a place on.
 use Rattle.std.specs.Prelude.{◌≡◌, ℕ, List, ◌++◌, drop, false, Option}
-use Rattle.pb_encode.specs.Sink.{Buffered, Puts}
+use Rattle.pb_output.specs.Sink.{Buffered, Puts}
 
 -- the next place has the rest of the table, unless the device failed
 pub record Writes

@@ -1,5 +1,5 @@
-//! Output through a buffer of fixed size. The first failure of the device is kept, and nothing is written after it, so writing needs no answer
-//! but at its end.
+//! Output through a buffer of fixed size. The first failure of the output is kept, and nothing is written after it, so that putting needs no
+//! answer but at its end.
 
 use pb_wire::{Output, write_all};
 use std::marker::Model;
@@ -7,9 +7,10 @@ use std::marker::Model;
 /// The bytes that a buffer holds at most.
 const SIZE: usize = 4096;
 
-/// Bytes on their way to an output.
+/// Bytes on their way to an output, which each call that may write is passed. A contract sees the bytes that are held, how many
+/// went out, and whether the output failed.
 #[derive(Drop)]
-pub(crate) struct Sink {
+pub struct Sink {
     bytes: [u8; SIZE],
     len: usize,
     sent: u64,
@@ -18,7 +19,7 @@ pub(crate) struct Sink {
 
 impl Model for Sink {
     ghost use Rattle.std.specs.Prelude.{take, ◌≤◌};
-    ghost use Rattle.pb_encode.specs.Sink.{Buffered};
+    ghost use Rattle.pb_output.specs.Sink.{Buffered};
 
     ghost Value = { Buffered };
 
@@ -29,9 +30,10 @@ impl Model for Sink {
 
 impl Sink {
     ghost use Rattle.std.specs.Prelude.{◌≡◌, ◌+◌, ◌<◌, ◌≤◌, ◌++◌, [], false, true, length, Some, None, if◌then◌else◌};
-    ghost use Rattle.pb_encode.specs.Sink.{Puts};
+    ghost use Rattle.pb_output.specs.Sink.{Puts};
 
-    pub(crate) fn new() -> Sink
+    /// Nothing is held yet.
+    pub fn new() -> Sink
         ensures { result ≡ record { held = []; sent = 0; failed = false } }
     {
         Sink {
@@ -42,8 +44,8 @@ impl Sink {
         }
     }
 
-    /// Writes what is held.
-    pub(crate) fn flush<O: Output>(&mut self, out: &mut O)
+    /// Writes what is held. To be called at the end of a text.
+    pub fn flush<O: Output>(&mut self, out: &mut O)
         ensures puts { Puts O.written O.failures out.old out.new self.old self.new [] }
         ensures empty { self.new.failed ≡ false → self.new.held ≡ [] }
     {
@@ -61,22 +63,22 @@ impl Sink {
         }
     }
 
-    /// Whether the device failed.
-    pub(crate) fn has_failed(&self) -> bool
+    /// Whether the output failed.
+    pub fn has_failed(&self) -> bool
         ensures { result ≡ self.now.failed }
     {
         self.failed
     }
 
-    /// Whether the device failed, and how many bytes went out before.
-    pub(crate) fn failure(&self) -> Option<u64>
+    /// Whether the output failed, and how many bytes went out before.
+    pub fn failure(&self) -> Option<u64>
         ensures { result ≡ (if self.now.failed then Some self.now.sent else None) }
     {
         if self.failed { Some(self.sent) } else { None }
     }
 
-    /// Puts bytes behind those that were put before.
-    pub(crate) fn put<O: Output>(&mut self, out: &mut O, bytes: &[u8])
+    /// Puts bytes behind those that were put before. More than there is room for go out behind what is held.
+    pub fn put<O: Output>(&mut self, out: &mut O, bytes: &[u8])
         ensures { Puts O.written O.failures out.old out.new self.old self.new bytes.now }
     {
         if self.failed {

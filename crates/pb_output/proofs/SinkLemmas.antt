@@ -4,7 +4,7 @@ use Rattle.std.specs.Prelude.{Bool, true, false}
 use Rattle.std.specs.Io.KnownBytes.{Appends}
 use Rattle.std.proofs.KnownBytes.{Appends-trans}
 use Rattle.pb_wire.specs.Varint.{shortest}
-use Rattle.pb_encode.specs.Sink.{Buffered, IsRest, Carries, Puts}
+use Rattle.pb_output.specs.Sink.{Buffered, IsRest, Carries, Puts}
 
 module _ {D : Type 0} {written : D → Option (List ℕ)} {failures : D → ℕ} where
   -- nothing was put

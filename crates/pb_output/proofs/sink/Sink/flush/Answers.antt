@@ -1,6 +1,6 @@
 use Rattle.std.proofs.Common.{refl}
-use Rattle.pb_encode.proofs.SinkLemmas.{flush_cut}
-use Rattle.pb_encode.proofs.sink.Sink.flush.Goals as goal
+use Rattle.pb_output.proofs.SinkLemmas.{flush_cut}
+use Rattle.pb_output.proofs.sink.Sink.flush.Goals as goal
 
 pub returns-in-Err-clause-puts : goal.returns-in-Err-clause-puts
 returns-in-Err-clause-puts g c =

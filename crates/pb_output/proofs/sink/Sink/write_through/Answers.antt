@@ -1,6 +1,6 @@
 use Rattle.std.proofs.Common.{refl}
-use Rattle.pb_encode.proofs.SinkLemmas.{went_through, cut_through}
-use Rattle.pb_encode.proofs.sink.Sink.write_through.Goals as goal
+use Rattle.pb_output.proofs.SinkLemmas.{went_through, cut_through}
+use Rattle.pb_output.proofs.sink.Sink.write_through.Goals as goal
 
 pub returns-in-Ok : goal.returns-in-Ok
 returns-in-Ok g c =

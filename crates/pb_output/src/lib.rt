@@ -1,0 +1,6 @@
+//! An output behind a buffer of fixed size, whose first failure is kept: what puts bytes into it answers nothing, and asks at its end.
+#![tactic(auto)]
+
+mod sink;
+
+pub use sink::Sink;
