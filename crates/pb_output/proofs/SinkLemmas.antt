@@ -4,35 +4,39 @@ use Rattle.std.specs.Prelude.{Bool, true, false}
 use Rattle.std.specs.Io.KnownBytes.{Appends}
 use Rattle.std.proofs.KnownBytes.{Appends-trans}
 use Rattle.pb_wire.specs.Varint.{shortest}
-use Rattle.pb_output.specs.Sink.{Buffered, IsRest, Carries, Puts}
+use Rattle.pb_output.specs.declared.sink.Sink.{Sink}
+use Rattle.pb_output.specs.Sink.{IsRest, Carries, Puts}
 
 module _ {D : Type 0} {written : D → Option (List ℕ)} {failures : D → ℕ} where
   -- nothing was put
-  pub puts_none : {d : D} {a : Buffered} → Puts written failures d d a a []
+  pub puts_none : {d : D} {a : Sink} → Puts written failures d d a a []
   puts_none {d} {a} = record { follow = λ start text h. subst (Carries written failures start d a) (sym (append-nil text)) h }
 
   -- one text after another
-  pub puts_then : {d0 d1 d2 : D} {a b c : Buffered} {xs ys : List ℕ} → Puts written failures d0 d1 a b xs → Puts written failures d1 d2 b c ys → Puts written failures d0 d2 a c (xs ++ ys)
+  pub puts_then : {d0 d1 d2 : D} {a b c : Sink} {xs ys : List ℕ} → Puts written failures d0 d1 a b xs → Puts written failures d1 d2 b c ys → Puts written failures d0 d2 a c (xs ++ ys)
   puts_then {d0} {d1} {d2} {a} {b} {c} {xs} {ys} first second = record {
     follow = λ start text h. subst (Carries written failures start d2 c) (append_assoc text xs ys) (second.follow start (text ++ xs) (first.follow start text h));
   }
 
-  -- the bytes are held, or lost where the device failed
-  pub puts_held : {d : D} {a b : Buffered} {bytes : List ℕ} → b ≡ record a { held = a.held ++ bytes } → a.failed ≡ false → Puts written failures d d a b bytes
-  puts_held {d} {a} {b} {bytes} e open_ = record { follow = λ start text h. subst (λ (x : Buffered). Carries written failures start d x (text ++ bytes)) (sym e) (held start text h) }
+  -- the bytes are held, and lost where the device failed
+  pub puts_held : {d : D} {a b : Sink} {bytes : List ℕ} → b.sent ≡ a.sent → b.failed ≡ a.failed → b.held ≡ a.held ++ bytes → Puts written failures d d a b bytes
+  puts_held {d} {a} {b} {bytes} same still e = record {
+    follow = λ start text h. record {
+      front = h.front;
+      rest = h.rest ++ bytes;
+      whole = ap (λ (l : List ℕ). l ++ bytes) h.whole ∙ append_assoc h.front h.rest bytes;
+      went_out = h.went_out;
+      counted = λ small. same ∙ h.counted (let size = length-append text bytes in omega (arith, size, small));
+      state = subst (λ (f : Bool). IsRest f (failures start) (failures d) b.held (h.rest ++ bytes)) (sym still) (longer a.failed (failures start) h.rest h.state);
+    };
+  }
     where
-      held : (start : D) (text : List ℕ) → Carries written failures start d a text → Carries written failures start d (record a { held = a.held ++ bytes }) (text ++ bytes)
-      held start text h =
-          let st : IsRest false (failures start) (failures d) a.held h.rest = subst (λ (f : Bool). IsRest f (failures start) (failures d) a.held h.rest) open_ h.state in record {
-            front = h.front;
-            rest = h.rest ++ bytes;
-            whole = ap (λ (l : List ℕ). l ++ bytes) h.whole ∙ append_assoc h.front h.rest bytes;
-            went_out = h.went_out;
-            counted = λ small. h.counted (let size = length-append text bytes in omega (arith, size, small));
-            state = subst (λ (f : Bool). IsRest f (failures start) (failures d) (a.held ++ bytes) (h.rest ++ bytes)) (sym open_) (st.0, ap (λ (l : List ℕ). l ++ bytes) st.1);
-          }
+      longer : (f : Bool) (before : ℕ) (rest : List ℕ) → IsRest f before (failures d) a.held rest → IsRest f before (failures d) b.held (rest ++ bytes)
+      longer true before rest st = (st.0, (let size = length-append rest bytes in let some = st.1 in omega (arith, size, some)))
+      longer false before rest st = (st.0, ap (λ (l : List ℕ). l ++ bytes) st.1 ∙ sym e)
 
-  pub puts_lost : {d : D} {a : Buffered} {bytes : List ℕ} → a.failed ≡ true → Puts written failures d d a a bytes
+  -- nothing goes out where the device failed
+  pub puts_lost : {d : D} {a : Sink} {bytes : List ℕ} → a.failed ≡ true → Puts written failures d d a a bytes
   puts_lost {d} {a} {bytes} broken = record {
     follow = λ start text h.
         let st : IsRest true (failures start) (failures d) a.held h.rest = subst (λ (f : Bool). IsRest f (failures start) (failures d) a.held h.rest) broken h.state in record {
@@ -45,9 +49,22 @@ module _ {D : Type 0} {written : D → Option (List ℕ)} {failures : D → ℕ}
         };
   }
 
+  -- what is held is let go of, where the device failed
+  pub puts_dropped : {d : D} {a b : Sink} → b.sent ≡ a.sent → a.failed ≡ true → b.failed ≡ true → Puts written failures d d a b []
+  puts_dropped {d} {a} {b} same broken still = record {
+    follow = λ start text h. record {
+      front = h.front;
+      rest = h.rest;
+      whole = append-nil text ∙ h.whole;
+      went_out = h.went_out;
+      counted = λ small. same ∙ h.counted (let size = length-append text [] in omega (arith, size, small));
+      state = subst (λ (f : Bool). IsRest f (failures start) (failures d) b.held h.rest) (sym still) (subst (λ (f : Bool). IsRest f (failures start) (failures d) a.held h.rest) broken h.state);
+    };
+  }
+
   -- what was held went out, and then these bytes
   pub puts_sent :
-      {d0 d1 : D} {a b : Buffered} {bytes : List ℕ} (n : ℕ) → a.failed ≡ false → (failures d1 ≡ failures d0) → Appends (written d0) (written d1) (a.held ++ bytes) → b.held ≡ [] → b.failed ≡ false → n ≡ length (a.held ++ bytes)
+      {d0 d1 : D} {a b : Sink} {bytes : List ℕ} (n : ℕ) → a.failed ≡ false → (failures d1 ≡ failures d0) → Appends (written d0) (written d1) (a.held ++ bytes) → b.held ≡ [] → b.failed ≡ false → n ≡ length (a.held ++ bytes)
       → b.sent ≡ min (a.sent + n) (2 ^ 64 - 1) → Puts written failures d0 d1 a b bytes
   puts_sent {d0} {d1} {a} {b} {bytes} n open_ kept appends empty still size sent = record {
     follow = λ start text h.
@@ -68,7 +85,7 @@ module _ {D : Type 0} {written : D → Option (List ℕ)} {failures : D → ℕ}
 
   -- the device failed after a beginning of what was held and of these bytes
   pub puts_cut :
-      {d0 d1 : D} {a b : Buffered} {bytes : List ℕ} (n : ℕ) → a.failed ≡ false → (failures d1 ≢ failures d0) → n < length (a.held ++ bytes) → Appends (written d0) (written d1) (take n (a.held ++ bytes)) → b.failed ≡ true
+      {d0 d1 : D} {a b : Sink} {bytes : List ℕ} (n : ℕ) → a.failed ≡ false → (failures d1 ≢ failures d0) → n < length (a.held ++ bytes) → Appends (written d0) (written d1) (take n (a.held ++ bytes)) → b.failed ≡ true
       → b.sent ≡ min (a.sent + n) (2 ^ 64 - 1) → Puts written failures d0 d1 a b bytes
   puts_cut {d0} {d1} {a} {b} {bytes} n open_ failed within appends broken sent = record {
     follow = λ start text h.
@@ -91,24 +108,24 @@ module _ {D : Type 0} {written : D → Option (List ℕ)} {failures : D → ℕ}
   }
 
   -- what was held went out
-  pub flushed : {d0 d1 : D} {a b : Buffered} (n : ℕ) → a.failed ≡ false → (failures d1 ≡ failures d0) → Appends (written d0) (written d1) a.held → b.held ≡ [] → b.failed ≡ false → n ≡ length a.held → b.sent ≡ min (a.sent + n) (2 ^ 64 - 1) → Puts written failures d0 d1 a b []
+  pub flushed : {d0 d1 : D} {a b : Sink} (n : ℕ) → a.failed ≡ false → (failures d1 ≡ failures d0) → Appends (written d0) (written d1) a.held → b.held ≡ [] → b.failed ≡ false → n ≡ length a.held → b.sent ≡ min (a.sent + n) (2 ^ 64 - 1) → Puts written failures d0 d1 a b []
   flushed {d0} {d1} {a} {b} n open_ kept appends empty still size sent =
       puts_sent n open_ kept (subst (Appends (written d0) (written d1)) (sym (append-nil a.held)) appends) empty still (size ∙ ap length (sym (append-nil a.held))) sent
 
-  pub flush_cut : {d0 d1 : D} {a b : Buffered} (n : ℕ) → a.failed ≡ false → (failures d1 ≢ failures d0) → (n < length a.held) × Appends (written d0) (written d1) (take n a.held) → b.failed ≡ true → b.sent ≡ min (a.sent + n) (2 ^ 64 - 1) → Puts written failures d0 d1 a b []
+  pub flush_cut : {d0 d1 : D} {a b : Sink} (n : ℕ) → a.failed ≡ false → (failures d1 ≢ failures d0) → (n < length a.held) × Appends (written d0) (written d1) (take n a.held) → b.failed ≡ true → b.sent ≡ min (a.sent + n) (2 ^ 64 - 1) → Puts written failures d0 d1 a b []
   flush_cut {d0} {d1} {a} {b} n open_ failed part broken sent =
       let both = subst (λ (l : List ℕ). (n < length l) × Appends (written d0) (written d1) (take n l)) (sym (append-nil a.held)) part in puts_cut n open_ failed both.0 both.1 broken sent
 
   -- bytes went out where none was held
-  pub went_through : {d0 d1 : D} {a b : Buffered} {bytes : List ℕ} (n : ℕ) → a.held ≡ [] → a.failed ≡ false → (failures d1 ≡ failures d0) → Appends (written d0) (written d1) bytes → b.held ≡ a.held → b.failed ≡ false → n ≡ length bytes → b.sent ≡ min (a.sent + n) (2 ^ 64 - 1) → Puts written failures d0 d1 a b bytes
+  pub went_through : {d0 d1 : D} {a b : Sink} {bytes : List ℕ} (n : ℕ) → a.held ≡ [] → a.failed ≡ false → (failures d1 ≡ failures d0) → Appends (written d0) (written d1) bytes → b.held ≡ a.held → b.failed ≡ false → n ≡ length bytes → b.sent ≡ min (a.sent + n) (2 ^ 64 - 1) → Puts written failures d0 d1 a b bytes
   went_through {d0} {d1} {a} {b} {bytes} n empty open_ kept appends same still size sent =
       let whole : bytes ≡ a.held ++ bytes = ap (λ (l : List ℕ). l ++ bytes) (sym empty) in
       puts_sent n open_ kept (subst (Appends (written d0) (written d1)) whole appends) (same ∙ empty) still (size ∙ ap length whole) sent
 
-  pub cut_through : {d0 d1 : D} {a b : Buffered} {bytes : List ℕ} (n : ℕ) → a.held ≡ [] → a.failed ≡ false → (failures d1 ≢ failures d0) → (n < length bytes) × Appends (written d0) (written d1) (take n bytes) → b.failed ≡ true → b.sent ≡ min (a.sent + n) (2 ^ 64 - 1) → Puts written failures d0 d1 a b bytes
+  pub cut_through : {d0 d1 : D} {a b : Sink} {bytes : List ℕ} (n : ℕ) → a.held ≡ [] → a.failed ≡ false → (failures d1 ≢ failures d0) → (n < length bytes) × Appends (written d0) (written d1) (take n bytes) → b.failed ≡ true → b.sent ≡ min (a.sent + n) (2 ^ 64 - 1) → Puts written failures d0 d1 a b bytes
   cut_through {d0} {d1} {a} {b} {bytes} n empty open_ failed part broken sent =
       let whole : bytes ≡ a.held ++ bytes = ap (λ (l : List ℕ). l ++ bytes) (sym empty) in
       let both = subst (λ (l : List ℕ). (n < length l) × Appends (written d0) (written d1) (take n l)) whole part in puts_cut n open_ failed both.0 both.1 broken sent
 
-  pub puts_number : {d0 d1 : D} {a b : Buffered} (m n : ℕ) → m ≡ n → Puts written failures d0 d1 a b (shortest m) → Puts written failures d0 d1 a b (shortest n)
+  pub puts_number : {d0 d1 : D} {a b : Sink} (m n : ℕ) → m ≡ n → Puts written failures d0 d1 a b (shortest m) → Puts written failures d0 d1 a b (shortest n)
   puts_number {d0} {d1} {a} {b} m n e h = subst (λ (i : ℕ). Puts written failures d0 d1 a b (shortest i)) e h

@@ -1,12 +1,7 @@
 -- Bytes on their way to a device, whose first failure is kept.
 use Rattle.std.specs.Prelude.{◌≡◌, ◌≢◌, ◌<◌, ◌^◌, ℕ, List, ◌++◌, length, Bool, true, false, Option}
 use Rattle.std.specs.Io.KnownBytes.{Appends}
-
--- what a buffer holds, how many bytes went out, and whether the device failed
-pub record Buffered : Type 0 where
-  pub held : List ℕ
-  pub sent : ℕ
-  pub failed : Bool
+use Rattle.pb_output.specs.declared.sink.Sink.{Sink}
 
 -- the rest of a text is held, or some of it was lost where the device failed
 abbrev pub IsRest : Bool → ℕ → ℕ → List ℕ → List ℕ → Type 0
@@ -14,7 +9,7 @@ IsRest true before after held rest = (after ≢ before) × (0 < length rest)
 IsRest false before after held rest = (after ≡ before) × (rest ≡ held)
 
 -- since start, a beginning of the text went out, of as many bytes as are counted
-pub record Carries {D : Type 0} (written : D → Option (List ℕ)) (failures : D → ℕ) (start now : D) (b : Buffered) (text : List ℕ) : Type 0 where
+pub record Carries {D : Type 0} (written : D → Option (List ℕ)) (failures : D → ℕ) (start now : D) (b : Sink) (text : List ℕ) : Type 0 where
   pub front : List ℕ
   pub rest : List ℕ
   pub whole : text ≡ front ++ rest
@@ -23,5 +18,5 @@ pub record Carries {D : Type 0} (written : D → Option (List ℕ)) (failures : 
   pub state : IsRest b.failed (failures start) (failures now) b.held rest
 
 -- the bytes follow whatever text was carried before
-pub record Puts {D : Type 0} (written : D → Option (List ℕ)) (failures : D → ℕ) (old new : D) (a b : Buffered) (bytes : List ℕ) : Type 0 where
+pub record Puts {D : Type 0} (written : D → Option (List ℕ)) (failures : D → ℕ) (old new : D) (a b : Sink) (bytes : List ℕ) : Type 0 where
   pub follow : (start : D) (text : List ℕ) → Carries written failures start old a text → Carries written failures start new b (text ++ bytes)

@@ -1,35 +1,26 @@
 //! Output through a buffer of fixed size. The first failure of the output is kept, and nothing is written after it, so that putting needs no
 //! answer but at its end.
 
-use pb_wire::{Output, write_all};
-use std::marker::Model;
+ghost use Rattle.std.specs.Prelude.{◌≡◌, ◌+◌, ◌*◌, ◌≤◌, [], false, true, length, Some, None, if◌then◌else◌};
+ghost use Rattle.hex.specs.Hex.{encode_lower};
 
-/// The bytes that a buffer holds at most.
-const SIZE: usize = 4096;
+use crate::buffer::{OutputBuffer, SIZE};
+use pb_wire::{Output, write_all};
+
+/// The bytes that are put in hexadecimal at a time.
+const CHUNK: usize = 1024;
 
 /// Bytes on their way to an output, which each call that may write is passed. A contract sees the bytes that are held, how many
 /// went out, and whether the output failed.
 #[derive(Drop)]
 pub struct Sink {
-    bytes: [u8; SIZE],
-    len: usize,
+    /// What is pushed here follows what was put, also after a failure, where it is lost.
+    pub held: OutputBuffer,
     sent: u64,
     failed: bool,
 }
 
-impl Model for Sink {
-    ghost use Rattle.std.specs.Prelude.{take, ◌≤◌};
-    ghost use Rattle.pb_output.specs.Sink.{Buffered};
-
-    ghost Value = { Buffered };
-
-    ghost view = { λ s. record { held = take s.len s.bytes; sent = s.sent; failed = s.failed } };
-
-    ghost invariant = { λ s. s.len ≤ 4096 };
-}
-
 impl Sink {
-    ghost use Rattle.std.specs.Prelude.{◌≡◌, ◌+◌, ◌<◌, ◌≤◌, ◌++◌, [], false, true, length, Some, None, if◌then◌else◌};
     ghost use Rattle.pb_output.specs.Sink.{Puts};
 
     /// Nothing is held yet.
@@ -37,8 +28,7 @@ impl Sink {
         ensures { result ≡ record { held = []; sent = 0; failed = false } }
     {
         Sink {
-            bytes: [0; SIZE],
-            len: 0,
+            held: OutputBuffer::new(),
             sent: 0,
             failed: false,
         }
@@ -47,18 +37,28 @@ impl Sink {
     /// Writes what is held. To be called at the end of a text.
     pub fn flush<O: Output>(&mut self, out: &mut O)
         ensures puts { Puts O.written O.failures out.old out.new self.old self.new [] }
-        ensures empty { self.new.failed ≡ false → self.new.held ≡ [] }
+        ensures empty { self.new.held ≡ [] }
     {
-        if !self.failed {
-            match write_all(out, &self.bytes[..self.len]) {
-                Ok(()) => {
-                    self.sent = self.sent.saturating_add(self.len as u64);
-                    self.len = 0;
-                }
-                Err(fault) => {
-                    self.sent = self.sent.saturating_add(fault.written);
-                    self.failed = true;
-                }
+        if self.failed {
+            self.held.clear();
+            return;
+        }
+        self.write_held(out);
+    }
+
+    fn write_held<O: Output>(&mut self, out: &mut O)
+        requires { self.old.failed ≡ false }
+        ensures puts { Puts O.written O.failures out.old out.new self.old self.new [] }
+        ensures empty { self.new.held ≡ [] }
+    {
+        let count = self.held.as_slice().len() as u64;
+        let written = write_all(out, self.held.as_slice());
+        self.held.clear();
+        match written {
+            Ok(()) => self.sent = self.sent.saturating_add(count),
+            Err(fault) => {
+                self.sent = self.sent.saturating_add(fault.written);
+                self.failed = true;
             }
         }
     }
@@ -77,15 +77,24 @@ impl Sink {
         if self.failed { Some(self.sent) } else { None }
     }
 
+    /// Sees that so many bytes more can be held.
+    #[inline(always)]
+    pub fn make_room<O: Output>(&mut self, out: &mut O, count: usize)
+        requires { count ≤ SIZE }
+        ensures room { length self.new.held + count ≤ SIZE }
+        ensures kept { Puts O.written O.failures out.old out.new self.old self.new [] }
+    {
+        if count > self.held.room() {
+            self.flush(out);
+        }
+    }
+
     /// Puts bytes behind those that were put before. More than there is room for go out behind what is held.
     pub fn put<O: Output>(&mut self, out: &mut O, bytes: &[u8])
         ensures { Puts O.written O.failures out.old out.new self.old self.new bytes.now }
     {
-        if self.failed {
-            return;
-        }
-        if bytes.len() <= SIZE - self.len {
-            self.hold(bytes);
+        if bytes.len() <= self.held.room() {
+            self.held.push(bytes);
             return;
         }
         self.flush(out);
@@ -94,27 +103,17 @@ impl Sink {
 
     /// Puts bytes where none is held.
     fn put_first<O: Output>(&mut self, out: &mut O, bytes: &[u8])
-        requires { self.old.failed ≡ false → self.old.held ≡ [] }
+        requires { self.old.held ≡ [] }
         ensures { Puts O.written O.failures out.old out.new self.old self.new bytes.now }
     {
         if self.failed {
             return;
         }
-        if bytes.len() <= SIZE - self.len {
-            self.hold(bytes);
+        if bytes.len() <= SIZE {
+            self.held.push(bytes);
         } else {
             self.write_through(out, bytes);
         }
-    }
-
-    /// Holds bytes for which there is room.
-    fn hold(&mut self, bytes: &[u8])
-        requires { length self.old.held + length bytes.now ≤ 4096 }
-        ensures { self.new ≡ record self.old { held = self.old.held ++ bytes.now } }
-    {
-        let end = self.len + bytes.len();
-        self.bytes[self.len..end].copy_from_slice(bytes);
-        self.len = end;
     }
 
     /// Writes bytes where none is held.
@@ -130,5 +129,28 @@ impl Sink {
                 self.failed = true;
             }
         }
+    }
+
+    /// Puts bytes in hexadecimal, in lower case.
+    pub fn put_hex<O: Output>(&mut self, out: &mut O, bytes: &[u8])
+        ensures { Puts O.written O.failures out.old out.new self.old self.new (encode_lower bytes.now) }
+    {
+        let mut done = 0;
+        'chunks: while done < bytes.len() {
+            if self.failed {
+                return;
+            }
+            let end = bytes.len().min(done + CHUNK);
+            self.put_chunk(out, &bytes[done..end]);
+            done = end;
+        }
+    }
+
+    fn put_chunk<O: Output>(&mut self, out: &mut O, bytes: &[u8])
+        requires { length bytes.now ≤ CHUNK }
+        ensures { Puts O.written O.failures out.old out.new self.old self.new (encode_lower bytes.now) }
+    {
+        self.make_room(out, 2 * bytes.len());
+        self.held.push_hex(bytes);
     }
 }
