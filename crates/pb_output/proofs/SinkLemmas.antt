@@ -1,11 +1,14 @@
 -- Bytes that go out through a buffer, part by part.
-use Rattle.std.proofs.Common.{◌≡◌, ◌≢◌, ℕ, ◌+◌, ◌-◌, ◌^◌, ◌<◌, min, List, [], ◌++◌, take, drop, length, arith, ap, sym, ◌∙◌, subst, append_assoc, append-nil, length-append, length-take, length-drop, take-append-drop, Option}
-use Rattle.std.specs.Prelude.{Bool, true, false}
+use Rattle.std.proofs.Common.{◌≡◌, ◌≢◌, ℕ, ◌+◌, ◌-◌, ◌^◌, ◌<◌, min, List, [], ◌++◌, take, drop, length, arith, ap, sym, refl, ◌∙◌, subst, append_assoc, append-nil, length-append, length-take, length-drop, take-append-drop, Option}
+use Rattle.std.specs.Prelude.{Bool, true, false, Result, MatchResult}
 use Rattle.std.specs.Io.KnownBytes.{Appends}
-use Rattle.std.proofs.KnownBytes.{Appends-trans}
+use Rattle.std.proofs.KnownBytes.{Appends-nil, Appends-trans}
+use Rattle.std.proofs.Math.Seq.{take-append_seam}
 use Rattle.pb_wire.specs.Varint.{shortest}
 use Rattle.pb_output.specs.declared.sink.Sink.{Sink}
-use Rattle.pb_output.specs.Sink.{IsRest, Carries, Puts}
+use Rattle.pb_wire.specs.declared.device.DeviceFault.{DeviceFault}
+use Rattle.pb_output.specs.Sending.{Sent, Cut}
+use Rattle.pb_output.specs.Sink.{IsRest, Carries, Finishes, Puts}
 
 module _ {D : Type 0} {written : D → Option (List ℕ)} {failures : D → ℕ} where
   -- nothing was put
@@ -129,3 +132,27 @@ module _ {D : Type 0} {written : D → Option (List ℕ)} {failures : D → ℕ}
 
   pub puts_number : {d0 d1 : D} {a b : Sink} (m n : ℕ) → m ≡ n → Puts written failures d0 d1 a b (shortest m) → Puts written failures d0 d1 a b (shortest n)
   puts_number {d0} {d1} {a} {b} m n e h = subst (λ (i : ℕ). Puts written failures d0 d1 a b (shortest i)) e h
+
+  -- A WHOLE TEXT
+
+  -- a new buffer carries nothing
+  carries_none : {d : D} → Carries written failures d d record { held = []; sent = 0; failed = false } []
+  carries_none {d} = record { front = []; rest = []; whole = refl; went_out = Appends-nil (written d); counted = λ small. refl; state = (refl, refl) }
+
+  -- what is carried went out where the device did not fail and nothing is held
+  pub carried_whole : {d0 d1 : D} {b : Sink} {text : List ℕ} → Carries written failures d0 d1 b text → b.failed ≡ false → b.held ≡ [] → Sent written failures d0 d1 text
+  carried_whole {d0} {d1} {b} {text} h open_ empty =
+      let st : IsRest false (failures d0) (failures d1) b.held h.rest = subst (λ (f : Bool). IsRest f (failures d0) (failures d1) b.held h.rest) open_ h.state in
+      (st.0, subst (Appends (written d0) (written d1)) (sym (append-nil h.front) ∙ ap (λ (l : List ℕ). h.front ++ l) (sym (st.1 ∙ empty)) ∙ sym h.whole) h.went_out)
+
+  -- and else a beginning of it
+  pub carried_in_part : {d0 d1 : D} {b : Sink} {text : List ℕ} → Carries written failures d0 d1 b text → b.failed ≡ true → Cut written failures d0 d1 text
+  carried_in_part {d0} {d1} {b} {text} h broken =
+      let st : IsRest true (failures d0) (failures d1) b.held h.rest = subst (λ (f : Bool). IsRest f (failures d0) (failures d1) b.held h.rest) broken h.state in
+      (st.0, (length h.front, subst (Appends (written d0) (written d1)) (sym (ap (take (length h.front)) h.whole ∙ take-append_seam h.front h.rest)) h.went_out))
+
+  -- what a text that was put into a new buffer comes to at its end
+  pub finished :
+      {d0 d1 d2 : D} {a b : Sink} {text : List ℕ} {r : Result Unit DeviceFault} → a ≡ record { held = []; sent = 0; failed = false } → Puts written failures d0 d1 a b text
+      → Finishes written failures d1 d2 b r → MatchResult r (λ _. Sent written failures d0 d2 text) (λ _. Cut written failures d0 d2 text)
+  finished {d0} {d1} {d2} {a} {b} {text} new put end = end.answers d0 text (put.follow d0 [] (subst (λ (x : Sink). Carries written failures d0 d0 x []) (sym new) carries_none))

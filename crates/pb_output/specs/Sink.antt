@@ -1,6 +1,8 @@
 -- Bytes on their way to a device, whose first failure is kept.
-use Rattle.std.specs.Prelude.{◌≡◌, ◌≢◌, ◌<◌, ◌^◌, ℕ, List, ◌++◌, length, Bool, true, false, Option}
+use Rattle.std.specs.Prelude.{◌≡◌, ◌≢◌, ◌<◌, ◌^◌, ℕ, List, ◌++◌, length, Bool, true, false, Option, Result, MatchResult}
 use Rattle.std.specs.Io.KnownBytes.{Appends}
+use Rattle.pb_wire.specs.declared.device.DeviceFault.{DeviceFault}
+use Rattle.pb_output.specs.Sending.{Sent, Cut}
 use Rattle.pb_output.specs.declared.sink.Sink.{Sink}
 
 -- the rest of a text is held, or some of it was lost where the device failed
@@ -20,3 +22,9 @@ pub record Carries {D : Type 0} (written : D → Option (List ℕ)) (failures : 
 -- the bytes follow whatever text was carried before
 pub record Puts {D : Type 0} (written : D → Option (List ℕ)) (failures : D → ℕ) (old new : D) (a b : Sink) (bytes : List ℕ) : Type 0 where
   pub follow : (start : D) (text : List ℕ) → Carries written failures start old a text → Carries written failures start new b (text ++ bytes)
+
+-- what is held went out, and the answer says whether a text that was carried did so whole or in part
+pub record Finishes {D : Type 0} (written : D → Option (List ℕ)) (failures : D → ℕ) (old new : D) (b : Sink) (r : Result Unit DeviceFault) : Type 0 where
+  pub answers :
+      (start : D) (text : List ℕ) → Carries written failures start old b text
+      → MatchResult r (λ _. Sent written failures start new text) (λ _. Cut written failures start new text)

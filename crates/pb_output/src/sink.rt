@@ -5,7 +5,7 @@ ghost use Rattle.std.specs.Prelude.{◌≡◌, ◌+◌, ◌*◌, ◌≤◌, [], 
 ghost use Rattle.hex.specs.Hex.{encode_lower};
 
 use crate::buffer::{OutputBuffer, SIZE};
-use pb_wire::{Output, write_all};
+use pb_wire::{DeviceFault, Output, write_all};
 
 /// The bytes that are put in hexadecimal at a time.
 const CHUNK: usize = 1024;
@@ -21,7 +21,7 @@ pub struct Sink {
 }
 
 impl Sink {
-    ghost use Rattle.pb_output.specs.Sink.{Puts};
+    ghost use Rattle.pb_output.specs.Sink.{Finishes, Puts};
 
     /// Nothing is held yet.
     pub fn new() -> Sink
@@ -34,7 +34,7 @@ impl Sink {
         }
     }
 
-    /// Writes what is held. To be called at the end of a text.
+    /// Writes what is held. Where the output fails, what is held is lost.
     pub fn flush<O: Output>(&mut self, out: &mut O)
         ensures puts { Puts O.written O.failures out.old out.new self.old self.new [] }
         ensures empty { self.new.held ≡ [] }
@@ -61,6 +61,14 @@ impl Sink {
                 self.failed = true;
             }
         }
+    }
+
+    /// Ends a text: writes what is held, and answers the first failure.
+    pub fn finish<O: Output>(mut self, out: &mut O) -> Result<(), DeviceFault>
+        ensures { Finishes O.written O.failures out.old out.new self result }
+    {
+        self.flush(out);
+        if self.failed { Err(DeviceFault) } else { Ok(()) }
     }
 
     /// Whether the output failed.
