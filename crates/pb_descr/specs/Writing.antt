@@ -4,7 +4,8 @@ use Rattle.pb_schema.specs.Scalar.{int32, boolean, text}
 use Rattle.pb_value.specs.Data.{Datum, scalar, message as one_message, datums_of, Holding, one, list, Fields, no_fields, field, Message, body}
 use Rattle.pb_descr.specs.declared.decl.TypeCode.{TypeCode}
 use Rattle.pb_descr.specs.declared.decl.TypeCode.TheVariants as code
-use Rattle.pb_descr.specs.Decls.{DeclaredField, DeclaredEnum, MessageHead, DeclaredMessage, message, DeclaredMessages, no_messages, more_messages, DeclaredMethod, DeclaredService, DeclaredFile}
+use Rattle.pb_descr.specs.Decls.{DeclaredField, DeclaredEnum, MessageHead, DeclaredMessage, message, DeclaredMessages}
+use Rattle.pb_descr.specs.Decls.{no_messages, more_messages, DeclaredMethod, DeclaredService, DeclaredFile}
 
 abbrev pub with_field : ℕ → Option Holding → Fields → Fields
 with_field n None fs = fs
