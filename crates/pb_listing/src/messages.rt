@@ -56,7 +56,14 @@ pub fn put_listing_at<O: Output>(
     ensures { Puts O.written O.failures out.old out.new sink.old sink.new (listing_at level message.now) }
 {
     let body = message.body();
-    put_message(sink, out, level, message.pool(), message.message_type(), body);
+    put_message(
+        sink,
+        out,
+        level,
+        message.pool(),
+        message.message_type(),
+        body,
+    );
 }
 
 /// The lines of a message at a level.
@@ -226,29 +233,10 @@ fn put_inside<O: Output>(
         → Puts O.written O.failures out.old out.new sink.old sink.new
         (option_map_or (λ m. message_lines pool.now (suc level) m (body_view body.now)) (message_of_kind kind) []) }
 {
-    match kind {
-        // No message nests so deep.
-        Kind::Message(_) if level == DEEPEST => {}
-        Kind::Message(id) => put_message(sink, out, level + 1, pool, id, body),
-        Kind::Group(_) if level == DEEPEST => {}
-        Kind::Group(id) => put_message(sink, out, level + 1, pool, id, body),
-        Kind::Double
-        | Kind::Float
-        | Kind::Int64
-        | Kind::Uint64
-        | Kind::Int32
-        | Kind::Fixed64
-        | Kind::Fixed32
-        | Kind::Bool
-        | Kind::Text
-        | Kind::Bytes
-        | Kind::Uint32
-        | Kind::Sfixed32
-        | Kind::Sfixed64
-        | Kind::Sint32
-        | Kind::Sint64
-        | Kind::Enum(_)
-        | Kind::ClosedEnum(_) => {}
+    let Some(id) = kind.message() else { return };
+    // No message nests so deep.
+    if level < DEEPEST {
+        put_message(sink, out, level + 1, pool, id, body);
     }
 }
 

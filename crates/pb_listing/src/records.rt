@@ -69,7 +69,15 @@ fn put_record_lines<O: Output>(
     match payload {
         Payload::Varint(value) => put_varint_line(sink, out, level, b"", number, value),
         Payload::I64(value) => {
-            put_fixed_line(sink, out, level, b"", number, b" i64 ", &value.to_be_bytes())
+            put_fixed_line(
+                sink,
+                out,
+                level,
+                b"",
+                number,
+                b" i64 ",
+                &value.to_be_bytes(),
+            )
         }
         Payload::Len(bytes) => put_len_line(sink, out, level, b"", number, bytes),
         // No text nests so deep.
@@ -80,7 +88,15 @@ fn put_record_lines<O: Output>(
             put_end(sink, out, level);
         }
         Payload::I32(value) => {
-            put_fixed_line(sink, out, level, b"", number, b" i32 ", &value.to_be_bytes())
+            put_fixed_line(
+                sink,
+                out,
+                level,
+                b"",
+                number,
+                b" i32 ",
+                &value.to_be_bytes(),
+            )
         }
     }
 }

@@ -47,13 +47,7 @@ fn put_records<O: Output>(sink: &mut Sink, out: &mut O, level: u8, bytes: &[u8])
 }
 
 #[cycle(shortest)]
-fn put_record<O: Output>(
-    sink: &mut Sink,
-    out: &mut O,
-    level: u8,
-    number: u32,
-    payload: Payload<'_>,
-)
+fn put_record<O: Output>(sink: &mut Sink, out: &mut O, level: u8, number: u32, payload: Payload<'_>)
     requires { level ≤ 100 }
     ensures { (r : Record) → IsBorrowed level r (number, seen payload.entry)
         → Puts O.written O.failures out.old out.new sink.old sink.new (encode_lower (shortest_record r.number r.payload)) }

@@ -7,7 +7,9 @@ ghost use Rattle.pb_listing.specs.RawListing.{record_lines, group_lines};
 ghost use Rattle.pb_listing.specs.Listing.{unknown_lines};
 ghost use Rattle.pb_output.specs.Sink.{Puts};
 
-use crate::records::{DEEPEST, put_end, put_fixed_line, put_group_start, put_len_line, put_varint_line};
+use crate::records::{
+    DEEPEST, put_end, put_fixed_line, put_group_start, put_len_line, put_varint_line,
+};
 use pb_output::Sink;
 use pb_wire::{Output, Unknown};
 
@@ -63,7 +65,15 @@ fn put_unknown_record<O: Output>(
     match payload {
         Unknown::Varint(value) => put_varint_line(sink, out, level, mark, number, *value),
         Unknown::I64(value) => {
-            put_fixed_line(sink, out, level, mark, number, b" i64 ", &value.to_be_bytes())
+            put_fixed_line(
+                sink,
+                out,
+                level,
+                mark,
+                number,
+                b" i64 ",
+                &value.to_be_bytes(),
+            )
         }
         Unknown::Len(bytes) => put_len_line(sink, out, level, mark, number, bytes),
         // No message nests so deep.
@@ -74,7 +84,15 @@ fn put_unknown_record<O: Output>(
             put_end(sink, out, level);
         }
         Unknown::I32(value) => {
-            put_fixed_line(sink, out, level, mark, number, b" i32 ", &value.to_be_bytes())
+            put_fixed_line(
+                sink,
+                out,
+                level,
+                mark,
+                number,
+                b" i32 ",
+                &value.to_be_bytes(),
+            )
         }
     }
 }

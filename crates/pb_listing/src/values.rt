@@ -148,25 +148,6 @@ fn value_name(pool: &Pool, kind: Kind, number: i32) -> Option<&str>
     requires { NamesType (length pool.now.messages) (length pool.now.enums) kind }
     ensures { option_map (λ s. s.now) result ≡ named_value number (names_of_kind pool.now kind) }
 {
-    match kind {
-        Kind::Enum(id) => pool.value_name(id, number),
-        Kind::ClosedEnum(id) => pool.value_name(id, number),
-        Kind::Double
-        | Kind::Float
-        | Kind::Int64
-        | Kind::Uint64
-        | Kind::Int32
-        | Kind::Fixed64
-        | Kind::Fixed32
-        | Kind::Bool
-        | Kind::Text
-        | Kind::Bytes
-        | Kind::Uint32
-        | Kind::Sfixed32
-        | Kind::Sfixed64
-        | Kind::Sint32
-        | Kind::Sint64
-        | Kind::Message(_)
-        | Kind::Group(_) => None,
-    }
+    let id = kind.enum_id()?;
+    pool.value_name(id, number)
 }
