@@ -1,5 +1,5 @@
 -- Bytes on their way to a device, whose first failure is kept.
-use Rattle.std.specs.Prelude.{◌≡◌, ◌≢◌, ◌<◌, ◌^◌, ℕ, List, ◌++◌, length, Bool, true, false, Option, Result, MatchResult}
+use Rattle.std.specs.Prelude.{◌≡◌, ◌≢◌, ◌<◌, ◌^◌, ℕ, List, ◌++◌, length, Bool, true, false, Option, Result, MatchResult, OnOk}
 use Rattle.std.specs.Io.KnownBytes.{Appends}
 use Rattle.pb_wire.specs.declared.device.DeviceFault.{DeviceFault}
 use Rattle.pb_output.specs.Sending.{Sent, Cut}
@@ -23,8 +23,9 @@ pub record Carries {D : Type 0} (written : D → Option (List ℕ)) (failures : 
 pub record Puts {D : Type 0} (written : D → Option (List ℕ)) (failures : D → ℕ) (old new : D) (a b : Sink) (bytes : List ℕ) : Type 0 where
   pub follow : (start : D) (text : List ℕ) → Carries written failures start old a text → Carries written failures start new b (text ++ bytes)
 
--- what is held went out, and the answer says whether a text that was carried did so whole or in part
+-- what was held went out; the answer is whether the device failed, and so whether a text that was carried went out whole or in part
 pub record Finishes {D : Type 0} (written : D → Option (List ℕ)) (failures : D → ℕ) (old new : D) (b : Sink) (r : Result Unit DeviceFault) : Type 0 where
+  pub well : OnOk r (b.failed ≡ false)
   pub answers :
       (start : D) (text : List ℕ) → Carries written failures start old b text
       → MatchResult r (λ _. Sent written failures start new text) (λ _. Cut written failures start new text)

@@ -67,6 +67,9 @@ impl Sink {
     pub fn finish<O: Output>(mut self, out: &mut O) -> Result<(), DeviceFault>
         ensures { Finishes O.written O.failures out.old out.new self result }
     {
+        if self.failed {
+            return Err(DeviceFault);
+        }
         self.flush(out);
         if self.failed { Err(DeviceFault) } else { Ok(()) }
     }
