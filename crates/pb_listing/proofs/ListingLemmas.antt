@@ -1,5 +1,5 @@
 -- The lines of a message, part by part.
-use Rattle.std.proofs.Common.{◌≡◌, ℕ, suc, ◌+◌, ◌<◌, ◌≤◌, max, List, [], ◌∷◌, ◌++◌, length, take, drop, get_or, append_assoc, Option, Some, sym, ap, ◌∙◌, arith, codes}
+use Rattle.std.proofs.Common.{◌≡◌, ℕ, suc, ◌+◌, ◌<◌, ◌≤◌, max, List, [], ◌∷◌, ◌++◌, length, take, drop, get_or, append_assoc, Option, None, Some, sym, ap, ◌∙◌, arith, codes}
 use Rattle.std.proofs.lemmas.Grind.{flat_map-append}
 use Rattle.std.proofs.lemmas.List.{drop_more, take-append-drop}
 use Rattle.std.specs.List.{flat_map}
@@ -79,6 +79,15 @@ pub fields_deep :
     (before after : List (ℕ × Content)) (n : ℕ) (h : Content) → before ≡ (n, h) ∷ after
     → fields_depth (fields_view before) ≡ max (holding_depth (content_view h)) (fields_depth (fields_view after))
 fields_deep before after n h split = ap (λ (fs : List (ℕ × Content)). fields_depth (fields_view fs)) split
+
+-- a field that the type does not have prints as nothing
+pub fields_skip :
+    (pool : Types) (level : ℕ) (all : List FieldView) (before after : List (ℕ × Content)) (n : ℕ) (h : Content)
+    → before ≡ (n, h) ∷ after → field_numbered n all ≡ None
+    → fields_lines pool level all (fields_view before) ≡ [] ++ fields_lines pool level all (fields_view after)
+fields_skip pool level all before after n h split none =
+    ap (λ (fs : List (ℕ × Content)). fields_lines pool level all (fields_view fs)) split
+    ∙ ap (λ (o : Option FieldView). option_map_or (λ (g : FieldView). holding_lines pool level g (content_view h)) o [] ++ fields_lines pool level all (fields_view after)) none
 
 -- ENTRIES
 

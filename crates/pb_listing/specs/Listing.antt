@@ -8,9 +8,8 @@ use Rattle.std.specs.Option.{option_map_or}
 use Rattle.hex.specs.Hex.{encode_lower}
 use Rattle.pb_wire.specs.Record.{Record}
 use Rattle.pb_schema.specs.declared.types.Kind.{Kind}
-use Rattle.pb_schema.specs.declared.types.Kind.TheVariants as kind
 use Rattle.pb_schema.specs.Types.{FieldView, Types, message_fields, field_numbered}
-use Rattle.pb_schema.specs.Kinds.{message_of_kind}
+use Rattle.pb_schema.specs.Kinds.{enum_of_kind, message_of_kind}
 use Rattle.pb_schema.specs.EnumValues.{enum_values, value_name}
 use Rattle.pb_schema.specs.Scalar.{Scalar, int32, int64, uint32, uint64, boolean, float, double, enum, text, bytes}
 use Rattle.pb_value.specs.Data.{Datum, scalar, message, Datums, no_datums, datum, Entries, no_entries, entry, Holding, one, list, map, Fields, no_fields, field, Message, body}
@@ -54,25 +53,7 @@ scalar_text names (bytes s) = codes "h'" ++ encode_lower s ++ codes "'"
 
 -- the values of the enum that a kind names, each a name and a number
 abbrev pub names_of_kind : Types → Kind → List (List ℕ × ℤ)
-names_of_kind pool kind.Double = []
-names_of_kind pool kind.Float = []
-names_of_kind pool kind.Int64 = []
-names_of_kind pool kind.Uint64 = []
-names_of_kind pool kind.Int32 = []
-names_of_kind pool kind.Fixed64 = []
-names_of_kind pool kind.Fixed32 = []
-names_of_kind pool kind.Bool = []
-names_of_kind pool kind.Text = []
-names_of_kind pool kind.Bytes = []
-names_of_kind pool kind.Uint32 = []
-names_of_kind pool kind.Sfixed32 = []
-names_of_kind pool kind.Sfixed64 = []
-names_of_kind pool kind.Sint32 = []
-names_of_kind pool kind.Sint64 = []
-names_of_kind pool (kind.Enum e) = enum_values pool e.0
-names_of_kind pool (kind.Message m) = []
-names_of_kind pool (kind.Group m) = []
-names_of_kind pool (kind.ClosedEnum e) = enum_values pool e.0
+names_of_kind pool k = option_map_or (λ e. enum_values pool e) (enum_of_kind k) []
 
 -- a value that is no message; of a message nothing
 abbrev pub datum_text : List (List ℕ × ℤ) → Datum → List ℕ

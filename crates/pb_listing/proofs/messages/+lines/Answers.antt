@@ -1,16 +1,17 @@
-use Rattle.std.proofs.Common.{◌≡◌, ◌∷◌, List, ℕ, rules, append-nil, ap, sym, ◌∙◌, arith}
+use Rattle.std.proofs.Common.{◌≡◌, ◌∷◌, [], drop_of_length-le, List, ℕ, rules, append-nil, ap, sym, ◌∙◌, arith}
+use Rattle.std.specs.Prelude.{option_map}
 use Rattle.pb_schema.specs.Types.{message_fields}
 use Rattle.pb_schema.specs.View.{field_view}
 use Rattle.pb_value.specs.Data.{message, entries_depth, fields_depth}
-use Rattle.pb_value.specs.View.{body_view, value_view, entries_view, fields_view}
+use Rattle.pb_value.specs.View.{body_view, value_view, entries_view, fields_view, values_view}
 use Rattle.pb_value.specs.declared.body.Content.{Content}
 use Rattle.pb_value.specs.declared.body.MapKey.{MapKey}
 use Rattle.pb_value.specs.declared.body.Value.{Value}
 use Rattle.pb_value.proofs.Views.{body_view-out, value_view-Message}
-use Rattle.pb_listing.specs.Listing.{entries_lines, fields_lines}
-use Rattle.pb_listing.proofs.ListingLemmas.{entries_deep, entries_next, entry_deep, each_next, fields_deep, fields_next}
-use Rattle.pb_listing.proofs.PuttingLemmas.{left_lost, left_more, left_start, left_start_at}
-use Rattle.pb_output.proofs.SinkLemmas.{puts_then}
+use Rattle.pb_listing.specs.Listing.{each_lines, entries_lines, fields_lines}
+use Rattle.pb_listing.proofs.ListingLemmas.{entries_deep, entries_next, entry_deep, each_next, fields_deep, fields_next, fields_skip}
+use Rattle.pb_listing.proofs.PuttingLemmas.{left_lost, left_more, left_none, left_start, left_start_at}
+use Rattle.pb_output.proofs.SinkLemmas.{puts_none, puts_then}
 use Rattle.pb_listing.proofs.messages.+lines.Goals as goal
 
 pub put_entries-loop-key-init : goal.put_entries-loop-key-init
@@ -32,8 +33,8 @@ put_fields-loop-number-init g t c = λ within.
     (λ (fs : List (ℕ × Content)). fields_lines c.args.pool.now c.args.level (message_fields c.args.pool.now c.args.kind.0) (fields_view fs))
     c.into_iter-number-iterator.result c.args.fields.now.entries (search rules) within
 
-pub put_fields-loop-number-preserved-in-Continue-1 : goal.put_fields-loop-number-preserved-in-Continue-1
-put_fields-loop-number-preserved-in-Continue-1 g t c = λ within.
+pub put_fields-loop-number-preserved-in-Some-field_by_number : goal.put_fields-loop-number-preserved-in-Some-field_by_number
+put_fields-loop-number-preserved-in-Some-field_by_number g t c = λ within.
     let split : c.loop-number.number-iterator ≡ (c.in-Some.number.now, c.in-Some.content.now) ∷ c.next.new.self = search rules in
     left_more _ _ _ _ (c.loop-number.invariant within) (fields_deep _ _ _ _ split)
     (fields_next c.args.pool.now c.args.level (message_fields c.args.pool.now c.args.kind.0) _ _ _ _ (field_view c.in-Some-field_by_number.field.now) split
@@ -70,3 +71,29 @@ put_values-returns-then-has_failed g t c = λ within. left_lost (c.loop-value.in
 
 pub put_entries-returns-then-has_failed : goal.put_entries-returns-then-has_failed
 put_entries-returns-then-has_failed g t c = λ within. left_lost (c.loop-key.invariant within) (sym c.has_failed.ensures ∙ c.if-has_failed.true)
+
+pub put_fields-loop-number-preserved : goal.put_fields-loop-number-preserved
+put_fields-loop-number-preserved g t c = λ within.
+    let split : c.loop-number.number-iterator ≡ (c.in-Some.number.now, c.in-Some.content.now) ∷ c.next.new.self = search rules in
+    left_more _ _ _ _ (c.loop-number.invariant within) (fields_deep _ _ _ _ split)
+    (fields_skip c.args.pool.now c.args.level (message_fields c.args.pool.now c.args.kind.0) _ _ _ _ split
+    (sym c.field_by_number.ensures.found ∙ ap (option_map (λ f. field_view f.now)) c.in_default.is))
+    (λ below. puts_none)
+
+pub put_fields-returns : goal.put_fields-returns
+put_fields-returns g t c = λ within.
+    let end : c.loop-number.number-iterator ≡ [] = search rules in
+    left_none (c.loop-number.invariant within)
+    (ap (λ (fs : List (ℕ × Content)). fields_lines c.args.pool.now c.args.level (message_fields c.args.pool.now c.args.kind.0) (fields_view fs)) end)
+
+pub put_entries-returns : goal.put_entries-returns
+put_entries-returns g t c = λ within.
+    let end : c.loop-key.key-iterator ≡ [] = search rules in
+    left_none (c.loop-key.invariant within)
+    (ap (λ (es : List (MapKey × Value)). entries_lines c.args.pool.now c.args.level c.args.kind c.args.name.now (entries_view es)) end)
+
+pub put_values-returns : goal.put_values-returns
+put_values-returns g t c = λ within.
+    left_none (c.loop-value.invariant within)
+    (ap (λ (vs : List Value). each_lines c.args.pool.now c.args.level c.args.kind c.args.name.now (values_view vs))
+    (drop_of_length-le c.args.values.now.items (rw c.deref-value-items.ensures.value at c.loop-value-test.false)))
