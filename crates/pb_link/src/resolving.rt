@@ -11,18 +11,18 @@ mod upcoming;
 ghost use Rattle.std.specs.Prelude.{◌≡◌, ℕ, List, map, IfOk, IfErr, IsErrAnd, MatchResult};
 ghost use Rattle.pb_decl.specs.Decls.{DeclaredFile};
 ghost use Rattle.pb_decl.specs.View.{file_view};
-ghost use Rattle.pb_link.specs.declared.cause.LinkCause.{LinkCause as CauseValue};
-ghost use Rattle.pb_link.specs.declared.error.LinkError.TheVariants.{Memory};
-ghost use Rattle.pb_link.specs.Linking.{LinkFault, IsUnlinked, TellsLinkFault};
+ghost use Rattle.pb_rules.specs.declared.cause.LinkCause.{LinkCause as CauseValue};
+ghost use Rattle.pb_rules.specs.declared.error.LinkError.TheVariants.{Memory};
+ghost use Rattle.pb_rules.specs.Faults.{LinkFault, IsUnlinked, TellsLinkFault};
 ghost use Rattle.pb_link.specs.Resolved.{Resolves};
 
-use crate::declared::row;
-use crate::error::LinkError;
-use crate::naming::names_of;
 use crate::resolving::files::resolve_files;
-use crate::rules::maps::map_marks;
-use crate::verdict::verdict;
-use pb_descr::FileDecl;
+use pb_decl::FileDecl;
+use pb_names::declared::row;
+use pb_rules::LinkError;
+use pb_rules::naming::names_of;
+use pb_rules::rules::maps::map_marks;
+use pb_rules::verdict::verdict;
 use std::alloc::Global;
 
 /// The same files where every rule of linking holds, with each type number given and each type name full behind a dot. Else the first

@@ -1,5 +1,5 @@
 use Rattle.std.proofs.Common.{◌≡◌, rules, map, ap, sym, ◌∙◌}
-use Rattle.pb_link.specs.View.{type_names_view}
+use Rattle.pb_names.specs.View.{type_names_view}
 use Rattle.pb_link.proofs.parts.pool_of_names.Goals as goal
 
 pub linked_pool-requires-clause-imports : goal.linked_pool-requires-clause-imports
