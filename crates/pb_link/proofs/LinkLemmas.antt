@@ -1,15 +1,29 @@
--- What the walk tells is what linking answers.
-use Rattle.std.proofs.Common.{◌≡◌, List, sym, ap, ◌∙◌}
+-- What files of which every rule holds are linked to.
+use Rattle.std.proofs.Common.{◌≡◌, ℕ, List, map, length, sym, ap, ◌∙◌, subst}
+use Rattle.std.specs.Prelude.{Result, Ok, Err, IfOk, IfErr, MatchResult}
+use Rattle.std.proofs.lemmas.List.{length-map}
 use Rattle.pb_schema.specs.Types.{Types}
 use Rattle.pb_decl.specs.Decls.{DeclaredFile}
-use Rattle.pb_rules.specs.Rules.{World}
-use Rattle.pb_rules.specs.Link.{IsWorldOf, NothingFails}
+use Rattle.pb_rules.specs.declared.error.LinkError.{LinkError}
+use Rattle.pb_rules.specs.declared.error.LinkError.TheVariants.{Memory}
+use Rattle.pb_rules.specs.Faults.{IsUnlinked}
 use Rattle.pb_link.specs.Linking.{Links}
 use Rattle.pb_link.specs.PoolOf.{pool_of}
 use Rattle.pb_rules.proofs.ExactLemmas.{one_world}
 
-pub holds_made : (files : List DeclaredFile) (w : World) (types : Types) → IsWorldOf files w → NothingFails w → types ≡ pool_of files w → Links files types
-holds_made files w types world holds made = record { world = w; is_world = world; holds = holds; made = made }
+pub links_same : (files : List DeclaredFile) (ts us : Types) → Links files ts → Links files us → ts ≡ us
+links_same files ts us one other = one.made ∙ ap (pool_of files) (one_world files one.world other.world one.is_world other.is_world) ∙ sym other.made
 
-pub silent_accepted : (files : List DeclaredFile) (w : World) (types others : Types) → IsWorldOf files w → types ≡ pool_of files w → Links files others → types ≡ others
-silent_accepted files w types others world made links = made ∙ ap (pool_of files) (one_world files w links.world world links.is_world) ∙ sym links.made
+-- where making the pool answers it, or want of memory
+
+pub pool_refused : (files : List DeclaredFile) (r : Result Types LinkError) → IfErr r (λ e. e ≡ Memory) → IfErr r (IsUnlinked files)
+pool_refused files (Ok ts) memory = tt
+pool_refused files (Err e) memory = subst (IsUnlinked files) (sym memory) tt
+
+pub pool_accepted : (files : List DeclaredFile) (r : Result Types LinkError) → IfOk r (Links files) → IfErr r (λ e. e ≡ Memory) → (types : Types) → Links files types → MatchResult r (λ pool. pool ≡ types) (λ e. e ≡ Memory)
+pool_accepted files (Ok ts) made memory types links = links_same files ts types made links
+pool_accepted files (Err e) made memory types links = memory
+
+-- what is found stands beside the row
+pub as_many : {X Y D F : Type 0} (view : X → D) (found_view : Y → F) (f : D → F) (row : List X) (found : List Y) (ds : List D) → map view row ≡ ds → map found_view found ≡ map f ds → length found ≡ length row
+as_many view found_view f row found ds declared is = sym (length-map found found_view) ∙ ap length is ∙ length-map ds f ∙ ap length (sym declared) ∙ length-map row view

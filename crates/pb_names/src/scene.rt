@@ -14,8 +14,9 @@ use crate::declaration::Declaration;
 use crate::found::Found;
 use crate::name_set::NameSet;
 use crate::places::{Places, Want};
-use crate::scopes::{first_part, has_dot, outer, scoped};
+use crate::scopes::{first_part, has_dot, outer};
 use crate::sight::Sight;
+use pb_schema::scoped;
 use std::alloc::{AllocError, Global};
 
 /// The declarations by name, and what the file that was looked at last sees.

@@ -1,11 +1,8 @@
 //! Parts of names, and scopes.
 
-ghost use Rattle.std.specs.Prelude.{◌≡◌, IfOk, option_map};
-ghost use Rattle.pb_schema.specs.Names.{in_scope};
+ghost use Rattle.std.specs.Prelude.{◌≡◌, option_map};
 ghost use Rattle.pb_names.specs.Lookup.{has_dot, first_part};
 ghost use Rattle.pb_names.specs.Scopes.{IsOuter};
-
-use std::alloc::{AllocError, Global};
 
 pub(crate) fn has_dot(name: &[u8]) -> bool
     ensures { result ≡ has_dot name.now }
@@ -40,16 +37,4 @@ pub(crate) fn outer(scope: &[u8]) -> Option<&[u8]>
         }
     }
     Some(&scope[..0])
-}
-
-/// The full name of a name in a scope.
-pub(crate) fn scoped(alloc: Global, scope: &[u8], name: &[u8]) -> Result<Vec<u8>, AllocError>
-    ensures { IfOk result (λ v. v.items ≡ in_scope scope.now name.now) }
-{
-    let mut full_name = scope.to_vec(alloc)?;
-    if !scope.is_empty() {
-        full_name.push(b'.')?;
-    }
-    full_name.extend_from_slice(name)?;
-    Ok(full_name)
 }

@@ -1,4 +1,4 @@
--- ---- linking: the least fault, or a pool
+-- ---- the least fault
 -- the walk over all declarations in order tells the least fault of all
 pub mod FirstLemmas
 -- and exactly that one, since there is one world for each list of files
@@ -7,7 +7,9 @@ pub mod ExactLemmas
 pub mod JudgeLemmas
 -- for a walk over the declarations, from one on to the end
 pub mod WalkLemmas
--- for `verdict`: what the walk tells is the least fault, of a declaration and a file that are there
+-- for `verdict`: whether the rules hold of files
+pub mod VerdictLemmas
+-- and what the walk tells is the least fault, of a declaration and a file that are there
 pub mod FaultLemmas
 -- for what stands at the places of a world: the parts of messages and enums, and each declaration's file
 pub mod ThereLemmas
@@ -22,6 +24,3 @@ pub mod UseLemmas
 pub mod MapLemmas
 -- for `first_fault`: what the tables tell at a place holds of the declaration there
 pub mod TableLemmas
--- ---- whether files link, and with types resolved
--- for `verdict`: whether the rules hold of files
-pub mod VerdictLemmas

@@ -95,16 +95,16 @@ none_failing w row i is past before =
 -- WHAT THE TABLES TELL
 pub tells_at : (w : World) (row : List DeclarationValue) (n : Names) (map_marks : List Bool) (i : ℕ) (x : DeclarationValue) → AreTablesOf w (map declaration_view row) n map_marks → IsHeldBefore w i → i < length row → x ≡ get_or row i x → TellsAt w i (declaration_view x) (at_place n map_marks i)
 tells_at w row n map_marks i x tables before h there = record {
-  file_is_first = held_at w cause.TwoFiles row n.file_is_first.items i x tables.declared tables.names.file_is_first h there;
-  imports_are_there = held_at w cause.MissingImport row n.imports_are_there.items i x tables.declared tables.names.imports_are_there h there;
-  reaches_no_cycle = ap (λ o. is_elsewhere o i) tables.names.first_cycle ∙ elsewhere (holds_table w cause.ImportCycle) i (omega (arith, h, rules_size w row tables.declared)) before ∙ held_at w cause.ImportCycle row (holds_table w cause.ImportCycle) i x tables.declared refl h there;
-  is_free = held_at w cause.NameTaken row n.is_free.items i x tables.declared tables.names.is_free h there;
+  file_is_first = held_at w cause.TwoFiles row n.file_is_first.items i x tables.declared tables.names.of_files.file_is_first h there;
+  imports_are_there = held_at w cause.MissingImport row n.imports_are_there.items i x tables.declared tables.names.of_files.imports_are_there h there;
+  reaches_no_cycle = ap (λ o. is_elsewhere o i) tables.names.of_files.first_cycle ∙ elsewhere (holds_table w cause.ImportCycle) i (omega (arith, h, rules_size w row tables.declared)) before ∙ held_at w cause.ImportCycle row (holds_table w cause.ImportCycle) i x tables.declared refl h there;
+  is_free = held_at w cause.NameTaken row n.is_free.items i x tables.declared tables.names.of_names.is_free h there;
   is_map_right = held_at w cause.BadMap row map_marks i x tables.declared tables.maps h there;
   found = sym (get_or-map type_names_view n.found.items i type_names.None [] inside) ∙ ap (λ l. get_or l i []) shown ∙ get_or-map (lookups w) (map declaration_view row) i (declaration_view x) [] there_seen ∙ ap (lookups w) (get_or-map declaration_view row i x (declaration_view x) h ∙ ap declaration_view (sym there));
 }
   where
     shown : map type_names_view n.found.items ≡ map (lookups w) (map declaration_view row)
-    shown = tables.names.found ∙ ap (map (lookups w)) tables.declared
+    shown = tables.names.of_names.found ∙ ap (map (lookups w)) tables.declared
 
     there_seen : i < length (map declaration_view row)
     there_seen = let P : ℕ → Type 0 = λ m. i < m in subst P (sym (length-map row declaration_view)) h

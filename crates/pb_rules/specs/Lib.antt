@@ -4,6 +4,7 @@ pub mod Link
 pub mod Faults
 pub mod Judging
 pub mod Tables
+pub mod Judged
 pub mod ErrorNumber
 pub mod Flags
 pub mod Uses

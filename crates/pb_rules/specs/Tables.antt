@@ -3,6 +3,7 @@ use Rattle.std.specs.Prelude.{◌≡◌, ◌==◌, ℕ, List, map, Bool, true, f
 use Rattle.std.specs.List.{enumerate_from, slice_index_or}
 use Rattle.pb_rules.specs.declared.cause.LinkCause.{LinkCause}
 use Rattle.pb_rules.specs.declared.cause.LinkCause.TheVariants as cause
+use Rattle.pb_names.specs.declared.found.TypeNames.{TypeNames}
 use Rattle.pb_names.specs.declared.found.TypeNames.TheVariants as type_names
 use Rattle.pb_rules.specs.declared.names.Names.{Names}
 use Rattle.pb_rules.specs.declared.names.At.{At}
@@ -15,13 +16,21 @@ use Rattle.pb_names.specs.View.{type_names_view}
 abbrev pub holds_table : World → LinkCause → List Bool
 holds_table w c = map (λ e. holds w e.0 e.1 c) (enumerate_from 0 w.declared)
 
-pub record AreNamesOf (w : World) (n : Names) : Type 0 where
-  pub file_is_first : n.file_is_first.items ≡ holds_table w cause.TwoFiles
-  pub imports_are_there : n.imports_are_there.items ≡ holds_table w cause.MissingImport
+-- what the rules of files come to
+pub record AreFileTables (w : World) (file_is_first imports_are_there : List Bool) (first_cycle : Option ℕ) : Type 0 where
+  pub file_is_first : file_is_first ≡ holds_table w cause.TwoFiles
+  pub imports_are_there : imports_are_there ≡ holds_table w cause.MissingImport
   -- the first place at which the rule of cycles fails; later ones are not asked
-  pub first_cycle : n.first_cycle ≡ position not (holds_table w cause.ImportCycle)
-  pub is_free : n.is_free.items ≡ holds_table w cause.NameTaken
-  pub found : map type_names_view n.found.items ≡ map (lookups w) w.declared
+  pub first_cycle : first_cycle ≡ position not (holds_table w cause.ImportCycle)
+
+-- what the rule of free names and the type names come to
+pub record AreNameTables (w : World) (is_free : List Bool) (found : List TypeNames) : Type 0 where
+  pub is_free : is_free ≡ holds_table w cause.NameTaken
+  pub found : map type_names_view found ≡ map (lookups w) w.declared
+
+pub record AreNamesOf (w : World) (n : Names) : Type 0 where
+  pub of_files : AreFileTables w n.file_is_first.items n.imports_are_there.items n.first_cycle
+  pub of_names : AreNameTables w n.is_free.items n.found.items
 
 -- all tables of a judge: those of names, and whether the rules of map fields hold, by place
 pub record AreTablesOf (w : World) (ds : List Declaration) (n : Names) (map_marks : List Bool) : Type 0 where

@@ -8,10 +8,11 @@ mod cycles;
 mod error;
 mod flags;
 mod judge;
+pub mod judged;
 pub mod names;
-pub mod naming;
+mod naming;
 pub mod rules;
-pub mod verdict;
+mod verdict;
 mod walk;
 
 pub use cause::LinkCause;

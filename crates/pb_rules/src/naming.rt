@@ -1,6 +1,7 @@
 //! What the rules of files, names and type names come to.
 
-ghost use Rattle.std.specs.Prelude.{◌≡◌, map, take, Some, IfOk, OnOk};
+ghost use Rattle.std.specs.Prelude.{◌≡◌, List, map, take, Some, IfOk, OnOk};
+ghost use Rattle.pb_decl.specs.Decls.{DeclaredFile};
 ghost use Rattle.pb_decl.specs.View.{file_view};
 ghost use Rattle.pb_names.specs.Declarations.{declarations};
 ghost use Rattle.pb_names.specs.Lookup.{looked_up};
@@ -9,7 +10,7 @@ ghost use Rattle.pb_rules.specs.Link.{IsWorldOf};
 ghost use Rattle.pb_names.specs.View.{declaration_view, type_names_view};
 ghost use Rattle.pb_names.specs.Graphs.{AreImports, LeadToFiles, sees_by};
 ghost use Rattle.pb_names.specs.Scene.{IsScene};
-ghost use Rattle.pb_rules.specs.Tables.{AreNamesOf};
+ghost use Rattle.pb_rules.specs.Tables.{AreFileTables, AreNameTables, AreNamesOf};
 ghost use Rattle.pb_names.specs.TypeRefs.{refs_view};
 ghost use Rattle.pb_rules.specs.Flags.{IsReady};
 
@@ -150,18 +151,52 @@ fn scene_of(
     })
 }
 
-/// What the rules of files, names and type names come to.
-pub fn names_of(alloc: Global, files: &[FileDecl], row: &[Declaration]) -> Result<Names, AllocError>
-    requires { map declaration_view row.now ≡ declarations (map file_view files.now) }
-    ensures { IfOk result (λ n. (w : World) × IsWorldOf (map file_view files.now) w × AreNamesOf w n) }
+/// What the rules of files come to, by place: whether its name is the first, whether its imports are there, and the first cycle.
+fn file_tables(
+    alloc: Global,
+    row: &[Declaration],
+    imports: &Imports,
+) -> Result<(Vec<bool>, Vec<bool>, Option<usize>), AllocError>
+    requires { LeadToFiles imports.now }
+    ensures { IfOk result (λ t. (files : List DeclaredFile) (w : World) → AreImports files imports.now → IsWorldOf files w
+        → w.declared ≡ map declaration_view row.now → AreFileTables w t.0.items t.1.items t.2) }
 {
     let (file_is_first, names) = first_files(alloc, row)?;
     let imports_are_there = right_imports(alloc, row, &names)?;
-    let imports = Imports::new(alloc, files)?;
-    let first_cycle = first_cycle(alloc, row, &imports)?;
-    let mut scene = scene_of(alloc, files, row, &imports)?;
+    let first_cycle = first_cycle(alloc, row, imports)?;
+    Ok((file_is_first, imports_are_there, first_cycle))
+}
+
+/// What the rule of free names and the type names come to, by place.
+fn name_tables(
+    alloc: Global,
+    files: &[FileDecl],
+    row: &[Declaration],
+    imports: &Imports,
+) -> Result<(Vec<bool>, Vec<TypeNames>), AllocError>
+    requires row { map declaration_view row.now ≡ declarations (map file_view files.now) }
+    requires exact { AreImports (map file_view files.now) imports.now }
+    requires lead { LeadToFiles imports.now }
+    ensures { IfOk result (λ t. (w : World) → IsWorldOf (map file_view files.now) w → AreNameTables w t.0.items t.1.items) }
+{
+    let mut scene = scene_of(alloc, files, row, imports)?;
     let is_free = free_names(alloc, row, &scene)?;
-    let found = type_names(&mut scene, alloc, files, row, &imports)?;
+    let found = type_names(&mut scene, alloc, files, row, imports)?;
+    Ok((is_free, found))
+}
+
+/// What the rules of files, names and type names come to.
+pub(crate) fn names_of(
+    alloc: Global,
+    files: &[FileDecl],
+    row: &[Declaration],
+) -> Result<Names, AllocError>
+    requires { map declaration_view row.now ≡ declarations (map file_view files.now) }
+    ensures { IfOk result (λ n. (w : World) × IsWorldOf (map file_view files.now) w × AreNamesOf w n) }
+{
+    let imports = Imports::new(alloc, files)?;
+    let (file_is_first, imports_are_there, first_cycle) = file_tables(alloc, row, &imports)?;
+    let (is_free, found) = name_tables(alloc, files, row, &imports)?;
     Ok(Names {
         file_is_first,
         imports_are_there,

@@ -35,7 +35,7 @@ fn fault_of(
 }
 
 /// Nothing where no rule fails, and else the first fault, by the tables of what the rules come to.
-pub fn verdict(
+pub(crate) fn verdict(
     files: &[FileDecl],
     row: &[Declaration],
     names: &Names,

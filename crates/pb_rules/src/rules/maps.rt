@@ -264,7 +264,7 @@ fn map_mark(
 }
 
 /// By place, whether the rules of map fields hold.
-pub fn map_marks(
+pub(crate) fn map_marks(
     alloc: Global,
     row: &[Declaration],
     found: &[TypeNames],
