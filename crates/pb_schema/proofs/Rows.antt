@@ -159,10 +159,10 @@ undeclared-records :
 undeclared-records = refl
 
 -- the entries of a map are no numbers, also where its values are those of a closed enum
-closed-in-a-list : closed_shaped (shape.List (record { packed = true })) (kind.ClosedEnum (record { 0 = 2 })) ≡ Some 2
+closed-in-a-list : closed_shaped (shape.List true) (kind.ClosedEnum (record { 0 = 2 })) ≡ Some 2
 closed-in-a-list = refl
 
-closed-in-a-map : closed_shaped (shape.Map (record { key = kind.Int32 })) (kind.ClosedEnum (record { 0 = 2 })) ≡ None
+closed-in-a-map : closed_shaped (shape.Map kind.Int32) (kind.ClosedEnum (record { 0 = 2 })) ≡ None
 closed-in-a-map = refl
 
 open-alone : closed_shaped shape.Explicit (kind.Enum (record { 0 = 2 })) ≡ None

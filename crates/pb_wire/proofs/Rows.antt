@@ -1,6 +1,7 @@
 -- Small texts, their records and their faults, worked out by the rules.
 use Rattle.std.proofs.Common.{◌≡◌, ◌≢◌, ℕ, ◌+◌, ◌*◌, ◌%◌, ◌^◌, ◌<◌, ◌≤◌, List, [], ◌∷◌, ◌++◌, length, drop, refl, sym, ap, ◌∙◌, arith}
 use Rattle.std.proofs.Common.{subst, codes, Some, None, inl, lit<, lit≤}
+use Rattle.std.specs.Fmt.{digits}
 use Rattle.std.proofs.lemmas.List.Elements.{All-nil, All-cons, All-replicate}
 use Rattle.pb_wire.specs.Varint.{IsVarint, EndsOnce, groups_value, shortest, shortest_within}
 use Rattle.pb_wire.specs.Zigzag.{zigzag, unzigzag}
@@ -361,4 +362,5 @@ no_path : path_text [] ≡ codes "-"
 no_path = refl
 
 a_path : path_text (step 3 [] ∷ step 12 [] ∷ []) ≡ codes "3[0].12[0]"
+unfolding digits
 a_path = refl
