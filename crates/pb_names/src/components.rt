@@ -149,6 +149,7 @@ impl Walk {
     }
 }
 
+/// The number at an index, 0 where there is none.
 pub fn number_of(numbers: &[usize], index: usize) -> usize
     ensures { result ≡ number_of numbers.now index }
 {

@@ -7,6 +7,7 @@ ghost use Rattle.pb_names.specs.Firsts.{first_at};
 use indexmap::IndexMap;
 use std::alloc::{AllocError, Global};
 
+/// The first place of each name.
 #[derive(Drop)]
 pub struct Firsts {
     pub places: IndexMap<Vec<u8>, usize>,

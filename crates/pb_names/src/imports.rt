@@ -114,6 +114,7 @@ fn imports_of(
 }
 
 impl Imports {
+    /// The imports of these files, all and those that are public.
     pub fn new(alloc: Global, files: &[FileDecl]) -> Result<Imports, AllocError>
         ensures exact { IfOk result (AreImports (map file_view files.now)) }
         ensures lead { IfOk result LeadToFiles }

@@ -20,8 +20,10 @@ pub(crate) enum Want {
     All,
 }
 
+/// The places of each full name in the row.
 #[derive(Drop)]
 pub struct Places {
+    /// Of each full name the first one.
     pub firsts: Firsts,
     /// Of each place the next one of the same full name.
     pub next: Vec<Option<usize>>,
@@ -64,6 +66,7 @@ impl Places {
         Ok(())
     }
 
+    /// The places of the names in a row.
     pub fn new(alloc: Global, row: &[Declaration]) -> Result<Places, AllocError>
         ensures { IfOk result (ArePlaces (map declaration_view row.now) 0) }
     {

@@ -5,6 +5,7 @@ ghost use Rattle.pb_names.specs.Reach.{graph_of, next_of, IsGraph, Reached, is_m
 
 use std::alloc::{AllocError, Global};
 
+/// What was reached along a graph last.
 #[derive(Drop)]
 pub struct Reach {
     /// A bit for each index of the graph.
@@ -35,6 +36,7 @@ impl Reach {
         })
     }
 
+    /// Whether an index was reached.
     pub fn is_marked(&self, index: usize) -> bool
         ensures { result ≡ is_marked self.now index }
     {

@@ -15,6 +15,7 @@ pub struct Sight {
 }
 
 impl Sight {
+    /// No file was looked at yet.
     pub fn new(alloc: Global, imports: &Imports) -> Result<Sight, AllocError>
         ensures { IfOk result (KnowsSight imports.now) }
     {

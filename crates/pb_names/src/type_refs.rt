@@ -17,6 +17,7 @@ pub enum TypeRefs<'a> {
     Two(&'a String, &'a String),
 }
 
+/// The type names that are written in a declaration.
 pub fn refs_of(item: Item) -> TypeRefs
     ensures { refs_view result ≡ names_in (item_view item.entry) }
 {
@@ -35,6 +36,7 @@ pub fn refs_of(item: Item) -> TypeRefs
     }
 }
 
+/// The file, of a declaration of one.
 pub fn file_in<'a>(item: Item<'a>) -> Option<&'a FileDecl>
     ensures { option_map (λ f. file_view f.now) result ≡ file_in (item_view item.entry) }
 {

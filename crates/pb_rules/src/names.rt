@@ -25,14 +25,14 @@ pub struct Names {
 /// What the tables tell at one place.
 #[derive(Clone, Copy, PartialEq, Eq, Debug)]
 pub(crate) struct At {
-    pub file_is_first: bool,
-    pub imports_are_there: bool,
+    pub(crate) file_is_first: bool,
+    pub(crate) imports_are_there: bool,
     /// Told only up to the first file that reaches itself by imports.
     pub(crate) reaches_no_cycle: bool,
-    pub is_free: bool,
+    pub(crate) is_free: bool,
     /// Whether the rules of map fields and their entries hold.
     pub(crate) is_map_right: bool,
-    pub found: TypeNames,
+    pub(crate) found: TypeNames,
 }
 
 fn mark_at(marks: &[bool], place: usize) -> bool
