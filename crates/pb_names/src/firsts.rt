@@ -36,7 +36,8 @@ impl Firsts {
         Ok(later)
     }
 
-    pub(crate) fn get(&self, name: &[u8]) -> Option<usize>
+    /// The first place of a name.
+    pub fn get(&self, name: &[u8]) -> Option<usize>
         ensures { result ≡ first_at self.now name.now }
     {
         self.places.get(name).copied()

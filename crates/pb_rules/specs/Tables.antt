@@ -17,16 +17,16 @@ abbrev pub holds_table : World → LinkCause → List Bool
 holds_table w c = map (λ e. holds w e.0 e.1 c) (enumerate_from 0 w.declared)
 
 -- what the rules of files come to
-pub record AreFileTables (w : World) (file_is_first imports_are_there : List Bool) (first_cycle : Option ℕ) : Type 0 where
-  pub file_is_first : file_is_first ≡ holds_table w cause.TwoFiles
-  pub imports_are_there : imports_are_there ≡ holds_table w cause.MissingImport
+pub record AreFileTables (w : World) (firsts imports : List Bool) (cycle : Option ℕ) : Type 0 where
+  pub file_is_first : firsts ≡ holds_table w cause.TwoFiles
+  pub imports_are_there : imports ≡ holds_table w cause.MissingImport
   -- the first place at which the rule of cycles fails; later ones are not asked
-  pub first_cycle : first_cycle ≡ position not (holds_table w cause.ImportCycle)
+  pub first_cycle : cycle ≡ position not (holds_table w cause.ImportCycle)
 
 -- what the rule of free names and the type names come to
-pub record AreNameTables (w : World) (is_free : List Bool) (found : List TypeNames) : Type 0 where
-  pub is_free : is_free ≡ holds_table w cause.NameTaken
-  pub found : map type_names_view found ≡ map (lookups w) w.declared
+pub record AreNameTables (w : World) (free : List Bool) (names : List TypeNames) : Type 0 where
+  pub is_free : free ≡ holds_table w cause.NameTaken
+  pub found : map type_names_view names ≡ map (lookups w) w.declared
 
 pub record AreNamesOf (w : World) (n : Names) : Type 0 where
   pub of_files : AreFileTables w n.file_is_first.items n.imports_are_there.items n.first_cycle
