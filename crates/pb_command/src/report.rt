@@ -11,7 +11,7 @@ ghost use Rattle.pb_listing.specs.Sending.{Cut, Puts, Sent, SentOrCut};
 use pb_descr::{DeclCause, DescrError};
 use pb_link::{LinkCause, LinkError};
 use pb_listing::Buffered;
-use pb_source::Cause as SourceCause;
+use pb_source::SourceCause;
 use pb_wire::{Cause, DeviceFault, Output, PathStep, RawError};
 use std::alloc::{AllocError, AllocFailed};
 

@@ -3,7 +3,7 @@
 ghost use Rattle.std.specs.Prelude.{◌≡◌, ◌≢◌, ◌+◌, true, ℕ, None, option_map, string_bytes, IfOk, IfErr, IsErrOf, MatchOption, OnOk};
 ghost use Rattle.pb_decl.specs.View.{file_view};
 ghost use Rattle.pb_source.specs.Source.{HasFault, IsSource};
-ghost use Rattle.pb_source.specs.declared.fault.Cause.{Cause as SourceCause};
+ghost use Rattle.pb_source.specs.declared.fault.SourceCause.{SourceCause};
 ghost use Rattle.pb_wire.specs.Limits.{full};
 ghost use Rattle.pb_command.specs.Answer.{refused};
 ghost use Rattle.pb_command.specs.CompileAnswer.{roots_of, texts_of, told_of};
@@ -17,7 +17,7 @@ use crate::command::Roots;
 use crate::files::Files;
 use crate::report::Refusal;
 use pb_descr::FileDecl;
-use pb_source::{Cause, SourceFault, parse};
+use pb_source::{SourceCause, SourceFault, parse};
 use pb_wire::{DeviceFault, Limits, ReadFault, read_up_to};
 use std::alloc::{AllocError, Global};
 
@@ -73,10 +73,10 @@ fn read_bytes<F: Files>(
 
 /// Why a source of this name is refused.
 fn refusal_of<'a>(alloc: Global, name: &str, fault: SourceFault) -> Refusal<'a>
-    ensures memory { fault.cause ≡ Cause.Memory → result ≡ Refusal.Memory }
+    ensures memory { fault.cause ≡ SourceCause.Memory → result ≡ Refusal.Memory }
     ensures told { Refuses (λ a. a ≡ refused (source_line name.now fault.byte fault.cause)) result }
 {
-    if fault.cause == Cause::Memory {
+    if fault.cause == SourceCause::Memory {
         return Refusal::Memory;
     }
     match String::from_str(alloc, name) {

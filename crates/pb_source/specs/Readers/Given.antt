@@ -1,7 +1,7 @@
 -- What a function of the code that reads symbols gives.
 use Rattle.std.specs.Prelude.{◌≡◌, ◌≤◌, ℕ, List, [], ◌∷◌, length, map, drop, Option, Result, Ok, Err}
-use Rattle.pb_source.specs.declared.fault.Cause.{Cause}
-use Rattle.pb_source.specs.declared.fault.Cause.TheVariants.{NotProto3}
+use Rattle.pb_source.specs.declared.fault.SourceCause.{SourceCause}
+use Rattle.pb_source.specs.declared.fault.SourceCause.TheVariants.{NotProto3}
 use Rattle.pb_source.specs.declared.rule.Rule.{Rule}
 use Rattle.pb_source.specs.declared.symbol.Placed.{Placed}
 use Rattle.pb_source.specs.declared.refusal.Refusal.{Refusal}
@@ -36,7 +36,7 @@ abbrev pub ReadsInSteps : {X A : Type 0} → List Placed → ℕ → (X → A ×
 ReadsInSteps ps at view result reader = (n : ℕ) → length ps ≤ n → Reads ps at view result (reader n)
 
 -- the cause of symbols that are refused so: a file without symbols does not begin with its syntax
-abbrev pub cause_at : List Placed → Option Rule → Cause
+abbrev pub cause_at : List Placed → Option Rule → SourceCause
 cause_at [] rule = NotProto3
 cause_at (p ∷ ps) rule = told rule
 
