@@ -5,7 +5,7 @@ use Rattle.pb_wire.specs.Fault.{Fault}
 use Rattle.pb_schema.specs.Types.{Types}
 use Rattle.pb_decode.specs.declared.push.Reading.{Reading}
 use Rattle.pb_decode.specs.Reader.{state_view}
-use Rattle.pb_decode.specs.Origin.{Origin, further, TookFrom, ToldFrom}
+use Rattle.pb_decode.specs.Reader.Origin.{Origin, further, TookFrom, ToldFrom}
 
 -- the input gave so many bytes, and the reader went on over them
 pub record ReadsOn (pool : Types) (before after : Reading) (old new : Option (List ℕ)) (count : ℕ) : Type 0 where

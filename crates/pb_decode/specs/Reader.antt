@@ -1,4 +1,6 @@
 -- What a reader of a part has, and what it has told of the bytes at hand.
+pub mod Waiting
+pub mod Origin
 use Rattle.std.specs.Prelude.{◌≡◌, ℕ, ◌+◌, ◌*◌, ◌-◌, ◌<◌, ◌≤◌, ◌^◌, List, [], ◌∷◌, ◌++◌, map, reverse, drop, length, Option, Some, None, option_map}
 use Rattle.pb_wire.specs.Record.{Record}
 use Rattle.pb_wire.specs.declared.fault.PathStep.{PathStep}
@@ -12,13 +14,13 @@ use Rattle.pb_schema.specs.Types.{Types}
 use Rattle.pb_schema.specs.Context.{a_message, schema_of}
 use Rattle.pb_decode.specs.declared.error.DecodeError.{DecodeError}
 use Rattle.pb_decode.specs.declared.error.DecodeError.TheVariants as error
-use Rattle.pb_decode.specs.declared.part.Frame.{Frame as FrameKept}
-use Rattle.pb_decode.specs.declared.reader.Reader.{Reader}
-use Rattle.pb_decode.specs.declared.step.Step.{Step}
-use Rattle.pb_decode.specs.declared.step.Step.TheVariants as step
-use Rattle.pb_decode.specs.Frames.{Part, Scope, Frame, path_of, next_step, Stands}
-use Rattle.pb_decode.specs.PartView.{part_view, scope_view, frame_view}
-use Rattle.pb_decode.specs.After.{After}
+use Rattle.pb_decode.specs.declared.open.part.Frame.{Frame as FrameKept}
+use Rattle.pb_decode.specs.declared.reader.state.Reader.{Reader}
+use Rattle.pb_decode.specs.declared.tokens.step.Step.{Step}
+use Rattle.pb_decode.specs.declared.tokens.step.Step.TheVariants as step
+use Rattle.pb_decode.specs.Open.Frames.{Part, Scope, Frame, path_of, next_step, Stands}
+use Rattle.pb_decode.specs.Open.PartView.{part_view, scope_view, frame_view}
+use Rattle.pb_decode.specs.Tokens.After.{After}
 
 -- where a reader stands: the innermost part with its scope, the frames around it, innermost first, and what comes next at a position
 pub record State : Type 0 where

@@ -9,7 +9,7 @@ ghost use Rattle.pb_decode.specs.Frame.{IsFrameOf, BadFrame, error_later};
 
 use crate::error::DecodeError;
 use crate::from_device::read_pieces;
-use crate::origin::{begin_empty, finish_message};
+use crate::reader::origin::{begin_empty, finish_message};
 use pb_schema::{MessageId, Pool};
 use pb_value::DynamicMessage;
 use pb_wire::{Input, Limits};

@@ -11,14 +11,14 @@ ghost use Rattle.pb_value.specs.Data.{Message};
 ghost use Rattle.pb_value.specs.Derives.{Text};
 ghost use Rattle.pb_decode.specs.declared.error.DecodeError.TheVariants.{Device};
 ghost use Rattle.pb_decode.specs.Reader.{state_view};
-ghost use Rattle.pb_decode.specs.Origin.{Origin, origin, TookFrom};
+ghost use Rattle.pb_decode.specs.Reader.Origin.{Origin, origin, TookFrom};
 ghost use Rattle.pb_decode.specs.FromDevice.{IfRefused, IsNoFault, TellsFailures, TakesAtMost};
 ghost use Rattle.pb_decode.specs.Loops.{ReadsOn, ToldOf};
 
 use crate::error::DecodeError;
-use crate::fault::too_large;
-use crate::origin::{begin_empty, finish_message, take_onward};
 use crate::push::Reading;
+use crate::reader::fault::too_large;
+use crate::reader::origin::{begin_empty, finish_message, take_onward};
 use pb_schema::{MessageId, Pool};
 use pb_value::DynamicMessage;
 use pb_wire::{Input, Limits};

@@ -15,13 +15,13 @@ ghost use Rattle.pb_value.specs.WellFormed.{IsWellFormed};
 ghost use Rattle.pb_value.specs.Derives.{Derives, Text};
 ghost use Rattle.pb_decode.specs.declared.error.DecodeError.TheVariants.{Memory};
 ghost use Rattle.pb_decode.specs.Reader.{state_view, IfFault};
-ghost use Rattle.pb_decode.specs.Origin.{origin, further, TookFrom};
+ghost use Rattle.pb_decode.specs.Reader.Origin.{origin, further, TookFrom};
 ghost use Rattle.pb_decode.specs.Onto.{IsTextOnto};
 
 use crate::error::DecodeError;
-use crate::fault::too_large;
-use crate::origin::{begin_at, finish_message, take_onward};
 use crate::push::Reading;
+use crate::reader::fault::too_large;
+use crate::reader::origin::{begin_at, finish_message, take_onward};
 use pb_schema::{MessageId, Pool};
 use pb_value::{Body, DynamicMessage};
 use pb_wire::Limits;

@@ -1,0 +1,3 @@
+-- What ends, and goes into what holds it.
+pub mod Closing
+pub mod Ended

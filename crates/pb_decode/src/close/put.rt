@@ -1,0 +1,110 @@
+//! Messages that are whole go where they belong.
+
+ghost use Rattle.std.specs.Prelude.{◌≡◌, ◌<◌, ◌-◌, ◌^◌, ℕ, true, false, List, ◌∷◌, Some, length, OnOk, IfOk, IfErr};
+ghost use Rattle.pb_wire.specs.Fault.{Place, HasTag};
+ghost use Rattle.pb_wire.specs.Record.{Record};
+ghost use Rattle.pb_value.specs.View.{body_view};
+ghost use Rattle.pb_decode.specs.Open.Frames.{put_message as put_message_view, CanHold, Frame as FrameView, frame_of, Scope as ScopeView, message_part, one_more_in, up_to, Stands};
+ghost use Rattle.pb_decode.specs.declared.error.DecodeError.TheVariants.{Memory};
+ghost use Rattle.pb_decode.specs.Open.PartView.{part_view, scope_view};
+ghost use Rattle.pb_decode.specs.Open.Occurrences.{counts_view};
+
+use crate::error::{DecodeError, memory_alone};
+use crate::open::part::{Part, Scope, Slot};
+use pb_schema::{MessageId, Pool};
+use pb_value::{Body, Content, Value, push_element, store};
+use std::alloc::Global;
+
+/// Puts a message into a slot of the message that holds it: into the field of one value, or at the end of a list.
+fn put_in_message(
+    alloc: Global,
+    pool: &Pool,
+    kind: MessageId,
+    body: &mut Body,
+    slot: Slot,
+    message: Body,
+) -> Result<(), DecodeError>
+    requires { CanHold pool.now (message_part kind.0 (body_view body.old)) }
+    ensures put { OnOk result (message_part kind.0 (body_view body.new) ≡ put_message_view pool.now slot (message_part kind.0 (body_view body.old)) (body_view message)) }
+    ensures memory { IfErr result (λ e. e ≡ Memory) }
+{
+    match slot {
+        Slot::One(shape, number) => {
+            let content = Content::One(Value::Message(message));
+            store(pool, kind, body, shape, number, content).map_err(memory_alone)
+        }
+        Slot::List(number) => {
+            push_element(alloc, body, number, Value::Message(message)).map_err(memory_alone)
+        }
+        Slot::Map(_) | Slot::Entry | Slot::Unknown(_) => Ok(()),
+    }
+}
+
+/// Puts a message into a slot of the part that holds it: of an entry, as its value.
+pub(crate) fn put_message(
+    alloc: Global,
+    pool: &Pool,
+    slot: Slot,
+    outer: &mut Part,
+    message: Body,
+) -> Result<(), DecodeError>
+    requires { CanHold pool.now (part_view outer.old) }
+    ensures put { OnOk result (part_view outer.new ≡ put_message_view pool.now slot (part_view outer.old) (body_view message)) }
+    ensures memory { IfErr result (λ e. e ≡ Memory) }
+{
+    match outer {
+        Part::Message(kind, body) => {
+            put_in_message(alloc, pool, *kind, body, slot, message)?;
+            Ok(())
+        }
+        Part::Entry {
+            key_kind: _,
+            value_kind: _,
+            key: _,
+            value,
+        } => match slot {
+            Slot::Entry => {
+                *value = Some(Value::Message(message));
+                Ok(())
+            }
+            Slot::One(_, _) | Slot::List(_) | Slot::Map(_) | Slot::Unknown(_) => Ok(()),
+        },
+        Part::Group(_) => Ok(()),
+    }
+}
+
+/// Counts one more record of a number in a part.
+pub(crate) fn count_one(scope: &mut Scope, number: u32) -> Result<(), DecodeError>
+    requires { counts_view scope.old.occurrences number < 2 ^ 32 - 1 }
+    ensures more { OnOk result (scope_view scope.new ≡ one_more_in number (scope_view scope.old)) }
+    ensures same_end { OnOk result (scope.new.end ≡ scope.old.end) }
+    ensures memory { IfErr result (λ e. e ≡ Memory) }
+{
+    scope.occurrences.add(number)?;
+    Ok(())
+}
+
+/// A message whose known end is reached, or whose end tag is there, goes into its slot, and its record is counted: one stands
+/// in what holds it.
+pub(crate) fn close_message(
+    alloc: Global,
+    pool: &Pool,
+    outer: &mut Part,
+    scope: &mut Scope,
+    number: u32,
+    slot: Slot,
+    message: Body,
+) -> Result<(), DecodeError>
+    requires can { CanHold pool.now (part_view outer.old) }
+    requires few { counts_view scope.old.occurrences number < 2 ^ 32 - 1 }
+    ensures same_end { OnOk result (scope.new.end ≡ scope.old.end) }
+    ensures stands { (m depth levels k : ℕ) (base : List Record) (p0 q : Place) (frames : List FrameView) (inner : ScopeView) → Stands pool.now m depth levels base p0 (frame_of (part_view outer.old) number slot false (scope_view scope.old) ∷ frames) (message_part k (body_view message)) inner q
+        → q.known ≡ Some 0 → OnOk result (Stands pool.now m depth levels base p0 frames (part_view outer.new) (scope_view scope.new) (up_to scope.old.end q)) }
+    ensures behind { (m depth levels k : ℕ) (base : List Record) (p0 q w : Place) (frames : List FrameView) (inner : ScopeView) → Stands pool.now m depth levels base p0 (frame_of (part_view outer.old) number slot true (scope_view scope.old) ∷ frames) (message_part k (body_view message)) inner q
+        → HasTag q number 4 w → OnOk result (Stands pool.now m depth levels base p0 frames (part_view outer.new) (scope_view scope.new) w) }
+    ensures memory { IfErr result (λ e. e ≡ Memory) }
+{
+    put_message(alloc, pool, slot, outer, message)?;
+    count_one(scope, number)?;
+    Ok(())
+}

@@ -1,0 +1,76 @@
+//! Elements of a packed list.
+
+ghost use Rattle.std.specs.Prelude.{◌≡◌, ◌≢◌, ◌+◌, ◌<◌, ◌^◌, ℕ, List, Option, Some, OnOk, IfOk, IfErr, IfNone};
+ghost use Rattle.pb_wire.specs.Record.{Record, wire_type as type_of};
+ghost use Rattle.pb_wire.specs.Fault.{Place};
+ghost use Rattle.pb_schema.specs.Rules.{IsPool};
+ghost use Rattle.pb_schema.specs.Kinds.{wire_type_of};
+ghost use Rattle.pb_decode.specs.declared.tokens.step.Step.TheVariants.{Elements};
+ghost use Rattle.pb_decode.specs.declared.error.DecodeError.TheVariants.{Memory};
+ghost use Rattle.pb_decode.specs.Open.Frames.{CanHold};
+ghost use Rattle.pb_decode.specs.Tokens.Number.{number_view};
+ghost use Rattle.pb_decode.specs.Tokens.Numbers.{Follows};
+ghost use Rattle.pb_decode.specs.Open.PartView.{part_view};
+ghost use Rattle.pb_decode.specs.Reader.{state_view, left_of, here, Reads, IsReading, Taken, Passes, IfFault, Told, AfterAt};
+ghost use Rattle.pb_decode.specs.Reader.Waiting.{Waits};
+
+use crate::error::DecodeError;
+use crate::reader::fault::fault_at;
+use crate::reader::state::{Reader, left, number_at};
+use crate::tokens::number::Number;
+use crate::tokens::number_token::NumberToken;
+use crate::values::put_number::put_element;
+use pb_schema::{Kind, Pool};
+use std::alloc::Global;
+
+/// Puts an element of so many bytes at the end of its list, behind which the reader then stands.
+fn pass_element(
+    alloc: Global,
+    pool: &Pool,
+    reader: &mut Reader,
+    number: u32,
+    kind: Kind,
+    value: Number,
+    size: usize,
+) -> Result<(), DecodeError>
+    requires can { CanHold pool.now (part_view reader.old.part) }
+    requires fits { reader.old.at + size < 2 ^ 32 }
+    ensures at { OnOk result ((reader.new.at ≡ reader.old.at + size) × (reader.new.step ≡ reader.old.step)) }
+    ensures same_end { OnOk result (reader.new.scope.end ≡ reader.old.scope.end) }
+    ensures goes_on { (m depth levels : ℕ) (base : List Record) (p0 w : Place) (rest : List ℕ) (outer : Option ℕ) → Reads pool.now m depth levels base p0 (state_view reader.old) rest → reader.old.step ≡ Elements number kind outer
+        → type_of (number_view value) ≡ wire_type_of kind → Follows (here (state_view reader.old) rest) (number_view value) w → OnOk result (AfterAt pool.now m depth levels base p0 (state_view reader.new) w) }
+    ensures memory { IfErr result (λ e. e ≡ Memory) }
+{
+    put_element(alloc, pool, &mut reader.part, number, kind, value)?;
+    reader.at += size as u32;
+    Ok(())
+}
+
+/// Takes an element of a packed list.
+pub(crate) fn take_element(
+    alloc: Global,
+    pool: &Pool,
+    reader: &mut Reader,
+    number: u32,
+    kind: Kind,
+    outer: Option<u32>,
+    bytes: &[u8],
+) -> Result<Option<usize>, DecodeError>
+    requires rules { IsPool pool.now }
+    requires reading { IsReading pool.now (state_view reader.old) bytes.now }
+    requires step { reader.old.step ≡ Elements number kind outer }
+    requires goes_on { left_of (state_view reader.old) ≢ Some 0 }
+    ensures passes { IfOk result (λ o. Passes (state_view reader.old) bytes.now (state_view reader.new) o) }
+    ensures taken { (m depth levels : ℕ) (base : List Record) (p0 : Place) → Reads pool.now m depth levels base p0 (state_view reader.old) bytes.now → IfOk result (λ o. Taken pool.now m depth levels base p0 (state_view reader.new) bytes.now o) }
+    ensures waits { IfOk result (λ o. IfNone o (Waits (state_view reader.new) bytes.now)) }
+    ensures refused { (m depth levels : ℕ) (base : List Record) (p0 : Place) → Reads pool.now m depth levels base p0 (state_view reader.old) bytes.now → IfErr result (λ e. IfFault e (Told pool.now m depth p0)) }
+{
+    match number_at(kind.wire_type(), bytes, left(reader)) {
+        NumberToken::Whole(value, size) => {
+            pass_element(alloc, pool, reader, number, kind, value, size)?;
+            Ok(Some(size))
+        }
+        NumberToken::Short => Ok(None),
+        NumberToken::Fault(cause) => Err(fault_at(alloc, reader, reader.at, cause)),
+    }
+}
