@@ -6,3 +6,4 @@ pub mod Purposes
 pub mod KnownPurpose
 pub mod Occurrences
 pub mod Openings
+pub mod Opens

@@ -2,3 +2,4 @@
 pub mod Put
 pub mod PayloadValue
 pub mod Run
+pub mod Puts

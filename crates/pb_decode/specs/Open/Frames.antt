@@ -134,6 +134,10 @@ abbrev pub path_of : List Frame → List PathStep
 path_of [] = []
 path_of (frame ∷ frames) = path_of frames ++ next_step frame.number frame.scope ∷ []
 
+-- and on to the record of a number that comes next in the innermost part
+abbrev pub path_to : List Frame → Scope → ℕ → List PathStep
+path_to frames scope n = path_of frames ++ next_step n scope ∷ []
+
 -- the known end of this place is at this position
 abbrev pub EndsAt : Place → Option ℕ → Type 0
 EndsAt p None = p.known ≡ None

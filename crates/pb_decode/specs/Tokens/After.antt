@@ -12,8 +12,7 @@ use Rattle.pb_schema.specs.Kinds.{closed_enum}
 use Rattle.pb_schema.specs.Packed.{elements, numbers_of}
 use Rattle.pb_schema.specs.Closed.{is_undeclared}
 use Rattle.pb_schema.specs.Context.{element_of}
-use Rattle.pb_value.specs.Data.{Message, scalar, body, fields_of, unknown_of}
-use Rattle.pb_value.specs.Change.{push_each, with_fields}
+use Rattle.pb_value.specs.Data.{Message, scalar}
 use Rattle.pb_decode.specs.declared.open.part.Slot.TheVariants as slot
 use Rattle.pb_decode.specs.declared.open.purpose.Purpose.{Purpose}
 use Rattle.pb_decode.specs.declared.open.purpose.Purpose.TheVariants as purpose
@@ -22,6 +21,8 @@ use Rattle.pb_decode.specs.declared.tokens.step.Step.TheVariants as step
 use Rattle.pb_decode.specs.Open.Frames.{Part, message_part, Scope, Frame, EndsAt, Stands}
 use Rattle.pb_decode.specs.Open.Purposes.{Means, part_context}
 use Rattle.pb_decode.specs.Values.PayloadValue.{IsBytesPurpose}
+use Rattle.pb_decode.specs.Values.Put.{with_record}
+use Rattle.pb_decode.specs.Values.Run.{with_each}
 
 -- a tag's number, its wire type and what its record is for
 pub record Tag : Type 0 where
@@ -50,7 +51,7 @@ pub record Elements (e : Element) (p : Place) (u : Place) (front : List ℕ) : T
 -- the message with a number at the end of the list of number n; one that a closed enum doesn't declare goes among the unknown records
 abbrev pub with_number : Types → ℕ → Kind → Message → Payload → Message
 with_number pool n k v p =
-    if is_undeclared pool (closed_enum k) p then body (fields_of v) (unknown_of v ++ record { number = n; payload = p } ∷ []) else with_fields v (push_each n (map scalar (elements k p)) (fields_of v))
+    if is_undeclared pool (closed_enum k) p then with_record n p v else with_each n (map scalar (elements k p)) v
 
 abbrev pub with_numbers : Types → ℕ → Kind → List Payload → Message → Message
 with_numbers pool n k [] v = v
@@ -59,7 +60,7 @@ with_numbers pool n k (p ∷ ps) v = with_numbers pool n k ps (with_number pool 
 -- the message with the elements that these bytes spell at the end of the list of number n, each number of a closed enum where it belongs
 abbrev pub with_elements : Types → ℕ → Kind → List ℕ → Message → Message
 with_elements pool n (kind.ClosedEnum e) front v = with_numbers pool n (kind.ClosedEnum e) (numbers_of 0 front) v
-with_elements pool n k front v = with_fields v (push_each n (map scalar (elements k (len front))) (fields_of v))
+with_elements pool n k front v = with_each n (map scalar (elements k (len front))) v
 
 -- what a record of this purpose opens stands a level below; the value of an entry stands at the level of the entry
 abbrev pub goes_down : Purpose → Bool

@@ -4,7 +4,7 @@ use Rattle.pb_wire.specs.Record.{Payload}
 use Rattle.pb_schema.specs.declared.types.Kind.{Kind}
 use Rattle.pb_schema.specs.Types.{Types, message_fields}
 use Rattle.pb_schema.specs.Scalar.{Scalar, int32, int64, uint32, uint64, boolean, float, double, enum, text, bytes}
-use Rattle.pb_value.specs.Data.{Datum, scalar, message, one, body, fields_of, unknown_of}
+use Rattle.pb_value.specs.Data.{Datum, scalar, Message, message, one, body, fields_of, unknown_of}
 use Rattle.pb_value.specs.Change.{stored_at, push_at, with_fields}
 use Rattle.pb_decode.specs.declared.open.purpose.Purpose.{Purpose}
 use Rattle.pb_decode.specs.declared.open.purpose.Purpose.TheVariants as purpose
@@ -54,8 +54,12 @@ put_datum pool n (purpose.Message m s) p d = p
 put_datum pool n (purpose.Entry key k) p d = p
 put_datum pool n purpose.Unknown p d = p
 
+-- a message with a record after its unknown ones
+abbrev pub with_record : ℕ → Payload → Message → Message
+with_record n p v = body (fields_of v) (unknown_of v ++ record { number = n; payload = p } ∷ [])
+
 -- an unknown record into the part that it stands in; those of an entry are dropped
 abbrev pub put_record : ℕ → Payload → Part → Part
-put_record n p (message_part m v) = message_part m (body (fields_of v) (unknown_of v ++ record { number = n; payload = p } ∷ []))
+put_record n p (message_part m v) = message_part m (with_record n p v)
 put_record n p (entry_part key kd x d) = entry_part key kd x d
 put_record n p (group_part us) = group_part (us ++ record { number = n; payload = p } ∷ [])
