@@ -44,7 +44,8 @@ put_message pool (slot.Unknown n) p w = p
 
 -- A group among the unknown records of a part; those of an entry are dropped. No other slot takes one.
 abbrev pub put_group : Slot → Part → List Record → Part
-put_group (slot.Unknown n) (message_part m v) us = message_part m (body (fields_of v) (unknown_of v ++ record { number = n; payload = group (group_of us) } ∷ []))
+put_group (slot.Unknown n) (message_part m v) us =
+    message_part m (body (fields_of v) (unknown_of v ++ record { number = n; payload = group (group_of us) } ∷ []))
 put_group (slot.Unknown n) (entry_part key k x d) us = entry_part key k x d
 put_group (slot.Unknown n) (group_part vs) us = group_part (vs ++ record { number = n; payload = group (group_of us) } ∷ [])
 put_group (slot.One s n) p us = p
@@ -78,7 +79,8 @@ CanHold pool (group_part us) = Unit {0}
 -- a part is what these records make of it
 abbrev pub IsWorth : Types → ℕ → Part → List Record → Type 0
 IsWorth pool levels (message_part m v) rs = v ≡ value_within pool levels m rs
-IsWorth pool levels (entry_part key k x d) rs = (x ≡ last_of (all_elements key (fitting (key_field key) rs))) × (d ≡ one_value (value_within pool levels) k (fitting (value_field k) rs))
+IsWorth pool levels (entry_part key k x d) rs =
+    (x ≡ last_of (all_elements key (fitting (key_field key) rs))) × (d ≡ one_value (value_within pool levels) k (fitting (value_field k) rs))
 IsWorth pool levels (group_part us) rs = us ≡ rs
 
 -- the part has this form
@@ -162,8 +164,10 @@ Completes pool levels inner frame rs now earlier =
 -- What a part of this form goes on from: its types are those of the pool; the value of the earlier records of a message is well formed and less deep than
 -- may be; an entry and a group have none, and no value of an entry is a group or of a closed enum.
 abbrev pub GoesOnFrom : Types → ℕ → Part → List Record → Type 0
-GoesOnFrom pool inner (message_part m v) earlier = (m < length pool.messages) × IsBody pool m (value_within pool inner m earlier) × (message_depth (value_within pool inner m earlier) < inner)
-GoesOnFrom pool inner (entry_part key k x d) earlier = (earlier ≡ []) × IsTrue (is_key_kind key) × NamesType (length pool.messages) (length pool.enums) k × (is_of_proto2 k ≡ false)
+GoesOnFrom pool inner (message_part m v) earlier =
+    (m < length pool.messages) × IsBody pool m (value_within pool inner m earlier) × (message_depth (value_within pool inner m earlier) < inner)
+GoesOnFrom pool inner (entry_part key k x d) earlier =
+    (earlier ≡ []) × IsTrue (is_key_kind key) × NamesType (length pool.messages) (length pool.enums) k × (is_of_proto2 k ≡ false)
 GoesOnFrom pool inner (group_part us) earlier = earlier ≡ []
 
 -- A slot of the first part takes the second: a message goes into a field, a list or an entry, an entry into a map whose keys are of the kind of its
@@ -201,22 +205,27 @@ Takes (slot.Unknown n) (group_part vs) (group_part us) = Unit {0}
 
 -- These frames, innermost first, hold what is open: it has so many levels left and may hold so many levels of values, stands below this path, begins at p,
 -- and goes on from the earlier records.
-pub data Held (pool : Types) (m depth levels : ℕ) (base : List Record) (p0 : Place) : List Frame → Part → Open Context → ℕ → ℕ → List PathStep → Place → List Record → Type 0 where
+pub data Held (pool : Types) (m depth levels : ℕ) (base : List Record) (p0 : Place) :
+    List Frame → Part → Open Context → ℕ → ℕ → List PathStep → Place → List Record → Type 0 where
   at_top :
       {now : Part} {o : Open Context} {room inner : ℕ} {path : List PathStep} {p : Place} {earlier : List Record}
-      → (v : Message) → IsSameForm now (message_part m v) → o ≡ records (a_message m) → room ≡ depth → inner ≡ levels → path ≡ [] → p ≡ p0 → earlier ≡ base → GoesOnFrom pool inner now earlier
+      → (v : Message) → IsSameForm now (message_part m v) → o ≡ records (a_message m) → room ≡ depth → inner ≡ levels
+      → path ≡ [] → p ≡ p0 → earlier ≡ base → GoesOnFrom pool inner now earlier
       → Held pool m depth levels base p0 [] now o room inner path p earlier
   inside :
-      {frame : Frame} {frames : List Frame} {now : Part} {o a : Open Context} {below outer inner : ℕ} {path steps : List PathStep} {p q u : Place} {rs before earlier : List Record}
+      {frame : Frame} {frames : List Frame} {now : Part} {o a : Open Context} {below outer inner : ℕ}
+      {path steps : List PathStep} {p q u : Place} {rs before earlier : List Record}
       → Held pool m depth levels base p0 frames frame.part a frame.scope.room outer steps p before → Behind (schema_of pool) a frame.scope.room p rs q
-      → Begun (schema_of pool) a frame.scope.room frame.number q o below u → IsPartOf frame.part (context_of a) → CanHold pool frame.part → frame.scope.room < outer
-      → Completes pool outer inner frame (before ++ rs) now earlier → path ≡ steps ++ step frame.number rs ∷ [] → CountsOf frame.scope.counts rs → EndsAt q frame.scope.end
+      → Begun (schema_of pool) a frame.scope.room frame.number q o below u → IsPartOf frame.part (context_of a) → CanHold pool frame.part
+      → frame.scope.room < outer → Completes pool outer inner frame (before ++ rs) now earlier → path ≡ steps ++ step frame.number rs ∷ []
+      → CountsOf frame.scope.counts rs → EndsAt q frame.scope.end
       → GoesOnFrom pool inner now earlier → Takes frame.slot frame.part now × (opening_type frame.group ≡ open_type o)
       → Held pool m depth levels base p0 (frame ∷ frames) now o below inner path u earlier
 
 -- What there is of the innermost part is worth the earlier records and those behind the place where one stands, and its scope tells what is left there
 -- and what stood there.
-pub record Stands (pool : Types) (m depth levels : ℕ) (base : List Record) (p0 : Place) (frames : List Frame) (now : Part) (scope : Scope) (q : Place) : Type 0 where
+pub record Stands
+    (pool : Types) (m depth levels : ℕ) (base : List Record) (p0 : Place) (frames : List Frame) (now : Part) (scope : Scope) (q : Place) : Type 0 where
   pub open_now : Open Context
   pub inner : ℕ
   pub path : List PathStep

@@ -49,7 +49,8 @@ TakesNext pool old new rest result =
 abbrev pub TakesWhole : Types → Reader → Reader → List ℕ → Result (Option ℕ) DecodeError → Type 0
 TakesWhole pool old new rest result =
     (m depth levels : ℕ) (base : List Record) (p0 : Place)
-    → Reads pool m depth levels base p0 (state_view old) rest → IfOk result (λ o. IfSome o (λ n. Reads pool m depth levels base p0 (state_view new) (drop n rest)))
+    → Reads pool m depth levels base p0 (state_view old) rest
+    → IfOk result (λ o. IfSome o (λ n. Reads pool m depth levels base p0 (state_view new) (drop n rest)))
 
 -- so many bytes are taken
 abbrev pub TakesMany : Types → Reader → Reader → List ℕ → Result ℕ DecodeError → Type 0

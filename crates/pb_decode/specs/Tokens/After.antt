@@ -100,18 +100,23 @@ pub data Underway (pool : Types) (room : ℕ) (v : Part) (q : Place) : Step → 
   nothing : {next : Step} {now : Part} {u : Place} → next ≡ step.Tag → now ≡ v → u ≡ q → Underway pool room v q next now u
   a_tag :
       {next : Step} {now : Part} {u : Place} (t : Tag)
-      → awaited next ≡ Some t → HasTag q t.number t.type u → Means pool (part_context v) t.number t.type t.meant → IsRoomFor room t.meant → now ≡ v → Underway pool room v q next now u
+      → awaited next ≡ Some t → HasTag q t.number t.type u → Means pool (part_context v) t.number t.type t.meant
+      → IsRoomFor room t.meant → now ≡ v → Underway pool room v q next now u
   a_length :
       {next : Step} {now : Part} {r u : Place} {k n : ℕ} {p : Purpose}
-      → next ≡ step.Payload k p n → HasTag q k 2 r → HasLength r n u → Means pool (part_context v) k 2 p → IsRoomFor room p → IsBytesPurpose p → now ≡ v → Underway pool room v q next now u
+      → next ≡ step.Payload k p n → HasTag q k 2 r → HasLength r n u → Means pool (part_context v) k 2 p
+      → IsRoomFor room p → IsBytesPurpose p → now ≡ v → Underway pool room v q next now u
   some_elements :
       {next : Step} {now : Part} {r t u : Place} {k n m : ℕ} {outer : Option ℕ} {kd : Kind} {w : Message} {front : List ℕ}
-      → next ≡ step.Elements k kd outer → HasTag q k 2 r → HasLength r n t → Means pool (part_context v) k 2 (purpose.Packed kd) → Elements (element_of kd) (payload_at t n) u front
-      → v ≡ message_part m w → now ≡ message_part m (with_elements pool k kd front w) → Underway pool room v q next now u
+      → next ≡ step.Elements k kd outer → HasTag q k 2 r → HasLength r n t → Means pool (part_context v) k 2 (purpose.Packed kd)
+      → Elements (element_of kd) (payload_at t n) u front → v ≡ message_part m w
+      → now ≡ message_part m (with_elements pool k kd front w) → Underway pool room v q next now u
 
 -- These frames and this part are what there is of the bytes from p0 on, and one stands at u, where `next` comes. The scope is that of the part; inside
 -- a packed list its end is the list's.
-pub record After (pool : Types) (m depth levels : ℕ) (base : List Record) (p0 : Place) (frames : List Frame) (next : Step) (now : Part) (scope : Scope) (u : Place) : Type 0 where
+pub record After
+    (pool : Types) (m depth levels : ℕ) (base : List Record) (p0 : Place) (frames : List Frame) (next : Step) (now : Part) (scope : Scope)
+    (u : Place) : Type 0 where
   pub before : Part
   pub place : Place
   pub stands : Stands pool m depth levels base p0 frames before (part_scope next scope) place

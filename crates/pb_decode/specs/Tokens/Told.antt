@@ -77,14 +77,16 @@ IsTooDeep pool part room number type result =
 -- bytes that are refused where a length comes next
 abbrev pub RefusesLengthBytes : {A : Type 0} → List ℕ → Option ℕ → Result A Cause → Type 0
 RefusesLengthBytes bytes left result =
-    (pool : Types) (m depth levels at number : ℕ) (base : List Record) (p0 : Place) (frames : List Frame) (scope : Scope) (now : Part) (next : Step) (meant : Purpose)
+    (pool : Types) (m depth levels at number : ℕ) (base : List Record) (p0 : Place) (frames : List Frame) (scope : Scope) (now : Part) (next : Step)
+    (meant : Purpose)
     → After pool m depth levels base p0 frames next now scope (given_at at left bytes) → awaited next ≡ Some (tag number 2 meant)
     → IfErr result (λ c. IsBad pool m depth p0 (fault at (path_to frames scope number) c))
 
 -- a length that is refused, behind which a payload would begin at a position in a part with this end
 abbrev pub RefusesLength : {A : Type 0} → ℕ → ℕ → Option ℕ → Result A Cause → Type 0
 RefusesLength n begin end result =
-    (pool : Types) (m depth levels number : ℕ) (base : List Record) (p0 u t : Place) (frames : List Frame) (scope : Scope) (now : Part) (next : Step) (meant : Purpose)
+    (pool : Types) (m depth levels number : ℕ) (base : List Record) (p0 u t : Place) (frames : List Frame) (scope : Scope) (now : Part) (next : Step)
+    (meant : Purpose)
     → After pool m depth levels base p0 frames next now scope u → awaited next ≡ Some (tag number 2 meant) → Reads u n t → t.at ≡ begin → scope.end ≡ end
     → IfErr result (λ c. IsBad pool m depth p0 (fault u.at (path_to frames scope number) c))
 

@@ -56,7 +56,7 @@ RefusesPayload pool number meant bytes old result =
     (m depth levels n : ℕ) (base : List Record) (p0 u w : Place) (frames : List Frame) (scope : Scope)
     → After pool m depth levels base p0 frames (Payload number meant n) (part_view old) scope u → length bytes ≡ n → Moves u bytes w
     → IfErr result (λ e. IfBadText e (λ valid.
-      Bad (schema_of pool) (records (a_message m)) depth p0 (below (path_of frames) (fault (u.at + valid) (next_step number scope ∷ []) BadText))))
+    Bad (schema_of pool) (records (a_message m)) depth p0 (below (path_of frames) (fault (u.at + valid) (next_step number scope ∷ []) BadText))))
 
 -- the value at the front of these bytes, with so many before the known end: with it at the end of the list the list goes on behind it
 abbrev pub TellsElement : Types → Kind → List ℕ → Option ℕ → Option (Value × ℕ) → Type 0
@@ -64,7 +64,8 @@ TellsElement pool kind bytes left result =
     (m depth levels at number : ℕ) (outer : Option ℕ) (base : List Record) (p0 : Place) (frames : List Frame) (scope : Scope) (now : PartView)
     → After pool m depth levels base p0 frames (Elements number kind outer) now scope (given_at at left bytes)
     → IfSome result (λ r.
-      After pool m depth levels base p0 frames (Elements number kind outer) (put_each number (value_view r.0 ∷ []) now) scope (passed (given_at at left bytes) r.1))
+    After pool m depth levels base p0 frames (Elements number kind outer) (put_each number (value_view r.0 ∷ []) now) scope
+    (passed (given_at at left bytes) r.1))
 
 -- the same of the values of a run
 abbrev pub TellsRun : Types → Kind → List ℕ → Option ℕ → Result (Vec Value × ℕ) DecodeError → Type 0
@@ -72,4 +73,5 @@ TellsRun pool kind bytes left result =
     (m depth levels at number : ℕ) (outer : Option ℕ) (base : List Record) (p0 : Place) (frames : List Frame) (scope : Scope) (now : PartView)
     → After pool m depth levels base p0 frames (Elements number kind outer) now scope (given_at at left bytes)
     → IfOk result (λ r.
-      After pool m depth levels base p0 frames (Elements number kind outer) (put_each number (map value_view r.0.items) now) scope (passed (given_at at left bytes) r.1))
+    After pool m depth levels base p0 frames (Elements number kind outer) (put_each number (map value_view r.0.items) now) scope
+    (passed (given_at at left bytes) r.1))

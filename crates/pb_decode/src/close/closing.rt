@@ -1,19 +1,18 @@
 //! Entries and groups that are whole go where they belong.
 
-ghost use Rattle.std.specs.Prelude.{◌≡◌, ◌<◌, ◌-◌, ◌^◌, ℕ, true, false, List, ◌∷◌, Some, IsTrue, unwrap_or, option_map, OnOk, IfOk, IfErr};
-ghost use Rattle.pb_wire.specs.Fault.{Place, HasTag};
-ghost use Rattle.pb_wire.specs.Record.{Record};
+ghost use Rattle.std.specs.Prelude.{◌≡◌, ◌<◌, ◌-◌, ◌^◌, IsTrue, unwrap_or, option_map, OnOk, IfErr};
 ghost use Rattle.pb_wire.specs.Unknown.{records_of};
 ghost use Rattle.pb_schema.specs.Types.{Types};
 ghost use Rattle.pb_schema.specs.Kinds.{default_of, is_key_kind};
 ghost use Rattle.pb_value.specs.View.{body_view, key_view, value_view};
 ghost use Rattle.pb_value.specs.Value.{missing};
 ghost use Rattle.pb_value.specs.Data.{empty};
-ghost use Rattle.pb_decode.specs.Open.Frames.{put_entry as put_entry_view, put_group as put_group_view, entry_part, group_part, Frame as FrameView, frame_of, Scope as ScopeView, up_to, Stands};
+ghost use Rattle.pb_decode.specs.Open.Frames.{put_entry as put_entry_view, put_group as put_group_view, entry_part, group_part};
 ghost use Rattle.pb_decode.specs.Close.Closing.{HasRoomFor};
 ghost use Rattle.pb_decode.specs.Open.Occurrences.{counts_view};
-ghost use Rattle.pb_decode.specs.Open.PartView.{part_view, scope_view};
+ghost use Rattle.pb_decode.specs.Open.PartView.{part_view};
 ghost use Rattle.pb_decode.specs.declared.error.DecodeError.TheVariants.{Memory};
+ghost use Rattle.pb_decode.specs.Close.Closes.{ClosesAtEnd, ClosesAtTag};
 
 use crate::close::put::count_one;
 use crate::error::{DecodeError, memory_alone};
@@ -103,7 +102,8 @@ pub(crate) fn put_entry(
 ) -> Result<(), DecodeError>
     requires key { IsTrue (is_key_kind key_kind) }
     requires fits { HasRoomFor slot (part_view outer.old) key_kind (option_map key_view key) }
-    ensures put { OnOk result (part_view outer.new ≡ put_entry_view slot (part_view outer.old) key_kind value_kind (option_map key_view key) (option_map value_view value)) }
+    ensures put { OnOk result (part_view outer.new
+        ≡ put_entry_view slot (part_view outer.old) key_kind value_kind (option_map key_view key) (option_map value_view value)) }
     ensures memory { IfErr result (λ e. e ≡ Memory) }
 {
     let key = key_or_default(alloc, key_kind, key);
@@ -164,8 +164,8 @@ pub(crate) fn close_entry(
     requires fits { HasRoomFor slot (part_view outer.old) key_kind (option_map key_view key) }
     requires few { counts_view scope.old.occurrences number < 2 ^ 32 - 1 }
     ensures same_end { OnOk result (scope.new.end ≡ scope.old.end) }
-    ensures stands { (pool : Types) (m depth levels : ℕ) (base : List Record) (p0 q : Place) (frames : List FrameView) (inner : ScopeView) → Stands pool m depth levels base p0 (frame_of (part_view outer.old) number slot false (scope_view scope.old) ∷ frames) (entry_part key_kind value_kind (option_map key_view key) (option_map value_view value)) inner q
-        → q.known ≡ Some 0 → OnOk result (Stands pool m depth levels base p0 frames (part_view outer.new) (scope_view scope.new) (up_to scope.old.end q)) }
+    ensures stands { (pool : Types) → ClosesAtEnd pool number slot
+        (entry_part key_kind value_kind (option_map key_view key) (option_map value_view value)) outer.old scope.old outer.new scope.new result }
     ensures memory { IfErr result (λ e. e ≡ Memory) }
 {
     put_entry(alloc, slot, outer, key_kind, value_kind, key, value)?;
@@ -184,8 +184,7 @@ pub(crate) fn close_group(
 ) -> Result<(), DecodeError>
     requires few { counts_view scope.old.occurrences number < 2 ^ 32 - 1 }
     ensures same_end { OnOk result (scope.new.end ≡ scope.old.end) }
-    ensures stands { (pool : Types) (m depth levels : ℕ) (base : List Record) (p0 q w : Place) (frames : List FrameView) (inner : ScopeView) → Stands pool m depth levels base p0 (frame_of (part_view outer.old) number slot true (scope_view scope.old) ∷ frames) (group_part (records_of records.items)) inner q
-        → HasTag q number 4 w → OnOk result (Stands pool m depth levels base p0 frames (part_view outer.new) (scope_view scope.new) w) }
+    ensures stands { (pool : Types) → ClosesAtTag pool number slot (group_part (records_of records.items)) outer.old scope.old outer.new scope.new result }
     ensures memory { IfErr result (λ e. e ≡ Memory) }
 {
     put_group(slot, outer, records)?;

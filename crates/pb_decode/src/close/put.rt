@@ -1,13 +1,12 @@
 //! Messages that are whole go where they belong.
 
-ghost use Rattle.std.specs.Prelude.{◌≡◌, ◌<◌, ◌-◌, ◌^◌, ℕ, true, false, List, ◌∷◌, Some, length, OnOk, IfOk, IfErr};
-ghost use Rattle.pb_wire.specs.Fault.{Place, HasTag};
-ghost use Rattle.pb_wire.specs.Record.{Record};
+ghost use Rattle.std.specs.Prelude.{◌≡◌, ◌<◌, ◌-◌, ◌^◌, OnOk, IfErr};
 ghost use Rattle.pb_value.specs.View.{body_view};
-ghost use Rattle.pb_decode.specs.Open.Frames.{put_message as put_message_view, CanHold, Frame as FrameView, frame_of, Scope as ScopeView, message_part, one_more_in, up_to, Stands};
+ghost use Rattle.pb_decode.specs.Open.Frames.{put_message as put_message_view, CanHold, message_part, one_more_in};
 ghost use Rattle.pb_decode.specs.declared.error.DecodeError.TheVariants.{Memory};
 ghost use Rattle.pb_decode.specs.Open.PartView.{part_view, scope_view};
 ghost use Rattle.pb_decode.specs.Open.Occurrences.{counts_view};
+ghost use Rattle.pb_decode.specs.Close.Closes.{ClosesMessageAtEnd, ClosesMessageAtTag};
 
 use crate::error::{DecodeError, memory_alone};
 use crate::open::part::{Part, Scope, Slot};
@@ -25,7 +24,8 @@ fn put_in_message(
     message: Body,
 ) -> Result<(), DecodeError>
     requires { CanHold pool.now (message_part kind.0 (body_view body.old)) }
-    ensures put { OnOk result (message_part kind.0 (body_view body.new) ≡ put_message_view pool.now slot (message_part kind.0 (body_view body.old)) (body_view message)) }
+    ensures put { OnOk result (message_part kind.0 (body_view body.new)
+        ≡ put_message_view pool.now slot (message_part kind.0 (body_view body.old)) (body_view message)) }
     ensures memory { IfErr result (λ e. e ≡ Memory) }
 {
     match slot {
@@ -98,10 +98,8 @@ pub(crate) fn close_message(
     requires can { CanHold pool.now (part_view outer.old) }
     requires few { counts_view scope.old.occurrences number < 2 ^ 32 - 1 }
     ensures same_end { OnOk result (scope.new.end ≡ scope.old.end) }
-    ensures stands { (m depth levels k : ℕ) (base : List Record) (p0 q : Place) (frames : List FrameView) (inner : ScopeView) → Stands pool.now m depth levels base p0 (frame_of (part_view outer.old) number slot false (scope_view scope.old) ∷ frames) (message_part k (body_view message)) inner q
-        → q.known ≡ Some 0 → OnOk result (Stands pool.now m depth levels base p0 frames (part_view outer.new) (scope_view scope.new) (up_to scope.old.end q)) }
-    ensures behind { (m depth levels k : ℕ) (base : List Record) (p0 q w : Place) (frames : List FrameView) (inner : ScopeView) → Stands pool.now m depth levels base p0 (frame_of (part_view outer.old) number slot true (scope_view scope.old) ∷ frames) (message_part k (body_view message)) inner q
-        → HasTag q number 4 w → OnOk result (Stands pool.now m depth levels base p0 frames (part_view outer.new) (scope_view scope.new) w) }
+    ensures stands { ClosesMessageAtEnd pool.now number slot (body_view message) outer.old scope.old outer.new scope.new result }
+    ensures behind { ClosesMessageAtTag pool.now number slot (body_view message) outer.old scope.old outer.new scope.new result }
     ensures memory { IfErr result (λ e. e ≡ Memory) }
 {
     put_message(alloc, pool, slot, outer, message)?;

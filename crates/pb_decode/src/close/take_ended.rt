@@ -1,17 +1,15 @@
 //! What ends where a reader stands is closed before the next token.
 
-ghost use Rattle.std.specs.Prelude.{◌≡◌, ◌≢◌, ◌⊎◌, ◌↔◌, ◌-◌, ◌<◌, ◌≤◌, ◌^◌, ℕ, List, [], Some, None, IsTrue, MatchBool, vec_len, OnOk, IfErr};
-ghost use Rattle.pb_wire.specs.Record.{Record};
-ghost use Rattle.pb_wire.specs.Fault.{Place};
-ghost use Rattle.pb_schema.specs.declared.types.Kind.{Kind as KindOf};
-ghost use Rattle.pb_schema.specs.Types.{Types};
+ghost use Rattle.std.specs.Prelude.{◌≡◌, ◌↔◌, ◌-◌, ◌<◌, ◌≤◌, ◌^◌, ℕ, List, Some, None, IsTrue, MatchBool, vec_len, OnOk, IfErr};
 ghost use Rattle.pb_schema.specs.Rules.{IsPool};
-ghost use Rattle.pb_decode.specs.declared.tokens.step.Step.TheVariants.{Tag, Elements};
+ghost use Rattle.pb_decode.specs.declared.tokens.step.Step.TheVariants.{Tag};
 ghost use Rattle.pb_decode.specs.declared.error.DecodeError.TheVariants.{Memory};
 ghost use Rattle.pb_decode.specs.Open.Occurrences.{counts_view};
 ghost use Rattle.pb_decode.specs.Open.Openings.{innermost_group};
-ghost use Rattle.pb_decode.specs.Reader.{state_view, frames_view, left_of, Reads, IsReading, weight, IfFault, Told};
+ghost use Rattle.pb_decode.specs.Reader.{state_view, frames_view, left_of, IsReading, weight};
 ghost use Rattle.pb_decode.specs.Close.Ended.{NothingEnds};
+ghost use Rattle.pb_decode.specs.Reader.Steps.{TellsFaultAnyway, KeepsReading};
+ghost use Rattle.pb_decode.specs.Close.Closes.{PartEnds, PartGoesOn, EndsList};
 
 use crate::close::closing::close_entry;
 use crate::close::put::{close_message, count_one};
@@ -35,7 +33,7 @@ fn is_at_end(reader: &Reader) -> bool
 
 /// Whether a part below the top ends at a tag.
 fn part_ends(reader: &Reader) -> bool
-    ensures { MatchBool result ((0 < vec_len reader.now.frames) × (left_of (state_view reader.now) ≡ Some 0)) ((frames_view reader.now.frames.items ≡ []) ⊎ (left_of (state_view reader.now) ≢ Some 0)) }
+    ensures { MatchBool result (PartEnds reader.now) (PartGoesOn reader.now) }
 {
     !reader.frames.is_empty() && is_at_end(reader)
 }
@@ -44,8 +42,7 @@ fn part_ends(reader: &Reader) -> bool
 fn end_list(reader: &mut Reader, number: u32, outer: Option<u32>) -> Result<(), DecodeError>
     requires few { counts_view reader.old.scope.occurrences number < 2 ^ 32 - 1 }
     ensures at { OnOk result ((reader.new.at ≡ reader.old.at) × (reader.new.step ≡ Tag)) }
-    ensures taken { (pool : Types) (m depth levels : ℕ) (kind : KindOf) (base : List Record) (p0 : Place) (rest : List ℕ) → IsPool pool → Reads pool m depth levels base p0 (state_view reader.old) rest → reader.old.step ≡ Elements number kind outer
-        → left_of (state_view reader.old) ≡ Some 0 → OnOk result (Reads pool m depth levels base p0 (state_view reader.new) rest) }
+    ensures taken { EndsList number outer reader.old reader.new result }
     ensures memory { IfErr result (λ e. e ≡ Memory) }
 {
     reader.scope.end = outer;
@@ -65,7 +62,7 @@ fn close_innermost(alloc: Global, pool: &Pool, reader: &mut Reader) -> Result<()
     requires no_group { innermost_group (frames_view reader.old.frames.items) ≡ None }
     ensures at { OnOk result ((reader.new.at ≡ reader.old.at) × (reader.new.step ≡ Tag)) }
     ensures fewer { OnOk result (vec_len reader.new.frames < vec_len reader.old.frames) }
-    ensures taken { (m depth levels : ℕ) (base : List Record) (p0 : Place) (rest : List ℕ) → Reads pool.now m depth levels base p0 (state_view reader.old) rest → OnOk result (Reads pool.now m depth levels base p0 (state_view reader.new) rest) }
+    ensures taken { KeepsReading pool.now reader.old reader.new result }
     ensures memory { IfErr result (λ e. e ≡ Memory) }
 {
     let Some(frame) = reader.frames.pop() else {
@@ -108,9 +105,9 @@ fn close_ended(alloc: Global, pool: &Pool, reader: &mut Reader) -> Result<(), De
     requires reading { (rest : List ℕ) × IsReading pool.now (state_view reader.old) rest }
     requires tag { reader.old.step ≡ Tag }
     ensures at { OnOk result ((reader.new.at ≡ reader.old.at) × (reader.new.step ≡ Tag)) }
-    ensures goes_on { OnOk result ((frames_view reader.new.frames.items ≡ []) ⊎ (left_of (state_view reader.new) ≢ Some 0)) }
-    ensures taken { (m depth levels : ℕ) (base : List Record) (p0 : Place) (rest : List ℕ) → Reads pool.now m depth levels base p0 (state_view reader.old) rest → OnOk result (Reads pool.now m depth levels base p0 (state_view reader.new) rest) }
-    ensures refused { (m depth levels : ℕ) (base : List Record) (p0 : Place) (rest : List ℕ) → Reads pool.now m depth levels base p0 (state_view reader.old) rest → IfErr result (λ e. IfFault e (Told pool.now m depth p0)) }
+    ensures goes_on { OnOk result (PartGoesOn reader.new) }
+    ensures taken { KeepsReading pool.now reader.old reader.new result }
+    ensures refused { TellsFaultAnyway pool.now reader.old result }
 {
     while part_ends(reader) {
         if innermost(&reader.frames).is_some() {
@@ -129,8 +126,8 @@ pub(crate) fn take_ended(alloc: Global, pool: &Pool, reader: &mut Reader) -> Res
     ensures at { OnOk result (reader.new.at ≡ reader.old.at) }
     ensures weight { OnOk result (weight reader.new.step ≤ weight reader.old.step) }
     ensures goes_on { OnOk result (NothingEnds (state_view reader.new)) }
-    ensures taken { (m depth levels : ℕ) (base : List Record) (p0 : Place) (rest : List ℕ) → Reads pool.now m depth levels base p0 (state_view reader.old) rest → OnOk result (Reads pool.now m depth levels base p0 (state_view reader.new) rest) }
-    ensures refused { (m depth levels : ℕ) (base : List Record) (p0 : Place) (rest : List ℕ) → Reads pool.now m depth levels base p0 (state_view reader.old) rest → IfErr result (λ e. IfFault e (Told pool.now m depth p0)) }
+    ensures taken { KeepsReading pool.now reader.old reader.new result }
+    ensures refused { TellsFaultAnyway pool.now reader.old result }
 {
     match reader.step {
         Step::Tag => {

@@ -1,20 +1,13 @@
 //! What a whole length or the tag of a group opens.
 
-ghost use Rattle.std.specs.Prelude.{◌≡◌, ◌+◌, ◌<◌, ℕ, List, ◌∷◌, Some, IfSome, IfNone, option_map};
-ghost use Rattle.pb_wire.specs.Record.{Record};
-ghost use Rattle.pb_wire.specs.Fault.{Place, HasTag, HasLength};
-ghost use Rattle.pb_wire.specs.Grammar.{payload_at};
-ghost use Rattle.pb_schema.specs.Types.{Types};
-ghost use Rattle.pb_schema.specs.Rules.{IsPool};
+ghost use Rattle.std.specs.Prelude.{◌≡◌, ℕ, IfSome, IfNone, option_map};
 ghost use Rattle.pb_value.specs.View.{body_view, content_view, value_view};
 ghost use Rattle.pb_decode.specs.declared.open.purpose.Purpose.TheVariants as purpose;
-ghost use Rattle.pb_decode.specs.declared.tokens.step.Step.TheVariants as step;
-ghost use Rattle.pb_decode.specs.Open.Frames.{CanHold, Frame as FrameView, Stands};
-ghost use Rattle.pb_decode.specs.Open.PartView.{part_view, scope_view, frame_view};
+ghost use Rattle.pb_decode.specs.Open.PartView.{part_view};
 ghost use Rattle.pb_decode.specs.Open.Occurrences.{counts_view};
-ghost use Rattle.pb_decode.specs.Tokens.After.{After};
-ghost use Rattle.pb_decode.specs.Open.Purposes.{IsNoMessage, Means, part_context};
+ghost use Rattle.pb_decode.specs.Open.Purposes.{IsNoMessage};
 ghost use Rattle.pb_decode.specs.Open.Openings.{message_given, message_held, taken_message, without_message, room_in as levels_in};
+ghost use Rattle.pb_decode.specs.Open.Opens.{OpensAtLength, OpensAtTag};
 
 use crate::open::occurrences::Occurrences;
 use crate::open::part::{Frame, Part, Scope, Slot};
@@ -106,8 +99,7 @@ pub(crate) fn open_message(
     slot: Slot,
     end: u32,
 ) -> Frame
-    ensures { (pool : Types) (m depth levels n : ℕ) (base : List Record) (p0 u t : Place) (frames : List FrameView) → IsPool pool → CanHold pool (part_view part.old) → After pool m depth levels base p0 frames (step.Length number (purpose.Message kind slot)) (part_view part.old) (scope_view scope.old) u
-        → HasLength u n t → end ≡ t.at + n → Stands pool m depth levels base p0 (frame_view result ∷ frames) (part_view part.new) (scope_view scope.new) (payload_at t n) }
+    ensures { OpensAtLength number (purpose.Message kind slot) end part.old scope.old result part.new scope.new }
 {
     let message = take_message(alloc, slot, part);
     let inner = new_scope(alloc, room_in(slot, scope.room), Some(end));
@@ -132,8 +124,7 @@ pub(crate) fn open_entry(
     value_kind: Kind,
     end: u32,
 ) -> Frame
-    ensures { (pool : Types) (m depth levels n : ℕ) (base : List Record) (p0 u t : Place) (frames : List FrameView) → IsPool pool → CanHold pool (part_view part.old) → After pool m depth levels base p0 frames (step.Length number (purpose.Entry key_kind value_kind)) (part_view part.old) (scope_view scope.old) u
-        → HasLength u n t → end ≡ t.at + n → Stands pool m depth levels base p0 (frame_view result ∷ frames) (part_view part.new) (scope_view scope.new) (payload_at t n) }
+    ensures { OpensAtLength number (purpose.Entry key_kind value_kind) end part.old scope.old result part.new scope.new }
 {
     let inner = new_scope(alloc, scope.room.saturating_sub(1), Some(end));
     let entry = Part::Entry {
@@ -163,8 +154,7 @@ fn open_field_group(
     kind: MessageId,
     slot: Slot,
 ) -> Frame
-    ensures { (pool : Types) (m depth levels : ℕ) (base : List Record) (p0 q u : Place) (frames : List FrameView) → IsPool pool → CanHold pool (part_view part.old) → Means pool (part_context (part_view part.old)) number 3 (purpose.Message kind slot) → Stands pool m depth levels base p0 frames (part_view part.old) (scope_view scope.old) q
-        → 0 < scope.old.room → HasTag q number 3 u → Stands pool m depth levels base p0 (frame_view result ∷ frames) (part_view part.new) (scope_view scope.new) u }
+    ensures { OpensAtTag number (purpose.Message kind slot) part.old scope.old result part.new scope.new }
 {
     let message = take_message(alloc, slot, part);
     let inner = new_scope(alloc, scope.room.saturating_sub(1), scope.end);
@@ -181,8 +171,7 @@ fn open_field_group(
 
 /// Behind the first tag of a group that is no field the group is open. Its end is known where that of what holds it is.
 fn open_unknown_group(alloc: Global, part: &mut Part, scope: &mut Scope, number: u32) -> Frame
-    ensures { (pool : Types) (m depth levels : ℕ) (base : List Record) (p0 q u : Place) (frames : List FrameView) → IsPool pool → CanHold pool (part_view part.old) → Means pool (part_context (part_view part.old)) number 3 purpose.Unknown → Stands pool m depth levels base p0 frames (part_view part.old) (scope_view scope.old) q
-        → 0 < scope.old.room → HasTag q number 3 u → Stands pool m depth levels base p0 (frame_view result ∷ frames) (part_view part.new) (scope_view scope.new) u }
+    ensures { OpensAtTag number purpose.Unknown part.old scope.old result part.new scope.new }
 {
     let inner = new_scope(alloc, scope.room.saturating_sub(1), scope.end);
     let outer = mem::replace(part, Part::Group(Vec::new(alloc)));
@@ -221,8 +210,7 @@ pub(crate) fn open_group(
     number: u32,
     meant: Purpose,
 ) -> Frame
-    ensures { (pool : Types) (m depth levels : ℕ) (base : List Record) (p0 q u : Place) (frames : List FrameView) → IsPool pool → CanHold pool (part_view part.old) → Means pool (part_context (part_view part.old)) number 3 meant → Stands pool m depth levels base p0 frames (part_view part.old) (scope_view scope.old) q
-        → 0 < scope.old.room → HasTag q number 3 u → Stands pool m depth levels base p0 (frame_view result ∷ frames) (part_view part.new) (scope_view scope.new) u }
+    ensures { OpensAtTag number meant part.old scope.old result part.new scope.new }
 {
     match message_slot(meant) {
         Some((kind, slot)) => open_field_group(alloc, part, scope, number, kind, slot),

@@ -1,18 +1,13 @@
 //! What begins behind the length of a record.
 
-ghost use Rattle.std.specs.Prelude.{◌≡◌, ◌+◌, ◌≤◌, ◌<◌, ◌^◌, ℕ, List, ◌∷◌, OnOk, IfErr};
-ghost use Rattle.pb_wire.specs.Record.{Record};
-ghost use Rattle.pb_wire.specs.Fault.{Place, HasLength};
-ghost use Rattle.pb_schema.specs.Types.{Types};
-ghost use Rattle.pb_schema.specs.Rules.{IsPool};
+ghost use Rattle.std.specs.Prelude.{◌≡◌, ◌+◌, ◌≤◌, ◌<◌, ◌^◌, ◌∷◌, OnOk, IfErr};
 ghost use Rattle.pb_decode.specs.declared.error.DecodeError.TheVariants.{Memory};
 ghost use Rattle.pb_decode.specs.declared.open.purpose.Purpose.TheVariants as purposes;
 ghost use Rattle.pb_decode.specs.declared.tokens.step.Step.TheVariants as steps;
-ghost use Rattle.pb_decode.specs.Open.Frames.{CanHold};
-ghost use Rattle.pb_decode.specs.Open.PartView.{part_view, scope_view, frame_view};
+ghost use Rattle.pb_decode.specs.Open.PartView.{frame_view};
 ghost use Rattle.pb_decode.specs.Values.PayloadValue.{IsBytesPurpose};
-ghost use Rattle.pb_decode.specs.Tokens.After.{After};
-ghost use Rattle.pb_decode.specs.Reader.{frames_view, state_view, weight, Reads};
+ghost use Rattle.pb_decode.specs.Reader.{frames_view, weight};
+ghost use Rattle.pb_decode.specs.Open.Opens.{PassesLength, PassesLengthAlone};
 
 use crate::error::DecodeError;
 use crate::open::opening::{open_entry, open_message};
@@ -52,8 +47,7 @@ fn pass_message(
     requires { begin + size < 2 ^ 32 }
     ensures at { OnOk result (reader.new.at ≡ begin) }
     ensures step { OnOk result (weight reader.new.step ≡ 0) }
-    ensures reads { (pool : Types) (m depth levels : ℕ) (base : List Record) (p0 u t : Place) → IsPool pool → CanHold pool (part_view reader.old.part) → After pool m depth levels base p0 (frames_view reader.old.frames.items) (steps.Length number (purposes.Message kind slot)) (part_view reader.old.part) (scope_view reader.old.scope) u
-        → HasLength u size t → t.at ≡ begin → OnOk result (Reads pool m depth levels base p0 (state_view reader.new) t.rest) }
+    ensures reads { PassesLength number (purposes.Message kind slot) begin size reader.old reader.new result }
     ensures memory { IfErr result (λ e. e ≡ Memory) }
 {
     let end = begin + size;
@@ -83,8 +77,7 @@ fn pass_entry(
     requires { begin + size < 2 ^ 32 }
     ensures at { OnOk result (reader.new.at ≡ begin) }
     ensures step { OnOk result (weight reader.new.step ≡ 0) }
-    ensures reads { (pool : Types) (m depth levels : ℕ) (base : List Record) (p0 u t : Place) → IsPool pool → CanHold pool (part_view reader.old.part) → After pool m depth levels base p0 (frames_view reader.old.frames.items) (steps.Length number (purposes.Entry key_kind value_kind)) (part_view reader.old.part) (scope_view reader.old.scope) u
-        → HasLength u size t → t.at ≡ begin → OnOk result (Reads pool m depth levels base p0 (state_view reader.new) t.rest) }
+    ensures reads { PassesLength number (purposes.Entry key_kind value_kind) begin size reader.old reader.new result }
     ensures memory { IfErr result (λ e. e ≡ Memory) }
 {
     let frame = open_entry(
@@ -105,8 +98,7 @@ fn pass_list(reader: &mut Reader, number: u32, kind: Kind, begin: u32, size: u32
     requires { begin + size < 2 ^ 32 }
     ensures at { reader.new.at ≡ begin }
     ensures step { weight reader.new.step ≡ 0 }
-    ensures reads { (pool : Types) (m depth levels : ℕ) (base : List Record) (p0 u t : Place) → After pool m depth levels base p0 (frames_view reader.old.frames.items) (steps.Length number (purposes.Packed kind)) (part_view reader.old.part) (scope_view reader.old.scope) u
-        → HasLength u size t → t.at ≡ begin → Reads pool m depth levels base p0 (state_view reader.new) t.rest }
+    ensures reads { PassesLengthAlone number (purposes.Packed kind) begin size reader.old reader.new }
 {
     reader.step = begin_list(&mut reader.scope, number, kind, begin + size);
     reader.at = begin;
@@ -117,8 +109,7 @@ fn pass_bytes(reader: &mut Reader, number: u32, purpose: Purpose, begin: u32, si
     requires { IsBytesPurpose purpose }
     ensures at { reader.new.at ≡ begin }
     ensures step { weight reader.new.step ≡ 1 }
-    ensures reads { (pool : Types) (m depth levels : ℕ) (base : List Record) (p0 u t : Place) → After pool m depth levels base p0 (frames_view reader.old.frames.items) (steps.Length number purpose) (part_view reader.old.part) (scope_view reader.old.scope) u
-        → HasLength u size t → t.at ≡ begin → Reads pool m depth levels base p0 (state_view reader.new) t.rest }
+    ensures reads { PassesLengthAlone number purpose begin size reader.old reader.new }
 {
     reader.step = begin_payload(number, purpose, size);
     reader.at = begin;
@@ -136,8 +127,7 @@ pub(crate) fn pass_length(
     requires { begin + size < 2 ^ 32 }
     ensures at { OnOk result (reader.new.at ≡ begin) }
     ensures step { OnOk result (weight reader.new.step ≤ 1) }
-    ensures reads { (pool : Types) (m depth levels : ℕ) (base : List Record) (p0 u t : Place) → IsPool pool → CanHold pool (part_view reader.old.part) → After pool m depth levels base p0 (frames_view reader.old.frames.items) (steps.Length number purpose) (part_view reader.old.part) (scope_view reader.old.scope) u
-        → HasLength u size t → t.at ≡ begin → OnOk result (Reads pool m depth levels base p0 (state_view reader.new) t.rest) }
+    ensures reads { PassesLength number purpose begin size reader.old reader.new result }
     ensures memory { IfErr result (λ e. e ≡ Memory) }
 {
     match purpose {

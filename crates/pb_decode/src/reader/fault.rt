@@ -1,12 +1,12 @@
 //! Where a reader stands, as the path of a fault.
 
-ghost use Rattle.std.specs.Prelude.{◌≡◌, ◌++◌, ◌∷◌, [], map, IfOk, IfErr, IfSome, IfNone};
+ghost use Rattle.std.specs.Prelude.{◌≡◌, ◌∷◌, [], map, IfOk, IfErr, IfSome, IfNone};
 ghost use Rattle.pb_wire.specs.Fault.{fault as fault_of};
 ghost use Rattle.pb_wire.specs.declared.fault.Cause.TheVariants.{InputTooLarge};
 ghost use Rattle.pb_decode.specs.declared.error.DecodeError.TheVariants.{Memory};
-ghost use Rattle.pb_decode.specs.Open.Frames.{next_step, path_of, Scope as ScopeView};
+ghost use Rattle.pb_decode.specs.Open.Frames.{next_step, Scope as ScopeView};
 ghost use Rattle.pb_decode.specs.Open.PartView.{scope_view};
-ghost use Rattle.pb_decode.specs.Reader.{frames_view, state_view, own_step, path_here as steps_here, IfFault};
+ghost use Rattle.pb_decode.specs.Reader.{state_view, own_step, path_here as steps_here, IfFault, path_inside as steps_inside};
 
 use crate::error::DecodeError;
 use crate::open::part::Frame;
@@ -55,7 +55,7 @@ fn begun_number(step: Step) -> Option<u32>
 
 /// The steps to the record of a number that comes next in the innermost part.
 fn path_inside(alloc: Global, reader: &Reader, number: u32) -> Result<Vec<PathStep>, DecodeError>
-    ensures path { IfOk result (λ v. v.items ≡ path_of (frames_view reader.now.frames.items) ++ next_step number (scope_view reader.now.scope) ∷ []) }
+    ensures path { IfOk result (λ v. v.items ≡ steps_inside (state_view reader.now) number) }
     ensures memory { IfErr result (λ e. e ≡ Memory) }
 {
     let mut path = frame_steps(alloc, &reader.frames)?;
@@ -103,7 +103,7 @@ pub(crate) fn fault_inside(
     byte: u32,
     cause: Cause,
 ) -> DecodeError
-    ensures { IfFault result (λ f. f ≡ fault_of byte (path_of (frames_view reader.now.frames.items) ++ next_step number (scope_view reader.now.scope) ∷ []) cause) }
+    ensures { IfFault result (λ f. f ≡ fault_of byte (steps_inside (state_view reader.now) number) cause) }
 {
     match path_inside(alloc, reader, number) {
         Ok(path) => DecodeError::Fault {

@@ -12,7 +12,8 @@ ghost use Rattle.pb_decode.specs.Open.Frames.{message_part};
 ghost use Rattle.pb_decode.specs.Open.PartView.{part_view};
 ghost use Rattle.pb_decode.specs.Reader.{state_view, IfFault};
 ghost use Rattle.pb_decode.specs.Reader.Waiting.{Waits};
-ghost use Rattle.pb_decode.specs.Reader.Origin.{Origin, origin, further, TookFrom, IsOverAt, IsWhole, BadFrom, ToldFrom};
+ghost use Rattle.pb_decode.specs.Reader.Origin.{Origin, origin, further, IsOverAt, IsWhole, BadFrom, ToldFrom};
+ghost use Rattle.pb_decode.specs.Reader.Pieces.{received, ReadFrom};
 
 use crate::error::DecodeError;
 use crate::open::occurrences::Occurrences;
@@ -37,7 +38,8 @@ pub(crate) fn begin_at(
     requires { room ≤ 100 }
     ensures at { (result.reader.at ≡ 0) × (length result.held.items ≡ 0) }
     ensures waits { end ≡ None → Waits (state_view result.reader) result.held.items }
-    ensures took { (pool : Types) (base : List Record) → kind.0 < length pool.messages → IsWellFormed pool kind.0 (body_view body) → body_view body ≡ value pool kind.0 base → TookFrom pool (origin kind.0 room base end) (state_view result.reader) result.held.items }
+    ensures took { (pool : Types) (base : List Record) → kind.0 < length pool.messages → IsWellFormed pool kind.0 (body_view body)
+        → body_view body ≡ value pool kind.0 base → ReadFrom pool (origin kind.0 room base end) result }
 {
     let occurrences = Occurrences::new(alloc);
     let frames = Vec::new(alloc);
@@ -69,7 +71,7 @@ pub(crate) fn begin_empty(
     requires { kind.0 < length pool.now.messages }
     ensures at { (result.reader.at ≡ 0) × (length result.held.items ≡ 0) }
     ensures waits { end ≡ None → Waits (state_view result.reader) result.held.items }
-    ensures took { TookFrom pool.now (origin kind.0 limits.depth [] end) (state_view result.reader) result.held.items }
+    ensures took { ReadFrom pool.now (origin kind.0 limits.depth [] end) result }
 {
     let room = limits.max_depth();
     begin_at(alloc, kind, empty_body(alloc), room, end)
@@ -83,11 +85,11 @@ pub(crate) fn take_onward(
     piece: &[u8],
 ) -> Result<(), DecodeError>
     requires rules { IsPool pool.now }
-    requires took { (o : Origin) × TookFrom pool.now o (state_view reading.old.reader) reading.old.held.items }
-    requires small { reading.old.reader.at + length reading.old.held.items + length piece.now < 2 ^ 31 }
-    ensures at { OnOk result (reading.new.reader.at + length reading.new.held.items ≡ reading.old.reader.at + length reading.old.held.items + length piece.now) }
-    ensures took { (o : Origin) → TookFrom pool.now o (state_view reading.old.reader) reading.old.held.items → OnOk result (TookFrom pool.now (further o piece.now) (state_view reading.new.reader) reading.new.held.items) }
-    ensures fault { (o : Origin) → TookFrom pool.now o (state_view reading.old.reader) reading.old.held.items → IfErr result (λ e. IfFault e (ToldFrom pool.now (further o piece.now))) }
+    requires took { (o : Origin) × ReadFrom pool.now o reading.old }
+    requires small { received reading.old + length piece.now < 2 ^ 31 }
+    ensures at { OnOk result (received reading.new ≡ received reading.old + length piece.now) }
+    ensures took { (o : Origin) → ReadFrom pool.now o reading.old → OnOk result (ReadFrom pool.now (further o piece.now) reading.new) }
+    ensures fault { (o : Origin) → ReadFrom pool.now o reading.old → IfErr result (λ e. IfFault e (ToldFrom pool.now (further o piece.now))) }
 {
     take_piece(alloc, pool, reading, piece)
 }
@@ -132,11 +134,11 @@ fn body_of(part: Part) -> Result<Body, DecodeError>
 /// The body of the message that is read, or the fault that it is cut short.
 fn whole_body(alloc: Global, pool: &Pool, reading: Reading) -> Result<Body, DecodeError>
     requires rules { IsPool pool.now }
-    requires took { (o : Origin) × TookFrom pool.now o (state_view reading.reader) reading.held.items }
-    requires small { reading.reader.at + length reading.held.items < 2 ^ 31 }
-    ensures well_formed { (o : Origin) → TookFrom pool.now o (state_view reading.reader) reading.held.items → IfOk result (λ v. IsWellFormed pool.now o.kind (body_view v)) }
-    ensures whole { (o : Origin) → TookFrom pool.now o (state_view reading.reader) reading.held.items → IfOk result (λ v. IsWhole pool.now o (body_view v)) }
-    ensures fault { (o : Origin) → TookFrom pool.now o (state_view reading.reader) reading.held.items → IfErr result (λ e. IfFault e (BadFrom pool.now o)) }
+    requires took { (o : Origin) × ReadFrom pool.now o reading }
+    requires small { received reading < 2 ^ 31 }
+    ensures well_formed { (o : Origin) → ReadFrom pool.now o reading → IfOk result (λ v. IsWellFormed pool.now o.kind (body_view v)) }
+    ensures whole { (o : Origin) → ReadFrom pool.now o reading → IfOk result (λ v. IsWhole pool.now o (body_view v)) }
+    ensures fault { (o : Origin) → ReadFrom pool.now o reading → IfErr result (λ e. IfFault e (BadFrom pool.now o)) }
 {
     if !is_over(&reading) {
         return Err(cut_short(alloc, &reading));
@@ -153,11 +155,11 @@ pub(crate) fn finish_message<'p>(
 ) -> Result<DynamicMessage<'p>, DecodeError>
     requires rules { IsPool pool.now }
     requires within { kind.0 < length pool.now.messages }
-    requires took { (o : Origin) × (o.kind ≡ kind.0) × TookFrom pool.now o (state_view reading.reader) reading.held.items }
-    requires small { reading.reader.at + length reading.held.items < 2 ^ 31 }
+    requires took { (o : Origin) × (o.kind ≡ kind.0) × ReadFrom pool.now o reading }
+    requires small { received reading < 2 ^ 31 }
     ensures of_type { IfOk result (λ m. (m.pool ≡ pool.now) × (m.kind ≡ kind.0)) }
-    ensures whole { (o : Origin) → TookFrom pool.now o (state_view reading.reader) reading.held.items → IfOk result (λ m. IsWhole pool.now o m.body) }
-    ensures fault { (o : Origin) → TookFrom pool.now o (state_view reading.reader) reading.held.items → IfErr result (λ e. IfFault e (BadFrom pool.now o)) }
+    ensures whole { (o : Origin) → ReadFrom pool.now o reading → IfOk result (λ m. IsWhole pool.now o m.body) }
+    ensures fault { (o : Origin) → ReadFrom pool.now o reading → IfErr result (λ e. IfFault e (BadFrom pool.now o)) }
 {
     let body = whole_body(alloc, pool, reading)?;
     Ok(DynamicMessage::from_well_formed(alloc, pool, kind, body))

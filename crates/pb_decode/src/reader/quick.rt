@@ -1,15 +1,14 @@
 //! What stands whole in the bytes is taken where the reader stands: records, elements of packed lists, and the tags and lengths
 //! that open or end messages, entries, lists and groups.
 
-ghost use Rattle.std.specs.Prelude.{◌≡◌, ◌+◌, ◌-◌, ◌*◌, ◌≤◌, ◌<◌, ℕ, List, drop, length, OnOk, IfOk, IfErr, IfSome, IfNone};
-ghost use Rattle.pb_wire.specs.Record.{Record};
-ghost use Rattle.pb_wire.specs.Fault.{Place};
+ghost use Rattle.std.specs.Prelude.{◌≡◌, ◌+◌, ◌*◌, ◌≤◌, ◌<◌, length, OnOk, IfOk, IfErr, IfSome, IfNone};
 ghost use Rattle.pb_schema.specs.Rules.{IsPool};
 ghost use Rattle.pb_decode.specs.declared.tokens.step.Step.TheVariants.{Elements};
 ghost use Rattle.pb_decode.specs.declared.error.DecodeError.TheVariants.{Memory};
 ghost use Rattle.pb_decode.specs.Open.KnownPurpose.{IsKnown};
 ghost use Rattle.pb_decode.specs.Close.Ended.{NothingEnds};
-ghost use Rattle.pb_decode.specs.Reader.{state_view, weight, Reads, IsReading, IfFault, Told};
+ghost use Rattle.pb_decode.specs.Reader.{state_view, weight, IsReading};
+ghost use Rattle.pb_decode.specs.Reader.Steps.{TellsFault, TakesWhole, TakesMany};
 
 use crate::close::take_ended::take_ended;
 use crate::error::DecodeError;
@@ -37,7 +36,7 @@ fn take_run(
     requires step { reader.old.step ≡ Elements number kind outer }
     ensures passes { IfOk result (λ o. IfSome o (λ n. (0 < n) × (n ≤ length bytes.now) × (reader.new.at ≡ reader.old.at + n))) }
     ensures none { IfOk result (λ o. IfNone o (reader.new ≡ reader.old)) }
-    ensures taken { (m depth levels : ℕ) (base : List Record) (p0 : Place) → Reads pool.now m depth levels base p0 (state_view reader.old) bytes.now → IfOk result (λ o. IfSome o (λ n. Reads pool.now m depth levels base p0 (state_view reader.new) (drop n bytes.now))) }
+    ensures taken { TakesWhole pool.now reader.old reader.new bytes.now result }
     ensures memory { IfErr result (λ e. e ≡ Memory) }
 {
     let (values, size) = read_run(alloc, pool, kind, bytes, left(reader))?;
@@ -63,7 +62,7 @@ fn take_whole(
     requires known { IsKnown pool.now known.old }
     ensures passes { IfOk result (λ o. IfSome o (λ n. (0 < n) × (n ≤ length bytes.now) × (reader.new.at ≡ reader.old.at + n))) }
     ensures none { IfOk result (λ o. IfNone o (reader.new ≡ reader.old)) }
-    ensures taken { (m depth levels : ℕ) (base : List Record) (p0 : Place) → Reads pool.now m depth levels base p0 (state_view reader.old) bytes.now → IfOk result (λ o. IfSome o (λ n. Reads pool.now m depth levels base p0 (state_view reader.new) (drop n bytes.now))) }
+    ensures taken { TakesWhole pool.now reader.old reader.new bytes.now result }
     ensures memory { IfErr result (λ e. e ≡ Memory) }
     ensures known { IsKnown pool.now known.new }
 {
@@ -90,10 +89,11 @@ pub(crate) fn quick(
 ) -> Result<usize, DecodeError>
     requires rules { IsPool pool.now }
     requires reading { IsReading pool.now (state_view reader.old) bytes.now }
-    ensures passes { IfOk result (λ n. (n ≤ length bytes.now) × (reader.new.at ≡ reader.old.at + n) × (weight reader.new.step ≤ 2 * n + weight reader.old.step)) }
+    ensures passes { IfOk result (λ n. (n ≤ length bytes.now) × (reader.new.at ≡ reader.old.at + n)
+        × (weight reader.new.step ≤ 2 * n + weight reader.old.step)) }
     ensures goes_on { OnOk result (NothingEnds (state_view reader.new)) }
-    ensures taken { (m depth levels : ℕ) (base : List Record) (p0 : Place) → Reads pool.now m depth levels base p0 (state_view reader.old) bytes.now → IfOk result (λ n. Reads pool.now m depth levels base p0 (state_view reader.new) (drop n bytes.now)) }
-    ensures refused { (m depth levels : ℕ) (base : List Record) (p0 : Place) → Reads pool.now m depth levels base p0 (state_view reader.old) bytes.now → IfErr result (λ e. IfFault e (Told pool.now m depth p0)) }
+    ensures taken { TakesMany pool.now reader.old reader.new bytes.now result }
+    ensures refused { TellsFault pool.now reader.old bytes.now result }
 {
     let mut here = 0;
     let mut known = None;

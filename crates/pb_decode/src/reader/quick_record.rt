@@ -1,18 +1,15 @@
 //! Records of numbers and of bytes, taken whole, and what opens or ends messages, entries, lists and groups.
 
-ghost use Rattle.std.specs.Prelude.{◌≡◌, ◌⊎◌, ◌+◌, ◌-◌, ◌≤◌, ◌<◌, ◌^◌, true, ℕ, List, drop, length, IfOk, IfErr, IfSome, IfNone, OnOk};
-ghost use Rattle.pb_wire.specs.Record.{Record};
-ghost use Rattle.pb_wire.specs.Fault.{Place, HasTag, HasLength};
-ghost use Rattle.pb_wire.specs.Token.{passed};
+ghost use Rattle.std.specs.Prelude.{◌≡◌, ◌⊎◌, ◌+◌, ◌≤◌, ◌<◌, ◌^◌, true, length, IfOk, IfErr, IfSome, IfNone};
 ghost use Rattle.pb_schema.specs.Rules.{IsPool};
-ghost use Rattle.pb_schema.specs.Types.{Types};
 ghost use Rattle.pb_decode.specs.declared.tokens.step.Step.TheVariants.{Tag};
 ghost use Rattle.pb_decode.specs.declared.error.DecodeError.TheVariants.{Memory};
 ghost use Rattle.pb_decode.specs.Open.PartView.{part_view};
 ghost use Rattle.pb_decode.specs.Open.Purposes.{Means, part_context};
 ghost use Rattle.pb_decode.specs.Open.KnownPurpose.{IsKnown};
 ghost use Rattle.pb_decode.specs.Values.PayloadValue.{IsBytesPurpose};
-ghost use Rattle.pb_decode.specs.Reader.{state_view, here, Reads, IsReading};
+ghost use Rattle.pb_decode.specs.Reader.{state_view, IsReading};
+ghost use Rattle.pb_decode.specs.Reader.Steps.{HasTagHere, TakesWhole, TellsLengthBehind};
 
 use crate::close::put::count_one;
 use crate::error::DecodeError;
@@ -46,11 +43,11 @@ fn take_number_record(
     requires step { reader.old.step ≡ Tag }
     requires number { (tag.wire_type ≡ 0) ⊎ (tag.wire_type ≡ 1) ⊎ (tag.wire_type ≡ 5) }
     requires within { tag.size ≤ length bytes.now }
-    requires tag { HasTag (here (state_view reader.old) bytes.now) tag.number tag.wire_type (passed (here (state_view reader.old) bytes.now) tag.size) }
+    requires tag { HasTagHere (state_view reader.old) bytes.now tag.number tag.wire_type tag.size }
     requires known { IsKnown pool.now known.old }
     ensures passes { IfOk result (λ o. IfSome o (λ n. (tag.size ≤ n) × (n ≤ length bytes.now) × (reader.new.at ≡ reader.old.at + n))) }
     ensures none { IfOk result (λ o. IfNone o (reader.new ≡ reader.old)) }
-    ensures taken { (m depth levels : ℕ) (base : List Record) (p0 : Place) → Reads pool.now m depth levels base p0 (state_view reader.old) bytes.now → IfOk result (λ o. IfSome o (λ n. Reads pool.now m depth levels base p0 (state_view reader.new) (drop n bytes.now))) }
+    ensures taken { TakesWhole pool.now reader.old reader.new bytes.now result }
     ensures memory { IfErr result (λ e. e ≡ Memory) }
     ensures known { IsKnown pool.now known.new }
 {
@@ -90,9 +87,7 @@ fn length_behind(reader: &Reader, tag_size: usize, bytes: &[u8]) -> Option<(usiz
     requires within { tag_size ≤ length bytes.now }
     requires small { reader.now.at + length bytes.now < 2 ^ 31 }
     ensures within { IfSome result (λ t. (tag_size ≤ t.0) × (t.0 ≤ length bytes.now) × (t.1 < 2 ^ 31)) }
-    ensures whole { (pool : Types) (m depth levels number wire_type : ℕ) (base : List Record) (p0 : Place) → Reads pool m depth levels base p0 (state_view reader.now) bytes.now
-        → HasTag (here (state_view reader.now) bytes.now) number wire_type (passed (here (state_view reader.now) bytes.now) tag_size)
-        → IfSome result (λ t. HasLength (passed (here (state_view reader.now) bytes.now) tag_size) t.1 (passed (here (state_view reader.now) bytes.now) t.0)) }
+    ensures whole { TellsLengthBehind reader.now tag_size bytes.now result }
 {
     let behind = left_behind(left(reader), tag_size);
     let Ok(Some((length, used))) = front_number(&bytes[tag_size..], behind) else {
@@ -119,12 +114,12 @@ fn take_bytes_record(
     requires step { reader.old.step ≡ Tag }
     requires bytes { tag.wire_type ≡ 2 }
     requires within { tag.size ≤ length bytes.now }
-    requires tag { HasTag (here (state_view reader.old) bytes.now) tag.number tag.wire_type (passed (here (state_view reader.old) bytes.now) tag.size) }
+    requires tag { HasTagHere (state_view reader.old) bytes.now tag.number tag.wire_type tag.size }
     requires means { Means pool.now (part_context (part_view reader.old.part)) tag.number 2 purpose }
     requires purpose { IsBytesPurpose purpose }
     ensures passes { IfOk result (λ o. IfSome o (λ n. (tag.size ≤ n) × (n ≤ length bytes.now) × (reader.new.at ≡ reader.old.at + n))) }
     ensures none { IfOk result (λ o. IfNone o (reader.new ≡ reader.old)) }
-    ensures taken { (m depth levels : ℕ) (base : List Record) (p0 : Place) → Reads pool.now m depth levels base p0 (state_view reader.old) bytes.now → IfOk result (λ o. IfSome o (λ n. Reads pool.now m depth levels base p0 (state_view reader.new) (drop n bytes.now))) }
+    ensures taken { TakesWhole pool.now reader.old reader.new bytes.now result }
     ensures memory { IfErr result (λ e. e ≡ Memory) }
 {
     let Some((start, size)) = length_behind(reader, tag.size, bytes) else {
@@ -162,11 +157,11 @@ fn take_opening(
     requires step { reader.old.step ≡ Tag }
     requires bytes { tag.wire_type ≡ 2 }
     requires within { tag.size ≤ length bytes.now }
-    requires tag { HasTag (here (state_view reader.old) bytes.now) tag.number tag.wire_type (passed (here (state_view reader.old) bytes.now) tag.size) }
+    requires tag { HasTagHere (state_view reader.old) bytes.now tag.number tag.wire_type tag.size }
     requires means { Means pool.now (part_context (part_view reader.old.part)) tag.number 2 purpose }
     ensures passes { IfOk result (λ o. IfSome o (λ n. (tag.size ≤ n) × (n ≤ length bytes.now) × (reader.new.at ≡ reader.old.at + n))) }
     ensures none { IfOk result (λ o. IfNone o (reader.new ≡ reader.old)) }
-    ensures taken { (m depth levels : ℕ) (base : List Record) (p0 : Place) → Reads pool.now m depth levels base p0 (state_view reader.old) bytes.now → IfOk result (λ o. IfSome o (λ n. Reads pool.now m depth levels base p0 (state_view reader.new) (drop n bytes.now))) }
+    ensures taken { TakesWhole pool.now reader.old reader.new bytes.now result }
     ensures memory { IfErr result (λ e. e ≡ Memory) }
 {
     if !has_room(reader.scope.room, purpose) {
@@ -195,11 +190,11 @@ fn take_length_record(
     requires step { reader.old.step ≡ Tag }
     requires bytes { tag.wire_type ≡ 2 }
     requires within { tag.size ≤ length bytes.now }
-    requires tag { HasTag (here (state_view reader.old) bytes.now) tag.number tag.wire_type (passed (here (state_view reader.old) bytes.now) tag.size) }
+    requires tag { HasTagHere (state_view reader.old) bytes.now tag.number tag.wire_type tag.size }
     requires known { IsKnown pool.now known.old }
     ensures passes { IfOk result (λ o. IfSome o (λ n. (tag.size ≤ n) × (n ≤ length bytes.now) × (reader.new.at ≡ reader.old.at + n))) }
     ensures none { IfOk result (λ o. IfNone o (reader.new ≡ reader.old)) }
-    ensures taken { (m depth levels : ℕ) (base : List Record) (p0 : Place) → Reads pool.now m depth levels base p0 (state_view reader.old) bytes.now → IfOk result (λ o. IfSome o (λ n. Reads pool.now m depth levels base p0 (state_view reader.new) (drop n bytes.now))) }
+    ensures taken { TakesWhole pool.now reader.old reader.new bytes.now result }
     ensures memory { IfErr result (λ e. e ≡ Memory) }
     ensures known { IsKnown pool.now known.new }
 {
@@ -224,10 +219,10 @@ fn take_group_start(
     requires step { reader.old.step ≡ Tag }
     requires start { tag.wire_type ≡ 3 }
     requires within { tag.size ≤ length bytes.now }
-    requires tag { HasTag (here (state_view reader.old) bytes.now) tag.number tag.wire_type (passed (here (state_view reader.old) bytes.now) tag.size) }
+    requires tag { HasTagHere (state_view reader.old) bytes.now tag.number tag.wire_type tag.size }
     ensures passes { IfOk result (λ o. IfSome o (λ n. (n ≡ tag.size) × (reader.new.at ≡ reader.old.at + n))) }
     ensures none { IfOk result (λ o. IfNone o (reader.new ≡ reader.old)) }
-    ensures taken { (m depth levels : ℕ) (base : List Record) (p0 : Place) → Reads pool.now m depth levels base p0 (state_view reader.old) bytes.now → IfOk result (λ o. IfSome o (λ n. Reads pool.now m depth levels base p0 (state_view reader.new) (drop n bytes.now))) }
+    ensures taken { TakesWhole pool.now reader.old reader.new bytes.now result }
     ensures memory { IfErr result (λ e. e ≡ Memory) }
 {
     if reader.scope.room == 0 {
@@ -251,10 +246,10 @@ fn take_group_end(
     requires step { reader.old.step ≡ Tag }
     requires end { tag.wire_type ≡ 4 }
     requires within { tag.size ≤ length bytes.now }
-    requires tag { HasTag (here (state_view reader.old) bytes.now) tag.number tag.wire_type (passed (here (state_view reader.old) bytes.now) tag.size) }
+    requires tag { HasTagHere (state_view reader.old) bytes.now tag.number tag.wire_type tag.size }
     ensures passes { IfOk result (λ o. IfSome o (λ n. (n ≡ tag.size) × (reader.new.at ≡ reader.old.at + n))) }
     ensures none { IfOk result (λ o. IfNone o (reader.new ≡ reader.old)) }
-    ensures taken { (m depth levels : ℕ) (base : List Record) (p0 : Place) → Reads pool.now m depth levels base p0 (state_view reader.old) bytes.now → IfOk result (λ o. IfSome o (λ n. Reads pool.now m depth levels base p0 (state_view reader.new) (drop n bytes.now))) }
+    ensures taken { TakesWhole pool.now reader.old reader.new bytes.now result }
     ensures memory { IfErr result (λ e. e ≡ Memory) }
 {
     match group_end(innermost(&reader.frames), tag.number) {
@@ -281,7 +276,7 @@ pub(crate) fn take_record(
     requires known { IsKnown pool.now known.old }
     ensures passes { IfOk result (λ o. IfSome o (λ n. (0 < n) × (n ≤ length bytes.now) × (reader.new.at ≡ reader.old.at + n))) }
     ensures none { IfOk result (λ o. IfNone o (reader.new ≡ reader.old)) }
-    ensures taken { (m depth levels : ℕ) (base : List Record) (p0 : Place) → Reads pool.now m depth levels base p0 (state_view reader.old) bytes.now → IfOk result (λ o. IfSome o (λ n. Reads pool.now m depth levels base p0 (state_view reader.new) (drop n bytes.now))) }
+    ensures taken { TakesWhole pool.now reader.old reader.new bytes.now result }
     ensures memory { IfErr result (λ e. e ≡ Memory) }
     ensures known { IsKnown pool.now known.new }
 {

@@ -1,20 +1,18 @@
 //! A reader of a message: a stack of what is open, and what comes next.
 
-ghost use Rattle.std.specs.Prelude.{◌≡◌, ◌⊎◌, ◌+◌, ◌-◌, ◌<◌, ◌≤◌, ◌^◌, ℕ, List, Some, drop, length, OnOk, IfOk, IfErr, IfNone};
-ghost use Rattle.pb_wire.specs.Record.{Record, wire_type as type_of};
-ghost use Rattle.pb_wire.specs.Fault.{Place};
+ghost use Rattle.std.specs.Prelude.{◌≡◌, ◌⊎◌, ◌+◌, ◌-◌, ◌<◌, ◌≤◌, ◌^◌, ℕ, Some, drop, length, OnOk, IfOk, IfErr, IfNone};
 ghost use Rattle.pb_wire.specs.Token.{given_at};
 ghost use Rattle.pb_schema.specs.Rules.{IsPool};
 ghost use Rattle.pb_decode.specs.declared.tokens.step.Step.TheVariants.{Tag};
 ghost use Rattle.pb_decode.specs.declared.error.DecodeError.TheVariants.{Memory};
 ghost use Rattle.pb_decode.specs.Open.Frames.{CanHold};
-ghost use Rattle.pb_decode.specs.Tokens.Number.{number_view};
-ghost use Rattle.pb_decode.specs.Tokens.Numbers.{TellsNumber, Follows};
+ghost use Rattle.pb_decode.specs.Tokens.Numbers.{TellsNumber};
 ghost use Rattle.pb_decode.specs.Open.Occurrences.{counts_view};
 ghost use Rattle.pb_decode.specs.Open.PartView.{part_view};
 ghost use Rattle.pb_decode.specs.Tokens.After.{tag, awaited};
-ghost use Rattle.pb_decode.specs.Reader.{state_view, left_of, here, Reads, IsReading, Stops, Taken, Passes, IfFault, Told, StandsAt};
+ghost use Rattle.pb_decode.specs.Reader.{state_view, left_of, IsReading, Passes};
 ghost use Rattle.pb_decode.specs.Reader.Waiting.{Waits};
+ghost use Rattle.pb_decode.specs.Reader.Steps.{TellsFault, TakesNext, TakesAll, StandsBehindNumber};
 
 use crate::close::put::count_one;
 use crate::error::DecodeError;
@@ -82,8 +80,7 @@ fn pass_number(
     requires fits { reader.old.at + size < 2 ^ 32 }
     ensures at { OnOk result ((reader.new.at ≡ reader.old.at + size) × (reader.new.step ≡ Tag)) }
     ensures same_end { OnOk result (reader.new.scope.end ≡ reader.old.scope.end) }
-    ensures stands { (m depth levels : ℕ) (base : List Record) (p0 w : Place) (rest : List ℕ) → Reads pool.now m depth levels base p0 (state_view reader.old) rest → awaited reader.old.step ≡ Some (tag number (type_of (number_view value)) purpose)
-        → Follows (here (state_view reader.old) rest) (number_view value) w → OnOk result (StandsAt pool.now m depth levels base p0 (state_view reader.new) w) }
+    ensures stands { StandsBehindNumber pool.now reader.old reader.new number purpose value result }
     ensures memory { IfErr result (λ e. e ≡ Memory) }
 {
     put_number(alloc, pool, &mut reader.part, number, purpose, value)?;
@@ -108,9 +105,9 @@ pub(crate) fn take_number(
     requires number { (wire_type ≡ 0) ⊎ (wire_type ≡ 1) ⊎ (wire_type ≡ 5) }
     requires step { awaited reader.old.step ≡ Some (tag number wire_type purpose) }
     ensures passes { IfOk result (λ o. Passes (state_view reader.old) bytes.now (state_view reader.new) o) }
-    ensures taken { (m depth levels : ℕ) (base : List Record) (p0 : Place) → Reads pool.now m depth levels base p0 (state_view reader.old) bytes.now → IfOk result (λ o. Taken pool.now m depth levels base p0 (state_view reader.new) bytes.now o) }
+    ensures taken { TakesNext pool.now reader.old reader.new bytes.now result }
     ensures waits { IfOk result (λ o. IfNone o (Waits (state_view reader.new) bytes.now)) }
-    ensures refused { (m depth levels : ℕ) (base : List Record) (p0 : Place) → Reads pool.now m depth levels base p0 (state_view reader.old) bytes.now → IfErr result (λ e. IfFault e (Told pool.now m depth p0)) }
+    ensures refused { TellsFault pool.now reader.old bytes.now result }
 {
     match number_at(wire_type, bytes, left(reader)) {
         NumberToken::Whole(value, size) => {
@@ -132,9 +129,9 @@ pub(crate) fn take_all(
     requires rules { IsPool pool.now }
     requires reading { IsReading pool.now (state_view reader.old) bytes.now }
     ensures passes { IfOk result (λ n. (n ≤ length bytes.now) × (reader.new.at ≡ reader.old.at + n)) }
-    ensures taken { (m depth levels : ℕ) (base : List Record) (p0 : Place) → Reads pool.now m depth levels base p0 (state_view reader.old) bytes.now → IfOk result (λ n. Reads pool.now m depth levels base p0 (state_view reader.new) (drop n bytes.now) × Stops pool.now m depth p0 (state_view reader.new) (drop n bytes.now)) }
+    ensures taken { TakesAll pool.now reader.old reader.new bytes.now result }
     ensures waits { IfOk result (λ n. Waits (state_view reader.new) (drop n bytes.now)) }
-    ensures refused { (m depth levels : ℕ) (base : List Record) (p0 : Place) → Reads pool.now m depth levels base p0 (state_view reader.old) bytes.now → IfErr result (λ e. IfFault e (Told pool.now m depth p0)) }
+    ensures refused { TellsFault pool.now reader.old bytes.now result }
 {
     let mut here = 0;
     loop {

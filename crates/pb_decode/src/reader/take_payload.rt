@@ -1,16 +1,15 @@
 //! Whole payloads of bytes.
 
-ghost use Rattle.std.specs.Prelude.{◌≡◌, ◌+◌, ◌-◌, ◌<◌, ◌^◌, ℕ, List, length, OnOk, IfOk, IfErr, IfNone};
-ghost use Rattle.pb_wire.specs.Record.{Record};
-ghost use Rattle.pb_wire.specs.Fault.{Place, Moves};
+ghost use Rattle.std.specs.Prelude.{◌≡◌, ◌+◌, ◌-◌, ◌<◌, ◌^◌, length, OnOk, IfOk, IfNone};
 ghost use Rattle.pb_schema.specs.Rules.{IsPool};
 ghost use Rattle.pb_decode.specs.declared.tokens.step.Step.TheVariants.{Tag, Payload};
 ghost use Rattle.pb_decode.specs.Open.Frames.{CanHold};
 ghost use Rattle.pb_decode.specs.Open.Occurrences.{counts_view};
 ghost use Rattle.pb_decode.specs.Open.PartView.{part_view};
 ghost use Rattle.pb_decode.specs.Values.PayloadValue.{IsBytesPurpose};
-ghost use Rattle.pb_decode.specs.Reader.{state_view, here, Reads, IsReading, Taken, Passes, IfFault, Told, StandsAt};
+ghost use Rattle.pb_decode.specs.Reader.{state_view, IsReading, Passes};
 ghost use Rattle.pb_decode.specs.Reader.Waiting.{Waits};
+ghost use Rattle.pb_decode.specs.Reader.Steps.{TellsFault, TakesNext, StandsBehindPayload, TellsPayloadFault};
 
 use crate::close::put::count_one;
 use crate::error::DecodeError;
@@ -41,10 +40,8 @@ fn pass_payload(
     requires fits { reader.old.at + length bytes.now < 2 ^ 32 }
     ensures at { OnOk result ((reader.new.at ≡ reader.old.at + length bytes.now) × (reader.new.step ≡ Tag)) }
     ensures same_end { OnOk result (reader.new.scope.end ≡ reader.old.scope.end) }
-    ensures stands { (m depth levels : ℕ) (base : List Record) (p0 w : Place) (rest : List ℕ) → Reads pool.now m depth levels base p0 (state_view reader.old) rest → Moves (here (state_view reader.old) rest) bytes.now w
-        → OnOk result (StandsAt pool.now m depth levels base p0 (state_view reader.new) w) }
-    ensures refused { (m depth levels : ℕ) (base : List Record) (p0 w : Place) (rest : List ℕ) → Reads pool.now m depth levels base p0 (state_view reader.old) rest → Moves (here (state_view reader.old) rest) bytes.now w
-        → IfErr result (λ e. IfFault e (Told pool.now m depth p0)) }
+    ensures stands { StandsBehindPayload pool.now reader.old reader.new bytes.now result }
+    ensures refused { TellsPayloadFault pool.now reader.old bytes.now result }
 {
     match put_payload(alloc, pool, &mut reader.part, number, purpose, bytes) {
         Ok(()) => {
@@ -75,9 +72,9 @@ pub(crate) fn take_payload(
     requires reading { IsReading pool.now (state_view reader.old) bytes.now }
     requires step { reader.old.step ≡ Payload number purpose size }
     ensures passes { IfOk result (λ o. Passes (state_view reader.old) bytes.now (state_view reader.new) o) }
-    ensures taken { (m depth levels : ℕ) (base : List Record) (p0 : Place) → Reads pool.now m depth levels base p0 (state_view reader.old) bytes.now → IfOk result (λ o. Taken pool.now m depth levels base p0 (state_view reader.new) bytes.now o) }
+    ensures taken { TakesNext pool.now reader.old reader.new bytes.now result }
     ensures waits { IfOk result (λ o. IfNone o (Waits (state_view reader.new) bytes.now)) }
-    ensures refused { (m depth levels : ℕ) (base : List Record) (p0 : Place) → Reads pool.now m depth levels base p0 (state_view reader.old) bytes.now → IfErr result (λ e. IfFault e (Told pool.now m depth p0)) }
+    ensures refused { TellsFault pool.now reader.old bytes.now result }
 {
     let wanted = size as usize;
     if bytes.len() < wanted {

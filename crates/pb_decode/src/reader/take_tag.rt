@@ -1,9 +1,6 @@
 //! Tags, where one may come.
 
-ghost use Rattle.std.specs.Prelude.{◌≡◌, ◌≢◌, ◌⊎◌, ◌+◌, ◌<◌, ◌^◌, ℕ, List, [], Some, drop, MatchBool, OnOk, IfOk, IfErr, IfNone};
-ghost use Rattle.pb_wire.specs.Record.{Record};
-ghost use Rattle.pb_wire.specs.Fault.{Place, HasTag, Reads as HasNumber};
-ghost use Rattle.pb_wire.specs.Token.{passed};
+ghost use Rattle.std.specs.Prelude.{◌≡◌, ◌≢◌, ◌⊎◌, ◌+◌, ◌<◌, ◌^◌, ℕ, List, [], Some, MatchBool, OnOk, IfOk, IfErr, IfNone};
 ghost use Rattle.pb_schema.specs.Types.{Types};
 ghost use Rattle.pb_schema.specs.Rules.{IsPool};
 ghost use Rattle.pb_decode.specs.declared.tokens.step.Step.TheVariants.{Tag};
@@ -11,10 +8,10 @@ ghost use Rattle.pb_decode.specs.declared.error.DecodeError.TheVariants.{Memory}
 ghost use Rattle.pb_decode.specs.Open.Frames.{CanHold};
 ghost use Rattle.pb_decode.specs.Open.PartView.{part_view};
 ghost use Rattle.pb_decode.specs.Open.Openings.{innermost_group};
-ghost use Rattle.pb_decode.specs.Open.Purposes.{Means, part_context};
-ghost use Rattle.pb_decode.specs.Reader.{state_view, frames_view, here, Reads, IsReading, Taken, Passes, IfFault, Told};
+ghost use Rattle.pb_decode.specs.Reader.{state_view, frames_view, IsReading, Passes};
 ghost use Rattle.pb_decode.specs.Reader.Waiting.{Waits};
 ghost use Rattle.pb_decode.specs.Close.Ended.{NothingEnds};
+ghost use Rattle.pb_decode.specs.Reader.Steps.{TellsFault, TakesNext, PassesTag, TellsTagFault, PassesTagNumber, TellsTagNumberFault, EntersGroup, LeavesGroup};
 
 use crate::close::closing::close_group;
 use crate::close::put::close_message;
@@ -65,10 +62,8 @@ fn pass_record_tag(
     requires step { reader.old.step ≡ Tag }
     requires fits { reader.old.at + size < 2 ^ 32 }
     ensures at { OnOk result (reader.new.at ≡ reader.old.at + size) }
-    ensures reads { (m depth levels : ℕ) (base : List Record) (p0 : Place) (rest : List ℕ) → Reads pool.now m depth levels base p0 (state_view reader.old) rest → HasTag (here (state_view reader.old) rest) number wire_type (passed (here (state_view reader.old) rest) size)
-        → OnOk result (Reads pool.now m depth levels base p0 (state_view reader.new) (drop size rest)) }
-    ensures refused { (m depth levels : ℕ) (base : List Record) (p0 : Place) (rest : List ℕ) → Reads pool.now m depth levels base p0 (state_view reader.old) rest → HasTag (here (state_view reader.old) rest) number wire_type (passed (here (state_view reader.old) rest) size)
-        → IfErr result (λ e. IfFault e (Told pool.now m depth p0)) }
+    ensures reads { PassesTag pool.now reader.old reader.new number wire_type size result }
+    ensures refused { TellsTagFault pool.now reader.old number wire_type size result }
 {
     match tag_step(pool, &reader.part, reader.scope.room, number, wire_type) {
         Some(step) => {
@@ -94,8 +89,7 @@ pub(crate) fn enter_group(
     requires fits { reader.old.at + size < 2 ^ 32 }
     ensures at { OnOk result (reader.new.at ≡ reader.old.at + size) }
     ensures step { OnOk result (reader.new.step ≡ Tag) }
-    ensures reads { (pool : Types) (m depth levels : ℕ) (base : List Record) (p0 : Place) (rest : List ℕ) → IsPool pool → CanHold pool (part_view reader.old.part) → Means pool (part_context (part_view reader.old.part)) number 3 meant → Reads pool m depth levels base p0 (state_view reader.old) rest
-        → HasTag (here (state_view reader.old) rest) number 3 (passed (here (state_view reader.old) rest) size) → OnOk result (Reads pool m depth levels base p0 (state_view reader.new) (drop size rest)) }
+    ensures reads { EntersGroup reader.old reader.new number meant size result }
     ensures memory { IfErr result (λ e. e ≡ Memory) }
 {
     let begin = reader.at + size as u32;
@@ -115,10 +109,8 @@ fn pass_group_start(
     requires step { reader.old.step ≡ Tag }
     requires fits { reader.old.at + size < 2 ^ 32 }
     ensures at { OnOk result (reader.new.at ≡ reader.old.at + size) }
-    ensures reads { (pool : Types) (m depth levels : ℕ) (base : List Record) (p0 : Place) (rest : List ℕ) → IsPool pool → CanHold pool (part_view reader.old.part) → Means pool (part_context (part_view reader.old.part)) number 3 meant → Reads pool m depth levels base p0 (state_view reader.old) rest
-        → HasTag (here (state_view reader.old) rest) number 3 (passed (here (state_view reader.old) rest) size) → OnOk result (Reads pool m depth levels base p0 (state_view reader.new) (drop size rest)) }
-    ensures refused { (pool : Types) (m depth levels : ℕ) (base : List Record) (p0 : Place) (rest : List ℕ) → Reads pool m depth levels base p0 (state_view reader.old) rest
-        → HasTag (here (state_view reader.old) rest) number 3 (passed (here (state_view reader.old) rest) size) → IfErr result (λ e. IfFault e (Told pool m depth p0)) }
+    ensures reads { EntersGroup reader.old reader.new number meant size result }
+    ensures refused { (pool : Types) → TellsTagFault pool reader.old number 3 size result }
 {
     match group_refusal(reader.scope.room) {
         Some(cause) => Err(fault_inside(alloc, reader, number, reader.at, cause)),
@@ -143,8 +135,7 @@ pub(crate) fn leave_group(
     requires fits { reader.old.at + size < 2 ^ 32 }
     ensures at { OnOk result (reader.new.at ≡ reader.old.at + size) }
     ensures step { OnOk result (reader.new.step ≡ Tag) }
-    ensures reads { (m depth levels number : ℕ) (base : List Record) (p0 : Place) (rest : List ℕ) → Reads pool.now m depth levels base p0 (state_view reader.old) rest → innermost_group (frames_view reader.old.frames.items) ≡ Some number
-        → HasTag (here (state_view reader.old) rest) number 4 (passed (here (state_view reader.old) rest) size) → OnOk result (Reads pool.now m depth levels base p0 (state_view reader.new) (drop size rest)) }
+    ensures reads { LeavesGroup pool.now reader.old reader.new size result }
     ensures memory { IfErr result (λ e. e ≡ Memory) }
 {
     let Some(frame) = reader.frames.pop() else {
@@ -192,10 +183,8 @@ fn pass_group_end(
     requires step { reader.old.step ≡ Tag }
     requires fits { reader.old.at + size < 2 ^ 32 }
     ensures at { OnOk result (reader.new.at ≡ reader.old.at + size) }
-    ensures reads { (m depth levels : ℕ) (base : List Record) (p0 : Place) (rest : List ℕ) → Reads pool.now m depth levels base p0 (state_view reader.old) rest
-        → HasTag (here (state_view reader.old) rest) number 4 (passed (here (state_view reader.old) rest) size) → OnOk result (Reads pool.now m depth levels base p0 (state_view reader.new) (drop size rest)) }
-    ensures refused { (m depth levels : ℕ) (base : List Record) (p0 : Place) (rest : List ℕ) → Reads pool.now m depth levels base p0 (state_view reader.old) rest
-        → HasTag (here (state_view reader.old) rest) number 4 (passed (here (state_view reader.old) rest) size) → IfErr result (λ e. IfFault e (Told pool.now m depth p0)) }
+    ensures reads { PassesTag pool.now reader.old reader.new number 4 size result }
+    ensures refused { TellsTagFault pool.now reader.old number 4 size result }
 {
     match group_end(innermost(&reader.frames), number) {
         Ok(()) => {
@@ -219,10 +208,8 @@ fn pass_tag(
     requires step { reader.old.step ≡ Tag }
     requires fits { reader.old.at + size < 2 ^ 32 }
     ensures at { OnOk result (reader.new.at ≡ reader.old.at + size) }
-    ensures reads { (m depth levels : ℕ) (base : List Record) (p0 : Place) (rest : List ℕ) → Reads pool.now m depth levels base p0 (state_view reader.old) rest → HasNumber (here (state_view reader.old) rest) tag (passed (here (state_view reader.old) rest) size)
-        → OnOk result (Reads pool.now m depth levels base p0 (state_view reader.new) (drop size rest)) }
-    ensures refused { (m depth levels : ℕ) (base : List Record) (p0 : Place) (rest : List ℕ) → Reads pool.now m depth levels base p0 (state_view reader.old) rest → HasNumber (here (state_view reader.old) rest) tag (passed (here (state_view reader.old) rest) size)
-        → IfErr result (λ e. IfFault e (Told pool.now m depth p0)) }
+    ensures reads { PassesTagNumber pool.now reader.old reader.new tag size result }
+    ensures refused { TellsTagNumberFault pool.now reader.old tag size result }
 {
     let (number, wire_type) = match tag_parts(tag) {
         Ok(parts) => parts,
@@ -260,9 +247,9 @@ pub(crate) fn take_tag(
     requires step { reader.old.step ≡ Tag }
     requires goes_on { NothingEnds (state_view reader.old) }
     ensures passes { IfOk result (λ o. Passes (state_view reader.old) bytes.now (state_view reader.new) o) }
-    ensures taken { (m depth levels : ℕ) (base : List Record) (p0 : Place) → Reads pool.now m depth levels base p0 (state_view reader.old) bytes.now → IfOk result (λ o. Taken pool.now m depth levels base p0 (state_view reader.new) bytes.now o) }
+    ensures taken { TakesNext pool.now reader.old reader.new bytes.now result }
     ensures waits { IfOk result (λ o. IfNone o (Waits (state_view reader.new) bytes.now)) }
-    ensures refused { (m depth levels : ℕ) (base : List Record) (p0 : Place) → Reads pool.now m depth levels base p0 (state_view reader.old) bytes.now → IfErr result (λ e. IfFault e (Told pool.now m depth p0)) }
+    ensures refused { TellsFault pool.now reader.old bytes.now result }
 {
     if is_spent(bytes, left(reader)) {
         return Ok(None);

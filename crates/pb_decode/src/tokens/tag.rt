@@ -1,18 +1,10 @@
 //! Whole tags, the ends of groups, and whole lengths: what they say, or why they are refused.
 
-ghost use Rattle.std.specs.Prelude.{◌≡◌, ◌≢◌, ◌<◌, ◌^◌, ◌++◌, ℕ, List, [], ◌∷◌, Some, IfOk, IfErr, IfSome, IfNone, IsOk};
-ghost use Rattle.pb_wire.specs.Record.{Record};
-ghost use Rattle.pb_wire.specs.Fault.{fault, Place, Reads, HasTag, HasLength};
-ghost use Rattle.pb_wire.specs.Schema.{records};
-ghost use Rattle.pb_wire.specs.Grammar.{Bad};
+ghost use Rattle.std.specs.Prelude.{◌≡◌, ◌≢◌, ◌<◌, ◌^◌, Some, IfOk, IfErr, IfSome, IfNone, IsOk};
+ghost use Rattle.pb_wire.specs.Fault.{Place, Reads, HasTag, HasLength};
 ghost use Rattle.pb_wire.specs.declared.fault.Cause.TheVariants.{Truncated};
-ghost use Rattle.pb_schema.specs.Types.{Types};
-ghost use Rattle.pb_schema.specs.Context.{a_message, schema_of};
-ghost use Rattle.pb_decode.specs.declared.open.purpose.Purpose.{Purpose};
-ghost use Rattle.pb_decode.specs.declared.tokens.step.Step.{Step};
-ghost use Rattle.pb_decode.specs.Open.Frames.{Part as PartView, Frame as FrameView, Scope as ScopeView, path_of, next_step, EndsAt, Stands};
-ghost use Rattle.pb_decode.specs.Tokens.After.{tag as tag_of, awaited, After};
-ghost use Rattle.pb_decode.specs.Open.Openings.{innermost_group};
+ghost use Rattle.pb_decode.specs.Open.Frames.{EndsAt};
+ghost use Rattle.pb_decode.specs.Tokens.Told.{RefusesTag, RefusesEnd, RefusesGroup, RefusesLength};
 
 use pb_wire::Cause;
 
@@ -24,8 +16,7 @@ pub(crate) fn tag_parts(tag: u64) -> Result<(u32, u8), Cause>
     ensures whole { (q u : Place) → Reads q tag u → IfOk result (λ t. HasTag q t.0 t.1 u) }
     ensures known { IfOk result (λ t. t.1 < 6) }
     ensures settled { IfErr result (λ c. c ≢ Truncated) }
-    ensures refused { (pool : Types) (m depth levels : ℕ) (base : List Record) (p0 q u : Place) (frames : List FrameView) (scope : ScopeView) (now : PartView) → Stands pool m depth levels base p0 frames now scope q → Reads q tag u
-        → IfErr result (λ c. Bad (schema_of pool) (records (a_message m)) depth p0 (fault q.at (path_of frames) c)) }
+    ensures refused { RefusesTag tag result }
 {
     if tag > u64::from(u32::MAX) {
         return Err(Cause::TagTooLarge);
@@ -45,8 +36,7 @@ pub(crate) fn tag_parts(tag: u64) -> Result<(u32, u8), Cause>
 pub(crate) fn group_end(innermost: Option<u32>, number: u32) -> Result<(), Cause>
     ensures ends { IsOk result → innermost ≡ Some number }
     ensures settled { IfErr result (λ c. c ≢ Truncated) }
-    ensures refused { (pool : Types) (m depth levels : ℕ) (base : List Record) (p0 q u : Place) (frames : List FrameView) (scope : ScopeView) (now : PartView) → Stands pool m depth levels base p0 frames now scope q → innermost ≡ innermost_group frames → HasTag q number 4 u
-        → IfErr result (λ c. Bad (schema_of pool) (records (a_message m)) depth p0 (fault q.at (path_of frames) c)) }
+    ensures refused { RefusesEnd innermost number result }
 {
     match innermost {
         Some(open) if open == number => Ok(()),
@@ -59,8 +49,7 @@ pub(crate) fn group_end(innermost: Option<u32>, number: u32) -> Result<(), Cause
 pub(crate) fn group_refusal(room: u8) -> Option<Cause>
     ensures allowed { IfNone result (0 < room) }
     ensures settled { IfSome result (λ c. c ≢ Truncated) }
-    ensures refused { (pool : Types) (m depth levels number : ℕ) (base : List Record) (p0 q u : Place) (frames : List FrameView) (scope : ScopeView) (now : PartView) → Stands pool m depth levels base p0 frames now scope q → scope.room ≡ room → HasTag q number 3 u
-        → IfSome result (λ c. Bad (schema_of pool) (records (a_message m)) depth p0 (fault q.at (path_of frames ++ next_step number scope ∷ []) c)) }
+    ensures refused { RefusesGroup room result }
 {
     if room == 0 {
         Some(Cause::TooDeep)
@@ -75,8 +64,7 @@ pub(crate) fn payload_size(length: u64, begin: u32, end: Option<u32>) -> Result<
     ensures whole { (u t : Place) → Reads u length t → t.at ≡ begin → EndsAt t end → IfOk result (λ n. HasLength u n t) }
     ensures settled { IfErr result (λ c. c ≢ Truncated) }
     ensures small { IfOk result (λ n. n < 2 ^ 31) }
-    ensures refused { (pool : Types) (m depth levels number : ℕ) (base : List Record) (p0 u t : Place) (frames : List FrameView) (scope : ScopeView) (now : PartView) (next : Step) (meant : Purpose) → After pool m depth levels base p0 frames next now scope u
-        → awaited next ≡ Some (tag_of number 2 meant) → Reads u length t → t.at ≡ begin → scope.end ≡ end → IfErr result (λ c. Bad (schema_of pool) (records (a_message m)) depth p0 (fault u.at (path_of frames ++ next_step number scope ∷ []) c)) }
+    ensures refused { RefusesLength length begin end result }
 {
     if length > MAX_LENGTH {
         return Err(Cause::LengthTooLarge);

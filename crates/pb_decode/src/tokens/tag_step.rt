@@ -1,15 +1,10 @@
 //! What comes behind a tag.
 
-ghost use Rattle.std.specs.Prelude.{◌≡◌, ◌≢◌, ◌<◌, ◌++◌, true, false, ℕ, List, [], ◌∷◌, Some, IfSome, IfNone};
-ghost use Rattle.pb_wire.specs.Record.{Record};
-ghost use Rattle.pb_wire.specs.Fault.{fault, Place, HasTag};
-ghost use Rattle.pb_wire.specs.Schema.{records};
-ghost use Rattle.pb_wire.specs.Grammar.{Bad};
-ghost use Rattle.pb_wire.specs.declared.fault.Cause.TheVariants.{TooDeep};
-ghost use Rattle.pb_schema.specs.Context.{a_message, schema_of};
-ghost use Rattle.pb_decode.specs.Open.Frames.{CanHold, Frame as FrameView, Scope as ScopeView, path_of, next_step, Stands};
+ghost use Rattle.std.specs.Prelude.{◌≡◌, ◌≢◌, ◌<◌, true, false, Some};
+ghost use Rattle.pb_decode.specs.Open.Frames.{CanHold};
 ghost use Rattle.pb_decode.specs.Open.PartView.{part_view};
-ghost use Rattle.pb_decode.specs.Tokens.After.{tag, awaited, goes_down as is_below, IsRoomFor, After};
+ghost use Rattle.pb_decode.specs.Tokens.After.{tag, awaited, goes_down as is_below, IsRoomFor};
+ghost use Rattle.pb_decode.specs.Tokens.Told.{GoesOnBehindTag, IsTooDeep};
 
 use crate::open::part::{Part, Slot};
 use crate::open::purpose::{Purpose, purpose_of};
@@ -77,10 +72,8 @@ pub(crate) fn tag_step(
     requires known { wire_type < 6 }
     requires no_start { wire_type ≢ 3 }
     requires no_end { wire_type ≢ 4 }
-    ensures goes_on { (m depth levels : ℕ) (base : List Record) (p0 q u : Place) (frames : List FrameView) (scope : ScopeView) → Stands pool.now m depth levels base p0 frames (part_view part.now) scope q → scope.room ≡ room → HasTag q number wire_type u
-        → IfSome result (λ next. After pool.now m depth levels base p0 frames next (part_view part.now) scope u) }
-    ensures too_deep { (m depth levels : ℕ) (base : List Record) (p0 q u : Place) (frames : List FrameView) (scope : ScopeView) → Stands pool.now m depth levels base p0 frames (part_view part.now) scope q → scope.room ≡ room → HasTag q number wire_type u
-        → IfNone result (Bad (schema_of pool.now) (records (a_message m)) depth p0 (fault q.at (path_of frames ++ next_step number scope ∷ []) TooDeep)) }
+    ensures goes_on { GoesOnBehindTag pool.now part.now room number wire_type result }
+    ensures too_deep { IsTooDeep pool.now part.now room number wire_type result }
 {
     let purpose = purpose_of(pool, part, number, wire_type);
     if !has_room(room, purpose) {

@@ -1,18 +1,14 @@
 //! Elements of a packed list.
 
-ghost use Rattle.std.specs.Prelude.{◌≡◌, ◌≢◌, ◌+◌, ◌<◌, ◌^◌, ℕ, List, Option, Some, OnOk, IfOk, IfErr, IfNone};
-ghost use Rattle.pb_wire.specs.Record.{Record, wire_type as type_of};
-ghost use Rattle.pb_wire.specs.Fault.{Place};
+ghost use Rattle.std.specs.Prelude.{◌≡◌, ◌≢◌, ◌+◌, ◌<◌, ◌^◌, Some, OnOk, IfOk, IfErr, IfNone};
 ghost use Rattle.pb_schema.specs.Rules.{IsPool};
-ghost use Rattle.pb_schema.specs.Kinds.{wire_type_of};
 ghost use Rattle.pb_decode.specs.declared.tokens.step.Step.TheVariants.{Elements};
 ghost use Rattle.pb_decode.specs.declared.error.DecodeError.TheVariants.{Memory};
 ghost use Rattle.pb_decode.specs.Open.Frames.{CanHold};
-ghost use Rattle.pb_decode.specs.Tokens.Number.{number_view};
-ghost use Rattle.pb_decode.specs.Tokens.Numbers.{Follows};
 ghost use Rattle.pb_decode.specs.Open.PartView.{part_view};
-ghost use Rattle.pb_decode.specs.Reader.{state_view, left_of, here, Reads, IsReading, Taken, Passes, IfFault, Told, AfterAt};
+ghost use Rattle.pb_decode.specs.Reader.{state_view, left_of, IsReading, Passes};
 ghost use Rattle.pb_decode.specs.Reader.Waiting.{Waits};
+ghost use Rattle.pb_decode.specs.Reader.Steps.{TellsFault, TakesNext, GoesOnBehindElement};
 
 use crate::error::DecodeError;
 use crate::reader::fault::fault_at;
@@ -37,8 +33,7 @@ fn pass_element(
     requires fits { reader.old.at + size < 2 ^ 32 }
     ensures at { OnOk result ((reader.new.at ≡ reader.old.at + size) × (reader.new.step ≡ reader.old.step)) }
     ensures same_end { OnOk result (reader.new.scope.end ≡ reader.old.scope.end) }
-    ensures goes_on { (m depth levels : ℕ) (base : List Record) (p0 w : Place) (rest : List ℕ) (outer : Option ℕ) → Reads pool.now m depth levels base p0 (state_view reader.old) rest → reader.old.step ≡ Elements number kind outer
-        → type_of (number_view value) ≡ wire_type_of kind → Follows (here (state_view reader.old) rest) (number_view value) w → OnOk result (AfterAt pool.now m depth levels base p0 (state_view reader.new) w) }
+    ensures goes_on { GoesOnBehindElement pool.now reader.old reader.new number kind value result }
     ensures memory { IfErr result (λ e. e ≡ Memory) }
 {
     put_element(alloc, pool, &mut reader.part, number, kind, value)?;
@@ -61,9 +56,9 @@ pub(crate) fn take_element(
     requires step { reader.old.step ≡ Elements number kind outer }
     requires goes_on { left_of (state_view reader.old) ≢ Some 0 }
     ensures passes { IfOk result (λ o. Passes (state_view reader.old) bytes.now (state_view reader.new) o) }
-    ensures taken { (m depth levels : ℕ) (base : List Record) (p0 : Place) → Reads pool.now m depth levels base p0 (state_view reader.old) bytes.now → IfOk result (λ o. Taken pool.now m depth levels base p0 (state_view reader.new) bytes.now o) }
+    ensures taken { TakesNext pool.now reader.old reader.new bytes.now result }
     ensures waits { IfOk result (λ o. IfNone o (Waits (state_view reader.new) bytes.now)) }
-    ensures refused { (m depth levels : ℕ) (base : List Record) (p0 : Place) → Reads pool.now m depth levels base p0 (state_view reader.old) bytes.now → IfErr result (λ e. IfFault e (Told pool.now m depth p0)) }
+    ensures refused { TellsFault pool.now reader.old bytes.now result }
 {
     match number_at(kind.wire_type(), bytes, left(reader)) {
         NumberToken::Whole(value, size) => {

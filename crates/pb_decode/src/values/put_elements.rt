@@ -1,11 +1,9 @@
 //! The values of a run of elements go to the end of their list.
 
-ghost use Rattle.std.specs.Prelude.{◌≡◌, List, map, OnOk, IfErr};
-ghost use Rattle.pb_value.specs.Data.{fields_of};
-ghost use Rattle.pb_value.specs.Change.{push_each, with_fields};
+ghost use Rattle.std.specs.Prelude.{◌≡◌, map, OnOk, IfErr};
 ghost use Rattle.pb_value.specs.View.{body_view, value_view};
 ghost use Rattle.pb_decode.specs.declared.error.DecodeError.TheVariants.{Memory};
-ghost use Rattle.pb_decode.specs.Values.Run.{put_each};
+ghost use Rattle.pb_decode.specs.Values.Run.{put_each, with_each};
 ghost use Rattle.pb_decode.specs.Open.PartView.{part_view};
 
 use crate::error::{DecodeError, memory_alone};
@@ -20,7 +18,7 @@ fn push_all(
     number: u32,
     values: Vec<Value>,
 ) -> Result<(), DecodeError>
-    ensures put { OnOk result (body_view message.new ≡ with_fields (body_view message.old) (push_each number (map value_view values.items) (fields_of (body_view message.old)))) }
+    ensures put { OnOk result (body_view message.new ≡ with_each number (map value_view values.items) (body_view message.old)) }
     ensures memory { IfErr result (λ e. e ≡ Memory) }
 {
     for value in values {
@@ -36,7 +34,7 @@ fn store_all(
     number: u32,
     values: Vec<Value>,
 ) -> Result<(), DecodeError>
-    ensures put { OnOk result (body_view message.new ≡ with_fields (body_view message.old) (push_each number (map value_view values.items) (fields_of (body_view message.old)))) }
+    ensures put { OnOk result (body_view message.new ≡ with_each number (map value_view values.items) (body_view message.old)) }
     ensures memory { IfErr result (λ e. e ≡ Memory) }
 {
     if message.fields.contains_key(&number) {

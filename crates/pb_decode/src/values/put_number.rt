@@ -1,23 +1,18 @@
 //! Numbers go where their records' purposes say.
 
-ghost use Rattle.std.specs.Prelude.{◌≡◌, ℕ, List, Option, None, Some, OnOk, IfErr};
-ghost use Rattle.pb_wire.specs.Record.{Record, wire_type};
-ghost use Rattle.pb_wire.specs.Fault.{Place};
+ghost use Rattle.std.specs.Prelude.{◌≡◌, None, Some, OnOk, IfErr};
 ghost use Rattle.pb_schema.specs.declared.types.Kind.{Kind as KindView};
 ghost use Rattle.pb_schema.specs.Rules.{IsPool};
 ghost use Rattle.pb_schema.specs.Scalar.{Scalar};
-ghost use Rattle.pb_schema.specs.Kinds.{closed_enum, read, wire_type_of};
+ghost use Rattle.pb_schema.specs.Kinds.{closed_enum, read};
 ghost use Rattle.pb_schema.specs.Closed.{is_undeclared};
 ghost use Rattle.pb_value.specs.Data.{scalar};
-ghost use Rattle.pb_decode.specs.declared.tokens.step.Step.{Step};
-ghost use Rattle.pb_decode.specs.declared.tokens.step.Step.TheVariants.{Elements};
-ghost use Rattle.pb_decode.specs.Open.Frames.{CanHold, Frame as FrameView, Scope as ScopeView, one_more_in, Stands};
+ghost use Rattle.pb_decode.specs.Open.Frames.{CanHold};
 ghost use Rattle.pb_decode.specs.declared.error.DecodeError.TheVariants.{Memory};
 ghost use Rattle.pb_decode.specs.Open.PartView.{part_view};
 ghost use Rattle.pb_decode.specs.Tokens.Number.{number_view};
-ghost use Rattle.pb_decode.specs.Tokens.Numbers.{Follows};
 ghost use Rattle.pb_decode.specs.Values.Put.{scalar_kind as kind_given, put_datum, put_record};
-ghost use Rattle.pb_decode.specs.Tokens.After.{tag, awaited, After};
+ghost use Rattle.pb_decode.specs.Values.Puts.{PutsNumber, PutsElement};
 
 use crate::error::DecodeError;
 use crate::open::part::Part;
@@ -64,7 +59,8 @@ fn put_value(
     value: Number,
 ) -> Result<(), DecodeError>
     requires { CanHold pool.now (part_view part.old) }
-    ensures put { (kind : KindView) (x : Scalar) → kind_given purpose ≡ Some kind → read kind (number_view value) ≡ Some x → OnOk result (part_view part.new ≡ put_datum pool.now number purpose (part_view part.old) (scalar x)) }
+    ensures put { (kind : KindView) (x : Scalar) → kind_given purpose ≡ Some kind → read kind (number_view value) ≡ Some x
+        → OnOk result (part_view part.new ≡ put_datum pool.now number purpose (part_view part.old) (scalar x)) }
     ensures no_kind { kind_given purpose ≡ None → part.new ≡ part.old }
     ensures unread { (kind : KindView) → kind_given purpose ≡ Some kind → read kind (number_view value) ≡ None → part.new ≡ part.old }
     ensures memory { IfErr result (λ e. e ≡ Memory) }
@@ -98,8 +94,7 @@ pub(crate) fn put_number(
 ) -> Result<(), DecodeError>
     requires rules { IsPool pool.now }
     requires can { CanHold pool.now (part_view part.old) }
-    ensures stands { (m depth levels : ℕ) (base : List Record) (p0 u w : Place) (frames : List FrameView) (scope : ScopeView) (next : Step) → After pool.now m depth levels base p0 frames next (part_view part.old) scope u
-        → awaited next ≡ Some (tag number (wire_type (number_view value)) purpose) → Follows u (number_view value) w → OnOk result (Stands pool.now m depth levels base p0 frames (part_view part.new) (one_more_in number scope) w) }
+    ensures stands { PutsNumber pool.now number purpose value part.old part.new result }
     ensures memory { IfErr result (λ e. e ≡ Memory) }
 {
     match scalar_kind(purpose) {
@@ -129,8 +124,7 @@ pub(crate) fn put_element(
     value: Number,
 ) -> Result<(), DecodeError>
     requires { CanHold pool.now (part_view part.old) }
-    ensures stands { (m depth levels : ℕ) (end : Option ℕ) (base : List Record) (p0 u w : Place) (frames : List FrameView) (scope : ScopeView) → After pool.now m depth levels base p0 frames (Elements number kind end) (part_view part.old) scope u
-        → wire_type (number_view value) ≡ wire_type_of kind → Follows u (number_view value) w → OnOk result (After pool.now m depth levels base p0 frames (Elements number kind end) (part_view part.new) scope w) }
+    ensures stands { PutsElement pool.now number kind value part.old part.new result }
     ensures memory { IfErr result (λ e. e ≡ Memory) }
 {
     if is_undeclared(pool, kind, value) {

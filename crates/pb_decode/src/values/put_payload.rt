@@ -1,26 +1,18 @@
 //! Whole payloads behind a length go where their records' purposes say.
 
-ghost use Rattle.std.specs.Prelude.{◌≡◌, ◌≤◌, ◌+◌, ℕ, List, [], ◌∷◌, Some, length, IsUtf8, option_map, OnOk, IfErr, IfNone};
-ghost use Rattle.pb_wire.specs.Record.{len, Record};
-ghost use Rattle.pb_wire.specs.Fault.{fault, Place, Moves};
-ghost use Rattle.pb_wire.specs.Schema.{records};
-ghost use Rattle.pb_wire.specs.Grammar.{Bad};
-ghost use Rattle.pb_wire.specs.declared.fault.Cause.TheVariants.{BadText as BadTextCause};
+ghost use Rattle.std.specs.Prelude.{◌≡◌, ◌≤◌, Some, length, IsUtf8, option_map, OnOk, IfErr, IfNone};
 ghost use Rattle.pb_schema.specs.declared.types.Kind.TheVariants.{Text as TextKind};
 ghost use Rattle.pb_schema.specs.Rules.{IsPool};
 ghost use Rattle.pb_schema.specs.Scalar.{Scalar};
-ghost use Rattle.pb_schema.specs.Context.{a_message, schema_of};
 ghost use Rattle.pb_value.specs.Data.{scalar};
 ghost use Rattle.pb_value.specs.View.{value_view};
-ghost use Rattle.pb_decode.specs.declared.tokens.step.Step.TheVariants.{Payload};
 ghost use Rattle.pb_decode.specs.declared.error.DecodeError.TheVariants.{Memory as OutOfMemory};
 ghost use Rattle.pb_decode.specs.declared.values.payload_value.PayloadError.TheVariants.{Memory};
-ghost use Rattle.pb_decode.specs.Open.Frames.{CanHold, Frame as FrameView, Scope as ScopeView, path_of, next_step, one_more_in, Stands};
-ghost use Rattle.pb_decode.specs.Open.Opened.{below};
+ghost use Rattle.pb_decode.specs.Open.Frames.{CanHold};
 ghost use Rattle.pb_decode.specs.Open.PartView.{part_view};
 ghost use Rattle.pb_decode.specs.Values.Put.{scalar_kind as kind_given, put_datum};
 ghost use Rattle.pb_decode.specs.Values.PayloadValue.{IfBadText, IsBytesPurpose};
-ghost use Rattle.pb_decode.specs.Tokens.After.{After};
+ghost use Rattle.pb_decode.specs.Values.Puts.{PutsPayload, RefusesPayload};
 
 use crate::error::DecodeError;
 use crate::open::part::Part;
@@ -44,7 +36,8 @@ fn put_value(
     value: Option<Value>,
 ) -> Result<(), DecodeError>
     requires { CanHold pool.now (part_view part.old) }
-    ensures put { (x : Scalar) → option_map value_view value ≡ Some (scalar x) → OnOk result (part_view part.new ≡ put_datum pool.now number purpose (part_view part.old) (scalar x)) }
+    ensures put { (x : Scalar) → option_map value_view value ≡ Some (scalar x)
+        → OnOk result (part_view part.new ≡ put_datum pool.now number purpose (part_view part.old) (scalar x)) }
     ensures same { IfNone value (part.new ≡ part.old) }
     ensures memory { IfErr result (λ e. e ≡ OutOfMemory) }
 {
@@ -67,10 +60,8 @@ pub(crate) fn put_payload(
     requires rules { IsPool pool.now }
     requires can { CanHold pool.now (part_view part.old) }
     requires bytes { IsBytesPurpose purpose }
-    ensures stands { (m depth levels n : ℕ) (base : List Record) (p0 u w : Place) (frames : List FrameView) (scope : ScopeView) → After pool.now m depth levels base p0 frames (Payload number purpose n) (part_view part.old) scope u
-        → length bytes.now ≡ n → Moves u bytes.now w → OnOk result (Stands pool.now m depth levels base p0 frames (part_view part.new) (one_more_in number scope) w) }
-    ensures refused { (m depth levels n : ℕ) (base : List Record) (p0 u w : Place) (frames : List FrameView) (scope : ScopeView) → After pool.now m depth levels base p0 frames (Payload number purpose n) (part_view part.old) scope u
-        → length bytes.now ≡ n → Moves u bytes.now w → IfErr result (λ e. IfBadText e (λ valid. Bad (schema_of pool.now) (records (a_message m)) depth p0 (below (path_of frames) (fault (u.at + valid) (next_step number scope ∷ []) BadTextCause)))) }
+    ensures stands { PutsPayload pool.now number purpose bytes.now part.old part.new result }
+    ensures refused { RefusesPayload pool.now number purpose bytes.now part.old result }
     ensures same { IfErr result (λ e. IfBadText e (λ _. part.new ≡ part.old)) }
     ensures within { IfErr result (λ e. IfBadText e (λ valid. valid ≤ length bytes.now)) }
     ensures accepted { (kind_given purpose ≡ Some TextKind → IsUtf8 bytes.now) → IfErr result (λ e. e ≡ Memory) }
@@ -101,10 +92,8 @@ pub(crate) fn put_gathered(
     requires rules { IsPool pool.now }
     requires can { CanHold pool.now (part_view part.old) }
     requires bytes { IsBytesPurpose purpose }
-    ensures stands { (m depth levels n : ℕ) (base : List Record) (p0 u w : Place) (frames : List FrameView) (scope : ScopeView) → After pool.now m depth levels base p0 frames (Payload number purpose n) (part_view part.old) scope u
-        → length bytes.items ≡ n → Moves u bytes.items w → OnOk result (Stands pool.now m depth levels base p0 frames (part_view part.new) (one_more_in number scope) w) }
-    ensures refused { (m depth levels n : ℕ) (base : List Record) (p0 u w : Place) (frames : List FrameView) (scope : ScopeView) → After pool.now m depth levels base p0 frames (Payload number purpose n) (part_view part.old) scope u
-        → length bytes.items ≡ n → Moves u bytes.items w → IfErr result (λ e. IfBadText e (λ valid. Bad (schema_of pool.now) (records (a_message m)) depth p0 (below (path_of frames) (fault (u.at + valid) (next_step number scope ∷ []) BadTextCause)))) }
+    ensures stands { PutsPayload pool.now number purpose bytes.items part.old part.new result }
+    ensures refused { RefusesPayload pool.now number purpose bytes.items part.old result }
     ensures within { IfErr result (λ e. IfBadText e (λ valid. valid ≤ length bytes.items)) }
     ensures accepted { (kind_given purpose ≡ Some TextKind → IsUtf8 bytes.items) → IfErr result (λ e. e ≡ Memory) }
 {

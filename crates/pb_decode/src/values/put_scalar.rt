@@ -46,7 +46,8 @@ fn put_in_message(
     value: Value,
 ) -> Result<(), DecodeError>
     requires { CanHold pool.now (message_part kind.0 (body_view body.old)) }
-    ensures put { OnOk result (message_part kind.0 (body_view body.new) ≡ put_datum pool.now number purpose (message_part kind.0 (body_view body.old)) (value_view value)) }
+    ensures put { OnOk result (message_part kind.0 (body_view body.new)
+        ≡ put_datum pool.now number purpose (message_part kind.0 (body_view body.old)) (value_view value)) }
     ensures memory { IfErr result (λ e. e ≡ Memory) }
 {
     match purpose {
@@ -65,7 +66,8 @@ fn put_in_message(
 
 /// Puts a scalar into an entry, as its key or as its value.
 fn put_in_entry(key: &mut Option<MapKey>, held: &mut Option<Value>, purpose: Purpose, value: Value)
-    ensures { (pool : Types) (n : ℕ) (k d : Kind) → entry_part k d (option_map key_view key.new) (option_map value_view held.new) ≡ put_datum pool n purpose (entry_part k d (option_map key_view key.old) (option_map value_view held.old)) (value_view value) }
+    ensures { (pool : Types) (n : ℕ) (k d : Kind) → entry_part k d (option_map key_view key.new) (option_map value_view held.new)
+        ≡ put_datum pool n purpose (entry_part k d (option_map key_view key.old) (option_map value_view held.old)) (value_view value) }
 {
     match purpose {
         Purpose::Key(_) => *key = key_of(value),

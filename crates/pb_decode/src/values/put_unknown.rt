@@ -1,13 +1,12 @@
 //! Records that no field has.
 
-ghost use Rattle.std.specs.Prelude.{◌≡◌, [], ◌∷◌, ◌++◌, OnOk, IfErr};
+ghost use Rattle.std.specs.Prelude.{◌≡◌, OnOk, IfErr};
 ghost use Rattle.pb_wire.specs.Unknown.{payload_of};
-ghost use Rattle.pb_value.specs.Data.{body, fields_of, unknown_of};
 ghost use Rattle.pb_value.specs.View.{body_view};
 ghost use Rattle.pb_decode.specs.declared.error.DecodeError.TheVariants.{Memory};
 ghost use Rattle.pb_decode.specs.Open.PartView.{part_view};
 ghost use Rattle.pb_decode.specs.Tokens.Number.{number_view};
-ghost use Rattle.pb_decode.specs.Values.Put.{put_record};
+ghost use Rattle.pb_decode.specs.Values.Put.{put_record, with_record};
 
 use crate::error::DecodeError;
 use crate::open::part::Part;
@@ -28,7 +27,7 @@ pub(crate) fn unknown_number(value: Number) -> Unknown
 
 /// Puts a record after the unknown ones of a message.
 fn push_unknown(message: &mut Body, number: u32, unknown: Unknown) -> Result<(), DecodeError>
-    ensures put { OnOk result (body_view message.new ≡ body (fields_of (body_view message.old)) (unknown_of (body_view message.old) ++ record { number = number; payload = payload_of unknown } ∷ [])) }
+    ensures put { OnOk result (body_view message.new ≡ with_record number (payload_of unknown) (body_view message.old)) }
     ensures memory { IfErr result (λ e. e ≡ Memory) }
 {
     message.unknown.push((number, unknown))?;

@@ -1,16 +1,9 @@
 //! Runs of elements of a packed list, as values.
 
-ghost use Rattle.std.specs.Prelude.{◌≡◌, ◌⊎◌, ◌-◌, ◌≤◌, ◌<◌, ℕ, List, [], ◌∷◌, Option, map, length, IfOk, IfErr, IfSome};
-ghost use Rattle.pb_wire.specs.Record.{Record};
-ghost use Rattle.pb_wire.specs.Fault.{Place};
-ghost use Rattle.pb_wire.specs.Token.{given_at, passed};
+ghost use Rattle.std.specs.Prelude.{◌≡◌, ◌⊎◌, ◌≤◌, ◌<◌, length, IfOk, IfErr, IfSome};
 ghost use Rattle.pb_schema.specs.Kinds.{wire_type_of};
-ghost use Rattle.pb_value.specs.View.{value_view};
-ghost use Rattle.pb_decode.specs.declared.tokens.step.Step.TheVariants.{Elements};
 ghost use Rattle.pb_decode.specs.declared.error.DecodeError.TheVariants.{Memory};
-ghost use Rattle.pb_decode.specs.Open.Frames.{Part as PartView, Frame as FrameView, Scope as ScopeView};
-ghost use Rattle.pb_decode.specs.Values.Run.{put_each};
-ghost use Rattle.pb_decode.specs.Tokens.After.{After};
+ghost use Rattle.pb_decode.specs.Values.Puts.{TellsElement, TellsRun};
 
 use crate::error::DecodeError;
 use crate::reader::state::number_at;
@@ -27,8 +20,7 @@ use std::alloc::Global;
 fn element_at(pool: &Pool, kind: Kind, bytes: &[u8], left: Option<u32>) -> Option<(Value, usize)>
     requires { (wire_type_of kind ≡ 0) ⊎ (wire_type_of kind ≡ 1) ⊎ (wire_type_of kind ≡ 5) }
     ensures within { IfSome result (λ r. (0 < r.1) × (r.1 ≤ length bytes.now)) }
-    ensures put { (m depth levels at number : ℕ) (outer : Option ℕ) (base : List Record) (p0 : Place) (frames : List FrameView) (scope : ScopeView) (now : PartView) → After pool.now m depth levels base p0 frames (Elements number kind outer) now scope (given_at at left bytes.now)
-        → IfSome result (λ r. After pool.now m depth levels base p0 frames (Elements number kind outer) (put_each number (value_view r.0 ∷ []) now) scope (passed (given_at at left bytes.now) r.1)) }
+    ensures put { TellsElement pool.now kind bytes.now left result }
 {
     match number_at(kind.wire_type(), bytes, left) {
         NumberToken::Whole(number, size) => {
@@ -56,8 +48,7 @@ pub(crate) fn read_run(
 ) -> Result<(Vec<Value>, usize), DecodeError>
     requires { (wire_type_of kind ≡ 0) ⊎ (wire_type_of kind ≡ 1) ⊎ (wire_type_of kind ≡ 5) }
     ensures within { IfOk result (λ r. r.1 ≤ length bytes.now) }
-    ensures put { (m depth levels at number : ℕ) (outer : Option ℕ) (base : List Record) (p0 : Place) (frames : List FrameView) (scope : ScopeView) (now : PartView) → After pool.now m depth levels base p0 frames (Elements number kind outer) now scope (given_at at left bytes.now)
-        → IfOk result (λ r. After pool.now m depth levels base p0 frames (Elements number kind outer) (put_each number (map value_view r.0.items) now) scope (passed (given_at at left bytes.now) r.1)) }
+    ensures put { TellsRun pool.now kind bytes.now left result }
     ensures memory { IfErr result (λ e. e ≡ Memory) }
 {
     let mut values = Vec::new(alloc);
