@@ -2,9 +2,10 @@
 use Rattle.std.proofs.Common.{ℕ, ◌≤◌, List, [], ◌∷◌, arith}
 use Rattle.std.specs.List.{AllByRecursion}
 use Rattle.pb_value.specs.Data.{message_depth}
-use Rattle.pb_descr.specs.Decls.{DeclaredFile}
+use Rattle.pb_decl.specs.Decls.{DeclaredFile}
 use Rattle.pb_descr.specs.Writing.{set_body}
-use Rattle.pb_descr.proofs.NestLemmas.{all_nest, set_levels}
+use Rattle.pb_decl.specs.Nests.{all_nest}
+use Rattle.pb_descr.proofs.NestLemmas.{set_levels}
 use Rattle.pb_link.specs.Resolved.{Resolves}
 use Rattle.pb_link.proofs.ResolvedNestLemmas.{resolved_within}
 use Rattle.pb_source.specs.Source.{IsSource}

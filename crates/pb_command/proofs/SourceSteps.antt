@@ -2,7 +2,7 @@
 use Rattle.std.proofs.Common.{◌≡◌, ◌+◌, ◌⊎◌, ℕ, List, [], ◌∷◌, Bool, true, Option, None, Some, take, refl, sym, ap, inl, inr, subst}
 use Rattle.std.specs.Prelude.{IfSome, option_map}
 use Rattle.pb_wire.specs.Limits.{full}
-use Rattle.pb_descr.specs.Decls.{DeclaredFile}
+use Rattle.pb_decl.specs.Decls.{DeclaredFile}
 use Rattle.pb_source.specs.Source.{IsSource, HasFault, too_large, bad_utf8, in_token, in_syntax}
 use Rattle.pb_source.specs.Fault.{out_of_memory}
 use Rattle.pb_source.specs.declared.fault.Cause.{Cause}

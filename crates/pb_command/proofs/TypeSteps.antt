@@ -1,7 +1,7 @@
 -- Why a set gives no type, from what its steps leave.
 use Rattle.std.proofs.Common.{ℕ, List, Some, refl}
 use Rattle.pb_wire.specs.Limits.{full}
-use Rattle.pb_descr.specs.Decls.{DeclaredFile}
+use Rattle.pb_decl.specs.Decls.{DeclaredFile}
 use Rattle.pb_descr.specs.Sets.{IsSetOf, IsUnread}
 use Rattle.pb_descr.specs.declared.error.DescrError.{DescrError}
 use Rattle.pb_descr.specs.declared.error.DescrError.TheVariants as descr

@@ -6,7 +6,7 @@ use Rattle.pb_wire.specs.Exact.{IsSomeText}
 use Rattle.pb_wire.specs.Limits.{Bounds, full}
 use Rattle.pb_schema.specs.Types.{Types}
 use Rattle.pb_value.specs.WellFormed.{IsWellFormed}
-use Rattle.pb_descr.specs.Decls.{DeclaredFile}
+use Rattle.pb_decl.specs.Decls.{DeclaredFile}
 use Rattle.pb_command.specs.Answer.{Answer, stopped, broken, device_failed, IsPrinted}
 use Rattle.pb_command.specs.Answers.{FaultAt, TextAt, FramesAt, FrameFaultAt, FramesBegunAt, AnyFrames, canonical_form}
 use Rattle.pb_command.specs.CompileAnswer.{CompileAnswer, roots_of, texts_of, told_of}

@@ -9,7 +9,7 @@ use Rattle.pb_schema.specs.Tables.{place_of}
 use Rattle.pb_schema.specs.Types.{Types}
 use Rattle.pb_value.specs.Data.{Message}
 use Rattle.pb_descr.specs.Causes.{set_causes}
-use Rattle.pb_descr.specs.Decls.{DeclaredFile}
+use Rattle.pb_decl.specs.Decls.{DeclaredFile}
 use Rattle.pb_descr.specs.Pool.{descriptor_types, the_set}
 use Rattle.pb_descr.specs.Sets.{IsSetOf, IsSetText}
 use Rattle.pb_descr.specs.declared.cause.DeclCause.{DeclCause}

@@ -4,7 +4,7 @@
 ghost use Rattle.std.specs.Prelude.{◌≡◌, ◌≢◌, ◌+◌, ◌<◌, ◌⊎◌, true, ℕ, List, Option, Some, None, length, IfOk, IfErr, OnOk};
 ghost use Rattle.pb_wire.specs.Fault.{Fault};
 ghost use Rattle.pb_wire.specs.Limits.{full};
-ghost use Rattle.pb_descr.specs.Decls.{DeclaredFile};
+ghost use Rattle.pb_decl.specs.Decls.{DeclaredFile};
 ghost use Rattle.pb_descr.specs.Sets.{IsSetOf};
 ghost use Rattle.pb_link.specs.Linking.{Links};
 ghost use Rattle.pb_command.specs.Answer.{refused, device_failed};

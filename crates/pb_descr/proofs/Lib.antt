@@ -20,8 +20,6 @@ pub mod WriteLemmas
 pub mod HeldLemmas
 -- for the first of joined causes
 pub mod JudgeLemmas
--- for what a message stands for, part by part
-pub mod ViewLemmas
 -- for `read_set`: why the message of a set is refused
 pub mod ReadLemmas
 -- for the law that bytes are one set, or have one fault or first cause

@@ -1,20 +1,13 @@
--- How deep messages are declared in each other, and that what they are written as is little deeper.
+-- What messages are written as is little deeper than they are declared in each other.
 use Rattle.std.proofs.Common.{ℕ, ℤ, pos, suc, ◌+◌, ◌≤◌, max, List, [], ◌∷◌, map, Bool, true, false, Option, Some, None, arith}
 use Rattle.std.specs.List.{AllByRecursion}
 use Rattle.pb_value.specs.Data.{Datum, levels_of, datums_of, datums_depth, Holding, Fields, fields_depth, message_depth}
-use Rattle.pb_descr.specs.declared.decl.TypeCode.{TypeCode}
-use Rattle.pb_descr.specs.Decls.{DeclaredField, DeclaredEnum, DeclaredMessage, message, DeclaredMessages, no_messages, more_messages, DeclaredMethod, DeclaredService, DeclaredFile}
-use Rattle.pb_descr.specs.Writing.{with_field, fields_with, a_text, a_number, a_mark, a_list, a_message, options_with, number_of_type, optional, packed_options, field_contents, field_body, range_body, value_body, text_datum, int_datum, enum_contents, enum_body, oneof_body, message_contents, message_body, message_bodies, method_contents, method_body, service_contents, service_body, package_text, syntax_text, file_contents, file_body, set_body}
+use Rattle.pb_decl.specs.declared.decl.TypeCode.{TypeCode}
+use Rattle.pb_decl.specs.Decls.{DeclaredField, DeclaredEnum, DeclaredMessage, message, DeclaredMessages, no_messages, more_messages, DeclaredMethod, DeclaredService, DeclaredFile}
+use Rattle.pb_decl.specs.TypeNumbers.{number_of_type}
+use Rattle.pb_descr.specs.Writing.{with_field, fields_with, a_text, a_number, a_mark, a_list, a_message, options_with, optional, packed_options, field_contents, field_body, range_body, value_body, text_datum, int_datum, enum_contents, enum_body, oneof_body, message_contents, message_body, message_bodies, method_contents, method_body, service_contents, service_body, package_text, syntax_text, file_contents, file_body, set_body}
+use Rattle.pb_decl.specs.Nests.{nests, all_nest}
 use Rattle.pb_descr.proofs.DepthLemmas.{option_depth, list_depth}
-
--- how many messages stand in each other, the outermost among them
-abbrev mutual
-  pub nests : DeclaredMessage → ℕ
-  nests (message head inner) = suc (all_nest inner)
-
-  pub all_nest : DeclaredMessages → ℕ
-  all_nest no_messages = 0
-  all_nest (more_messages m ms) = max (nests m) (all_nest ms)
 
 -- ---- what stands in a message, each no deeper than a bound
 

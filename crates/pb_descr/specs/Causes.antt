@@ -1,15 +1,18 @@
 -- Why files of a set are not read: every cause that a set shows, in the order in which they are told, which is by file, then by declaration,
 -- then by number. A file comes before what it declares; a message before its fields, these before its oneofs, its nested messages and its enums;
 -- enums come behind messages and services behind enums, and each before its values or methods.
-use Rattle.std.specs.Prelude.{◌≡◌, ℕ, ℤ, pos, ◌+◌, List, [], ◌∷◌, ◌++◌, codes, length, map, flat_map, Bool, true, false, not, ◌==◌, ◌&&◌, ◌||◌, Option, Some, None, is_some, is_none, slice_get, Result, MatchResult}
+use Rattle.std.specs.Prelude.{◌≡◌, ℕ, ℤ, pos, ◌+◌, List, [], ◌∷◌, ◌++◌, codes, length, map, flat_map, Bool, true, false, not}
+use Rattle.std.specs.Prelude.{◌==◌, ◌&&◌, ◌||◌, Option, Some, None, is_some, is_none, slice_get, Result, MatchResult}
 use Rattle.std.specs.Option.{option_map_or}
 use Rattle.std.specs.Ordering.{int_eq, nat_cmp, match_ordering}
 use Rattle.std.specs.Str.{bytes_eq}
-use Rattle.pb_value.specs.Data.{Datum, scalar, message, Datums, no_datums, datum, Holding, one, list, map as a_map, Fields, no_fields, field, Message, body, fields_of}
+use Rattle.pb_value.specs.Data.{Datum, scalar, message, Datums, no_datums, datum, Holding, one, list}
+use Rattle.pb_value.specs.Data.{map as a_map, Fields, no_fields, field, Message, body, fields_of}
 use Rattle.pb_descr.specs.declared.cause.DeclCause.{DeclCause}
 use Rattle.pb_descr.specs.declared.cause.DeclCause.TheVariants as cause
 use Rattle.pb_descr.specs.Held.{fields_in, data_at, text_at, int_at, name_at}
-use Rattle.pb_descr.specs.Reading.{type_of_number, label_at, is_proto2}
+use Rattle.pb_decl.specs.TypeNumbers.{type_of_number}
+use Rattle.pb_descr.specs.Reading.{label_at, is_proto2}
 
 abbrev pub when : Bool → DeclCause → List DeclCause
 when true c = c ∷ []

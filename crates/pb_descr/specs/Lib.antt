@@ -1,13 +1,10 @@
 pub mod CauseName
 pub mod Causes
 pub mod Contents
-pub mod Decls
 pub mod ErrorNumber
 pub mod Held
-pub mod One
 pub mod Pool
 pub mod PoolRows
 pub mod Reading
 pub mod Sets
-pub mod View
 pub mod Writing

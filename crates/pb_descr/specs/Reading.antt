@@ -1,22 +1,14 @@
 -- The declarations that a descriptor set's message stands for (descriptor.proto).
-use Rattle.std.specs.Prelude.{ℕ, zero, suc, ℤ, pos, negsuc, List, [], ◌∷◌, codes, length, map, Bool, ◌==◌, ◌||◌, Option, None, unwrap_or, option_and_then, slice_get}
+use Rattle.std.specs.Prelude.{ℕ, zero, suc, ℤ, pos, negsuc, List, [], ◌∷◌, codes, length, map, Bool}
+use Rattle.std.specs.Prelude.{◌==◌, ◌||◌, Option, None, unwrap_or, option_and_then, slice_get}
 use Rattle.std.specs.Ordering.{int_eq, nat_cmp, match_ordering}
 use Rattle.std.specs.Str.{bytes_eq}
-use Rattle.pb_value.specs.Data.{Datum, scalar, message as one_message, Datums, no_datums, datum, Holding, one, list, map as a_map, Fields, no_fields, field, Message, body, fields_of}
-use Rattle.pb_descr.specs.declared.decl.TypeCode.{TypeCode}
-use Rattle.pb_descr.specs.declared.decl.TypeCode.TheVariants as code
-use Rattle.pb_descr.specs.Decls.{DeclaredField, DeclaredEnum, MessageHead, DeclaredMessage, message, DeclaredMessages, no_messages, more_messages, DeclaredMethod, DeclaredService, DeclaredFile}
+use Rattle.pb_value.specs.Data.{Datum, scalar, message as one_message, Datums, no_datums, datum, Holding, one}
+use Rattle.pb_value.specs.Data.{list, map as a_map, Fields, no_fields, field, Message, body, fields_of}
+use Rattle.pb_decl.specs.TypeNumbers.{type_of_number}
+use Rattle.pb_decl.specs.Decls.{DeclaredField, DeclaredEnum, MessageHead, DeclaredMessage, message, DeclaredMessages}
+use Rattle.pb_decl.specs.Decls.{no_messages, more_messages, DeclaredMethod, DeclaredService, DeclaredFile}
 use Rattle.pb_descr.specs.Held.{fields_in, data_at, text_at, int_at, bool_at, inside_at, texts_at, ints_at, name_at, number_at, mark_at}
-
--- the types of fields by their numbers, from 1 on
-abbrev pub type_codes : List TypeCode
-type_codes =
-    code.Double ∷ code.Float ∷ code.Int64 ∷ code.Uint64 ∷ code.Int32 ∷ code.Fixed64 ∷ code.Fixed32 ∷ code.Bool ∷ code.Text ∷ code.Group ∷ code.Message ∷ code.Bytes ∷ code.Uint32 ∷ code.Enum ∷ code.Sfixed32 ∷ code.Sfixed64 ∷ code.Sint32 ∷ code.Sint64 ∷ []
-
-abbrev pub type_of_number : ℤ → Option TypeCode
-type_of_number (pos zero) = None
-type_of_number (pos (suc n)) = slice_get type_codes n
-type_of_number (negsuc n) = None
 
 -- starts and ends
 abbrev pub range_in : Datum → ℤ × ℤ

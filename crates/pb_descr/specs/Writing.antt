@@ -2,9 +2,9 @@
 use Rattle.std.specs.Prelude.{ℕ, ℤ, pos, List, [], ◌∷◌, codes, map, Bool, true, false, if◌then◌else◌, Option, Some, None}
 use Rattle.pb_schema.specs.Scalar.{int32, boolean, text}
 use Rattle.pb_value.specs.Data.{Datum, scalar, message as one_message, datums_of, Holding, one, list, Fields, no_fields, field, Message, body}
-use Rattle.pb_descr.specs.declared.decl.TypeCode.{TypeCode}
-use Rattle.pb_descr.specs.declared.decl.TypeCode.TheVariants as code
-use Rattle.pb_descr.specs.Decls.{DeclaredField, DeclaredEnum, MessageHead, DeclaredMessage, message, DeclaredMessages, no_messages, more_messages, DeclaredMethod, DeclaredService, DeclaredFile}
+use Rattle.pb_decl.specs.TypeNumbers.{number_of_type}
+use Rattle.pb_decl.specs.Decls.{DeclaredField, DeclaredEnum, MessageHead, DeclaredMessage, message, DeclaredMessages}
+use Rattle.pb_decl.specs.Decls.{no_messages, more_messages, DeclaredMethod, DeclaredService, DeclaredFile}
 
 abbrev pub with_field : ℕ → Option Holding → Fields → Fields
 with_field n None fs = fs
@@ -37,26 +37,6 @@ a_message es = one_message (body (fields_with es) [])
 abbrev pub options_with : ℕ → Bool → Option Holding
 options_with n true = Some (one (a_message ((n, a_mark true) ∷ [])))
 options_with n false = None
-
-abbrev pub number_of_type : TypeCode → ℕ
-number_of_type code.Double = 1
-number_of_type code.Float = 2
-number_of_type code.Int64 = 3
-number_of_type code.Uint64 = 4
-number_of_type code.Int32 = 5
-number_of_type code.Fixed64 = 6
-number_of_type code.Fixed32 = 7
-number_of_type code.Bool = 8
-number_of_type code.Text = 9
-number_of_type code.Group = 10
-number_of_type code.Message = 11
-number_of_type code.Bytes = 12
-number_of_type code.Uint32 = 13
-number_of_type code.Enum = 14
-number_of_type code.Sfixed32 = 15
-number_of_type code.Sfixed64 = 16
-number_of_type code.Sint32 = 17
-number_of_type code.Sint64 = 18
 
 abbrev pub optional : {X : Type 0} → (X → Option Holding) → Option X → Option Holding
 optional f None = None

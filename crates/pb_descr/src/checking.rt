@@ -8,9 +8,9 @@ ghost use Rattle.pb_descr.specs.Causes.{is_label, has_bad_type, is_group, has_an
 ghost use Rattle.pb_descr.specs.Causes.{field_causes, listed_causes, head_causes, message_causes, file_head_causes, file_causes, causes_from, Judges};
 
 use crate::cause::DeclCause;
-use crate::decl::TypeCode;
 use crate::declaring::{OPTIONAL, REPEATED, is_proto2, label_at};
 use crate::held::{int_at, name_at, text_at, values_at};
+use pb_decl::TypeCode;
 use pb_value::Value;
 
 /// The label of a field that has to be there.

@@ -4,13 +4,13 @@ ghost use Rattle.std.specs.Prelude.{◌≡◌, ℕ, [], List, All};
 ghost use Rattle.pb_wire.specs.Limits.{Bounds, full};
 ghost use Rattle.pb_wire.specs.Ranges.{IsByte};
 ghost use Rattle.pb_schema.specs.Rules.{IsPool};
-ghost use Rattle.pb_descr.specs.Decls.{DeclaredFile};
+ghost use Rattle.pb_decl.specs.Decls.{DeclaredFile};
 ghost use Rattle.pb_descr.specs.Pool.{descriptor_types};
 ghost use Rattle.pb_descr.specs.Reading.{files_in};
 ghost use Rattle.pb_descr.specs.Causes.{set_causes};
 ghost use Rattle.pb_descr.specs.Writing.{set_body};
 ghost use Rattle.pb_descr.specs.Sets.{IsSetOf, HasSetFault, IsWritable, set_bytes};
-ghost use Rattle.pb_descr.specs.One.{ExactlyOne};
+ghost use Rattle.pb_decl.specs.One.{ExactlyOne};
 
 /// What files are written as declares these files. Where it can be written and shows no cause, its canonical bytes are a set of these
 /// files. The types of descriptor sets are a pool.

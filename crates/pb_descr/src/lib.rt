@@ -21,7 +21,6 @@ mod bodies;
 mod cause;
 mod checking;
 mod contents;
-mod decl;
 mod declaring;
 mod error;
 mod held;
@@ -32,9 +31,9 @@ mod reading;
 mod writing;
 
 pub use cause::DeclCause;
-pub use decl::{EnumDecl, FieldDecl, FileDecl, MessageDecl, MethodDecl, ServiceDecl, TypeCode};
 pub use error::{DescrError, WriteSetError};
 pub use laws::{one_set, set_back};
+pub use pb_decl::{EnumDecl, FieldDecl, FileDecl, MessageDecl, MethodDecl, ServiceDecl, TypeCode};
 pub use pool::descriptor_pool;
 pub use reading::read_set;
 pub use writing::write_set;

@@ -9,9 +9,9 @@ use Rattle.std.proofs.lemmas.List.{length-map, take_more, take_all, map-append}
 use Rattle.std.proofs.lemmas.List.Elements.{filter_map-append}
 use Rattle.pb_schema.specs.Types.{FileView}
 use Rattle.pb_schema.specs.Imports.{imports_of, Reaches, directly, further}
-use Rattle.pb_descr.specs.Decls.{DeclaredFile}
-use Rattle.pb_descr.specs.View.{file_view}
-use Rattle.pb_descr.specs.declared.decl.FileDecl.{FileDecl}
+use Rattle.pb_decl.specs.Decls.{DeclaredFile}
+use Rattle.pb_decl.specs.View.{file_view}
+use Rattle.pb_decl.specs.declared.decl.FileDecl.{FileDecl}
 use Rattle.pb_link.specs.Sees.{file_named, import_at, file_of, files_of, public_file_of, public_files_of, Sees, itself, imported, onward}
 use Rattle.pb_link.specs.Reach.{graph_of, next_of, Reached, begun, further as led, IsGraph, is_marked}
 use Rattle.pb_link.specs.Graphs.{target_at, AreImports, LeadToFiles, KnowsSight, sees_by, is_file}

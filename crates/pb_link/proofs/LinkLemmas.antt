@@ -5,9 +5,9 @@ use Rattle.std.proofs.lemmas.List.{length-map}
 use Rattle.std.proofs.lemmas.Option.{none-some, slice_get_within}
 use Rattle.pb_schema.specs.Types.{Types}
 use Rattle.pb_schema.proofs.LookupLemmas.{get_viewed}
-use Rattle.pb_descr.specs.declared.decl.FileDecl.{FileDecl}
-use Rattle.pb_descr.specs.View.{file_view}
-use Rattle.pb_descr.specs.Decls.{DeclaredFile}
+use Rattle.pb_decl.specs.declared.decl.FileDecl.{FileDecl}
+use Rattle.pb_decl.specs.View.{file_view}
+use Rattle.pb_decl.specs.Decls.{DeclaredFile}
 use Rattle.pb_link.specs.declared.cause.LinkCause.{LinkCause}
 use Rattle.pb_link.specs.declared.declaration.Declaration.{Declaration as DeclarationValue}
 use Rattle.pb_link.specs.declared.error.LinkError.{LinkError}

@@ -10,7 +10,7 @@ use Rattle.std.proofs.lemmas.List.{take_more}
 use Rattle.std.proofs.lemmas.List.Elements.{Contains-push, Contains-append_left, Contains-append_right, Contains-append_cases}
 use Rattle.pb_schema.proofs.ImportLemmas.{Contains-none, Contains-one}
 use Rattle.pb_schema.specs.Names.{packages_of, fronts_from, with_front, in_scope}
-use Rattle.pb_descr.specs.Decls.{DeclaredEnum, MessageHead, DeclaredMessage, message, DeclaredMessages, no_messages, more_messages, DeclaredMethod, DeclaredService, DeclaredFile}
+use Rattle.pb_decl.specs.Decls.{DeclaredEnum, MessageHead, DeclaredMessage, message, DeclaredMessages, no_messages, more_messages, DeclaredMethod, DeclaredService, DeclaredFile}
 use Rattle.pb_link.specs.Declarations.{a_field, a_oneof, a_value, a_method, Declaration, fields_of, oneofs_of, values_of, enum_declared, enums_declared, head_row, message_declared, messages_declared, service_declared, services_declared, file_declared, files_declared, declarations}
 use Rattle.pb_link.specs.Lookup.{Seen, every_file, makes_package, is_package_name}
 use Rattle.pb_link.specs.Reach.{is_marked, IsListed}

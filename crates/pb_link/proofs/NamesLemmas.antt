@@ -6,7 +6,7 @@ use Rattle.std.specs.Option.{option_map_or}
 use Rattle.std.proofs.lemmas.Bool.Decides.{nat_tests}
 use Rattle.std.proofs.lemmas.List.{drop_more, take-map, map-append}
 use Rattle.pb_schema.specs.Imports.{Reaches}
-use Rattle.pb_descr.specs.Decls.{DeclaredFile}
+use Rattle.pb_decl.specs.Decls.{DeclaredFile}
 use Rattle.pb_link.specs.declared.cause.LinkCause.TheVariants as cause
 use Rattle.pb_link.specs.Declarations.{Item, a_file, a_message, a_field, a_oneof, an_enum, a_value, a_service, a_method, Declaration, declarations, is_named, full_name, has_name}
 use Rattle.pb_link.specs.Lookup.{Found, looked_up, every_file, is_package_name}

@@ -3,8 +3,8 @@ use Rattle.std.proofs.Common.{◌≡◌, ℕ, zero, suc, ◌<◌, ◌⊎◌, inl
 use Rattle.std.specs.Prelude.{slice_get}
 use Rattle.std.proofs.lemmas.List.{length-map}
 use Rattle.pb_schema.specs.Types.{Types}
-use Rattle.pb_descr.specs.Decls.{DeclaredFile}
-use Rattle.pb_descr.specs.One.{ExactlyOne}
+use Rattle.pb_decl.specs.Decls.{DeclaredFile}
+use Rattle.pb_decl.specs.One.{ExactlyOne}
 use Rattle.pb_link.specs.declared.cause.LinkCause.{LinkCause}
 use Rattle.pb_link.specs.Declarations.{full_name}
 use Rattle.pb_link.specs.Sees.{file_of}

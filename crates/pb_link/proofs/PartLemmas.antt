@@ -6,9 +6,9 @@ use Rattle.std.specs.Str.{bytes_eq}
 use Rattle.std.specs.declared.alloc.Global.{Global}
 use Rattle.std.proofs.lemmas.List.{drop_more, take_more, take_all, map-append}
 use Rattle.pb_schema.specs.declared.types.Kind.{Kind}
-use Rattle.pb_descr.specs.Decls.{DeclaredFile, MessageHead}
-use Rattle.pb_descr.specs.View.{field_view}
-use Rattle.pb_descr.specs.declared.decl.FieldDecl.{FieldDecl}
+use Rattle.pb_decl.specs.Decls.{DeclaredFile, MessageHead}
+use Rattle.pb_decl.specs.View.{field_view}
+use Rattle.pb_decl.specs.declared.decl.FieldDecl.{FieldDecl}
 use Rattle.pb_link.specs.Sees.{file_of}
 use Rattle.pb_link.specs.Rules.{key_name}
 use Rattle.pb_link.specs.Declarations.{is_synthetic}

@@ -17,7 +17,7 @@ use Rattle.pb_link.specs.Declarations.{Declaration}
 use Rattle.pb_link.specs.Sees.{Sight}
 use Rattle.pb_link.specs.Rules.{World, lookups}
 use Rattle.pb_link.specs.Link.{holds, first_cause, first_told, first_fault}
-use Rattle.pb_descr.specs.Decls.{DeclaredFile}
+use Rattle.pb_decl.specs.Decls.{DeclaredFile}
 use Rattle.pb_link.specs.Judging.{world_of}
 use Rattle.pb_link.specs.Tables.{holds_table, AreTablesOf, TellsAt, is_elsewhere, at_place}
 use Rattle.pb_link.specs.View.{declaration_view, type_names_view}

@@ -6,7 +6,7 @@ use Rattle.std.proofs.lemmas.Bool.{false≢true}
 use Rattle.std.proofs.lemmas.Option.{none-some}
 use Rattle.pb_schema.specs.Names.{in_scope, AllDiffer}
 use Rattle.pb_schema.specs.Types.{FieldView, MessageView, EnumView}
-use Rattle.pb_descr.specs.Decls.{DeclaredField, DeclaredEnum, MessageHead, DeclaredMessages, DeclaredFile}
+use Rattle.pb_decl.specs.Decls.{DeclaredField, DeclaredEnum, MessageHead, DeclaredMessages, DeclaredFile}
 use Rattle.pb_link.specs.declared.cause.LinkCause.{LinkCause}
 use Rattle.pb_link.specs.Declarations.{Item, a_message, a_field, a_oneof, an_enum, a_value, Declaration, fields_of, oneofs_of}
 use Rattle.pb_link.specs.Rules.{World}

@@ -6,7 +6,7 @@ use Rattle.std.proofs.lemmas.Bool.{cases_eq}
 use Rattle.std.proofs.lemmas.Map.Made.{is_member-Decides}
 use Rattle.pb_schema.specs.Types.{FileView}
 use Rattle.pb_schema.specs.Imports.{imports_of, Reaches, directly, further}
-use Rattle.pb_descr.specs.Decls.{DeclaredFile}
+use Rattle.pb_decl.specs.Decls.{DeclaredFile}
 use Rattle.pb_link.specs.Declarations.{declarations}
 use Rattle.pb_link.specs.Sees.{files_of, public_files_of, Sees, itself, imported, onward, Sight, IsSightOf}
 use Rattle.pb_link.specs.Rules.{World}

@@ -1,6 +1,6 @@
 -- Imports of files as graphs over their indexes.
 use Rattle.std.specs.Prelude.{◌≡◌, ◌↔◌, ℕ, ℤ, pos, negsuc, List, map, Bool, false, ◌==◌, ◌||◌, Option, Some, None, IsTrue, option_and_then, slice_get, vec_len}
-use Rattle.pb_descr.specs.Decls.{DeclaredFile}
+use Rattle.pb_decl.specs.Decls.{DeclaredFile}
 use Rattle.pb_link.specs.Sees.{files_of, public_files_of}
 use Rattle.pb_link.specs.Reach.{graph_of, next_of, Reached, IsGraph, is_marked, IsListed}
 use Rattle.pb_link.specs.declared.imports.Imports.{Imports}

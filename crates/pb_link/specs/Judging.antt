@@ -1,7 +1,7 @@
 -- What a judge reads.
 use Rattle.std.specs.Prelude.{List, [], ◌∷◌, Bool, not, if◌then◌else◌, Option, Some, None}
 use Rattle.pb_link.specs.declared.cause.LinkCause.{LinkCause}
-use Rattle.pb_descr.specs.Decls.{DeclaredFile}
+use Rattle.pb_decl.specs.Decls.{DeclaredFile}
 use Rattle.pb_link.specs.Declarations.{Declaration}
 use Rattle.pb_link.specs.Sees.{Sight}
 use Rattle.pb_link.specs.Rules.{World}

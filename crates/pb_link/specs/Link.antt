@@ -1,6 +1,6 @@
 -- When declarations link, and what is told where they don't: the least failing rule, by file, declaration and cause.
 use Rattle.std.specs.Prelude.{◌≡◌, ℕ, ◌+◌, ◌<◌, ◌≤◌, ◌⊎◌, List, [], ◌∷◌, Bool, true, not, ◌&&◌, Option, Some, None, IsFalse, find, slice_get}
-use Rattle.pb_descr.specs.Decls.{DeclaredFile}
+use Rattle.pb_decl.specs.Decls.{DeclaredFile}
 use Rattle.pb_link.specs.declared.cause.LinkCause.{LinkCause}
 use Rattle.pb_link.specs.declared.cause.LinkCause.TheVariants as cause
 use Rattle.pb_link.specs.CauseName.{cause_number}

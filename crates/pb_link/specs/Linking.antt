@@ -1,7 +1,7 @@
 -- What linking answers: the types that files make where every rule holds, or the least fault.
 use Rattle.std.specs.Prelude.{◌≡◌, ⊤, ℕ, List, Some, slice_get, string_bytes}
 use Rattle.pb_schema.specs.Types.{Types}
-use Rattle.pb_descr.specs.Decls.{DeclaredFile}
+use Rattle.pb_decl.specs.Decls.{DeclaredFile}
 use Rattle.pb_link.specs.declared.cause.LinkCause.{LinkCause}
 use Rattle.pb_link.specs.declared.error.LinkError.{LinkError}
 use Rattle.pb_link.specs.declared.error.LinkError.TheVariants.{Fault, Memory}

@@ -1,8 +1,8 @@
 -- What stands in the files and messages of a pool, while its messages are nested from the last one to the first.
 use Rattle.std.specs.Prelude.{◌≡◌, None, ◌<◌, ℕ, List, [], ◌∷◌, ◌++◌, length, map, filter, drop, take, reverse, ◌==◌, ◌&&◌, if◌then◌else◌, Option, Some, option_map, slice_get}
 use Rattle.pb_schema.specs.Types.{MessageView, EnumView, Types}
-use Rattle.pb_descr.specs.Decls.{DeclaredEnum, DeclaredMessage}
-use Rattle.pb_descr.specs.View.{enum_view, message_view}
+use Rattle.pb_decl.specs.Decls.{DeclaredEnum, DeclaredMessage}
+use Rattle.pb_decl.specs.View.{enum_view, message_view}
 use Rattle.pb_link.specs.declared.declaring.nesting.Inside.{Inside}
 use Rattle.pb_link.specs.ToDecls.{is_parent, is_outermost, numbered, declared_enum, declared_message}
 

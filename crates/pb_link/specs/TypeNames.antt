@@ -2,7 +2,7 @@
 use Rattle.std.specs.Prelude.{◌≡◌, ℕ, List, [], ◌∷◌, ◌&&◌, ◌||◌, length, take, option_to_list, string_bytes, Bool, true, not, nat_lt, nat_le, ◌^◌, Option, Some, None}
 use Rattle.std.specs.List.{list_any, list_all}
 use Rattle.std.specs.Option.{option_map_or}
-use Rattle.pb_descr.specs.Decls.{DeclaredFile}
+use Rattle.pb_decl.specs.Decls.{DeclaredFile}
 use Rattle.pb_link.specs.Declarations.{Item, a_file, a_message, a_field, a_oneof, an_enum, a_value, a_service, a_method, Declaration, declarations, is_named, full_name, has_name}
 use Rattle.pb_link.specs.Lookup.{every_file, is_package_name}
 use Rattle.pb_link.specs.Rules.{is_file_named, is_import_index}

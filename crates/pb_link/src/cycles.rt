@@ -1,7 +1,7 @@
 //! The first file that reaches itself by imports.
 
 ghost use Rattle.std.specs.Prelude.{◌≡◌, ◌<◌, ◌↔◌, ℕ, List, IsTrue, All, IfOk, OnOk, map, not, position, vec_len};
-ghost use Rattle.pb_descr.specs.Decls.{DeclaredFile};
+ghost use Rattle.pb_decl.specs.Decls.{DeclaredFile};
 ghost use Rattle.pb_link.specs.declared.cause.LinkCause.TheVariants.{ImportCycle};
 ghost use Rattle.pb_link.specs.Components.{number_of, NeverRise};
 ghost use Rattle.pb_link.specs.Rules.{World};

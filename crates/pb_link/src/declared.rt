@@ -3,8 +3,8 @@
 ghost use Rattle.std.specs.Prelude.{◌≡◌, ◌+◌, [], ◌∷◌, length, map, IfOk, OnOk, string_bytes, vec_len};
 ghost use Rattle.std.specs.List.{enumerate_from};
 ghost use Rattle.pb_schema.specs.Names.{in_scope};
-ghost use Rattle.pb_descr.specs.Decls.{messages_of};
-ghost use Rattle.pb_descr.specs.View.{field_view, message_view, numbered_view, enum_view, method_view, service_view, file_view};
+ghost use Rattle.pb_decl.specs.Decls.{messages_of};
+ghost use Rattle.pb_decl.specs.View.{field_view, message_view, numbered_view, enum_view, method_view, service_view, file_view};
 ghost use Rattle.pb_link.specs.Declarations.{a_field, a_oneof, a_value, fields_of, oneofs_of};
 ghost use Rattle.pb_link.specs.Declarations.{values_of, enum_declared, enums_declared, head_row, message_declared};
 ghost use Rattle.pb_link.specs.Declarations.{messages_declared, methods_of, service_declared, services_declared, file_declared};

@@ -13,7 +13,7 @@ ghost use Rattle.pb_schema.specs.Types.{FileView};
 ghost use Rattle.pb_schema.specs.View.{file_view as view_of_file};
 ghost use Rattle.pb_schema.specs.Names.{name_at};
 ghost use Rattle.pb_schema.specs.Rules.{IsPool};
-ghost use Rattle.pb_descr.specs.View.{file_view};
+ghost use Rattle.pb_decl.specs.View.{file_view};
 ghost use Rattle.pb_descr.specs.Causes.{set_causes};
 ghost use Rattle.pb_descr.specs.Sets.{IsSetOf, IsWritable, set_bytes};
 ghost use Rattle.pb_descr.specs.Writing.{set_body};

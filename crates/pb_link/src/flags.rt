@@ -2,7 +2,7 @@
 
 ghost use Rattle.std.specs.Prelude.{◌≡◌, ℕ, List, map, string_bytes, IfOk};
 ghost use Rattle.std.specs.List.{list_any, list_all, enumerate_from};
-ghost use Rattle.pb_descr.specs.View.{file_view};
+ghost use Rattle.pb_decl.specs.View.{file_view};
 ghost use Rattle.pb_link.specs.Declarations.{Declaration as DeclarationView};
 ghost use Rattle.pb_link.specs.Rules.{is_file_named, is_import_index};
 ghost use Rattle.pb_link.specs.View.{declaration_view};

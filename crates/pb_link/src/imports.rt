@@ -1,8 +1,8 @@
 //! Which files each file imports, by their indexes.
 
 ghost use Rattle.std.specs.Prelude.{◌≡◌, ◌++◌, ℕ, List, map, string_bytes, filter_map, option_and_then, option_to_list, slice_get, IfOk, OnOk};
-ghost use Rattle.pb_descr.specs.Decls.{DeclaredFile};
-ghost use Rattle.pb_descr.specs.View.{file_view};
+ghost use Rattle.pb_decl.specs.Decls.{DeclaredFile};
+ghost use Rattle.pb_decl.specs.View.{file_view};
 ghost use Rattle.pb_link.specs.Sees.{file_named, file_of, public_file_of};
 ghost use Rattle.pb_link.specs.Firsts.{first_at};
 ghost use Rattle.pb_link.specs.Graphs.{target_at, AreImports, LeadToFiles};

@@ -1,7 +1,7 @@
 //! The least rule that fails at a declaration.
 
 ghost use Rattle.std.specs.Prelude.{◌≡◌, ◌∷◌, ◌&&◌, [], ◌<◌, ℕ, map, length, not};
-ghost use Rattle.pb_descr.specs.View.{field_view, file_view, message_view};
+ghost use Rattle.pb_decl.specs.View.{field_view, file_view, message_view};
 ghost use Rattle.pb_link.specs.Declarations.{head_of};
 ghost use Rattle.pb_link.specs.ItemView.{item_view};
 ghost use Rattle.pb_link.specs.Sees.{Sight};

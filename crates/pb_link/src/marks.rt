@@ -4,8 +4,8 @@ ghost use Rattle.std.specs.Prelude.{◌≡◌, ◌<◌, [], ◌+◌, List, map, 
 ghost use Rattle.std.specs.List.{list_any, enumerate_from};
 ghost use Rattle.std.specs.Ordering.{int_eq, int_cmp};
 ghost use Rattle.std.specs.BTreeSet.{contains};
-ghost use Rattle.pb_descr.specs.Decls.{DeclaredEnum, MessageHead};
-ghost use Rattle.pb_descr.specs.View.{field_view, numbered_view, enum_view, message_view};
+ghost use Rattle.pb_decl.specs.Decls.{DeclaredEnum, MessageHead};
+ghost use Rattle.pb_decl.specs.View.{field_view, numbered_view, enum_view, message_view};
 ghost use Rattle.pb_link.specs.Declarations.{head_of, item_of_message, an_enum, a_field, a_oneof, a_value, is_synthetic};
 ghost use Rattle.pb_link.specs.Rules.{is_not_reserved, number_is_free};
 ghost use Rattle.pb_link.specs.Oneofs.{AreOneofsOf};

@@ -1,7 +1,7 @@
 //! What the rules of files, names and type names come to.
 
 ghost use Rattle.std.specs.Prelude.{◌≡◌, map, take, Some, IfOk, OnOk};
-ghost use Rattle.pb_descr.specs.View.{file_view};
+ghost use Rattle.pb_decl.specs.View.{file_view};
 ghost use Rattle.pb_link.specs.Declarations.{declarations};
 ghost use Rattle.pb_link.specs.Lookup.{looked_up};
 ghost use Rattle.pb_link.specs.Rules.{World, lookups};

@@ -2,7 +2,7 @@
 
 ghost use Rattle.std.specs.Prelude.{◌<◌, ◌==◌, [], map, take, length, slice_index, IfOk, OnOk};
 ghost use Rattle.pb_schema.specs.Names.{packages_of, with_front};
-ghost use Rattle.pb_descr.specs.View.{file_view};
+ghost use Rattle.pb_decl.specs.View.{file_view};
 ghost use Rattle.pb_link.specs.Declarations.{declarations};
 ghost use Rattle.pb_link.specs.Lookup.{every_file};
 ghost use Rattle.pb_link.specs.Graphs.{sees_by};

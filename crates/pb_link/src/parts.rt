@@ -7,7 +7,7 @@ pub(crate) mod types;
 
 ghost use Rattle.std.specs.Prelude.{◌≡◌, map, length, IfOk, IfErr};
 ghost use Rattle.pb_schema.specs.declared.error.PoolError.TheVariants.{Memory};
-ghost use Rattle.pb_descr.specs.View.{file_view};
+ghost use Rattle.pb_decl.specs.View.{file_view};
 ghost use Rattle.pb_link.specs.Sees.{files_of};
 ghost use Rattle.pb_link.specs.Declarations.{declarations};
 ghost use Rattle.pb_link.specs.Rules.{World, lookups};

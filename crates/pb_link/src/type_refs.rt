@@ -1,7 +1,7 @@
 //! The type names and files in declarations, as they are written.
 
 ghost use Rattle.std.specs.Prelude.{◌≡◌, option_map};
-ghost use Rattle.pb_descr.specs.View.{file_view};
+ghost use Rattle.pb_decl.specs.View.{file_view};
 ghost use Rattle.pb_link.specs.ItemView.{item_view};
 ghost use Rattle.pb_link.specs.TypeNames.{names_in, refs_view, file_in};
 

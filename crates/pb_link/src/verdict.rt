@@ -1,7 +1,7 @@
 //! Whether declarations link, or their least fault.
 
 ghost use Rattle.std.specs.Prelude.{◌≡◌, ⊤, ℕ, List, map, IfOk, IfErr, IsErrAnd, MatchResult};
-ghost use Rattle.pb_descr.specs.View.{file_view};
+ghost use Rattle.pb_decl.specs.View.{file_view};
 ghost use Rattle.pb_link.specs.declared.cause.LinkCause.{LinkCause as CauseValue};
 ghost use Rattle.pb_link.specs.declared.error.LinkError.TheVariants.{Memory};
 ghost use Rattle.pb_link.specs.Declarations.{full_name};

@@ -1,7 +1,7 @@
 //! The first declaration at which a rule fails.
 
 ghost use Rattle.std.specs.Prelude.{◌≡◌, map};
-ghost use Rattle.pb_descr.specs.View.{file_view};
+ghost use Rattle.pb_decl.specs.View.{file_view};
 ghost use Rattle.pb_link.specs.Rules.{World};
 ghost use Rattle.pb_link.specs.View.{declaration_view};
 ghost use Rattle.pb_link.specs.Link.{first_fault};

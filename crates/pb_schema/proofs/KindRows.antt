@@ -1,10 +1,10 @@
 -- Each kind's row of the table of kinds, worked out by the definitions: its wire type, whether it may be packed, whether it may be a map's key, and
--- whether it stands in files of proto2 alone.
-use Rattle.std.proofs.Common.{◌≡◌, ℕ, true, false, refl}
-use Rattle.std.specs.Prelude.{Bool}
+-- whether it stands in files of proto2 alone; and the types that kinds name.
+use Rattle.std.proofs.Common.{◌≡◌, ℕ, true, false, Some, None, refl}
+use Rattle.std.specs.Prelude.{Bool, Option}
 use Rattle.pb_schema.specs.declared.types.Kind.{Kind}
 use Rattle.pb_schema.specs.declared.types.Kind.TheVariants as kind
-use Rattle.pb_schema.specs.Kinds.{wire_type_of, is_packable, is_key_kind, is_of_proto2}
+use Rattle.pb_schema.specs.Kinds.{wire_type_of, is_packable, is_key_kind, is_of_proto2, message_of_kind, enum_of_kind}
 
 abbrev HasRow : Kind → ℕ → Bool → Bool → Bool → Type 0
 HasRow k w packed key proto2 = (wire_type_of k ≡ w) × (is_packable k ≡ packed) × (is_key_kind k ≡ key) × (is_of_proto2 k ≡ proto2)
@@ -65,3 +65,22 @@ group-row = (refl, refl, refl, refl)
 
 closed_enum-row : HasRow (kind.ClosedEnum (record { 0 = 0 })) 0 true false true
 closed_enum-row = (refl, refl, refl, refl)
+
+-- the type that a kind names
+abbrev NamesTypes : Kind → Option ℕ → Option ℕ → Type 0
+NamesTypes k message enum = (message_of_kind k ≡ message) × (enum_of_kind k ≡ enum)
+
+text-names : NamesTypes kind.Text None None
+text-names = (refl, refl)
+
+enum-names : NamesTypes (kind.Enum (record { 0 = 3 })) None (Some 3)
+enum-names = (refl, refl)
+
+closed_enum-names : NamesTypes (kind.ClosedEnum (record { 0 = 3 })) None (Some 3)
+closed_enum-names = (refl, refl)
+
+message-names : NamesTypes (kind.Message (record { 0 = 3 })) (Some 3) None
+message-names = (refl, refl)
+
+group-names : NamesTypes (kind.Group (record { 0 = 3 })) (Some 3) None
+group-names = (refl, refl)

@@ -3,11 +3,12 @@ use Rattle.std.proofs.Common.{◌≡◌, ℕ, List, [], ◌∷◌, pos, negsuc, 
 use Rattle.pb_wire.specs.Schema as wire
 use Rattle.pb_wire.specs.Record.{Payload, varint, len, group, no_more, more, fixed32, Record}
 use Rattle.pb_schema.specs.declared.types.Kind.TheVariants as kind
-use Rattle.pb_schema.specs.Scalar.{int32, uint32, boolean, enum, text}
+use Rattle.pb_schema.specs.declared.types.Shape.TheVariants as shape
+use Rattle.pb_schema.specs.Scalar.{int32, uint32, boolean, float, enum, text, bytes, is_default}
 use Rattle.pb_schema.specs.Kinds.{read, written}
 use Rattle.pb_schema.specs.Packed.{elements}
 use Rattle.pb_schema.specs.Fits.{fits}
-use Rattle.pb_schema.specs.Closed.{declares, known, unknown}
+use Rattle.pb_schema.specs.Closed.{closed_shaped, declares, known, unknown}
 use Rattle.pb_schema.specs.Context.{Context, a_message, an_entry, unknown_group, schema_of}
 use Rattle.pb_schema.specs.Types.{message_fields}
 use Rattle.pb_schema.proofs.Samples.{pool_t, e_field, v_field, the_message, pool_q}
@@ -156,3 +157,20 @@ undeclared-records :
     unknown pool_q (message_fields pool_q 0) q_records
     ≡ at 4 (varint 7) ∷ at 5 (varint 7) ∷ at 4 (varint 4294967303) ∷ at 3 (len (0x08 ∷ 0x05 ∷ [])) ∷ at 5 (varint 9) ∷ []
 undeclared-records = refl
+
+-- the entries of a map are no numbers, also where its values are those of a closed enum
+closed-in-a-list : closed_shaped (shape.List true) (kind.ClosedEnum (record { 0 = 2 })) ≡ Some 2
+closed-in-a-list = refl
+
+closed-in-a-map : closed_shaped (shape.Map kind.Int32) (kind.ClosedEnum (record { 0 = 2 })) ≡ None
+closed-in-a-map = refl
+
+open-alone : closed_shaped shape.Explicit (kind.Enum (record { 0 = 2 })) ≡ None
+open-alone = refl
+
+-- what an absent field has: an empty text and +0, whose bits are all 0
+defaults : map is_default (text [] ∷ bytes [] ∷ int32 (pos 0) ∷ boolean false ∷ float 0 ∷ []) ≡ true ∷ true ∷ true ∷ true ∷ true ∷ []
+defaults = refl
+
+no-defaults : map is_default (text (0x00 ∷ []) ∷ bytes (0x00 ∷ []) ∷ int32 (negsuc 0) ∷ boolean true ∷ float 0x80000000 ∷ []) ≡ false ∷ false ∷ false ∷ false ∷ false ∷ []
+no-defaults = refl

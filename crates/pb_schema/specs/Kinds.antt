@@ -119,6 +119,28 @@ message_of_kind (kind.Message m) = Some m.0
 message_of_kind (kind.Group m) = Some m.0
 message_of_kind (kind.ClosedEnum _) = None
 
+-- the enum of a kind, open or closed
+abbrev pub enum_of_kind : Kind → Option ℕ
+enum_of_kind kind.Double = None
+enum_of_kind kind.Float = None
+enum_of_kind kind.Int64 = None
+enum_of_kind kind.Uint64 = None
+enum_of_kind kind.Int32 = None
+enum_of_kind kind.Fixed64 = None
+enum_of_kind kind.Fixed32 = None
+enum_of_kind kind.Bool = None
+enum_of_kind kind.Text = None
+enum_of_kind kind.Bytes = None
+enum_of_kind kind.Uint32 = None
+enum_of_kind kind.Sfixed32 = None
+enum_of_kind kind.Sfixed64 = None
+enum_of_kind kind.Sint32 = None
+enum_of_kind kind.Sint64 = None
+enum_of_kind (kind.Enum e) = Some e.0
+enum_of_kind (kind.Message _) = None
+enum_of_kind (kind.Group _) = None
+enum_of_kind (kind.ClosedEnum e) = Some e.0
+
 -- the enum of a kind whose values are those that it declares
 abbrev pub closed_enum : Kind → Option ℕ
 closed_enum kind.Double = None

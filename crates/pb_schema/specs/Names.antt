@@ -2,7 +2,8 @@
 pub mod Set
 pub mod Tree
 pub mod Declared
-use Rattle.std.specs.Prelude.{◌≢◌, ℕ, zero, suc, ◌-◌, List, [], ◌∷◌, ◌++◌, length, map, flat_map, codes, Bool, true, false, not, ◌&&◌, ◌||◌, ◌==◌, if◌then◌else◌, Option, Some, None, slice_get}
+use Rattle.std.specs.Prelude.{◌≢◌, ℕ, zero, suc, ◌-◌, List, [], ◌∷◌, ◌++◌, length, map, flat_map, codes, Bool, true}
+use Rattle.std.specs.Prelude.{false, not, ◌&&◌, ◌||◌, ◌==◌, if◌then◌else◌, Option, Some, None, slice_get}
 use Rattle.std.specs.List.{AllByRecursion, list_all}
 use Rattle.std.specs.Char.{is_ascii_alphabetic, is_ascii_digit, is_ascii_lowercase}
 use Rattle.pb_schema.specs.declared.types.Shape.{Shape}
@@ -122,6 +123,10 @@ name_at names i = of_name (slice_get names i)
 abbrev pub scope_by_names : List FileView → List (List ℕ) → ℕ → Option ℕ → List ℕ
 scope_by_names files names file None = package_of files file
 scope_by_names files names file (Some p) = name_at names p
+
+-- the full name of an enum, where the messages have these
+abbrev pub enum_name_by : List FileView → List (List ℕ) → EnumView → List ℕ
+enum_name_by files names t = in_scope (scope_by_names files names t.file t.parent) t.name
 
 -- The scope of what is declared outside messages, its file's package, or in a message, the message's full name. Messages nest at most so
 -- many levels; what nests in itself has no name.

@@ -37,7 +37,8 @@ eights_of _ = []
 -- the numbers of a packed payload, each of this wire type
 abbrev pub numbers_of : ℕ → List ℕ → List Payload
 numbers_of w s =
-    if w == 0 then map (λ b. varint (groups_value b % 2 ^ 64)) (varints_of s) else (if w == 1 then map (λ b. fixed64 (from_le_bytes w64 b)) (eights_of s) else map (λ b. fixed32 (from_le_bytes w32 b)) (fours_of s))
+    if w == 0 then map (λ b. varint (groups_value b % 2 ^ 64)) (varints_of s)
+    else (if w == 1 then map (λ b. fixed64 (from_le_bytes w64 b)) (eights_of s) else map (λ b. fixed32 (from_le_bytes w32 b)) (fours_of s))
 
 -- the elements that the payload of a fitting record gives, in order
 abbrev pub elements : Kind → Payload → List Scalar

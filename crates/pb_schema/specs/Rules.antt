@@ -8,12 +8,17 @@ pub mod Fields
 pub mod Syntax
 pub mod Each
 pub use Rattle.pb_schema.specs.Rules.Files.{FilesAreNamed, FileNamesDiffer, PackagesAreWords, ImportsAreFew, ImportsNameFiles, NoFileReachesItself, FileRules}
-pub use Rattle.pb_schema.specs.Rules.Indexes.{MessagesHaveFiles, EnumsHaveFiles, IsInFileOfParent, MessagesShareFileWithParent, EnumsShareFileWithParent, NamesType, KindsNameTypes, NamesOneof, MembersNameOneofs, IndexRules}
+pub use Rattle.pb_schema.specs.Rules.Indexes.{MessagesHaveFiles, EnumsHaveFiles, IsInFileOfParent, MessagesShareFileWithParent}
+pub use Rattle.pb_schema.specs.Rules.Indexes.{EnumsShareFileWithParent, NamesType, KindsNameTypes, NamesOneof, MembersNameOneofs, IndexRules}
 pub use Rattle.pb_schema.specs.Rules.Order.{InOrder, FilesRise, FollowsParent, MessagesStandInOrder, EndsNoLater, StandsBefore, EnumsStandInOrder}
-pub use Rattle.pb_schema.specs.Rules.Names.{AreWords, MessageIsOfWords, MessageNamesAreWords, EnumIsOfWords, EnumNamesAreWords, FullNamesDiffer, IsFree, PackagesAreFree, NameRules}
-pub use Rattle.pb_schema.specs.Rules.Shapes.{IsFieldNumber, NumbersAreFieldNumbers, HasKeyKind, KeysAreKeyKinds, MayBePacked, PackedArePackable, MayBeValue, ValuesMayStand, MayBeImplicit, ImplicitAreScalars, ShapeRules}
-pub use Rattle.pb_schema.specs.Rules.Fields.{FieldNumbersDiffer, NumbersDiffer, TypeIsSeen, TypesAreSeen, IsMemberOf, HasMember, EachOneofHasMember, OneofsHaveMembers, FieldRules}
-pub use Rattle.pb_schema.specs.Rules.Syntax.{IsNotImplicit, MayStandIn, FieldsGoWithSyntax, EnumIsRight, EnumsGoWithSyntax, BeginsRight, EnumsBeginRight, SyntaxRules}
+pub use Rattle.pb_schema.specs.Rules.Names.{AreWords, MessageIsOfWords, MessageNamesAreWords, EnumIsOfWords, EnumNamesAreWords}
+pub use Rattle.pb_schema.specs.Rules.Names.{FullNamesDiffer, IsFree, PackagesAreFree, NameRules}
+pub use Rattle.pb_schema.specs.Rules.Shapes.{IsFieldNumber, NumbersAreFieldNumbers, HasKeyKind, KeysAreKeyKinds, MayBePacked, PackedArePackable}
+pub use Rattle.pb_schema.specs.Rules.Shapes.{MayBeValue, ValuesMayStand, MayBeImplicit, ImplicitAreScalars, ShapeRules}
+pub use Rattle.pb_schema.specs.Rules.Fields.{FieldNumbersDiffer, NumbersDiffer, TypeIsSeen, FieldsSeeTypes, TypesAreSeen, IsMemberOf}
+pub use Rattle.pb_schema.specs.Rules.Fields.{HasMember, EachOneofHasMember, OneofsHaveMembers, FieldRules}
+pub use Rattle.pb_schema.specs.Rules.Syntax.{IsNotImplicit, MayStandIn, FieldsGoWithSyntax, EnumIsRight, EnumsGoWithSyntax}
+pub use Rattle.pb_schema.specs.Rules.Syntax.{BeginsRight, EnumsBeginRight, SyntaxRules}
 pub use Rattle.pb_schema.specs.Rules.Each.{EachField}
 use Rattle.std.specs.Prelude.{ℕ, length, IfSome, slice_get}
 use Rattle.pb_schema.specs.Types.{FieldView, Types}

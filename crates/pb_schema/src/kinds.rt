@@ -1,9 +1,10 @@
 //! What each kind is (encoding guide, "Scalar Value Types").
 
-ghost use Rattle.std.specs.Prelude.{◌≡◌};
-ghost use Rattle.pb_schema.specs.Kinds.{wire_type_of, is_packable, is_key_kind, is_of_proto2};
+ghost use Rattle.std.specs.Prelude.{◌≡◌, ◌<◌, ℕ, IfSome, option_map};
+ghost use Rattle.pb_schema.specs.Kinds.{wire_type_of, is_packable, is_key_kind, is_of_proto2, message_of_kind, enum_of_kind};
+ghost use Rattle.pb_schema.specs.Rules.{NamesType};
 
-use crate::types::Kind;
+use crate::types::{EnumId, Kind, MessageId};
 
 impl Kind {
     /// The number of the wire type that the kind's values are sent as.
@@ -82,6 +83,60 @@ impl Kind {
             | Kind::Message(_)
             | Kind::Group(_)
             | Kind::ClosedEnum(_) => false,
+        }
+    }
+
+    /// The message type that the kind names: of messages, and of those that are written as groups.
+    pub fn message(self) -> Option<MessageId>
+        ensures named { option_map (λ m. m.0) result ≡ message_of_kind self }
+        ensures within { (messages enums : ℕ) → NamesType messages enums self → IfSome result (λ m. m.0 < messages) }
+    {
+        match self {
+            Kind::Message(id) | Kind::Group(id) => Some(id),
+            Kind::Double
+            | Kind::Float
+            | Kind::Int64
+            | Kind::Uint64
+            | Kind::Int32
+            | Kind::Fixed64
+            | Kind::Fixed32
+            | Kind::Bool
+            | Kind::Text
+            | Kind::Bytes
+            | Kind::Uint32
+            | Kind::Sfixed32
+            | Kind::Sfixed64
+            | Kind::Sint32
+            | Kind::Sint64
+            | Kind::Enum(_)
+            | Kind::ClosedEnum(_) => None,
+        }
+    }
+
+    /// The enum that the kind names, open or closed.
+    pub fn enum_id(self) -> Option<EnumId>
+        ensures named { option_map (λ e. e.0) result ≡ enum_of_kind self }
+        ensures within { (messages enums : ℕ) → NamesType messages enums self → IfSome result (λ e. e.0 < enums) }
+    {
+        match self {
+            Kind::Enum(id) | Kind::ClosedEnum(id) => Some(id),
+            Kind::Double
+            | Kind::Float
+            | Kind::Int64
+            | Kind::Uint64
+            | Kind::Int32
+            | Kind::Fixed64
+            | Kind::Fixed32
+            | Kind::Bool
+            | Kind::Text
+            | Kind::Bytes
+            | Kind::Uint32
+            | Kind::Sfixed32
+            | Kind::Sfixed64
+            | Kind::Sint32
+            | Kind::Sint64
+            | Kind::Message(_)
+            | Kind::Group(_) => None,
         }
     }
 }

@@ -19,6 +19,8 @@ pub fn reads_back()
 /// The numbers that are read of a packed payload are those whose spellings joined are the payload, and there are such numbers wherever the
 /// payload is whole elements.
 pub fn packed_numbers()
-    ensures only { (k : TheKind) (ps : List Payload) (s : List ℕ) → IsTrue (is_packable k) → AreNumbers (wire_type_of k) ps s → numbers_of (wire_type_of k) s ≡ ps }
-    ensures whole { (k : TheKind) (s : List ℕ) → IsTrue (is_packable k) → AllByRecursion IsByte s → AreElements (element_of k) s → AreNumbers (wire_type_of k) (numbers_of (wire_type_of k) s) s }
+    ensures only { (k : TheKind) (ps : List Payload) (s : List ℕ) → IsTrue (is_packable k)
+        → AreNumbers (wire_type_of k) ps s → numbers_of (wire_type_of k) s ≡ ps }
+    ensures whole { (k : TheKind) (s : List ℕ) → IsTrue (is_packable k)
+        → AllByRecursion IsByte s → AreElements (element_of k) s → AreNumbers (wire_type_of k) (numbers_of (wire_type_of k) s) s }
 {}

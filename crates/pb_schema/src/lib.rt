@@ -49,6 +49,7 @@ pub use error::PoolError;
 pub use fitting::fits;
 pub use laws::{packed_numbers, reads_back};
 pub use names::entry_name;
+pub use names::set::scoped;
 pub use names::words::{is_package, is_word};
 pub use pool::Pool;
 pub use types::{EnumId, EnumType, Field, FileInfo, Kind, MessageId, MessageType, Shape};

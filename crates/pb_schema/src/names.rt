@@ -8,7 +8,7 @@ pub(crate) mod words;
 ghost use Rattle.std.specs.Prelude.{◌≡◌, [], ◌++◌, ℕ, IfOk, map, take, length, string_bytes};
 ghost use Rattle.pb_schema.specs.View.{file_view, message_view, enum_view, parent_view, bytes_of};
 ghost use Rattle.pb_schema.specs.Nesting.{ParentsStandBefore};
-ghost use Rattle.pb_schema.specs.Names.{raised, entry_name, in_scope, scope_by_names, message_name};
+ghost use Rattle.pb_schema.specs.Names.{raised, entry_name, in_scope, scope_by_names, enum_name_by, message_name};
 
 use crate::names::set::scoped;
 use crate::types::{EnumType, FileInfo, MessageId, MessageType};
@@ -69,7 +69,8 @@ fn message_name(
     names: &[Vec<u8>],
     message: &MessageType,
 ) -> Result<Vec<u8>, AllocError>
-    ensures { IfOk result (λ v. v.items ≡ in_scope (scope_by_names (map file_view files.now) (bytes_of names.now) message.now.file (parent_view message.now.parent)) (string_bytes message.now.name)) }
+    ensures { IfOk result (λ v. v.items ≡
+        in_scope (scope_by_names (map file_view files.now) (bytes_of names.now) message.now.file (parent_view message.now.parent)) (string_bytes message.now.name)) }
 {
     let around = scope(files, names, message.file, message.parent);
     scoped(alloc, around, message.name.as_str().as_bytes())
@@ -82,7 +83,7 @@ pub(crate) fn enum_names(
     names: &[Vec<u8>],
     enums: &[EnumType],
 ) -> Result<Vec<Vec<u8>>, AllocError>
-    ensures { IfOk result (λ v. bytes_of v.items ≡ map (λ e. in_scope (scope_by_names (map file_view files.now) (bytes_of names.now) e.file e.parent) e.name) (map enum_view enums.now)) }
+    ensures { IfOk result (λ v. bytes_of v.items ≡ map (λ e. enum_name_by (map file_view files.now) (bytes_of names.now) e) (map enum_view enums.now)) }
 {
     let mut enum_names: Vec<Vec<u8>> = Vec::new(alloc);
     for entry in enums {
@@ -98,7 +99,7 @@ fn enum_name(
     names: &[Vec<u8>],
     entry: &EnumType,
 ) -> Result<Vec<u8>, AllocError>
-    ensures { IfOk result (λ v. v.items ≡ in_scope (scope_by_names (map file_view files.now) (bytes_of names.now) entry.now.file (parent_view entry.now.parent)) (string_bytes entry.now.name)) }
+    ensures { IfOk result (λ v. v.items ≡ enum_name_by (map file_view files.now) (bytes_of names.now) (enum_view entry.now)) }
 {
     let around = scope(files, names, entry.file, entry.parent);
     scoped(alloc, around, entry.name.as_str().as_bytes())
@@ -111,7 +112,8 @@ pub(crate) fn message_names(
     messages: &[MessageType],
 ) -> Result<Vec<Vec<u8>>, AllocError>
     requires { ParentsStandBefore (map message_view messages.now) (length messages.now) }
-    ensures { IfOk result (λ v. bytes_of v.items ≡ map (message_name (map file_view files.now) (map message_view messages.now)) (map message_view messages.now)) }
+    ensures { IfOk result (λ v. bytes_of v.items ≡
+        map (message_name (map file_view files.now) (map message_view messages.now)) (map message_view messages.now)) }
 {
     let mut names: Vec<Vec<u8>> = Vec::new(alloc);
     for message in messages {

@@ -4,7 +4,7 @@ use Rattle.std.specs.Prelude.{if◌then◌else◌, zero, suc}
 use Rattle.std.specs.Str.{bytes_eq}
 use Rattle.std.proofs.lemmas.Bool.{false≢true, or_parts}
 use Rattle.std.proofs.lemmas.Slice.Eq.{bytes_eq-Decides}
-use Rattle.pb_descr.specs.Decls.{DeclaredField, DeclaredMethod, DeclaredService}
+use Rattle.pb_decl.specs.Decls.{DeclaredField, DeclaredMethod, DeclaredService}
 use Rattle.pb_source.specs.declared.kind.Label.TheVariants.{Unlabelled}
 use Rattle.pb_source.specs.declared.kind.EnumKind.{EnumKind}
 use Rattle.pb_source.specs.declared.kind.EnumKind.TheVariants as in_enum

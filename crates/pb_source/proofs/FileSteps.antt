@@ -2,7 +2,7 @@
 use Rattle.std.proofs.Common.{◌≡◌, ◌≤◌, ℕ, List, [], ◌∷◌, ◌++◌, length, length-append, Bool, true, false, ◌||◌, refl, ap, ◌∙◌, arith, Ok}
 use Rattle.std.specs.Prelude.{if◌then◌else◌}
 use Rattle.pb_source.specs.declared.symbol.Placed.{Placed}
-use Rattle.pb_descr.specs.Decls.{more_messages, messages_of}
+use Rattle.pb_decl.specs.Decls.{more_messages, messages_of}
 use Rattle.pb_source.specs.Language.{all_rules}
 use Rattle.pb_source.specs.Meaning.{FileStatement, all_said, packages_said, file_messages}
 use Rattle.pb_source.specs.PartsView.{OnePackage, messages_listed}

@@ -2,8 +2,8 @@
 use Prim.Native.String.{String}
 use Rattle.std.proofs.Common.{◌≡◌, ℕ, zero, suc, ◌≤◌, List, [], ◌∷◌, ◌++◌, codes, refl, Option, Some, None, Err, lit≤, arith, false, true, pos, neg_ℤ}
 use Rattle.pb_schema.specs.Names.{entry_name}
-use Rattle.pb_descr.specs.Decls.{DeclaredField, DeclaredEnum, DeclaredMethod, DeclaredFile, DeclaredMessages, message as message_decl, no_messages, more_messages}
-use Rattle.pb_descr.specs.declared.decl.TypeCode.TheVariants as code
+use Rattle.pb_decl.specs.Decls.{DeclaredField, DeclaredEnum, DeclaredMethod, DeclaredFile, DeclaredMessages, message as message_decl, no_messages, more_messages}
+use Rattle.pb_decl.specs.declared.decl.TypeCode.TheVariants as code
 use Rattle.pb_source.specs.declared.fault.Cause.TheVariants.{Unexpected, NumberTooLarge, CustomOption, NotProto3, NestedTooDeep}
 use Rattle.pb_source.specs.declared.kind.Label.TheVariants.{Unlabelled, Optional}
 use Rattle.pb_source.specs.declared.rule.Rule.{Rule}

@@ -1,7 +1,7 @@
 -- A reader that may go further answers the same, but where it came to the end of how far it might go.
 use Rattle.std.proofs.Common.{◌≡◌, ℕ, zero, suc, ◌+◌, ◌-◌, ◌≤◌, List, [], ◌∷◌, ◌++◌, Bool, true, false, codes, refl, ap, ◌∙◌, subst, Option, Some, None, Ok, Err, arith, ◌⊎◌, inl, inr, ℤ}
 use Rattle.std.specs.Prelude.{if◌then◌else◌, option_map}
-use Rattle.pb_descr.specs.Decls.{DeclaredMessage}
+use Rattle.pb_decl.specs.Decls.{DeclaredMessage}
 use Rattle.pb_source.specs.declared.rule.Rule.{Rule}
 use Rattle.pb_source.specs.declared.kind.Label.{Label}
 use Rattle.pb_source.specs.declared.kind.Label.TheVariants.{Unlabelled, Repeated, Optional}

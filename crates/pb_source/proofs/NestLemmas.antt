@@ -1,8 +1,8 @@
 -- Messages of sources stand in each other at most 65 deep: 64 that are written, and the entry of a map.
 use Rattle.std.proofs.Common.{◌≡◌, ℕ, zero, suc, ◌≤◌, max, List, [], ◌∷◌, refl, subst, sym, ap, ◌∙◌, arith}
 use Rattle.pb_schema.specs.Names.{in_scope}
-use Rattle.pb_descr.specs.Decls.{DeclaredMessage, message as message_decl, DeclaredMessages, no_messages, more_messages, DeclaredFile}
-use Rattle.pb_descr.proofs.NestLemmas.{nests, all_nest}
+use Rattle.pb_decl.specs.Decls.{DeclaredMessage, message as message_decl, DeclaredMessages, no_messages, more_messages, DeclaredFile}
+use Rattle.pb_decl.specs.Nests.{nests, all_nest}
 use Rattle.pb_source.specs.Symbols.{Symbol}
 use Rattle.pb_source.specs.Language.{Rules, all_rules, Language, nothing}
 use Rattle.pb_source.specs.Meaning.{MessageStatement, FileStatement, scoped, all_scoped, nested_messages, messages_said, file_messages, file_message_said, package_of}

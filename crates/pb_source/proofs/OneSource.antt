@@ -4,8 +4,8 @@ use Rattle.std.proofs.lemmas.Bool.{cases_lt}
 use Rattle.std.proofs.lemmas.Str.{IsUtf8-from_is_utf8, is_utf8-from_IsUtf8}
 use Rattle.std.specs.Str.{is_utf8}
 use Rattle.std.specs.Str.Lossy.{utf8_valid_len}
-use Rattle.pb_descr.specs.Decls.{DeclaredFile}
-use Rattle.pb_descr.specs.One.{ExactlyOne}
+use Rattle.pb_decl.specs.Decls.{DeclaredFile}
+use Rattle.pb_decl.specs.One.{ExactlyOne}
 use Rattle.pb_source.specs.declared.fault.Cause.{Cause}
 use Rattle.pb_source.specs.declared.fault.Cause.TheVariants.{SourceTooLarge, BadUtf8}
 use Rattle.pb_source.specs.declared.fault.SourceFault.{SourceFault}

@@ -1,6 +1,6 @@
 -- What is told of a source is its declaration, or its fault and no other.
 use Rattle.std.proofs.Common.{◌≡◌, ℕ, zero, suc, ◌^◌, ◌-◌, ◌<◌, ◌≤◌, List, [], ◌∷◌, length, get_or, refl, ap, sym, ◌∙◌, subst, arith, ◌⊎◌, inl, inr, IsUtf8}
-use Rattle.pb_descr.specs.Decls.{DeclaredFile}
+use Rattle.pb_decl.specs.Decls.{DeclaredFile}
 use Rattle.pb_source.specs.declared.fault.Cause.{Cause}
 use Rattle.pb_source.specs.declared.fault.SourceFault.{SourceFault}
 use Rattle.pb_source.specs.declared.refusal.Refusal.{Refusal}

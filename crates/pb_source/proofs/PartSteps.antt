@@ -2,12 +2,12 @@
 use Rattle.std.proofs.Common.{◌≡◌, ◌≤◌, ◌<◌, ◌+◌, ℕ, suc, ℤ, pos, List, [], ◌∷◌, ◌++◌, length, take, drop, set, get_or, map, Bool, true, false, Vec, Global, String, refl, ap, sym, ◌∙◌, subst, append-nil, append_assoc, string_bytes, arith}
 use Rattle.std.specs.Prelude.{if◌then◌else◌}
 use Rattle.std.proofs.lemmas.List.{length-map, length-append, drop_more, drop-set-lt, take_more_set, length_push, map_push, take_all, drop_all, map-append}
-use Rattle.pb_descr.specs.Decls.{DeclaredField, message, more_messages, messages_of}
-use Rattle.pb_descr.specs.View.{field_view, message_view, enum_view, service_view}
-use Rattle.pb_descr.specs.declared.decl.FieldDecl.{FieldDecl}
-use Rattle.pb_descr.specs.declared.decl.EnumDecl.{EnumDecl}
-use Rattle.pb_descr.specs.declared.decl.MessageDecl.{MessageDecl}
-use Rattle.pb_descr.specs.declared.decl.ServiceDecl.{ServiceDecl}
+use Rattle.pb_decl.specs.Decls.{DeclaredField, message, more_messages, messages_of}
+use Rattle.pb_decl.specs.View.{field_view, message_view, enum_view, service_view}
+use Rattle.pb_decl.specs.declared.decl.FieldDecl.{FieldDecl}
+use Rattle.pb_decl.specs.declared.decl.EnumDecl.{EnumDecl}
+use Rattle.pb_decl.specs.declared.decl.MessageDecl.{MessageDecl}
+use Rattle.pb_decl.specs.declared.decl.ServiceDecl.{ServiceDecl}
 use Rattle.pb_source.specs.Meaning.{MapDecl, MessageStatement, FileStatement, entry_of, fields_of, map_field, in_oneof, all_said, oneofs_said, enums_said, ranges_said, names_said, nested_messages, with_own_oneofs, own_oneofs, message_of, packages_said, package_of, first_or_none, imports_said, public_from, file_enums_said, services_said}
 use Rattle.pb_source.specs.PartsView.{nested_said, HoldsSaid, with_own_oneof, OnePackage, messages_listed, FileHolds}
 use Rattle.pb_source.specs.declared.parsing.declared.MessageParts.{MessageParts}

@@ -3,7 +3,7 @@ use Rattle.std.proofs.Common.{◌≡◌, ◌<◌, ◌-◌, ℕ, zero, suc, List,
 use Rattle.std.specs.Prelude.{if◌then◌else◌}
 use Rattle.std.specs.Str.{bytes_eq}
 use Rattle.std.proofs.lemmas.Bool.{false≢true}
-use Rattle.pb_descr.specs.Decls.{DeclaredMessage}
+use Rattle.pb_decl.specs.Decls.{DeclaredMessage}
 use Rattle.pb_source.specs.declared.kind.MessageKind.{MessageKind}
 use Rattle.pb_source.specs.declared.kind.MessageKind.TheVariants as kind
 use Rattle.pb_source.specs.declared.rule.Rule.TheVariants.{NestsBounded as nests_bounded}

@@ -3,7 +3,7 @@ use Rattle.std.proofs.Common.{◌≡◌, ℕ, zero, suc, ◌^◌, ◌-◌, ◌<�
 use Rattle.std.proofs.lemmas.Bool.{cases_lt}
 use Rattle.std.proofs.lemmas.List.{length-map, take-append-drop}
 use Rattle.std.specs.Str.Lossy.{utf8_valid_len}
-use Rattle.pb_descr.specs.Decls.{DeclaredFile}
+use Rattle.pb_decl.specs.Decls.{DeclaredFile}
 use Rattle.pb_source.specs.declared.fault.Cause.{Cause}
 use Rattle.pb_source.specs.declared.fault.Cause.TheVariants.{SourceTooLarge, BadUtf8, NotProto3}
 use Rattle.pb_source.specs.declared.rule.Rule.{Rule}

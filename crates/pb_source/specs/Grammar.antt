@@ -3,9 +3,9 @@
 use Prim.Native.String.{String}
 use Rattle.std.specs.Prelude.{◌≡◌, ℕ, zero, suc, ◌≤◌, min, ℤ, pos, negsuc, neg_ℤ, List, [], ◌∷◌, length, codes, Bool, true, false, ◌||◌, if◌then◌else◌, Option, Some, None, ◌⊎◌, IsUtf8}
 use Rattle.std.specs.Str.{bytes_eq}
-use Rattle.pb_descr.specs.Decls.{DeclaredField, DeclaredEnum, DeclaredMessage, DeclaredMethod, DeclaredService, DeclaredFile}
-use Rattle.pb_descr.specs.declared.decl.TypeCode.{TypeCode}
-use Rattle.pb_descr.specs.declared.decl.TypeCode.TheVariants as code
+use Rattle.pb_decl.specs.Decls.{DeclaredField, DeclaredEnum, DeclaredMessage, DeclaredMethod, DeclaredService, DeclaredFile}
+use Rattle.pb_decl.specs.declared.decl.TypeCode.{TypeCode}
+use Rattle.pb_decl.specs.declared.decl.TypeCode.TheVariants as code
 use Rattle.pb_source.specs.declared.kind.Label.{Label}
 use Rattle.pb_source.specs.declared.kind.Label.TheVariants.{Unlabelled, Repeated, Optional}
 use Rattle.pb_source.specs.declared.rule.Rule.TheVariants.{NumbersFit as numbers_fit, OptionsKnown as options_known, SyntaxFirst as syntax_first, NestsBounded as nests_bounded, TextsValid as texts_valid}

@@ -1,8 +1,8 @@
 -- Statements and their parts as the code has them.
 use Rattle.std.specs.Prelude.{ℕ, List, [], ◌∷◌, Option, None, map, string_bytes}
 use Rattle.std.specs.Borrow.{Bor}
-use Rattle.pb_descr.specs.View.{field_view, message_view, enum_view, service_view}
-use Rattle.pb_descr.specs.declared.decl.TypeCode.{TypeCode}
+use Rattle.pb_decl.specs.View.{field_view, message_view, enum_view, service_view}
+use Rattle.pb_decl.specs.declared.decl.TypeCode.{TypeCode}
 use Rattle.pb_source.specs.Grammar.{scalar_code}
 use Rattle.pb_source.specs.Meaning.{TypeSaid, a_scalar, a_name, MapDecl, MessageStatement, EnumStatement, FileStatement}
 use Rattle.pb_source.specs.declared.parsing.statement.TypeSaid.{TypeSaid as CodeType}

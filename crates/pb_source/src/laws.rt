@@ -1,7 +1,7 @@
 //! Laws of sources.
 
 ghost use Rattle.std.specs.Prelude.{ℕ, List};
-ghost use Rattle.pb_descr.specs.One.{ExactlyOne};
+ghost use Rattle.pb_decl.specs.One.{ExactlyOne};
 ghost use Rattle.pb_source.specs.declared.fault.SourceFault.{SourceFault as FaultValue};
 ghost use Rattle.pb_source.specs.Tokens.{AreTokens, LexFault};
 ghost use Rattle.pb_source.specs.Source.{IsSource, HasFault};

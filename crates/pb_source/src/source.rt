@@ -1,8 +1,8 @@
 //! A source as its declaration.
 
 ghost use Rattle.std.specs.Prelude.{◌≡◌, ◌^◌, ◌-◌, ◌≤◌, ◌⊎◌, ℕ, List, length, IfOk, IfErr, MatchResult, IsUtf8};
-ghost use Rattle.pb_descr.specs.Decls.{DeclaredFile};
-ghost use Rattle.pb_descr.specs.View.{file_view};
+ghost use Rattle.pb_decl.specs.Decls.{DeclaredFile};
+ghost use Rattle.pb_decl.specs.View.{file_view};
 ghost use Rattle.pb_source.specs.declared.fault.Cause.{Cause};
 ghost use Rattle.pb_source.specs.Fault.{fault, out_of_memory};
 ghost use Rattle.pb_source.specs.Language.{told};
@@ -16,7 +16,7 @@ use crate::refusal::Refusal;
 use crate::rule::Rule;
 use crate::symbol::Placed;
 use crate::symbols::source_symbols;
-use pb_descr::FileDecl;
+use pb_decl::FileDecl;
 use std::alloc::Global;
 
 /// The greatest number of bytes that a source may have.

@@ -32,7 +32,8 @@ impl<'p, I: Drop> Model for DelimitedReader<'p, I> {
 }
 
 impl<'p, I: Input + Drop> DelimitedReader<'p, I> {
-    ghost use Rattle.std.specs.Prelude.{◌≡◌, ◌≢◌, ◌<◌, ℕ, List, [], true, false, Some, None, Err, length, IfOk, IfErr, IfSome, IfNone, IsSomeAnd, IsErrAnd, MatchResult, OnOk, OnErr};
+    ghost use Rattle.std.specs.Prelude.{◌≡◌, ◌≢◌, ◌<◌, ℕ, List, [], true, false, Some, None, Err, length, IfOk};
+    ghost use Rattle.std.specs.Prelude.{IfErr, IfSome, IfNone, IsSomeAnd, IsErrAnd, MatchResult, OnOk, OnErr};
     ghost use Rattle.pb_wire.specs.Fault.{Fault};
     ghost use Rattle.pb_value.specs.Data.{Message};
     ghost use Rattle.pb_decode.specs.declared.error.DecodeError.TheVariants.{Device, Finished};

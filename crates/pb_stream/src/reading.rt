@@ -1,6 +1,7 @@
 //! Frames from a device.
 
-ghost use Rattle.std.specs.Prelude.{◌≡◌, ◌≢◌, ◌<◌, ℕ, List, [], true, Some, None, Err, length, IfOk, IfErr, IfSome, IfNone, IsSomeAnd, IsErrAnd, MatchResult, OnOk};
+ghost use Rattle.std.specs.Prelude.{◌≡◌, ◌≢◌, ◌<◌, ℕ, List, [], true, Some, None, Err, length, IfOk};
+ghost use Rattle.std.specs.Prelude.{IfErr, IfSome, IfNone, IsSomeAnd, IsErrAnd, MatchResult, OnOk};
 ghost use Rattle.pb_wire.specs.Fault.{Fault};
 ghost use Rattle.pb_value.specs.Data.{Message};
 ghost use Rattle.pb_decode.specs.declared.error.DecodeError.TheVariants.{Memory, Device, Finished};

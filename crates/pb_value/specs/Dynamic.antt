@@ -1,13 +1,18 @@
 -- A message beside its pool and its type.
 use Rattle.std.specs.Prelude.{◌≡◌, ℕ}
 use Rattle.pb_schema.specs.Types.{Types}
-use Rattle.pb_value.specs.Data.{Message}
+use Rattle.pb_value.specs.Data.{Fields, Message, fields_of}
+use Rattle.pb_value.specs.Change.{with_fields}
 
 pub record Dynamic : Type 0 where
   pub pool : Types
   -- the index of its type
   pub kind : ℕ
   pub body : Message
+
+-- the message with its fields changed so
+abbrev pub with_changed : Dynamic → (Fields → Fields) → Dynamic
+with_changed v change = record v { body = with_fields v.body (change (fields_of v.body)) }
 
 -- two messages of one type, of pools that hold the same
 pub record IsSameType (v w : Dynamic) : Type 0 where

@@ -1,7 +1,8 @@
 -- The numbers and the names of the causes of refused changes.
 use Rattle.std.specs.Prelude.{ℕ, List, codes}
 use Rattle.pb_value.specs.declared.error.ValueError.{ValueError}
-use Rattle.pb_value.specs.declared.error.ValueError.TheVariants.{NoSuchField, WrongKind, WrongShape, DefaultStored, TwoMembers, KnownAsUnknown, TooDeep, Memory, OtherType, NoSuchValue}
+use Rattle.pb_value.specs.declared.error.ValueError.TheVariants.{NoSuchField, WrongKind, WrongShape, DefaultStored, TwoMembers}
+use Rattle.pb_value.specs.declared.error.ValueError.TheVariants.{KnownAsUnknown, TooDeep, Memory, OtherType, NoSuchValue}
 
 abbrev pub number_of : ValueError → ℕ
 number_of NoSuchField = 21

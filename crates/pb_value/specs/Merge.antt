@@ -6,7 +6,8 @@ use Rattle.pb_schema.specs.declared.types.Shape.{Shape}
 use Rattle.pb_schema.specs.declared.types.Shape.TheVariants as shape
 use Rattle.pb_schema.specs.Types.{FieldView, Types, message_fields}
 use Rattle.pb_schema.specs.Oneofs.{members}
-use Rattle.pb_value.specs.Data.{message, joined_datums, put_entries, Holding, one, list, map, Fields, no_fields, get_field, put_field, put_some, Message, body, fields_of, unknown_of, empty}
+use Rattle.pb_value.specs.Data.{message, joined_datums, put_entries, Holding, one, list, map, Fields, no_fields}
+use Rattle.pb_value.specs.Data.{get_field, put_field, put_some, Message, body, fields_of, unknown_of, empty}
 use Rattle.pb_value.specs.Canon.{message_type}
 use Rattle.pb_value.specs.Change.{gives_way, drop_some}
 
@@ -53,6 +54,10 @@ module _ (merge : ℕ → Message → Message → Message) where
   abbrev pub merged_over : Kind → Option Holding → Holding → Holding
   merged_over k None h = h
   merged_over k (Some g) h = both merge k g h
+
+  -- the fields with the second's content over that of number n
+  abbrev pub put_merged : Kind → ℕ → Holding → Fields → Fields
+  put_merged k n h fs = put_field n (merged_over k (get_field n fs) h) fs
 
   -- the fields with the second's content over that of the field f, whose oneof's other member gives way
   abbrev pub merged_in : List FieldView → FieldView → Holding → Fields → Fields

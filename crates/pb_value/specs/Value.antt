@@ -1,5 +1,6 @@
 -- The value of records, field by field, each from the records that fit it (encoding guide, "Optional and Repeated", "Last One Wins", "Oneofs", "Maps").
-use Rattle.std.specs.Prelude.{ℕ, zero, suc, List, [], ◌∷◌, Bool, true, false, cond, ◌==◌, Option, Some, None, option_map, option_and_then, unwrap_or, if◌then◌else◌, filter, flat_map, fold}
+use Rattle.std.specs.Prelude.{ℕ, zero, suc, List, [], ◌∷◌, Bool, true, false, cond, ◌==◌, Option, Some, None}
+use Rattle.std.specs.Prelude.{option_map, option_and_then, unwrap_or, if◌then◌else◌, filter, flat_map, fold}
 use Rattle.std.specs.Prelude as prelude
 use Rattle.std.specs.List.{list_all}
 use Rattle.pb_wire.specs.Record.{Record}
@@ -15,7 +16,8 @@ use Rattle.pb_schema.specs.Oneofs.{members}
 use Rattle.pb_schema.specs.Fits.{fits, fits_any, fitting}
 use Rattle.pb_schema.specs.Closed.{known, unknown}
 use Rattle.pb_schema.specs.Context.{key_field, value_field}
-use Rattle.pb_value.specs.Data.{Datum, scalar, message, datums_of, no_entries, put_entry, Holding, one, list, map, Fields, no_fields, put_some, Message, body, empty}
+use Rattle.pb_value.specs.Data.{Datum, scalar, message, datums_of, no_entries, put_entry, Holding}
+use Rattle.pb_value.specs.Data.{one, list, map, Fields, no_fields, put_some, Message, body, empty}
 
 abbrev pub last_of : {A : Type 0} → List A → Option A
 last_of [] = None

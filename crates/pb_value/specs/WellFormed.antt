@@ -13,7 +13,8 @@ use Rattle.pb_schema.specs.Scalar.{Scalar, key_cmp}
 use Rattle.pb_schema.specs.Kinds.{message_of_kind, IsOfKind}
 use Rattle.pb_schema.specs.Closed.{is_declared, counts}
 use Rattle.pb_value.specs.Judge.Forms.{is_default_datum}
-use Rattle.pb_value.specs.Data.{Datum, scalar, message, Datums, no_datums, datum, Entries, no_entries, entry, Holding, one, list, map, Fields, no_fields, field, Message, body, message_depth}
+use Rattle.pb_value.specs.Data.{Datum, scalar, message, Datums, no_datums, datum, Entries, no_entries, entry, Holding}
+use Rattle.pb_value.specs.Data.{one, list, map, Fields, no_fields, field, Message, body, message_depth}
 
 -- An unknown record of a type with these fields: its numbers and payloads can be written, and it counts for no field. A packed list of a closed
 -- enum fits its field, and so does a number that the enum declares; another number may be kept.

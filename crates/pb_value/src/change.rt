@@ -7,7 +7,7 @@ pub(crate) mod push;
 ghost use Rattle.std.specs.Prelude.{◌≡◌, ◌<◌, length, OnOk, OnErr, IfErr, Some, option_map};
 ghost use Rattle.pb_schema.specs.Types.{message_fields};
 ghost use Rattle.pb_value.specs.Data.{body, get_field, put_field, drop_field, fields_of, unknown_of};
-ghost use Rattle.pb_value.specs.Change.{gives_way, stored_at, with_fields};
+ghost use Rattle.pb_value.specs.Change.{gives_way, stored_at, ChangesFields};
 ghost use Rattle.pb_value.specs.WellFormed.{RisesFrom, HasOneMemberEach};
 ghost use Rattle.pb_value.specs.View.{body_view, content_view, fields_view};
 ghost use Rattle.pb_value.specs.declared.error.ValueError.TheVariants.{Memory};
@@ -21,14 +21,14 @@ use std::collections::BTreeMap;
 
 /// Clears the field of a number.
 pub(crate) fn clear_field(message: &mut Body, number: u32)
-    ensures { body_view message.new ≡ with_fields (body_view message.old) (drop_field number (fields_of (body_view message.old))) }
+    ensures { ChangesFields (drop_field number) (body_view message.old) (body_view message.new) }
 {
     drop(message.fields.remove(&number));
 }
 
 /// Puts a content at a number.
 pub fn put_field(message: &mut Body, number: u32, content: Content) -> Result<(), ValueError>
-    ensures ok { OnOk result (body_view message.new ≡ with_fields (body_view message.old) (put_field number (content_view content) (fields_of (body_view message.old)))) }
+    ensures ok { OnOk result (ChangesFields (put_field number (content_view content)) (body_view message.old) (body_view message.new)) }
     ensures err { OnErr result (body_view message.new ≡ body_view message.old) }
     ensures memory { IfErr result (λ e. e ≡ Memory) }
     ensures rises { RisesFrom 0 (fields_of (body_view message.old)) }
@@ -39,7 +39,7 @@ pub fn put_field(message: &mut Body, number: u32, content: Content) -> Result<()
 
 /// Takes the content of a number out of a body.
 pub fn take_field(message: &mut Body, number: u32) -> Option<Content>
-    ensures left { body_view message.new ≡ with_fields (body_view message.old) (drop_field number (fields_of (body_view message.old))) }
+    ensures left { ChangesFields (drop_field number) (body_view message.old) (body_view message.new) }
     ensures taken { option_map content_view result ≡ get_field number (fields_of (body_view message.old)) }
 {
     message.fields.remove(&number)
@@ -75,7 +75,8 @@ pub fn store(
 ) -> Result<(), ValueError>
     requires within { kind.0 < length pool.now.messages }
     requires one_each { HasOneMemberEach (message_fields pool.now kind.0) (fields_of (body_view message.old)) }
-    ensures ok { OnOk result (body_view message.new ≡ with_fields (body_view message.old) (stored_at (message_fields pool.now kind.0) shape number (content_view content) (fields_of (body_view message.old)))) }
+    ensures ok { OnOk result (ChangesFields (stored_at (message_fields pool.now kind.0) shape number (content_view content))
+        (body_view message.old) (body_view message.new)) }
     ensures err { OnErr result (body_view message.new ≡ body_view message.old) }
     ensures memory { IfErr result (λ e. e ≡ Memory) }
 {

@@ -45,21 +45,21 @@ impl<'p> Model for DynamicMessage<'p> {
 }
 
 impl<'p> DynamicMessage<'p> {
-    ghost use Rattle.std.specs.Prelude.{◌≡◌, ◌<◌, length, [], option_map, is_some, IsTrue, IfOk, IfErr, OnOk, OnErr, MatchResult, None};
+    ghost use Rattle.std.specs.Prelude.{◌≡◌, ◌<◌, length, [], option_map, is_some, IsTrue, IfOk, IfErr, OnOk, OnErr};
     ghost use Rattle.pb_schema.specs.Types.{message_fields};
     ghost use Rattle.pb_schema.specs.Rules.{IsPool};
     ghost use Rattle.std.specs.Bool.{Decides};
     ghost use Rattle.pb_value.specs.Data.{empty, fields_of, get_field, drop_field};
-    ghost use Rattle.pb_value.specs.Change.{with_fields, set_at, set_cause, Allowed, push_at, push_cause, insert_at, entry_at, insert_cause};
+    ghost use Rattle.pb_value.specs.Change.{set_at, set_cause, Allowed, push_at, push_cause, insert_at, entry_at, insert_cause};
     ghost use Rattle.pb_value.specs.Oneof.{member_set};
     ghost use Rattle.pb_value.specs.Inner.{only_datum, datum_at, datum_under, inner_message};
     ghost use Rattle.pb_value.specs.declared.error.ValueError.TheVariants.{Memory};
     ghost use Rattle.pb_value.specs.View.{body_view, content_view, key_view, value_view};
-    ghost use Rattle.pb_value.specs.Dynamic.{Dynamic, IsSameType};
+    ghost use Rattle.pb_value.specs.Dynamic.{Dynamic, with_changed, IsSameType};
     ghost use Rattle.pb_value.specs.Cause.{MergeFails};
     ghost use Rattle.pb_value.specs.Merge.{merged};
     ghost use Rattle.pb_value.specs.Joining.{JoinedIsText};
-    ghost use Rattle.pb_value.specs.Cause.{message_cause, FailsWith};
+    ghost use Rattle.pb_value.specs.Cause.{message_cause, FailsWith, IsRefusedBy};
     ghost use Rattle.pb_value.specs.WellFormed.{IsWellFormed};
 
     /// The empty message of a type.
@@ -183,9 +183,9 @@ impl<'p> DynamicMessage<'p> {
     /// The content alone is judged: at the field the least cause is told, then what is wrong inside its messages, and the
     /// depth last.
     pub fn set(&mut self, number: u32, content: Content) -> Result<(), ValueError>
-        ensures ok { OnOk result (self.new ≡ record self.old { body = with_fields self.old.body (set_at (message_fields self.old.pool self.old.kind) number (content_view content) (fields_of self.old.body)) }) }
+        ensures ok { OnOk result (self.new ≡ with_changed self.old (set_at (message_fields self.old.pool self.old.kind) number (content_view content))) }
         ensures err { OnErr result (self.new ≡ self.old) }
-        ensures judged { MatchResult result (λ _. set_cause self.old.pool self.old.kind number (content_view content) ≡ None) (FailsWith (set_cause self.old.pool self.old.kind number (content_view content))) }
+        ensures judged { IsRefusedBy result (set_cause self.old.pool self.old.kind number (content_view content)) }
     {
         let shape = self.allows(number, &content)?;
         store(self.pool, self.kind, &mut self.body, shape, number, content)
@@ -196,9 +196,9 @@ impl<'p> DynamicMessage<'p> {
     /// The value alone is judged: at the field the least cause is told, then what is wrong inside its messages, and the depth
     /// last. An element is stored also where it is its kind's default.
     pub fn push(&mut self, number: u32, value: Value) -> Result<(), ValueError>
-        ensures ok { OnOk result (self.new ≡ record self.old { body = with_fields self.old.body (push_at number (value_view value) (fields_of self.old.body)) }) }
+        ensures ok { OnOk result (self.new ≡ with_changed self.old (push_at number (value_view value))) }
         ensures err { OnErr result (self.new ≡ self.old) }
-        ensures judged { MatchResult result (λ _. push_cause self.old.pool self.old.kind number (value_view value) ≡ None) (FailsWith (push_cause self.old.pool self.old.kind number (value_view value))) }
+        ensures judged { IsRefusedBy result (push_cause self.old.pool self.old.kind number (value_view value)) }
     {
         check_element(self.alloc, self.pool, self.kind, number, &value)?;
         push_element(self.alloc, &mut self.body, number, value)
@@ -214,10 +214,10 @@ impl<'p> DynamicMessage<'p> {
         key: MapKey,
         value: Value,
     ) -> Result<Option<Value>, ValueError>
-        ensures ok { OnOk result (self.new ≡ record self.old { body = with_fields self.old.body (insert_at number (key_view key) (value_view value) (fields_of self.old.body)) }) }
+        ensures ok { OnOk result (self.new ≡ with_changed self.old (insert_at number (key_view key) (value_view value))) }
         ensures stood { IfOk result (λ v. option_map value_view v ≡ entry_at number (key_view key) (fields_of self.old.body)) }
         ensures err { OnErr result (self.new ≡ self.old) }
-        ensures judged { MatchResult result (λ _. insert_cause self.old.pool self.old.kind number (key_view key) (value_view value) ≡ None) (FailsWith (insert_cause self.old.pool self.old.kind number (key_view key) (value_view value))) }
+        ensures judged { IsRefusedBy result (insert_cause self.old.pool self.old.kind number (key_view key) (value_view value)) }
     {
         check_entry(self.alloc, self.pool, self.kind, number, &key, &value)?;
         insert_entry(self.alloc, &mut self.body, number, key, value)
@@ -292,7 +292,7 @@ impl<'p> DynamicMessage<'p> {
 
     /// The shape of the field of a number, where a content can be set there.
     fn allows(&self, number: u32, content: &Content) -> Result<Shape, ValueError>
-        ensures judged { MatchResult result (λ _. set_cause self.now.pool self.now.kind number (content_view content.now) ≡ None) (FailsWith (set_cause self.now.pool self.now.kind number (content_view content.now))) }
+        ensures judged { IsRefusedBy result (set_cause self.now.pool self.now.kind number (content_view content.now)) }
         ensures fits { IfOk result (λ s. Allowed self.now.pool self.now.kind number s (content_view content.now)) }
     {
         let Some(field) = field_at(self.pool, self.kind, number) else {
@@ -308,7 +308,7 @@ impl<'p> DynamicMessage<'p> {
 
     /// Clears the field of a number. Nothing else changes, and nothing at all where the type has no such field.
     pub fn clear(&mut self, number: u32)
-        ensures { self.new ≡ record self.old { body = with_fields self.old.body (drop_field number (fields_of self.old.body)) } }
+        ensures { self.new ≡ with_changed self.old (drop_field number) }
     {
         clear_field(&mut self.body, number);
     }

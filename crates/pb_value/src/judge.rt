@@ -6,7 +6,8 @@ pub(crate) mod depth;
 pub(crate) mod unknown;
 
 ghost use Rattle.std.specs.Prelude.{◌≡◌, IsTrue};
-ghost use Rattle.pb_value.specs.Judge.{is_value_of, are_values_of, is_key_of, are_entries_of, holds_kind, has_shape, is_absence, is_scalar_of, is_default_datum, IsWithin, IsKeyWithin};
+ghost use Rattle.pb_value.specs.Judge.{is_value_of, are_values_of, is_key_of, are_entries_of, holds_kind, has_shape};
+ghost use Rattle.pb_value.specs.Judge.{is_absence, is_scalar_of, is_default_datum, IsWithin, IsKeyWithin};
 ghost use Rattle.std.specs.Prelude.{string_bytes};
 ghost use Rattle.pb_schema.specs.Scalar.{int32, int64, uint32, uint64, boolean, float, double, enum, text as scalar_text, bytes as scalar_bytes};
 ghost use Rattle.pb_schema.specs.Kinds.{IsOfKind};

@@ -32,7 +32,8 @@ pub fn well_formed_values()
 
 /// The canonical bytes of a well-formed message spell its canonical records, where the wire can hold them.
 pub fn canonical_spelling()
-    ensures { (pool : Types) (m : ℕ) (v : Message) → IsPool pool → IsWellFormed pool m v → length (canon_bytes pool m v) < 2 ^ 31 → AreRecords (canon pool m v) (canon_bytes pool m v) }
+    ensures { (pool : Types) (m : ℕ) (v : Message) → IsPool pool → IsWellFormed pool m v
+        → length (canon_bytes pool m v) < 2 ^ 31 → AreRecords (canon pool m v) (canon_bytes pool m v) }
 {}
 
 /// The canonical bytes of a well-formed message, where the wire can hold them, are a text of it within the greatest limits, and of no

@@ -4,10 +4,10 @@ ghost use Rattle.std.specs.Prelude.{◌≡◌, ◌<◌, ◌≤◌, ℕ, length, 
 ghost use Rattle.pb_schema.specs.declared.types.Kind.{Kind};
 ghost use Rattle.pb_schema.specs.Types.{FieldView, message_fields, field_numbered};
 ghost use Rattle.pb_schema.specs.Rules.{IsPool, NamesType};
-ghost use Rattle.pb_value.specs.Data.{Message, one, list, map, message, fields_of, get_field, put_field, put_entries, holding_depth, message_depth};
-ghost use Rattle.pb_value.specs.Change.{gives_way, drop_some, with_fields, entries_of, AreKeys};
+ghost use Rattle.pb_value.specs.Data.{Message, one, list, map, message, fields_of, get_field, put_entries, holding_depth, message_depth};
+ghost use Rattle.pb_value.specs.Change.{gives_way, drop_some, ChangesFields, entries_of, AreKeys};
 ghost use Rattle.pb_value.specs.Inner.{only_datum};
-ghost use Rattle.pb_value.specs.Merge.{both, merged_over, merged_in, merged_within};
+ghost use Rattle.pb_value.specs.Merge.{both, put_merged, merged_in, merged_within};
 ghost use Rattle.pb_value.specs.WellFormed.{CanStand, IsDatum, IsHeld, AreFields, HasOneMemberEach, IsBody};
 ghost use Rattle.pb_value.specs.View.{content_view, body_view, values_view, entries_view};
 ghost use Rattle.pb_value.specs.declared.error.ValueError.TheVariants.{Memory};
@@ -15,14 +15,14 @@ ghost use Rattle.pb_value.specs.declared.error.ValueError.TheVariants.{Memory};
 use crate::body::{Body, Content, MapKey, Value};
 use crate::change::{clear_field, gives_way, put_field};
 use crate::error::ValueError;
-use crate::judge::check::message_type;
 use crate::lookup::field_at;
 use pb_schema::{Kind, MessageId, Pool, Shape};
 use std::collections::BTreeMap;
 
 /// Puts the elements of a list behind those of a content. What is no list is replaced.
 fn join_list(content: &mut Content, mut other: Vec<Value>) -> Result<(), ValueError>
-    ensures ok { OnOk result ((merge : ℕ → Message → Message → Message) (k : Kind) → content_view content.new ≡ both merge k (content_view content.old) (list (values_view other.items))) }
+    ensures ok { OnOk result ((merge : ℕ → Message → Message → Message) (k : Kind) →
+        content_view content.new ≡ both merge k (content_view content.old) (list (values_view other.items))) }
     ensures memory { IfErr result (λ e. e ≡ Memory) }
 {
     match content {
@@ -55,7 +55,8 @@ fn put_entries(
 /// Puts the entries of a map over those of a content. What is no map is replaced.
 fn join_map(content: &mut Content, other: BTreeMap<MapKey, Value>) -> Result<(), ValueError>
     requires keys { (k : Kind) × AreKeys k (entries_of (Some (content_view content.old))) × AreKeys k (entries_view other.entries) }
-    ensures ok { OnOk result ((merge : ℕ → Message → Message → Message) (k : Kind) → content_view content.new ≡ both merge k (content_view content.old) (map (entries_view other.entries))) }
+    ensures ok { OnOk result ((merge : ℕ → Message → Message → Message) (k : Kind) →
+        content_view content.new ≡ both merge k (content_view content.old) (map (entries_view other.entries))) }
     ensures memory { IfErr result (λ e. e ≡ Memory) }
 {
     match content {
@@ -71,7 +72,8 @@ fn join_map(content: &mut Content, other: BTreeMap<MapKey, Value>) -> Result<(),
 fn make_way(pool: &Pool, kind: MessageId, message: &mut Body, shape: Shape, number: u32)
     requires within { kind.0 < length pool.now.messages }
     requires one_each { HasOneMemberEach (message_fields pool.now kind.0) (fields_of (body_view message.old)) }
-    ensures { let fs = fields_of (body_view message.old) in body_view message.new ≡ with_fields (body_view message.old) (drop_some (gives_way (message_fields pool.now kind.0) shape number fs) fs) }
+    ensures { ChangesFields (λ fs. drop_some (gives_way (message_fields pool.now kind.0) shape number fs) fs)
+        (body_view message.old) (body_view message.new) }
 {
     if let Some(member) = gives_way(pool, kind, &message.fields, shape, number) {
         clear_field(message, member);
@@ -90,10 +92,11 @@ fn merge_message(
     requires named { NamesType (length pool.now.messages) (length pool.now.enums) kind }
     requires own { IfSome (only_datum (content_view content.old)) (IsDatum pool.now kind) }
     requires other { IsDatum pool.now kind (message (body_view other)) }
-    ensures ok { OnOk result ((levels : ℕ) → message_depth (body_view other) < levels → content_view content.new ≡ both (merged_within pool.now levels) kind (content_view content.old) (one (message (body_view other)))) }
+    ensures ok { OnOk result ((levels : ℕ) → message_depth (body_view other) < levels →
+        content_view content.new ≡ both (merged_within pool.now levels) kind (content_view content.old) (one (message (body_view other)))) }
     ensures memory { IfErr result (λ e. e ≡ Memory) }
 {
-    let Some(id) = message_type(kind) else {
+    let Some(id) = kind.message() else {
         unreachable!();
     };
     match content {
@@ -118,7 +121,8 @@ fn merge_content(
     requires named { NamesType (length pool.now.messages) (length pool.now.enums) kind }
     requires own { IsHeld pool.now shape kind (content_view content.old) }
     requires other { IsHeld pool.now shape kind (content_view other) }
-    ensures ok { OnOk result ((levels : ℕ) → holding_depth (content_view other) ≤ levels → content_view content.new ≡ both (merged_within pool.now levels) kind (content_view content.old) (content_view other)) }
+    ensures ok { OnOk result ((levels : ℕ) → holding_depth (content_view other) ≤ levels →
+        content_view content.new ≡ both (merged_within pool.now levels) kind (content_view content.old) (content_view other)) }
     ensures memory { IfErr result (λ e. e ≡ Memory) }
 {
     match other {
@@ -146,7 +150,8 @@ fn merge_at(
     requires named { NamesType (length pool.now.messages) (length pool.now.enums) kind }
     requires own { IfSome (get_field number (fields_of (body_view message.old))) (IsHeld pool.now shape kind) }
     requires other { IsHeld pool.now shape kind (content_view other) }
-    ensures ok { OnOk result ((levels : ℕ) → holding_depth (content_view other) ≤ levels → body_view message.new ≡ with_fields (body_view message.old) (put_field number (merged_over (merged_within pool.now levels) kind (get_field number (fields_of (body_view message.old))) (content_view other)) (fields_of (body_view message.old)))) }
+    ensures ok { OnOk result ((levels : ℕ) → holding_depth (content_view other) ≤ levels →
+        ChangesFields (put_merged (merged_within pool.now levels) kind number (content_view other)) (body_view message.old) (body_view message.new)) }
     ensures memory { IfErr result (λ e. e ≡ Memory) }
 {
     match message.fields.get_mut(&number) {
@@ -169,7 +174,10 @@ fn merge_field(
     requires own { AreFields pool.now (message_fields pool.now kind.0) (fields_of (body_view message.old)) }
     requires one_each { HasOneMemberEach (message_fields pool.now kind.0) (fields_of (body_view message.old)) }
     requires other { CanStand pool.now (message_fields pool.now kind.0) number (content_view other) }
-    ensures ok { OnOk result ((levels : ℕ) (f : FieldView) → holding_depth (content_view other) ≤ levels → field_numbered number (message_fields pool.now kind.0) ≡ Some f → body_view message.new ≡ with_fields (body_view message.old) (merged_in (merged_within pool.now levels) (message_fields pool.now kind.0) f (content_view other) (fields_of (body_view message.old)))) }
+    ensures ok { OnOk result ((levels : ℕ) (f : FieldView) → holding_depth (content_view other) ≤ levels
+        → field_numbered number (message_fields pool.now kind.0) ≡ Some f
+        → ChangesFields (merged_in (merged_within pool.now levels) (message_fields pool.now kind.0) f (content_view other))
+        (body_view message.old) (body_view message.new)) }
     ensures memory { IfErr result (λ e. e ≡ Memory) }
 {
     let Some(field) = field_at(pool, kind, number) else {
@@ -191,7 +199,8 @@ pub(crate) fn merge_body(
     requires within { kind.0 < length pool.now.messages }
     requires own { IsBody pool.now kind.0 (body_view message.old) }
     requires other { IsBody pool.now kind.0 (body_view other) }
-    ensures ok { OnOk result ((levels : ℕ) → message_depth (body_view other) < levels → body_view message.new ≡ merged_within pool.now levels kind.0 (body_view message.old) (body_view other)) }
+    ensures ok { OnOk result ((levels : ℕ) → message_depth (body_view other) < levels →
+        body_view message.new ≡ merged_within pool.now levels kind.0 (body_view message.old) (body_view other)) }
     ensures memory { IfErr result (λ e. e ≡ Memory) }
 {
     let Body {

@@ -3,7 +3,6 @@
 use crate::body::{Body, Content, MapKey, Value};
 use crate::change::oneof::set_member;
 use crate::full_name::FullName;
-use crate::judge::check::message_type;
 use crate::lookup::field_at;
 use pb_schema::{MessageId, Pool};
 use std::fmt;
@@ -181,7 +180,7 @@ fn type_named(pool: &Pool, kind: MessageId, number: u32) -> Option<MessageId>
     ensures named { option_map (λ m. m.0) result ≡ type_named pool.now kind.0 number }
     ensures within { IfSome result (λ m. m.0 < length pool.now.messages) }
 {
-    message_type(field_at(pool, kind, number)?.kind)
+    field_at(pool, kind, number)?.kind.message()
 }
 
 /// A value that the field of a number holds, as a message.

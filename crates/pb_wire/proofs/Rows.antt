@@ -1,11 +1,12 @@
 -- Small texts, their records and their faults, worked out by the rules.
 use Rattle.std.proofs.Common.{◌≡◌, ◌≢◌, ℕ, ◌+◌, ◌*◌, ◌%◌, ◌^◌, ◌<◌, ◌≤◌, List, [], ◌∷◌, ◌++◌, length, drop, refl, sym, ap, ◌∙◌, arith}
-use Rattle.std.proofs.Common.{subst, Some, None, inl, lit<, lit≤}
+use Rattle.std.proofs.Common.{subst, codes, Some, None, inl, lit<, lit≤}
+use Rattle.std.specs.Fmt.{digits}
 use Rattle.std.proofs.lemmas.List.Elements.{All-nil, All-cons, All-replicate}
 use Rattle.pb_wire.specs.Varint.{IsVarint, EndsOnce, groups_value, shortest, shortest_within}
 use Rattle.pb_wire.specs.Zigzag.{zigzag, unzigzag}
 use Rattle.std.specs.Prelude.{pos, negsuc}
-use Rattle.pb_wire.specs.Record.{varint, fixed64, len, group, fixed32, no_more, more}
+use Rattle.pb_wire.specs.Record.{varint, fixed64, len, group, fixed32, no_more, more, Record}
 use Rattle.pb_wire.specs.Ranges.{IsNumber}
 use Rattle.pb_wire.specs.Spell.{Spells, shortest_records}
 use Rattle.pb_wire.specs.Fault.{Fault, fault, step, HasTag, IsHigh, VarintFault, FixedFault, LengthFault, TagFault}
@@ -13,6 +14,8 @@ use Rattle.pb_wire.specs.Schema.{blank, records}
 use Rattle.pb_wire.specs.Sound.{Sound, AllSound}
 use Rattle.pb_wire.specs.Grammar.{Bad, RecordFault, IsText, HasFault}
 use Rattle.pb_wire.specs.declared.fault.Cause.TheVariants.{Truncated, PastEnd, VarintTooLong, TagTooLarge, NumberZero, BadType, StrayEnd, WrongEnd, LengthTooLarge, TooDeep, InputTooLarge}
+use Rattle.pb_wire.specs.Inside.{first_varint, after_varint, named_length, front_within, records_spelled, records_inside}
+use Rattle.pb_wire.specs.PathText.{path_text}
 use Rattle.pb_wire.proofs.Places.{moves_nothing}
 
 -- a tag of one byte
@@ -337,3 +340,27 @@ too_large_in_a_value =
     (Bad.at_record ([], refl, AllSound.none) (moves_nothing (record { at = 0; known = None; rest = 0x08 ∷ 0x96 ∷ [] })) (λ h. cc, λ h g. cc)
     (RecordFault.varint (tag_here 1 0 0 (0x96 ∷ []) (lit< tt, lit< tt) (lit< tt) (lit< tt))
     (VarintFault.cut_short (lit< tt) (All-cons IsHigh _ [] (lit≤ tt) (All-nil IsHigh)) (λ h. cc) refl) refl)) refl
+
+-- ---- what stands inside a payload
+
+abbrev inside : List Record
+inside = record { number = 1; payload = varint 5 } ∷ []
+
+inside_a_length : records_inside (len (0x08 ∷ 0x05 ∷ [])) ≡ inside
+unfolding records_spelled front_within first_varint after_varint named_length
+inside_a_length = refl
+
+inside_a_group : records_inside (group (more 1 (varint 5) no_more)) ≡ inside
+inside_a_group = refl
+
+inside_a_number : records_inside (varint 5) ≡ []
+inside_a_number = refl
+
+-- ---- paths as they are printed
+
+no_path : path_text [] ≡ codes "-"
+no_path = refl
+
+a_path : path_text (step 3 [] ∷ step 12 [] ∷ []) ≡ codes "3[0].12[0]"
+unfolding digits
+a_path = refl

@@ -1,7 +1,8 @@
 -- The numbers and the names of causes.
 use Rattle.std.specs.Prelude.{ℕ, List, codes}
 use Rattle.pb_wire.specs.declared.fault.Cause.{Cause}
-use Rattle.pb_wire.specs.declared.fault.Cause.TheVariants.{Truncated, PastEnd, VarintTooLong, TagTooLarge, NumberZero, BadType, StrayEnd, WrongEnd, LengthTooLarge, BadText, TooDeep, InputTooLarge}
+use Rattle.pb_wire.specs.declared.fault.Cause.TheVariants.{Truncated, PastEnd, VarintTooLong, TagTooLarge, NumberZero, BadType}
+use Rattle.pb_wire.specs.declared.fault.Cause.TheVariants.{StrayEnd, WrongEnd, LengthTooLarge, BadText, TooDeep, InputTooLarge}
 use Rattle.pb_wire.specs.declared.fault.RawError.{RawError}
 use Rattle.pb_wire.specs.declared.fault.RawError.TheVariants as raw
 

@@ -4,7 +4,8 @@ use Rattle.std.specs.Str.Lossy.{utf8_valid_len}
 use Rattle.pb_wire.specs.Record.{Record}
 use Rattle.pb_wire.specs.Spell.{AreRecords}
 use Rattle.pb_wire.specs.Fault.{Fault, fault, step, inside, Place, Moves, HasTag, HasLength, TagFault, LengthFault, CutFault, text_at, VarintFault, FixedFault}
-use Rattle.pb_wire.specs.Schema.{Schema, Element, a_varint, four_bytes, eight_bytes, Reading, unread, text, message, same_level, packed, Open, records, in_group, context_of, open_group}
+use Rattle.pb_wire.specs.Schema.{Schema, Element, a_varint, four_bytes, eight_bytes, Reading, unread, text, message}
+use Rattle.pb_wire.specs.Schema.{same_level, packed, Open, records, in_group, context_of, open_group}
 use Rattle.pb_wire.specs.Limits.{Bounds}
 use Rattle.pb_wire.specs.Sound.{AreElements, AllSound}
 use Rattle.pb_wire.specs.declared.fault.Cause.{Cause}

@@ -49,7 +49,8 @@ front_within (suc n) (b ∷ bs) =
     let inner : Front = front_within n s in
     let records = before k (group (group_of inner.records)) (front_within n inner.rest) in
     let four = before k (fixed32 (from_le_bytes w32 (take 4 s))) (front_within n (drop 4 s)) in
-    if tag % 8 == 0 then number else (if tag % 8 == 1 then eight else (if tag % 8 == 2 then bytes else (if tag % 8 == 3 then records else (if tag % 8 == 5 then four else front [] s))))
+    if tag % 8 == 0 then number else (if tag % 8 == 1 then eight else (if tag % 8 == 2 then bytes
+    else (if tag % 8 == 3 then records else (if tag % 8 == 5 then four else front [] s))))
 
 -- the records that these bytes spell
 unfoldable pub records_spelled : List ℕ → List Record

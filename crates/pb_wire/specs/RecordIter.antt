@@ -1,5 +1,6 @@
 -- What an iterator over the records of a text gives.
-use Rattle.std.specs.Prelude.{◌≡◌, ◌≢◌, ℕ, ◌+◌, ◌*◌, List, [], ◌∷◌, ◌++◌, length, take, nat_lt, Option, MatchOption, IfSome, IfOk, Result, Ok, Err, if◌then◌else◌}
+use Rattle.std.specs.Prelude.{◌≡◌, ◌≢◌, ℕ, ◌+◌, ◌*◌, List, [], ◌∷◌, ◌++◌, length, take, nat_lt, Option}
+use Rattle.std.specs.Prelude.{MatchOption, IfSome, IfOk, Result, Ok, Err, if◌then◌else◌}
 use Rattle.pb_wire.specs.Varint.{IsVarint}
 use Rattle.pb_wire.specs.Record.{Record, group_of}
 use Rattle.pb_wire.specs.Record as wire

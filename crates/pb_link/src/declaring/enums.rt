@@ -2,7 +2,7 @@
 
 ghost use Rattle.std.specs.Prelude.{◌≡◌, map, string_bytes, IfOk};
 ghost use Rattle.pb_schema.specs.View.{enum_view as view_of_enum};
-ghost use Rattle.pb_descr.specs.View.{enum_view, numbered_view};
+ghost use Rattle.pb_decl.specs.View.{enum_view, numbered_view};
 ghost use Rattle.pb_link.specs.ToDecls.{shares_numbers, declared_enum};
 
 use pb_descr::EnumDecl;

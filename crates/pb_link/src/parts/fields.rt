@@ -3,7 +3,7 @@
 ghost use Rattle.std.specs.Prelude.{◌≡◌, map, length, option_map, IfOk, if◌then◌else◌};
 ghost use Rattle.std.specs.Str.{bytes_eq};
 ghost use Rattle.pb_schema.specs.View.{field_view};
-ghost use Rattle.pb_descr.specs.View.{field_view as declared_view, message_view};
+ghost use Rattle.pb_decl.specs.View.{field_view as declared_view, message_view};
 ghost use Rattle.pb_link.specs.Declarations.{head_of};
 ghost use Rattle.pb_link.specs.Rules.{key_name};
 ghost use Rattle.pb_link.specs.View.{declaration_view};

@@ -2,7 +2,7 @@
 
 ghost use Rattle.std.specs.Prelude.{◌≡◌, map, length, IfOk};
 ghost use Rattle.pb_schema.specs.View.{file_view};
-ghost use Rattle.pb_descr.specs.View.{file_view as declared_view};
+ghost use Rattle.pb_decl.specs.View.{file_view as declared_view};
 ghost use Rattle.pb_link.specs.Sees.{files_of};
 
 use pb_descr::FileDecl;

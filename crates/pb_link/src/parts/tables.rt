@@ -3,7 +3,7 @@
 ghost use Rattle.std.specs.Prelude.{◌≡◌, ◌+◌, ◌<◌, ◌^◌, map, option_map, slice_get, IfOk};
 ghost use Rattle.std.specs.Option.{option_map_or};
 ghost use Rattle.pb_schema.specs.declared.types.Kind.TheVariants as kind;
-ghost use Rattle.pb_descr.specs.View.{file_view};
+ghost use Rattle.pb_decl.specs.View.{file_view};
 ghost use Rattle.pb_link.specs.Rules.{is_enum, is_group, is_message_type, is_two};
 ghost use Rattle.pb_link.specs.PoolOf.{kind_of_code, enum_kind, grouped};
 ghost use Rattle.pb_link.specs.View.{declaration_view};

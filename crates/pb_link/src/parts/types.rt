@@ -3,8 +3,8 @@
 ghost use Rattle.std.specs.Prelude.{◌≡◌, ℕ, ◌<◌, ◌++◌, false, [], ◌∷◌, not, if◌then◌else◌, map, length, string_bytes, IfOk, OnOk};
 ghost use Rattle.std.specs.List.{cons_option, slice_index_or};
 ghost use Rattle.pb_schema.specs.View.{message_view, enum_view};
-ghost use Rattle.pb_descr.specs.View.{message_view as declared_view, enum_view as declared_enum, numbered_view};
-ghost use Rattle.pb_descr.specs.Decls.{MessageHead};
+ghost use Rattle.pb_decl.specs.View.{message_view as declared_view, enum_view as declared_enum, numbered_view};
+ghost use Rattle.pb_decl.specs.Decls.{MessageHead};
 ghost use Rattle.pb_link.specs.Declarations.{head_of, is_synthetic};
 ghost use Rattle.pb_link.specs.PoolOf.{real_oneofs};
 ghost use Rattle.pb_link.specs.View.{declaration_view};

@@ -1,7 +1,7 @@
 //! Enums, which name no types.
 
 ghost use Rattle.std.specs.Prelude.{◌≡◌, map, IfOk};
-ghost use Rattle.pb_descr.specs.View.{enum_view};
+ghost use Rattle.pb_decl.specs.View.{enum_view};
 ghost use Rattle.pb_link.specs.Resolving.{coming, each_behind, behind_enum};
 
 use crate::declaring::enums::value_decls;

@@ -1,7 +1,7 @@
 //! Fields with the types that they mean.
 
 ghost use Rattle.std.specs.Prelude.{◌≡◌, map, option_map, string_bytes, IfOk, OnOk};
-ghost use Rattle.pb_descr.specs.View.{field_view};
+ghost use Rattle.pb_decl.specs.View.{field_view};
 ghost use Rattle.pb_link.specs.Resolved.{full_name_or, field_of_type};
 ghost use Rattle.pb_link.specs.Resolving.{coming, first_type, fields_read, each_behind, behind_one};
 ghost use Rattle.pb_link.specs.View.{declaration_view, type_names_view};

@@ -1,7 +1,7 @@
 //! Files with the types that their declarations mean.
 
 ghost use Rattle.std.specs.Prelude.{◌≡◌, map, IfOk, OnOk};
-ghost use Rattle.pb_descr.specs.View.{file_view};
+ghost use Rattle.pb_decl.specs.View.{file_view};
 ghost use Rattle.pb_link.specs.Resolving.{coming, file_read, files_read, behind_file};
 ghost use Rattle.pb_link.specs.View.{declaration_view, type_names_view};
 

@@ -1,7 +1,7 @@
 //! Messages with the types that their fields mean.
 
 ghost use Rattle.std.specs.Prelude.{◌≡◌, map, IfOk, OnOk};
-ghost use Rattle.pb_descr.specs.View.{message_view};
+ghost use Rattle.pb_decl.specs.View.{message_view};
 ghost use Rattle.pb_link.specs.Resolving.{coming, message_read, each_read, each_behind, behind_message};
 ghost use Rattle.pb_link.specs.View.{declaration_view};
 

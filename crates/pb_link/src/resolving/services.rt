@@ -1,7 +1,7 @@
 //! Services with the types that their methods mean.
 
 ghost use Rattle.std.specs.Prelude.{◌≡◌, map, IfOk, OnOk};
-ghost use Rattle.pb_descr.specs.View.{method_view, service_view};
+ghost use Rattle.pb_decl.specs.View.{method_view, service_view};
 ghost use Rattle.pb_link.specs.Resolved.{method_of_types};
 ghost use Rattle.pb_link.specs.Resolving.{coming, first_type, second_type, methods_read, service_read, services_read, each_behind, behind_one, behind_service};
 ghost use Rattle.pb_link.specs.View.{declaration_view, type_names_view};

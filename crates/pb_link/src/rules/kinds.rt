@@ -2,8 +2,8 @@
 
 ghost use Rattle.std.specs.Prelude.{◌≡◌, ◌&&◌, ◌||◌, List, map, not, true};
 ghost use Rattle.std.specs.List.{list_any, list_all};
-ghost use Rattle.pb_descr.specs.Decls.{DeclaredFile};
-ghost use Rattle.pb_descr.specs.View.{field_view, file_view};
+ghost use Rattle.pb_decl.specs.Decls.{DeclaredFile};
+ghost use Rattle.pb_decl.specs.View.{field_view, file_view};
 ghost use Rattle.pb_link.specs.Declarations.{Declaration as DeclarationView};
 ghost use Rattle.pb_link.specs.Sees.{Sight};
 ghost use Rattle.pb_link.specs.Rules.{lookups, passes, passes_declared, is_message, is_message_type, is_enum, is_two, is_open, is_enum_right};

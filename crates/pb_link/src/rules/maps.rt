@@ -3,8 +3,8 @@
 ghost use Rattle.std.specs.Prelude.{◌≡◌, ◌+◌, ◌&&◌, List, map, true, false, IfOk};
 ghost use Rattle.std.specs.List.{list_all, slice_index_or};
 ghost use Rattle.std.specs.Option.{option_map_or};
-ghost use Rattle.pb_descr.specs.Decls.{DeclaredFile, inner_of};
-ghost use Rattle.pb_descr.specs.View.{field_view, message_view};
+ghost use Rattle.pb_decl.specs.Decls.{DeclaredFile, inner_of};
+ghost use Rattle.pb_decl.specs.View.{field_view, message_view};
 ghost use Rattle.pb_link.specs.declared.found.TypeNames.TheVariants as type_names;
 ghost use Rattle.pb_link.specs.Declarations.{head_of};
 ghost use Rattle.pb_link.specs.Rules.{World, lookups, is_key_code, is_group, is_part, is_value_part, key_name, value_name, is_used_rightly, has_nothing_inside};

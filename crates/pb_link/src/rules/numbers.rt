@@ -1,7 +1,7 @@
 //! Numbers of fields and the first values of enums.
 
 ghost use Rattle.std.specs.Prelude.{◌≡◌};
-ghost use Rattle.pb_descr.specs.View.{enum_view};
+ghost use Rattle.pb_decl.specs.View.{enum_view};
 ghost use Rattle.pb_link.specs.Rules.{is_field_number, begins_right};
 
 use pb_descr::EnumDecl;

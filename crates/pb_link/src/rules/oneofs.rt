@@ -2,8 +2,8 @@
 
 ghost use Rattle.std.specs.Prelude.{◌≡◌, ◌<◌, ◌+◌, ℕ, map, length, take, IfOk, not, false, ◌&&◌, ◌||◌, ◌^◌, slice_index, slice_set, nat_lt};
 ghost use Rattle.std.specs.List.{slice_index_or};
-ghost use Rattle.pb_descr.specs.Decls.{MessageHead};
-ghost use Rattle.pb_descr.specs.View.{field_view};
+ghost use Rattle.pb_decl.specs.Decls.{MessageHead};
+ghost use Rattle.pb_decl.specs.View.{field_view};
 ghost use Rattle.pb_link.specs.Rules.{oneof_of_field_is_right};
 ghost use Rattle.pb_link.specs.Oneofs.{AreCounted, AreOneofsOf, oneof_place};
 

@@ -4,7 +4,7 @@ ghost use Rattle.std.specs.Prelude.{◌≡◌, ℕ, ℤ, List, map, true, string
 ghost use Rattle.std.specs.Int.{w32};
 ghost use Rattle.std.specs.List.{list_any, list_all};
 ghost use Rattle.std.specs.Str.{bytes_eq};
-ghost use Rattle.pb_descr.specs.View.{enum_view, message_view};
+ghost use Rattle.pb_decl.specs.View.{enum_view, message_view};
 ghost use Rattle.pb_link.specs.Declarations.{head_of};
 ghost use Rattle.pb_link.specs.NameSets.{is_in_set};
 ghost use Rattle.pb_link.specs.Reserved.{with_end_behind, is_filled, Rises, Reserves, ReservesInMessage, ReservesInEnum};

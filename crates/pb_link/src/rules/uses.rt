@@ -2,7 +2,7 @@
 
 ghost use Rattle.std.specs.Prelude.{◌≡◌, ◌<◌, ℕ, List, map, length, take, filter, string_bytes, option_map, IfOk};
 ghost use Rattle.std.specs.List.{slice_index_or, enumerate_from};
-ghost use Rattle.pb_descr.specs.View.{field_view};
+ghost use Rattle.pb_decl.specs.View.{field_view};
 ghost use Rattle.pb_link.specs.Declarations.{Declaration as DeclarationView};
 ghost use Rattle.pb_link.specs.declared.found.TypeNames.TheVariants as type_names;
 ghost use Rattle.pb_link.specs.ItemView.{item_view};

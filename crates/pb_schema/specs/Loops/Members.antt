@@ -20,4 +20,5 @@ pub record AreMembers (oneofs : ℕ) (fs : List FieldView) (bits : List Bool) : 
 -- the number of the field is appended to the members of its oneof, where there is such a oneof
 pub record AddsMember (f : FieldView) (old new : List (Vec ℕ Global)) : Type 0 where
   pub size : length new ≡ length old
-  pub exact : (o : ℕ) (ns : List ℕ) → option_map (λ v. v.items) (slice_get old o) ≡ Some ns → option_map (λ v. v.items) (slice_get new o) ≡ Some (if is_member o f.shape then ns ++ f.number ∷ [] else ns)
+  pub exact : (o : ℕ) (ns : List ℕ) → option_map (λ v. v.items) (slice_get old o) ≡ Some ns
+      → option_map (λ v. v.items) (slice_get new o) ≡ Some (if is_member o f.shape then ns ++ f.number ∷ [] else ns)

@@ -69,7 +69,8 @@ abbrev pub AddsMessages : List (Option ℕ) → List MessageView → List ℕ �
 AddsMessages packages ms indexes old new =
     (files : List FileView) → MayAddMessages files packages ms old → MessagesAdded files ms indexes old new
 
-pub record MayAddEnums (files : List FileView) (ms : List MessageView) (scopes : List (Option ℕ)) (indexes : List ℕ) (es : List EnumView) (d : Declarations) : Type 0 where
+pub record MayAddEnums (files : List FileView) (ms : List MessageView) (scopes : List (Option ℕ)) (indexes : List ℕ) (es : List EnumView)
+    (d : Declarations) : Type 0 where
   pub tree : IsTree d.tree
   pub packages : ArePackages (full_names_of d.tree) scopes files
   pub messages : HaveNames (full_names_of d.tree) indexes (map (message_name files ms) ms)

@@ -41,6 +41,10 @@ TypeIsSeen ts file kind.Sfixed64 = Unit {0}
 TypeIsSeen ts file kind.Sint32 = Unit {0}
 TypeIsSeen ts file kind.Sint64 = Unit {0}
 
+-- the type of each of a message's fields is declared in a file that this one sees
+abbrev pub FieldsSeeTypes : Types → ℕ → List FieldView → Type 0
+FieldsSeeTypes ts file fs = AllByRecursion (λ f. TypeIsSeen ts file f.kind) fs
+
 abbrev pub TypesAreSeen : Types → Type 0
 TypesAreSeen ts = EachField (λ t f. TypeIsSeen ts t.file f.kind) ts.messages
 

@@ -44,8 +44,8 @@ impl NameSet {
     }
 }
 
-/// The full name of a name in a scope.
-pub(crate) fn scoped(alloc: Global, scope: &[u8], name: &[u8]) -> Result<Vec<u8>, AllocError>
+/// The full name of a name in a scope, both with no leading dot: the name itself where the scope is empty, else the scope, a dot and the name.
+pub fn scoped(alloc: Global, scope: &[u8], name: &[u8]) -> Result<Vec<u8>, AllocError>
     ensures { IfOk result (λ v. v.items ≡ in_scope scope.now name.now) }
 {
     let mut full_name = scope.to_vec(alloc)?;

@@ -6,7 +6,7 @@ ghost use Rattle.pb_schema.specs.View.{file_view, message_view, enum_view, field
 ghost use Rattle.pb_schema.specs.Names.{AllDiffer};
 ghost use Rattle.pb_schema.specs.Imports.Sight.{KnowsAll, file_of_kind};
 ghost use Rattle.pb_schema.specs.Loops.Members.{NotesMember, AreMembers};
-ghost use Rattle.pb_schema.specs.Rules.{ImportsNameFiles, MessagesHaveFiles, FieldNumbersDiffer, NumbersDiffer, TypeIsSeen, TypesAreSeen};
+ghost use Rattle.pb_schema.specs.Rules.{ImportsNameFiles, MessagesHaveFiles, FieldNumbersDiffer, NumbersDiffer, TypeIsSeen, FieldsSeeTypes, TypesAreSeen};
 ghost use Rattle.pb_schema.specs.Rules.{IsMemberOf, HasMember, EachOneofHasMember, OneofsHaveMembers};
 
 use crate::imports::sight::Sight;
@@ -154,7 +154,8 @@ fn fields_see_types(
     requires imports { ImportsNameFiles (map file_view files.now) }
     requires within { message.now.file < length files.now }
     requires known { KnowsAll (map file_view files.now) sight.old }
-    ensures seen { IfOk result (λ holds. IsTrue holds ↔ AllByRecursion (λ f. TypeIsSeen (types_of files.now messages.now enums.now) message.now.file f.kind) (map field_view message.now.fields.items)) }
+    ensures seen { IfOk result (λ holds. IsTrue holds ↔
+        FieldsSeeTypes (types_of files.now messages.now enums.now) message.now.file (map field_view message.now.fields.items)) }
     ensures known { OnOk result (KnowsAll (map file_view files.now) sight.new) }
 {
     for field in &message.fields {

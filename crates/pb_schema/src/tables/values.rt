@@ -51,7 +51,8 @@ fn distance(least: i32, number: i32) -> Option<usize>
 }
 
 fn mark(marks: &mut Vec<bool>, distance: Option<usize>)
-    ensures { MatchOption distance (marks.new.items ≡ marks.old.items) (λ d. (marks.new.items ≡ marks.old.items) ⊎ (marks.new.items ≡ set marks.old.items d true)) }
+    ensures { MatchOption distance (marks.new.items ≡ marks.old.items)
+        (λ d. (marks.new.items ≡ marks.old.items) ⊎ (marks.new.items ≡ set marks.old.items d true)) }
 {
     if let Some(distance) = distance
         && distance < marks.len()

@@ -1,8 +1,8 @@
 -- The readers of the grammar's lines: of each line of `Grammar` one.
 use Rattle.std.specs.Prelude.{ℕ, zero, suc, nat_le, ℤ, pos, neg_ℤ, List, [], ◌∷◌, codes, Bool, true, false, if◌then◌else◌, Option, Some, None, option_map}
 use Rattle.std.specs.Str.{bytes_eq, is_utf8}
-use Rattle.pb_descr.specs.Decls.{DeclaredField, DeclaredEnum, DeclaredMessage, DeclaredMethod, DeclaredService}
-use Rattle.pb_descr.specs.declared.decl.TypeCode.{TypeCode}
+use Rattle.pb_decl.specs.Decls.{DeclaredField, DeclaredEnum, DeclaredMessage, DeclaredMethod, DeclaredService}
+use Rattle.pb_decl.specs.declared.decl.TypeCode.{TypeCode}
 use Rattle.pb_source.specs.declared.kind.Label.{Label}
 use Rattle.pb_source.specs.declared.kind.Label.TheVariants.{Unlabelled, Repeated, Optional}
 use Rattle.pb_source.specs.declared.kind.FileKind.{FileKind}

@@ -2,8 +2,8 @@
 
 ghost use Rattle.std.specs.Prelude.{◌≡◌, ◌≤◌, ◌<◌, ◌^◌, ◌++◌, ◌∷◌, [], ℕ, List, Bool, Option, None, Some, codes, map, length, string_bytes, pos, IfOk, OnOk};
 ghost use Rattle.pb_schema.specs.Names.{entry_name};
-ghost use Rattle.pb_descr.specs.View.{field_view, message_view};
-ghost use Rattle.pb_descr.specs.declared.decl.TypeCode.{TypeCode};
+ghost use Rattle.pb_decl.specs.View.{field_view, message_view};
+ghost use Rattle.pb_decl.specs.declared.decl.TypeCode.{TypeCode};
 ghost use Rattle.pb_source.specs.Meaning.{MessageStatement, FileStatement, a_scalar, entry_field, entry_of, map_field};
 ghost use Rattle.pb_source.specs.Meaning.{in_oneof, with_own_oneofs, own_oneofs, message_of, public_from};
 ghost use Rattle.pb_source.specs.StatementView.{type_view, map_view, message_statement_view, file_statement_view};
@@ -12,7 +12,7 @@ ghost use Rattle.pb_source.specs.PartsView.{with_own_oneof, IsCounted, OnePackag
 use crate::kind::Label;
 use crate::parsing::fields::field_of;
 use crate::parsing::statement::{FileSaid, MapSaid, MessageSaid, TypeSaid};
-use pb_descr::{EnumDecl, FieldDecl, MessageDecl, ServiceDecl, TypeCode};
+use pb_decl::{EnumDecl, FieldDecl, MessageDecl, ServiceDecl, TypeCode};
 use pb_schema::entry_name;
 use std::alloc::{AllocError, Global};
 

@@ -1,7 +1,7 @@
 //! Enums.
 
 ghost use Rattle.std.specs.Prelude.{◌≡◌, ◌≤◌, ◌<◌, ◌++◌, ◌∷◌, ℕ, List, [], length, codes, string_bytes, IfOk, OnOk};
-ghost use Rattle.pb_descr.specs.View.{enum_view};
+ghost use Rattle.pb_decl.specs.View.{enum_view};
 ghost use Rattle.pb_source.specs.Meaning.{EnumStatement, enum_of};
 ghost use Rattle.pb_source.specs.Readers.Forms.{before, behind, mapped, until, keyword_reader, mark_reader};
 ghost use Rattle.pb_source.specs.Readers.Lines.{is_closing, said_of_alias, setting_reader, enum_range_reader};
@@ -18,7 +18,7 @@ use crate::parsing::single::{begins_with_mark, begins_with_text, keyword, mark, 
 use crate::parsing::statement::EnumSaid;
 use crate::refusal::Refusal;
 use crate::symbol::Placed;
-use pb_descr::EnumDecl;
+use pb_decl::EnumDecl;
 use std::alloc::{AllocError, Global};
 
 /// Reads a value.

@@ -1,7 +1,7 @@
 //! Fields, oneofs and maps.
 
 ghost use Rattle.std.specs.Prelude.{◌≡◌, ◌≤◌, ◌<◌, ◌++◌, ℕ, [], length, map, codes, string_bytes, option_map, option_to_list, IfOk, OnOk};
-ghost use Rattle.pb_descr.specs.View.{field_view};
+ghost use Rattle.pb_decl.specs.View.{field_view};
 ghost use Rattle.pb_source.specs.Language.{all_rules};
 ghost use Rattle.pb_source.specs.Meaning.{is_repeated_label, is_optional_label, field_of, those_said};
 ghost use Rattle.pb_source.specs.Readers.Forms.{mapped, until, mark_reader};
@@ -19,7 +19,7 @@ use crate::parsing::statement::{MapSaid, MessageSaid, TypeSaid};
 use crate::parsing::types::{code_of, key_type, name_of, typed};
 use crate::refusal::Refusal;
 use crate::symbol::Placed;
-use pb_descr::FieldDecl;
+use pb_decl::FieldDecl;
 use std::alloc::{AllocError, Global};
 
 /// What stands behind a field's type.

@@ -2,7 +2,7 @@
 
 ghost use Rattle.std.specs.Prelude.{◌≡◌, ◌≤◌, ◌<◌, ℕ, [], false, length, map, codes, string_bytes, IfOk, IfErr, Ok, List};
 ghost use Rattle.std.specs.Str.{bytes_eq};
-ghost use Rattle.pb_descr.specs.View.{file_view};
+ghost use Rattle.pb_decl.specs.View.{file_view};
 ghost use Rattle.pb_source.specs.Language.{all_rules};
 ghost use Rattle.pb_source.specs.Meaning.{FileStatement, file_of};
 ghost use Rattle.pb_source.specs.declared.rule.Rule.TheVariants.{SyntaxFirst};
@@ -26,7 +26,7 @@ use crate::parsing::statement::FileSaid;
 use crate::refusal::Refusal;
 use crate::rule::Rule;
 use crate::symbol::{Placed, Symbol, is_keyword};
-use pb_descr::FileDecl;
+use pb_decl::FileDecl;
 use std::alloc::Global;
 
 /// How many messages may nest in one of a file.

@@ -1,8 +1,8 @@
 //! Messages.
 
 ghost use Rattle.std.specs.Prelude.{◌≡◌, ◌≢◌, ◌≤◌, ◌<◌, ◌∷◌, [], length, map, codes, IfOk, Option, Some, true};
-ghost use Rattle.pb_descr.specs.View.{message_view, field_view};
-ghost use Rattle.pb_descr.specs.Decls.{DeclaredMessage};
+ghost use Rattle.pb_decl.specs.View.{message_view, field_view};
+ghost use Rattle.pb_decl.specs.Decls.{DeclaredMessage};
 ghost use Rattle.pb_source.specs.Meaning.{MessageStatement, message_of};
 ghost use Rattle.pb_source.specs.Readers.Forms.{Reader, if_some, behind, mapped, until, keyword_reader, mark_reader};
 ghost use Rattle.pb_source.specs.Readers.Lines.{is_closing, field_reader, message_range_reader, reserved_reader};
@@ -23,7 +23,7 @@ use crate::parsing::statement::MessageSaid;
 use crate::refusal::Refusal;
 use crate::rule::Rule;
 use crate::symbol::Placed;
-use pb_descr::{FieldDecl, MessageDecl};
+use pb_decl::{FieldDecl, MessageDecl};
 use std::alloc::Global;
 
 /// Reads what is reserved.

@@ -2,12 +2,12 @@
 
 ghost use Rattle.std.specs.Prelude.{◌≡◌, ◌≤◌, ◌++◌, ◌∷◌, ℕ, List, map, string_bytes, IfOk, OnOk};
 ghost use Rattle.pb_schema.specs.Names.{in_scope};
-ghost use Rattle.pb_descr.specs.View.{field_view, message_view, file_view};
+ghost use Rattle.pb_decl.specs.View.{field_view, message_view, file_view};
 ghost use Rattle.pb_source.specs.Meaning.{FileStatement, scoped_field, scoped, file_of};
 ghost use Rattle.pb_source.specs.PartsView.{FileHolds};
 
 use crate::parsing::declared::FileParts;
-use pb_descr::{FieldDecl, FileDecl, MessageDecl};
+use pb_decl::{FieldDecl, FileDecl, MessageDecl};
 use std::alloc::{AllocError, Global};
 
 /// Appends a name to the scope that it stands in.

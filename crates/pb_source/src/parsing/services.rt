@@ -1,7 +1,7 @@
 //! Services.
 
 ghost use Rattle.std.specs.Prelude.{◌≡◌, ◌≤◌, ◌<◌, ◌++◌, [], length, map, codes, string_bytes, option_map, option_to_list, IfOk, OnOk};
-ghost use Rattle.pb_descr.specs.View.{method_view, service_view};
+ghost use Rattle.pb_decl.specs.View.{method_view, service_view};
 ghost use Rattle.pb_source.specs.Meaning.{those_said};
 ghost use Rattle.pb_source.specs.Readers.Forms.{mapped, until, mark_reader};
 ghost use Rattle.pb_source.specs.Readers.Lines.{is_closing, streamed_reader, parameter_reader, method_statement_reader, method_end_reader};
@@ -15,7 +15,7 @@ use crate::parsing::options::option;
 use crate::parsing::single::{begins_with, begins_with_mark, keyword, mark, name, symbol_at};
 use crate::refusal::Refusal;
 use crate::symbol::Placed;
-use pb_descr::{MethodDecl, ServiceDecl};
+use pb_decl::{MethodDecl, ServiceDecl};
 use std::alloc::{AllocError, Global};
 
 /// Reads the type of a method, and whether it is a stream.

@@ -1,6 +1,6 @@
 //! Statements, as they were read.
 
-use pb_descr::{EnumDecl, FieldDecl, MessageDecl, ServiceDecl, TypeCode};
+use pb_decl::{EnumDecl, FieldDecl, MessageDecl, ServiceDecl, TypeCode};
 
 /// A type as it is written: a scalar, or the name of a message or an enum.
 #[derive(Drop)]

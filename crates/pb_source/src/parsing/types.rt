@@ -12,7 +12,7 @@ use crate::parsing::single::{begins_with_mark, mark, symbol_at};
 use crate::parsing::statement::TypeSaid;
 use crate::refusal::Refusal;
 use crate::symbol::{Placed, Symbol};
-use pb_descr::TypeCode;
+use pb_decl::TypeCode;
 use std::alloc::{AllocError, Global};
 
 /// The type of a scalar's word.

@@ -41,12 +41,14 @@ is_map (shape.List _) = false
 abbrev pub insert_cause : Types → ℕ → ℕ → Scalar → Datum → Option ValueError
 insert_cause pool m n x d =
     at_field (field_numbered n (message_fields pool m))
-    (λ f. or_else (unless (is_key_of f.shape x && is_value_of f.kind d) WrongKind) (or_else (unless (is_map f.shape) WrongShape) (or_else (datum_cause pool f.kind d) (unless (nat_le (suc (levels_in_entry d)) 100) TooDeep))))
+    (λ f. or_else (unless (is_key_of f.shape x && is_value_of f.kind d) WrongKind) (or_else (unless (is_map f.shape) WrongShape)
+    (or_else (datum_cause pool f.kind d) (unless (nat_le (suc (levels_in_entry d)) 100) TooDeep))))
 
 -- the value can stand under the key in the map of number n
 abbrev pub IsEntry : Types → ℕ → ℕ → Scalar → Datum → Type 0
 IsEntry pool m n x d =
-    IsSomeAnd (field_numbered n (message_fields pool m)) (λ f. (is_map f.shape ≡ true) × IsKeyWithin f.shape x × IsDatum pool f.kind d × (suc (levels_in_entry d) ≤ 100))
+    IsSomeAnd (field_numbered n (message_fields pool m))
+    (λ f. (is_map f.shape ≡ true) × IsKeyWithin f.shape x × IsDatum pool f.kind d × (suc (levels_in_entry d) ≤ 100))
 
 abbrev pub AreKeys : Kind → Entries → Type 0
 AreKeys k no_entries = Unit {0}

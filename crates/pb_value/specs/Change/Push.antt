@@ -44,8 +44,11 @@ element_cause pool k d = or_else (declared_cause pool k (one d)) (datum_cause po
 abbrev pub push_cause : Types → ℕ → ℕ → Datum → Option ValueError
 push_cause pool m n d =
     at_field (field_numbered n (message_fields pool m))
-    (λ f. or_else (unless (is_value_of f.kind d) WrongKind) (or_else (unless (is_list f.shape) WrongShape) (or_else (element_cause pool f.kind d) (unless (nat_le (levels_of d) 100) TooDeep))))
+    (λ f. or_else (unless (is_value_of f.kind d) WrongKind) (or_else (unless (is_list f.shape) WrongShape)
+    (or_else (element_cause pool f.kind d) (unless (nat_le (levels_of d) 100) TooDeep))))
 
 -- the value can be an element of the list of number n
 abbrev pub IsElement : Types → ℕ → ℕ → Datum → Type 0
-IsElement pool m n d = IsSomeAnd (field_numbered n (message_fields pool m)) (λ f. (is_list f.shape ≡ true) × IsDatum pool f.kind d × (levels_of d ≤ 100) × (datum_declared pool f.kind d ≡ true))
+IsElement pool m n d =
+    IsSomeAnd (field_numbered n (message_fields pool m))
+    (λ f. (is_list f.shape ≡ true) × IsDatum pool f.kind d × (levels_of d ≤ 100) × (datum_declared pool f.kind d ≡ true))

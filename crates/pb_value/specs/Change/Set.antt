@@ -4,7 +4,7 @@ use Rattle.std.specs.Prelude.{◌≡◌, ◌≤◌, ℕ, List, true, ◌==◌, n
 use Rattle.pb_schema.specs.declared.types.Shape.{Shape}
 use Rattle.pb_schema.specs.declared.types.Shape.TheVariants as shape
 use Rattle.pb_schema.specs.Types.{FieldView, Types, message_fields, field_numbered}
-use Rattle.pb_value.specs.Data.{Holding, Fields, Message, body, unknown_of, put_field, drop_field, holding_depth}
+use Rattle.pb_value.specs.Data.{Holding, Fields, Message, body, fields_of, unknown_of, put_field, drop_field, holding_depth}
 use Rattle.pb_value.specs.Judge.{is_absence, has_shape}
 use Rattle.pb_value.specs.WellFormed.{IsHeld, holds_declared}
 use Rattle.pb_value.specs.Oneof.{member_set}
@@ -43,6 +43,10 @@ set_at all n h fs = at (field_numbered n all)
 abbrev pub with_fields : Message → Fields → Message
 with_fields v fs = body fs (unknown_of v)
 
+-- the fields are changed so, and nothing else
+abbrev pub ChangesFields : (Fields → Fields) → Message → Message → Type 0
+ChangesFields change old new = new ≡ with_fields old (change (fields_of old))
+
 -- why a content cannot be set
 abbrev pub set_cause : Types → ℕ → ℕ → Holding → Option ValueError
 set_cause pool m n h =
@@ -52,7 +56,8 @@ set_cause pool m n h =
 -- the content can stand at the field of number n, which has this shape
 abbrev pub Allowed : Types → ℕ → ℕ → Shape → Holding → Type 0
 Allowed pool m n s h =
-    IsSomeAnd (field_numbered n (message_fields pool m)) (λ f. (f.shape ≡ s) × (has_shape f.shape h ≡ true) × IsHeld pool f.shape f.kind h × (holding_depth h ≤ 100) × (holds_declared pool f.kind h ≡ true))
+    IsSomeAnd (field_numbered n (message_fields pool m)) (λ f. (f.shape ≡ s) × (has_shape f.shape h ≡ true) × IsHeld pool f.shape f.kind h
+    × (holding_depth h ≤ 100) × (holds_declared pool f.kind h ≡ true))
 
 -- a field of the shape holds one value
 abbrev pub IsSingle : Shape → Type 0

@@ -1,12 +1,14 @@
 -- Why a message is not well formed: the first cause, by rising field number and then by unknown record. At one field the least cause is
--- told, a number that a closed enum doesn't declare last of these, then what is wrong inside its messages; a second member of a oneof is told at that member, and the depth last of all.
+-- told, a number that a closed enum doesn't declare last of these, then what is wrong inside its messages; a second member of a oneof is
+-- told at that member, and the depth last of all.
 use Rattle.std.specs.Prelude.{ℕ, List, Bool, false, not, ◌||◌, ◌==◌, nat_le, Option, Some, None}
 use Rattle.pb_schema.specs.declared.types.Kind.{Kind}
 use Rattle.pb_schema.specs.declared.types.Shape.{Shape}
 use Rattle.pb_schema.specs.declared.types.Shape.TheVariants as shape
 use Rattle.pb_schema.specs.Types.{FieldView, Types, message_fields, field_numbered}
 use Rattle.pb_schema.specs.Kinds.{message_of_kind}
-use Rattle.pb_value.specs.Data.{Datum, scalar, message, Datums, no_datums, datum, Entries, no_entries, entry, Holding, one, list, map, Fields, no_fields, field, Message, body, message_depth}
+use Rattle.pb_value.specs.Data.{Datum, scalar, message, Datums, no_datums, datum, Entries, no_entries, entry, Holding}
+use Rattle.pb_value.specs.Data.{one, list, map, Fields, no_fields, field, Message, body, message_depth}
 use Rattle.pb_value.specs.Judge.Forms.{is_scalar_of, holds_kind, has_shape, is_absence}
 use Rattle.pb_value.specs.Judge.Told.{or_else, unless}
 use Rattle.pb_value.specs.Judge.Unknown.{unknown_cause}
@@ -85,7 +87,8 @@ module _ (pool : Types) where
     pub fields_cause : List FieldView → (ℕ → Bool) → Fields → Option ValueError
     fields_cause all seen no_fields = None
     fields_cause all seen (field n h fs) =
-        or_else (at_field (field_numbered n all) (λ f. or_else (stored_cause seen f.shape f.kind h) (or_else (declared_cause pool f.kind h) (parts_cause f.shape f.kind h))))
+        or_else (at_field (field_numbered n all)
+        (λ f. or_else (stored_cause seen f.shape f.kind h) (or_else (declared_cause pool f.kind h) (parts_cause f.shape f.kind h))))
         (fields_cause all (with_member (shape_at (field_numbered n all)) seen) fs)
 
     pub body_cause : ℕ → Message → Option ValueError

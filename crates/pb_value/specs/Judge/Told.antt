@@ -17,6 +17,10 @@ unless false e = Some e
 abbrev pub FailsWith : Option ValueError → ValueError → Type 0
 FailsWith cause e = (e ≡ Memory) ⊎ (cause ≡ Some e)
 
+-- a call is refused exactly where there is a cause, and with that cause, but for want of memory
+abbrev pub IsRefusedBy : {T : Type 0} → Result T ValueError → Option ValueError → Type 0
+IsRefusedBy r cause = MatchResult r (λ _. cause ≡ None) (FailsWith cause)
+
 -- an answer tells the cause, and where there is none the judged thing is good
 abbrev pub Judges : {T : Type 0} → Result T ValueError → Option ValueError → Type 0 → Type 0
 Judges r cause Good = MatchResult r (λ _. (cause ≡ None) × Good) (λ e. cause ≡ Some e)

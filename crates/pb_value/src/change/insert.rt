@@ -1,9 +1,9 @@
 //! One entry of a map.
 
-ghost use Rattle.std.specs.Prelude.{◌≡◌, ◌<◌, length, option_map, OnOk, OnErr, IfOk, IfErr, MatchResult, None, Some};
+ghost use Rattle.std.specs.Prelude.{◌≡◌, ◌<◌, length, option_map, OnOk, OnErr, IfOk, IfErr, None, Some};
 ghost use Rattle.pb_value.specs.Data.{fields_of, get_field, get_entry};
-ghost use Rattle.pb_value.specs.Change.{with_fields, entries_of, inserted, insert_at, entry_at, insert_cause, IsEntry, FitsKeys};
-ghost use Rattle.pb_value.specs.Cause.{FailsWith};
+ghost use Rattle.pb_value.specs.Change.{ChangesFields, entries_of, inserted, insert_at, entry_at, insert_cause, IsEntry, FitsKeys};
+ghost use Rattle.pb_value.specs.Cause.{IsRefusedBy};
 ghost use Rattle.pb_value.specs.View.{body_view, content_view, key_view, value_view};
 ghost use Rattle.pb_value.specs.declared.error.ValueError.TheVariants.{Memory};
 
@@ -28,7 +28,7 @@ pub(crate) fn check_entry(
     value: &Value,
 ) -> Result<(), ValueError>
     requires { kind.0 < length pool.now.messages }
-    ensures judged { MatchResult result (λ _. insert_cause pool.now kind.0 number (key_view key.now) (value_view value.now) ≡ None) (FailsWith (insert_cause pool.now kind.0 number (key_view key.now) (value_view value.now))) }
+    ensures judged { IsRefusedBy result (insert_cause pool.now kind.0 number (key_view key.now) (value_view value.now)) }
     ensures fits { IfOk result (λ _. IsEntry pool.now kind.0 number (key_view key.now) (value_view value.now)) }
 {
     let Some(field) = field_at(pool, kind, number) else {
@@ -90,7 +90,7 @@ pub fn insert_entry(
     value: Value,
 ) -> Result<Option<Value>, ValueError>
     requires { FitsKeys (key_view key) (entries_of (get_field number (fields_of (body_view message.old)))) }
-    ensures ok { OnOk result (body_view message.new ≡ with_fields (body_view message.old) (insert_at number (key_view key) (value_view value) (fields_of (body_view message.old)))) }
+    ensures ok { OnOk result (ChangesFields (insert_at number (key_view key) (value_view value)) (body_view message.old) (body_view message.new)) }
     ensures stood { IfOk result (λ v. option_map value_view v ≡ entry_at number (key_view key) (fields_of (body_view message.old))) }
     ensures err { OnErr result (body_view message.new ≡ body_view message.old) }
     ensures memory { IfErr result (λ e. e ≡ Memory) }

@@ -1,9 +1,8 @@
 //! One more element of a list.
 
-ghost use Rattle.std.specs.Prelude.{◌≡◌, ◌<◌, length, OnOk, OnErr, IfOk, IfErr, MatchResult, None, Some};
-ghost use Rattle.pb_value.specs.Data.{fields_of};
-ghost use Rattle.pb_value.specs.Change.{with_fields, pushed, push_at, push_cause, IsElement};
-ghost use Rattle.pb_value.specs.Cause.{FailsWith};
+ghost use Rattle.std.specs.Prelude.{◌≡◌, ◌<◌, length, OnOk, OnErr, IfOk, IfErr, None, Some};
+ghost use Rattle.pb_value.specs.Change.{ChangesFields, pushed, push_at, push_cause, IsElement};
+ghost use Rattle.pb_value.specs.Cause.{IsRefusedBy};
 ghost use Rattle.pb_value.specs.View.{body_view, content_view, value_view};
 ghost use Rattle.pb_value.specs.declared.error.ValueError.TheVariants.{Memory};
 
@@ -27,7 +26,7 @@ pub(crate) fn check_element(
     value: &Value,
 ) -> Result<(), ValueError>
     requires { kind.0 < length pool.now.messages }
-    ensures judged { MatchResult result (λ _. push_cause pool.now kind.0 number (value_view value.now) ≡ None) (FailsWith (push_cause pool.now kind.0 number (value_view value.now))) }
+    ensures judged { IsRefusedBy result (push_cause pool.now kind.0 number (value_view value.now)) }
     ensures fits { IfOk result (λ _. IsElement pool.now kind.0 number (value_view value.now)) }
 {
     let Some(field) = field_at(pool, kind, number) else {
@@ -84,7 +83,7 @@ pub fn push_element(
     number: u32,
     value: Value,
 ) -> Result<(), ValueError>
-    ensures ok { OnOk result (body_view message.new ≡ with_fields (body_view message.old) (push_at number (value_view value) (fields_of (body_view message.old)))) }
+    ensures ok { OnOk result (ChangesFields (push_at number (value_view value)) (body_view message.old) (body_view message.new)) }
     ensures err { OnErr result (body_view message.new ≡ body_view message.old) }
     ensures memory { IfErr result (λ e. e ≡ Memory) }
 {

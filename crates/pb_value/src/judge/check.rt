@@ -1,14 +1,15 @@
 //! Whether bodies are well formed, and why not.
 
-ghost use Rattle.std.specs.Prelude.{◌≡◌, ◌<◌, ℕ, length, true, false, not, None, Some, IfSome, MatchResult, OnOk, option_map};
+ghost use Rattle.std.specs.Prelude.{◌≡◌, ◌<◌, ℕ, length, true, false, not, None, Some, MatchResult, OnOk};
 ghost use Rattle.std.specs.Ordering.{nat_cmp};
 ghost use Rattle.std.specs.BTreeSet.{contains};
 ghost use Rattle.pb_schema.specs.Types.{message_fields};
 ghost use Rattle.pb_schema.specs.Rules.{NamesType};
-ghost use Rattle.pb_schema.specs.Kinds.{message_of_kind};
 ghost use Rattle.pb_value.specs.Judge.{has_shape};
-ghost use Rattle.pb_value.specs.Cause.{content_cause, stored_cause, with_member, datum_cause, datums_cause, entries_cause, parts_cause, held_cause, fields_cause, body_cause, message_cause, unless, is_second, Judges, JudgesOrFails};
-ghost use Rattle.pb_value.specs.WellFormed.{IsOfShape, IsDatum, AreDatums, AreEntries, KeysRise, IsHeld, holds_declared, AreFields, RisesFrom, HasOneMemberEach, IsBody, IsWellFormed};
+ghost use Rattle.pb_value.specs.Cause.{content_cause, stored_cause, with_member, datum_cause, datums_cause, entries_cause, parts_cause};
+ghost use Rattle.pb_value.specs.Cause.{held_cause, fields_cause, body_cause, message_cause, unless, is_second, Judges, JudgesOrFails};
+ghost use Rattle.pb_value.specs.WellFormed.{IsOfShape, IsDatum, AreDatums, AreEntries, KeysRise, IsHeld, holds_declared};
+ghost use Rattle.pb_value.specs.WellFormed.{AreFields, RisesFrom, HasOneMemberEach, IsBody, IsWellFormed};
 ghost use Rattle.pb_value.specs.View.{value_view, content_view, body_view, values_view, entries_view, fields_view};
 ghost use Rattle.pb_value.specs.declared.error.ValueError.TheVariants.{TwoMembers};
 
@@ -38,7 +39,8 @@ pub(crate) fn check_content(shape: Shape, kind: Kind, content: &Content) -> Resu
 
 /// Adds the oneof of a member to those that have one.
 fn add_member(shape: Shape, members: &mut BTreeSet<u32>) -> Result<(), ValueError>
-    ensures judged { JudgesOrFails result (unless (not (is_second shape (λ o. contains nat_cmp members.old o))) TwoMembers) (is_second shape (λ o. contains nat_cmp members.old o) ≡ false) }
+    ensures judged { JudgesOrFails result (unless (not (is_second shape (λ o. contains nat_cmp members.old o))) TwoMembers)
+        (is_second shape (λ o. contains nat_cmp members.old o) ≡ false) }
     ensures added { OnOk result ((o : ℕ) → contains nat_cmp members.new o ≡ with_member shape (λ q. contains nat_cmp members.old q) o) }
 {
     if let Shape::OneofMember(oneof) = shape {
@@ -56,7 +58,8 @@ fn check_stored(
     content: &Content,
     members: &mut BTreeSet<u32>,
 ) -> Result<(), ValueError>
-    ensures judged { JudgesOrFails result (stored_cause (λ o. contains nat_cmp members.old o) shape kind (content_view content.now)) (IsOfShape shape (content_view content.now) × (is_second shape (λ o. contains nat_cmp members.old o) ≡ false)) }
+    ensures judged { JudgesOrFails result (stored_cause (λ o. contains nat_cmp members.old o) shape kind (content_view content.now))
+        (IsOfShape shape (content_view content.now) × (is_second shape (λ o. contains nat_cmp members.old o) ≡ false)) }
     ensures added { OnOk result ((o : ℕ) → contains nat_cmp members.new o ≡ with_member shape (λ q. contains nat_cmp members.old q) o) }
 {
     check_content(shape, kind, content)?;
@@ -64,17 +67,6 @@ fn check_stored(
         return Err(ValueError::DefaultStored);
     }
     add_member(shape, members)
-}
-
-/// The message type of a kind: of a message, or of one that is written as a group.
-pub(crate) fn message_type(kind: Kind) -> Option<MessageId>
-    ensures named { option_map (λ m. m.0) result ≡ message_of_kind kind }
-    ensures within { (messages enums : ℕ) → NamesType messages enums kind → IfSome result (λ m. m.0 < messages) }
-{
-    match kind {
-        Kind::Message(id) | Kind::Group(id) => Some(id),
-        _ => None,
-    }
 }
 
 /// Whether a value is a well-formed one of a kind.
@@ -89,7 +81,7 @@ pub(crate) fn check_value(
     ensures { JudgesOrFails result (datum_cause pool.now kind (value_view value.now)) (IsDatum pool.now kind (value_view value.now)) }
 {
     if let Value::Message(message) = value {
-        let Some(id) = message_type(kind) else {
+        let Some(id) = kind.message() else {
             return Err(ValueError::WrongKind);
         };
         return check_body(alloc, pool, id, message);
@@ -125,7 +117,8 @@ fn check_entries(
     entries: &BTreeMap<MapKey, Value>,
 ) -> Result<(), ValueError>
     requires { NamesType (length pool.now.messages) (length pool.now.enums) kind }
-    ensures { JudgesOrFails result (entries_cause pool.now key_kind kind (entries_view entries.now.entries)) (AreEntries pool.now key_kind kind (entries_view entries.now.entries) × KeysRise (entries_view entries.now.entries)) }
+    ensures { JudgesOrFails result (entries_cause pool.now key_kind kind (entries_view entries.now.entries))
+        (AreEntries pool.now key_kind kind (entries_view entries.now.entries) × KeysRise (entries_view entries.now.entries)) }
 {
     for (key, value) in entries {
         if !is_key_of(Shape::Map { key: key_kind }, key) {
@@ -170,7 +163,8 @@ pub(crate) fn check_held(
     content: &Content,
 ) -> Result<(), ValueError>
     requires { NamesType (length pool.now.messages) (length pool.now.enums) kind }
-    ensures { JudgesOrFails result (held_cause pool.now shape kind (content_view content.now)) (IsHeld pool.now shape kind (content_view content.now) × (holds_declared pool.now kind (content_view content.now) ≡ true)) }
+    ensures { JudgesOrFails result (held_cause pool.now shape kind (content_view content.now))
+        (IsHeld pool.now shape kind (content_view content.now) × (holds_declared pool.now kind (content_view content.now) ≡ true)) }
 {
     if !holds_declared(pool, kind, content) {
         return Err(ValueError::NoSuchValue);
@@ -186,7 +180,8 @@ fn check_fields(
     fields: &BTreeMap<u32, Content>,
 ) -> Result<(), ValueError>
     requires { kind.0 < length pool.now.messages }
-    ensures { let all = message_fields pool.now kind.0 in let fs = fields_view fields.now.entries in JudgesOrFails result (fields_cause pool.now all (λ o. false) fs) (AreFields pool.now all fs × RisesFrom 0 fs × HasOneMemberEach all fs) }
+    ensures { let all = message_fields pool.now kind.0 in let fs = fields_view fields.now.entries in
+        JudgesOrFails result (fields_cause pool.now all (λ o. false) fs) (AreFields pool.now all fs × RisesFrom 0 fs × HasOneMemberEach all fs) }
 {
     let mut members = BTreeSet::new(alloc);
     for (number, content) in fields {

@@ -96,7 +96,8 @@ fn is_undeclared(pool: &Pool, field: &Field, payload: &Unknown) -> bool
 
 /// Whether a payload counts for the field of its number.
 fn is_known(pool: &Pool, field: &Field, payload: &Unknown) -> bool
-    ensures { result ≡ (fits_type (field_view field.now) (wire_type (payload_of payload.now)) && not (is_undeclared pool.now (closed_of (Some (field_view field.now))) (payload_of payload.now))) }
+    ensures { result ≡ (fits_type (field_view field.now) (wire_type (payload_of payload.now))
+        && not (is_undeclared pool.now (closed_of (Some (field_view field.now))) (payload_of payload.now))) }
 {
     fits(field, wire_type(payload)) && !is_undeclared(pool, field, payload)
 }
@@ -108,7 +109,8 @@ fn check_record(
     payload: &Unknown,
 ) -> Result<(), ValueError>
     requires { kind.0 < length pool.now.messages }
-    ensures { let fs = message_fields pool.now kind.0 in let r = record_of number (payload_of payload.now) in Judges result (record_cause pool.now fs r) (IsUnknown pool.now fs r) }
+    ensures { let fs = message_fields pool.now kind.0 in let r = record_of number (payload_of payload.now) in
+        Judges result (record_cause pool.now fs r) (IsUnknown pool.now fs r) }
 {
     if !is_number(number) || !is_numbered(payload) {
         return Err(ValueError::NoSuchField);
@@ -128,7 +130,8 @@ pub(crate) fn check_unknown(
     records: &[(u32, Unknown)],
 ) -> Result<(), ValueError>
     requires { kind.0 < length pool.now.messages }
-    ensures { let fs = message_fields pool.now kind.0 in Judges result (unknown_cause pool.now fs (records_of records.now)) (AreUnknown pool.now fs (records_of records.now)) }
+    ensures { let fs = message_fields pool.now kind.0 in
+        Judges result (unknown_cause pool.now fs (records_of records.now)) (AreUnknown pool.now fs (records_of records.now)) }
 {
     for (number, payload) in records {
         check_record(pool, kind, *number, payload)?;

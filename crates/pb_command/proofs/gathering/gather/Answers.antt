@@ -2,8 +2,8 @@ use Rattle.std.proofs.Common.{◌∙◌, ℕ, List, [], map, refl, subst, sym, a
 use Rattle.std.specs.Borrow.{Bor}
 use Rattle.std.proofs.lemmas.List.{take_all}
 use Rattle.std.proofs.lemmas.Result.{err_from_is_err_and}
-use Rattle.pb_descr.specs.View.{file_view}
-use Rattle.pb_descr.specs.declared.decl.FileDecl.{FileDecl}
+use Rattle.pb_decl.specs.View.{file_view}
+use Rattle.pb_decl.specs.declared.decl.FileDecl.{FileDecl}
 use Rattle.pb_command.specs.CompileAnswer.{roots_of, texts_of}
 use Rattle.pb_command.specs.NameSets.{names_in}
 use Rattle.pb_command.specs.Gathering.{Gathered, gathered, given, none_left, nothing_yet}

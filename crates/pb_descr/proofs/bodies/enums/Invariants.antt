@@ -1,6 +1,6 @@
 use Rattle.std.proofs.Common.{◌≡◌, map, take}
 use Rattle.pb_value.specs.View.{value_view}
-use Rattle.pb_descr.specs.View.{enum_view}
+use Rattle.pb_decl.specs.View.{enum_view}
 use Rattle.pb_descr.specs.Writing.{enum_body}
 use Rattle.pb_descr.proofs.bodies.enums.Given as goal
 

@@ -1,6 +1,6 @@
 use Rattle.std.proofs.Common.{◌≡◌, map, take}
 use Rattle.pb_value.specs.View.{value_view}
-use Rattle.pb_descr.specs.View.{field_view}
+use Rattle.pb_decl.specs.View.{field_view}
 use Rattle.pb_descr.specs.Writing.{field_body}
 use Rattle.pb_descr.proofs.bodies.fields.Given as goal
 

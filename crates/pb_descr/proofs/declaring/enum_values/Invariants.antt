@@ -1,6 +1,6 @@
 use Rattle.std.proofs.Common.{◌≡◌, map, take}
 use Rattle.pb_value.specs.View.{value_view}
-use Rattle.pb_descr.specs.View.{numbered_view}
+use Rattle.pb_decl.specs.View.{numbered_view}
 use Rattle.pb_descr.specs.Reading.{value_in}
 use Rattle.pb_descr.proofs.declaring.enum_values.Given as goal
 

@@ -1,6 +1,6 @@
 use Rattle.std.proofs.Common.{◌≡◌, map, take}
 use Rattle.pb_value.specs.View.{value_view}
-use Rattle.pb_descr.specs.View.{method_view}
+use Rattle.pb_decl.specs.View.{method_view}
 use Rattle.pb_descr.specs.Reading.{method_in}
 use Rattle.pb_descr.proofs.declaring.method_decls.Given as goal
 

@@ -1,6 +1,6 @@
 use Rattle.std.proofs.Common.{◌≡◌, map, take}
 use Rattle.pb_value.specs.View.{value_view}
-use Rattle.pb_descr.specs.View.{service_view}
+use Rattle.pb_decl.specs.View.{service_view}
 use Rattle.pb_descr.specs.Reading.{service_in}
 use Rattle.pb_descr.proofs.declaring.service_decls.Given as goal
 

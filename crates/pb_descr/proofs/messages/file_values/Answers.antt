@@ -1,7 +1,7 @@
 use Rattle.std.proofs.Common.{map, arith}
 use Rattle.std.proofs.lemmas.Result.{err_from_is_err_and}
 use Rattle.pb_value.specs.Data.{levels_of, datums_depth, datums_of}
-use Rattle.pb_descr.specs.View.{file_view}
+use Rattle.pb_decl.specs.View.{file_view}
 use Rattle.pb_descr.specs.Writing.{file_body}
 use Rattle.pb_descr.proofs.DepthLemmas.{element_below, cut_further}
 use Rattle.pb_descr.proofs.messages.file_values.Goals as goal

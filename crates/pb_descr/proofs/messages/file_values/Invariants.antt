@@ -1,6 +1,6 @@
 use Rattle.std.proofs.Common.{◌≡◌, map, take}
 use Rattle.pb_value.specs.View.{value_view}
-use Rattle.pb_descr.specs.View.{file_view}
+use Rattle.pb_decl.specs.View.{file_view}
 use Rattle.pb_descr.specs.Writing.{file_body}
 use Rattle.pb_descr.proofs.messages.file_values.Given as goal
 

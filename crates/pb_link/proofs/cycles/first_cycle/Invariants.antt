@@ -1,5 +1,5 @@
 use Rattle.std.proofs.Common.{◌≡◌, List, map, vec_len}
-use Rattle.pb_descr.specs.Decls.{DeclaredFile}
+use Rattle.pb_decl.specs.Decls.{DeclaredFile}
 use Rattle.pb_link.specs.Rules.{World}
 use Rattle.pb_link.specs.Link.{IsWorldOf}
 use Rattle.pb_link.specs.Reach.{IsListed}

@@ -1,6 +1,6 @@
 use Rattle.std.proofs.Common.{sym, ◌∙◌, ap}
 use Rattle.std.specs.Prelude.{option_map}
-use Rattle.pb_descr.specs.View.{file_view}
+use Rattle.pb_decl.specs.View.{file_view}
 use Rattle.pb_link.specs.View.{declaration_view}
 use Rattle.pb_link.proofs.NamesLemmas.{cycle_told}
 use Rattle.pb_link.proofs.cycles.is_cycle_at.Goals as goal

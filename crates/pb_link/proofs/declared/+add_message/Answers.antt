@@ -1,7 +1,7 @@
 use Rattle.std.proofs.Common.{rules, map, length, ◌++◌, ap, sym, ◌∙◌}
 use Rattle.std.proofs.lemmas.List.{length-map}
-use Rattle.pb_descr.specs.Decls.{messages_of}
-use Rattle.pb_descr.specs.View.{message_view, enum_view}
+use Rattle.pb_decl.specs.Decls.{messages_of}
+use Rattle.pb_decl.specs.View.{message_view, enum_view}
 use Rattle.pb_link.specs.Declarations.{message_declared}
 use Rattle.pb_link.specs.View.{declaration_view}
 use Rattle.pb_link.proofs.RowLemmas.{messages_grown, message_added}

@@ -1,6 +1,6 @@
 use Rattle.std.proofs.Common.{ℕ, map}
-use Rattle.pb_descr.specs.Decls.{DeclaredField}
-use Rattle.pb_descr.specs.View.{field_view, message_view}
+use Rattle.pb_decl.specs.Decls.{DeclaredField}
+use Rattle.pb_decl.specs.View.{field_view, message_view}
 use Rattle.pb_link.specs.Declarations.{Declaration, a_field, head_of}
 use Rattle.pb_link.specs.View.{declaration_view}
 use Rattle.pb_link.proofs.RowLemmas.{grown}

@@ -1,5 +1,5 @@
 use Rattle.std.proofs.Common.{◌≡◌, ◌++◌, map, take}
-use Rattle.pb_descr.specs.View.{method_view}
+use Rattle.pb_decl.specs.View.{method_view}
 use Rattle.pb_link.specs.Declarations.{methods_of}
 use Rattle.pb_link.specs.View.{declaration_view}
 use Rattle.pb_link.proofs.declared.add_methods.Given as goal

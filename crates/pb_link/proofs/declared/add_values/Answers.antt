@@ -1,5 +1,5 @@
 use Rattle.std.proofs.Common.{ℕ, ℤ, List, map}
-use Rattle.pb_descr.specs.View.{enum_view, numbered_view}
+use Rattle.pb_decl.specs.View.{enum_view, numbered_view}
 use Rattle.pb_link.specs.Declarations.{Declaration, a_value}
 use Rattle.pb_link.specs.View.{declaration_view}
 use Rattle.pb_link.proofs.RowLemmas.{grown}

@@ -1,5 +1,5 @@
 use Rattle.std.proofs.Common.{◌≡◌, ◌++◌, map, take}
-use Rattle.pb_descr.specs.View.{enum_view, numbered_view}
+use Rattle.pb_decl.specs.View.{enum_view, numbered_view}
 use Rattle.pb_link.specs.Declarations.{values_of}
 use Rattle.pb_link.specs.View.{declaration_view}
 use Rattle.pb_link.proofs.declared.add_values.Given as goal

@@ -1,6 +1,6 @@
 use Rattle.std.proofs.Common.{map, ◌++◌, ap, sym, ◌∙◌}
 use Rattle.std.proofs.lemmas.List.{length-map}
-use Rattle.pb_descr.specs.View.{file_view}
+use Rattle.pb_decl.specs.View.{file_view}
 use Rattle.pb_link.specs.Declarations.{file_declared}
 use Rattle.pb_link.specs.View.{declaration_view}
 use Rattle.pb_link.proofs.RowLemmas.{files_grown}

@@ -1,5 +1,5 @@
 use Rattle.std.proofs.Common.{◌≡◌, [], map, sym, subst}
-use Rattle.pb_descr.specs.View.{file_view}
+use Rattle.pb_decl.specs.View.{file_view}
 use Rattle.pb_descr.specs.Causes.{set_causes}
 use Rattle.pb_descr.specs.Writing.{set_body}
 use Rattle.pb_link.specs.Linking.{Links}

@@ -3,9 +3,9 @@ use Rattle.std.specs.Prelude.{string_bytes}
 use Rattle.std.specs.List.{position_from}
 use Rattle.std.specs.Str.{bytes_eq}
 use Rattle.pb_schema.proofs.LookupLemmas.{get_viewed}
-use Rattle.pb_descr.specs.Decls.{DeclaredFile}
-use Rattle.pb_descr.specs.declared.decl.FileDecl.{FileDecl}
-use Rattle.pb_descr.specs.View.{file_view}
+use Rattle.pb_decl.specs.Decls.{DeclaredFile}
+use Rattle.pb_decl.specs.declared.decl.FileDecl.{FileDecl}
+use Rattle.pb_decl.specs.View.{file_view}
 use Rattle.pb_link.specs.Firsts.{first_at}
 use Rattle.pb_link.proofs.FirstsLemmas.{firsts_more, position_from-first}
 use Rattle.pb_link.proofs.imports.files_by_name.Goals as goal

@@ -1,8 +1,8 @@
 use Rattle.std.proofs.Common.{◌≡◌, ◌≤◌, ℕ, List, map, drop, length}
 use Rattle.std.specs.List.{position_from}
 use Rattle.std.specs.Str.{bytes_eq}
-use Rattle.pb_descr.specs.Decls.{DeclaredFile}
-use Rattle.pb_descr.specs.View.{file_view}
+use Rattle.pb_decl.specs.Decls.{DeclaredFile}
+use Rattle.pb_decl.specs.View.{file_view}
 use Rattle.pb_link.specs.Firsts.{first_at}
 use Rattle.pb_link.proofs.imports.files_by_name.Given as goal
 

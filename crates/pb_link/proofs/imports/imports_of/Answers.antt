@@ -1,6 +1,6 @@
 use Rattle.std.proofs.Common.{◌∙◌, List, ℕ, ℤ, Option, map, ap}
 use Rattle.std.specs.Prelude.{filter_map, string_bytes}
-use Rattle.pb_descr.specs.View.{file_view}
+use Rattle.pb_decl.specs.View.{file_view}
 use Rattle.pb_link.specs.Firsts.{first_at}
 use Rattle.pb_link.specs.Sees.{file_named}
 use Rattle.pb_link.specs.Graphs.{target_at}

@@ -1,5 +1,5 @@
 use Rattle.std.proofs.Common.{map}
-use Rattle.pb_descr.specs.View.{file_view}
+use Rattle.pb_decl.specs.View.{file_view}
 use Rattle.pb_link.proofs.LinkLemmas.{holds_made, silent_accepted}
 use Rattle.pb_link.proofs.linking.judged.Goals as goal
 

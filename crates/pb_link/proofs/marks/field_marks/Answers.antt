@@ -1,8 +1,8 @@
 use Rattle.std.proofs.Common.{ℕ, ℤ, map, ◌++◌, ◌∷◌, [], not, ap, ◌∙◌}
 use Rattle.std.specs.Ordering.{int_cmp}
 use Rattle.std.specs.BTreeSet.{contains}
-use Rattle.pb_descr.specs.Decls.{DeclaredField}
-use Rattle.pb_descr.specs.View.{field_view, message_view}
+use Rattle.pb_decl.specs.Decls.{DeclaredField}
+use Rattle.pb_decl.specs.View.{field_view, message_view}
 use Rattle.pb_link.specs.Declarations.{a_field, head_of}
 use Rattle.pb_link.specs.declared.marks.Marks.{Marks}
 use Rattle.pb_link.specs.Marks.{marks_of}

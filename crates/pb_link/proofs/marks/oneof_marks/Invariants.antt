@@ -1,6 +1,6 @@
 use Rattle.std.proofs.Common.{◌≡◌, map, take}
 use Rattle.std.specs.List.{list_any, enumerate_from}
-use Rattle.pb_descr.specs.View.{message_view}
+use Rattle.pb_decl.specs.View.{message_view}
 use Rattle.pb_link.specs.Declarations.{a_oneof, head_of, is_synthetic}
 use Rattle.pb_link.specs.Marks.{marks_of}
 use Rattle.pb_link.proofs.marks.oneof_marks.Given as goal

@@ -1,5 +1,5 @@
 use Rattle.std.proofs.Common.{true, ◌||◌, ap, ◌∙◌}
-use Rattle.pb_descr.specs.View.{enum_view}
+use Rattle.pb_decl.specs.View.{enum_view}
 use Rattle.pb_link.proofs.MarkLemmas.{mark_of}
 use Rattle.pb_link.proofs.marks.value_mark.Goals as goal
 

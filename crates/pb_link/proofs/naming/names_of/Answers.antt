@@ -1,5 +1,5 @@
 use Rattle.std.proofs.Common.{◌≡◌, ◌∙◌, map, sym, ap}
-use Rattle.pb_descr.specs.View.{file_view}
+use Rattle.pb_decl.specs.View.{file_view}
 use Rattle.pb_link.specs.Rules.{lookups}
 use Rattle.pb_link.specs.View.{declaration_view}
 use Rattle.pb_link.proofs.WorldLemmas.{a_world}

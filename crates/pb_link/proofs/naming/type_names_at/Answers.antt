@@ -1,5 +1,5 @@
 use Rattle.std.proofs.Common.{◌∙◌, map, take, ap}
-use Rattle.pb_descr.specs.View.{file_view}
+use Rattle.pb_decl.specs.View.{file_view}
 use Rattle.pb_link.specs.View.{declaration_view, type_names_view}
 use Rattle.pb_link.specs.TypeNames.{refs_view}
 use Rattle.pb_link.proofs.NamesLemmas.{right_names}

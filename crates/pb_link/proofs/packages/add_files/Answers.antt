@@ -1,6 +1,6 @@
 use Rattle.std.proofs.Common.{List, ℕ, map, subst}
 use Rattle.std.proofs.lemmas.List.{take_all}
-use Rattle.pb_descr.specs.View.{file_view}
+use Rattle.pb_decl.specs.View.{file_view}
 use Rattle.pb_link.specs.NameSets.{AddsPackages}
 use Rattle.pb_link.proofs.NameSetsLemmas.{packages_first, packages_next}
 use Rattle.pb_link.proofs.packages.add_files.Goals as goal

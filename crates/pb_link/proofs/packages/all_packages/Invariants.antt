@@ -1,5 +1,5 @@
 use Rattle.std.proofs.Common.{map}
-use Rattle.pb_descr.specs.View.{file_view}
+use Rattle.pb_decl.specs.View.{file_view}
 use Rattle.pb_link.specs.NameSets.{ArePackagesAt}
 use Rattle.pb_link.proofs.NameSetsLemmas.{below}
 use Rattle.pb_link.proofs.packages.all_packages.Given as goal

@@ -1,6 +1,6 @@
 use Rattle.std.proofs.Common.{map, ◌∙◌, sym, subst, refl}
 use Rattle.pb_schema.specs.Rules.{IsPool}
-use Rattle.pb_descr.specs.View.{file_view}
+use Rattle.pb_decl.specs.View.{file_view}
 use Rattle.pb_link.specs.declared.parts.tables.Tables.{Tables}
 use Rattle.pb_link.proofs.PoolLemmas.{linked_pool}
 use Rattle.pb_link.proofs.ReadLemmas.{pool_read, memory_alone}

@@ -1,6 +1,6 @@
 use Rattle.std.proofs.Common.{◌≤◌, ℕ, length, ap, sym, subst, ◌∙◌}
 use Rattle.std.proofs.lemmas.Result.{err_from_is_err_and}
-use Rattle.pb_descr.specs.View.{file_view}
+use Rattle.pb_decl.specs.View.{file_view}
 use Rattle.pb_source.specs.Language.{all_rules}
 use Rattle.pb_source.specs.Readers.Lines.{file_reader}
 use Rattle.pb_source.specs.Readers.Given.{symbols_from, Fails, fault_at}

@@ -1,6 +1,6 @@
 use Rattle.std.proofs.Common.{◌≡◌, ◌∙◌, false, sym}
 use Rattle.std.proofs.lemmas.Result.{err_from_is_err_and}
-use Rattle.pb_descr.specs.View.{file_view}
+use Rattle.pb_decl.specs.View.{file_view}
 use Rattle.std.proofs.Common.{map}
 use Rattle.pb_command.specs.CompileAnswer.{roots_of}
 use Rattle.pb_command.specs.Gathering.{is_known}

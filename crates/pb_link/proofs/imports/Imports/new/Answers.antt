@@ -1,5 +1,5 @@
 use Rattle.std.proofs.Common.{◌∙◌, map, ap}
-use Rattle.pb_descr.specs.View.{file_view}
+use Rattle.pb_decl.specs.View.{file_view}
 use Rattle.pb_link.specs.Reach.{graph_of}
 use Rattle.pb_link.proofs.GraphLemmas.{lists_more, imports_in, public_in, imports_whole, lead_to_files}
 use Rattle.pb_link.proofs.imports.Imports.new.Goals as goal

@@ -1,6 +1,6 @@
 use Rattle.std.proofs.Common.{◌≡◌, ◌++◌, map, drop}
 use Rattle.pb_schema.specs.View.{field_view}
-use Rattle.pb_descr.specs.View.{field_view as declared_view}
+use Rattle.pb_decl.specs.View.{field_view as declared_view}
 use Rattle.pb_link.specs.Parts.{fields_read}
 use Rattle.pb_link.proofs.parts.fields.fields_of.Given as goal
 

@@ -1,6 +1,6 @@
 use Rattle.std.proofs.Common.{map, not, ap, ◌∙◌, ◌&&◌, ◌||◌}
 use Rattle.std.specs.List.{list_all}
-use Rattle.pb_descr.specs.View.{file_view}
+use Rattle.pb_decl.specs.View.{file_view}
 use Rattle.pb_link.specs.Rules.{passes_declared, is_two, is_open, is_of_entry}
 use Rattle.pb_link.specs.Judging.{world_of}
 use Rattle.pb_link.specs.View.{declaration_view}

@@ -1,6 +1,6 @@
 use Rattle.std.proofs.Common.{map, sym, ap, ◌∙◌}
 use Rattle.std.specs.List.{list_all}
-use Rattle.pb_descr.specs.View.{message_view}
+use Rattle.pb_decl.specs.View.{message_view}
 use Rattle.pb_link.specs.ItemView.{item_view}
 use Rattle.pb_link.specs.Rules.{is_used_rightly}
 use Rattle.pb_link.specs.View.{declaration_view, type_names_view}

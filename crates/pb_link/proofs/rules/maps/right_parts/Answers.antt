@@ -1,6 +1,6 @@
 use Rattle.std.proofs.Common.{map, arith}
 use Rattle.std.proofs.lemmas.List.{length-map}
-use Rattle.pb_descr.specs.View.{field_view}
+use Rattle.pb_decl.specs.View.{field_view}
 use Rattle.pb_link.proofs.MapLemmas.{not_two}
 use Rattle.pb_link.proofs.rules.maps.right_parts.Goals as goal
 

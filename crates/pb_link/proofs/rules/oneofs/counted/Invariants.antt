@@ -1,5 +1,5 @@
 use Rattle.std.proofs.Common.{map, take}
-use Rattle.pb_descr.specs.View.{field_view}
+use Rattle.pb_decl.specs.View.{field_view}
 use Rattle.pb_link.specs.Oneofs.{AreCounted}
 use Rattle.pb_link.proofs.rules.oneofs.counted.Given as goal
 

@@ -1,4 +1,4 @@
-use Rattle.pb_descr.specs.View.{field_view}
+use Rattle.pb_decl.specs.View.{field_view}
 use Rattle.pb_link.proofs.OneofCountLemmas.{right_without}
 use Rattle.pb_link.proofs.rules.oneofs.is_member_right.Goals as goal
 

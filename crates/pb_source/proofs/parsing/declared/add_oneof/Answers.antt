@@ -1,5 +1,5 @@
 use Rattle.std.proofs.Common.{◌++◌, map, ap, ◌∙◌}
-use Rattle.pb_descr.specs.View.{field_view}
+use Rattle.pb_decl.specs.View.{field_view}
 use Rattle.pb_source.specs.Meaning.{in_oneof}
 use Rattle.pb_source.proofs.PartSteps.{holds_oneof}
 use Rattle.pb_source.proofs.parsing.declared.add_oneof.Goals as goal

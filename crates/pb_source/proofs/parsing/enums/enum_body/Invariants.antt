@@ -1,5 +1,5 @@
 use Rattle.std.proofs.Common.{◌≡◌, ◌-◌, List, length, codes}
-use Rattle.pb_descr.specs.View.{enum_view}
+use Rattle.pb_decl.specs.View.{enum_view}
 use Rattle.pb_source.specs.Meaning.{EnumStatement, enum_of}
 use Rattle.pb_source.specs.Readers.Forms.{mark_reader}
 use Rattle.pb_source.specs.Readers.Lines.{is_closing, enum_statement_reader}

@@ -1,6 +1,6 @@
 use Rattle.std.proofs.Common.{◌≡◌, ◌-◌, List, Option, length, codes, map}
-use Rattle.pb_descr.specs.Decls.{DeclaredField}
-use Rattle.pb_descr.specs.View.{field_view}
+use Rattle.pb_decl.specs.Decls.{DeclaredField}
+use Rattle.pb_decl.specs.View.{field_view}
 use Rattle.pb_source.specs.Meaning.{those_said}
 use Rattle.pb_source.specs.Readers.Forms.{mark_reader}
 use Rattle.pb_source.specs.Readers.Lines.{is_closing, oneof_statement_reader}

@@ -1,7 +1,7 @@
 use Rattle.std.proofs.Common.{ℕ, List, map, refl, ap, sym, Ok}
 use Rattle.std.proofs.lemmas.Result.{err_from_is_err_and}
-use Rattle.pb_descr.specs.Decls.{DeclaredService}
-use Rattle.pb_descr.specs.View.{method_view}
+use Rattle.pb_decl.specs.Decls.{DeclaredService}
+use Rattle.pb_decl.specs.View.{method_view}
 use Rattle.pb_source.specs.Meaning.{those_said}
 use Rattle.pb_source.specs.Readers.Forms.{Outcome}
 use Rattle.pb_source.specs.Readers.Lines.{service_reader}

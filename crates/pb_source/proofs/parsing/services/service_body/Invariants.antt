@@ -1,6 +1,6 @@
 use Rattle.std.proofs.Common.{◌≡◌, ◌-◌, List, Option, length, codes, map}
-use Rattle.pb_descr.specs.Decls.{DeclaredMethod}
-use Rattle.pb_descr.specs.View.{method_view}
+use Rattle.pb_decl.specs.Decls.{DeclaredMethod}
+use Rattle.pb_decl.specs.View.{method_view}
 use Rattle.pb_source.specs.Meaning.{those_said}
 use Rattle.pb_source.specs.Readers.Forms.{mark_reader}
 use Rattle.pb_source.specs.Readers.Lines.{is_closing, service_statement_reader}

@@ -28,8 +28,8 @@ pub enum TypeCode {
 
 impl TypeCode {
     ghost use Rattle.std.specs.Prelude.{◌≡◌, pos};
-    ghost use Rattle.pb_descr.specs.Writing.{number_of_type};
-    ghost use Rattle.pb_descr.specs.Reading.{type_of_number};
+    ghost use Rattle.pb_decl.specs.TypeNumbers.{number_of_type};
+    ghost use Rattle.pb_decl.specs.TypeNumbers.{type_of_number};
 
     /// The type's number, from 1 to 18.
     pub fn number(self) -> i32

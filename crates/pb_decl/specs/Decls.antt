@@ -1,6 +1,6 @@
 -- What files declare, as trees (descriptor.proto). Names are the bytes of their texts.
 use Rattle.std.specs.Prelude.{ℕ, ℤ, List, [], ◌∷◌, Bool, Option}
-use Rattle.pb_descr.specs.declared.decl.TypeCode.{TypeCode}
+use Rattle.pb_decl.specs.declared.decl.TypeCode.{TypeCode}
 
 pub record DeclaredField : Type 0 where
   pub name : List ℕ

@@ -1,14 +1,14 @@
 -- The trees that declarations stand for.
 use Rattle.std.specs.Prelude.{ℕ, ℤ, List, String, map, option_map, string_bytes}
 use Rattle.std.specs.declared.alloc.Global.{Global}
-use Rattle.pb_descr.specs.Decls.{DeclaredField, DeclaredEnum, DeclaredMessage, message, messages_of, DeclaredMethod, DeclaredService, DeclaredFile}
-use Rattle.pb_descr.specs.declared.decl.FieldDecl.{FieldDecl}
-use Rattle.pb_descr.specs.declared.decl.EnumDecl.{EnumDecl}
-use Rattle.pb_descr.specs.declared.decl.MessageDecl.{MessageDecl, fold-MessageDecl}
-use Rattle.pb_descr.specs.declared.decl.MessageDecl.TheOpen.{MessageDecl-F}
-use Rattle.pb_descr.specs.declared.decl.MethodDecl.{MethodDecl}
-use Rattle.pb_descr.specs.declared.decl.ServiceDecl.{ServiceDecl}
-use Rattle.pb_descr.specs.declared.decl.FileDecl.{FileDecl}
+use Rattle.pb_decl.specs.Decls.{DeclaredField, DeclaredEnum, DeclaredMessage, message, messages_of, DeclaredMethod, DeclaredService, DeclaredFile}
+use Rattle.pb_decl.specs.declared.decl.FieldDecl.{FieldDecl}
+use Rattle.pb_decl.specs.declared.decl.EnumDecl.{EnumDecl}
+use Rattle.pb_decl.specs.declared.decl.MessageDecl.{MessageDecl, fold-MessageDecl}
+use Rattle.pb_decl.specs.declared.decl.MessageDecl.TheOpen.{MessageDecl-F}
+use Rattle.pb_decl.specs.declared.decl.MethodDecl.{MethodDecl}
+use Rattle.pb_decl.specs.declared.decl.ServiceDecl.{ServiceDecl}
+use Rattle.pb_decl.specs.declared.decl.FileDecl.{FileDecl}
 
 abbrev pub field_view : FieldDecl → DeclaredField
 field_view f = record {

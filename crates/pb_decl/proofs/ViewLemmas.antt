@@ -1,11 +1,11 @@
 -- What a message stands for, part by part.
 use Rattle.std.proofs.Common.{◌≡◌, rules, map, Vec, Global, String, ℤ, Bool}
 use Rattle.std.specs.Prelude.{string_bytes}
-use Rattle.pb_descr.specs.Decls.{message, messages_of}
-use Rattle.pb_descr.specs.View.{field_view, enum_view, message_view}
-use Rattle.pb_descr.specs.declared.decl.FieldDecl.{FieldDecl}
-use Rattle.pb_descr.specs.declared.decl.EnumDecl.{EnumDecl}
-use Rattle.pb_descr.specs.declared.decl.MessageDecl.{MessageDecl, out-MessageDecl, roll-MessageDecl, the_lemmas as message_lemmas}
+use Rattle.pb_decl.specs.Decls.{message, messages_of}
+use Rattle.pb_decl.specs.View.{field_view, enum_view, message_view}
+use Rattle.pb_decl.specs.declared.decl.FieldDecl.{FieldDecl}
+use Rattle.pb_decl.specs.declared.decl.EnumDecl.{EnumDecl}
+use Rattle.pb_decl.specs.declared.decl.MessageDecl.{MessageDecl, out-MessageDecl, roll-MessageDecl, the_lemmas as message_lemmas}
 
 pub message_view-roll :
     (name : String Global) (fields : Vec FieldDecl Global) (messages : Vec MessageDecl Global) (enums : Vec EnumDecl Global) (oneofs : Vec (String Global) Global) (reserved : Vec (ℤ × ℤ) Global) (reserved_names : Vec (String Global) Global) (entry : Bool) →

@@ -1,0 +1,2 @@
+-- for what a message stands for, part by part
+pub mod ViewLemmas
