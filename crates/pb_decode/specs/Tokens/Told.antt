@@ -28,8 +28,8 @@ abbrev pub IsBad : Types → ℕ → ℕ → Place → Fault → Type 0
 IsBad pool m depth p0 f = Bad (schema_of pool) (records (a_message m)) depth p0 f
 
 -- a number stands here, and takes so many of the bytes
-abbrev pub HasNumberOf : Place → ℕ × ℕ → Type 0
-HasNumberOf p t = (t.1 ≤ length p.rest) × Reads p t.0 (passed p t.1)
+abbrev pub IsNumberAt : Place → ℕ × ℕ → Type 0
+IsNumberAt p t = (t.1 ≤ length p.rest) × Reads p t.0 (passed p t.1)
 
 -- ---- tags
 -- bytes that are refused where a tag may come, with so many before the known end

@@ -1,7 +1,6 @@
 //! What a record is for, by what it stands in.
 
-ghost use Rattle.std.specs.Prelude.{◌≡◌, true, None, Some, IfSome, IfNone};
-ghost use Rattle.pb_schema.specs.Kinds.{message_of_kind};
+ghost use Rattle.std.specs.Prelude.{◌≡◌, true};
 ghost use Rattle.pb_schema.specs.Fits.{fits_type};
 ghost use Rattle.pb_schema.specs.View.{field_view};
 ghost use Rattle.pb_decode.specs.Open.Frames.{CanHold};
@@ -32,33 +31,6 @@ pub(crate) enum Purpose {
     Unknown,
 }
 
-/// The message type that a kind names.
-fn message_of(kind: Kind) -> Option<MessageId>
-    ensures some { IfSome result (λ m. message_of_kind kind ≡ Some m.0) }
-    ensures none { IfNone result (message_of_kind kind ≡ None) }
-{
-    match kind {
-        Kind::Message(message) | Kind::Group(message) => Some(message),
-        Kind::Double
-        | Kind::Float
-        | Kind::Int64
-        | Kind::Uint64
-        | Kind::Int32
-        | Kind::Fixed64
-        | Kind::Fixed32
-        | Kind::Bool
-        | Kind::Text
-        | Kind::Bytes
-        | Kind::Uint32
-        | Kind::Sfixed32
-        | Kind::Sfixed64
-        | Kind::Sint32
-        | Kind::Sint64
-        | Kind::Enum(_)
-        | Kind::ClosedEnum(_) => None,
-    }
-}
-
 /// What a record is for that fits a field.
 fn of_field(field: &Field, number: u32, wire_type: u8) -> Purpose
     requires { fits_type (field_view field.now) wire_type ≡ true }
@@ -66,7 +38,7 @@ fn of_field(field: &Field, number: u32, wire_type: u8) -> Purpose
 {
     match field.shape {
         Shape::Map { key } => Purpose::Entry(key, field.kind),
-        Shape::List { packed: _ } => match message_of(field.kind) {
+        Shape::List { packed: _ } => match field.kind.message() {
             Some(message) => Purpose::Message(message, Slot::List(number)),
             None => {
                 if field.kind.wire_type() == wire_type {
@@ -86,7 +58,7 @@ fn of_field(field: &Field, number: u32, wire_type: u8) -> Purpose
 fn of_single(kind: Kind, shape: Shape, number: u32) -> Purpose
     ensures { OfSingle kind shape number result }
 {
-    match message_of(kind) {
+    match kind.message() {
         Some(message) => Purpose::Message(message, Slot::One(shape, number)),
         None => Purpose::One(kind, shape),
     }
@@ -99,7 +71,7 @@ fn of_entry(key_kind: Kind, value_kind: Kind, number: u32, wire_type: u8) -> Pur
     if number == 1 && key_kind.wire_type() == wire_type {
         Purpose::Key(key_kind)
     } else if number == 2 && value_kind.wire_type() == wire_type {
-        match message_of(value_kind) {
+        match value_kind.message() {
             Some(message) => Purpose::Message(message, Slot::Entry),
             None => Purpose::EntryValue(value_kind),
         }
