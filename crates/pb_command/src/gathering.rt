@@ -1,6 +1,6 @@
 //! The sources of a set: each file in turn, behind its imports and once.
 
-ghost use Rattle.std.specs.Prelude.{◌≡◌, ◌≢◌, [], ◌∷◌, map, true, option_map, string_bytes, IfOk, IfErr, OnOk};
+ghost use Rattle.std.specs.Prelude.{◌≡◌, ◌≢◌, [], ◌∷◌, map, true, option_map, IfOk, IfErr, OnOk};
 ghost use Rattle.pb_decl.specs.View.{file_view};
 ghost use Rattle.pb_command.specs.CompileAnswer.{roots_of, texts_of, told_of};
 ghost use Rattle.pb_command.specs.FileMap.{KeepsMap};

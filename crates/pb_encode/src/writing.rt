@@ -1,7 +1,7 @@
 //! Writing a message to a device by the lengths that were measured. Each call tells the place in the table behind the
 //! lengths that it used. After a failure of the device each part that is open goes on to its next part at most.
 
-ghost use Rattle.std.specs.Prelude.{◌≡◌, ◌<◌, ◌++◌, ℕ, List, [], ◌∷◌, length, drop};
+ghost use Rattle.std.specs.Prelude.{◌≡◌, ◌<◌, ℕ, List, [], ◌∷◌, length, drop};
 ghost use Rattle.pb_wire.specs.Record.{len};
 ghost use Rattle.pb_wire.specs.Spell.{shortest_record, shortest_records};
 ghost use Rattle.pb_schema.specs.Types.{message_fields};

@@ -1,6 +1,6 @@
 //! The listing of a message by its pool.
 
-ghost use Rattle.std.specs.Prelude.{◌≡◌, ◌++◌, ◌+◌, ◌<◌, ◌≤◌, ℕ, suc, [], codes, length, MatchResult};
+ghost use Rattle.std.specs.Prelude.{◌++◌, ◌+◌, ◌<◌, ◌≤◌, suc, [], codes, length, MatchResult};
 ghost use Rattle.std.specs.Option.{option_map_or};
 ghost use Rattle.pb_schema.specs.Kinds.{message_of_kind};
 ghost use Rattle.pb_schema.specs.Rules.{NamesType};

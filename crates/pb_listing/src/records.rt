@@ -1,6 +1,6 @@
 //! The listing of records that no schema says anything of.
 
-ghost use Rattle.std.specs.Prelude.{◌≡◌, ◌+◌, ◌*◌, ◌≤◌, ◌<◌, ◌^◌, ◌++◌, ℕ, List, [], codes, decimal, length, MatchResult};
+ghost use Rattle.std.specs.Prelude.{◌≡◌, ◌+◌, ◌*◌, ◌≤◌, ◌<◌, ◌++◌, List, [], codes, decimal, length, MatchResult};
 ghost use Rattle.hex.specs.Hex.{encode_lower};
 ghost use Rattle.pb_wire.specs.Record.{Record, group_of};
 ghost use Rattle.pb_wire.specs.Grammar.{IsText};

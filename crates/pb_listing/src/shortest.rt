@@ -1,6 +1,6 @@
 //! The shortest spelling of records, in hexadecimal.
 
-ghost use Rattle.std.specs.Prelude.{◌≡◌, ◌+◌, ◌*◌, ◌≤◌, ◌<◌, ◌++◌, List, MatchResult};
+ghost use Rattle.std.specs.Prelude.{◌+◌, ◌*◌, ◌≤◌, ◌<◌, ◌++◌, List, MatchResult};
 ghost use Rattle.hex.specs.Hex.{encode_lower};
 ghost use Rattle.pb_wire.specs.Record.{Record};
 ghost use Rattle.pb_wire.specs.Grammar.{IsText};

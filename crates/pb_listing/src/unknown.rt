@@ -1,6 +1,6 @@
 //! The listing of the unknown records of a message.
 
-ghost use Rattle.std.specs.Prelude.{◌≡◌, ◌+◌, ◌≤◌, [], length};
+ghost use Rattle.std.specs.Prelude.{◌+◌, ◌≤◌, length};
 ghost use Rattle.pb_wire.specs.Record.{depth, group_depth, group_of, records_depth};
 ghost use Rattle.pb_wire.specs.Unknown.{payload_of, records_of};
 ghost use Rattle.pb_listing.specs.RawListing.{record_lines, group_lines};

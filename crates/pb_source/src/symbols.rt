@@ -1,8 +1,8 @@
 //! Tokens as the symbols of the grammar.
 
-ghost use Rattle.std.specs.Prelude.{◌≡◌, ◌<◌, ◌≤◌, ◌++◌, ◌⊎◌, ℕ, List, ◌∷◌, length, take, drop, All, IfOk, IfErr, IsErrAnd, MatchResult};
+ghost use Rattle.std.specs.Prelude.{◌≡◌, ◌<◌, ◌≤◌, ◌⊎◌, ℕ, List, ◌∷◌, length, take, drop, All, IfOk, IfErr, IsErrAnd, MatchResult};
 ghost use Rattle.pb_source.specs.Tokens.{LexFault};
-ghost use Rattle.pb_source.specs.TokenView.{token_of, tokens_of};
+ghost use Rattle.pb_source.specs.TokenView.{tokens_of};
 ghost use Rattle.pb_source.specs.Symbols.{PlacedSymbol, Joined, BeginsNoText, AreSymbols, IsMeant};
 ghost use Rattle.pb_source.specs.SymbolView.{placed_of, symbols_of, HasSymbols};
 ghost use Rattle.pb_source.specs.Fault.{fault, out_of_memory};
