@@ -11,7 +11,8 @@ ghost use Rattle.pb_decode.specs.Close.Closes.{ClosesMessageAtEnd, ClosesMessage
 use crate::error::{DecodeError, memory_alone};
 use crate::open::part::{Part, Scope, Slot};
 use pb_schema::{MessageId, Pool};
-use pb_value::{Body, Content, Value, push_element, store};
+use pb_value::parts::{push_element, store};
+use pb_value::{Body, Content, Value};
 use std::alloc::Global;
 
 /// Puts a message into a slot of the message that holds it: into the field of one value, or at the end of a list.

@@ -6,7 +6,8 @@ ghost use Rattle.pb_wire.specs.declared.fault.Cause.TheVariants.{Truncated};
 ghost use Rattle.pb_decode.specs.Tokens.Told.{IsNumberAt, RefusesTagBytes, RefusesLengthBytes};
 ghost use Rattle.pb_decode.specs.Reader.Waiting.{IsCutVarint};
 
-use pb_wire::{Cause, Token, varint_token};
+use pb_wire::Cause;
+use pb_wire::token::{Token, varint_token};
 
 /// The number at the front of some bytes, with so many bytes before the known end, and how many bytes it takes. There is none
 /// where the bytes end before more of them settle it.

@@ -7,7 +7,8 @@ ghost use Rattle.pb_decode.specs.declared.tokens.number.Number.TheVariants.{I64}
 ghost use Rattle.pb_decode.specs.declared.tokens.number_token.NumberToken.TheVariants.{Whole};
 
 use crate::tokens::number::Number;
-use pb_wire::{Cause, Token, fixed32_token, fixed64_token, varint_token};
+use pb_wire::Cause;
+use pb_wire::token::{Token, fixed32_token, fixed64_token, varint_token};
 
 /// What stands at the front.
 #[derive(Clone, Copy)]

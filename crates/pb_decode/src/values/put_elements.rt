@@ -8,7 +8,8 @@ ghost use Rattle.pb_decode.specs.Open.PartView.{part_view};
 
 use crate::error::{DecodeError, memory_alone};
 use crate::open::part::Part;
-use pb_value::{Body, Content, Value, push_element, put_field};
+use pb_value::parts::{push_element, put_field};
+use pb_value::{Body, Content, Value};
 use std::alloc::Global;
 
 /// Puts values at the end of the list of a number, one by one.

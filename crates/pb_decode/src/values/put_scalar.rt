@@ -13,7 +13,8 @@ use crate::error::{DecodeError, memory_alone};
 use crate::open::part::Part;
 use crate::open::purpose::Purpose;
 use pb_schema::{MessageId, Pool};
-use pb_value::{Body, Content, MapKey, Value, push_element, store};
+use pb_value::parts::{push_element, store};
+use pb_value::{Body, Content, MapKey, Value};
 use std::alloc::Global;
 
 /// A value as a map's key. There is none of a kind that no key has.
