@@ -5,8 +5,8 @@ use Rattle.pb_wire.specs.declared.fault.RawError.{RawError}
 use Rattle.pb_wire.specs.declared.fault.RawError.TheVariants as raw
 use Rattle.pb_descr.specs.declared.error.DescrError.{DescrError}
 use Rattle.pb_descr.specs.declared.error.DescrError.TheVariants as descr
-use Rattle.pb_link.specs.declared.error.LinkError.{LinkError}
-use Rattle.pb_link.specs.declared.error.LinkError.TheVariants as link
+use Rattle.pb_rules.specs.declared.error.LinkError.{LinkError}
+use Rattle.pb_rules.specs.declared.error.LinkError.TheVariants as link
 use Rattle.pb_command.specs.Answer.{Answer, refused, device_failed}
 use Rattle.pb_command.specs.Report.{fault_line, set_fault_line, set_cause_line, link_line, type_line, too_large_line, frame_fault_line, source_line, device_line, memory_line}
 use Rattle.pb_command.specs.declared.report.Refusal.{Refusal}

@@ -5,8 +5,8 @@ use Rattle.pb_wire.specs.CauseName.{name_of}
 use Rattle.pb_wire.specs.PathText.{path_text}
 use Rattle.pb_descr.specs.CauseName as descr
 use Rattle.pb_descr.specs.declared.cause.DeclCause.{DeclCause}
-use Rattle.pb_link.specs.CauseName.{cause_name}
-use Rattle.pb_link.specs.declared.cause.LinkCause.{LinkCause}
+use Rattle.pb_rules.specs.CauseName.{cause_name}
+use Rattle.pb_rules.specs.declared.cause.LinkCause.{LinkCause}
 use Rattle.pb_source.specs.CauseName as source
 use Rattle.pb_source.specs.declared.fault.SourceCause.{SourceCause}
 

@@ -12,7 +12,7 @@ use Rattle.pb_schema.specs.Types.{FieldView, MessageView, EnumView, FileView, Ty
 use Rattle.pb_decl.specs.declared.decl.TypeCode.{TypeCode}
 use Rattle.pb_decl.specs.declared.decl.TypeCode.TheVariants as code
 use Rattle.pb_decl.specs.Decls.{DeclaredField, DeclaredEnum, MessageHead, DeclaredMessage, message, no_messages, messages_of, DeclaredFile}
-use Rattle.pb_link.specs.Rules.{key_name, value_name}
+use Rattle.pb_rules.specs.Rules.{key_name, value_name}
 
 -- KINDS
 

@@ -1,5 +1,5 @@
 use Rattle.std.proofs.Common.{codes}
-use Rattle.pb_link.specs.CauseName.{cause_name}
+use Rattle.pb_rules.specs.CauseName.{cause_name}
 use Rattle.pb_command.specs.Report.{cause_end, shown_name}
 use Rattle.pb_listing.proofs.SendingLemmas.{puts_cut, puts_exit, puts_then}
 use Rattle.pb_command.proofs.report.put_link.Goals as goal
