@@ -5,7 +5,7 @@ ghost use Rattle.pb_command.specs.Answer.{Ends};
 ghost use Rattle.pb_command.specs.Answers.{Answers, AnyAnswers, AnyBegins, Begins, canonical_form};
 ghost use Rattle.pb_command.specs.FileMap.{FileMap, IsHonest, IsSaved, IsUnsaved};
 ghost use Rattle.pb_command.specs.Refusal.{refusal_line, refusal_status};
-ghost use Rattle.pb_listing.specs.Sending.{Cut, Sent, SentOrCut};
+ghost use Rattle.pb_output.specs.Sending.{Cut, Sent, SentOrCut};
 ghost use Rattle.pb_command.specs.Steps.{BegunOf, Comes, RightOf};
 
 use crate::command::Command;

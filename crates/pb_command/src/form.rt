@@ -10,13 +10,14 @@ ghost use Rattle.pb_command.specs.MessageAnswer.{CanonAnswer, FormAnswer};
 ghost use Rattle.pb_listing.specs.RawListing.{line_feed};
 ghost use Rattle.pb_command.specs.Refusal.{Refuses, refusal_status};
 ghost use Rattle.pb_command.specs.Report.{too_large_line};
-ghost use Rattle.pb_listing.specs.Sending.{Cut, Sent};
+ghost use Rattle.pb_output.specs.Sending.{Cut, Sent};
 ghost use Rattle.pb_command.specs.Steps.{Comes, IsNothing, NoFile};
 
 use crate::files::Files;
 use crate::report::{OUTPUT, Refusal};
 use pb_encode::{EncodeError, encode};
-use pb_listing::{Buffered, write_message};
+use pb_listing::write_message;
+use pb_output::Sink;
 use pb_value::DynamicMessage;
 use pb_wire::{DeviceFault, Output, write_all};
 
@@ -95,11 +96,10 @@ fn write_hex_line<O: Output>(bytes: &[u8], out: &mut O) -> Result<(), DeviceFaul
     ensures { MatchResult result (λ _. Sent O.written O.failures out.old out.new (encode_lower bytes.now ++ line_feed))
         (λ _. Cut O.written O.failures out.old out.new (encode_lower bytes.now ++ line_feed)) }
 {
-    let mut buffered = Buffered::new(out);
-    buffered.put_hex(bytes)?;
-    buffered.put(b"\n")?;
-    buffered.flush()?;
-    Ok(())
+    let mut sink = Sink::new();
+    sink.put_hex(out, bytes);
+    sink.put(out, b"\n");
+    sink.finish(out)
 }
 
 fn save_canonical<'a, F: Files>(

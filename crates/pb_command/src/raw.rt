@@ -8,7 +8,7 @@ ghost use Rattle.pb_wire.specs.Limits.{full};
 ghost use Rattle.pb_command.specs.Answer.{done};
 ghost use Rattle.pb_command.specs.FileMap.{IsSaved, IsUnsaved, KeepsMap};
 ghost use Rattle.pb_command.specs.RawAnswer.{RawAnswer, shown_as};
-ghost use Rattle.pb_listing.specs.Sending.{Cut, Sent};
+ghost use Rattle.pb_output.specs.Sending.{Cut, Sent};
 ghost use Rattle.pb_command.specs.Steps.{Comes, IsNothing, IsReadOf, Judges, NoFile};
 ghost use Rattle.pb_command.specs.Refusal.{refusal_status};
 
