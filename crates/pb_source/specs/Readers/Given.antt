@@ -31,7 +31,7 @@ Gives ps view (Err e) read = Fails ps e read
 abbrev pub Reads : {X A : Type 0} → List Placed → ℕ → (X → A × ℕ) → Result X Refusal → Reader A → Type 0
 Reads ps at view result reader = Gives ps view result (reader all_rules (symbols_from ps at))
 
--- the same of a reader that takes as many steps at most as there are symbols
+-- the same of a reader that may take any number of steps, from the number of symbols on
 abbrev pub ReadsInSteps : {X A : Type 0} → List Placed → ℕ → (X → A × ℕ) → Result X Refusal → (ℕ → Reader A) → Type 0
 ReadsInSteps ps at view result reader = (n : ℕ) → length ps ≤ n → Reads ps at view result (reader n)
 
