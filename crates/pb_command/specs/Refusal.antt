@@ -1,5 +1,5 @@
 -- The line and the exit status of a refusal, and what it comes to.
-use Rattle.std.specs.Prelude.{◌≡◌, ℕ, List, string_bytes}
+use Rattle.std.specs.Prelude.{◌≡◌, ◌≢◌, ℕ, List, string_bytes, Result, MatchResult}
 use Rattle.pb_wire.specs.Fault.{fault}
 use Rattle.pb_wire.specs.declared.fault.RawError.{RawError}
 use Rattle.pb_wire.specs.declared.fault.RawError.TheVariants as raw
@@ -38,6 +38,10 @@ refusal_status (Source file byte cause) = 1
 refusal_status (Device path) = 3
 refusal_status (File path) = 3
 refusal_status Memory = 3
+
+-- a call whose answer is none of status 3 leaves the count of failures as it was
+abbrev pub KeepsFailures : {F A : Type 0} → (F → ℕ) → F → F → Result A Refusal → Type 0
+KeepsFailures failures old new r = MatchResult r (λ _. failures new ≡ failures old) (λ e. refusal_status e ≢ 3 → failures new ≡ failures old)
 
 -- what a refusal is: an input is refused with this line, a device of this path failed, or memory ran out
 abbrev pub ByRefusal : (List ℕ → Type 0) → (List ℕ → Type 0) → Type 0 → Refusal → Type 0
