@@ -8,7 +8,8 @@ use Rattle.pb_descr.specs.declared.error.DescrError.TheVariants as descr
 use Rattle.pb_rules.specs.declared.error.LinkError.{LinkError}
 use Rattle.pb_rules.specs.declared.error.LinkError.TheVariants as link
 use Rattle.pb_command.specs.Answer.{Answer, refused, device_failed}
-use Rattle.pb_command.specs.Report.{fault_line, set_fault_line, set_cause_line, link_line, type_line, too_large_line, frame_fault_line, source_line, device_line, memory_line}
+use Rattle.pb_command.specs.Report.{fault_line, set_fault_line, set_cause_line, link_line, type_line, too_large_line}
+use Rattle.pb_command.specs.Report.{frame_fault_line, source_line, device_line, memory_line}
 use Rattle.pb_command.specs.declared.report.Refusal.{Refusal}
 use Rattle.pb_command.specs.declared.report.Refusal.TheVariants.{Fault, Set, SetFile, Link, UnknownType, TooLarge, Frame, Source, Device, File, Memory}
 

@@ -1,7 +1,8 @@
 -- The numbers and the names of causes.
 use Rattle.std.specs.Prelude.{ℕ, List, codes}
 use Rattle.pb_source.specs.declared.fault.SourceCause.{SourceCause}
-use Rattle.pb_source.specs.declared.fault.SourceCause.TheVariants.{SourceTooLarge, BadUtf8, BadToken, OpenComment, OpenText, Unexpected, NumberTooLarge, CustomOption, NotProto3, NestedTooDeep, Memory}
+use Rattle.pb_source.specs.declared.fault.SourceCause.TheVariants.{SourceTooLarge, BadUtf8, BadToken, OpenComment, OpenText, Unexpected}
+use Rattle.pb_source.specs.declared.fault.SourceCause.TheVariants.{NumberTooLarge, CustomOption, NotProto3, NestedTooDeep, Memory}
 
 abbrev pub number_of : SourceCause → ℕ
 number_of SourceTooLarge = 50

@@ -2,7 +2,8 @@
 use Rattle.std.specs.Prelude.{◌≡◌, ℕ, List, [], ◌∷◌, ◌++◌, Bool, true, not, ◌==◌, Option, Some, None, ◌⊎◌}
 use Rattle.pb_source.specs.Symbols.{Symbol}
 use Rattle.pb_source.specs.declared.rule.Rule.{Rule}
-use Rattle.pb_source.specs.declared.rule.Rule.TheVariants.{NumbersFit as numbers_fit, OptionsKnown as options_known, SyntaxFirst as syntax_first, NestsBounded as nests_bounded, TextsValid as texts_valid}
+use Rattle.pb_source.specs.declared.rule.Rule.TheVariants.{NumbersFit as numbers_fit, OptionsKnown as options_known, SyntaxFirst as syntax_first}
+use Rattle.pb_source.specs.declared.rule.Rule.TheVariants.{NestsBounded as nests_bounded, TextsValid as texts_valid}
 use Rattle.pb_source.specs.declared.fault.SourceCause.{SourceCause}
 use Rattle.pb_source.specs.declared.fault.SourceCause.TheVariants as cause
 
