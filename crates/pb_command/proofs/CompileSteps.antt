@@ -18,7 +18,7 @@ use Rattle.pb_command.specs.FileMap.{FileMap, IsSaved, IsUnsaved, KeepsMap}
 use Rattle.pb_command.specs.Gathering.{Gathered, GathersUnder, Origin, Outcome, gathered, given, nothing_yet, none_left, known, left_out, read, refused_inside, refused_here}
 use Rattle.pb_command.specs.Refusal.{IsToldOfLink, Refuses}
 use Rattle.pb_command.specs.Report.{too_large_line}
-use Rattle.pb_listing.specs.Sending.{Cut, Sent}
+use Rattle.pb_output.specs.Sending.{Cut, Sent}
 use Rattle.pb_command.specs.Steps.{Comes}
 use Rattle.pb_command.specs.declared.report.Refusal.{Refusal}
 use Rattle.pb_command.proofs.Coming.{comes_map, refuses_map}

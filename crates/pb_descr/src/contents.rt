@@ -1,7 +1,7 @@
 //! Contents of fields, as declarations are written.
 
 ghost use Rattle.std.specs.Prelude.{◌≡◌, ◌≤◌, [], true, map, IfOk, option_map};
-ghost use Rattle.pb_schema.specs.Scalar.{int32, boolean, text};
+ghost use Rattle.pb_schema.specs.Scalar.{int32, text};
 ghost use Rattle.pb_value.specs.Data.{scalar, one, body};
 ghost use Rattle.pb_value.specs.View.{content_view, value_view, body_view};
 ghost use Rattle.pb_descr.specs.Contents.{entry_view, is_rising};

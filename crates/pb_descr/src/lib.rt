@@ -24,7 +24,7 @@ mod contents;
 mod declaring;
 mod error;
 mod held;
-mod laws;
+pub mod laws;
 mod messages;
 mod pool;
 mod reading;
@@ -32,7 +32,6 @@ mod writing;
 
 pub use cause::DeclCause;
 pub use error::{DescrError, WriteSetError};
-pub use laws::{one_set, set_back};
 pub use pb_decl::{EnumDecl, FieldDecl, FileDecl, MessageDecl, MethodDecl, ServiceDecl, TypeCode};
 pub use pool::descriptor_pool;
 pub use reading::read_set;

@@ -1,13 +1,13 @@
 //! Measuring a message: how long its canonical form is, and the lengths that writing meets.
 
-ghost use Rattle.std.specs.Prelude.{◌≡◌, ◌<◌, ◌+◌, ◌^◌, ◌++◌, ℕ, [], ◌∷◌, length, option_map, IfSome};
+ghost use Rattle.std.specs.Prelude.{◌≡◌, ◌<◌, [], ◌∷◌, length, option_map, IfSome};
 ghost use Rattle.pb_wire.specs.Record.{len};
 ghost use Rattle.pb_wire.specs.Spell.{shortest_record, shortest_records};
 ghost use Rattle.pb_schema.specs.Types.{Types, message_fields, field_numbered};
 ghost use Rattle.pb_schema.specs.View.{field_view};
 ghost use Rattle.pb_schema.specs.Rules.{IsPool, NamesType};
 ghost use Rattle.pb_value.specs.Canon.{payload_of, canon_bytes, canon_each, canon_entries, canon_holding, canon_fields, packed_bytes};
-ghost use Rattle.pb_value.specs.Canon.{key_kind, is_packed, record_of, sealed};
+ghost use Rattle.pb_value.specs.Canon.{key_kind, is_packed, sealed};
 ghost use Rattle.pb_value.specs.RoundTrip.{CanonIsText, CanonIsTextOfOne};
 ghost use Rattle.pb_value.specs.View.{key_view, value_view, values_view, entries_view, content_view, fields_view, body_view};
 ghost use Rattle.pb_encode.specs.Sizes.{capped, entry_records, lengths_in_message, lengths_in_datum, lengths_in_each, lengths_in_entries};

@@ -1,7 +1,7 @@
 //! Writing a message to a device by the lengths that were measured. Each call tells the place in the table behind the
 //! lengths that it used. After a failure of the device each part that is open goes on to its next part at most.
 
-ghost use Rattle.std.specs.Prelude.{◌≡◌, ◌<◌, ◌++◌, ℕ, List, [], ◌∷◌, length, drop};
+ghost use Rattle.std.specs.Prelude.{◌≡◌, ◌<◌, ℕ, List, [], ◌∷◌, length, drop};
 ghost use Rattle.pb_wire.specs.Record.{len};
 ghost use Rattle.pb_wire.specs.Spell.{shortest_record, shortest_records};
 ghost use Rattle.pb_schema.specs.Types.{message_fields};
@@ -16,7 +16,7 @@ ghost use Rattle.pb_encode.specs.Writing.{Writes};
 use crate::measure::{field_at, is_packed};
 use crate::putting::{put_elements, put_prefix, put_scalar, put_tag, put_unknowns};
 use crate::scalar::{key_kind, key_payload, scalar_payload};
-use crate::sink::Sink;
+use pb_output::Sink;
 use pb_schema::{Field, Kind, MessageId, Pool};
 use pb_value::{Body, Content, MapKey, Value};
 use pb_wire::Output;

@@ -1,5 +1,6 @@
 -- The types that declarations make.
-use Rattle.std.specs.Prelude.{ℕ, ℤ, pos, negsuc, List, length, map, take, filter, Bool, true, false, not, ◌&&◌, if◌then◌else◌, Option, Some, None, find, filter_map, option_and_then, slice_get}
+use Rattle.std.specs.Prelude.{ℕ, ℤ, pos, negsuc, List, length, map, take, filter, Bool, true, false, not, ◌&&◌}
+use Rattle.std.specs.Prelude.{if◌then◌else◌, Option, Some, None, find, filter_map, option_and_then, slice_get}
 use Rattle.std.specs.List.{enumerate_from}
 use Rattle.std.specs.Option.{option_map_or}
 use Rattle.std.specs.Str.{bytes_eq}

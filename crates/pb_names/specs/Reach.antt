@@ -1,5 +1,6 @@
 -- What is reached along a graph from some indexes, and the bits that tell it.
-use Rattle.std.specs.Prelude.{◌≡◌, ◌<◌, ◌≤◌, ◌+◌, ◌*◌, ◌↔◌, ◌⊎◌, ℕ, List, [], ◌++◌, length, map, Bool, false, cond, IsTrue, Vec, unwrap_or, slice_get, Contains, sum_by}
+use Rattle.std.specs.Prelude.{◌≡◌, ◌<◌, ◌≤◌, ◌+◌, ◌*◌, ◌↔◌, ◌⊎◌, ℕ, List, [], ◌++◌, length, map, Bool}
+use Rattle.std.specs.Prelude.{false, cond, IsTrue, Vec, unwrap_or, slice_get, Contains, sum_by}
 use Rattle.std.specs.List.{slice_index_or, AllByRecursion}
 use Rattle.std.specs.declared.alloc.Global.{Global}
 use Rattle.pb_names.specs.declared.reach.Reach.{Reach}

@@ -7,7 +7,9 @@ use Rattle.pb_rules.specs.CauseName.{cause_number}
 use Rattle.pb_names.specs.Sees.{IsSightOf}
 use Rattle.pb_names.specs.Declarations.{Item, a_file, a_message, a_field, a_oneof, an_enum, a_value, a_service, a_method, Declaration, declarations}
 use Rattle.pb_names.specs.Lookup.{not_found, not_visible, not_a_type}
-use Rattle.pb_rules.specs.Rules.{World, file_name_is_first, imports_are_there, reaches_no_cycle, name_is_right, name_is_free, is_looked_up, is_field_number, is_map_right, is_packed_right, begins_right, is_type_right, is_two, is_marked_optional, is_enum_right, passes, is_message, lookups}
+use Rattle.pb_rules.specs.Rules.{World, file_name_is_first, imports_are_there, reaches_no_cycle, name_is_right, name_is_free}
+use Rattle.pb_rules.specs.Rules.{is_looked_up, is_field_number, is_map_right, is_packed_right, begins_right, is_type_right}
+use Rattle.pb_rules.specs.Rules.{is_two, is_marked_optional, is_enum_right, passes, is_message, lookups}
 use Rattle.pb_names.specs.MarkRules.{number_is_free, is_not_reserved, is_oneof_right, ranges_are_right}
 use Rattle.std.specs.List.{list_all}
 

@@ -1,5 +1,6 @@
 -- The rules of linking, each a test of one declaration beside the others. `true` says that the rule holds.
-use Rattle.std.specs.Prelude.{ℕ, ℤ, pos, negsuc, ◌^◌, List, [], ◌∷◌, length, take, filter, codes, Bool, true, false, not, ◌==◌, ◌&&◌, ◌||◌, nat_lt, nat_le, Option, Some, None, is_some, is_none, slice_get}
+use Rattle.std.specs.Prelude.{ℕ, ℤ, pos, negsuc, ◌^◌, List, [], ◌∷◌, length, take, filter, codes, Bool, true, false, not}
+use Rattle.std.specs.Prelude.{◌==◌, ◌&&◌, ◌||◌, nat_lt, nat_le, Option, Some, None, is_some, is_none, slice_get}
 use Rattle.std.specs.List.{list_any, list_all}
 use Rattle.std.specs.Option.{option_map_or}
 use Rattle.std.specs.Ordering.{int_eq}
@@ -9,7 +10,8 @@ use Rattle.pb_decl.specs.declared.decl.TypeCode.{TypeCode}
 use Rattle.pb_decl.specs.declared.decl.TypeCode.TheVariants as code
 use Rattle.pb_decl.specs.Decls.{DeclaredField, DeclaredEnum, MessageHead, DeclaredMessages, no_messages, more_messages, DeclaredFile}
 use Rattle.pb_names.specs.Sees.{Sight}
-use Rattle.pb_names.specs.Declarations.{Item, a_file, a_message, a_field, a_oneof, an_enum, a_value, a_service, a_method, Declaration, simple_name, is_named, full_name, has_name}
+use Rattle.pb_names.specs.Declarations.{Item, a_file, a_message, a_field, a_oneof, an_enum, a_value, a_service}
+use Rattle.pb_names.specs.Declarations.{a_method, Declaration, simple_name, is_named, full_name, has_name}
 use Rattle.pb_names.specs.Lookup.{Found, found, not_found, not_visible, not_a_type, looked_up, is_package_name, every_file}
 
 -- WHAT THE RULES SPEAK OF: all declarations, what files see, and the files

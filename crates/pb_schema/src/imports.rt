@@ -3,7 +3,7 @@
 pub(crate) mod cycles;
 pub(crate) mod sight;
 
-ghost use Rattle.std.specs.Prelude.{◌≡◌, ◌<◌, [], ◌∷◌, ℕ, ◌↔◌, IsTrue, All, IfOk, OnOk, vec_len, map, length};
+ghost use Rattle.std.specs.Prelude.{◌≡◌, ◌<◌, [], ◌∷◌, All, IfOk, OnOk, vec_len, map, length};
 ghost use Rattle.pb_schema.specs.View.{file_view};
 ghost use Rattle.pb_schema.specs.Imports.{imports_of, AreReached};
 ghost use Rattle.pb_schema.specs.Loops.Imports.{Marks};

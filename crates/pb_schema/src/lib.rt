@@ -37,7 +37,7 @@ mod error;
 mod fitting;
 mod imports;
 mod kinds;
-mod laws;
+pub mod laws;
 mod names;
 mod pool;
 mod rules;
@@ -47,7 +47,6 @@ mod types;
 
 pub use error::PoolError;
 pub use fitting::fits;
-pub use laws::{packed_numbers, reads_back};
 pub use names::entry_name;
 pub use names::set::scoped;
 pub use names::words::{is_package, is_word};

@@ -5,7 +5,7 @@ pub(crate) mod set;
 pub(crate) mod tree;
 pub(crate) mod words;
 
-ghost use Rattle.std.specs.Prelude.{◌≡◌, [], ◌++◌, ℕ, IfOk, map, take, length, string_bytes};
+ghost use Rattle.std.specs.Prelude.{◌≡◌, [], IfOk, map, length, string_bytes};
 ghost use Rattle.pb_schema.specs.View.{file_view, message_view, enum_view, parent_view, bytes_of};
 ghost use Rattle.pb_schema.specs.Nesting.{ParentsStandBefore};
 ghost use Rattle.pb_schema.specs.Names.{raised, entry_name, in_scope, scope_by_names, enum_name_by, message_name};

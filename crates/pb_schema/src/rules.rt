@@ -9,7 +9,7 @@ pub(crate) mod order;
 pub(crate) mod shapes;
 pub(crate) mod syntax;
 
-ghost use Rattle.std.specs.Prelude.{◌≡◌, ◌↔◌, ℕ, IsTrue, IfOk, map, length};
+ghost use Rattle.std.specs.Prelude.{◌↔◌, IsTrue, IfOk, map, length};
 ghost use Rattle.pb_schema.specs.View.{file_view, message_view, enum_view, types_of};
 ghost use Rattle.pb_schema.specs.Nesting.{ParentsStandBefore};
 ghost use Rattle.pb_schema.specs.Rules.{FileRules, IndexRules, NameRules, ShapeRules, FieldRules, IsPool, ImportsNameFiles, MessagesHaveFiles};

@@ -5,7 +5,7 @@ pub(crate) mod names;
 pub(crate) mod numbers;
 pub(crate) mod values;
 
-ghost use Rattle.std.specs.Prelude.{◌≡◌, IfOk, IfSome, IfNone};
+ghost use Rattle.std.specs.Prelude.{IfOk, IfSome, IfNone};
 ghost use Rattle.pb_schema.specs.View.{types_of};
 ghost use Rattle.pb_schema.specs.Rules.{IsPool};
 ghost use Rattle.pb_schema.specs.Tables.{HasTables};

@@ -31,7 +31,7 @@
 mod bytes;
 mod fault;
 mod kind;
-mod laws;
+pub mod laws;
 mod lexing;
 mod meaning;
 mod parsing;
@@ -43,8 +43,7 @@ mod symbols;
 mod text;
 mod token;
 
-pub use fault::{Cause, SourceFault};
-pub use laws::{one_lexing, one_source};
+pub use fault::{SourceCause, SourceFault};
 pub use lexing::lex;
 pub use source::parse;
 pub use token::{Token, TokenKind};

@@ -1,3 +1,4 @@
+pub mod Answers
 pub mod Frame
 pub mod Taking
 pub mod Writing

@@ -32,13 +32,11 @@ impl<'p, I: Drop> Model for DelimitedReader<'p, I> {
 }
 
 impl<'p, I: Input + Drop> DelimitedReader<'p, I> {
-    ghost use Rattle.std.specs.Prelude.{◌≡◌, ◌≢◌, ◌<◌, ℕ, List, [], true, false, Some, None, Err, length, IfOk};
-    ghost use Rattle.std.specs.Prelude.{IfErr, IfSome, IfNone, IsSomeAnd, IsErrAnd, MatchResult, OnOk, OnErr};
-    ghost use Rattle.pb_wire.specs.Fault.{Fault};
-    ghost use Rattle.pb_value.specs.Data.{Message};
+    ghost use Rattle.std.specs.Prelude.{◌≡◌, ◌≢◌, ◌<◌, [], true, false, Some, None, Err, length, IfOk};
+    ghost use Rattle.std.specs.Prelude.{IfSome, IfNone, MatchResult, OnOk, OnErr};
     ghost use Rattle.pb_decode.specs.declared.error.DecodeError.TheVariants.{Device, Finished};
-    ghost use Rattle.pb_decode.specs.FromDevice.{IfRefused, IsNoFault, TellsFailures};
-    ghost use Rattle.pb_stream.specs.Frame.{Frame, FrameFault};
+    ghost use Rattle.pb_decode.specs.FromDevice.{TellsFailures};
+    ghost use Rattle.pb_stream.specs.Answers.{AnswersFrame, TellsFrameFault, AcceptsFrame, RefusesFrameFault};
     ghost use Rattle.pb_stream.specs.Taking.{StaysInFrame, TakesNone, Counts};
 
     /// A reader that has taken no byte. `kind` is a type of the pool.
@@ -76,13 +74,13 @@ impl<'p, I: Input + Drop> DelimitedReader<'p, I> {
 
         ensures of_type { IfOk result (λ o. IfSome o (λ m. (m.pool ≡ self.old.pool) × (m.kind ≡ self.old.kind))) }
         ensures end { IfOk result (λ o. IfNone o (TakesNone (I.left self.old.input) (I.left self.new.input))) }
-        ensures message { IfSome (I.left self.old.input) (λ left. IfOk result (λ o. IfSome o (λ m. IsSomeAnd (I.left self.new.input) (Frame self.old.pool self.old.kind self.old.limits left m.body)))) }
-        ensures fault { self.old.finished ≡ false → IfErr result (λ e. IfRefused e (λ f. IfSome (I.left self.old.input) (λ left. FrameFault self.old.pool self.old.kind self.old.limits left f))) }
+        ensures message { AnswersFrame (λ m. m.body) self.old.pool self.old.kind self.old.limits (I.left self.old.input) (I.left self.new.input) result }
+        ensures fault { self.old.finished ≡ false → TellsFrameFault self.old.pool self.old.kind self.old.limits (I.left self.old.input) result }
 
         // Until it has refused, whatever is right is answered, but where memory or the input fails.
         ensures ended { self.old.finished ≡ false → I.left self.old.input ≡ Some [] → MatchResult result (λ o. o ≡ None) (λ e. e ≡ Device) }
-        ensures accepted { self.old.finished ≡ false → IfSome (I.left self.old.input) (λ left. (v : Message) (rest : List ℕ) → Frame self.old.pool self.old.kind self.old.limits left v rest → MatchResult result (λ o. IsSomeAnd o (λ m. m.body ≡ v)) IsNoFault) }
-        ensures refused { self.old.finished ≡ false → IfSome (I.left self.old.input) (λ left. (f : Fault) → FrameFault self.old.pool self.old.kind self.old.limits left f → IsErrAnd result (λ e. IfRefused e (λ g. g ≡ f))) }
+        ensures accepted { self.old.finished ≡ false → AcceptsFrame (λ m. m.body) self.old.pool self.old.kind self.old.limits (I.left self.old.input) result }
+        ensures refused { self.old.finished ≡ false → RefusesFrameFault self.old.pool self.old.kind self.old.limits (I.left self.old.input) result }
 
         ensures within { StaysInFrame self.old.limits (I.left self.old.input) (I.left self.new.input) }
         ensures failures { TellsFailures result (I.failures self.old.input) (I.failures self.new.input) }

@@ -1,12 +1,10 @@
 //! Frames from a device.
 
-ghost use Rattle.std.specs.Prelude.{◌≡◌, ◌≢◌, ◌<◌, ℕ, List, [], true, Some, None, Err, length, IfOk};
-ghost use Rattle.std.specs.Prelude.{IfErr, IfSome, IfNone, IsSomeAnd, IsErrAnd, MatchResult, OnOk};
-ghost use Rattle.pb_wire.specs.Fault.{Fault};
-ghost use Rattle.pb_value.specs.Data.{Message};
-ghost use Rattle.pb_decode.specs.declared.error.DecodeError.TheVariants.{Memory, Device, Finished};
-ghost use Rattle.pb_decode.specs.FromDevice.{IfRefused, IsNoFault, TellsFailures};
-ghost use Rattle.pb_stream.specs.Frame.{Frame, FrameFault};
+ghost use Rattle.std.specs.Prelude.{◌≡◌, ◌≢◌, ◌<◌, [], true, Some, None, Err, length, IfOk};
+ghost use Rattle.std.specs.Prelude.{IfSome, IfNone, MatchResult};
+ghost use Rattle.pb_decode.specs.declared.error.DecodeError.TheVariants.{Memory, Device};
+ghost use Rattle.pb_decode.specs.FromDevice.{TellsFailures};
+ghost use Rattle.pb_stream.specs.Answers.{AnswersFrame, TellsFrameFault, AcceptsFrame, RefusesFrameFault};
 ghost use Rattle.pb_stream.specs.Taking.{StaysInFrame, Takes, TakesNone};
 
 use crate::length::read_length;
@@ -34,9 +32,9 @@ fn take_frame<'p, I: Input>(
     requires { kind.0 < length pool.now.messages }
     ensures of_type { IfOk result (λ o. IfSome o (λ r. (r.message.pool ≡ pool.now) × (r.message.kind ≡ kind.0))) }
     ensures end { IfOk result (λ o. IfNone o (TakesNone (I.left input.old) (I.left input.new))) }
-    ensures message { IfSome (I.left input.old) (λ left. IfOk result (λ o. IfSome o (λ r. IsSomeAnd (I.left input.new) (Frame pool.now kind.0 limits left r.message.body)))) }
+    ensures message { AnswersFrame (λ r. r.message.body) pool.now kind.0 limits (I.left input.old) (I.left input.new) result }
     ensures counted { IfOk result (λ o. IfSome o (λ r. Takes r.size (I.left input.old) (I.left input.new))) }
-    ensures fault { IfErr result (λ e. IfRefused e (λ f. IfSome (I.left input.old) (λ left. FrameFault pool.now kind.0 limits left f))) }
+    ensures fault { TellsFrameFault pool.now kind.0 limits (I.left input.old) result }
     ensures within { StaysInFrame limits (I.left input.old) (I.left input.new) }
     ensures failures { TellsFailures result (I.failures input.old) (I.failures input.new) }
     ensures none_left { I.left input.old ≡ Some [] → result ≢ Err Memory }
@@ -65,13 +63,13 @@ pub(crate) fn read_frame<'p, I: Input>(
     requires { kind.0 < length pool.now.messages }
     ensures of_type { IfOk result (λ o. IfSome o (λ r. (r.message.pool ≡ pool.now) × (r.message.kind ≡ kind.0))) }
     ensures end { IfOk result (λ o. IfNone o (TakesNone (I.left input.old) (I.left input.new))) }
-    ensures message { IfSome (I.left input.old) (λ left. IfOk result (λ o. IfSome o (λ r. IsSomeAnd (I.left input.new) (Frame pool.now kind.0 limits left r.message.body)))) }
+    ensures message { AnswersFrame (λ r. r.message.body) pool.now kind.0 limits (I.left input.old) (I.left input.new) result }
     ensures counted { IfOk result (λ o. IfSome o (λ r. Takes r.size (I.left input.old) (I.left input.new))) }
-    ensures fault { IfErr result (λ e. IfRefused e (λ f. IfSome (I.left input.old) (λ left. FrameFault pool.now kind.0 limits left f))) }
+    ensures fault { TellsFrameFault pool.now kind.0 limits (I.left input.old) result }
 
     ensures ended { I.left input.old ≡ Some [] → MatchResult result (λ o. o ≡ None) (λ e. e ≡ Device) }
-    ensures accepted { IfSome (I.left input.old) (λ left. (v : Message) (rest : List ℕ) → Frame pool.now kind.0 limits left v rest → MatchResult result (λ o. IsSomeAnd o (λ r. r.message.body ≡ v)) IsNoFault) }
-    ensures refused { IfSome (I.left input.old) (λ left. (f : Fault) → FrameFault pool.now kind.0 limits left f → IsErrAnd result (λ e. IfRefused e (λ g. g ≡ f))) }
+    ensures accepted { AcceptsFrame (λ r. r.message.body) pool.now kind.0 limits (I.left input.old) result }
+    ensures refused { RefusesFrameFault pool.now kind.0 limits (I.left input.old) result }
 
     ensures within { StaysInFrame limits (I.left input.old) (I.left input.new) }
     ensures failures { TellsFailures result (I.failures input.old) (I.failures input.new) }
@@ -96,13 +94,13 @@ pub fn read_delimited<'p, I: Input>(
     requires { kind.0 < length pool.now.messages }
     ensures of_type { IfOk result (λ o. IfSome o (λ m. (m.pool ≡ pool.now) × (m.kind ≡ kind.0))) }
     ensures end { IfOk result (λ o. IfNone o (TakesNone (I.left input.old) (I.left input.new))) }
-    ensures message { IfSome (I.left input.old) (λ left. IfOk result (λ o. IfSome o (λ m. IsSomeAnd (I.left input.new) (Frame pool.now kind.0 limits left m.body)))) }
-    ensures fault { IfErr result (λ e. IfRefused e (λ f. IfSome (I.left input.old) (λ left. FrameFault pool.now kind.0 limits left f))) }
+    ensures message { AnswersFrame (λ m. m.body) pool.now kind.0 limits (I.left input.old) (I.left input.new) result }
+    ensures fault { TellsFrameFault pool.now kind.0 limits (I.left input.old) result }
 
     // Whatever is right is answered, but where memory or the input fails.
     ensures ended { I.left input.old ≡ Some [] → MatchResult result (λ o. o ≡ None) (λ e. e ≡ Device) }
-    ensures accepted { IfSome (I.left input.old) (λ left. (v : Message) (rest : List ℕ) → Frame pool.now kind.0 limits left v rest → MatchResult result (λ o. IsSomeAnd o (λ m. m.body ≡ v)) IsNoFault) }
-    ensures refused { IfSome (I.left input.old) (λ left. (f : Fault) → FrameFault pool.now kind.0 limits left f → IsErrAnd result (λ e. IfRefused e (λ g. g ≡ f))) }
+    ensures accepted { AcceptsFrame (λ m. m.body) pool.now kind.0 limits (I.left input.old) result }
+    ensures refused { RefusesFrameFault pool.now kind.0 limits (I.left input.old) result }
 
     ensures within { StaysInFrame limits (I.left input.old) (I.left input.new) }
     ensures failures { TellsFailures result (I.failures input.old) (I.failures input.new) }

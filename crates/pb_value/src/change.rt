@@ -6,7 +6,7 @@ pub(crate) mod push;
 
 ghost use Rattle.std.specs.Prelude.{◌≡◌, ◌<◌, length, OnOk, OnErr, IfErr, Some, option_map};
 ghost use Rattle.pb_schema.specs.Types.{message_fields};
-ghost use Rattle.pb_value.specs.Data.{body, get_field, put_field, drop_field, fields_of, unknown_of};
+ghost use Rattle.pb_value.specs.Data.{body, get_field, put_field, drop_field, fields_of};
 ghost use Rattle.pb_value.specs.Change.{gives_way, stored_at, ChangesFields};
 ghost use Rattle.pb_value.specs.WellFormed.{RisesFrom, HasOneMemberEach};
 ghost use Rattle.pb_value.specs.View.{body_view, content_view, fields_view};

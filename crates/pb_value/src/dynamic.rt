@@ -45,7 +45,7 @@ impl<'p> Model for DynamicMessage<'p> {
 }
 
 impl<'p> DynamicMessage<'p> {
-    ghost use Rattle.std.specs.Prelude.{◌≡◌, ◌<◌, length, [], option_map, is_some, IsTrue, IfOk, IfErr, OnOk, OnErr};
+    ghost use Rattle.std.specs.Prelude.{◌≡◌, ◌<◌, length, option_map, is_some, IsTrue, IfOk, IfErr, OnOk, OnErr};
     ghost use Rattle.pb_schema.specs.Types.{message_fields};
     ghost use Rattle.pb_schema.specs.Rules.{IsPool};
     ghost use Rattle.std.specs.Bool.{Decides};

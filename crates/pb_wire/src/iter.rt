@@ -7,10 +7,9 @@ ghost use Rattle.pb_wire.specs.Exact.{Exactly, IsSomeText};
 ghost use Rattle.pb_wire.specs.Fault.{Fault, HasTag, place};
 ghost use Rattle.pb_wire.specs.Fault.{fault as fault_with};
 ghost use Rattle.pb_wire.specs.Grammar.{Bad, RecordFault, IsText, HasFault, beyond};
-ghost use Rattle.pb_wire.specs.Limits.{Bounds};
 ghost use Rattle.pb_wire.specs.Reading.{Front, ReadsValue};
 ghost use Rattle.pb_wire.specs.RecordIter.{Seen, seen, AreShown, ShowsFront, Gives, all_ok, as_told, start, ShowsRecord, IsValueFault};
-ghost use Rattle.pb_wire.specs.Schema.{blank, records, in_group, Open};
+ghost use Rattle.pb_wire.specs.Schema.{blank, records, in_group};
 ghost use Rattle.pb_wire.specs.WireType.{code_of};
 ghost use Rattle.pb_wire.specs.declared.fault.PathStep.{PathStep};
 

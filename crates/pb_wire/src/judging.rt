@@ -1,6 +1,6 @@
 //! Bytes judged as records, none of which is built.
 
-ghost use Rattle.std.specs.Prelude.{◌≡◌, ◌≢◌, ◌+◌, ◌≤◌, ◌<◌, ◌^◌, ℕ, List, [], Ok, None, length, IfOk, IfErr, OnOk, MatchResult, IsErrAnd};
+ghost use Rattle.std.specs.Prelude.{◌≡◌, ◌≢◌, ◌+◌, ◌≤◌, ◌<◌, ◌^◌, List, [], Ok, None, length, IfOk, IfErr, OnOk, MatchResult, IsErrAnd};
 ghost use Rattle.pb_wire.specs.Exact.{IsSomeText};
 ghost use Rattle.pb_wire.specs.Fault.{Fault, step, place, HasTag};
 ghost use Rattle.pb_wire.specs.Grammar.{HasFault};

@@ -1,7 +1,7 @@
 //! Bytes as records.
 
 ghost use Rattle.std.specs.Prelude.{◌≡◌, ◌≢◌, ◌+◌, ◌≤◌, ◌<◌, ◌^◌, ◌⊎◌, ℕ, List, [], reverse, filter, ◌==◌};
-ghost use Rattle.std.specs.Prelude.{Ok, Some, None, true, false, length, option_map, IfOk, IfErr, OnOk, MatchResult, IsErrAnd};
+ghost use Rattle.std.specs.Prelude.{Ok, Some, None, true, false, length, IfOk, IfErr, OnOk, MatchResult, IsErrAnd};
 ghost use Rattle.std.specs.Int.{w32, w64, to_le_bytes};
 ghost use Rattle.pb_wire.specs.Record.{Record, len};
 ghost use Rattle.pb_wire.specs.Ranges.{AreInRange};

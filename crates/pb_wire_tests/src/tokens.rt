@@ -1,7 +1,7 @@
 //! Tokens at the front of bytes, up to a known end. Expected values are worked out by hand.
 
 use super::rows::bytes_of;
-use pb_wire::{Token, fixed32_token, fixed64_token, varint_token};
+use pb_wire::token::{Token, fixed32_token, fixed64_token, varint_token};
 use std::alloc::Global;
 use std::test::Fail;
 

@@ -1,9 +1,9 @@
 //! No file reaches itself by imports: one pass over files and imports.
 
-ghost use Rattle.std.specs.Prelude.{◌≡◌, ◌↔◌, ◌<◌, ℕ, IsTrue, IfOk, OnOk, Some, map, length, slice_get};
+ghost use Rattle.std.specs.Prelude.{◌≡◌, ◌↔◌, ◌<◌, IsTrue, IfOk, Some, map, length, slice_get};
 ghost use Rattle.std.specs.List.{slice_index_or};
 ghost use Rattle.pb_schema.specs.View.{file_view};
-ghost use Rattle.pb_schema.specs.Imports.{imports_of, Reaches};
+ghost use Rattle.pb_schema.specs.Imports.{imports_of};
 ghost use Rattle.pb_schema.specs.Imports.Cycles.{AreSettled, AnswersWalk};
 ghost use Rattle.pb_schema.specs.declared.imports.cycles.Progress.TheVariants.{Unseen};
 ghost use Rattle.pb_schema.specs.Rules.{ImportsNameFiles, NoFileReachesItself};

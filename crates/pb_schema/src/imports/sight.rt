@@ -1,10 +1,10 @@
 //! Which files a file sees: itself, and those that it reaches by imports.
 
-ghost use Rattle.std.specs.Prelude.{◌≡◌, ◌↔◌, ◌<◌, ℕ, List, All, Contains, Some, None, false, IsTrue, IfOk, OnOk, map, length, vec_len};
+ghost use Rattle.std.specs.Prelude.{◌≡◌, ◌↔◌, ◌<◌, All, Contains, Some, None, false, IsTrue, IfOk, OnOk, map, length, vec_len};
 ghost use Rattle.std.specs.List.{slice_index_or};
 ghost use Rattle.pb_schema.specs.View.{file_view};
-ghost use Rattle.pb_schema.specs.Imports.{imports_of, Reaches, IsSeen, AreReached};
-ghost use Rattle.pb_schema.specs.Imports.Sight.{MarksAll, KnowsReached, KnowsAll};
+ghost use Rattle.pb_schema.specs.Imports.{imports_of, IsSeen};
+ghost use Rattle.pb_schema.specs.Imports.Sight.{MarksAll, KnowsAll};
 ghost use Rattle.pb_schema.specs.Rules.{ImportsNameFiles};
 
 use crate::imports::reached_from;

@@ -1,6 +1,6 @@
 //! The names that files declare, each a word in a scope, and whether all of them are new.
 
-ghost use Rattle.std.specs.Prelude.{◌≡◌, [], ◌∷◌, ℕ, IfOk, OnOk, map, string_bytes, flat_map};
+ghost use Rattle.std.specs.Prelude.{◌≡◌, [], ◌∷◌, IfOk, OnOk, map, string_bytes, flat_map};
 ghost use Rattle.pb_schema.specs.View.{message_view, enum_view, field_view, parent_view};
 ghost use Rattle.pb_schema.specs.Names.{names_of_field, names_of_enum};
 ghost use Rattle.pb_schema.specs.Names.Declared.{scope_id, AddsOne, Adds, AddsMessage, AddsMessages, AddsEnums};

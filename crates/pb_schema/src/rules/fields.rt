@@ -1,13 +1,13 @@
 //! The rules of numbers, oneofs and the types of fields.
 
-ghost use Rattle.std.specs.Prelude.{◌≡◌, ◌↔◌, ◌<◌, ◌⊎◌, false, ℕ, IsTrue, IfOk, OnOk, map, length, slice_get, vec_len};
-ghost use Rattle.std.specs.List.{AllByRecursion, slice_index_or};
+ghost use Rattle.std.specs.Prelude.{◌≡◌, ◌↔◌, ◌<◌, false, IsTrue, IfOk, OnOk, map, length};
+ghost use Rattle.std.specs.List.{AllByRecursion};
 ghost use Rattle.pb_schema.specs.View.{file_view, message_view, enum_view, field_view, types_of};
 ghost use Rattle.pb_schema.specs.Names.{AllDiffer};
 ghost use Rattle.pb_schema.specs.Imports.Sight.{KnowsAll, file_of_kind};
 ghost use Rattle.pb_schema.specs.Loops.Members.{NotesMember, AreMembers};
-ghost use Rattle.pb_schema.specs.Rules.{ImportsNameFiles, MessagesHaveFiles, FieldNumbersDiffer, NumbersDiffer, TypeIsSeen, FieldsSeeTypes, TypesAreSeen};
-ghost use Rattle.pb_schema.specs.Rules.{IsMemberOf, HasMember, EachOneofHasMember, OneofsHaveMembers};
+ghost use Rattle.pb_schema.specs.Rules.{ImportsNameFiles, MessagesHaveFiles, NumbersDiffer, TypeIsSeen, FieldsSeeTypes, TypesAreSeen};
+ghost use Rattle.pb_schema.specs.Rules.{EachOneofHasMember, OneofsHaveMembers};
 
 use crate::imports::sight::Sight;
 use crate::types::{EnumType, Field, FileInfo, Kind, MessageType, Shape};

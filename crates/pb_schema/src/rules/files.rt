@@ -1,6 +1,6 @@
 //! The rules of files.
 
-ghost use Rattle.std.specs.Prelude.{◌≡◌, ◌↔◌, ◌<◌, ℕ, IsTrue, IfOk, map, length};
+ghost use Rattle.std.specs.Prelude.{◌↔◌, ◌<◌, IsTrue, IfOk, map};
 ghost use Rattle.std.specs.List.{AllByRecursion};
 ghost use Rattle.pb_schema.specs.View.{file_view};
 ghost use Rattle.pb_schema.specs.Rules.{FilesAreNamed, FileNamesDiffer, PackagesAreWords, ImportsAreFew, ImportsNameFiles};

@@ -1,6 +1,6 @@
 //! The rules of indexes: each names something.
 
-ghost use Rattle.std.specs.Prelude.{◌≡◌, ◌↔◌, ◌<◌, ℕ, IsTrue, map, length, option_map};
+ghost use Rattle.std.specs.Prelude.{◌↔◌, ◌<◌, IsTrue, map, length};
 ghost use Rattle.pb_schema.specs.View.{file_view, message_view, enum_view, parent_view};
 ghost use Rattle.pb_schema.specs.Rules.{MessagesHaveFiles, EnumsHaveFiles, NamesType, KindsNameTypes, NamesOneof, MembersNameOneofs};
 ghost use Rattle.pb_schema.specs.Rules.{IsInFileOfParent, MessagesShareFileWithParent, EnumsShareFileWithParent};

@@ -1,6 +1,6 @@
 //! The rules of names.
 
-ghost use Rattle.std.specs.Prelude.{◌≡◌, ◌↔◌, ℕ, IsTrue, IfOk, map, string_bytes};
+ghost use Rattle.std.specs.Prelude.{◌↔◌, IsTrue, IfOk, map, string_bytes};
 ghost use Rattle.std.specs.List.{AllByRecursion};
 ghost use Rattle.pb_schema.specs.View.{message_view, enum_view, field_view};
 ghost use Rattle.pb_schema.specs.Names.{is_word, names_of_field};

@@ -1,6 +1,6 @@
 //! The rules of declaration order.
 
-ghost use Rattle.std.specs.Prelude.{◌≡◌, ◌↔◌, ◌<◌, ◌+◌, ℕ, IsTrue, map, length};
+ghost use Rattle.std.specs.Prelude.{◌≡◌, ◌↔◌, ◌<◌, ◌+◌, ℕ, IsTrue, map};
 ghost use Rattle.pb_schema.specs.View.{message_view, enum_view, parent_view};
 ghost use Rattle.pb_schema.specs.Nesting.{parent_of, IsWithin, ParentsStandBefore};
 ghost use Rattle.pb_schema.specs.Rules.{FilesRise, FollowsParent, MessagesStandInOrder, EndsNoLater, StandsBefore, EnumsStandInOrder};

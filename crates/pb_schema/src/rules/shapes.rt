@@ -1,6 +1,6 @@
 //! The rules of single fields: numbers, keys, packed lists, presence, values of maps.
 
-ghost use Rattle.std.specs.Prelude.{◌≡◌, ◌↔◌, IsTrue, map, ℕ, length};
+ghost use Rattle.std.specs.Prelude.{◌↔◌, IsTrue, map};
 ghost use Rattle.pb_schema.specs.View.{message_view};
 ghost use Rattle.pb_schema.specs.Rules.{IsFieldNumber, NumbersAreFieldNumbers, HasKeyKind, KeysAreKeyKinds, MayBePacked, PackedArePackable};
 ghost use Rattle.pb_schema.specs.Rules.{MayBeImplicit, ImplicitAreScalars, MayBeValue, ValuesMayStand};

@@ -1,6 +1,6 @@
 //! The members of oneofs.
 
-ghost use Rattle.std.specs.Prelude.{◌≡◌, ◌<◌, [], ℕ, IfOk, OnOk, Vec, length, map};
+ghost use Rattle.std.specs.Prelude.{◌<◌, [], IfOk, OnOk, Vec, map};
 ghost use Rattle.std.specs.declared.alloc.Global.{Global};
 ghost use Rattle.pb_schema.specs.View.{field_view, message_view};
 ghost use Rattle.pb_schema.specs.Tables.{IsMemberTable, AreMemberTables};

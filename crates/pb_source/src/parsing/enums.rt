@@ -1,13 +1,13 @@
 //! Enums.
 
-ghost use Rattle.std.specs.Prelude.{◌≡◌, ◌≤◌, ◌<◌, ◌++◌, ◌∷◌, ℕ, List, [], length, codes, string_bytes, IfOk, OnOk};
+ghost use Rattle.std.specs.Prelude.{◌≡◌, ◌≤◌, ◌<◌, ◌++◌, ◌∷◌, ℕ, List, [], length, codes, IfOk, OnOk};
 ghost use Rattle.pb_decl.specs.View.{enum_view};
 ghost use Rattle.pb_source.specs.Meaning.{EnumStatement, enum_of};
-ghost use Rattle.pb_source.specs.Readers.Forms.{before, behind, mapped, until, keyword_reader, mark_reader};
-ghost use Rattle.pb_source.specs.Readers.Lines.{is_closing, said_of_alias, setting_reader, enum_range_reader};
+ghost use Rattle.pb_source.specs.Readers.Forms.{mapped, until, mark_reader};
+ghost use Rattle.pb_source.specs.Readers.Lines.{is_closing, said_of_alias, enum_range_reader};
 ghost use Rattle.pb_source.specs.Readers.Lines.{reserved_reader, value_reader, enum_statement_reader, enum_reader};
 ghost use Rattle.pb_source.specs.StatementView.{enum_statement_view};
-ghost use Rattle.pb_source.specs.Readers.Given.{Reads, ReadsInSteps};
+ghost use Rattle.pb_source.specs.Readers.Given.{ReadsInSteps};
 
 use crate::kind::EnumKind;
 use crate::parsing::kinds::enum_kind;

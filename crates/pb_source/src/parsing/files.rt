@@ -1,6 +1,6 @@
 //! Files.
 
-ghost use Rattle.std.specs.Prelude.{◌≡◌, ◌≤◌, ◌<◌, ℕ, [], false, length, map, codes, string_bytes, IfOk, IfErr, Ok, List};
+ghost use Rattle.std.specs.Prelude.{◌≡◌, ◌≤◌, ◌<◌, ℕ, [], false, length, codes, string_bytes, IfOk, IfErr, Ok, List};
 ghost use Rattle.std.specs.Str.{bytes_eq};
 ghost use Rattle.pb_decl.specs.View.{file_view};
 ghost use Rattle.pb_source.specs.Language.{all_rules};

@@ -1,6 +1,6 @@
 //! Integers.
 
-ghost use Rattle.std.specs.Prelude.{◌≡◌, ◌≤◌, ◌<◌, ◌^◌, min, length, map, IfOk, option_map, pos, neg_ℤ, ◌*◌, ◌+◌};
+ghost use Rattle.std.specs.Prelude.{◌≡◌, ◌≤◌, ◌<◌, ◌^◌, min, length, IfOk, option_map, pos, neg_ℤ, ◌*◌, ◌+◌};
 ghost use Rattle.pb_source.specs.SymbolView.{symbol_of};
 ghost use Rattle.pb_source.specs.Integers.{integer_of};
 ghost use Rattle.pb_source.specs.Readers.Forms.{mapped, symbol, plain};

@@ -2,7 +2,7 @@
 
 ghost use Rattle.std.specs.Prelude.{◌≡◌, ◌≤◌, ◌<◌, ℕ, length, map, codes, string_bytes, pos, IfOk};
 ghost use Rattle.pb_source.specs.Grammar.{end_behind};
-ghost use Rattle.pb_source.specs.Readers.Forms.{before, behind, mapped, mark_reader};
+ghost use Rattle.pb_source.specs.Readers.Forms.{before, behind, mark_reader};
 ghost use Rattle.pb_source.specs.Readers.Lines.{listed, utf8_reader};
 ghost use Rattle.pb_source.specs.RangeView.{HasSign, bound_within, end_within, greatest_within, last_reader, range_within};
 ghost use Rattle.pb_source.specs.Readers.Given.{Reads, ReadsInSteps};

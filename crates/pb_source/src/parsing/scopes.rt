@@ -1,6 +1,6 @@
 //! Files of their parts, and the full names of entry messages, which are known once the package is.
 
-ghost use Rattle.std.specs.Prelude.{◌≡◌, ◌≤◌, ◌++◌, ◌∷◌, ℕ, List, map, string_bytes, IfOk, OnOk};
+ghost use Rattle.std.specs.Prelude.{◌≡◌, ◌∷◌, List, map, string_bytes, IfOk, OnOk};
 ghost use Rattle.pb_schema.specs.Names.{in_scope};
 ghost use Rattle.pb_decl.specs.View.{field_view, message_view, file_view};
 ghost use Rattle.pb_source.specs.Meaning.{FileStatement, scoped_field, scoped, file_of};

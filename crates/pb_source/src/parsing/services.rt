@@ -5,8 +5,8 @@ ghost use Rattle.pb_decl.specs.View.{method_view, service_view};
 ghost use Rattle.pb_source.specs.Meaning.{those_said};
 ghost use Rattle.pb_source.specs.Readers.Forms.{mapped, until, mark_reader};
 ghost use Rattle.pb_source.specs.Readers.Lines.{is_closing, streamed_reader, parameter_reader, method_statement_reader, method_end_reader};
-ghost use Rattle.pb_source.specs.Readers.Lines.{method_reader, service_statement_reader, service_reader, service_from};
-ghost use Rattle.pb_source.specs.Readers.Given.{Reads, ReadsInSteps};
+ghost use Rattle.pb_source.specs.Readers.Lines.{method_reader, service_statement_reader, service_reader};
+ghost use Rattle.pb_source.specs.Readers.Given.{ReadsInSteps};
 
 use crate::kind::{MethodKind, ServiceKind};
 use crate::parsing::kinds::{method_kind, service_kind};

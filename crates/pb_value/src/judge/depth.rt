@@ -1,6 +1,6 @@
 //! How deep messages nest.
 
-ghost use Rattle.std.specs.Prelude.{◌≡◌, ◌<◌, ◌↔◌, ◌⊎◌, ◌≤◌, suc, length, IsTrue, None, Some, MatchResult, map};
+ghost use Rattle.std.specs.Prelude.{◌<◌, ◌↔◌, ◌≤◌, suc, IsTrue};
 ghost use Rattle.pb_wire.specs.Record.{depth, records_depth};
 ghost use Rattle.pb_wire.specs.Unknown.{payload_of, records_of};
 ghost use Rattle.pb_value.specs.Data.{levels_of, levels_in_entry, datums_depth, entries_depth, holding_depth, message_depth};

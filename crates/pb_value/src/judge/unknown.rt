@@ -1,6 +1,6 @@
 //! Whether records are unknown to a type, and can be written.
 
-ghost use Rattle.std.specs.Prelude.{◌≡◌, ◌<◌, ◌&&◌, not, length, IsTrue, true, None, Some, MatchResult};
+ghost use Rattle.std.specs.Prelude.{◌≡◌, ◌<◌, ◌&&◌, not, length, IsTrue, true, Some};
 ghost use Rattle.pb_wire.specs.Record.{wire_type, group_of};
 ghost use Rattle.pb_wire.specs.Unknown.{payload_of, records_of};
 ghost use Rattle.pb_wire.specs.Ranges.{AreBytes, IsInRange, AreInRange};
