@@ -1,5 +1,4 @@
 use Rattle.std.proofs.Common.{◌≡◌, rules, map, ap, sym, ◌∙◌}
-use Rattle.pb_decl.specs.View.{file_view}
 use Rattle.pb_names.specs.View.{declaration_view, type_names_view}
 use Rattle.pb_rules.specs.Rules.{lookups}
 use Rattle.pb_link.proofs.LinkLemmas.{as_many}
