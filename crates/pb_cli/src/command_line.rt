@@ -7,7 +7,7 @@ ghost use Rattle.pb_command.specs.Answers.{Does};
 ghost use Rattle.pb_command.specs.CompileAnswer.{texts_of};
 ghost use Rattle.pb_command.specs.FileMap.{IsHonest, IsSaved, IsUnsaved, KeepsMap};
 ghost use Rattle.pb_command.specs.Report.{memory_line};
-ghost use Rattle.pb_listing.specs.Sending.{Cut, Sent, SentOrCut};
+ghost use Rattle.pb_output.specs.Sending.{Cut, Sent, SentOrCut};
 ghost use Rattle.pb_cli.specs.Words.{AreRoots, IsMatched, IsSource, flag_of, value_of, values_of, tool, tool_names, words_of};
 ghost use Rattle.pb_command.specs.declared.command.Command.{Command as Told};
 

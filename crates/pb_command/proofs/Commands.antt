@@ -1,5 +1,5 @@
 -- What `frames` comes to, from what its steps leave.
-use Rattle.std.proofs.Common.{◌≡◌, ◌+◌, ℕ, List, [], Bool, true, Option, None, Some, refl, inl, inr, append-nil}
+use Rattle.std.proofs.Common.{◌≡◌, ◌+◌, ℕ, List, [], Bool, true, false, Option, None, Some, refl, inl, inr}
 use Rattle.std.specs.Prelude.{Result, Ok, Err}
 use Rattle.pb_wire.specs.Limits.{full}
 use Rattle.pb_wire.specs.declared.device.DeviceFault.{DeviceFault}
@@ -8,17 +8,18 @@ use Rattle.pb_command.specs.Answer.{Answer, done, stopped, broken, IsPrinted}
 use Rattle.pb_command.specs.Answers.{FramesAt, FrameFaultAt, FramesBegunAt}
 use Rattle.pb_command.specs.FileMap.{FileMap, IsOpened, KeepsMap}
 use Rattle.pb_command.specs.Report.{output_name}
-use Rattle.pb_listing.specs.Sending.{Cut, Puts, Sent}
+use Rattle.pb_output.specs.Sending.{Cut, Sent}
+use Rattle.pb_output.specs.Sink.{Finishes, Puts}
 use Rattle.pb_command.specs.Steps.{Comes, FailsAt, IsReadOf, NoFile, OfFiles, OfInput, StreamAt, StreamBegun, StreamBegunAt, StreamOf}
 use Rattle.pb_command.specs.Streaming.{FramesBegunIn, FramesIn, PutsFrames}
 use Rattle.pb_command.specs.TypeAnswer.{HasType, missing, opened}
-use Rattle.pb_listing.specs.declared.buffered.Buffered.{Buffered}
+use Rattle.pb_output.specs.declared.sink.Sink.{Sink}
 use Rattle.pb_command.specs.declared.command.Source.{Source}
 use Rattle.pb_command.specs.declared.report.Refusal.{Refusal}
 use Rattle.pb_command.proofs.Coming.{by_refusal_any, by_refusal_map}
 use Rattle.pb_command.proofs.FileSteps.{of_later, opened_of}
 use Rattle.pb_command.proofs.Honest.{frames_map}
-use Rattle.pb_listing.proofs.SendingLemmas.{cut_alone, puts_then, sent_alone}
+use Rattle.pb_output.proofs.SinkLemmas.{finished}
 
 -- THE LINES GO OUT
 
@@ -37,54 +38,37 @@ module _
 
   -- a text is put that is printed
   frames_put :
-      (b0 b1 : Buffered D) (stop : Option Refusal) → PutsFrames left is_steady input written failures b0 b1 path pool m (Ok stop)
-      → (text : List ℕ) × Puts {E = DeviceFault} written failures b0 b1 (Ok tt) text
+      {start mid : D} {a b : Sink} (stop : Option Refusal) → PutsFrames left is_steady input written failures start mid a b path pool m stop
+      → (text : List ℕ) × Puts written failures start mid a b text
       × IsPrinted (FramesIn left is_steady input path pool m) (FramesBegunIn left is_steady input pool m) text
-  frames_put b0 b1 None h = (h.0, h.2, inl (done h.0, h.1, refl))
-  frames_put b0 b1 (Some e) h = (
+  frames_put None (text, put, inl right) = (text, put, inl (done text, right, refl))
+  frames_put None (text, put, inr begun) = (text, put, inr begun.1)
+  frames_put (Some e) h = (
     h.0,
     h.1,
     by_refusal_any _ _ _ _ e (λ line right. inl (stopped h.0 line, right, refl)) (λ device right. inl (broken h.0 device, right, refl)) (λ begun. inr begun) h.2,
   )
 
-  -- the output failed in what was put
-  put_fails :
-      {b0 b1 : Buffered D} {text : List ℕ} {e : DeviceFault} (start end : D) → b0.out.now ≡ start → b0.held ≡ []
-      → Puts written failures b0 b1 (Err e) text → (b1.out.ghost_name ≡ b0.out.ghost_name → end ≡ b1.out.now) → Cut written failures start end text
-  put_fails {e = e} start end begins empty put ends = cut_alone start end begins empty put ends (Err e) refl
-
-  -- the output failed in the lines
+  -- the output failed
   pub stream_cut :
-      (b0 b1 : Buffered D) (e : DeviceFault) (output : List ℕ) (start end : D) → output ≡ output_name → b0.out.now ≡ start → b0.held ≡ []
-      → PutsFrames left is_steady input written failures b0 b1 path pool m (Err e) → (b1.out.ghost_name ≡ b0.out.ghost_name → end ≡ b1.out.now)
-      → StreamFails start end output
-  stream_cut b0 b1 e output start end named begins empty h ends =
-      inr (inl (h.0, named, inr h.1, put_fails start end begins empty h.2 ends, refl))
-
-  -- or in what was held of them
-  pub stream_unflushed :
-      (b0 b1 b2 : Buffered D) (e : DeviceFault) (output : List ℕ) (start end : D) (stop : Option Refusal) → output ≡ output_name
-      → b0.out.now ≡ start → b0.held ≡ [] → PutsFrames left is_steady input written failures b0 b1 path pool m (Ok stop)
-      → Puts written failures b1 b2 (Err e) [] → (b2.out.ghost_name ≡ b0.out.ghost_name → end ≡ b2.out.now) → StreamFails start end output
-  stream_unflushed b0 b1 b2 e output start end stop named begins empty h flush ends =
-      let p = frames_put b0 b1 stop h in
-      inr (inl (p.0, named, p.2, put_fails start end begins empty (rw append-nil at (puts_then p.1 flush)) ends, refl))
+      {start mid end : D} {a b : Sink} (e : DeviceFault) (stop : Option Refusal) (output : List ℕ) → output ≡ output_name
+      → a ≡ record { held = []; sent = 0; failed = false } → PutsFrames left is_steady input written failures start mid a b path pool m stop
+      → Finishes written failures mid end b (Err e) → StreamFails start end output
+  stream_cut e stop output named new h ends = let p = frames_put stop h in inr (inl (p.0, named, p.2, finished new p.1 ends, refl))
 
   -- all lines went out
   pub stream_ended :
-      (b0 b1 b2 : Buffered D) (start end : D) → b0.out.now ≡ start → b0.held ≡ []
-      → PutsFrames left is_steady input written failures b0 b1 path pool m (Ok None) → Puts {E = DeviceFault} written failures b1 b2 (Ok tt) []
-      → b2.held ≡ [] → (b2.out.ghost_name ≡ b0.out.ghost_name → end ≡ b2.out.now) → StreamComes start end (Ok tt)
-  stream_ended b0 b1 b2 start end begins empty h flush emptied ends =
-      (done h.0, h.1, refl, refl, sent_alone start end begins empty h.2 flush emptied ends, refl)
+      {start mid end : D} {a b : Sink} → a ≡ record { held = []; sent = 0; failed = false }
+      → PutsFrames left is_steady input written failures start mid a b path pool m None → Finishes written failures mid end b (Ok tt) → StreamComes start end (Ok tt)
+  stream_ended new (text, put, inl right) ends = (done text, right, refl, refl, finished new put ends, refl)
+  stream_ended new (text, put, inr (failed, begun)) ends = let well = ends.well in absurd (cc)
 
   -- those before a refusal went out
   pub stream_stopped :
-      (b0 b1 b2 : Buffered D) (start end : D) (e : Refusal) → b0.out.now ≡ start → b0.held ≡ []
-      → PutsFrames left is_steady input written failures b0 b1 path pool m (Ok (Some e)) → Puts {E = DeviceFault} written failures b1 b2 (Ok tt) []
-      → b2.held ≡ [] → (b2.out.ghost_name ≡ b0.out.ghost_name → end ≡ b2.out.now) → StreamComes start end (Err e)
-  stream_stopped b0 b1 b2 start end e begins empty h flush emptied ends =
-      let sent = sent_alone start end begins empty h.1 flush emptied ends in
+      {start mid end : D} {a b : Sink} (e : Refusal) → a ≡ record { held = []; sent = 0; failed = false }
+      → PutsFrames left is_steady input written failures start mid a b path pool m (Some e) → Finishes written failures mid end b (Ok tt) → StreamComes start end (Err e)
+  stream_stopped {start} {mid} {end} e new h ends =
+      let sent : Sent written failures start end h.0 = finished new h.1 ends in
       by_refusal_map (λ line. FramesIn left is_steady input path pool m (stopped h.0 line))
       (λ line. (text : List ℕ) × FramesIn left is_steady input path pool m (stopped text line) × Sent written failures start end text × NoFile None)
       (λ device. FramesIn left is_steady input path pool m (broken h.0 device)) (StreamFails start end) (FramesBegunIn left is_steady input pool m h.0)

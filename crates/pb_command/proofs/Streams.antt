@@ -19,12 +19,12 @@ use Rattle.pb_stream.specs.Taking.{Counts, TakesNone}
 use Rattle.pb_command.specs.Answer.{done, stopped, broken}
 use Rattle.pb_command.specs.FramesAnswer.{AreFrames, none, one_more, BeginsWith, no_frame, frame_more, frame_lines, ended, no_frame_there, input_failed}
 use Rattle.pb_command.specs.Refusal.{ByRefusal}
-use Rattle.pb_listing.specs.Sending.{Puts}
+use Rattle.pb_output.specs.Sink.{Puts}
 use Rattle.pb_command.specs.Streaming.{FramesBegunIn, FramesIn, IsToldOfFrame, PutsFrames, PutsNext, ReadsFrame, RefusesFrame, read_lines}
-use Rattle.pb_listing.specs.declared.buffered.Buffered.{Buffered}
+use Rattle.pb_output.specs.declared.sink.Sink.{Sink}
 use Rattle.pb_command.specs.declared.frames.Next.{Next}
 use Rattle.pb_command.specs.declared.report.Refusal.{Refusal}
-use Rattle.pb_listing.proofs.SendingLemmas.{puts_none, puts_then}
+use Rattle.pb_output.proofs.SinkLemmas.{puts_none, puts_then}
 
 -- SIZES
 
@@ -82,10 +82,10 @@ pub record AreRead {I : Type 0} (left : I → Option (List ℕ)) (is_steady : I 
 
 -- they were put
 pub record IsStreaming
-    {D I : Type 0} (written : D → Option (List ℕ)) (failures : D → ℕ) (left : I → Option (List ℕ)) (is_steady : I → Bool) (old new : Buffered D)
+    {D I : Type 0} (written : D → Option (List ℕ)) (failures : D → ℕ) (left : I → Option (List ℕ)) (is_steady : I → Bool) (old new : D) (a b : Sink)
     (start now : Stream I) (count : ℕ) : Type 0 where
   pub text : List ℕ
-  pub put : Puts {E = DeviceFault} written failures old new (Ok tt) text
+  pub put : Puts written failures old new a b text
   pub read : AreRead left is_steady start now count text
 
 -- one more frame is known
@@ -252,34 +252,13 @@ module _ {I : Type 0} {left : I → Option (List ℕ)} {is_steady : I → Bool} 
 
 -- its lines, as they were put
 pub lines_read :
-    {D I : Type 0} {written : D → Option (List ℕ)} {failures : D → ℕ} {b0 b1 : Buffered D} {r : Result Unit DeviceFault} (old new : Stream I) (d : Dynamic)
+    {D I : Type 0} {written : D → Option (List ℕ)} {failures : D → ℕ} {d0 d1 : D} {a b : Sink} (old new : Stream I) (d : Dynamic)
     (index offset size : ℕ) → (d.pool ≡ old.pool) × (d.kind ≡ old.kind) → offset ≡ old.taken → size ≡ new.taken - offset
-    → Puts written failures b0 b1 r (frame_lines d.pool d.kind index offset size d.body)
-    → Puts written failures b0 b1 r (read_lines index old new d.body)
+    → Puts written failures d0 d1 a b (frame_lines d.pool d.kind index offset size d.body)
+    → Puts written failures d0 d1 a b (read_lines index old new d.body)
 lines_read old new d index offset size typed begins sized put = rw (sized, begins, typed.0, typed.1) at put
 
--- the output failed in them, at the exit of a `?`
-pub next_cut :
-    {D I : Type 0} {written : D → Option (List ℕ)} {failures : D → ℕ} {left : I → Option (List ℕ)} {is_steady : I → Bool} {b0 b1 : Buffered D}
-    {old new : Stream I} (index : ℕ) (path : Bor (List ℕ)) {e : DeviceFault} {m : Message} (r : Result Next DeviceFault) → IsErr r
-    → ReadsFrame left is_steady old new m → Puts written failures b0 b1 (Err e) (read_lines index old new m)
-    → PutsNext written failures left is_steady b0 b1 old new index path r
-next_cut index path (Ok n) is_err reads put = absurd (cc)
-next_cut index path {m = m} (Err f) is_err reads put = (m, reads, record { same = put.same; follow = put.follow })
-
 pub streaming_start :
-    {D I : Type 0} {written : D → Option (List ℕ)} {failures : D → ℕ} {left : I → Option (List ℕ)} {is_steady : I → Bool} {b : Buffered D} (r : Stream I)
-    → r.taken ≡ 0 → r.finished ≡ false → r.limits ≡ full → IsStreaming written failures left is_steady b b r r 0
+    {D I : Type 0} {written : D → Option (List ℕ)} {failures : D → ℕ} {left : I → Option (List ℕ)} {is_steady : I → Bool} {d : D} {a : Sink} (r : Stream I)
+    → r.taken ≡ 0 → r.finished ≡ false → r.limits ≡ full → IsStreaming written failures left is_steady d d a a r r 0
 streaming_start r first open_ limits = record { text = []; put = puts_none; read = read_start r first open_ limits }
-
--- the output failed in a frame, at the exit of a `?`
-pub frames_cut :
-    {D I : Type 0} {written : D → Option (List ℕ)} {failures : D → ℕ} {left : I → Option (List ℕ)} {is_steady : I → Bool} {b0 b1 b2 : Buffered D}
-    {start now next : Stream I} {count : ℕ} (path : Bor (List ℕ)) {e : DeviceFault} (r : Result (Option Refusal) DeviceFault) → IsErr r
-    → IsStreaming written failures left is_steady b0 b1 start now count
-    → PutsNext written failures left is_steady b1 b2 now next count path (Err e)
-    → PutsFrames left is_steady start.input written failures b0 b2 path.now start.pool start.kind r
-frames_cut path (Ok o) is_err before step = absurd (cc)
-frames_cut path (Err f) is_err before step =
-    let put = puts_then before.put step.2 in
-    (_, read_begun (read_next step.0 before.read step.1), record { same = put.same; follow = put.follow })

@@ -1,8 +1,7 @@
 -- What reading the messages of one input leaves.
-use Rattle.std.specs.Prelude.{◌≡◌, ◌≢◌, ◌-◌, ℕ, List, [], Bool, true, false, Option, None, Some, Result, Ok, Err, IfSome, IsSomeAnd}
+use Rattle.std.specs.Prelude.{◌≡◌, ◌≢◌, ◌⊎◌, ◌-◌, ℕ, List, [], Bool, true, false, Option, None, Some, IfSome, IsSomeAnd}
 use Rattle.std.specs.Borrow.{Bor}
 use Rattle.pb_schema.specs.Types.{Types}
-use Rattle.pb_wire.specs.declared.device.DeviceFault.{DeviceFault}
 use Rattle.pb_value.specs.Data.{Message}
 use Rattle.pb_value.specs.WellFormed.{IsWellFormed}
 use Rattle.pb_decode.specs.FromDevice.{IfRefused}
@@ -15,9 +14,9 @@ use Rattle.pb_command.specs.Answer.{Answer, stopped, broken, done}
 use Rattle.pb_command.specs.Answers.{FramesAt, FrameFaultAt, FramesBegunAt, AnyFrames}
 use Rattle.pb_command.specs.FramesAnswer.{AreFrames, FramesAnswer, frame_lines}
 use Rattle.pb_command.specs.Refusal.{ByRefusal}
-use Rattle.pb_listing.specs.Sending.{Puts}
+use Rattle.pb_output.specs.Sink.{Puts}
 use Rattle.pb_command.specs.Steps.{OfInput}
-use Rattle.pb_listing.specs.declared.buffered.Buffered.{Buffered}
+use Rattle.pb_output.specs.declared.sink.Sink.{Sink}
 use Rattle.pb_command.specs.declared.frames.Next.{Next}
 use Rattle.pb_command.specs.declared.frames.Next.TheVariants.{Put, End, Refused}
 use Rattle.pb_command.specs.declared.report.Refusal.{Refusal}
@@ -50,18 +49,16 @@ pub record RefusesFrame {I : Type 0} (left : I → Option (List ℕ)) (is_steady
 abbrev pub read_lines : {I : Type 0} → ℕ → Stream I → Stream I → Message → List ℕ
 read_lines index old new m = frame_lines old.pool old.kind index old.taken (new.taken - old.taken) m
 
--- The lines of the next frame were put, or the output failed in them; or nothing is left, or what is left is refused.
+-- the lines of the next frame were put; or nothing is left, or what is left is refused
 abbrev pub PutsNext :
-    {D I : Type 0} (written : D → Option (List ℕ)) (failures : D → ℕ) (left : I → Option (List ℕ)) (is_steady : I → Bool) (old new : Buffered D)
-    (before after : Stream I) (index : ℕ) (path : Bor (List ℕ)) → Result Next DeviceFault → Type 0
-PutsNext written failures left is_steady old new before after index path (Ok Put) =
-    (m : Message) × ReadsFrame left is_steady before after m × Puts {E = DeviceFault} written failures old new (Ok tt) (read_lines index before after m)
-PutsNext written failures left is_steady old new before after index path (Ok End) =
-    TakesNone (left before.input) (left after.input) × Puts {E = DeviceFault} written failures old new (Ok tt) []
-PutsNext written failures left is_steady old new before after index path (Ok (Refused e)) =
-    (error : DecodeError) × RefusesFrame left is_steady before error × IsToldOfFrame index path error e × Puts {E = DeviceFault} written failures old new (Ok tt) []
-PutsNext written failures left is_steady old new before after index path (Err e) =
-    (m : Message) × ReadsFrame left is_steady before after m × Puts written failures old new (Err e) (read_lines index before after m)
+    {D I : Type 0} (written : D → Option (List ℕ)) (failures : D → ℕ) (left : I → Option (List ℕ)) (is_steady : I → Bool) (old new : D) (a b : Sink)
+    (before after : Stream I) (index : ℕ) (path : Bor (List ℕ)) → Next → Type 0
+PutsNext written failures left is_steady old new a b before after index path Put =
+    (m : Message) × ReadsFrame left is_steady before after m × Puts written failures old new a b (read_lines index before after m)
+PutsNext written failures left is_steady old new a b before after index path End =
+    TakesNone (left before.input) (left after.input) × Puts written failures old new a b []
+PutsNext written failures left is_steady old new a b before after index path (Refused e) =
+    (error : DecodeError) × RefusesFrame left is_steady before error × IsToldOfFrame index path error e × Puts written failures old new a b []
 
 -- ALL OF THEM
 
@@ -77,14 +74,13 @@ module _ {I : Type 0} (left : I → Option (List ℕ)) (is_steady : I → Bool) 
   abbrev pub FramesBegunIn : Types → ℕ → List ℕ → Type 0
   FramesBegunIn pool m text = AnyFrames pool m text × OfInput left is_steady input (λ content. FramesBegunAt content pool m text)
 
-  -- the lines of frames were put, up to the end or to why what follows is refused; or the output failed
+  -- the lines of frames were put, up to the end or to why what follows is refused, or up to where the output had failed
   abbrev pub PutsFrames :
-      {D : Type 0} (written : D → Option (List ℕ)) (failures : D → ℕ) (old new : Buffered D) (path : List ℕ) (pool : Types) (m : ℕ)
-      → Result (Option Refusal) DeviceFault → Type 0
-  PutsFrames written failures old new path pool m (Ok None) =
-      (text : List ℕ) × FramesIn path pool m (done text) × Puts {E = DeviceFault} written failures old new (Ok tt) text
-  PutsFrames written failures old new path pool m (Ok (Some e)) =
-      (text : List ℕ) × Puts {E = DeviceFault} written failures old new (Ok tt) text
+      {D : Type 0} (written : D → Option (List ℕ)) (failures : D → ℕ) (old new : D) (a b : Sink) (path : List ℕ) (pool : Types) (m : ℕ)
+      → Option Refusal → Type 0
+  PutsFrames written failures old new a b path pool m None =
+      (text : List ℕ) × Puts written failures old new a b text
+      × (FramesIn path pool m (done text) ⊎ ((b.failed ≡ true) × FramesBegunIn pool m text))
+  PutsFrames written failures old new a b path pool m (Some e) =
+      (text : List ℕ) × Puts written failures old new a b text
       × ByRefusal (λ line. FramesIn path pool m (stopped text line)) (λ device. FramesIn path pool m (broken text device)) (FramesBegunIn pool m text) e
-  PutsFrames written failures old new path pool m (Err e) =
-      (text : List ℕ) × FramesBegunIn pool m text × Puts written failures old new (Err e) text

@@ -1,6 +1,6 @@
 //! What is made of a message.
 
-ghost use Rattle.std.specs.Prelude.{◌≡◌, ◌≢◌, ◌++◌, ◌<◌, ◌≤◌, ◌^◌, [], codes, length, IfOk, IfErr, MatchResult, OnOk};
+ghost use Rattle.std.specs.Prelude.{◌≡◌, ◌++◌, ◌<◌, ◌≤◌, ◌^◌, [], codes, length, IfOk, IfErr, MatchResult};
 ghost use Rattle.hex.specs.Hex.{encode_lower};
 ghost use Rattle.pb_encode.specs.Encoding.{bytes_of};
 ghost use Rattle.pb_command.specs.Answer.{done, saves, refused};
@@ -8,15 +8,16 @@ ghost use Rattle.pb_command.specs.FileMap.{IsSaved, IsUnsaved};
 ghost use Rattle.pb_listing.specs.Listing.{listing};
 ghost use Rattle.pb_command.specs.MessageAnswer.{CanonAnswer, FormAnswer};
 ghost use Rattle.pb_listing.specs.RawListing.{line_feed};
-ghost use Rattle.pb_command.specs.Refusal.{Refuses, refusal_status};
+ghost use Rattle.pb_command.specs.Refusal.{KeepsFailures, Refuses};
 ghost use Rattle.pb_command.specs.Report.{too_large_line};
-ghost use Rattle.pb_listing.specs.Sending.{Cut, Sent};
+ghost use Rattle.pb_output.specs.Sending.{Cut, Sent};
 ghost use Rattle.pb_command.specs.Steps.{Comes, IsNothing, NoFile};
 
 use crate::files::Files;
 use crate::report::{OUTPUT, Refusal};
 use pb_encode::{EncodeError, encode};
-use pb_listing::{Buffered, write_message};
+use pb_listing::write_message;
+use pb_output::Sink;
 use pb_value::DynamicMessage;
 use pb_wire::{DeviceFault, Output, write_all};
 
@@ -42,8 +43,7 @@ pub fn make<'a, F: Files, O: Output>(
     ensures comes { Comes (Sent O.written O.failures out.old out.new) (Cut O.written O.failures out.old out.new)
         (IsSaved F.contents files.old files.new) (IsUnsaved F.contents F.failures files.old files.new)
         (FormAnswer form.entry message.now) IsNothing result }
-    ensures kept { OnOk result (F.failures files.new ≡ F.failures files.old) }
-    ensures told { IfErr result (λ e. refusal_status e ≢ 3 → F.failures files.new ≡ F.failures files.old) }
+    ensures kept { KeepsFailures F.failures files.old files.new result }
 {
     match form {
         Form::Check => print_ok(out),
@@ -95,11 +95,10 @@ fn write_hex_line<O: Output>(bytes: &[u8], out: &mut O) -> Result<(), DeviceFaul
     ensures { MatchResult result (λ _. Sent O.written O.failures out.old out.new (encode_lower bytes.now ++ line_feed))
         (λ _. Cut O.written O.failures out.old out.new (encode_lower bytes.now ++ line_feed)) }
 {
-    let mut buffered = Buffered::new(out);
-    buffered.put_hex(bytes)?;
-    buffered.put(b"\n")?;
-    buffered.flush()?;
-    Ok(())
+    let mut sink = Sink::new();
+    sink.put_hex(out, bytes);
+    sink.put(out, b"\n");
+    sink.finish(out)
 }
 
 fn save_canonical<'a, F: Files>(
@@ -110,8 +109,7 @@ fn save_canonical<'a, F: Files>(
     ensures comes { Comes (λ text. text ≡ []) (λ _. ⊥)
         (IsSaved F.contents files.old files.new) (IsUnsaved F.contents F.failures files.old files.new)
         (CanonAnswer (bytes_of message.now) (saves path.entry.now (bytes_of message.now))) IsNothing result }
-    ensures kept { OnOk result (F.failures files.new ≡ F.failures files.old) }
-    ensures told { IfErr result (λ e. refusal_status e ≢ 3 → F.failures files.new ≡ F.failures files.old) }
+    ensures kept { KeepsFailures F.failures files.old files.new result }
 {
     let bytes = canonical(message)?;
     match files.write_whole(path, &bytes) {

@@ -1,14 +1,15 @@
 //! The messages of a file, each behind its length.
 
-ghost use Rattle.std.specs.Prelude.{◌≡◌, ◌≢◌, ◌++◌, ◌<◌, false, codes, decimal, length, OnOk, IfErr};
+ghost use Rattle.std.specs.Prelude.{◌≡◌, ◌++◌, ◌<◌, false, codes, decimal, length};
 ghost use Rattle.pb_wire.specs.Limits.{full};
 ghost use Rattle.pb_command.specs.FileMap.{IsSaved, IsUnsaved};
 ghost use Rattle.pb_command.specs.FramesAnswer.{frame_lines};
 ghost use Rattle.pb_listing.specs.RawListing.{line};
-ghost use Rattle.pb_listing.specs.Sending.{Cut, Puts, Sent};
+ghost use Rattle.pb_output.specs.Sending.{Cut, Sent};
+ghost use Rattle.pb_output.specs.Sink.{Puts};
 ghost use Rattle.pb_command.specs.Steps.{Comes, NoFile, StreamAt, StreamBegun, StreamBegunAt, StreamOf};
 ghost use Rattle.pb_command.specs.Streaming.{FramesBegunIn, FramesIn, IsToldOfFrame, PutsFrames, PutsNext};
-ghost use Rattle.pb_command.specs.Refusal.{refusal_status};
+ghost use Rattle.pb_command.specs.Refusal.{KeepsFailures};
 
 use crate::by_type::find_type;
 use crate::command::Source;
@@ -16,11 +17,12 @@ use crate::files::Files;
 use crate::reading::open_file;
 use crate::report::{OUTPUT, Refusal};
 use pb_decode::DecodeError;
-use pb_listing::Buffered;
+use pb_listing::put_listing_at;
+use pb_output::Sink;
 use pb_schema::{MessageId, Pool};
 use pb_stream::DelimitedReader;
 use pb_value::DynamicMessage;
-use pb_wire::{DeviceFault, Input, Limits, Output};
+use pb_wire::{Input, Limits, Output};
 use std::alloc::Global;
 
 /// What comes of the frame that follows.
@@ -44,8 +46,7 @@ pub fn frames<'a, F: Files, O: Output>(
     ensures comes { Comes (Sent O.written O.failures out.old out.new) (Cut O.written O.failures out.old out.new)
         (IsSaved F.contents files.old files.new) (IsUnsaved F.contents F.failures files.old files.new)
         (StreamOf F.contents F.is_steady files.old source.now) (StreamBegun F.contents F.is_steady files.old source.now) result }
-    ensures kept { OnOk result (F.failures files.new ≡ F.failures files.old) }
-    ensures told { IfErr result (λ e. refusal_status e ≢ 3 → F.failures files.new ≡ F.failures files.old) }
+    ensures kept { KeepsFailures F.failures files.old files.new result }
 {
     let (pool, kind) = find_type(alloc, source, files)?;
     frames_at(alloc, &pool, kind, source.file, files, out)
@@ -65,8 +66,7 @@ fn frames_at<'a, F: Files, O: Output>(
         (IsSaved F.contents files.old files.new) (IsUnsaved F.contents F.failures files.old files.new)
         (StreamAt F.contents F.is_steady files.old pool.now kind.0 path.entry.now)
         (StreamBegunAt F.contents F.is_steady files.old pool.now kind.0 path.entry.now) result }
-    ensures kept { OnOk result (F.failures files.new ≡ F.failures files.old) }
-    ensures told { IfErr result (λ e. refusal_status e ≢ 3 → F.failures files.new ≡ F.failures files.old) }
+    ensures kept { KeepsFailures F.failures files.old files.new result }
 {
     let input = open_file(path, files)?;
     let mut reader = DelimitedReader::new(alloc, pool, kind, input, Limits::FULL);
@@ -86,11 +86,9 @@ fn write_frames<'a, I: Input + Drop, O: Output>(
         (FramesIn I.left I.is_steady reader.old.input path.entry.now reader.old.pool reader.old.kind)
         (FramesBegunIn I.left I.is_steady reader.old.input reader.old.pool reader.old.kind) result }
 {
-    let mut buffered = Buffered::new(out);
-    let Ok(stop) = put_frames(&mut buffered, reader, path) else {
-        return Err(Refusal::Device(OUTPUT));
-    };
-    let Ok(()) = buffered.flush() else {
+    let mut sink = Sink::new();
+    let stop = put_frames(&mut sink, out, reader, path);
+    let Ok(()) = sink.finish(out) else {
         return Err(Refusal::Device(OUTPUT));
     };
     match stop {
@@ -99,84 +97,84 @@ fn write_frames<'a, I: Input + Drop, O: Output>(
     }
 }
 
-/// The lines of the frames that are left, and why what follows them is refused, if it is.
+/// The lines of the frames that are left, and why what follows them is refused, if it is. Where the output fails, no more is read.
 fn put_frames<'a, I: Input + Drop, O: Output>(
-    out: &mut Buffered<'_, O>,
+    sink: &mut Sink,
+    out: &mut O,
     reader: &mut DelimitedReader<'_, I>,
     path: &'a str,
-) -> Result<Option<Refusal<'a>>, DeviceFault>
+) -> Option<Refusal<'a>>
     requires first { reader.old.taken ≡ 0 }
     requires open { reader.old.finished ≡ false }
     requires full { reader.old.limits ≡ full }
-    ensures { PutsFrames I.left I.is_steady reader.old.input O.written O.failures out.old out.new path.entry.now reader.old.pool reader.old.kind result }
+    ensures { PutsFrames I.left I.is_steady reader.old.input O.written O.failures out.old out.new sink.old sink.new
+        path.entry.now reader.old.pool reader.old.kind result }
 {
     for index in 0..u64::MAX {
-        match put_next(out, index, reader, path)? {
+        if sink.has_failed() {
+            return None;
+        }
+        match put_next(sink, out, index, reader, path) {
             Next::Put => {}
-            Next::End => return Ok(None),
-            Next::Refused(refusal) => return Ok(Some(refusal)),
+            Next::End => return None,
+            Next::Refused(refusal) => return Some(refusal),
         }
     }
-    Ok(None)
+    None
 }
 
 /// The lines of the next frame, which has this index.
 fn put_next<'a, I: Input + Drop, O: Output>(
-    out: &mut Buffered<'_, O>,
+    sink: &mut Sink,
+    out: &mut O,
     index: u64,
     reader: &mut DelimitedReader<'_, I>,
     path: &'a str,
-) -> Result<Next<'a>, DeviceFault>
+) -> Next<'a>
     requires { reader.old.finished ≡ false }
-    ensures { PutsNext O.written O.failures I.left I.is_steady out.old out.new reader.old reader.new index path.entry result }
+    ensures { PutsNext O.written O.failures I.left I.is_steady out.old out.new sink.old sink.new reader.old reader.new index path.entry result }
 {
     let offset = reader.taken();
     match reader.next() {
-        Ok(None) => Ok(Next::End),
+        Ok(None) => Next::End,
         Ok(Some(message)) => {
             let _body = message.body();
             let size = reader.taken() - offset;
-            put_frame(out, index, offset, size, &message)?;
-            Ok(Next::Put)
+            put_frame(sink, out, index, offset, size, &message);
+            Next::Put
         }
-        Err(error) => Ok(Next::Refused(refusal_at(index, path, error))),
+        Err(error) => Next::Refused(refusal_at(index, path, error)),
     }
 }
 
 /// The line of a frame, and the listing of its message one level in.
 fn put_frame<O: Output>(
-    out: &mut Buffered<'_, O>,
+    sink: &mut Sink,
+    out: &mut O,
     index: u64,
     offset: u64,
     size: u64,
     message: &DynamicMessage<'_>,
-) -> Result<(), DeviceFault>
-    ensures { Puts O.written O.failures out.old out.new result
+)
+    ensures { Puts O.written O.failures out.old out.new sink.old sink.new
         (frame_lines message.now.pool message.now.kind index offset size message.now.body) }
 {
-    put_frame_line(out, index, offset, size)?;
-    out.put_listing_at(1, message)?;
-    Ok(())
+    put_frame_line(sink, out, index, offset, size);
+    put_listing_at(sink, out, 1, message);
 }
 
-fn put_frame_line<O: Output>(
-    out: &mut Buffered<'_, O>,
-    index: u64,
-    offset: u64,
-    size: u64,
-) -> Result<(), DeviceFault>
-    ensures { Puts O.written O.failures out.old out.new result
+fn put_frame_line<O: Output>(sink: &mut Sink, out: &mut O, index: u64, offset: u64, size: u64)
+    ensures { Puts O.written O.failures out.old out.new sink.old sink.new
         (line 0 (codes "frame " ++ decimal index ++ codes " at " ++ decimal offset ++ codes " size " ++ decimal size)) }
 {
-    out.make_room(128)?;
-    out.held.push(b"frame ");
-    out.held.push_decimal(index);
-    out.held.push(b" at ");
-    out.held.push_decimal(offset);
-    out.held.push(b" size ");
-    out.held.push_decimal(size);
-    out.held.push(b"\n");
-    Ok(())
+    sink.make_room(out, 128);
+    sink.held.push(b"frame ");
+    sink.held.push_decimal(index);
+    sink.held.push(b" at ");
+    sink.held.push_decimal(offset);
+    sink.held.push(b" size ");
+    sink.held.push_decimal(size);
+    sink.held.push(b"\n");
 }
 
 /// Why the frame of an index is refused.

@@ -6,12 +6,13 @@ ghost use Rattle.pb_wire.specs.PathText.{dotted, path_text, step_text};
 ghost use Rattle.pb_command.specs.Report.{cause_end, device_line, fault_line, frame_fault_line, link_line};
 ghost use Rattle.pb_command.specs.Report.{set_cause_line, set_fault_line, shown_name, source_line, type_line};
 ghost use Rattle.pb_command.specs.Refusal.{refusal_line, refusal_status};
-ghost use Rattle.pb_listing.specs.Sending.{Cut, Puts, Sent, SentOrCut};
+ghost use Rattle.pb_output.specs.Sending.{Cut, Sent, SentOrCut};
+ghost use Rattle.pb_output.specs.Sink.{Puts};
 
 use pb_descr::{DeclCause, DescrError};
 use pb_link::{LinkCause, LinkError};
-use pb_listing::Buffered;
-use pb_source::Cause as SourceCause;
+use pb_output::Sink;
+use pb_source::SourceCause;
 use pb_wire::{Cause, DeviceFault, Output, PathStep, RawError};
 use std::alloc::{AllocError, AllocFailed};
 
@@ -168,229 +169,199 @@ impl Refusal<'_> {
         ensures { MatchResult result (λ _. Sent E.written E.failures err.old err.new (refusal_line self.now))
             (λ _. Cut E.written E.failures err.old err.new (refusal_line self.now)) }
     {
-        let mut buffered = Buffered::new(err);
-        put_refusal(&mut buffered, self)?;
-        buffered.flush()?;
-        Ok(())
+        let mut sink = Sink::new();
+        put_refusal(&mut sink, err, self);
+        sink.finish(err)
     }
 }
 
-fn put_refusal<O: Output>(
-    out: &mut Buffered<'_, O>,
-    refusal: &Refusal<'_>,
-) -> Result<(), DeviceFault>
-    ensures { Puts O.written O.failures out.old out.new result (refusal_line refusal.now) }
+fn put_refusal<O: Output>(sink: &mut Sink, out: &mut O, refusal: &Refusal<'_>)
+    ensures { Puts O.written O.failures out.old out.new sink.old sink.new (refusal_line refusal.now) }
 {
     match refusal {
-        Refusal::Fault { byte, path, cause } => put_fault(out, *byte, path, *cause),
-        Refusal::Set { byte, path, cause } => put_set_fault(out, *byte, path, *cause),
-        Refusal::SetFile { file, cause } => put_set_cause(out, *file, *cause),
+        Refusal::Fault { byte, path, cause } => put_fault(sink, out, *byte, path, *cause),
+        Refusal::Set { byte, path, cause } => put_set_fault(sink, out, *byte, path, *cause),
+        Refusal::SetFile { file, cause } => put_set_cause(sink, out, *file, *cause),
         Refusal::Link {
             file,
             full_name,
             cause,
-        } => put_link(out, file.as_str(), full_name.as_str(), *cause),
-        Refusal::UnknownType(name) => put_type(out, name),
-        Refusal::TooLarge => out.put(b"output cause TooLarge\n"),
+        } => put_link(sink, out, file.as_str(), full_name.as_str(), *cause),
+        Refusal::UnknownType(name) => put_type(sink, out, name),
+        Refusal::TooLarge => sink.put(out, b"output cause TooLarge\n"),
         Refusal::Frame {
             index,
             byte,
             path,
             cause,
-        } => put_frame_fault(out, *index, *byte, path, *cause),
-        Refusal::Source { file, byte, cause } => put_source(out, file.as_str(), *byte, *cause),
-        Refusal::Device(path) => put_device(out, path),
-        Refusal::File(path) => put_device(out, path.as_str()),
-        Refusal::Memory => out.put(b"memory\n"),
+        } => put_frame_fault(sink, out, *index, *byte, path, *cause),
+        Refusal::Source { file, byte, cause } => put_source(
+            sink,
+            out,
+            file.as_str(),
+            *byte,
+            *cause,
+        ),
+        Refusal::Device(path) => put_device(sink, out, path),
+        Refusal::File(path) => put_device(sink, out, path.as_str()),
+        Refusal::Memory => sink.put(out, b"memory\n"),
     }
 }
 
 fn put_set_fault<O: Output>(
-    out: &mut Buffered<'_, O>,
+    sink: &mut Sink,
+    out: &mut O,
     byte: u64,
     path: &[PathStep],
     cause: Cause,
-) -> Result<(), DeviceFault>
-    ensures { Puts O.written O.failures out.old out.new result (set_fault_line (fault byte path.now cause)) }
+)
+    ensures { Puts O.written O.failures out.old out.new sink.old sink.new (set_fault_line (fault byte path.now cause)) }
 {
-    out.put(b"set ")?;
-    put_fault(out, byte, path, cause)?;
-    Ok(())
+    sink.put(out, b"set ");
+    put_fault(sink, out, byte, path, cause);
 }
 
-fn put_set_cause<O: Output>(
-    out: &mut Buffered<'_, O>,
-    file: usize,
-    cause: DeclCause,
-) -> Result<(), DeviceFault>
-    ensures { Puts O.written O.failures out.old out.new result (set_cause_line file cause) }
+fn put_set_cause<O: Output>(sink: &mut Sink, out: &mut O, file: usize, cause: DeclCause)
+    ensures { Puts O.written O.failures out.old out.new sink.old sink.new (set_cause_line file cause) }
 {
-    out.make_room(64)?;
-    out.held.push(b"set file ");
-    out.held.push_decimal(file as u64);
-    put_cause(out, cause.name())?;
-    Ok(())
+    sink.make_room(out, 64);
+    sink.held.push(b"set file ");
+    sink.held.push_decimal(file as u64);
+    put_cause(sink, out, cause.name());
 }
 
-fn put_link<O: Output>(
-    out: &mut Buffered<'_, O>,
-    file: &str,
-    full_name: &str,
-    cause: LinkCause,
-) -> Result<(), DeviceFault>
-    ensures { Puts O.written O.failures out.old out.new result (link_line file.now full_name.now cause) }
+fn put_link<O: Output>(sink: &mut Sink, out: &mut O, file: &str, full_name: &str, cause: LinkCause)
+    ensures { Puts O.written O.failures out.old out.new sink.old sink.new (link_line file.now full_name.now cause) }
 {
-    out.put(b"link ")?;
-    put_name(out, file)?;
-    out.put(b" at ")?;
-    put_name(out, full_name)?;
-    put_cause(out, cause.name())?;
-    Ok(())
+    sink.put(out, b"link ");
+    put_name(sink, out, file);
+    sink.put(out, b" at ");
+    put_name(sink, out, full_name);
+    put_cause(sink, out, cause.name());
 }
 
 /// A name, or a dash where it is empty.
-fn put_name<O: Output>(out: &mut Buffered<'_, O>, name: &str) -> Result<(), DeviceFault>
-    ensures { Puts O.written O.failures out.old out.new result (shown_name name.now) }
+fn put_name<O: Output>(sink: &mut Sink, out: &mut O, name: &str)
+    ensures { Puts O.written O.failures out.old out.new sink.old sink.new (shown_name name.now) }
 {
     if name.is_empty() {
-        out.put(b"-")
+        sink.put(out, b"-")
     } else {
-        out.put(name.as_bytes())
+        sink.put(out, name.as_bytes())
     }
 }
 
-fn put_type<O: Output>(out: &mut Buffered<'_, O>, name: &str) -> Result<(), DeviceFault>
-    ensures { Puts O.written O.failures out.old out.new result (type_line name.now) }
+fn put_type<O: Output>(sink: &mut Sink, out: &mut O, name: &str)
+    ensures { Puts O.written O.failures out.old out.new sink.old sink.new (type_line name.now) }
 {
-    out.put(b"type ")?;
-    out.put(name.as_bytes())?;
-    out.put(b" unknown\n")?;
-    Ok(())
+    sink.put(out, b"type ");
+    sink.put(out, name.as_bytes());
+    sink.put(out, b" unknown\n");
 }
 
 fn put_frame_fault<O: Output>(
-    out: &mut Buffered<'_, O>,
+    sink: &mut Sink,
+    out: &mut O,
     index: u64,
     byte: u64,
     path: &[PathStep],
     cause: Cause,
-) -> Result<(), DeviceFault>
-    ensures { Puts O.written O.failures out.old out.new result (frame_fault_line index (fault byte path.now cause)) }
+)
+    ensures { Puts O.written O.failures out.old out.new sink.old sink.new (frame_fault_line index (fault byte path.now cause)) }
 {
-    out.make_room(32)?;
-    out.held.push(b"frame ");
-    out.held.push_decimal(index);
-    out.held.push(b" ");
-    put_fault(out, byte, path, cause)?;
-    Ok(())
+    sink.make_room(out, 32);
+    sink.held.push(b"frame ");
+    sink.held.push_decimal(index);
+    sink.held.push(b" ");
+    put_fault(sink, out, byte, path, cause);
 }
 
-fn put_source<O: Output>(
-    out: &mut Buffered<'_, O>,
-    file: &str,
-    byte: u64,
-    cause: SourceCause,
-) -> Result<(), DeviceFault>
-    ensures { Puts O.written O.failures out.old out.new result (source_line file.now byte cause) }
+fn put_source<O: Output>(sink: &mut Sink, out: &mut O, file: &str, byte: u64, cause: SourceCause)
+    ensures { Puts O.written O.failures out.old out.new sink.old sink.new (source_line file.now byte cause) }
 {
-    out.put(b"source ")?;
-    out.put(file.as_bytes())?;
-    put_at(out, byte)?;
-    put_cause(out, cause.name())?;
-    Ok(())
+    sink.put(out, b"source ");
+    sink.put(out, file.as_bytes());
+    put_at(sink, out, byte);
+    put_cause(sink, out, cause.name());
 }
 
-fn put_at<O: Output>(out: &mut Buffered<'_, O>, byte: u64) -> Result<(), DeviceFault>
-    ensures { Puts O.written O.failures out.old out.new result (codes " byte " ++ decimal byte) }
+fn put_at<O: Output>(sink: &mut Sink, out: &mut O, byte: u64)
+    ensures { Puts O.written O.failures out.old out.new sink.old sink.new (codes " byte " ++ decimal byte) }
 {
-    out.make_room(32)?;
-    out.held.push(b" byte ");
-    out.held.push_decimal(byte);
-    Ok(())
+    sink.make_room(out, 32);
+    sink.held.push(b" byte ");
+    sink.held.push_decimal(byte);
 }
 
-fn put_fault<O: Output>(
-    out: &mut Buffered<'_, O>,
-    byte: u64,
-    path: &[PathStep],
-    cause: Cause,
-) -> Result<(), DeviceFault>
-    ensures { Puts O.written O.failures out.old out.new result
+fn put_fault<O: Output>(sink: &mut Sink, out: &mut O, byte: u64, path: &[PathStep], cause: Cause)
+    ensures { Puts O.written O.failures out.old out.new sink.old sink.new
         (fault_line (fault byte path.now cause)) }
 {
-    put_byte(out, byte)?;
-    put_path(out, path)?;
-    put_cause(out, cause.name())?;
-    Ok(())
+    put_byte(sink, out, byte);
+    put_path(sink, out, path);
+    put_cause(sink, out, cause.name());
 }
 
 /// What ends a line: the name of a cause.
-fn put_cause<O: Output>(out: &mut Buffered<'_, O>, name: &str) -> Result<(), DeviceFault>
-    ensures { Puts O.written O.failures out.old out.new result (cause_end name.now) }
+fn put_cause<O: Output>(sink: &mut Sink, out: &mut O, name: &str)
+    ensures { Puts O.written O.failures out.old out.new sink.old sink.new (cause_end name.now) }
 {
-    out.put(b" cause ")?;
-    out.put(name.as_bytes())?;
-    out.put(b"\n")?;
-    Ok(())
+    sink.put(out, b" cause ");
+    sink.put(out, name.as_bytes());
+    sink.put(out, b"\n");
 }
 
-fn put_byte<O: Output>(out: &mut Buffered<'_, O>, byte: u64) -> Result<(), DeviceFault>
-    ensures { Puts O.written O.failures out.old out.new result
+fn put_byte<O: Output>(sink: &mut Sink, out: &mut O, byte: u64)
+    ensures { Puts O.written O.failures out.old out.new sink.old sink.new
         (codes "byte " ++ decimal byte ++ codes " path ") }
 {
-    out.make_room(32)?;
-    out.held.push(b"byte ");
-    out.held.push_decimal(byte);
-    out.held.push(b" path ");
-    Ok(())
+    sink.make_room(out, 32);
+    sink.held.push(b"byte ");
+    sink.held.push_decimal(byte);
+    sink.held.push(b" path ");
 }
 
 /// The steps joined by dots, or `-` where there are none.
-fn put_path<O: Output>(out: &mut Buffered<'_, O>, path: &[PathStep]) -> Result<(), DeviceFault>
-    ensures { Puts O.written O.failures out.old out.new result (path_text path.now) }
+fn put_path<O: Output>(sink: &mut Sink, out: &mut O, path: &[PathStep])
+    ensures { Puts O.written O.failures out.old out.new sink.old sink.new (path_text path.now) }
 {
     let Some((first, others)) = path.split_first() else {
-        out.put(b"-")?;
-        return Ok(());
+        sink.put(out, b"-");
+        return;
     };
-    put_step(out, b"", *first)?;
-    put_steps(out, others)?;
-    Ok(())
+    put_step(sink, out, b"", *first);
+    put_steps(sink, out, others);
 }
 
 /// Each step after a dot.
-fn put_steps<O: Output>(out: &mut Buffered<'_, O>, steps: &[PathStep]) -> Result<(), DeviceFault>
-    ensures { Puts O.written O.failures out.old out.new result (dotted steps.now) }
+fn put_steps<O: Output>(sink: &mut Sink, out: &mut O, steps: &[PathStep])
+    ensures { Puts O.written O.failures out.old out.new sink.old sink.new (dotted steps.now) }
 {
     for step in steps {
-        put_step(out, b".", *step)?;
+        if sink.has_failed() {
+            return;
+        }
+        put_step(sink, out, b".", *step);
     }
-    Ok(())
 }
 
-fn put_step<O: Output>(
-    out: &mut Buffered<'_, O>,
-    separator: &[u8],
-    step: PathStep,
-) -> Result<(), DeviceFault>
+fn put_step<O: Output>(sink: &mut Sink, out: &mut O, separator: &[u8], step: PathStep)
     requires { length separator.now ≤ 1 }
-    ensures { Puts O.written O.failures out.old out.new result
+    ensures { Puts O.written O.failures out.old out.new sink.old sink.new
         (separator.now ++ step_text step) }
 {
-    out.make_room(64)?;
-    out.held.push(separator);
-    out.held.push_decimal(u64::from(step.number));
-    out.held.push(b"[");
-    out.held.push_decimal(u64::from(step.occurrence));
-    out.held.push(b"]");
-    Ok(())
+    sink.make_room(out, 64);
+    sink.held.push(separator);
+    sink.held.push_decimal(u64::from(step.number));
+    sink.held.push(b"[");
+    sink.held.push_decimal(u64::from(step.occurrence));
+    sink.held.push(b"]");
 }
 
-fn put_device<O: Output>(out: &mut Buffered<'_, O>, path: &str) -> Result<(), DeviceFault>
-    ensures { Puts O.written O.failures out.old out.new result (device_line path.now) }
+fn put_device<O: Output>(sink: &mut Sink, out: &mut O, path: &str)
+    ensures { Puts O.written O.failures out.old out.new sink.old sink.new (device_line path.now) }
 {
-    out.put(b"device ")?;
-    out.put(path.as_bytes())?;
-    out.put(b"\n")?;
-    Ok(())
+    sink.put(out, b"device ");
+    sink.put(out, path.as_bytes());
+    sink.put(out, b"\n");
 }

@@ -4,8 +4,6 @@ pub mod SizeLemmas
 pub mod MeasureLemmas
 -- for the table of a plan: it has a length for each part
 pub mod PartsLemmas
--- for the buffer: bytes that go out through it, part by part
-pub mod SinkLemmas
 -- for the loops that put records and elements
 pub mod PutLemmas
 -- for writing by the table: what goes out, part by part

@@ -21,10 +21,11 @@ use Rattle.pb_value.specs.declared.body.Body.{Body}
 use Rattle.pb_encode.specs.Sizes.{is_plain, plain_payload, entry_records, lengths_by_field, lengths_in_datum, lengths_in_message, lengths_in_each, lengths_in_entries, lengths_in_holding, lengths_in_fields}
 use Rattle.std.specs.Io.KnownBytes.{Appends}
 use Rattle.std.proofs.KnownBytes.{Appends-nil}
-use Rattle.pb_encode.specs.Sink.{Buffered, IsRest, Carries, Puts}
+use Rattle.pb_output.specs.declared.sink.Sink.{Sink}
+use Rattle.pb_output.specs.Sink.{IsRest, Carries, Puts}
 use Rattle.pb_encode.specs.Writing.{Writes}
 use Rattle.pb_encode.proofs.MeasureLemmas.{shortest_records-append, plain_parts}
-use Rattle.pb_encode.proofs.SinkLemmas.{puts_then, puts_lost}
+use Rattle.pb_output.proofs.SinkLemmas.{puts_then, puts_lost}
 use Rattle.pb_encode.proofs.PutLemmas.{ToPut, to_put_start, to_put_more, to_put_done, to_put_lost}
 
 -- a length in the table, and the lengths behind it
@@ -32,7 +33,7 @@ pub next_at : (xs : List ℕ) (i n : ℕ) (more : List ℕ) → i < length xs �
 next_at xs i n more h e = let f : get_or xs i 0 ∷ drop (i + 1) xs ≡ n ∷ more = sym (drop_more xs i 0 h) ∙ e in (cc, cc)
 
 -- of a whole some was written, and these bytes are left, with these lengths in the table
-pub record ToWrite {D : Type 0} (written : D → Option (List ℕ)) (failures : D → ℕ) (start now : D) (a b : Buffered) (table : List ℕ) (at next : ℕ) (rest all rest_inside all_inside : List ℕ) : Type 0 where
+pub record ToWrite {D : Type 0} (written : D → Option (List ℕ)) (failures : D → ℕ) (start now : D) (a b : Sink) (table : List ℕ) (at next : ℕ) (rest all rest_inside all_inside : List ℕ) : Type 0 where
   pub left : (more : List ℕ) → drop at table ≡ all_inside ++ more → ToPut written failures start now a b rest all × (b.failed ≡ false → drop next table ≡ rest_inside ++ more)
 
 -- a value that is no message
@@ -48,11 +49,11 @@ plain_kind _ b h g = refl
 module _ {D : Type 0} {written : D → Option (List ℕ)} {failures : D → ℕ} where
   -- PARTS WITH LENGTHS
 
-  pub to_write_start : {d : D} {a : Buffered} (table : List ℕ) (at : ℕ) (all inside : List ℕ) → ToWrite written failures d d a a table at at all all inside inside
+  pub to_write_start : {d : D} {a : Sink} (table : List ℕ) (at : ℕ) (all inside : List ℕ) → ToWrite written failures d d a a table at at all all inside inside
   to_write_start table at all inside = record { left = λ more e. (to_put_start all, λ open_. e) }
 
   pub to_write_more :
-      {d0 d1 d2 : D} {a b c : Buffered} {table : List ℕ} {at next after : ℕ} {rest all rest_inside all_inside : List ℕ} (xs ys bs cs : List ℕ) → ToWrite written failures d0 d1 a b table at next rest all rest_inside all_inside → b.failed ≡ false
+      {d0 d1 d2 : D} {a b c : Sink} {table : List ℕ} {at next after : ℕ} {rest all rest_inside all_inside : List ℕ} (xs ys bs cs : List ℕ) → ToWrite written failures d0 d1 a b table at next rest all rest_inside all_inside → b.failed ≡ false
       → rest ≡ bs ++ cs → rest_inside ≡ xs ++ ys → Writes written failures d1 d2 b c table next after xs bs → ToWrite written failures d0 d2 a c table at after cs all ys all_inside
   to_write_more xs ys bs cs h open_ e f w = record {
     left = λ more q.
@@ -63,39 +64,39 @@ module _ {D : Type 0} {written : D → Option (List ℕ)} {failures : D → ℕ}
 
   -- a part that is no field adds nothing
   pub to_write_same :
-      {d0 d1 : D} {a b : Buffered} {table : List ℕ} {at next : ℕ} {rest all rest_inside all_inside cs ys : List ℕ} → ToWrite written failures d0 d1 a b table at next rest all rest_inside all_inside → rest ≡ cs → rest_inside ≡ ys
+      {d0 d1 : D} {a b : Sink} {table : List ℕ} {at next : ℕ} {rest all rest_inside all_inside cs ys : List ℕ} → ToWrite written failures d0 d1 a b table at next rest all rest_inside all_inside → rest ≡ cs → rest_inside ≡ ys
       → ToWrite written failures d0 d1 a b table at next cs all ys all_inside
   to_write_same {d0} {d1} {a} {b} {table} {at} {next} {rest} {all} {rest_inside} {all_inside} {cs} {ys} h e f =
       subst (λ (l : List ℕ). ToWrite written failures d0 d1 a b table at next l all ys all_inside) e (subst (λ (l : List ℕ). ToWrite written failures d0 d1 a b table at next rest all l all_inside) f h)
 
   pub to_write_done :
-      {d0 d1 : D} {a b : Buffered} {table : List ℕ} {at next : ℕ} {rest all rest_inside all_inside : List ℕ} → ToWrite written failures d0 d1 a b table at next rest all rest_inside all_inside → rest ≡ [] → rest_inside ≡ []
+      {d0 d1 : D} {a b : Sink} {table : List ℕ} {at next : ℕ} {rest all rest_inside all_inside : List ℕ} → ToWrite written failures d0 d1 a b table at next rest all rest_inside all_inside → rest ≡ [] → rest_inside ≡ []
       → Writes written failures d0 d1 a b table at next all_inside all
   to_write_done h e f = record { follows = λ more q. let before = h.left more q in (to_put_done before.0 e, λ open_. before.1 open_ ∙ ap (λ (l : List ℕ). l ++ more) f) }
 
   -- after a failure the rest is lost
   pub to_write_lost :
-      {d0 d1 : D} {a b : Buffered} {table : List ℕ} {at next : ℕ} {rest all rest_inside all_inside : List ℕ} → ToWrite written failures d0 d1 a b table at next rest all rest_inside all_inside → b.failed ≡ true
+      {d0 d1 : D} {a b : Sink} {table : List ℕ} {at next : ℕ} {rest all rest_inside all_inside : List ℕ} → ToWrite written failures d0 d1 a b table at next rest all rest_inside all_inside → b.failed ≡ true
       → Writes written failures d0 d1 a b table at next all_inside all
   to_write_lost h broken = record { follows = λ more q. (to_put_lost (h.left more q).0 broken, λ open_. absurd (cc)) }
 
   -- bytes that hold no part with a length
-  pub writes_plain : {d0 d1 : D} {a b : Buffered} {table : List ℕ} {at : ℕ} {bytes : List ℕ} → Puts written failures d0 d1 a b bytes → Writes written failures d0 d1 a b table at at [] bytes
+  pub writes_plain : {d0 d1 : D} {a b : Sink} {table : List ℕ} {at : ℕ} {bytes : List ℕ} → Puts written failures d0 d1 a b bytes → Writes written failures d0 d1 a b table at at [] bytes
   writes_plain p = record { follows = λ more q. (p, λ open_. q) }
 
   pub writes_same :
-      {d0 d1 : D} {a b : Buffered} {table : List ℕ} {at next : ℕ} {inside xs bytes cs : List ℕ} → inside ≡ xs → bytes ≡ cs → Writes written failures d0 d1 a b table at next inside bytes → Writes written failures d0 d1 a b table at next xs cs
+      {d0 d1 : D} {a b : Sink} {table : List ℕ} {at next : ℕ} {inside xs bytes cs : List ℕ} → inside ≡ xs → bytes ≡ cs → Writes written failures d0 d1 a b table at next inside bytes → Writes written failures d0 d1 a b table at next xs cs
   writes_same {d0} {d1} {a} {b} {table} {at} {next} {inside} {xs} {bytes} {cs} e f w =
       subst (λ (l : List ℕ). Writes written failures d0 d1 a b table at next l cs) e (subst (λ (l : List ℕ). Writes written failures d0 d1 a b table at next inside l) f w)
 
   -- bytes before a part
   pub writes_after :
-      {d0 d1 d2 : D} {a b c : Buffered} {table : List ℕ} {at next : ℕ} {inside bs cs : List ℕ} → Puts written failures d0 d1 a b bs → Writes written failures d1 d2 b c table at next inside cs → Writes written failures d0 d2 a c table at next inside (bs ++ cs)
+      {d0 d1 d2 : D} {a b c : Sink} {table : List ℕ} {at next : ℕ} {inside bs cs : List ℕ} → Puts written failures d0 d1 a b bs → Writes written failures d1 d2 b c table at next inside cs → Writes written failures d0 d2 a c table at next inside (bs ++ cs)
   writes_after p w = record { follows = λ more q. let one = w.follows more q in (puts_then p one.0, one.1) }
 
   -- a part behind its length
   pub writes_sealed :
-      {d0 d1 d2 : D} {a b c : Buffered} {table : List ℕ} {at inside_at next : ℕ} {inside : List ℕ} (number size : ℕ) (s : List ℕ)
+      {d0 d1 d2 : D} {a b c : Sink} {table : List ℕ} {at inside_at next : ℕ} {inside : List ℕ} (number size : ℕ) (s : List ℕ)
       → ((n : ℕ) (more : List ℕ) → drop at table ≡ n ∷ more → (size ≡ n) × (drop inside_at table ≡ more)) → Puts written failures d0 d1 a b (shortest (8 * number + 2) ++ shortest size)
       → Writes written failures d1 d2 b c table inside_at next inside s → Writes written failures d0 d2 a c table at next (length s ∷ inside) (shortest_record number (len s))
   writes_sealed {d0} {d1} {d2} {a} {b} {c} {table} {at} {inside_at} {next} {inside} number size s look p w = record {
@@ -107,7 +108,7 @@ module _ {D : Type 0} {written : D → Option (List ℕ)} {failures : D → ℕ}
 
   -- a message of a kind of messages
   pub writes_datum :
-      {d0 d1 : D} {a b : Buffered} {table : List ℕ} {at next : ℕ} (pool : Types) (k : Kind) (d : Datum) (v : Message) (id : MessageId) (number : ℕ) → d ≡ message v → k ≡ kind.Message id
+      {d0 d1 : D} {a b : Sink} {table : List ℕ} {at next : ℕ} (pool : Types) (k : Kind) (d : Datum) (v : Message) (id : MessageId) (number : ℕ) → d ≡ message v → k ≡ kind.Message id
       → Writes written failures d0 d1 a b table at next (length (canon_bytes pool id.0 v) ∷ lengths_in_message pool id.0 v) (shortest_record number (len (canon_bytes pool id.0 v)))
       → Writes written failures d0 d1 a b table at next (lengths_in_datum pool k d) (shortest_record number (payload_of pool k d))
   writes_datum {d0} {d1} {a} {b} {table} {at} {next} pool k d v id number is same h =
@@ -116,7 +117,7 @@ module _ {D : Type 0} {written : D → Option (List ℕ)} {failures : D → ℕ}
 
   -- a message between the tags of a group
   pub writes_group :
-      {d0 d1 d2 d3 : D} {a b c e : Buffered} {table : List ℕ} {at next : ℕ} (pool : Types) (k : Kind) (d : Datum) (v : Message) (id : MessageId) (number : ℕ) → d ≡ message v → k ≡ kind.Group id
+      {d0 d1 d2 d3 : D} {a b c e : Sink} {table : List ℕ} {at next : ℕ} (pool : Types) (k : Kind) (d : Datum) (v : Message) (id : MessageId) (number : ℕ) → d ≡ message v → k ≡ kind.Group id
       → Puts written failures d0 d1 a b (shortest (8 * number + 3)) → Writes written failures d1 d2 b c table at next (lengths_in_message pool id.0 v) (canon_bytes pool id.0 v) → c.failed ≡ false
       → Puts written failures d2 d3 c e (shortest (8 * number + 4)) → Writes written failures d0 d3 a e table at next (lengths_in_datum pool k d) (shortest_record number (payload_of pool k d))
   writes_group {d0} {d1} {d2} {d3} {a} {b} {c} {e} {table} {at} {next} pool k d v id number is same p w open_ q =
@@ -125,7 +126,7 @@ module _ {D : Type 0} {written : D → Option (List ℕ)} {failures : D → ℕ}
       record { follows = λ more f. let one = w.follows more f in (puts_then (puts_then p one.0) q, λ still. one.1 open_) })
 
   pub writes_group_lost :
-      {d0 d1 d2 : D} {a b c : Buffered} {table : List ℕ} {at next : ℕ} (pool : Types) (k : Kind) (d : Datum) (v : Message) (id : MessageId) (number : ℕ) → d ≡ message v → k ≡ kind.Group id
+      {d0 d1 d2 : D} {a b c : Sink} {table : List ℕ} {at next : ℕ} (pool : Types) (k : Kind) (d : Datum) (v : Message) (id : MessageId) (number : ℕ) → d ≡ message v → k ≡ kind.Group id
       → Puts written failures d0 d1 a b (shortest (8 * number + 3)) → Writes written failures d1 d2 b c table at next (lengths_in_message pool id.0 v) (canon_bytes pool id.0 v) → c.failed ≡ true
       → Writes written failures d0 d2 a c table at next (lengths_in_datum pool k d) (shortest_record number (payload_of pool k d))
   writes_group_lost {d0} {d1} {d2} {a} {b} {c} {table} {at} {next} pool k d v id number is same p w broken =
@@ -135,7 +136,7 @@ module _ {D : Type 0} {written : D → Option (List ℕ)} {failures : D → ℕ}
 
   -- a message: its fields, and then its unknown records
   pub writes_message :
-      {d0 d1 d2 : D} {a b c : Buffered} {table : List ℕ} {at next : ℕ} (pool : Types) (m : ℕ) (fs : Fields) (us : List Record)
+      {d0 d1 d2 : D} {a b c : Sink} {table : List ℕ} {at next : ℕ} (pool : Types) (m : ℕ) (fs : Fields) (us : List Record)
       → Writes written failures d0 d1 a b table at next (lengths_in_fields pool (message_fields pool m) fs) (shortest_records (canon_fields pool (message_fields pool m) fs)) → b.failed ≡ false
       → Puts written failures d1 d2 b c (shortest_records us) → Writes written failures d0 d2 a c table at next (lengths_in_message pool m (body fs us)) (canon_bytes pool m (body fs us))
   writes_message {d0} {d1} {d2} {a} {b} {c} {table} {at} {next} pool m fs us w open_ p = record {
@@ -145,7 +146,7 @@ module _ {D : Type 0} {written : D → Option (List ℕ)} {failures : D → ℕ}
   }
 
   pub writes_message_lost :
-      {d0 d1 : D} {a b : Buffered} {table : List ℕ} {at next : ℕ} (pool : Types) (m : ℕ) (fs : Fields) (us : List Record)
+      {d0 d1 : D} {a b : Sink} {table : List ℕ} {at next : ℕ} (pool : Types) (m : ℕ) (fs : Fields) (us : List Record)
       → Writes written failures d0 d1 a b table at next (lengths_in_fields pool (message_fields pool m) fs) (shortest_records (canon_fields pool (message_fields pool m) fs)) → b.failed ≡ true
       → Writes written failures d0 d1 a b table at next (lengths_in_message pool m (body fs us)) (canon_bytes pool m (body fs us))
   writes_message_lost {d0} {d1} {a} {b} pool m fs us w broken = record {
@@ -157,7 +158,7 @@ module _ {D : Type 0} {written : D → Option (List ℕ)} {failures : D → ℕ}
   -- FIELDS
 
   pub write_fields_step :
-      {d0 d1 d2 : D} {a b c : Buffered} {table : List ℕ} {at next after_at : ℕ} (pool : Types) (all : List FieldView) (whole before after : List (ℕ × Content)) (n : ℕ) (h : Content) (f : FieldView) → before ≡ (n, h) ∷ after
+      {d0 d1 d2 : D} {a b c : Sink} {table : List ℕ} {at next after_at : ℕ} (pool : Types) (all : List FieldView) (whole before after : List (ℕ × Content)) (n : ℕ) (h : Content) (f : FieldView) → before ≡ (n, h) ∷ after
       → field_numbered n all ≡ Some f → b.failed ≡ false → Writes written failures d1 d2 b c table next after_at (lengths_in_holding pool f (content_view h)) (shortest_records (canon_holding pool f (content_view h)))
       → ToWrite written failures d0 d1 a b table at next (shortest_records (canon_fields pool all (fields_view before))) (shortest_records (canon_fields pool all (fields_view whole))) (lengths_in_fields pool all (fields_view before)) (lengths_in_fields pool all (fields_view whole))
       → ToWrite written failures d0 d2 a c table at after_at (shortest_records (canon_fields pool all (fields_view after))) (shortest_records (canon_fields pool all (fields_view whole))) (lengths_in_fields pool all (fields_view after)) (lengths_in_fields pool all (fields_view whole))
@@ -171,7 +172,7 @@ module _ {D : Type 0} {written : D → Option (List ℕ)} {failures : D → ℕ}
       w
 
   pub write_fields_skip :
-      {d0 d1 : D} {a b : Buffered} {table : List ℕ} {at next : ℕ} (pool : Types) (all : List FieldView) (whole before after : List (ℕ × Content)) (n : ℕ) (h : Content) → before ≡ (n, h) ∷ after → field_numbered n all ≡ None
+      {d0 d1 : D} {a b : Sink} {table : List ℕ} {at next : ℕ} (pool : Types) (all : List FieldView) (whole before after : List (ℕ × Content)) (n : ℕ) (h : Content) → before ≡ (n, h) ∷ after → field_numbered n all ≡ None
       → ToWrite written failures d0 d1 a b table at next (shortest_records (canon_fields pool all (fields_view before))) (shortest_records (canon_fields pool all (fields_view whole))) (lengths_in_fields pool all (fields_view before)) (lengths_in_fields pool all (fields_view whole))
       → ToWrite written failures d0 d1 a b table at next (shortest_records (canon_fields pool all (fields_view after))) (shortest_records (canon_fields pool all (fields_view whole))) (lengths_in_fields pool all (fields_view after)) (lengths_in_fields pool all (fields_view whole))
   write_fields_skip pool all whole before after n h split none s =
@@ -182,13 +183,13 @@ module _ {D : Type 0} {written : D → Option (List ℕ)} {failures : D → ℕ}
       ∙ ap (λ (o : Option FieldView). lengths_by_field o (λ (g : FieldView). lengths_in_holding pool g (content_view h)) ++ lengths_in_fields pool all (fields_view after)) none)
 
   pub write_fields_start :
-      {d : D} {a : Buffered} {table : List ℕ} {at : ℕ} (pool : Types) (all : List FieldView) (whole before : List (ℕ × Content)) → before ≡ whole
+      {d : D} {a : Sink} {table : List ℕ} {at : ℕ} (pool : Types) (all : List FieldView) (whole before : List (ℕ × Content)) → before ≡ whole
       → ToWrite written failures d d a a table at at (shortest_records (canon_fields pool all (fields_view before))) (shortest_records (canon_fields pool all (fields_view whole))) (lengths_in_fields pool all (fields_view before)) (lengths_in_fields pool all (fields_view whole))
   write_fields_start pool all whole before e =
       to_write_same (to_write_start _ _ _ _) (ap (λ (fs : List (ℕ × Content)). shortest_records (canon_fields pool all (fields_view fs))) (sym e)) (ap (λ (fs : List (ℕ × Content)). lengths_in_fields pool all (fields_view fs)) (sym e))
 
   pub write_fields_end :
-      {d0 d1 : D} {a b : Buffered} {table : List ℕ} {at next : ℕ} {whole whole_inside : List ℕ} (pool : Types) (all : List FieldView) (left : List (ℕ × Content)) → left ≡ []
+      {d0 d1 : D} {a b : Sink} {table : List ℕ} {at next : ℕ} {whole whole_inside : List ℕ} (pool : Types) (all : List FieldView) (left : List (ℕ × Content)) → left ≡ []
       → ToWrite written failures d0 d1 a b table at next (shortest_records (canon_fields pool all (fields_view left))) whole (lengths_in_fields pool all (fields_view left)) whole_inside → Writes written failures d0 d1 a b table at next whole_inside whole
   write_fields_end pool all left e s =
       to_write_done s (ap (λ (fs : List (ℕ × Content)). shortest_records (canon_fields pool all (fields_view fs))) e) (ap (λ (fs : List (ℕ × Content)). lengths_in_fields pool all (fields_view fs)) e)
@@ -196,13 +197,13 @@ module _ {D : Type 0} {written : D → Option (List ℕ)} {failures : D → ℕ}
   -- ENTRIES
 
   pub write_entries_start :
-      {d : D} {a : Buffered} {table : List ℕ} {at : ℕ} (pool : Types) (f : FieldView) (whole before : List (MapKey × Value)) → before ≡ whole
+      {d : D} {a : Sink} {table : List ℕ} {at : ℕ} (pool : Types) (f : FieldView) (whole before : List (MapKey × Value)) → before ≡ whole
       → ToWrite written failures d d a a table at at (shortest_records (canon_entries pool f (entries_view before))) (shortest_records (canon_entries pool f (entries_view whole))) (lengths_in_entries pool f (entries_view before)) (lengths_in_entries pool f (entries_view whole))
   write_entries_start pool f whole before e =
       to_write_same (to_write_start _ _ _ _) (ap (λ (es : List (MapKey × Value)). shortest_records (canon_entries pool f (entries_view es))) (sym e)) (ap (λ (es : List (MapKey × Value)). lengths_in_entries pool f (entries_view es)) (sym e))
 
   pub write_entries_step :
-      {d0 d1 d2 : D} {a b c : Buffered} {table : List ℕ} {at next after_at : ℕ} {whole whole_inside : List ℕ} (pool : Types) (f : FieldView) (before after : List (MapKey × Value)) (k : MapKey) (v : Value) → before ≡ (k, v) ∷ after
+      {d0 d1 d2 : D} {a b c : Sink} {table : List ℕ} {at next after_at : ℕ} {whole whole_inside : List ℕ} (pool : Types) (f : FieldView) (before after : List (MapKey × Value)) (k : MapKey) (v : Value) → before ≡ (k, v) ∷ after
       → b.failed ≡ false
       → Writes written failures d1 d2 b c table next after_at (length (shortest_records (entry_records pool (key_kind f.shape f.kind) f.kind (key_view k) (value_view v))) ∷ lengths_in_datum pool f.kind (value_view v)) (shortest_record f.number (sealed (entry_records pool (key_kind f.shape f.kind) f.kind (key_view k) (value_view v))))
       → ToWrite written failures d0 d1 a b table at next (shortest_records (canon_entries pool f (entries_view before))) whole (lengths_in_entries pool f (entries_view before)) whole_inside
@@ -213,14 +214,14 @@ module _ {D : Type 0} {written : D → Option (List ℕ)} {failures : D → ℕ}
       (ap (λ (es : List (MapKey × Value)). shortest_records (canon_entries pool f (entries_view es))) split) (ap (λ (es : List (MapKey × Value)). lengths_in_entries pool f (entries_view es)) split) w
 
   pub write_entries_end :
-      {d0 d1 : D} {a b : Buffered} {table : List ℕ} {at next : ℕ} {whole whole_inside : List ℕ} (pool : Types) (f : FieldView) (left : List (MapKey × Value)) → left ≡ []
+      {d0 d1 : D} {a b : Sink} {table : List ℕ} {at next : ℕ} {whole whole_inside : List ℕ} (pool : Types) (f : FieldView) (left : List (MapKey × Value)) → left ≡ []
       → ToWrite written failures d0 d1 a b table at next (shortest_records (canon_entries pool f (entries_view left))) whole (lengths_in_entries pool f (entries_view left)) whole_inside → Writes written failures d0 d1 a b table at next whole_inside whole
   write_entries_end pool f left e s =
       to_write_done s (ap (λ (es : List (MapKey × Value)). shortest_records (canon_entries pool f (entries_view es))) e) (ap (λ (es : List (MapKey × Value)). lengths_in_entries pool f (entries_view es)) e)
 
   -- an entry: its key and its value behind their length
   pub writes_entry :
-      {d0 d1 d2 d3 : D} {a b c e : Buffered} {table : List ℕ} {at inside_at next : ℕ} {inside : List ℕ} (number size : ℕ) (key value : Payload)
+      {d0 d1 d2 d3 : D} {a b c e : Sink} {table : List ℕ} {at inside_at next : ℕ} {inside : List ℕ} (number size : ℕ) (key value : Payload)
       → ((n : ℕ) (more : List ℕ) → drop at table ≡ n ∷ more → (size ≡ n) × (drop inside_at table ≡ more)) → Puts written failures d0 d1 a b (shortest (8 * number + 2) ++ shortest size) → Puts written failures d1 d2 b c (shortest_record 1 key)
       → Writes written failures d2 d3 c e table inside_at next inside (shortest_record 2 value)
       → Writes written failures d0 d3 a e table at next (length (shortest_records (record_of 1 key ∷ record_of 2 value ∷ [])) ∷ inside) (shortest_record number (sealed (record_of 1 key ∷ record_of 2 value ∷ [])))
@@ -231,7 +232,7 @@ module _ {D : Type 0} {written : D → Option (List ℕ)} {failures : D → ℕ}
   -- LISTS
 
   pub write_values_step :
-      {d0 d1 d2 : D} {a b c : Buffered} {table : List ℕ} {at next after_at : ℕ} {whole whole_inside : List ℕ} (pool : Types) (f : FieldView) (vs : List Value) (i : ℕ) (d : Value) → i < length vs → b.failed ≡ false
+      {d0 d1 d2 : D} {a b c : Sink} {table : List ℕ} {at next after_at : ℕ} {whole whole_inside : List ℕ} (pool : Types) (f : FieldView) (vs : List Value) (i : ℕ) (d : Value) → i < length vs → b.failed ≡ false
       → Writes written failures d1 d2 b c table next after_at (lengths_in_datum pool f.kind (value_view (get_or vs i d))) (shortest_record f.number (payload_of pool f.kind (value_view (get_or vs i d))))
       → ToWrite written failures d0 d1 a b table at next (shortest_records (canon_each pool f (values_view (drop i vs)))) whole (lengths_in_each pool f.kind (values_view (drop i vs))) whole_inside
       → ToWrite written failures d0 d2 a c table at after_at (shortest_records (canon_each pool f (values_view (drop (i + 1) vs)))) whole (lengths_in_each pool f.kind (values_view (drop (i + 1) vs))) whole_inside
@@ -240,13 +241,13 @@ module _ {D : Type 0} {written : D → Option (List ℕ)} {failures : D → ℕ}
       (ap (λ (ws : List Value). shortest_records (canon_each pool f (values_view ws))) (drop_more vs i d h)) (ap (λ (ws : List Value). lengths_in_each pool f.kind (values_view ws)) (drop_more vs i d h)) w
 
   pub write_values_end :
-      {d0 d1 : D} {a b : Buffered} {table : List ℕ} {at next : ℕ} {whole whole_inside : List ℕ} (pool : Types) (f : FieldView) (vs : List Value) (i : ℕ) → length vs ≤ i
+      {d0 d1 : D} {a b : Sink} {table : List ℕ} {at next : ℕ} {whole whole_inside : List ℕ} (pool : Types) (f : FieldView) (vs : List Value) (i : ℕ) → length vs ≤ i
       → ToWrite written failures d0 d1 a b table at next (shortest_records (canon_each pool f (values_view (drop i vs)))) whole (lengths_in_each pool f.kind (values_view (drop i vs))) whole_inside → Writes written failures d0 d1 a b table at next whole_inside whole
   write_values_end pool f vs i h s =
       to_write_done s (ap (λ (ws : List Value). shortest_records (canon_each pool f (values_view ws))) (drop_of_length-le vs h)) (ap (λ (ws : List Value). lengths_in_each pool f.kind (values_view ws)) (drop_of_length-le vs h))
 
   pub writes_packed :
-      {d0 d1 : D} {a b : Buffered} {table : List ℕ} {at next : ℕ} (pool : Types) (f : FieldView) (ds : Datums) → is_packed f.shape ≡ true
+      {d0 d1 : D} {a b : Sink} {table : List ℕ} {at next : ℕ} (pool : Types) (f : FieldView) (ds : Datums) → is_packed f.shape ≡ true
       → Writes written failures d0 d1 a b table at next (length (packed_bytes f.kind ds) ∷ []) (shortest_record f.number (len (packed_bytes f.kind ds)))
       → Writes written failures d0 d1 a b table at next (lengths_in_holding pool f (list ds)) (shortest_records (canon_holding pool f (list ds)))
   writes_packed pool f ds e h =
@@ -254,7 +255,7 @@ module _ {D : Type 0} {written : D → Option (List ℕ)} {failures : D → ℕ}
       (sym (append-nil (shortest_record f.number (len (packed_bytes f.kind ds)))) ∙ ap (λ (p : Bool). shortest_records (if p then record_of f.number (len (packed_bytes f.kind ds)) ∷ [] else canon_each pool f ds)) (sym e)) h
 
   pub writes_unpacked :
-      {d0 d1 : D} {a b : Buffered} {table : List ℕ} {at next : ℕ} (pool : Types) (f : FieldView) (ds : Datums) → is_packed f.shape ≡ false
+      {d0 d1 : D} {a b : Sink} {table : List ℕ} {at next : ℕ} (pool : Types) (f : FieldView) (ds : Datums) → is_packed f.shape ≡ false
       → Writes written failures d0 d1 a b table at next (lengths_in_each pool f.kind ds) (shortest_records (canon_each pool f ds))
       → Writes written failures d0 d1 a b table at next (lengths_in_holding pool f (list ds)) (shortest_records (canon_holding pool f (list ds)))
   writes_unpacked pool f ds e h =
@@ -263,33 +264,33 @@ module _ {D : Type 0} {written : D → Option (List ℕ)} {failures : D → ℕ}
 
   -- one value that holds no part with a length
   pub writes_scalar :
-      {d0 d1 : D} {a b : Buffered} {table : List ℕ} {at : ℕ} (pool : Types) (k : Kind) (d : Datum) (number : ℕ) (p : Payload) → is_plain k d ≡ true → p ≡ plain_payload k d → Puts written failures d0 d1 a b (shortest_record number p)
+      {d0 d1 : D} {a b : Sink} {table : List ℕ} {at : ℕ} (pool : Types) (k : Kind) (d : Datum) (number : ℕ) (p : Payload) → is_plain k d ≡ true → p ≡ plain_payload k d → Puts written failures d0 d1 a b (shortest_record number p)
       → Writes written failures d0 d1 a b table at at (lengths_in_datum pool k d) (shortest_record number (payload_of pool k d))
   writes_scalar pool k d number p plain e h =
       let parts = plain_parts pool k d plain in writes_same (sym parts.1) (ap (shortest_record number) (e ∙ sym parts.0)) (writes_plain h)
 
   -- a whole message, by its own table
-  pub written_whole : {d0 d1 : D} {a b : Buffered} {table : List ℕ} {next : ℕ} (inside bytes : List ℕ) → table ≡ inside → Writes written failures d0 d1 a b table 0 next inside bytes → Puts written failures d0 d1 a b bytes
+  pub written_whole : {d0 d1 : D} {a b : Sink} {table : List ℕ} {next : ℕ} (inside bytes : List ℕ) → table ≡ inside → Writes written failures d0 d1 a b table 0 next inside bytes → Puts written failures d0 d1 a b bytes
   written_whole inside bytes e w = (w.follows [] (e ∙ sym (append-nil inside))).0
 
   -- A WHOLE TEXT
 
   -- all that a new buffer was told, with nothing left in it
   pub carries_whole :
-      {d0 d1 d2 : D} {b c : Buffered} (a : Buffered) (bytes : List ℕ) → a ≡ record { held = []; sent = 0; failed = false } → Puts written failures d0 d1 a b bytes → Puts written failures d1 d2 b c [] → Carries written failures d0 d2 c bytes
+      {d0 d1 d2 : D} {b c : Sink} (a : Sink) (bytes : List ℕ) → a ≡ record { held = []; sent = 0; failed = false } → Puts written failures d0 d1 a b bytes → Puts written failures d1 d2 b c [] → Carries written failures d0 d2 c bytes
   carries_whole {d0} {d1} {d2} {b} {c} a bytes e p q =
       let none : Carries written failures d0 d0 record { held = []; sent = 0; failed = false } [] = record { front = []; rest = []; whole = refl; went_out = Appends-nil (written d0); counted = λ small. refl; state = (refl, refl) } in
-      subst (Carries written failures d0 d2 c) (append-nil bytes) (q.follow d0 bytes (p.follow d0 [] (subst (λ (x : Buffered). Carries written failures d0 d0 x []) (sym e) none)))
+      subst (Carries written failures d0 d2 c) (append-nil bytes) (q.follow d0 bytes (p.follow d0 [] (subst (λ (x : Sink). Carries written failures d0 d0 x []) (sym e) none)))
 
   -- with no failure, all of it went out
-  pub carries_all : {d0 d1 : D} {b : Buffered} (bytes : List ℕ) → Carries written failures d0 d1 b bytes → (b.failed ≡ false → b.held ≡ []) → b.failed ≡ false → Appends (written d0) (written d1) bytes × (failures d1 ≡ failures d0)
+  pub carries_all : {d0 d1 : D} {b : Sink} (bytes : List ℕ) → Carries written failures d0 d1 b bytes → (b.failed ≡ false → b.held ≡ []) → b.failed ≡ false → Appends (written d0) (written d1) bytes × (failures d1 ≡ failures d0)
   carries_all {d0} {d1} {b} bytes h empty open_ =
       let st : IsRest false (failures d0) (failures d1) b.held h.rest = subst (λ (f : Bool). IsRest f (failures d0) (failures d1) b.held h.rest) open_ h.state in
       (subst (Appends (written d0) (written d1)) (sym (append-nil h.front) ∙ ap (λ (l : List ℕ). h.front ++ l) (sym (st.1 ∙ empty open_)) ∙ sym h.whole) h.went_out, st.0)
 
   -- after a failure, the first of it, as many as are counted
   pub carries_part :
-      {d0 d1 : D} {b : Buffered} (bytes : List ℕ) (n : ℕ) → Carries written failures d0 d1 b bytes → length bytes < 2 ^ 31 → b.failed ≡ true → n ≡ b.sent
+      {d0 d1 : D} {b : Sink} (bytes : List ℕ) (n : ℕ) → Carries written failures d0 d1 b bytes → length bytes < 2 ^ 31 → b.failed ≡ true → n ≡ b.sent
       → (failures d1 ≢ failures d0) × (n < length bytes) × Appends (written d0) (written d1) (take n bytes)
   carries_part {d0} {d1} {b} bytes n h small broken e =
       let st : IsRest true (failures d0) (failures d1) b.held h.rest = subst (λ (f : Bool). IsRest f (failures d0) (failures d1) b.held h.rest) broken h.state in

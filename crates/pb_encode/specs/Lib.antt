@@ -3,6 +3,5 @@ pub mod Sizes
 pub mod Parts
 pub mod Measure
 pub mod Planned
-pub mod Sink
 pub mod Writing
 pub mod Encoding

@@ -26,7 +26,6 @@ mod plan;
 pub mod planning;
 mod putting;
 mod scalar;
-mod sink;
 mod sizes;
 mod vector;
 mod writing;

@@ -3,8 +3,8 @@
 use crate::error::EncodeError;
 use crate::lengths::Lengths;
 use crate::measure::message_len;
-use crate::sink::Sink;
 use crate::writing::write_message;
+use pb_output::Sink;
 use pb_schema::{MessageId, Pool};
 use pb_value::{Body, DynamicMessage};
 use pb_wire::Output;

@@ -16,7 +16,7 @@ ghost use Rattle.pb_encode.specs.Writing.{Writes};
 use crate::measure::{field_at, is_packed};
 use crate::putting::{put_elements, put_prefix, put_scalar, put_tag, put_unknowns};
 use crate::scalar::{key_kind, key_payload, scalar_payload};
-use crate::sink::Sink;
+use pb_output::Sink;
 use pb_schema::{Field, Kind, MessageId, Pool};
 use pb_value::{Body, Content, MapKey, Value};
 use pb_wire::Output;

@@ -1,10 +1,4 @@
 -- ---- texts that go out through the buffer
--- for each part that is put: bytes that go out, part by part
-pub mod SendingLemmas
--- for bytes in hexadecimal
-pub mod HexParts
--- for short numbers, digit by digit
-pub mod Digits
 -- for records that an iterator gives, put one after another
 pub mod Borrowing
 -- for the parts of a listing of records, and of a shortest spelling

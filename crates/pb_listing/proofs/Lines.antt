@@ -8,7 +8,7 @@ use Rattle.pb_wire.specs.Record as wire
 use Rattle.pb_wire.specs.Varint.{shortest}
 use Rattle.pb_wire.specs.Spell.{shortest_record, shortest_records}
 use Rattle.pb_listing.specs.RawListing.{indent, line, line_feed, record_lines, group_lines, shown_bytes}
-use Rattle.pb_listing.proofs.HexParts.{encode_lower-append}
+use Rattle.pb_output.proofs.HexParts.{encode_lower-append}
 
 pub shown_bytes-some : (xs : List ℕ) → false ≡ (length xs == 0) → shown_bytes xs ≡ codes " " ++ encode_lower xs
 shown_bytes-some [] some = cc

@@ -1,4 +1,3 @@
-pub mod Sending
 pub mod RawListing
 pub mod Listing
 pub mod Label

@@ -12,10 +12,13 @@ ghost use Rattle.pb_listing.specs.Label.{key_text, label_text};
 ghost use Rattle.pb_listing.specs.Listing.{datum_lines, datum_text, each_lines, entries_lines, fields_lines, holding_lines};
 ghost use Rattle.pb_listing.specs.Listing.{listing, listing_at, message_lines, names_of_kind};
 ghost use Rattle.pb_listing.specs.RawListing.{indent, line};
-ghost use Rattle.pb_listing.specs.Sending.{Cut, Puts, Sent};
+ghost use Rattle.pb_output.specs.Sending.{Cut, Sent};
+ghost use Rattle.pb_output.specs.Sink.{Puts};
 
-use crate::buffered::Buffered;
-use crate::records::{DEEPEST, push_indent};
+use crate::records::{DEEPEST, push_indent, put_end};
+use crate::unknown::put_unknown;
+use crate::values::{put_key, put_scalar};
+use pb_output::Sink;
 use pb_schema::{Field, Kind, MessageId, Pool};
 use pb_value::{Body, Content, DynamicMessage, MapKey, Value};
 use pb_wire::{DeviceFault, Output};
@@ -37,262 +40,253 @@ pub fn write_message<O: Output>(
     ensures { MatchResult result (λ _. Sent O.written O.failures out.old out.new (listing message.now))
         (λ _. Cut O.written O.failures out.old out.new (listing message.now)) }
 {
-    let mut buffered = Buffered::new(out);
-    buffered.put_listing_at(0, message)?;
-    buffered.flush()?;
-    Ok(())
+    let mut sink = Sink::new();
+    put_listing_at(&mut sink, out, 0, message);
+    sink.finish(out)
 }
 
-impl<O: Output> Buffered<'_, O> {
-    /// The listing of a message, at the level of what is no frame's, or of what is.
-    pub fn put_listing_at(
-        &mut self,
-        level: usize,
-        message: &DynamicMessage<'_>,
-    ) -> Result<(), DeviceFault>
-        requires { level ≤ 1 }
-        ensures { Puts O.written O.failures self.old self.new result (listing_at level message.now) }
-    {
-        let body = message.body();
-        self.put_message(level, message.pool(), message.message_type(), body)?;
-        Ok(())
-    }
+/// The listing of a message, at the level of what is no frame's, or of what is.
+pub fn put_listing_at<O: Output>(
+    sink: &mut Sink,
+    out: &mut O,
+    level: usize,
+    message: &DynamicMessage<'_>,
+)
+    requires { level ≤ 1 }
+    ensures { Puts O.written O.failures out.old out.new sink.old sink.new (listing_at level message.now) }
+{
+    let body = message.body();
+    put_message(
+        sink,
+        out,
+        level,
+        message.pool(),
+        message.message_type(),
+        body,
+    );
+}
 
-    /// The lines of a message at a level.
-    #[cycle(lines)]
-    fn put_message(
-        &mut self,
-        level: usize,
-        pool: &Pool,
-        kind: MessageId,
-        body: &Body,
-    ) -> Result<(), DeviceFault>
-        requires low { level ≤ 101 }
-        requires within { kind.0 < length pool.now.messages }
-        ensures { level + message_depth (body_view body.now) ≤ 101
-            → Puts O.written O.failures self.old self.new result (message_lines pool.now level kind.0 (body_view body.now)) }
-    {
-        self.put_fields(level, pool, kind, &body.fields)?;
-        self.put_unknown(level, &body.unknown)?;
-        Ok(())
-    }
+/// The lines of a message at a level.
+#[cycle(lines)]
+fn put_message<O: Output>(
+    sink: &mut Sink,
+    out: &mut O,
+    level: usize,
+    pool: &Pool,
+    kind: MessageId,
+    body: &Body,
+)
+    requires low { level ≤ 101 }
+    requires within { kind.0 < length pool.now.messages }
+    ensures { level + message_depth (body_view body.now) ≤ 101
+        → Puts O.written O.failures out.old out.new sink.old sink.new (message_lines pool.now level kind.0 (body_view body.now)) }
+{
+    put_fields(sink, out, level, pool, kind, &body.fields);
+    put_unknown(sink, out, level, &body.unknown);
+}
 
-    #[cycle(lines)]
-    fn put_fields(
-        &mut self,
-        level: usize,
-        pool: &Pool,
-        kind: MessageId,
-        fields: &BTreeMap<u32, Content>,
-    ) -> Result<(), DeviceFault>
-        requires low { level ≤ 101 }
-        requires within { kind.0 < length pool.now.messages }
-        ensures { level + fields_depth (fields_view fields.now.entries) ≤ 101
-            → Puts O.written O.failures self.old self.new result
-            (fields_lines pool.now level (message_fields pool.now kind.0) (fields_view fields.now.entries)) }
-    {
-        for (number, content) in fields {
-            if let Some(field) = pool.field_by_number(kind, *number) {
-                self.put_content(level, pool, field, content)?;
-            }
+#[cycle(lines)]
+fn put_fields<O: Output>(
+    sink: &mut Sink,
+    out: &mut O,
+    level: usize,
+    pool: &Pool,
+    kind: MessageId,
+    fields: &BTreeMap<u32, Content>,
+)
+    requires low { level ≤ 101 }
+    requires within { kind.0 < length pool.now.messages }
+    ensures { level + fields_depth (fields_view fields.now.entries) ≤ 101
+        → Puts O.written O.failures out.old out.new sink.old sink.new
+        (fields_lines pool.now level (message_fields pool.now kind.0) (fields_view fields.now.entries)) }
+{
+    for (number, content) in fields {
+        if sink.has_failed() {
+            return;
         }
-        Ok(())
-    }
-
-    #[cycle(lines)]
-    fn put_content(
-        &mut self,
-        level: usize,
-        pool: &Pool,
-        field: &Field,
-        content: &Content,
-    ) -> Result<(), DeviceFault>
-        requires low { level ≤ 101 }
-        requires kind { NamesType (length pool.now.messages) (length pool.now.enums) field.now.kind }
-        ensures { level + holding_depth (content_view content.now) ≤ 101
-            → Puts O.written O.failures self.old self.new result
-            (holding_lines pool.now level (field_view field.now) (content_view content.now)) }
-    {
-        let name = field.name.as_str();
-        match content {
-            Content::One(value) => {
-                let label = Label { name, key: None };
-                self.put_value(level, pool, field.kind, label, value)?;
-            }
-            Content::List(values) => self.put_values(level, pool, field.kind, name, values)?,
-            Content::Map(entries) => self.put_entries(level, pool, field.kind, name, entries)?,
+        if let Some(field) = pool.field_by_number(kind, *number) {
+            put_content(sink, out, level, pool, field, content);
         }
-        Ok(())
     }
+}
 
-    /// The elements of a list.
-    #[cycle(lines)]
-    fn put_values(
-        &mut self,
-        level: usize,
-        pool: &Pool,
-        kind: Kind,
-        name: &str,
-        values: &Vec<Value>,
-    ) -> Result<(), DeviceFault>
-        requires low { level ≤ 101 }
-        requires kind { NamesType (length pool.now.messages) (length pool.now.enums) kind }
-        ensures { level + datums_depth (values_view values.now.items) ≤ 101
-            → Puts O.written O.failures self.old self.new result
-            (each_lines pool.now level kind name.now (values_view values.now.items)) }
-    {
-        for value in values {
+#[cycle(lines)]
+fn put_content<O: Output>(
+    sink: &mut Sink,
+    out: &mut O,
+    level: usize,
+    pool: &Pool,
+    field: &Field,
+    content: &Content,
+)
+    requires low { level ≤ 101 }
+    requires kind { NamesType (length pool.now.messages) (length pool.now.enums) field.now.kind }
+    ensures { level + holding_depth (content_view content.now) ≤ 101
+        → Puts O.written O.failures out.old out.new sink.old sink.new
+        (holding_lines pool.now level (field_view field.now) (content_view content.now)) }
+{
+    let name = field.name.as_str();
+    match content {
+        Content::One(value) => {
             let label = Label { name, key: None };
-            self.put_value(level, pool, kind, label, value)?;
+            put_value(sink, out, level, pool, field.kind, label, value);
         }
-        Ok(())
+        Content::List(values) => put_values(sink, out, level, pool, field.kind, name, values),
+        Content::Map(entries) => put_entries(sink, out, level, pool, field.kind, name, entries),
     }
+}
 
-    /// The entries of a map.
-    #[cycle(lines)]
-    fn put_entries(
-        &mut self,
-        level: usize,
-        pool: &Pool,
-        kind: Kind,
-        name: &str,
-        entries: &BTreeMap<MapKey, Value>,
-    ) -> Result<(), DeviceFault>
-        requires low { level ≤ 101 }
-        requires kind { NamesType (length pool.now.messages) (length pool.now.enums) kind }
-        ensures { level + entries_depth (entries_view entries.now.entries) ≤ 101
-            → Puts O.written O.failures self.old self.new result
-            (entries_lines pool.now level kind name.now (entries_view entries.now.entries)) }
-    {
-        for (key, value) in entries {
-            let label = Label {
-                name,
-                key: Some(key),
-            };
-            self.put_value(level, pool, kind, label, value)?;
+/// The elements of a list.
+#[cycle(lines)]
+fn put_values<O: Output>(
+    sink: &mut Sink,
+    out: &mut O,
+    level: usize,
+    pool: &Pool,
+    kind: Kind,
+    name: &str,
+    values: &Vec<Value>,
+)
+    requires low { level ≤ 101 }
+    requires kind { NamesType (length pool.now.messages) (length pool.now.enums) kind }
+    ensures { level + datums_depth (values_view values.now.items) ≤ 101
+        → Puts O.written O.failures out.old out.new sink.old sink.new
+        (each_lines pool.now level kind name.now (values_view values.now.items)) }
+{
+    for value in values {
+        if sink.has_failed() {
+            return;
         }
-        Ok(())
+        let label = Label { name, key: None };
+        put_value(sink, out, level, pool, kind, label, value);
     }
+}
 
-    /// The lines of a value behind its label.
-    #[cycle(lines)]
-    fn put_value(
-        &mut self,
-        level: usize,
-        pool: &Pool,
-        kind: Kind,
-        label: Label<'_>,
-        value: &Value,
-    ) -> Result<(), DeviceFault>
-        requires low { level ≤ 101 }
-        requires kind { NamesType (length pool.now.messages) (length pool.now.enums) kind }
-        ensures { level + levels_of (value_view value.now) ≤ 101
-            → Puts O.written O.failures self.old self.new result
-            (datum_lines pool.now level kind (label_text label.entry) (value_view value.now)) }
-    {
-        let Value::Message(body) = value else {
-            self.put_scalar_line(level, pool, kind, label, value)?;
-            return Ok(());
+/// The entries of a map.
+#[cycle(lines)]
+fn put_entries<O: Output>(
+    sink: &mut Sink,
+    out: &mut O,
+    level: usize,
+    pool: &Pool,
+    kind: Kind,
+    name: &str,
+    entries: &BTreeMap<MapKey, Value>,
+)
+    requires low { level ≤ 101 }
+    requires kind { NamesType (length pool.now.messages) (length pool.now.enums) kind }
+    ensures { level + entries_depth (entries_view entries.now.entries) ≤ 101
+        → Puts O.written O.failures out.old out.new sink.old sink.new
+        (entries_lines pool.now level kind name.now (entries_view entries.now.entries)) }
+{
+    for (key, value) in entries {
+        if sink.has_failed() {
+            return;
+        }
+        let label = Label {
+            name,
+            key: Some(key),
         };
-        self.put_start(level, label)?;
-        self.put_inside(level, pool, kind, body)?;
-        self.put_end(level)?;
-        Ok(())
+        put_value(sink, out, level, pool, kind, label, value);
     }
+}
 
-    /// The lines of a message of a kind, one level in.
-    #[cycle(lines)]
-    fn put_inside(
-        &mut self,
-        level: usize,
-        pool: &Pool,
-        kind: Kind,
-        body: &Body,
-    ) -> Result<(), DeviceFault>
-        requires low { level ≤ 101 }
-        requires kind { NamesType (length pool.now.messages) (length pool.now.enums) kind }
-        ensures { level + suc (message_depth (body_view body.now)) ≤ 101
-            → Puts O.written O.failures self.old self.new result
-            (option_map_or (λ m. message_lines pool.now (suc level) m (body_view body.now)) (message_of_kind kind) []) }
-    {
-        match kind {
-            // No message nests so deep.
-            Kind::Message(_) if level == DEEPEST => {}
-            Kind::Message(id) => self.put_message(level + 1, pool, id, body)?,
-            Kind::Group(_) if level == DEEPEST => {}
-            Kind::Group(id) => self.put_message(level + 1, pool, id, body)?,
-            Kind::Double
-            | Kind::Float
-            | Kind::Int64
-            | Kind::Uint64
-            | Kind::Int32
-            | Kind::Fixed64
-            | Kind::Fixed32
-            | Kind::Bool
-            | Kind::Text
-            | Kind::Bytes
-            | Kind::Uint32
-            | Kind::Sfixed32
-            | Kind::Sfixed64
-            | Kind::Sint32
-            | Kind::Sint64
-            | Kind::Enum(_)
-            | Kind::ClosedEnum(_) => {}
-        }
-        Ok(())
-    }
+/// The lines of a value behind its label.
+#[cycle(lines)]
+fn put_value<O: Output>(
+    sink: &mut Sink,
+    out: &mut O,
+    level: usize,
+    pool: &Pool,
+    kind: Kind,
+    label: Label<'_>,
+    value: &Value,
+)
+    requires low { level ≤ 101 }
+    requires kind { NamesType (length pool.now.messages) (length pool.now.enums) kind }
+    ensures { level + levels_of (value_view value.now) ≤ 101
+        → Puts O.written O.failures out.old out.new sink.old sink.new
+        (datum_lines pool.now level kind (label_text label.entry) (value_view value.now)) }
+{
+    let Value::Message(body) = value else {
+        put_scalar_line(sink, out, level, pool, kind, label, value);
+        return;
+    };
+    put_start(sink, out, level, label);
+    put_inside(sink, out, level, pool, kind, body);
+    put_end(sink, out, level);
+}
 
-    /// A line with a value that is no message.
-    fn put_scalar_line(
-        &mut self,
-        level: usize,
-        pool: &Pool,
-        kind: Kind,
-        label: Label<'_>,
-        value: &Value,
-    ) -> Result<(), DeviceFault>
-        requires low { level ≤ 101 }
-        requires kind { NamesType (length pool.now.messages) (length pool.now.enums) kind }
-        ensures { Puts O.written O.failures self.old self.new result
-            (line level (label_text label.entry ++ codes ": " ++ datum_text (names_of_kind pool.now kind) (value_view value.now))) }
-    {
-        self.put_label(level, label)?;
-        self.put(b": ")?;
-        self.put_scalar(pool, kind, value)?;
-        self.put(b"\n")?;
-        Ok(())
+/// The lines of a message of a kind, one level in.
+#[cycle(lines)]
+fn put_inside<O: Output>(
+    sink: &mut Sink,
+    out: &mut O,
+    level: usize,
+    pool: &Pool,
+    kind: Kind,
+    body: &Body,
+)
+    requires low { level ≤ 101 }
+    requires kind { NamesType (length pool.now.messages) (length pool.now.enums) kind }
+    ensures { level + suc (message_depth (body_view body.now)) ≤ 101
+        → Puts O.written O.failures out.old out.new sink.old sink.new
+        (option_map_or (λ m. message_lines pool.now (suc level) m (body_view body.now)) (message_of_kind kind) []) }
+{
+    let Some(id) = kind.message() else { return };
+    // No message nests so deep.
+    if level < DEEPEST {
+        put_message(sink, out, level + 1, pool, id, body);
     }
+}
 
-    /// The line before the lines of a message.
-    fn put_start(&mut self, level: usize, label: Label<'_>) -> Result<(), DeviceFault>
-        requires { level ≤ 101 }
-        ensures { Puts O.written O.failures self.old self.new result (line level (label_text label.entry ++ codes " {")) }
-    {
-        self.put_label(level, label)?;
-        self.put(b" {\n")?;
-        Ok(())
-    }
+/// A line with a value that is no message.
+fn put_scalar_line<O: Output>(
+    sink: &mut Sink,
+    out: &mut O,
+    level: usize,
+    pool: &Pool,
+    kind: Kind,
+    label: Label<'_>,
+    value: &Value,
+)
+    requires low { level ≤ 101 }
+    requires kind { NamesType (length pool.now.messages) (length pool.now.enums) kind }
+    ensures { Puts O.written O.failures out.old out.new sink.old sink.new
+        (line level (label_text label.entry ++ codes ": " ++ datum_text (names_of_kind pool.now kind) (value_view value.now))) }
+{
+    put_label(sink, out, level, label);
+    sink.put(out, b": ");
+    put_scalar(sink, out, pool, kind, value);
+    sink.put(out, b"\n");
+}
 
-    /// A label, indented.
-    fn put_label(&mut self, level: usize, label: Label<'_>) -> Result<(), DeviceFault>
-        requires { level ≤ 101 }
-        ensures { Puts O.written O.failures self.old self.new result (indent level ++ label_text label.entry) }
-    {
-        self.make_room(202)?;
-        push_indent(&mut self.held, level);
-        self.put(label.name.as_bytes())?;
-        self.put_bracketed(label.key)?;
-        Ok(())
-    }
+/// The line before the lines of a message.
+fn put_start<O: Output>(sink: &mut Sink, out: &mut O, level: usize, label: Label<'_>)
+    requires { level ≤ 101 }
+    ensures { Puts O.written O.failures out.old out.new sink.old sink.new (line level (label_text label.entry ++ codes " {")) }
+{
+    put_label(sink, out, level, label);
+    sink.put(out, b" {\n");
+}
 
-    /// A key between brackets, if there is one.
-    fn put_bracketed(&mut self, key: Option<&MapKey>) -> Result<(), DeviceFault>
-        ensures { Puts O.written O.failures self.old self.new result (key_text key.entry) }
-    {
-        let Some(key) = key else { return Ok(()) };
-        self.put(b"[")?;
-        self.put_key(key)?;
-        self.put(b"]")?;
-        Ok(())
-    }
+/// A label, indented.
+fn put_label<O: Output>(sink: &mut Sink, out: &mut O, level: usize, label: Label<'_>)
+    requires { level ≤ 101 }
+    ensures { Puts O.written O.failures out.old out.new sink.old sink.new (indent level ++ label_text label.entry) }
+{
+    sink.make_room(out, 202);
+    push_indent(&mut sink.held, level);
+    sink.put(out, label.name.as_bytes());
+    put_bracketed(sink, out, label.key);
+}
+
+/// A key between brackets, if there is one.
+fn put_bracketed<O: Output>(sink: &mut Sink, out: &mut O, key: Option<&MapKey>)
+    ensures { Puts O.written O.failures out.old out.new sink.old sink.new (key_text key.entry) }
+{
+    let Some(key) = key else { return };
+    sink.put(out, b"[");
+    put_key(sink, out, key);
+    sink.put(out, b"]");
 }

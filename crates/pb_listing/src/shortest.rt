@@ -11,9 +11,10 @@ ghost use Rattle.pb_wire.specs.Spell.{shortest_record, shortest_records};
 ghost use Rattle.pb_wire.specs.Varint.{shortest};
 ghost use Rattle.pb_listing.specs.RawListing.{line_feed};
 ghost use Rattle.pb_listing.specs.Borrowed.{IsBorrowed, limits_inside};
-ghost use Rattle.pb_listing.specs.Sending.{Cut, Puts, Sent};
+ghost use Rattle.pb_output.specs.Sending.{Cut, Sent};
+ghost use Rattle.pb_output.specs.Sink.{Puts};
 
-use crate::buffered::Buffered;
+use pb_output::Sink;
 use pb_wire::{DeviceFault, Limits, MAX_DEPTH, Output, Payload, RecordIter, put_varint};
 
 /// Writes the shortest spelling of the records that the bytes spell, as a line of hexadecimal. They are bytes that `judge_raw`
@@ -23,89 +24,80 @@ pub fn write_shortest<O: Output>(out: &mut O, bytes: &[u8]) -> Result<(), Device
         → MatchResult result (λ _. Sent O.written O.failures out.old out.new (encode_lower (shortest_records rs) ++ line_feed))
         (λ _. Cut O.written O.failures out.old out.new (encode_lower (shortest_records rs) ++ line_feed)) }
 {
-    let mut buffered = Buffered::new(out);
-    buffered.put_records(0, bytes)?;
-    buffered.put(b"\n")?;
-    buffered.flush()?;
-    Ok(())
+    let mut sink = Sink::new();
+    put_records(&mut sink, out, 0, bytes);
+    sink.put(out, b"\n");
+    sink.finish(out)
 }
 
-impl<O: Output> Buffered<'_, O> {
-    /// The records that the bytes spell, at a level of groups.
-    #[cycle(shortest)]
-    fn put_records(&mut self, level: u8, bytes: &[u8]) -> Result<(), DeviceFault>
-        requires { level ≤ 100 }
-        ensures { (rs : List Record) → IsText blank tt (limits_inside level) bytes.now rs
-            → Puts O.written O.failures self.old self.new result (encode_lower (shortest_records rs)) }
-    {
-        for item in RecordIter::new(bytes, Limits::FULL) {
-            let Ok((number, payload)) = item else { break };
-            self.put_record(level, number, payload)?;
+/// The records that the bytes spell, at a level of groups.
+#[cycle(shortest)]
+fn put_records<O: Output>(sink: &mut Sink, out: &mut O, level: u8, bytes: &[u8])
+    requires { level ≤ 100 }
+    ensures { (rs : List Record) → IsText blank tt (limits_inside level) bytes.now rs
+        → Puts O.written O.failures out.old out.new sink.old sink.new (encode_lower (shortest_records rs)) }
+{
+    for item in RecordIter::new(bytes, Limits::FULL) {
+        if sink.has_failed() {
+            break;
         }
-        Ok(())
+        let Ok((number, payload)) = item else { break };
+        put_record(sink, out, level, number, payload);
     }
+}
 
-    #[cycle(shortest)]
-    fn put_record(
-        &mut self,
-        level: u8,
-        number: u32,
-        payload: Payload<'_>,
-    ) -> Result<(), DeviceFault>
-        requires { level ≤ 100 }
-        ensures { (r : Record) → IsBorrowed level r (number, seen payload.entry)
-            → Puts O.written O.failures self.old self.new result (encode_lower (shortest_record r.number r.payload)) }
-    {
-        match payload {
-            Payload::Varint(value) => {
-                self.put_tag(number, 0)?;
-                self.put_number(value)?;
-            }
-            Payload::I64(value) => {
-                self.put_tag(number, 1)?;
-                self.put_hex(&value.to_le_bytes())?;
-            }
-            Payload::Len(bytes) => {
-                self.put_tag(number, 2)?;
-                self.put_number(bytes.len() as u64)?;
-                self.put_hex(bytes)?;
-            }
-            // No text nests so deep.
-            Payload::Group(_) if level == MAX_DEPTH => {}
-            Payload::Group(inside) => {
-                self.put_tag(number, 3)?;
-                self.put_records(level + 1, inside)?;
-                self.put_tag(number, 4)?;
-            }
-            Payload::I32(value) => {
-                self.put_tag(number, 5)?;
-                self.put_hex(&value.to_le_bytes())?;
-            }
+#[cycle(shortest)]
+fn put_record<O: Output>(sink: &mut Sink, out: &mut O, level: u8, number: u32, payload: Payload<'_>)
+    requires { level ≤ 100 }
+    ensures { (r : Record) → IsBorrowed level r (number, seen payload.entry)
+        → Puts O.written O.failures out.old out.new sink.old sink.new (encode_lower (shortest_record r.number r.payload)) }
+{
+    match payload {
+        Payload::Varint(value) => {
+            put_tag(sink, out, number, 0);
+            put_number(sink, out, value);
         }
-        Ok(())
-    }
-
-    /// A number as the shortest varint. Most numbers are one byte.
-    #[inline]
-    fn put_number(&mut self, number: u64) -> Result<(), DeviceFault>
-        ensures { Puts O.written O.failures self.old self.new result (encode_lower (shortest number)) }
-    {
-        self.make_room(20)?;
-        if number < 0x80 {
-            self.held.push_hex_byte(number as u8);
-        } else {
-            self.held.push_hex(put_varint(number).as_slice());
+        Payload::I64(value) => {
+            put_tag(sink, out, number, 1);
+            sink.put_hex(out, &value.to_le_bytes());
         }
-        Ok(())
+        Payload::Len(bytes) => {
+            put_tag(sink, out, number, 2);
+            put_number(sink, out, bytes.len() as u64);
+            sink.put_hex(out, bytes);
+        }
+        // No text nests so deep.
+        Payload::Group(_) if level == MAX_DEPTH => {}
+        Payload::Group(inside) => {
+            put_tag(sink, out, number, 3);
+            put_records(sink, out, level + 1, inside);
+            put_tag(sink, out, number, 4);
+        }
+        Payload::I32(value) => {
+            put_tag(sink, out, number, 5);
+            sink.put_hex(out, &value.to_le_bytes());
+        }
     }
+}
 
-    /// The tag of a number and a wire type.
-    #[inline]
-    fn put_tag(&mut self, number: u32, wire_type: u64) -> Result<(), DeviceFault>
-        requires { wire_type < 6 }
-        ensures { Puts O.written O.failures self.old self.new result (encode_lower (shortest (8 * number + wire_type))) }
-    {
-        self.put_number(8 * u64::from(number) + wire_type)?;
-        Ok(())
+/// A number as the shortest varint. Most numbers are one byte.
+#[inline]
+fn put_number<O: Output>(sink: &mut Sink, out: &mut O, number: u64)
+    ensures { Puts O.written O.failures out.old out.new sink.old sink.new (encode_lower (shortest number)) }
+{
+    sink.make_room(out, 20);
+    if number < 0x80 {
+        sink.held.push_hex_byte(number as u8);
+    } else {
+        sink.held.push_hex(put_varint(number).as_slice());
     }
+}
+
+/// The tag of a number and a wire type.
+#[inline]
+fn put_tag<O: Output>(sink: &mut Sink, out: &mut O, number: u32, wire_type: u64)
+    requires { wire_type < 6 }
+    ensures { Puts O.written O.failures out.old out.new sink.old sink.new (encode_lower (shortest (8 * number + wire_type))) }
+{
+    put_number(sink, out, 8 * u64::from(number) + wire_type);
 }

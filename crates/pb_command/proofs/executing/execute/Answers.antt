@@ -1,7 +1,7 @@
 use Rattle.std.proofs.Common.{[], inl}
 use Rattle.pb_command.specs.Answers.{Answers, AnyAnswers, AnyBegins, Begins}
 use Rattle.pb_command.specs.FileMap.{IsSaved, IsUnsaved}
-use Rattle.pb_listing.specs.Sending.{Cut, Sent, SentOrCut}
+use Rattle.pb_output.specs.Sending.{Cut, Sent, SentOrCut}
 use Rattle.pb_command.specs.Steps.{BegunOf, RightOf}
 use Rattle.pb_command.proofs.Coming.{comes_map}
 use Rattle.pb_command.proofs.Endings.{ends_from, kept_but_at_three, never_two}
@@ -45,4 +45,4 @@ returns-clause-status g c = never_two _ _ c.perform-outcome.result c.conclude.re
 
 pub returns-clause-kept : goal.returns-clause-kept
 returns-clause-kept g c = λ other.
-    kept_but_at_three _ _ c.perform-outcome.result c.conclude.result _ c.conclude.ensures c.perform-outcome.ensures.kept c.perform-outcome.ensures.told other
+    kept_but_at_three _ _ c.perform-outcome.result c.conclude.result _ c.conclude.ensures c.perform-outcome.ensures.kept other

@@ -3,7 +3,7 @@ use Rattle.std.proofs.KnownBytes.{Appends-nil}
 use Rattle.std.proofs.lemmas.Result.{err_from_is_err_and}
 use Rattle.pb_wire.specs.Limits.{full}
 use Rattle.pb_command.specs.FileMap.{IsSaved, IsUnsaved}
-use Rattle.pb_listing.specs.Sending.{Cut, Sent}
+use Rattle.pb_output.specs.Sending.{Cut, Sent}
 use Rattle.pb_command.specs.Steps.{IsReadOf, StreamAt, StreamBegun, StreamBegunAt, StreamOf}
 use Rattle.pb_command.specs.TypeAnswer.{NoType, no_type}
 use Rattle.pb_command.proofs.Coming.{refused_comes, refuses_map}

@@ -3,7 +3,7 @@ use Rattle.std.proofs.KnownBytes.{Appends-nil}
 use Rattle.std.proofs.lemmas.Result.{err_from_is_err_and}
 use Rattle.pb_command.specs.Answer.{device_failed}
 use Rattle.pb_command.specs.FileMap.{IsSaved, IsUnsaved}
-use Rattle.pb_listing.specs.Sending.{Cut, Sent}
+use Rattle.pb_output.specs.Sending.{Cut, Sent}
 use Rattle.pb_command.specs.Steps.{NoFile, OfFiles, StreamAt, StreamBegunAt}
 use Rattle.pb_command.specs.Streaming.{FramesBegunIn, FramesIn}
 use Rattle.pb_command.proofs.Coming.{comes_map, no_file_kept, refused_comes, refuses_map}

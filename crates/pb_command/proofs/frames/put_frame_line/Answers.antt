@@ -1,10 +1,7 @@
 use Rattle.std.proofs.Common.{◌≡◌, ◌++◌, append_assoc, codes, decimal, refl}
 use Rattle.pb_listing.specs.RawListing.{line}
-use Rattle.pb_listing.proofs.SendingLemmas.{puts_cut, puts_exit, puts_held, puts_then}
+use Rattle.pb_output.proofs.SinkLemmas.{puts_held, puts_then}
 use Rattle.pb_command.proofs.frames.put_frame_line.Goals as goal
-
-pub returns-in_err-make_room : goal.returns-in_err-make_room
-returns-in_err-make_room g c = puts_exit _ c.from_residual.ensures.0 (puts_cut c.in_err-make_room.ensures.kept _)
 
 pub returns : goal.returns
 returns g c =
@@ -12,4 +9,4 @@ returns g c =
     ++ line 0 (codes "frame " ++ decimal c.args.index ++ codes " at " ++ decimal c.args.offset ++ codes " size " ++ decimal c.args.size) =
     rw (c.push-4.ensures.after, c.push_decimal-3.ensures.after, c.push-3.ensures.after, c.push_decimal-2.ensures.after, c.push-2.ensures.after, c.push_decimal.ensures.after, c.push.ensures.after)
     (simp append_assoc) in
-    puts_then c.in_ok-make_room.ensures.kept (puts_held refl held)
+    puts_then c.make_room.ensures.kept (puts_held refl refl held)

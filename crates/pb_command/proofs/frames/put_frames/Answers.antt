@@ -1,6 +1,6 @@
-use Rattle.std.proofs.Common.{◌-◌, ◌^◌, ◌≤◌, arith, append-nil}
-use Rattle.pb_listing.proofs.SendingLemmas.{puts_then}
-use Rattle.pb_command.proofs.Streams.{frames_cut, read_most, read_next, read_refused, read_to_end, streaming_start}
+use Rattle.std.proofs.Common.{◌-◌, ◌^◌, ◌≤◌, ◌∙◌, arith, append-nil, inl, inr, sym}
+use Rattle.pb_output.proofs.SinkLemmas.{puts_then}
+use Rattle.pb_command.proofs.Streams.{read_begun, read_most, read_next, read_refused, read_to_end, streaming_start}
 use Rattle.pb_command.proofs.frames.put_frames.Goals as goal
 
 pub loop-index-init : goal.loop-index-init
@@ -12,27 +12,28 @@ put_next-requires g c = c.loop-index.invariant.read.goes_on
 pub loop-index-preserved : goal.loop-index-preserved
 loop-index-preserved g c =
     let before = c.loop-index.invariant in
-    let step = rw c.in-Put.is at c.in_ok-put_next.ensures in
+    let step = rw c.in-Put.is at c.put_next.ensures in
     record { text = _; put = puts_then before.put step.2; read = read_next step.0 before.read step.1 }
+
+pub returns-then-has_failed : goal.returns-then-has_failed
+returns-then-has_failed g c =
+    let before = c.loop-index.invariant in
+    (before.text, before.put, inr (sym c.has_failed.ensures ∙ c.if-has_failed.true, read_begun before.read))
 
 pub returns-in-End : goal.returns-in-End
 returns-in-End g c =
     let before = c.loop-index.invariant in
-    let step = rw c.in-End.is at c.in_ok-put_next.ensures in
-    (before.text, read_to_end c.args.path.now (g.I.Input.left c.put_next.new.reader.input) before.read step.0, rw append-nil at (puts_then before.put step.1))
+    let step = rw c.in-End.is at c.put_next.ensures in
+    (before.text, rw append-nil at (puts_then before.put step.1), inl (read_to_end c.args.path.now (g.I.Input.left c.put_next.new.reader.input) before.read step.0))
 
 pub returns-in-Refused : goal.returns-in-Refused
 returns-in-Refused g c =
     let before = c.loop-index.invariant in
-    let step = rw c.in-Refused.is at c.in_ok-put_next.ensures in
+    let step = rw c.in-Refused.is at c.put_next.ensures in
     (before.text, rw append-nil at (puts_then before.put step.3), read_refused c.args.path step.0 c.in-Refused.refusal before.read step.2 step.1)
-
-pub returns-in_err-put_next : goal.returns-in_err-put_next
-returns-in_err-put_next g c =
-    frames_cut c.args.path c.from_residual.result c.from_residual.ensures.0 c.loop-index.invariant c.in_err-put_next.ensures
 
 pub returns : goal.returns
 returns g c =
     let before = c.loop-index.invariant in
     let most : 2 ^ 64 - 1 ≤ c.loop-index.index = omega arith in
-    (before.text, read_most c.args.path.now before.read most, before.put)
+    (before.text, before.put, inl (read_most c.args.path.now before.read most))

@@ -1,14 +1,14 @@
 use Rattle.std.proofs.Common.{◌-◌, ap, rules}
 use Rattle.pb_value.specs.WellFormed.{IsWellFormed}
-use Rattle.pb_listing.proofs.SendingLemmas.{puts_none}
-use Rattle.pb_command.proofs.Streams.{lines_read, next_cut, reads_frame}
+use Rattle.pb_output.proofs.SinkLemmas.{puts_none}
+use Rattle.pb_command.proofs.Streams.{lines_read, reads_frame}
 use Rattle.pb_command.proofs.frames.put_next.Goals as goal
 
 pub returns-in-Ok-None : goal.returns-in-Ok-None
 returns-in-Ok-None g c = (rw c.in-Ok-None.field-0-is at c.in-Ok-None.ensures.end, puts_none)
 
-pub returns-in_ok-put_frame-in-Ok-Some : goal.returns-in_ok-put_frame-in-Ok-Some
-returns-in_ok-put_frame-in-Ok-Some g c =
+pub returns-in-Ok-Some : goal.returns-in-Ok-Some
+returns-in-Ok-Some g c =
     let well : IsWellFormed c.in-Ok-Some.message.pool c.in-Ok-Some.message.kind c.in-Ok-Some.message.body = search rules in
     let typed = rw c.in-Ok-Some.field-0-is at c.in-Ok-Some.ensures.of_type in
     let frame = rw c.in-Ok-Some.field-0-is at c.in-Ok-Some.ensures.message in (
@@ -16,19 +16,8 @@ returns-in_ok-put_frame-in-Ok-Some g c =
       reads_frame c.in-Ok-Some.message c.in-Ok-Some.ensures.same c.in-Ok-Some.ensures.goes_on c.in-Ok-Some.ensures.stays typed well frame
           c.in-Ok-Some.ensures.counted,
       lines_read c.args.reader.now c.next.new.self c.in-Ok-Some.message c.args.index c.taken-offset.result _ typed c.taken-offset.ensures
-          (ap (λ n. n - c.taken-offset.result) c.taken.ensures) c.in_ok-put_frame-in-Ok-Some.ensures,
+          (ap (λ n. n - c.taken-offset.result) c.taken.ensures) c.put_frame.ensures,
     )
-
-pub returns-in_err-put_frame-in-Ok-Some : goal.returns-in_err-put_frame-in-Ok-Some
-returns-in_err-put_frame-in-Ok-Some g c =
-    let well : IsWellFormed c.in-Ok-Some.message.pool c.in-Ok-Some.message.kind c.in-Ok-Some.message.body = search rules in
-    let typed = rw c.in-Ok-Some.field-0-is at c.in-Ok-Some.ensures.of_type in
-    let frame = rw c.in-Ok-Some.field-0-is at c.in-Ok-Some.ensures.message in
-    next_cut c.args.index c.args.path c.from_residual.result c.from_residual.ensures.0
-    (reads_frame c.in-Ok-Some.message c.in-Ok-Some.ensures.same c.in-Ok-Some.ensures.goes_on c.in-Ok-Some.ensures.stays typed well frame
-    c.in-Ok-Some.ensures.counted)
-    (lines_read c.args.reader.now c.next.new.self c.in-Ok-Some.message c.args.index c.taken-offset.result _ typed c.taken-offset.ensures
-    (ap (λ n. n - c.taken-offset.result) c.taken.ensures) c.in_err-put_frame-in-Ok-Some.ensures)
 
 pub returns-in-Err : goal.returns-in-Err
 returns-in-Err g c = (

@@ -2,7 +2,7 @@ use Rattle.std.proofs.Common.{◌+◌, ℕ, List, Option, Ok, Err, refl, arith}
 use Rattle.std.proofs.KnownBytes.{Appends-nil}
 use Rattle.std.proofs.lemmas.Result.{err_from_is_err_and}
 use Rattle.pb_command.specs.FileMap.{IsSaved, IsUnsaved}
-use Rattle.pb_listing.specs.Sending.{Cut, Sent}
+use Rattle.pb_output.specs.Sending.{Cut, Sent}
 use Rattle.pb_command.specs.Steps.{IsNothing, IsReadOf}
 use Rattle.pb_command.specs.RawAnswer.{RawAnswer}
 use Rattle.pb_listing.proofs.Borrowing.{text_in_full}

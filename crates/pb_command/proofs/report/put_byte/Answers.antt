@@ -1,5 +1,6 @@
-use Rattle.pb_listing.proofs.SendingLemmas.{puts_cut, puts_exit}
+use Rattle.std.proofs.Common.{append_assoc, refl}
+use Rattle.pb_output.proofs.SinkLemmas.{puts_held, puts_then}
 use Rattle.pb_command.proofs.report.put_byte.Goals as goal
 
-pub returns-in_err-make_room : goal.returns-in_err-make_room
-returns-in_err-make_room g c = puts_exit _ c.from_residual.ensures.0 (puts_cut c.in_err-make_room.ensures.kept _)
+pub returns : goal.returns
+returns g c = puts_then c.make_room.ensures.kept (puts_held refl refl (rw (c.push-2.ensures.after, c.push_decimal.ensures.after, c.push.ensures.after) (simp append_assoc)))

@@ -3,7 +3,7 @@ use Rattle.pb_wire.specs.Spell.{shortest_records}
 use Rattle.pb_wire.specs.Unknown.{records_of}
 use Rattle.pb_wire.specs.declared.unknown.Unknown.{Unknown}
 use Rattle.pb_wire.proofs.UnknownLemmas.{payload_of-I32, payload_of-Group}
-use Rattle.pb_encode.proofs.SinkLemmas.{puts_then}
+use Rattle.pb_output.proofs.SinkLemmas.{puts_then}
 use Rattle.pb_encode.proofs.PutLemmas.{to_put_start, to_put_done, to_put_lost, to_put_record}
 use Rattle.pb_encode.proofs.putting.+unknown.Goals as goal
 

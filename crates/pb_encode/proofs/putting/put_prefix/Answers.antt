@@ -1,4 +1,4 @@
-use Rattle.pb_encode.proofs.SinkLemmas.{puts_then}
+use Rattle.pb_output.proofs.SinkLemmas.{puts_then}
 use Rattle.pb_encode.proofs.putting.put_prefix.Goals as goal
 
 pub returns : goal.returns

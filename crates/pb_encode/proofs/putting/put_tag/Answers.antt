@@ -1,5 +1,5 @@
 use Rattle.std.proofs.Common.{arith}
-use Rattle.pb_encode.proofs.SinkLemmas.{puts_number}
+use Rattle.pb_output.proofs.SinkLemmas.{puts_number}
 use Rattle.pb_encode.proofs.putting.put_tag.Goals as goal
 
 pub returns : goal.returns

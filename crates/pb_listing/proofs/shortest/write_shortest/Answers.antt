@@ -1,30 +1,6 @@
-use Rattle.std.proofs.Common.{append-nil, arith}
-use Rattle.pb_listing.specs.RawListing.{line_feed}
+use Rattle.pb_output.proofs.SinkLemmas.{finished, puts_then}
 use Rattle.pb_listing.proofs.Borrowing.{top_text}
-use Rattle.pb_listing.proofs.SendingLemmas.{cut_alone, puts_cut, puts_then, sent_alone}
 use Rattle.pb_listing.proofs.shortest.write_shortest.Goals as goal
 
-pub returns-in_err-put_records : goal.returns-in_err-put_records
-returns-in_err-put_records g c = λ rs text.
-    let put = c.in_err-put_records.ensures rs (top_text text) in
-    cut_alone _ _ c.new-buffered.ensures.now c.new-buffered.ensures.empty (puts_cut put line_feed) (λ e. grind (arith, e, c.new-buffered.ensures.same))
-    c.from_residual.result c.from_residual.ensures.0
-
-pub returns-in_err-put : goal.returns-in_err-put
-returns-in_err-put g c = λ rs text.
-    let put = c.in_ok-put_records.ensures rs (top_text text) in
-    cut_alone _ _ c.new-buffered.ensures.now c.new-buffered.ensures.empty (puts_then put c.in_err-put.ensures) (λ e. grind (arith, e, c.new-buffered.ensures.same))
-    c.from_residual-in_err-put.result c.from_residual-in_err-put.ensures.0
-
-pub returns-in_err-flush : goal.returns-in_err-flush
-returns-in_err-flush g c = λ rs text.
-    let put = c.in_ok-put_records.ensures rs (top_text text) in
-    let flush = rw append-nil at (puts_then (puts_then put c.in_ok-put.ensures) c.in_err-flush.ensures.sent) in
-    cut_alone _ _ c.new-buffered.ensures.now c.new-buffered.ensures.empty flush (λ e. grind (arith, e, c.new-buffered.ensures.same))
-    c.from_residual-in_err-flush.result c.from_residual-in_err-flush.ensures.0
-
 pub returns : goal.returns
-returns g c = λ rs text.
-    let put = c.in_ok-put_records.ensures rs (top_text text) in
-    sent_alone _ _ c.new-buffered.ensures.now c.new-buffered.ensures.empty (puts_then put c.in_ok-put.ensures)
-    c.in_ok-flush.ensures.sent c.in_ok-flush.ensures.empty (λ e. grind (arith, e, c.new-buffered.ensures.same))
+returns g c = λ rs text. finished c.new-sink.ensures (puts_then (c.put_records.ensures rs (top_text text)) c.put.ensures) c.finish.ensures

@@ -1,7 +1,0 @@
-use Rattle.std.proofs.Common.{refl}
-use Rattle.pb_encode.proofs.SinkLemmas.{flush_cut}
-use Rattle.pb_encode.proofs.sink.Sink.flush.Goals as goal
-
-pub returns-in-Err-clause-puts : goal.returns-in-Err-clause-puts
-returns-in-Err-clause-puts g c =
-    rw (← c.self.view_is) (flush_cut c.in-Err.fault.written c.if-not-self.true c.in-Err.ensures.failed c.in-Err.ensures.part refl c.saturating_add-self-inside-in-Err.ensures)

@@ -1,0 +1,6 @@
+use Rattle.std.proofs.Common.{refl}
+use Rattle.pb_output.proofs.SinkLemmas.{puts_held, puts_then}
+use Rattle.pb_output.proofs.sink.Sink.put.Goals as goal
+
+pub returns : goal.returns
+returns g c = puts_then c.flush.ensures.puts c.put_first.ensures

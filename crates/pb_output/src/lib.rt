@@ -1,0 +1,8 @@
+//! An output behind a buffer of fixed size, whose first failure is kept: what puts bytes into it answers nothing, and asks at its end.
+#![tactic(auto)]
+
+mod buffer;
+mod sink;
+
+pub use buffer::{OutputBuffer, SIZE};
+pub use sink::Sink;
