@@ -1,5 +1,5 @@
 -- What is begun behind the last whole record.
-use Rattle.std.specs.Prelude.{◌≡◌, ◌<◌, Bool, true, false, if◌then◌else◌, ℕ, List, [], ◌∷◌, ◌++◌, map, Option, Some, None}
+use Rattle.std.specs.Prelude.{◌≡◌, ◌<◌, Bool, true, false, if◌then◌else◌, ℕ, List, [], ◌∷◌, map, Option, Some, None}
 use Rattle.pb_wire.specs.Record.{Payload, len, Record}
 use Rattle.pb_wire.specs.Fault.{Place, Moves, HasTag, HasLength}
 use Rattle.pb_wire.specs.Schema.{Element}

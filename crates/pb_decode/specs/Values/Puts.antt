@@ -1,6 +1,7 @@
 -- What a value that comes next does, wherever one stands: it goes into the part that its record stands in, and one stands behind it. Each holds of any type,
 -- any levels, any records before and any first place.
 use Rattle.std.specs.Prelude.{◌≡◌, ℕ, ◌+◌, List, [], ◌∷◌, map, length, Option, Some, Vec, Result, IfOk, IfErr, IfSome, OnOk}
+use Rattle.std.specs.declared.alloc.Global.{Global}
 use Rattle.pb_wire.specs.Record.{Record, wire_type}
 use Rattle.pb_wire.specs.declared.fault.Cause.TheVariants.{BadText}
 use Rattle.pb_wire.specs.Fault.{fault, Place, Moves}
@@ -68,7 +69,7 @@ TellsElement pool kind bytes left result =
     (passed (given_at at left bytes) r.1))
 
 -- the same of the values of a run
-abbrev pub TellsRun : Types → Kind → List ℕ → Option ℕ → Result (Vec Value × ℕ) DecodeError → Type 0
+abbrev pub TellsRun : Types → Kind → List ℕ → Option ℕ → Result (Vec Value Global × ℕ) DecodeError → Type 0
 TellsRun pool kind bytes left result =
     (m depth levels at number : ℕ) (outer : Option ℕ) (base : List Record) (p0 : Place) (frames : List Frame) (scope : Scope) (now : PartView)
     → After pool m depth levels base p0 frames (Elements number kind outer) now scope (given_at at left bytes)
