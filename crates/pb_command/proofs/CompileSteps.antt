@@ -7,11 +7,11 @@ use Rattle.pb_value.specs.Data.{message_depth}
 use Rattle.pb_decl.specs.Decls.{DeclaredFile}
 use Rattle.pb_descr.specs.Sets.{set_bytes}
 use Rattle.pb_descr.specs.Writing.{set_body}
-use Rattle.pb_link.specs.Linking.{IsUnlinked}
+use Rattle.pb_rules.specs.Faults.{IsUnlinked}
 use Rattle.pb_link.specs.Resolved.{Resolves}
-use Rattle.pb_link.specs.declared.error.LinkError.{LinkError}
-use Rattle.pb_link.specs.declared.error.LinkError.TheVariants as link
-use Rattle.pb_link.proofs.BehindLemmas.{all_append}
+use Rattle.pb_rules.specs.declared.error.LinkError.{LinkError}
+use Rattle.pb_rules.specs.declared.error.LinkError.TheVariants as link
+use Rattle.pb_names.proofs.BehindLemmas.{all_append}
 use Rattle.pb_command.specs.Answer.{Answer, refused}
 use Rattle.pb_command.specs.CompileAnswer.{CompileAnswer, unlinked, too_large}
 use Rattle.pb_command.specs.FileMap.{FileMap, IsSaved, IsUnsaved, KeepsMap}

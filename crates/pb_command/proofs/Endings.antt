@@ -1,6 +1,6 @@
 -- How a run ends, from what its command came to and what was told.
 use Rattle.std.proofs.Common.{◌≡◌, ◌≢◌, ℕ, List, [], Option, None, inl, inr, ap, sym, ◌∙◌, subst, arith}
-use Rattle.std.specs.Prelude.{Result, Ok, Err, MatchResult, IfErr, OnOk, string_bytes}
+use Rattle.std.specs.Prelude.{Result, Ok, Err, MatchResult, string_bytes}
 use Rattle.pb_command.specs.Answer.{Answer, stopped, Ends, delivered, output_failed, file_failed, out_of_memory}
 use Rattle.pb_command.specs.Report.{device_line}
 use Rattle.pb_command.specs.Refusal.{refusal_line, refusal_status}
@@ -62,7 +62,7 @@ never_two Quiet Told (Err e) status concluded two = no_two e (sym concluded.0 �
 -- what holds of a command where its refusal has no status 3 holds where the status is not 3
 pub kept_but_at_three :
     (Quiet : Type 0) (Told : Refusal → Type 0) (r : Result Unit Refusal) (status : ℕ) (Kept : Type 0)
-    → MatchResult r (λ _. (status ≡ 0) × Quiet) (λ e. (status ≡ refusal_status e) × Told e) → OnOk r Kept
-    → IfErr r (λ e. refusal_status e ≢ 3 → Kept) → status ≢ 3 → Kept
-kept_but_at_three Quiet Told (Ok u) status Kept concluded kept told other = kept
-kept_but_at_three Quiet Told (Err e) status Kept concluded kept told other = told (λ three. other (concluded.0 ∙ three))
+    → MatchResult r (λ _. (status ≡ 0) × Quiet) (λ e. (status ≡ refusal_status e) × Told e)
+    → MatchResult r (λ _. Kept) (λ e. refusal_status e ≢ 3 → Kept) → status ≢ 3 → Kept
+kept_but_at_three Quiet Told (Ok u) status Kept concluded kept other = kept
+kept_but_at_three Quiet Told (Err e) status Kept concluded kept other = kept (λ three. other (concluded.0 ∙ three))

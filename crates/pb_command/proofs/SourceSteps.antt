@@ -5,8 +5,8 @@ use Rattle.pb_wire.specs.Limits.{full}
 use Rattle.pb_decl.specs.Decls.{DeclaredFile}
 use Rattle.pb_source.specs.Source.{IsSource, HasFault, too_large, bad_utf8, in_token, in_syntax}
 use Rattle.pb_source.specs.Fault.{out_of_memory}
-use Rattle.pb_source.specs.declared.fault.Cause.{Cause}
-use Rattle.pb_source.specs.declared.fault.Cause.TheVariants as cause
+use Rattle.pb_source.specs.declared.fault.SourceCause.{SourceCause}
+use Rattle.pb_source.specs.declared.fault.SourceCause.TheVariants as cause
 use Rattle.pb_source.specs.declared.fault.SourceFault.{SourceFault}
 use Rattle.pb_command.specs.Answer.{Answer, device_failed, refused}
 use Rattle.pb_command.specs.CompileAnswer.{CompileAnswer, untaken, unlinked, too_large as set_too_large, compiled, told_of}
@@ -48,7 +48,7 @@ module _ (IsAt At : List ℕ → Option (List ℕ) → Type 0) (none : (path : L
   declares_map roots f source h = (h.0, reached_map roots h.0 h.1, source h.0 h.2)
 
   module _ (Fails Fail : List ℕ → Type 0) (fails : (path : List ℕ) → Fails path → Fail path)
-      (fault : (path : List ℕ) (place : ℕ) (c : Cause) → IsFaultyAt IsAt path place c → IsFaultyAt At path place c) where
+      (fault : (path : List ℕ) (place : ℕ) (c : SourceCause) → IsFaultyAt IsAt path place c → IsFaultyAt At path place c) where
     at_map : (path : List ℕ) (t : Trouble) → HasTroubleAt IsAt path Fails t → HasTroubleAt At path Fail t
     at_map path (unread p) h = (h.0, fails path h.1)
     at_map path (faulty place c) h = fault path place c h
@@ -71,7 +71,7 @@ module _
   source_later path name f h = (h.0, at_later path (Some h.0) h.1, h.2)
 
   fault_later :
-      (path : List ℕ) (place : ℕ) (c : Cause) → IsFaultyAt (IsAt contents is_steady mid) path place c → IsFaultyAt (IsAt contents is_steady old) path place c
+      (path : List ℕ) (place : ℕ) (c : SourceCause) → IsFaultyAt (IsAt contents is_steady mid) path place c → IsFaultyAt (IsAt contents is_steady old) path place c
   fault_later path place c h = (h.0, at_later path (Some h.0) h.1, h.2)
 
   fails_later : (path : List ℕ) → Fails contents is_steady mid path → Fails contents is_steady old path
@@ -113,11 +113,11 @@ module _
 pub told_fault :
     (name bytes : List ℕ) (e : SourceFault) (f : Refusal) → (e ≡ out_of_memory) ⊎ HasFault bytes e.byte e.cause → (e.cause ≡ cause.Memory → f ≡ refusal.Memory)
     → Refuses (λ a. a ≡ refused (source_line name e.byte e.cause)) f
-    → Refuses (λ a. (place : ℕ) × (c : Cause) × HasFault bytes place c × (a ≡ refused (source_line name place c))) f
+    → Refuses (λ a. (place : ℕ) × (c : SourceCause) × HasFault bytes place c × (a ≡ refused (source_line name place c))) f
 told_fault name bytes e f (inl memory) ran_out told = let is = ran_out (ap (λ (x : SourceFault). x.cause) memory) in rw is tt
 told_fault name bytes e f (inr h) ran_out told =
     refuses_map (λ a. a ≡ refused (source_line name e.byte e.cause))
-    (λ a. (place : ℕ) × (c : Cause) × HasFault bytes place c × (a ≡ refused (source_line name place c))) f (λ a line. (e.byte, e.cause, h, line)) told
+    (λ a. (place : ℕ) × (c : SourceCause) × HasFault bytes place c × (a ≡ refused (source_line name place c))) f (λ a line. (e.byte, e.cause, h, line)) told
 
 module _ {F : Type 0} (contents : F → Option FileMap) (is_steady : F → Bool) (old : F) (path : List ℕ) where
   -- what was opened is what stands there
@@ -164,10 +164,10 @@ module _
 
   pub faulty_read :
       (bytes : List ℕ) (f : Refusal) → At path (Some bytes)
-      → Refuses (λ a. (place : ℕ) × (c : Cause) × HasFault bytes place c × (a ≡ refused (source_line name place c))) f
+      → Refuses (λ a. (place : ℕ) × (c : SourceCause) × HasFault bytes place c × (a ≡ refused (source_line name place c))) f
       → Refuses (λ a. (t : Trouble) × HasTroubleAt At (path_under root name) (Fails contents is_steady files) t × (a ≡ told_of name t)) f
   faulty_read bytes f at told =
-      refuses_map (λ a. (place : ℕ) × (c : Cause) × HasFault bytes place c × (a ≡ refused (source_line name place c)))
+      refuses_map (λ a. (place : ℕ) × (c : SourceCause) × HasFault bytes place c × (a ≡ refused (source_line name place c)))
       (λ a. (t : Trouble) × HasTroubleAt At (path_under root name) (Fails contents is_steady files) t × (a ≡ told_of name t)) f
       (λ a h. (faulty h.0 h.1, (bytes, subst (λ (p : List ℕ). At p (Some bytes)) is at, h.2), h.3)) told
 
@@ -202,7 +202,7 @@ module _ {F : Type 0} (contents : F → Option FileMap) (is_steady : F → Bool)
 source_whole : (name b : List ℕ) (f : DeclaredFile) → IsSource name (take (full.bytes + 1) b) f → IsSource name b f
 source_whole name b f s = subst (λ (x : List ℕ). IsSource name x f) (front_whole full.bytes b s.size) s
 
-fault_whole : (b : List ℕ) (place : ℕ) (c : Cause) → HasFault (take (full.bytes + 1) b) place c → HasFault b place c
+fault_whole : (b : List ℕ) (place : ℕ) (c : SourceCause) → HasFault (take (full.bytes + 1) b) place c → HasFault b place c
 fault_whole b place c (too_large long) = too_large (front_long full.bytes b long)
 fault_whole b place c (bad_utf8 small invalid) = subst (λ (x : List ℕ). HasFault x place c) (front_whole full.bytes b small) (bad_utf8 small invalid)
 fault_whole b place c (in_token small valid h) = subst (λ (x : List ℕ). HasFault x place c) (front_whole full.bytes b small) (in_token small valid h)
@@ -218,7 +218,7 @@ declared_whole name read f (Some b) e s =
     let front : read ≡ take (full.bytes + 1) b = cc in (b, refl, source_whole name b f (subst (λ (x : List ℕ). IsSource name x f) front s))
 
 faulty_whole :
-    (read : List ℕ) (place : ℕ) (c : Cause) (o : Option (List ℕ)) → Some read ≡ option_map (take (full.bytes + 1)) o → HasFault read place c
+    (read : List ℕ) (place : ℕ) (c : SourceCause) (o : Option (List ℕ)) → Some read ≡ option_map (take (full.bytes + 1)) o → HasFault read place c
     → (b : List ℕ) × (Some b ≡ o) × HasFault b place c
 faulty_whole read place c None e h = absurd (cc)
 faulty_whole read place c (Some b) e h =
@@ -230,7 +230,7 @@ module _
     (IsAt At : List ℕ → Option (List ℕ) → Type 0) (Fails Fail : List ℕ → Type 0) (roots : List (List ℕ))
     (none : (path : List ℕ) → IsAt path None → At path None)
     (source : (path name : List ℕ) (f : DeclaredFile) → DeclaresAt IsAt path name f → DeclaresAt At path name f)
-    (fault : (path : List ℕ) (place : ℕ) (c : Cause) → IsFaultyAt IsAt path place c → IsFaultyAt At path place c)
+    (fault : (path : List ℕ) (place : ℕ) (c : SourceCause) → IsFaultyAt IsAt path place c → IsFaultyAt At path place c)
     (fails : (path : List ℕ) → Fails path → Fail path) where
   gathers_known :
       {o : Origin} {names : List (List ℕ)} {g : Gathered} {out : Outcome} → GathersUnder IsAt Fails roots o names g out

@@ -5,9 +5,9 @@ use Rattle.pb_decl.specs.Decls.{DeclaredFile}
 use Rattle.pb_descr.specs.Sets.{IsSetOf, IsUnread}
 use Rattle.pb_descr.specs.declared.error.DescrError.{DescrError}
 use Rattle.pb_descr.specs.declared.error.DescrError.TheVariants as descr
-use Rattle.pb_link.specs.Linking.{IsUnlinked}
-use Rattle.pb_link.specs.declared.error.LinkError.{LinkError}
-use Rattle.pb_link.specs.declared.error.LinkError.TheVariants as link
+use Rattle.pb_rules.specs.Faults.{IsUnlinked}
+use Rattle.pb_rules.specs.declared.error.LinkError.{LinkError}
+use Rattle.pb_rules.specs.declared.error.LinkError.TheVariants as link
 use Rattle.pb_command.specs.Refusal.{IsToldOfLink, IsToldOfSet, Refuses}
 use Rattle.pb_command.specs.TypeAnswer.{NoType, no_text, no_set, no_pool}
 use Rattle.pb_command.specs.declared.report.Refusal.{Refusal}

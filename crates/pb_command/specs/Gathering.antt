@@ -5,7 +5,7 @@ use Rattle.std.specs.List.{list_any, slice_split}
 use Rattle.std.specs.Str.{bytes_eq}
 use Rattle.pb_decl.specs.Decls.{DeclaredFile}
 use Rattle.pb_source.specs.Source.{IsSource, HasFault}
-use Rattle.pb_source.specs.declared.fault.Cause.{Cause}
+use Rattle.pb_source.specs.declared.fault.SourceCause.{SourceCause}
 
 -- NAMES OF FILES
 
@@ -49,7 +49,7 @@ is_known g name = list_any (bytes_eq name) g.names
 -- why a file is refused: nothing can be read at this path, or it is no source, for this fault
 pub data Trouble : Type 0 where
   unread : List ℕ → Trouble
-  faulty : ℕ → Cause → Trouble
+  faulty : ℕ → SourceCause → Trouble
 
 -- what comes of reaching names: all that was gathered, or the first file that is refused
 pub data Outcome : Type 0 where
@@ -96,7 +96,7 @@ module _ (IsAt : List ℕ → Option (List ℕ) → Type 0) (path : List ℕ) wh
   abbrev pub DeclaresAt : List ℕ → DeclaredFile → Type 0
   DeclaresAt name f = (bytes : List ℕ) × IsAt path (Some bytes) × IsSource name bytes f
 
-  abbrev pub IsFaultyAt : ℕ → Cause → Type 0
+  abbrev pub IsFaultyAt : ℕ → SourceCause → Type 0
   IsFaultyAt place c = (bytes : List ℕ) × IsAt path (Some bytes) × HasFault bytes place c
 
   abbrev pub HasTroubleAt : (List ℕ → Type 0) → Trouble → Type 0

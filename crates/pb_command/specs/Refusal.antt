@@ -1,14 +1,15 @@
 -- The line and the exit status of a refusal, and what it comes to.
-use Rattle.std.specs.Prelude.{◌≡◌, ℕ, List, string_bytes}
+use Rattle.std.specs.Prelude.{◌≡◌, ◌≢◌, ℕ, List, string_bytes, Result, MatchResult}
 use Rattle.pb_wire.specs.Fault.{fault}
 use Rattle.pb_wire.specs.declared.fault.RawError.{RawError}
 use Rattle.pb_wire.specs.declared.fault.RawError.TheVariants as raw
 use Rattle.pb_descr.specs.declared.error.DescrError.{DescrError}
 use Rattle.pb_descr.specs.declared.error.DescrError.TheVariants as descr
-use Rattle.pb_link.specs.declared.error.LinkError.{LinkError}
-use Rattle.pb_link.specs.declared.error.LinkError.TheVariants as link
+use Rattle.pb_rules.specs.declared.error.LinkError.{LinkError}
+use Rattle.pb_rules.specs.declared.error.LinkError.TheVariants as link
 use Rattle.pb_command.specs.Answer.{Answer, refused, device_failed}
-use Rattle.pb_command.specs.Report.{fault_line, set_fault_line, set_cause_line, link_line, type_line, too_large_line, frame_fault_line, source_line, device_line, memory_line}
+use Rattle.pb_command.specs.Report.{fault_line, set_fault_line, set_cause_line, link_line, type_line, too_large_line}
+use Rattle.pb_command.specs.Report.{frame_fault_line, source_line, device_line, memory_line}
 use Rattle.pb_command.specs.declared.report.Refusal.{Refusal}
 use Rattle.pb_command.specs.declared.report.Refusal.TheVariants.{Fault, Set, SetFile, Link, UnknownType, TooLarge, Frame, Source, Device, File, Memory}
 
@@ -38,6 +39,10 @@ refusal_status (Source file byte cause) = 1
 refusal_status (Device path) = 3
 refusal_status (File path) = 3
 refusal_status Memory = 3
+
+-- a call whose answer is none of status 3 leaves the count of failures as it was
+abbrev pub KeepsFailures : {F A : Type 0} → (F → ℕ) → F → F → Result A Refusal → Type 0
+KeepsFailures failures old new r = MatchResult r (λ _. failures new ≡ failures old) (λ e. refusal_status e ≢ 3 → failures new ≡ failures old)
 
 -- what a refusal is: an input is refused with this line, a device of this path failed, or memory ran out
 abbrev pub ByRefusal : (List ℕ → Type 0) → (List ℕ → Type 0) → Type 0 → Refusal → Type 0

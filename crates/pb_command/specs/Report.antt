@@ -5,10 +5,10 @@ use Rattle.pb_wire.specs.CauseName.{name_of}
 use Rattle.pb_wire.specs.PathText.{path_text}
 use Rattle.pb_descr.specs.CauseName as descr
 use Rattle.pb_descr.specs.declared.cause.DeclCause.{DeclCause}
-use Rattle.pb_link.specs.CauseName.{cause_name}
-use Rattle.pb_link.specs.declared.cause.LinkCause.{LinkCause}
+use Rattle.pb_rules.specs.CauseName.{cause_name}
+use Rattle.pb_rules.specs.declared.cause.LinkCause.{LinkCause}
 use Rattle.pb_source.specs.CauseName as source
-use Rattle.pb_source.specs.declared.fault.Cause.{Cause}
+use Rattle.pb_source.specs.declared.fault.SourceCause.{SourceCause}
 
 -- what ends a line: the name of a cause
 abbrev pub cause_end : List ℕ → List ℕ
@@ -27,7 +27,7 @@ abbrev pub set_cause_line : ℕ → DeclCause → List ℕ
 set_cause_line file c = codes "set file " ++ decimal file ++ cause_end (descr.name_of c)
 
 -- which source is refused, and where
-abbrev pub source_line : List ℕ → ℕ → Cause → List ℕ
+abbrev pub source_line : List ℕ → ℕ → SourceCause → List ℕ
 source_line name byte c = codes "source " ++ name ++ codes " byte " ++ decimal byte ++ cause_end (source.name_of c)
 
 -- a name, or a dash where it is empty, as at a file itself

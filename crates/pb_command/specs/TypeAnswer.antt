@@ -13,8 +13,9 @@ use Rattle.pb_decl.specs.Decls.{DeclaredFile}
 use Rattle.pb_descr.specs.Pool.{descriptor_types, the_set}
 use Rattle.pb_descr.specs.Sets.{IsSetOf, IsSetText}
 use Rattle.pb_descr.specs.declared.cause.DeclCause.{DeclCause}
-use Rattle.pb_link.specs.Linking.{Links, LinkFault}
-use Rattle.pb_link.specs.declared.cause.LinkCause.{LinkCause}
+use Rattle.pb_link.specs.Linking.{Links}
+use Rattle.pb_rules.specs.Faults.{LinkFault}
+use Rattle.pb_rules.specs.declared.cause.LinkCause.{LinkCause}
 use Rattle.pb_command.specs.Answer.{Answer, refused, device_failed}
 use Rattle.pb_command.specs.Report.{set_fault_line, set_cause_line, link_line, type_line}
 

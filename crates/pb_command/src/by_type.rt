@@ -1,7 +1,7 @@
 //! The steps of the commands that read messages by a type: the set is read, is one, links, and has the type; then the
 //! file of the messages is opened.
 
-ghost use Rattle.std.specs.Prelude.{◌≡◌, ◌≢◌, ◌+◌, ◌<◌, ◌⊎◌, true, ℕ, List, Option, Some, None, length, IfOk, IfErr, OnOk};
+ghost use Rattle.std.specs.Prelude.{◌≡◌, ◌+◌, ◌<◌, ◌⊎◌, true, ℕ, List, Option, Some, None, length, IfOk, IfErr};
 ghost use Rattle.pb_wire.specs.Fault.{Fault};
 ghost use Rattle.pb_wire.specs.Limits.{full};
 ghost use Rattle.pb_decl.specs.Decls.{DeclaredFile};
@@ -9,7 +9,7 @@ ghost use Rattle.pb_descr.specs.Sets.{IsSetOf};
 ghost use Rattle.pb_link.specs.Linking.{Links};
 ghost use Rattle.pb_command.specs.Answer.{refused, device_failed};
 ghost use Rattle.pb_command.specs.FileMap.{KeepsMap};
-ghost use Rattle.pb_command.specs.Refusal.{Refuses, refusal_status};
+ghost use Rattle.pb_command.specs.Refusal.{KeepsFailures, Refuses};
 ghost use Rattle.pb_command.specs.Report.{fault_line};
 ghost use Rattle.pb_value.specs.WellFormed.{IsWellFormed};
 ghost use Rattle.pb_command.specs.Answers.{FaultAt, TextAt};
@@ -40,8 +40,7 @@ pub fn find_type<'a, F: Files>(
     ensures refused { IfErr result (Refuses (λ a. (content : Option (List ℕ))
         × IsReadOf F.contents F.is_steady files.old (full.bytes + 1) source.now.set.now content
         × NoType source.now.type_name.now source.now.set.now content a)) }
-    ensures kept { OnOk result (F.failures files.new ≡ F.failures files.old) }
-    ensures told { IfErr result (λ e. refusal_status e ≢ 3 → F.failures files.new ≡ F.failures files.old) }
+    ensures kept { KeepsFailures F.failures files.old files.new result }
     ensures steady { F.is_steady files.old ≡ true → F.is_steady files.new ≡ true }
     ensures files { KeepsMap (F.contents files.old) (F.contents files.new) }
 {
@@ -59,8 +58,7 @@ fn pool_at<'a, F: Files>(alloc: Global, path: &'a str, files: &mut F) -> Result<
     ensures refused { (name : List ℕ) → IfErr result (Refuses (λ a. (content : Option (List ℕ))
         × IsReadOf F.contents F.is_steady files.old (full.bytes + 1) path.entry.now content
         × NoType name path.entry.now content a)) }
-    ensures kept { OnOk result (F.failures files.new ≡ F.failures files.old) }
-    ensures told { IfErr result (λ e. refusal_status e ≢ 3 → F.failures files.new ≡ F.failures files.old) }
+    ensures kept { KeepsFailures F.failures files.old files.new result }
     ensures steady { F.is_steady files.old ≡ true → F.is_steady files.new ≡ true }
     ensures files { KeepsMap (F.contents files.old) (F.contents files.new) }
 {
@@ -94,8 +92,7 @@ pub fn read_message<'p, 'a, F: Files>(
     ensures refused { IfErr result (Refuses (λ a. IsMissing F.contents F.is_steady files.old path.entry.now a
         ⊎ ((f : Fault) × OfFiles F.contents F.is_steady files.old path.entry.now (λ content. FaultAt content pool.now kind.0 f)
         × (a ≡ refused (fault_line f))))) }
-    ensures kept { OnOk result (F.failures files.new ≡ F.failures files.old) }
-    ensures told { IfErr result (λ e. refusal_status e ≢ 3 → F.failures files.new ≡ F.failures files.old) }
+    ensures kept { KeepsFailures F.failures files.old files.new result }
     ensures files { KeepsMap (F.contents files.old) (F.contents files.new) }
 {
     let mut input = open_file(path, files)?;

@@ -1,6 +1,6 @@
 //! Sources compiled to a descriptor set.
 
-ghost use Rattle.std.specs.Prelude.{◌≡◌, ◌≢◌, ◌≤◌, ◌<◌, ◌^◌, [], length, map, IfOk, IfErr, OnOk};
+ghost use Rattle.std.specs.Prelude.{◌≡◌, ◌≤◌, ◌<◌, ◌^◌, [], length, map, IfOk, IfErr};
 ghost use Rattle.pb_descr.specs.Sets.{set_bytes};
 ghost use Rattle.pb_decl.specs.View.{file_view};
 ghost use Rattle.pb_descr.specs.Writing.{set_body};
@@ -8,7 +8,7 @@ ghost use Rattle.pb_value.specs.Data.{message_depth};
 ghost use Rattle.pb_command.specs.Answer.{refused};
 ghost use Rattle.pb_command.specs.CompileAnswer.{roots_of, texts_of};
 ghost use Rattle.pb_command.specs.FileMap.{IsSaved, IsUnsaved};
-ghost use Rattle.pb_command.specs.Refusal.{Refuses, refusal_status};
+ghost use Rattle.pb_command.specs.Refusal.{KeepsFailures, Refuses};
 ghost use Rattle.pb_command.specs.Report.{too_large_line};
 ghost use Rattle.pb_command.specs.Steps.{Comes, CompileOf, IsNothing};
 
@@ -31,8 +31,7 @@ pub fn compile<'a, F: Files>(
     ensures comes { Comes (λ text. text ≡ []) (λ _. ⊥)
         (IsSaved F.contents files.old files.new) (IsUnsaved F.contents F.failures files.old files.new)
         (CompileOf F.contents F.is_steady files.old (roots_of roots.entry) out.entry.now (texts_of names.now)) IsNothing result }
-    ensures kept { OnOk result (F.failures files.new ≡ F.failures files.old) }
-    ensures told { IfErr result (λ e. refusal_status e ≢ 3 → F.failures files.new ≡ F.failures files.old) }
+    ensures kept { KeepsFailures F.failures files.old files.new result }
 {
     let gathered = gather(alloc, roots, names, files)?;
     let resolved = resolve(alloc, &gathered)?;

@@ -1,10 +1,10 @@
 //! What each command does.
 
-ghost use Rattle.std.specs.Prelude.{◌≡◌, ◌≢◌, OnOk, MatchResult, [], IfErr};
+ghost use Rattle.std.specs.Prelude.{◌≡◌, ◌≢◌, MatchResult, []};
 ghost use Rattle.pb_command.specs.Answer.{Ends};
 ghost use Rattle.pb_command.specs.Answers.{Answers, AnyAnswers, AnyBegins, Begins, canonical_form};
 ghost use Rattle.pb_command.specs.FileMap.{FileMap, IsHonest, IsSaved, IsUnsaved};
-ghost use Rattle.pb_command.specs.Refusal.{refusal_line, refusal_status};
+ghost use Rattle.pb_command.specs.Refusal.{KeepsFailures, refusal_line, refusal_status};
 ghost use Rattle.pb_output.specs.Sending.{Cut, Sent, SentOrCut};
 ghost use Rattle.pb_command.specs.Steps.{BegunOf, Comes, RightOf};
 
@@ -56,8 +56,7 @@ fn perform<'a, F: Files, O: Output>(
     ensures comes { Comes (Sent O.written O.failures out.old out.new) (Cut O.written O.failures out.old out.new)
         (IsSaved F.contents files.old files.new) (IsUnsaved F.contents F.failures files.old files.new)
         (RightOf F.contents F.is_steady files.old command.now) (BegunOf F.contents F.is_steady files.old command.now) result }
-    ensures kept { OnOk result (F.failures files.new ≡ F.failures files.old) }
-    ensures told { IfErr result (λ e. refusal_status e ≢ 3 → F.failures files.new ≡ F.failures files.old) }
+    ensures kept { KeepsFailures F.failures files.old files.new result }
 {
     match command {
         Command::Raw { short, file } => raw(alloc, Limits::FULL, *short, file, files, out),

@@ -1,6 +1,6 @@
 //! What is made of a message.
 
-ghost use Rattle.std.specs.Prelude.{◌≡◌, ◌≢◌, ◌++◌, ◌<◌, ◌≤◌, ◌^◌, [], codes, length, IfOk, IfErr, MatchResult, OnOk};
+ghost use Rattle.std.specs.Prelude.{◌≡◌, ◌++◌, ◌<◌, ◌≤◌, ◌^◌, [], codes, length, IfOk, IfErr, MatchResult};
 ghost use Rattle.hex.specs.Hex.{encode_lower};
 ghost use Rattle.pb_encode.specs.Encoding.{bytes_of};
 ghost use Rattle.pb_command.specs.Answer.{done, saves, refused};
@@ -8,7 +8,7 @@ ghost use Rattle.pb_command.specs.FileMap.{IsSaved, IsUnsaved};
 ghost use Rattle.pb_listing.specs.Listing.{listing};
 ghost use Rattle.pb_command.specs.MessageAnswer.{CanonAnswer, FormAnswer};
 ghost use Rattle.pb_listing.specs.RawListing.{line_feed};
-ghost use Rattle.pb_command.specs.Refusal.{Refuses, refusal_status};
+ghost use Rattle.pb_command.specs.Refusal.{KeepsFailures, Refuses};
 ghost use Rattle.pb_command.specs.Report.{too_large_line};
 ghost use Rattle.pb_output.specs.Sending.{Cut, Sent};
 ghost use Rattle.pb_command.specs.Steps.{Comes, IsNothing, NoFile};
@@ -43,8 +43,7 @@ pub fn make<'a, F: Files, O: Output>(
     ensures comes { Comes (Sent O.written O.failures out.old out.new) (Cut O.written O.failures out.old out.new)
         (IsSaved F.contents files.old files.new) (IsUnsaved F.contents F.failures files.old files.new)
         (FormAnswer form.entry message.now) IsNothing result }
-    ensures kept { OnOk result (F.failures files.new ≡ F.failures files.old) }
-    ensures told { IfErr result (λ e. refusal_status e ≢ 3 → F.failures files.new ≡ F.failures files.old) }
+    ensures kept { KeepsFailures F.failures files.old files.new result }
 {
     match form {
         Form::Check => print_ok(out),
@@ -110,8 +109,7 @@ fn save_canonical<'a, F: Files>(
     ensures comes { Comes (λ text. text ≡ []) (λ _. ⊥)
         (IsSaved F.contents files.old files.new) (IsUnsaved F.contents F.failures files.old files.new)
         (CanonAnswer (bytes_of message.now) (saves path.entry.now (bytes_of message.now))) IsNothing result }
-    ensures kept { OnOk result (F.failures files.new ≡ F.failures files.old) }
-    ensures told { IfErr result (λ e. refusal_status e ≢ 3 → F.failures files.new ≡ F.failures files.old) }
+    ensures kept { KeepsFailures F.failures files.old files.new result }
 {
     let bytes = canonical(message)?;
     match files.write_whole(path, &bytes) {

@@ -1,6 +1,6 @@
 //! The messages of a file, each behind its length.
 
-ghost use Rattle.std.specs.Prelude.{◌≡◌, ◌≢◌, ◌++◌, ◌<◌, false, codes, decimal, length, OnOk, IfErr};
+ghost use Rattle.std.specs.Prelude.{◌≡◌, ◌++◌, ◌<◌, false, codes, decimal, length};
 ghost use Rattle.pb_wire.specs.Limits.{full};
 ghost use Rattle.pb_command.specs.FileMap.{IsSaved, IsUnsaved};
 ghost use Rattle.pb_command.specs.FramesAnswer.{frame_lines};
@@ -9,7 +9,7 @@ ghost use Rattle.pb_output.specs.Sending.{Cut, Sent};
 ghost use Rattle.pb_output.specs.Sink.{Puts};
 ghost use Rattle.pb_command.specs.Steps.{Comes, NoFile, StreamAt, StreamBegun, StreamBegunAt, StreamOf};
 ghost use Rattle.pb_command.specs.Streaming.{FramesBegunIn, FramesIn, IsToldOfFrame, PutsFrames, PutsNext};
-ghost use Rattle.pb_command.specs.Refusal.{refusal_status};
+ghost use Rattle.pb_command.specs.Refusal.{KeepsFailures};
 
 use crate::by_type::find_type;
 use crate::command::Source;
@@ -46,8 +46,7 @@ pub fn frames<'a, F: Files, O: Output>(
     ensures comes { Comes (Sent O.written O.failures out.old out.new) (Cut O.written O.failures out.old out.new)
         (IsSaved F.contents files.old files.new) (IsUnsaved F.contents F.failures files.old files.new)
         (StreamOf F.contents F.is_steady files.old source.now) (StreamBegun F.contents F.is_steady files.old source.now) result }
-    ensures kept { OnOk result (F.failures files.new ≡ F.failures files.old) }
-    ensures told { IfErr result (λ e. refusal_status e ≢ 3 → F.failures files.new ≡ F.failures files.old) }
+    ensures kept { KeepsFailures F.failures files.old files.new result }
 {
     let (pool, kind) = find_type(alloc, source, files)?;
     frames_at(alloc, &pool, kind, source.file, files, out)
@@ -67,8 +66,7 @@ fn frames_at<'a, F: Files, O: Output>(
         (IsSaved F.contents files.old files.new) (IsUnsaved F.contents F.failures files.old files.new)
         (StreamAt F.contents F.is_steady files.old pool.now kind.0 path.entry.now)
         (StreamBegunAt F.contents F.is_steady files.old pool.now kind.0 path.entry.now) result }
-    ensures kept { OnOk result (F.failures files.new ≡ F.failures files.old) }
-    ensures told { IfErr result (λ e. refusal_status e ≢ 3 → F.failures files.new ≡ F.failures files.old) }
+    ensures kept { KeepsFailures F.failures files.old files.new result }
 {
     let input = open_file(path, files)?;
     let mut reader = DelimitedReader::new(alloc, pool, kind, input, Limits::FULL);

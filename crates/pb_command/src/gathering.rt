@@ -1,12 +1,12 @@
 //! The sources of a set: each file in turn, behind its imports and once.
 
-ghost use Rattle.std.specs.Prelude.{◌≡◌, ◌≢◌, [], ◌∷◌, map, true, option_map, IfOk, IfErr, OnOk};
+ghost use Rattle.std.specs.Prelude.{◌≡◌, [], ◌∷◌, map, true, option_map, IfOk, IfErr, OnOk};
 ghost use Rattle.pb_decl.specs.View.{file_view};
 ghost use Rattle.pb_command.specs.CompileAnswer.{roots_of, texts_of, told_of};
 ghost use Rattle.pb_command.specs.FileMap.{KeepsMap};
 ghost use Rattle.pb_command.specs.Gathering.{Gathered, Trouble, gathered, given, imported, nothing_yet, with_file};
 ghost use Rattle.pb_command.specs.Reaching.{FindsImport, Moves, OpensFound, RefusesImport, StopsInside, open_view, reached, stack_of};
-ghost use Rattle.pb_command.specs.Refusal.{Refuses, refusal_status};
+ghost use Rattle.pb_command.specs.Refusal.{KeepsFailures, Refuses};
 ghost use Rattle.pb_command.specs.Steps.{AbsentOf, DeclaredOf, GathersOf, StopsOf, TroubleOf};
 
 use crate::command::Roots;
@@ -44,8 +44,7 @@ pub fn gather<'a, F: Files>(
         × GathersOf F.contents F.is_steady files.old (roots_of roots.entry) given (texts_of names.now) nothing_yet (gathered g)
         × (map file_view v.items ≡ g.files)) }
     ensures refused { IfErr result (Refuses (StopsOf F.contents F.is_steady files.old (roots_of roots.entry) given (texts_of names.now) nothing_yet)) }
-    ensures kept { OnOk result (F.failures files.new ≡ F.failures files.old) }
-    ensures told { IfErr result (λ e. refusal_status e ≢ 3 → F.failures files.new ≡ F.failures files.old) }
+    ensures kept { KeepsFailures F.failures files.old files.new result }
     ensures steady { F.is_steady files.old ≡ true → F.is_steady files.new ≡ true }
     ensures files { KeepsMap (F.contents files.old) (F.contents files.new) }
 {
@@ -84,8 +83,7 @@ impl Gathering {
         ensures taken { OnOk result
             (GathersOf F.contents F.is_steady files.old (roots_of roots.entry) given (name.now ∷ []) (reached self.old) (gathered (reached self.new))) }
         ensures refused { IfErr result (Refuses (StopsOf F.contents F.is_steady files.old (roots_of roots.entry) given (name.now ∷ []) (reached self.old))) }
-        ensures kept { OnOk result (F.failures files.new ≡ F.failures files.old) }
-        ensures told { IfErr result (λ e. refusal_status e ≢ 3 → F.failures files.new ≡ F.failures files.old) }
+        ensures kept { KeepsFailures F.failures files.old files.new result }
         ensures steady { F.is_steady files.old ≡ true → F.is_steady files.new ≡ true }
         ensures files { KeepsMap (F.contents files.old) (F.contents files.new) }
     {
@@ -111,8 +109,7 @@ impl Gathering {
             × (reached self.new ≡ with_file (file_view file) g)) }
         ensures refused { IfErr result
             (Refuses (StopsOf F.contents F.is_steady files.old (roots_of roots.entry) imported (file_view file).imports (reached self.old))) }
-        ensures kept { OnOk result (F.failures files.new ≡ F.failures files.old) }
-        ensures told { IfErr result (λ e. refusal_status e ≢ 3 → F.failures files.new ≡ F.failures files.old) }
+        ensures kept { KeepsFailures F.failures files.old files.new result }
         ensures steady { F.is_steady files.old ≡ true → F.is_steady files.new ≡ true }
         ensures files { KeepsMap (F.contents files.old) (F.contents files.new) }
     {
@@ -142,8 +139,7 @@ impl Gathering {
             (open_view innermost ∷ stack_of stack.old.items) (reached self.new) (stack_of stack.new.items)) }
         ensures refused { IfErr result
             (Refuses (StopsInside (TroubleOf F.contents F.is_steady files.old (roots_of roots.entry)) (reached self.old) (open_view innermost).left)) }
-        ensures kept { OnOk result (F.failures files.new ≡ F.failures files.old) }
-        ensures told { IfErr result (λ e. refusal_status e ≢ 3 → F.failures files.new ≡ F.failures files.old) }
+        ensures kept { KeepsFailures F.failures files.old files.new result }
         ensures steady { F.is_steady files.old ≡ true → F.is_steady files.new ≡ true }
         ensures files { KeepsMap (F.contents files.old) (F.contents files.new) }
     {
@@ -175,8 +171,7 @@ impl Gathering {
         ensures refused { IfErr result (Refuses (λ a. (t : Trouble)
             × RefusesImport (TroubleOf F.contents F.is_steady files.old (roots_of roots.entry)) (reached self.old) name.now t
             × (a ≡ told_of name.now t))) }
-        ensures kept { OnOk result (F.failures files.new ≡ F.failures files.old) }
-        ensures told { IfErr result (λ e. refusal_status e ≢ 3 → F.failures files.new ≡ F.failures files.old) }
+        ensures kept { KeepsFailures F.failures files.old files.new result }
         ensures steady { F.is_steady files.old ≡ true → F.is_steady files.new ≡ true }
         ensures files { KeepsMap (F.contents files.old) (F.contents files.new) }
     {

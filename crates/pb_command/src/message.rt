@@ -1,10 +1,10 @@
 //! The message of a file, by its type.
 
-ghost use Rattle.std.specs.Prelude.{◌≡◌, ◌≢◌, ◌<◌, length, OnOk, IfErr};
+ghost use Rattle.std.specs.Prelude.{◌<◌, length};
 ghost use Rattle.pb_command.specs.FileMap.{IsSaved, IsUnsaved};
 ghost use Rattle.pb_output.specs.Sending.{Cut, Sent};
 ghost use Rattle.pb_command.specs.Steps.{Comes, IsNothing, MessageAt, MessageOf};
-ghost use Rattle.pb_command.specs.Refusal.{refusal_status};
+ghost use Rattle.pb_command.specs.Refusal.{KeepsFailures};
 
 use crate::by_type::{find_type, read_message};
 use crate::command::Source;
@@ -26,8 +26,7 @@ pub fn message<'a, F: Files, O: Output>(
     ensures comes { Comes (Sent O.written O.failures out.old out.new) (Cut O.written O.failures out.old out.new)
         (IsSaved F.contents files.old files.new) (IsUnsaved F.contents F.failures files.old files.new)
         (MessageOf F.contents F.is_steady files.old form.entry source.now) IsNothing result }
-    ensures kept { OnOk result (F.failures files.new ≡ F.failures files.old) }
-    ensures told { IfErr result (λ e. refusal_status e ≢ 3 → F.failures files.new ≡ F.failures files.old) }
+    ensures kept { KeepsFailures F.failures files.old files.new result }
 {
     let (pool, kind) = find_type(alloc, source, files)?;
     message_at(alloc, form, &pool, kind, source.file, files, out)
@@ -47,8 +46,7 @@ fn message_at<'a, F: Files, O: Output>(
     ensures comes { Comes (Sent O.written O.failures out.old out.new) (Cut O.written O.failures out.old out.new)
         (IsSaved F.contents files.old files.new) (IsUnsaved F.contents F.failures files.old files.new)
         (MessageAt F.contents F.is_steady files.old form.entry pool.now kind.0 path.entry.now) IsNothing result }
-    ensures kept { OnOk result (F.failures files.new ≡ F.failures files.old) }
-    ensures told { IfErr result (λ e. refusal_status e ≢ 3 → F.failures files.new ≡ F.failures files.old) }
+    ensures kept { KeepsFailures F.failures files.old files.new result }
 {
     let message = read_message(alloc, pool, kind, path, files)?;
     make(form, &message, files, out)

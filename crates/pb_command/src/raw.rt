@@ -1,6 +1,6 @@
 //! The records of a file, without a schema.
 
-ghost use Rattle.std.specs.Prelude.{◌≡◌, ◌≢◌, ◌+◌, ◌^◌, ◌<◌, ◌≤◌, ℕ, List, Option, OnOk, IfErr};
+ghost use Rattle.std.specs.Prelude.{◌≡◌, ◌+◌, ◌^◌, ◌<◌, ◌≤◌, ℕ, List, Option};
 ghost use Rattle.pb_wire.specs.Record.{Record};
 ghost use Rattle.pb_wire.specs.Schema.{blank};
 ghost use Rattle.pb_wire.specs.Grammar.{IsText};
@@ -10,7 +10,7 @@ ghost use Rattle.pb_command.specs.FileMap.{IsSaved, IsUnsaved, KeepsMap};
 ghost use Rattle.pb_command.specs.RawAnswer.{RawAnswer, shown_as};
 ghost use Rattle.pb_output.specs.Sending.{Cut, Sent};
 ghost use Rattle.pb_command.specs.Steps.{Comes, IsNothing, IsReadOf, Judges, NoFile};
-ghost use Rattle.pb_command.specs.Refusal.{refusal_status};
+ghost use Rattle.pb_command.specs.Refusal.{KeepsFailures};
 
 use crate::files::Files;
 use crate::reading::read_file;
@@ -34,8 +34,7 @@ pub fn raw<'a, F: Files, O: Output>(
         (IsSaved F.contents files.old files.new) (IsUnsaved F.contents F.failures files.old files.new)
         (λ a. (content : Option (List ℕ)) × IsReadOf F.contents F.is_steady files.old (limits.bytes + 1) path.entry.now content
         × RawAnswer limits short path.entry.now content a) IsNothing result }
-    ensures kept { OnOk result (F.failures files.new ≡ F.failures files.old) }
-    ensures told { IfErr result (λ e. refusal_status e ≢ 3 → F.failures files.new ≡ F.failures files.old) }
+    ensures kept { KeepsFailures F.failures files.old files.new result }
     ensures files { KeepsMap (F.contents files.old) (F.contents files.new) }
 {
     let text = read_judged(alloc, limits, path, files)?;
@@ -51,8 +50,7 @@ fn read_judged<'a, F: Files>(
     files: &mut F,
 ) -> Result<Vec<u8>, Refusal<'a>>
     ensures judged { Judges limits path.entry.now (IsReadOf F.contents F.is_steady files.old (limits.bytes + 1) path.entry.now) result }
-    ensures kept { OnOk result (F.failures files.new ≡ F.failures files.old) }
-    ensures told { IfErr result (λ e. refusal_status e ≢ 3 → F.failures files.new ≡ F.failures files.old) }
+    ensures kept { KeepsFailures F.failures files.old files.new result }
     ensures files { KeepsMap (F.contents files.old) (F.contents files.new) }
 {
     let text = read_file(alloc, limits, path, files)?;

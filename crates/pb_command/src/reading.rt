@@ -1,9 +1,9 @@
 //! Opening the file that a command reads, and reading it.
 
-ghost use Rattle.std.specs.Prelude.{◌≡◌, ◌≢◌, ◌+◌, true, None, Some, drop, IfOk, IfErr, IfSome, IsErrOf, OnOk};
+ghost use Rattle.std.specs.Prelude.{◌≡◌, ◌+◌, true, None, Some, drop, IfOk, IfErr, IfSome, IsErrOf, OnOk};
 ghost use Rattle.pb_command.specs.Answer.{device_failed};
 ghost use Rattle.pb_command.specs.FileMap.{IsOpened, KeepsMap};
-ghost use Rattle.pb_command.specs.Refusal.{Refuses, refusal_status};
+ghost use Rattle.pb_command.specs.Refusal.{KeepsFailures, Refuses};
 ghost use Rattle.pb_command.specs.Steps.{IsReadFrom, IsReadOf, OfFiles};
 
 use crate::files::Files;
@@ -17,8 +17,7 @@ pub fn open_file<'a, F: Files>(path: &'a str, files: &mut F) -> Result<F::In, Re
         (λ content. IsOpened F.In.left content (Some input) × (F.In.is_steady input ≡ true))) }
     ensures refused { IfErr result (Refuses (λ a. OfFiles F.contents F.is_steady files.old path.entry.now (λ content. content ≡ None)
         × (a ≡ device_failed path.entry.now))) }
-    ensures kept { OnOk result (F.failures files.new ≡ F.failures files.old) }
-    ensures told { IfErr result (λ e. refusal_status e ≢ 3 → F.failures files.new ≡ F.failures files.old) }
+    ensures kept { KeepsFailures F.failures files.old files.new result }
     ensures steady { F.is_steady files.old ≡ true → F.is_steady files.new ≡ true }
     ensures files { KeepsMap (F.contents files.old) (F.contents files.new) }
 {
@@ -38,8 +37,7 @@ pub fn read_file<'a, F: Files>(
     ensures read { IfOk result (λ v. IsReadOf F.contents F.is_steady files.old (limits.bytes + 1) path.entry.now (Some v.items)) }
     ensures refused { IfErr result (Refuses (λ a. IsReadOf F.contents F.is_steady files.old (limits.bytes + 1) path.entry.now None
         × (a ≡ device_failed path.entry.now))) }
-    ensures kept { OnOk result (F.failures files.new ≡ F.failures files.old) }
-    ensures told { IfErr result (λ e. refusal_status e ≢ 3 → F.failures files.new ≡ F.failures files.old) }
+    ensures kept { KeepsFailures F.failures files.old files.new result }
     ensures steady { F.is_steady files.old ≡ true → F.is_steady files.new ≡ true }
     ensures files { KeepsMap (F.contents files.old) (F.contents files.new) }
 {

@@ -12,7 +12,7 @@ ghost use Rattle.pb_output.specs.Sink.{Puts};
 use pb_descr::{DeclCause, DescrError};
 use pb_link::{LinkCause, LinkError};
 use pb_output::Sink;
-use pb_source::Cause as SourceCause;
+use pb_source::SourceCause;
 use pb_wire::{Cause, DeviceFault, Output, PathStep, RawError};
 use std::alloc::{AllocError, AllocFailed};
 

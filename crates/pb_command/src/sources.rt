@@ -1,15 +1,15 @@
 //! Sources, read from files under roots.
 
-ghost use Rattle.std.specs.Prelude.{◌≡◌, ◌≢◌, ◌+◌, true, ℕ, None, option_map, string_bytes, IfOk, IfErr, IsErrOf, MatchOption, OnOk};
+ghost use Rattle.std.specs.Prelude.{◌≡◌, ◌+◌, true, ℕ, None, option_map, string_bytes, IfOk, IfErr, IsErrOf, MatchOption, OnOk};
 ghost use Rattle.pb_decl.specs.View.{file_view};
 ghost use Rattle.pb_source.specs.Source.{HasFault, IsSource};
-ghost use Rattle.pb_source.specs.declared.fault.Cause.{Cause as SourceCause};
+ghost use Rattle.pb_source.specs.declared.fault.SourceCause.{SourceCause};
 ghost use Rattle.pb_wire.specs.Limits.{full};
 ghost use Rattle.pb_command.specs.Answer.{refused};
 ghost use Rattle.pb_command.specs.CompileAnswer.{roots_of, texts_of, told_of};
 ghost use Rattle.pb_command.specs.FileMap.{KeepsMap};
 ghost use Rattle.pb_command.specs.Gathering.{DeclaresAt, HasTroubleAt, Trouble, climbs, given, imported, leaves_root, path_under, unread};
-ghost use Rattle.pb_command.specs.Refusal.{Refuses, refusal_status};
+ghost use Rattle.pb_command.specs.Refusal.{KeepsFailures, Refuses};
 ghost use Rattle.pb_command.specs.Report.{source_line};
 ghost use Rattle.pb_command.specs.Steps.{AbsentOf, DeclaredOf, Fails, IsAt, IsReadOf, TroubleOf};
 
@@ -17,7 +17,7 @@ use crate::command::Roots;
 use crate::files::Files;
 use crate::report::Refusal;
 use pb_descr::FileDecl;
-use pb_source::{Cause, SourceFault, parse};
+use pb_source::{SourceCause, SourceFault, parse};
 use pb_wire::{DeviceFault, Limits, ReadFault, read_up_to};
 use std::alloc::{AllocError, Global};
 
@@ -73,10 +73,10 @@ fn read_bytes<F: Files>(
 
 /// Why a source of this name is refused.
 fn refusal_of<'a>(alloc: Global, name: &str, fault: SourceFault) -> Refusal<'a>
-    ensures memory { fault.cause ≡ Cause.Memory → result ≡ Refusal.Memory }
+    ensures memory { fault.cause ≡ SourceCause.Memory → result ≡ Refusal.Memory }
     ensures told { Refuses (λ a. a ≡ refused (source_line name.now fault.byte fault.cause)) result }
 {
-    if fault.cause == Cause::Memory {
+    if fault.cause == SourceCause::Memory {
         return Refusal::Memory;
     }
     match String::from_str(alloc, name) {
@@ -113,8 +113,7 @@ fn read_under<'a, F: Files>(
     ensures refused { IfErr result (Refuses (λ a. (t : Trouble)
         × HasTroubleAt (IsAt F.contents F.is_steady files.old) (path_under root.now name.now) (Fails F.contents F.is_steady files.old) t
         × (a ≡ told_of name.now t))) }
-    ensures kept { OnOk result (F.failures files.new ≡ F.failures files.old) }
-    ensures told { IfErr result (λ e. refusal_status e ≢ 3 → F.failures files.new ≡ F.failures files.old) }
+    ensures kept { KeepsFailures F.failures files.old files.new result }
     ensures steady { F.is_steady files.old ≡ true → F.is_steady files.new ≡ true }
     ensures files { KeepsMap (F.contents files.old) (F.contents files.new) }
 {
@@ -141,8 +140,7 @@ fn read_first<'a, F: Files>(
         (λ f. DeclaredOf F.contents F.is_steady files.old (texts_of roots.now) name.now (file_view f))) }
     ensures refused { IfErr result (Refuses (λ a. (t : Trouble)
         × TroubleOf F.contents F.is_steady files.old (texts_of roots.now) imported name.now t × (a ≡ told_of name.now t))) }
-    ensures kept { OnOk result (F.failures files.new ≡ F.failures files.old) }
-    ensures told { IfErr result (λ e. refusal_status e ≢ 3 → F.failures files.new ≡ F.failures files.old) }
+    ensures kept { KeepsFailures F.failures files.old files.new result }
     ensures steady { F.is_steady files.old ≡ true → F.is_steady files.new ≡ true }
     ensures files { KeepsMap (F.contents files.old) (F.contents files.new) }
 {
@@ -165,8 +163,7 @@ pub fn read_source<'a, F: Files>(
         (λ f. DeclaredOf F.contents F.is_steady files.old (roots_of roots.entry) name.now (file_view f))) }
     ensures refused { IfErr result (Refuses (λ a. (t : Trouble)
         × TroubleOf F.contents F.is_steady files.old (roots_of roots.entry) imported name.now t × (a ≡ told_of name.now t))) }
-    ensures kept { OnOk result (F.failures files.new ≡ F.failures files.old) }
-    ensures told { IfErr result (λ e. refusal_status e ≢ 3 → F.failures files.new ≡ F.failures files.old) }
+    ensures kept { KeepsFailures F.failures files.old files.new result }
     ensures steady { F.is_steady files.old ≡ true → F.is_steady files.new ≡ true }
     ensures files { KeepsMap (F.contents files.old) (F.contents files.new) }
 {
@@ -186,8 +183,7 @@ pub fn read_given<'a, F: Files>(
     ensures read { IfOk result (λ f. DeclaredOf F.contents F.is_steady files.old (roots_of roots.entry) name.now (file_view f)) }
     ensures refused { IfErr result (Refuses (λ a. (t : Trouble)
         × TroubleOf F.contents F.is_steady files.old (roots_of roots.entry) given name.now t × (a ≡ told_of name.now t))) }
-    ensures kept { OnOk result (F.failures files.new ≡ F.failures files.old) }
-    ensures told { IfErr result (λ e. refusal_status e ≢ 3 → F.failures files.new ≡ F.failures files.old) }
+    ensures kept { KeepsFailures F.failures files.old files.new result }
     ensures steady { F.is_steady files.old ≡ true → F.is_steady files.new ≡ true }
     ensures files { KeepsMap (F.contents files.old) (F.contents files.new) }
 {

@@ -23,16 +23,16 @@ use Rattle.pb_schema.specs.Context.{Context, a_message as in_message, element_of
 use Rattle.pb_value.specs.Data.{Datum, Message, body, scalar, fields_of, unknown_of}
 use Rattle.pb_value.specs.Change.{push_at, push_each, with_fields}
 use Rattle.pb_value.proofs.ShapeSteps.{push_each-append}
-use Rattle.pb_decode.specs.declared.step.Step.{Step}
-use Rattle.pb_decode.specs.declared.step.Step.TheVariants as step
-use Rattle.pb_decode.specs.Frames.{Part, next_step, Frame, path_of, Held, at_top, inside, Stands, Scope}
-use Rattle.pb_decode.specs.Occurrences.{CountsOf}
-use Rattle.pb_decode.specs.declared.purpose.Purpose.{Purpose}
-use Rattle.pb_decode.specs.Numbers.{NumberFault, a_varint, eight_bytes, four_bytes}
-use Rattle.pb_decode.specs.Opened.{below}
-use Rattle.pb_decode.specs.Purposes.{Means, part_context}
-use Rattle.pb_decode.specs.PayloadValue.{IsBytesPurpose}
-use Rattle.pb_decode.specs.After.{Tag, tag, awaited, IsRoomFor, end_of_part, part_scope, Elements, with_numbers, with_elements, Underway, nothing, a_tag, a_length, some_elements, After}
+use Rattle.pb_decode.specs.declared.tokens.step.Step.{Step}
+use Rattle.pb_decode.specs.declared.tokens.step.Step.TheVariants as step
+use Rattle.pb_decode.specs.Open.Frames.{Part, next_step, Frame, path_of, Held, at_top, inside, Stands, Scope}
+use Rattle.pb_decode.specs.Open.Occurrences.{CountsOf}
+use Rattle.pb_decode.specs.declared.open.purpose.Purpose.{Purpose}
+use Rattle.pb_decode.specs.Tokens.Numbers.{NumberFault, a_varint, eight_bytes, four_bytes}
+use Rattle.pb_decode.specs.Open.Opened.{below}
+use Rattle.pb_decode.specs.Open.Purposes.{Means, part_context}
+use Rattle.pb_decode.specs.Values.PayloadValue.{IsBytesPurpose}
+use Rattle.pb_decode.specs.Tokens.After.{Tag, tag, awaited, IsRoomFor, end_of_part, part_scope, Elements, with_numbers, with_elements, Underway, nothing, a_tag, a_length, some_elements, After}
 use Rattle.pb_decode.proofs.OpenedLemmas.{begins_at_tag}
 use Rattle.pb_decode.proofs.FrameLemmas.{told, ends_longer, ends_along, stands_longer}
 use Rattle.pb_decode.proofs.PackedNumbers.{elements_next, elements_none, number_of, numbers_next}

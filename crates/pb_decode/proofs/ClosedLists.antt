@@ -21,7 +21,7 @@ use Rattle.pb_value.specs.Value.{fields_held, value_within}
 use Rattle.pb_value.specs.Change.{push_each, with_fields}
 use Rattle.pb_value.proofs.KnownLemmas.{IsWhole, settled-append, settled-same}
 use Rattle.pb_value.proofs.MessageSteps.{message_elements, message_unknown}
-use Rattle.pb_decode.specs.After.{with_number, with_numbers, with_elements}
+use Rattle.pb_decode.specs.Tokens.After.{with_number, with_numbers, with_elements}
 use Rattle.pb_decode.proofs.OpenLemmas.{fits_by_type}
 use Rattle.pb_decode.proofs.KindLemmas.{open_known, declared_known, own_whole}
 

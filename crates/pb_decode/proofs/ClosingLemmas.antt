@@ -7,9 +7,9 @@ use Rattle.pb_schema.specs.declared.types.Kind.TheVariants as kind
 use Rattle.pb_value.specs.Data.{message, empty}
 use Rattle.pb_value.specs.Value.{missing}
 use Rattle.pb_value.specs.Oneof.{default_value}
-use Rattle.pb_decode.specs.declared.part.Slot.TheVariants as slot
-use Rattle.pb_decode.specs.Frames.{Part, message_part, entry_part, group_part, put_group}
-use Rattle.pb_decode.specs.Numbers.{put_record}
+use Rattle.pb_decode.specs.declared.open.part.Slot.TheVariants as slot
+use Rattle.pb_decode.specs.Open.Frames.{Part, message_part, entry_part, group_part, put_group}
+use Rattle.pb_decode.specs.Values.Put.{put_record}
 
 -- a kind with no default is that of a message, which is then the empty one, or a closed enum
 pub missing_none : (k : Kind) → default_value k ≡ None → ((e : EnumId) → k ≡ kind.ClosedEnum e → ⊥) → missing (λ _ _. empty) k ≡ message empty

@@ -7,7 +7,7 @@ use Rattle.std.specs.Ordering.{nat_cmp, ordering_index}
 use Rattle.std.proofs.lemmas.Cmp.{ranked}
 use Rattle.std.proofs.lemmas.List.Sorted.{IsNonDecreasingBy-from_default}
 use Rattle.std.proofs.lemmas.Bool.Decides.{nat_tests}
-use Rattle.pb_decode.specs.Occurrences.{found, number_at, IsRising, IsAt, IsGapFor, IsKept}
+use Rattle.pb_decode.specs.Open.Occurrences.{found, number_at, IsRising, IsAt, IsGapFor, IsKept}
 
 -- WHAT A SEARCH FINDS
 

@@ -18,7 +18,7 @@ use Rattle.pb_decode.specs.declared.error.DecodeError.{DecodeError}
 use Rattle.pb_decode.specs.declared.error.DecodeError.TheVariants as error
 use Rattle.pb_decode.specs.declared.push.Reading.{Reading}
 use Rattle.pb_decode.specs.Reader.{state_view, IfFault}
-use Rattle.pb_decode.specs.Origin.{Origin, origin, further, TookFrom, IsWhole, BadFrom, ToldFrom}
+use Rattle.pb_decode.specs.Reader.Origin.{Origin, origin, further, TookFrom, IsWhole, BadFrom, ToldFrom}
 use Rattle.pb_decode.specs.FromDevice.{IfRefused, TakesAtMost}
 use Rattle.pb_decode.specs.Loops.{ReadsOn, ToldOf}
 use Rattle.pb_decode.proofs.OntoText.{text_from, whole_fault, beyond_told}

@@ -14,11 +14,11 @@ use Rattle.pb_schema.specs.declared.types.Kind.TheVariants as kind
 use Rattle.pb_schema.specs.Types.{Types, message_fields, field_numbered}
 use Rattle.pb_schema.specs.Kinds.{wire_type_of, is_packable}
 use Rattle.pb_schema.specs.Context.{a_message as in_message, element_of, schema_of}
-use Rattle.pb_decode.specs.declared.step.Step.{Step}
-use Rattle.pb_decode.specs.declared.step.Step.TheVariants as step
-use Rattle.pb_decode.specs.Frames.{path_of, next_step, Part, Frame, Scope}
-use Rattle.pb_decode.specs.Numbers.{NumberFault, a_varint, eight_bytes, four_bytes}
-use Rattle.pb_decode.specs.After.{After}
+use Rattle.pb_decode.specs.declared.tokens.step.Step.{Step}
+use Rattle.pb_decode.specs.declared.tokens.step.Step.TheVariants as step
+use Rattle.pb_decode.specs.Open.Frames.{path_of, next_step, Part, Frame, Scope}
+use Rattle.pb_decode.specs.Tokens.Numbers.{NumberFault, a_varint, eight_bytes, four_bytes}
+use Rattle.pb_decode.specs.Tokens.After.{After}
 use Rattle.pb_decode.specs.Reader.{State, here, own_step, path_here, Reads, AfterAt, Stops, cut, Told}
 use Rattle.pb_decode.proofs.ListSteps.{at_list, packed_field, list_told}
 use Rattle.pb_decode.proofs.ReaderLemmas.{passed_here}

@@ -22,10 +22,10 @@ use Rattle.pb_value.specs.Value.{last_of, all_elements, joined, one_value, value
 use Rattle.pb_value.proofs.StepLemmas.{filter-passes, filter-fails, last_of-snoc}
 use Rattle.pb_value.proofs.ShapeSteps.{all_elements-snoc, one_value-one, one_value-message}
 use Rattle.pb_value.proofs.MessageSteps.{value_of_nothing}
-use Rattle.pb_decode.specs.declared.part.Slot.TheVariants as slot
-use Rattle.pb_decode.specs.Opened as opened
-use Rattle.pb_decode.specs.Opened.{Begun}
-use Rattle.pb_decode.specs.Frames.{message_part, entry_part, group_part, Frame, Completes, inside, Stands, Scope, one_more_in}
+use Rattle.pb_decode.specs.declared.open.part.Slot.TheVariants as slot
+use Rattle.pb_decode.specs.Open.Opened as opened
+use Rattle.pb_decode.specs.Open.Opened.{Begun}
+use Rattle.pb_decode.specs.Open.Frames.{message_part, entry_part, group_part, Frame, Completes, inside, Stands, Scope, one_more_in}
 use Rattle.pb_decode.proofs.OpenedLemmas.{RecordTo, behind_nothing}
 use Rattle.pb_decode.proofs.StepCounts.{counts_of_none}
 use Rattle.pb_decode.proofs.WellLemmas.{kinds_in_pool, entry_value_good}

@@ -25,13 +25,13 @@ use Rattle.pb_value.specs.Value.{value_within}
 use Rattle.pb_value.specs.WellFormed.{IsBody}
 use Rattle.pb_value.specs.Change.{entries_of, AreKeys}
 use Rattle.pb_value.proofs.ListLemmas.{all_append}
-use Rattle.pb_decode.specs.declared.part.Slot.{Slot}
-use Rattle.pb_decode.specs.declared.part.Slot.TheVariants as slot
-use Rattle.pb_decode.specs.Occurrences.{CountsOf}
-use Rattle.pb_decode.specs.Opened.{Behind, Begun, Opened, below, outside}
-use Rattle.pb_decode.specs.Opened as opened
-use Rattle.pb_decode.specs.Frames.{Part, message_part, entry_part, group_part, put_message, put_group, put_entry, put_child, IsWorth, IsSameForm, IsPartOf, opening_type, open_type, Scope, one_more_in, Frame, EndsAt, up_to, GoesOnFrom, Takes, Held, at_top, inside, Stands}
-use Rattle.pb_decode.specs.Purposes.{part_context}
+use Rattle.pb_decode.specs.declared.open.part.Slot.{Slot}
+use Rattle.pb_decode.specs.declared.open.part.Slot.TheVariants as slot
+use Rattle.pb_decode.specs.Open.Occurrences.{CountsOf}
+use Rattle.pb_decode.specs.Open.Opened.{Behind, Begun, Opened, below, outside}
+use Rattle.pb_decode.specs.Open.Opened as opened
+use Rattle.pb_decode.specs.Open.Frames.{Part, message_part, entry_part, group_part, put_message, put_group, put_entry, put_child, IsWorth, IsSameForm, IsPartOf, opening_type, open_type, Scope, one_more_in, Frame, EndsAt, up_to, GoesOnFrom, Takes, Held, at_top, inside, Stands}
+use Rattle.pb_decode.specs.Open.Purposes.{part_context}
 use Rattle.pb_decode.proofs.StepCounts.{counts_of_none, counts_of_push}
 use Rattle.pb_decode.proofs.OpenedLemmas.{RecordTo, lift, bad_behind, behind_more, behind_nothing, behind_longer, begun_longer, begun_ends, begun_short}
 

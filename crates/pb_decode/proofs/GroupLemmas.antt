@@ -15,9 +15,9 @@ use Rattle.pb_schema.specs.declared.types.Shape.TheVariants as shape
 use Rattle.pb_schema.specs.Types.{FieldView, Types, field_numbered}
 use Rattle.pb_schema.specs.Context.{Context, a_message as in_message, an_entry, unknown_group, message_in, read_singular, read_listed, read_shaped, read_field, fields_in, schema_of}
 use Rattle.pb_value.specs.Data.{Message}
-use Rattle.pb_decode.specs.Opened.{Begun}
-use Rattle.pb_decode.specs.Opened as opened
-use Rattle.pb_decode.specs.Frames.{Part, message_part, group_part, put_message, put_group, open_type, one_more_in, Scope, Frame, path_of, Held, inside, Stands}
+use Rattle.pb_decode.specs.Open.Opened.{Begun}
+use Rattle.pb_decode.specs.Open.Opened as opened
+use Rattle.pb_decode.specs.Open.Frames.{Part, message_part, group_part, put_message, put_group, open_type, one_more_in, Scope, Frame, path_of, Held, inside, Stands}
 use Rattle.pb_decode.proofs.OpenedLemmas.{lift}
 use Rattle.pb_decode.proofs.FrameLemmas.{held_opened, is_payload, is_group}
 use Rattle.pb_decode.proofs.StepsOfParts.{ends_at_tag}

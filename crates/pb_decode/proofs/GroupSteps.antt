@@ -21,13 +21,13 @@ use Rattle.pb_value.specs.Value.{last_of, all_elements, one_value, value_within}
 use Rattle.pb_value.proofs.OneofLemmas.{pool_differ}
 use Rattle.pb_value.proofs.StepLemmas.{filter-fails, self_equal}
 use Rattle.pb_value.proofs.MessageSteps.{message_unknown}
-use Rattle.pb_decode.specs.declared.part.Slot.TheVariants as slot
-use Rattle.pb_decode.specs.declared.purpose.Purpose.{Purpose}
-use Rattle.pb_decode.specs.declared.purpose.Purpose.TheVariants as purpose
-use Rattle.pb_decode.specs.Opened as opened
-use Rattle.pb_decode.specs.Numbers.{put_record}
-use Rattle.pb_decode.specs.Purposes.{OfShape, AtField, IsNoMessage, Means, part_context}
-use Rattle.pb_decode.specs.Frames.{Part, message_part, entry_part, group_part, put_group, CanHold, IsWorth, Frame, Completes, inside, Scope, next_step, path_of, EndsAt, Stands, Takes}
+use Rattle.pb_decode.specs.declared.open.part.Slot.TheVariants as slot
+use Rattle.pb_decode.specs.declared.open.purpose.Purpose.{Purpose}
+use Rattle.pb_decode.specs.declared.open.purpose.Purpose.TheVariants as purpose
+use Rattle.pb_decode.specs.Open.Opened as opened
+use Rattle.pb_decode.specs.Values.Put.{put_record}
+use Rattle.pb_decode.specs.Open.Purposes.{OfShape, AtField, IsNoMessage, Means, part_context}
+use Rattle.pb_decode.specs.Open.Frames.{Part, message_part, entry_part, group_part, put_group, CanHold, IsWorth, Frame, Completes, inside, Scope, next_step, path_of, EndsAt, Stands, Takes}
 use Rattle.pb_decode.proofs.StepCounts.{counts_of_none}
 use Rattle.pb_decode.proofs.OpenedLemmas.{behind_nothing}
 use Rattle.pb_decode.proofs.FrameLemmas.{ends_along, part_of_context}

@@ -17,7 +17,7 @@ use Rattle.pb_schema.specs.Types.{Types}
 use Rattle.pb_schema.specs.Context.{a_message, schema_of}
 use Rattle.pb_value.specs.Data.{Message}
 use Rattle.pb_value.specs.Derives.{Text}
-use Rattle.pb_decode.specs.Origin.{origin, further, IsWhole, BadFrom}
+use Rattle.pb_decode.specs.Reader.Origin.{origin, further, IsWhole, BadFrom}
 use Rattle.pb_decode.specs.declared.error.DecodeError.{DecodeError}
 use Rattle.pb_decode.specs.declared.error.DecodeError.TheVariants as error
 use Rattle.pb_decode.specs.FromDevice.{IfRefused}

@@ -12,11 +12,11 @@ use Rattle.pb_wire.specs.Token.{given_at, passed}
 use Rattle.pb_wire.proofs.Tokens.{ends_some}
 use Rattle.pb_schema.specs.Types.{Types}
 use Rattle.pb_schema.specs.Context.{a_message as in_message, schema_of}
-use Rattle.pb_decode.specs.declared.purpose.Purpose.{Purpose}
-use Rattle.pb_decode.specs.declared.step.Step.{Step}
-use Rattle.pb_decode.specs.declared.step.Step.TheVariants as step
-use Rattle.pb_decode.specs.Frames.{EndsAt, path_of, next_step}
-use Rattle.pb_decode.specs.After.{awaited, After}
+use Rattle.pb_decode.specs.declared.open.purpose.Purpose.{Purpose}
+use Rattle.pb_decode.specs.declared.tokens.step.Step.{Step}
+use Rattle.pb_decode.specs.declared.tokens.step.Step.TheVariants as step
+use Rattle.pb_decode.specs.Open.Frames.{EndsAt, path_of, next_step}
+use Rattle.pb_decode.specs.Tokens.After.{awaited, After}
 use Rattle.pb_decode.specs.Reader.{State, left_of, here, own_step, path_here, Reads, Stops, cut, Told}
 use Rattle.pb_decode.proofs.FrameLemmas.{ends_along}
 use Rattle.pb_decode.proofs.TokenTold.{length_refused}

@@ -13,9 +13,9 @@ use Rattle.pb_value.specs.WellFormed.{HasOneMemberEach}
 use Rattle.pb_value.proofs.MessageSteps.{value_members}
 use Rattle.pb_value.proofs.OneofLemmas.{pool_differ}
 use Rattle.pb_value.proofs.StepLemmas.{found_number}
-use Rattle.pb_decode.specs.declared.step.Step.TheVariants as step
-use Rattle.pb_decode.specs.Frames.{Part, CanHold, Frame, Scope}
-use Rattle.pb_decode.specs.After.{with_elements, After}
+use Rattle.pb_decode.specs.declared.tokens.step.Step.TheVariants as step
+use Rattle.pb_decode.specs.Open.Frames.{Part, CanHold, Frame, Scope}
+use Rattle.pb_decode.specs.Tokens.After.{with_elements, After}
 use Rattle.pb_decode.proofs.ClosedLists.{list_value}
 use Rattle.pb_decode.proofs.WellLemmas.{type_in_pool}
 use Rattle.pb_decode.proofs.NumberSteps.{fits_is}

@@ -24,17 +24,18 @@ use Rattle.pb_schema.specs.Context.{Context, a_message as in_message, element_of
 use Rattle.pb_value.specs.Data.{Message, scalar, body, fields_of, unknown_of}
 use Rattle.pb_value.proofs.OneofLemmas.{pool_differ}
 use Rattle.pb_value.proofs.StepLemmas.{found_number}
-use Rattle.pb_decode.specs.declared.number.Number.{Number}
-use Rattle.pb_decode.specs.declared.number.Number.TheVariants as number
-use Rattle.pb_decode.specs.declared.purpose.Purpose.TheVariants as purpose
-use Rattle.pb_decode.specs.declared.step.Step.{Step}
-use Rattle.pb_decode.specs.declared.step.Step.TheVariants as step
-use Rattle.pb_decode.specs.Number.{number_view}
-use Rattle.pb_decode.specs.Numbers.{put_datum, put_record, Follows}
-use Rattle.pb_decode.specs.Opened.{below}
-use Rattle.pb_decode.specs.Purposes.{OfShape, AtField, Means, part_context}
-use Rattle.pb_decode.specs.Frames.{Part, message_part, entry_part, group_part, CanHold, up_to, next_step, Frame, path_of, Stands, Scope, one_more_in}
-use Rattle.pb_decode.specs.After.{tag, awaited, Elements, with_elements, Underway, nothing, a_tag, a_length, some_elements, After}
+use Rattle.pb_decode.specs.declared.tokens.number.Number.{Number}
+use Rattle.pb_decode.specs.declared.tokens.number.Number.TheVariants as number
+use Rattle.pb_decode.specs.declared.open.purpose.Purpose.TheVariants as purpose
+use Rattle.pb_decode.specs.declared.tokens.step.Step.{Step}
+use Rattle.pb_decode.specs.declared.tokens.step.Step.TheVariants as step
+use Rattle.pb_decode.specs.Tokens.Number.{number_view}
+use Rattle.pb_decode.specs.Tokens.Numbers.{Follows}
+use Rattle.pb_decode.specs.Values.Put.{put_datum, put_record}
+use Rattle.pb_decode.specs.Open.Opened.{below}
+use Rattle.pb_decode.specs.Open.Purposes.{OfShape, AtField, Means, part_context}
+use Rattle.pb_decode.specs.Open.Frames.{Part, message_part, entry_part, group_part, CanHold, up_to, next_step, Frame, path_of, Stands, Scope, one_more_in}
+use Rattle.pb_decode.specs.Tokens.After.{tag, awaited, Elements, with_elements, Underway, nothing, a_tag, a_length, some_elements, After}
 use Rattle.pb_decode.proofs.PackedLemmas.{elements_more, element_told, list_ends}
 use Rattle.pb_decode.proofs.PackedNumbers.{element_type, number_of, type_of_element}
 use Rattle.pb_decode.proofs.AfterLemmas.{at_tag, with_no_elements, with_next_element, with_next_undeclared}

@@ -28,16 +28,17 @@ use Rattle.pb_value.specs.Data.{Datum, Message, scalar, one, fields_of}
 use Rattle.pb_value.specs.Change.{IsSingle, stored_at, push_at, push_each, with_fields}
 use Rattle.pb_value.proofs.OneofLemmas.{pool_differ}
 use Rattle.pb_value.proofs.StepLemmas.{found_number, self_equal}
-use Rattle.pb_decode.specs.declared.number.Number.{Number}
-use Rattle.pb_decode.specs.declared.number.Number.TheVariants as number
-use Rattle.pb_decode.specs.declared.purpose.Purpose.{Purpose}
-use Rattle.pb_decode.specs.declared.purpose.Purpose.TheVariants as purpose
-use Rattle.pb_decode.specs.declared.step.Step.{Step}
-use Rattle.pb_decode.specs.Number.{number_view}
-use Rattle.pb_decode.specs.Numbers.{scalar_kind, key_in, put_datum, Follows}
-use Rattle.pb_decode.specs.Purposes.{OfShape, AtField, Means, part_context}
-use Rattle.pb_decode.specs.Frames.{Part, message_part, entry_part, group_part, CanHold, Frame, Stands, Scope, one_more_in}
-use Rattle.pb_decode.specs.After.{tag, awaited, After}
+use Rattle.pb_decode.specs.declared.tokens.number.Number.{Number}
+use Rattle.pb_decode.specs.declared.tokens.number.Number.TheVariants as number
+use Rattle.pb_decode.specs.declared.open.purpose.Purpose.{Purpose}
+use Rattle.pb_decode.specs.declared.open.purpose.Purpose.TheVariants as purpose
+use Rattle.pb_decode.specs.declared.tokens.step.Step.{Step}
+use Rattle.pb_decode.specs.Tokens.Number.{number_view}
+use Rattle.pb_decode.specs.Tokens.Numbers.{Follows}
+use Rattle.pb_decode.specs.Values.Put.{scalar_kind, key_in, put_datum}
+use Rattle.pb_decode.specs.Open.Purposes.{OfShape, AtField, Means, part_context}
+use Rattle.pb_decode.specs.Open.Frames.{Part, message_part, entry_part, group_part, CanHold, Frame, Stands, Scope, one_more_in}
+use Rattle.pb_decode.specs.Tokens.After.{tag, awaited, After}
 use Rattle.pb_decode.proofs.OpenedLemmas.{RecordTo, record_to}
 use Rattle.pb_decode.proofs.StepsOfParts.{scalar_stands, elements_stand}
 use Rattle.pb_decode.proofs.EntrySteps.{key_stands, value_stands}

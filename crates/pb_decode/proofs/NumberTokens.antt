@@ -4,9 +4,9 @@ use Rattle.pb_wire.specs.Fault.{Place}
 use Rattle.pb_wire.specs.Token.{TellsVarint, TellsFixed64, TellsFixed32}
 use Rattle.pb_wire.specs.declared.token.Token.TheVariants as wire
 use Rattle.pb_wire.specs.declared.fault.Cause.{Cause}
-use Rattle.pb_decode.specs.declared.number.Number.TheVariants as number
-use Rattle.pb_decode.specs.declared.number_token.NumberToken.TheVariants as token
-use Rattle.pb_decode.specs.Numbers.{a_varint, eight_bytes, four_bytes, TellsNumber}
+use Rattle.pb_decode.specs.declared.tokens.number.Number.TheVariants as number
+use Rattle.pb_decode.specs.declared.tokens.number_token.NumberToken.TheVariants as token
+use Rattle.pb_decode.specs.Tokens.Numbers.{a_varint, eight_bytes, four_bytes, TellsNumber}
 
 pub varint_whole : (p : Place) (n size : ℕ) → TellsVarint p (wire.Whole n size) → TellsNumber 0 p (token.Whole (number.Varint n) size)
 varint_whole p n size h = let reads = h.1 in let e = reads.1.value in let small : n < 2 ^ 64 = omega (arith, e) in (refl, h.0, (reads.0, (small, reads.1), reads.2))

@@ -29,7 +29,7 @@ use Rattle.pb_value.proofs.OntoLemmas.{onto_joined}
 use Rattle.pb_value.proofs.RoundTrip.{canonical_text}
 use Rattle.pb_value.proofs.JoinedTexts.{AreRecords-append, AllSound-append, AllSound-behind, records_behind}
 use Rattle.pb_decode.specs.Reader.{State, Stops, over, cut}
-use Rattle.pb_decode.specs.Origin.{origin, further, TookFrom, IsWhole, BadFrom, ToldFrom}
+use Rattle.pb_decode.specs.Reader.Origin.{origin, further, TookFrom, IsWhole, BadFrom, ToldFrom}
 use Rattle.pb_decode.specs.Onto.{IsTextOnto}
 use Rattle.pb_decode.specs.Push.{Took}
 use Rattle.pb_decode.proofs.OriginLemmas.{is_message, whole_there}

@@ -29,10 +29,10 @@ use Rattle.pb_value.proofs.OneofLemmas.{pool_differ}
 use Rattle.pb_value.proofs.StepLemmas.{after_giving_way, is_fellow, self_equal}
 use Rattle.pb_value.proofs.ShapeSteps.{held_message}
 use Rattle.pb_value.proofs.MessageSteps.{earlier, message_within, message_before, value_rises, value_members}
-use Rattle.pb_decode.specs.declared.part.Slot.TheVariants as slot
-use Rattle.pb_decode.specs.Opened.{Begun}
-use Rattle.pb_decode.specs.Opened as opened
-use Rattle.pb_decode.specs.Frames.{message_part, entry_part, group_part, opening_type, open_type, Frame, EndsAt, Completes, Held, inside, Stands, Scope}
+use Rattle.pb_decode.specs.declared.open.part.Slot.TheVariants as slot
+use Rattle.pb_decode.specs.Open.Opened.{Begun}
+use Rattle.pb_decode.specs.Open.Opened as opened
+use Rattle.pb_decode.specs.Open.Frames.{message_part, entry_part, group_part, opening_type, open_type, Frame, EndsAt, Completes, Held, inside, Stands, Scope}
 use Rattle.pb_schema.specs.Kinds.{message_of_kind}
 use Rattle.pb_value.proofs.KnownLemmas.{IsKnown}
 use Rattle.pb_decode.proofs.KindLemmas.{message_open, open_known}

@@ -25,10 +25,10 @@ use Rattle.pb_value.specs.Value.{last_of, all_elements, one_value, missing, entr
 use Rattle.pb_value.specs.WellFormed.{HasOneMemberEach, IsBody}
 use Rattle.pb_value.specs.Change.{push_at, insert_at, with_fields}
 use Rattle.pb_value.proofs.MessageSteps.{message_listed, message_entry, value_of_nothing, value_members}
-use Rattle.pb_decode.specs.declared.part.Slot.TheVariants as slot
-use Rattle.pb_decode.specs.Opened.{Begun}
-use Rattle.pb_decode.specs.Opened as opened
-use Rattle.pb_decode.specs.Frames.{message_part, entry_part, group_part, opening_type, Frame, Completes, Held, inside, Stands, Scope}
+use Rattle.pb_decode.specs.declared.open.part.Slot.TheVariants as slot
+use Rattle.pb_decode.specs.Open.Opened.{Begun}
+use Rattle.pb_decode.specs.Open.Opened as opened
+use Rattle.pb_decode.specs.Open.Frames.{message_part, entry_part, group_part, opening_type, Frame, Completes, Held, inside, Stands, Scope}
 use Rattle.pb_decode.proofs.KindLemmas.{message_open, map_open, open_known}
 use Rattle.pb_decode.proofs.StepCounts.{counts_of_none}
 use Rattle.pb_decode.proofs.WellLemmas.{type_in_pool, message_good, keys_good}

@@ -22,14 +22,14 @@ use Rattle.pb_value.specs.Data.{Datum, scalar, message, Holding, one, list, map,
 use Rattle.pb_value.specs.Change.{IsSingle, with_fields}
 use Rattle.pb_value.proofs.StepLemmas.{found_number}
 use Rattle.pb_value.proofs.ShapeSteps.{held_message}
-use Rattle.pb_decode.specs.declared.part.Slot.{Slot}
-use Rattle.pb_decode.specs.declared.part.Slot.TheVariants as slot
-use Rattle.pb_decode.specs.declared.purpose.Purpose.TheVariants as purpose
-use Rattle.pb_decode.specs.declared.step.Step.{Step}
-use Rattle.pb_decode.specs.Frames.{Part, message_part, entry_part, group_part, opening_type, CanHold, Frame, Scope, EndsAt, Stands}
-use Rattle.pb_decode.specs.Purposes.{OfShape, AtField, Means, part_context}
-use Rattle.pb_decode.specs.After.{tag, awaited, IsRoomFor, After}
-use Rattle.pb_decode.specs.Openings.{message_given, message_held, taken_message, without_message, room_in}
+use Rattle.pb_decode.specs.declared.open.part.Slot.{Slot}
+use Rattle.pb_decode.specs.declared.open.part.Slot.TheVariants as slot
+use Rattle.pb_decode.specs.declared.open.purpose.Purpose.TheVariants as purpose
+use Rattle.pb_decode.specs.declared.tokens.step.Step.{Step}
+use Rattle.pb_decode.specs.Open.Frames.{Part, message_part, entry_part, group_part, opening_type, CanHold, Frame, Scope, EndsAt, Stands}
+use Rattle.pb_decode.specs.Open.Purposes.{OfShape, AtField, Means, part_context}
+use Rattle.pb_decode.specs.Tokens.After.{tag, awaited, IsRoomFor, After}
+use Rattle.pb_decode.specs.Open.Openings.{message_given, message_held, taken_message, without_message, room_in}
 use Rattle.pb_decode.proofs.AfterLemmas.{at_tag}
 use Rattle.pb_decode.proofs.FrameLemmas.{ends_along}
 use Rattle.pb_decode.proofs.WellLemmas.{value_no_proto2}

@@ -17,7 +17,7 @@ use Rattle.pb_wire.proofs.Tokens.{ends_some}
 use Rattle.pb_wire.proofs.ReadingLemmas.{moves_both, AreRecords-push, AllSound-push, SpellsGroup-from_records}
 use Rattle.pb_wire.specs.declared.fault.Cause.TheVariants.{Truncated}
 use Rattle.std.proofs.lemmas.List.Elements.{All-nil}
-use Rattle.pb_decode.specs.Opened.{Behind, Begun, a_message, a_value, a_group, Opened, at_top, inner, below, outside}
+use Rattle.pb_decode.specs.Open.Opened.{Behind, Begun, a_message, a_value, a_group, Opened, at_top, inner, below, outside}
 
 -- WHERE A TAG STANDS A RECORD BEGINS
 

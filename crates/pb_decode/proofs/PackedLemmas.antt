@@ -16,10 +16,10 @@ use Rattle.pb_schema.specs.Fits.{fits}
 use Rattle.pb_schema.specs.Context.{a_message as in_message, schema_of}
 use Rattle.pb_value.specs.Data.{Message}
 use Rattle.pb_value.specs.Value.{value_within}
-use Rattle.pb_decode.specs.Opened.{below, outside}
-use Rattle.pb_decode.specs.After.{Elements, with_elements}
+use Rattle.pb_decode.specs.Open.Opened.{below, outside}
+use Rattle.pb_decode.specs.Tokens.After.{Elements, with_elements}
 use Rattle.pb_decode.proofs.ClosedLists.{list_value}
-use Rattle.pb_decode.specs.Frames.{Part, message_part, up_to, next_step, path_of, Frame, Stands, Scope, one_more_in}
+use Rattle.pb_decode.specs.Open.Frames.{Part, message_part, up_to, next_step, path_of, Frame, Stands, Scope, one_more_in}
 use Rattle.pb_decode.proofs.OpenedLemmas.{len_record, payload_bytes}
 use Rattle.pb_decode.proofs.FrameLemmas.{place_up_to, one_more}
 use Rattle.pb_decode.proofs.AfterLemmas.{told_inside}

@@ -26,17 +26,17 @@ use Rattle.pb_schema.specs.Context.{Context, a_message as in_message, an_entry a
 use Rattle.pb_value.specs.Data.{scalar}
 use Rattle.pb_value.specs.Change.{IsSingle}
 use Rattle.pb_value.proofs.StepLemmas.{self_equal}
-use Rattle.pb_decode.specs.declared.purpose.Purpose.{Purpose}
-use Rattle.pb_decode.specs.declared.purpose.Purpose.TheVariants as purpose
-use Rattle.pb_decode.specs.declared.step.Step.TheVariants as step
-use Rattle.pb_decode.specs.Numbers.{scalar_kind, key_in, put_datum, put_record}
-use Rattle.pb_decode.specs.Opened.{below}
-use Rattle.pb_decode.specs.declared.payload_value.PayloadError.{PayloadError}
-use Rattle.pb_decode.specs.declared.payload_value.PayloadError.TheVariants as error
-use Rattle.pb_decode.specs.PayloadValue.{IsPayloadError, IfBadText, IsBytesPurpose}
-use Rattle.pb_decode.specs.Purposes.{AtField, Means, part_context}
-use Rattle.pb_decode.specs.Frames.{Part, message_part, entry_part, group_part, CanHold, Frame, path_of, next_step, Stands, Scope, one_more_in}
-use Rattle.pb_decode.specs.After.{After}
+use Rattle.pb_decode.specs.declared.open.purpose.Purpose.{Purpose}
+use Rattle.pb_decode.specs.declared.open.purpose.Purpose.TheVariants as purpose
+use Rattle.pb_decode.specs.declared.tokens.step.Step.TheVariants as step
+use Rattle.pb_decode.specs.Values.Put.{scalar_kind, key_in, put_datum, put_record}
+use Rattle.pb_decode.specs.Open.Opened.{below}
+use Rattle.pb_decode.specs.declared.values.payload_value.PayloadError.{PayloadError}
+use Rattle.pb_decode.specs.declared.values.payload_value.PayloadError.TheVariants as error
+use Rattle.pb_decode.specs.Values.PayloadValue.{IsPayloadError, IfBadText, IsBytesPurpose}
+use Rattle.pb_decode.specs.Open.Purposes.{AtField, Means, part_context}
+use Rattle.pb_decode.specs.Open.Frames.{Part, message_part, entry_part, group_part, CanHold, Frame, path_of, next_step, Stands, Scope, one_more_in}
+use Rattle.pb_decode.specs.Tokens.After.{After}
 use Rattle.pb_decode.proofs.OpenedLemmas.{len_record}
 use Rattle.pb_decode.proofs.FrameLemmas.{part_of_context}
 use Rattle.pb_decode.proofs.AfterLemmas.{AtPayload, at_payload, told_inside}

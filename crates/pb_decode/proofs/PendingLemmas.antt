@@ -18,17 +18,17 @@ use Rattle.pb_schema.specs.declared.types.Kind.TheVariants as kind
 use Rattle.pb_schema.specs.declared.types.Shape.{Shape}
 use Rattle.pb_schema.specs.declared.types.Shape.TheVariants as shape
 use Rattle.pb_value.specs.Data.{Message}
-use Rattle.pb_decode.specs.declared.part.Slot.{Slot}
-use Rattle.pb_decode.specs.declared.part.Slot.TheVariants as slot
-use Rattle.pb_decode.specs.declared.step.Step.{Step}
-use Rattle.pb_decode.specs.declared.step.Step.TheVariants as step
-use Rattle.pb_decode.specs.Opened as opened
-use Rattle.pb_decode.specs.Opened.{Begun}
-use Rattle.pb_decode.specs.Frames.{Part, message_part, entry_part, group_part, IsSameForm, IsPartOf, Takes, Frame, Scope, Held, at_top, inside, Stands}
-use Rattle.pb_decode.specs.Numbers.{a_varint, eight_bytes, four_bytes}
-use Rattle.pb_decode.specs.After.{tag, After}
+use Rattle.pb_decode.specs.declared.open.part.Slot.{Slot}
+use Rattle.pb_decode.specs.declared.open.part.Slot.TheVariants as slot
+use Rattle.pb_decode.specs.declared.tokens.step.Step.{Step}
+use Rattle.pb_decode.specs.declared.tokens.step.Step.TheVariants as step
+use Rattle.pb_decode.specs.Open.Opened as opened
+use Rattle.pb_decode.specs.Open.Opened.{Begun}
+use Rattle.pb_decode.specs.Open.Frames.{Part, message_part, entry_part, group_part, IsSameForm, IsPartOf, Takes, Frame, Scope, Held, at_top, inside, Stands}
+use Rattle.pb_decode.specs.Tokens.Numbers.{a_varint, eight_bytes, four_bytes}
+use Rattle.pb_decode.specs.Tokens.After.{tag, After}
 use Rattle.pb_decode.specs.Reader.{State}
-use Rattle.pb_decode.specs.Waiting.{IsCutVarint, IsCutNumber, WaitsAt, Waits, lists_in}
+use Rattle.pb_decode.specs.Reader.Waiting.{IsCutVarint, IsCutNumber, WaitsAt, Waits, lists_in}
 use Rattle.pb_decode.specs.Push.{Took}
 use Rattle.pb_decode.specs.Pending.{Unfinished, in_tag, in_number, in_length, in_payload, in_list, EndsInside}
 use Rattle.pb_wire.specs.Grammar.{IsAllowed}

@@ -8,14 +8,14 @@ use Rattle.pb_wire.specs.Token.{given_at, passed}
 use Rattle.pb_wire.proofs.TokenLemmas.{moves_passed}
 use Rattle.pb_schema.specs.Types.{Types}
 use Rattle.pb_schema.specs.Rules.{IsPool}
-use Rattle.pb_decode.specs.declared.purpose.Purpose.{Purpose}
-use Rattle.pb_decode.specs.declared.purpose.Purpose.TheVariants as purpose
-use Rattle.pb_decode.specs.declared.step.Step.{Step}
-use Rattle.pb_decode.specs.declared.step.Step.TheVariants as step
-use Rattle.pb_decode.specs.PayloadValue.{IsBytesPurpose}
-use Rattle.pb_decode.specs.Purposes.{Means, part_context}
-use Rattle.pb_decode.specs.Frames.{Part, CanHold, Scope, Frame, EndsAt, Stands}
-use Rattle.pb_decode.specs.After.{tag, awaited, goes_down, IsRoomFor, After}
+use Rattle.pb_decode.specs.declared.open.purpose.Purpose.{Purpose}
+use Rattle.pb_decode.specs.declared.open.purpose.Purpose.TheVariants as purpose
+use Rattle.pb_decode.specs.declared.tokens.step.Step.{Step}
+use Rattle.pb_decode.specs.declared.tokens.step.Step.TheVariants as step
+use Rattle.pb_decode.specs.Values.PayloadValue.{IsBytesPurpose}
+use Rattle.pb_decode.specs.Open.Purposes.{Means, part_context}
+use Rattle.pb_decode.specs.Open.Frames.{Part, CanHold, Scope, Frame, EndsAt, Stands}
+use Rattle.pb_decode.specs.Tokens.After.{tag, awaited, goes_down, IsRoomFor, After}
 use Rattle.pb_decode.specs.Reader.{State, here, Reads}
 use Rattle.pb_decode.proofs.FrameLemmas.{ends_along}
 use Rattle.pb_decode.proofs.AfterLemmas.{after_tag, after_length}

@@ -9,21 +9,21 @@ use Rattle.pb_wire.specs.Fault.{Fault, fault, Place, input_end}
 use Rattle.pb_wire.specs.Spell.{Body}
 use Rattle.pb_decode.specs.declared.error.DecodeError.{DecodeError}
 use Rattle.pb_decode.specs.declared.error.DecodeError.TheVariants as error
-use Rattle.pb_decode.specs.declared.number.Number.{Number}
-use Rattle.pb_decode.specs.declared.number.Number.TheVariants as number
-use Rattle.pb_decode.specs.Number.{number_view}
+use Rattle.pb_decode.specs.declared.tokens.number.Number.{Number}
+use Rattle.pb_decode.specs.declared.tokens.number.Number.TheVariants as number
+use Rattle.pb_decode.specs.Tokens.Number.{number_view}
 use Rattle.pb_wire.specs.Token.{passed}
 use Rattle.pb_wire.specs.Schema.{records}
 use Rattle.pb_wire.specs.Grammar.{Bad}
 use Rattle.pb_schema.specs.Types.{Types}
 use Rattle.pb_schema.specs.Context.{a_message as in_message, schema_of}
-use Rattle.pb_decode.specs.declared.step.Step.{Step}
-use Rattle.pb_decode.specs.declared.step.Step.TheVariants as step
-use Rattle.pb_decode.specs.Frames.{Scope, path_of, next_step}
-use Rattle.pb_decode.specs.Numbers.{NumberFault, Follows}
+use Rattle.pb_decode.specs.declared.tokens.step.Step.{Step}
+use Rattle.pb_decode.specs.declared.tokens.step.Step.TheVariants as step
+use Rattle.pb_decode.specs.Open.Frames.{Scope, path_of, next_step}
+use Rattle.pb_decode.specs.Tokens.Numbers.{NumberFault, Follows}
 use Rattle.pb_wire.proofs.Tokens.{ends_some}
-use Rattle.pb_decode.specs.After.{Tag, tag, awaited, After}
-use Rattle.pb_decode.specs.declared.purpose.Purpose.{Purpose}
+use Rattle.pb_decode.specs.Tokens.After.{Tag, tag, awaited, After}
+use Rattle.pb_decode.specs.declared.open.purpose.Purpose.{Purpose}
 use Rattle.pb_decode.specs.Reader.{State, here, own_step, path_here, Reads, Stops, cut, Taken, Told, StandsAt, IfFault}
 use Rattle.pb_decode.proofs.AfterLemmas.{after_record, number_told}
 

@@ -20,10 +20,10 @@ use Rattle.pb_value.proofs.FieldExtent.{get_field-put_same}
 use Rattle.pb_value.proofs.FieldViews.{get_field-some}
 use Rattle.pb_value.proofs.ShapeSteps.{put_twice}
 use Rattle.pb_value.proofs.Views.{body_view-out}
-use Rattle.pb_decode.specs.declared.purpose.Purpose.TheVariants as purpose
-use Rattle.pb_decode.specs.Frames.{Part, message_part, entry_part, group_part}
-use Rattle.pb_decode.specs.Numbers.{put_datum}
-use Rattle.pb_decode.specs.Run.{put_listed, put_each}
+use Rattle.pb_decode.specs.declared.open.purpose.Purpose.TheVariants as purpose
+use Rattle.pb_decode.specs.Open.Frames.{Part, message_part, entry_part, group_part}
+use Rattle.pb_decode.specs.Values.Put.{put_datum}
+use Rattle.pb_decode.specs.Values.Run.{put_listed, put_each}
 use Rattle.pb_decode.proofs.ReaderLemmas.{slice_from}
 
 -- an element of a list is put at its end

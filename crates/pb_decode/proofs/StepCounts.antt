@@ -3,7 +3,7 @@ use Rattle.std.proofs.Common.{◌≡◌, ℕ, suc, ◌≤◌, eqb, List, [], ◌
 use Rattle.std.proofs.lemmas.Bool.Decides.{nat_tests}
 use Rattle.pb_wire.specs.Record.{Record}
 use Rattle.pb_wire.specs.Fault.{step}
-use Rattle.pb_decode.specs.Occurrences.{one_more_of, CountsOf}
+use Rattle.pb_decode.specs.Open.Occurrences.{one_more_of, CountsOf}
 
 -- before any record each count is 0
 pub counts_of_none : (count : ℕ → ℕ) → ((k : ℕ) → count k ≡ 0) → CountsOf count []

@@ -20,9 +20,9 @@ use Rattle.pb_value.specs.Data.{scalar, one, Message, body, fields_of, unknown_o
 use Rattle.pb_value.specs.Value.{value_within}
 use Rattle.pb_value.specs.Change.{IsSingle, push_each, stored_at, with_fields}
 use Rattle.pb_value.proofs.MessageSteps.{message_scalar, message_elements, message_unknown}
-use Rattle.pb_decode.specs.Opened.{Behind, Begun}
-use Rattle.pb_decode.specs.Opened as opened
-use Rattle.pb_decode.specs.Frames.{Part, message_part, put_child, IsWorth, opening_type, Frame, Held, inside, Stands, Scope, one_more_in}
+use Rattle.pb_decode.specs.Open.Opened.{Behind, Begun}
+use Rattle.pb_decode.specs.Open.Opened as opened
+use Rattle.pb_decode.specs.Open.Frames.{Part, message_part, put_child, IsWorth, opening_type, Frame, Held, inside, Stands, Scope, one_more_in}
 use Rattle.pb_decode.proofs.OpenedLemmas.{RecordTo, group_ends}
 use Rattle.pb_decode.proofs.FrameLemmas.{one_more, closed_stands, same_self, put_child-form}
 

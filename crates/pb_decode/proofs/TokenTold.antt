@@ -20,16 +20,16 @@ use Rattle.pb_schema.specs.Types.{FieldView, Types, message_fields, field_number
 use Rattle.pb_schema.specs.Kinds.{message_of_kind}
 use Rattle.pb_schema.specs.Fits.{fits_shape}
 use Rattle.pb_schema.specs.Context.{Context, a_message as in_message, an_entry, key_field, value_field, read_singular, read_shaped, read_field, schema_of}
-use Rattle.pb_decode.specs.declared.part.Slot.TheVariants as slot
-use Rattle.pb_decode.specs.declared.purpose.Purpose.{Purpose}
-use Rattle.pb_decode.specs.declared.purpose.Purpose.TheVariants as purpose
-use Rattle.pb_decode.specs.declared.step.Step.{Step}
-use Rattle.pb_decode.specs.Opened.{Begun, below}
-use Rattle.pb_decode.specs.Opened as opened
-use Rattle.pb_decode.specs.Purposes.{OfShape, AtField, Means, part_context}
-use Rattle.pb_decode.specs.Frames.{Part, message_part, entry_part, group_part, opening_type, open_type, Scope, Frame, EndsAt, next_step, path_of, Held, at_top, inside, Stands}
-use Rattle.pb_decode.specs.After.{tag, awaited, IsRoomFor, After}
-use Rattle.pb_decode.specs.Openings.{innermost_group}
+use Rattle.pb_decode.specs.declared.open.part.Slot.TheVariants as slot
+use Rattle.pb_decode.specs.declared.open.purpose.Purpose.{Purpose}
+use Rattle.pb_decode.specs.declared.open.purpose.Purpose.TheVariants as purpose
+use Rattle.pb_decode.specs.declared.tokens.step.Step.{Step}
+use Rattle.pb_decode.specs.Open.Opened.{Begun, below}
+use Rattle.pb_decode.specs.Open.Opened as opened
+use Rattle.pb_decode.specs.Open.Purposes.{OfShape, AtField, Means, part_context}
+use Rattle.pb_decode.specs.Open.Frames.{Part, message_part, entry_part, group_part, opening_type, open_type, Scope, Frame, EndsAt, next_step, path_of, Held, at_top, inside, Stands}
+use Rattle.pb_decode.specs.Tokens.After.{tag, awaited, IsRoomFor, After}
+use Rattle.pb_decode.specs.Open.Openings.{innermost_group}
 use Rattle.pb_decode.proofs.FrameLemmas.{part_of_context, ends_along}
 use Rattle.pb_decode.proofs.AfterLemmas.{at_tag, told_here, told_inside}
 

@@ -19,15 +19,16 @@ use Rattle.pb_value.specs.Data.{Message}
 use Rattle.pb_value.specs.Change.{IsSingle}
 use Rattle.pb_value.proofs.OneofLemmas.{pool_differ}
 use Rattle.pb_value.proofs.StepLemmas.{self_equal}
-use Rattle.pb_decode.specs.declared.number.Number.{Number}
-use Rattle.pb_decode.specs.declared.purpose.Purpose.{Purpose}
-use Rattle.pb_decode.specs.declared.purpose.Purpose.TheVariants as purpose
-use Rattle.pb_decode.specs.declared.step.Step.{Step}
-use Rattle.pb_decode.specs.Number.{number_view}
-use Rattle.pb_decode.specs.Numbers.{scalar_kind, put_record, Follows}
-use Rattle.pb_decode.specs.Purposes.{Means, part_context}
-use Rattle.pb_decode.specs.Frames.{Part, message_part, entry_part, group_part, CanHold, Frame, Stands, Scope, one_more_in}
-use Rattle.pb_decode.specs.After.{tag, awaited, After}
+use Rattle.pb_decode.specs.declared.tokens.number.Number.{Number}
+use Rattle.pb_decode.specs.declared.open.purpose.Purpose.{Purpose}
+use Rattle.pb_decode.specs.declared.open.purpose.Purpose.TheVariants as purpose
+use Rattle.pb_decode.specs.declared.tokens.step.Step.{Step}
+use Rattle.pb_decode.specs.Tokens.Number.{number_view}
+use Rattle.pb_decode.specs.Tokens.Numbers.{Follows}
+use Rattle.pb_decode.specs.Values.Put.{scalar_kind, put_record}
+use Rattle.pb_decode.specs.Open.Purposes.{Means, part_context}
+use Rattle.pb_decode.specs.Open.Frames.{Part, message_part, entry_part, group_part, CanHold, Frame, Stands, Scope, one_more_in}
+use Rattle.pb_decode.specs.Tokens.After.{tag, awaited, After}
 use Rattle.pb_decode.proofs.OpenedLemmas.{RecordTo}
 use Rattle.pb_decode.proofs.StepsOfParts.{unknown_stands}
 use Rattle.pb_decode.proofs.NumberSteps.{single_field, listed_field, no_key, no_entry_value, meant_type, number_record}

@@ -17,17 +17,18 @@ use Rattle.pb_value.proofs.KnownLemmas.{IsWhole}
 use Rattle.pb_schema.specs.Context.{schema_of}
 use Rattle.pb_value.proofs.JudgeLemmas.{fits_any-found, fits_any-none}
 use Rattle.pb_value.proofs.OneofLemmas.{pool_differ}
-use Rattle.pb_decode.specs.declared.number.Number.{Number}
-use Rattle.pb_decode.specs.declared.number.Number.TheVariants as number
-use Rattle.pb_decode.specs.declared.part.Slot.TheVariants as slot
-use Rattle.pb_decode.specs.declared.purpose.Purpose.{Purpose}
-use Rattle.pb_decode.specs.declared.purpose.Purpose.TheVariants as purpose
-use Rattle.pb_decode.specs.declared.step.Step.{Step}
-use Rattle.pb_decode.specs.Number.{number_view}
-use Rattle.pb_decode.specs.Numbers.{scalar_kind, put_record, Follows}
-use Rattle.pb_decode.specs.Purposes.{OfShape, AtField, Means, part_context}
-use Rattle.pb_decode.specs.Frames.{Part, message_part, entry_part, group_part, CanHold, Frame, Stands, Scope, one_more_in}
-use Rattle.pb_decode.specs.After.{tag, awaited, After}
+use Rattle.pb_decode.specs.declared.tokens.number.Number.{Number}
+use Rattle.pb_decode.specs.declared.tokens.number.Number.TheVariants as number
+use Rattle.pb_decode.specs.declared.open.part.Slot.TheVariants as slot
+use Rattle.pb_decode.specs.declared.open.purpose.Purpose.{Purpose}
+use Rattle.pb_decode.specs.declared.open.purpose.Purpose.TheVariants as purpose
+use Rattle.pb_decode.specs.declared.tokens.step.Step.{Step}
+use Rattle.pb_decode.specs.Tokens.Number.{number_view}
+use Rattle.pb_decode.specs.Tokens.Numbers.{Follows}
+use Rattle.pb_decode.specs.Values.Put.{scalar_kind, put_record}
+use Rattle.pb_decode.specs.Open.Purposes.{OfShape, AtField, Means, part_context}
+use Rattle.pb_decode.specs.Open.Frames.{Part, message_part, entry_part, group_part, CanHold, Frame, Stands, Scope, one_more_in}
+use Rattle.pb_decode.specs.Tokens.After.{tag, awaited, After}
 use Rattle.pb_decode.proofs.OpenedLemmas.{RecordTo}
 use Rattle.pb_decode.proofs.FrameLemmas.{one_more}
 use Rattle.pb_decode.proofs.StepsOfParts.{unknown_stands}

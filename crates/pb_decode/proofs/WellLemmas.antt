@@ -31,11 +31,11 @@ use Rattle.pb_value.proofs.ValueLemmas.{within-good}
 use Rattle.pb_value.proofs.MergedWell.{stored_in}
 use Rattle.pb_value.proofs.OntoWell.{within_onward}
 use Rattle.pb_value.proofs.ShapeSteps.{held_message}
-use Rattle.pb_decode.specs.declared.part.Slot.{Slot}
-use Rattle.pb_decode.specs.declared.part.Slot.TheVariants as slot
-use Rattle.pb_decode.specs.Opened.{Begun}
-use Rattle.pb_decode.specs.Opened as opened
-use Rattle.pb_decode.specs.Frames.{Part, message_part, entry_part, group_part, CanHold, Scope, Frame, GoesOnFrom, Takes, Held, at_top, inside, Stands}
+use Rattle.pb_decode.specs.declared.open.part.Slot.{Slot}
+use Rattle.pb_decode.specs.declared.open.part.Slot.TheVariants as slot
+use Rattle.pb_decode.specs.Open.Opened.{Begun}
+use Rattle.pb_decode.specs.Open.Opened as opened
+use Rattle.pb_decode.specs.Open.Frames.{Part, message_part, entry_part, group_part, CanHold, Scope, Frame, GoesOnFrom, Takes, Held, at_top, inside, Stands}
 
 -- THE BYTES
 

@@ -1,7 +1,9 @@
 -- What a reader takes from an input, and what an answer says of its failures.
-use Rattle.std.specs.Prelude.{◌≡◌, ◌≢◌, ℕ, ◌≤◌, List, length, Option, Result, Ok, Err}
+use Rattle.std.specs.Prelude.{◌≡◌, ◌≢◌, ℕ, ◌≤◌, List, length, Option, Result, Ok, Err, IsErrAnd, MatchResult}
 use Rattle.std.specs.Io.KnownBytes.{Consumes}
 use Rattle.pb_wire.specs.Fault.{Fault, fault}
+use Rattle.pb_value.specs.Data.{Message}
+use Rattle.pb_value.specs.Dynamic.{Dynamic}
 use Rattle.pb_decode.specs.declared.error.DecodeError.{DecodeError}
 use Rattle.pb_decode.specs.declared.error.DecodeError.TheVariants as error
 
@@ -18,6 +20,14 @@ IsNoFault (error.Fault byte path cause) = ⊥
 IsNoFault error.Memory = Unit {0}
 IsNoFault error.Device = Unit {0}
 IsNoFault error.Finished = ⊥
+
+-- the answer is a message of this value, or memory ran out, or the input failed
+abbrev pub GivesOrFails : Result Dynamic DecodeError → Message → Type 0
+GivesOrFails result v = MatchResult result (λ m. m.body ≡ v) IsNoFault
+
+-- the answer is this fault, or memory ran out, or the input failed
+abbrev pub TellsOrFails : {A : Type 0} → Result A DecodeError → Fault → Type 0
+TellsOrFails result f = IsErrAnd result (λ e. IfRefused e (λ g. g ≡ f))
 
 -- the input's count of failures changed where the answer says that it failed, and nowhere else
 abbrev pub TellsFailures : {A : Type 0} → Result A DecodeError → ℕ → ℕ → Type 0

@@ -4,15 +4,15 @@ use Rattle.std.specs.Io.KnownBytes.{Consumes}
 use Rattle.pb_wire.specs.Fault.{Fault}
 use Rattle.pb_schema.specs.Types.{Types}
 use Rattle.pb_decode.specs.declared.push.Reading.{Reading}
-use Rattle.pb_decode.specs.Reader.{state_view}
-use Rattle.pb_decode.specs.Origin.{Origin, further, TookFrom, ToldFrom}
+use Rattle.pb_decode.specs.Reader.Origin.{Origin, further, ToldFrom}
+use Rattle.pb_decode.specs.Reader.Pieces.{ReadFrom}
 
 -- the input gave so many bytes, and the reader went on over them
 pub record ReadsOn (pool : Types) (before after : Reading) (old new : Option (List ℕ)) (count : ℕ) : Type 0 where
   pub bytes : List ℕ
   pub size : length bytes ≡ count
   pub given : Consumes old new bytes
-  pub onward : (o : Origin) → TookFrom pool o (state_view before.reader) before.held.items → TookFrom pool (further o bytes) (state_view after.reader) after.held.items
+  pub onward : (o : Origin) → ReadFrom pool o before → ReadFrom pool (further o bytes) after
 
 -- of at most so many bytes that the input gave this fault is told, which no more bytes change
 pub record ToldOf (pool : Types) (o : Origin) (old new : Option (List ℕ)) (most : ℕ) (f : Fault) : Type 0 where

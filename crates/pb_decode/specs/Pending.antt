@@ -7,20 +7,24 @@ use Rattle.pb_wire.specs.Schema.{Schema, Element, unread, text, packed, Open, re
 use Rattle.pb_wire.specs.Sound.{AreElements}
 use Rattle.pb_wire.specs.Grammar.{payload_at, IsAllowed, ElementFault}
 use Rattle.pb_wire.specs.declared.fault.Cause.TheVariants.{Truncated}
-use Rattle.pb_decode.specs.Opened.{Behind, Opened}
-use Rattle.pb_decode.specs.Waiting.{IsCutVarint, IsCutNumber}
+use Rattle.pb_decode.specs.Open.Opened.{Behind, Opened}
+use Rattle.pb_decode.specs.Reader.Waiting.{IsCutVarint, IsCutNumber}
 
--- With so many levels left the bytes end inside the record that comes next at q, or before it: so many of its open token or payload are given, so many packed lists are open in
--- it, and so many bytes are declared for its payload of a text, of bytes or of an unknown record.
+-- With so many levels left the bytes end inside the record that comes next at q, or before it: so many of its open token or payload
+-- are given, so many packed lists are open in it, and so many bytes are declared for its payload of a text, of bytes or of an unknown record.
 pub data Unfinished (S : Schema) (c : S.Context) (room : ℕ) (q : Place) (held lists declared : ℕ) : Type 0 where
   in_tag : IsCutVarint q → held ≡ length q.rest → lists ≡ 0 → declared ≡ 0 → Unfinished S c room q held lists declared
-  in_number : {k w : ℕ} {u : Place} → HasTag q k w u → IsCutNumber w u → held ≡ length u.rest → lists ≡ 0 → declared ≡ 0 → Unfinished S c room q held lists declared
-  in_length : {k : ℕ} {u : Place} → HasTag q k 2 u → IsAllowed room (S.reading c k) → IsCutVarint u → held ≡ length u.rest → lists ≡ 0 → declared ≡ 0 → Unfinished S c room q held lists declared
+  in_number :
+      {k w : ℕ} {u : Place} → HasTag q k w u → IsCutNumber w u → held ≡ length u.rest → lists ≡ 0 → declared ≡ 0 → Unfinished S c room q held lists declared
+  in_length :
+      {k : ℕ} {u : Place} → HasTag q k 2 u → IsAllowed room (S.reading c k) → IsCutVarint u
+      → held ≡ length u.rest → lists ≡ 0 → declared ≡ 0 → Unfinished S c room q held lists declared
   in_payload :
       {k size : ℕ} {r u : Place} → HasTag q k 2 r → (S.reading c k ≡ unread) ⊎ (S.reading c k ≡ text) → HasLength r size u → length u.rest < size
       → held ≡ length u.rest → lists ≡ 0 → declared ≡ size → Unfinished S c room q held lists declared
   in_list :
-      {k size : ℕ} {e : Element} {front : List ℕ} {r t u : Place} → HasTag q k 2 r → S.reading c k ≡ packed e → HasLength r size t → AreElements e front → Moves (payload_at t size) front u
+      {k size : ℕ} {e : Element} {front : List ℕ} {r t u : Place} → HasTag q k 2 r → S.reading c k ≡ packed e
+      → HasLength r size t → AreElements e front → Moves (payload_at t size) front u
       → ElementFault e u (fault (input_end u) [] Truncated) → held ≡ length u.rest → lists ≡ 1 → declared ≡ 0 → Unfinished S c room q held lists declared
 
 -- From the beginning of b on this is open innermost, behind whole sound records of it one stands at a place, and the bytes end in what comes next there.

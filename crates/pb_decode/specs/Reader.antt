@@ -1,4 +1,8 @@
 -- What a reader of a part has, and what it has told of the bytes at hand.
+pub mod Waiting
+pub mod Origin
+pub mod Steps
+pub mod Pieces
 use Rattle.std.specs.Prelude.{◌≡◌, ℕ, ◌+◌, ◌*◌, ◌-◌, ◌<◌, ◌≤◌, ◌^◌, List, [], ◌∷◌, ◌++◌, map, reverse, drop, length, Option, Some, None, option_map}
 use Rattle.pb_wire.specs.Record.{Record}
 use Rattle.pb_wire.specs.declared.fault.PathStep.{PathStep}
@@ -12,13 +16,13 @@ use Rattle.pb_schema.specs.Types.{Types}
 use Rattle.pb_schema.specs.Context.{a_message, schema_of}
 use Rattle.pb_decode.specs.declared.error.DecodeError.{DecodeError}
 use Rattle.pb_decode.specs.declared.error.DecodeError.TheVariants as error
-use Rattle.pb_decode.specs.declared.part.Frame.{Frame as FrameKept}
-use Rattle.pb_decode.specs.declared.reader.Reader.{Reader}
-use Rattle.pb_decode.specs.declared.step.Step.{Step}
-use Rattle.pb_decode.specs.declared.step.Step.TheVariants as step
-use Rattle.pb_decode.specs.Frames.{Part, Scope, Frame, path_of, next_step, Stands}
-use Rattle.pb_decode.specs.PartView.{part_view, scope_view, frame_view}
-use Rattle.pb_decode.specs.After.{After}
+use Rattle.pb_decode.specs.declared.open.part.Frame.{Frame as FrameKept}
+use Rattle.pb_decode.specs.declared.reader.state.Reader.{Reader}
+use Rattle.pb_decode.specs.declared.tokens.step.Step.{Step}
+use Rattle.pb_decode.specs.declared.tokens.step.Step.TheVariants as step
+use Rattle.pb_decode.specs.Open.Frames.{Part, Scope, Frame, path_of, path_to, next_step, Stands}
+use Rattle.pb_decode.specs.Open.PartView.{part_view, scope_view, frame_view}
+use Rattle.pb_decode.specs.Tokens.After.{After}
 
 -- where a reader stands: the innermost part with its scope, the frames around it, innermost first, and what comes next at a position
 pub record State : Type 0 where
@@ -56,6 +60,10 @@ own_step (step.Elements n k outer) scope = next_step n scope ∷ []
 -- the steps to where a reader stands
 abbrev pub path_here : State → List PathStep
 path_here s = path_of s.frames ++ own_step s.next s.scope
+
+-- the steps to the record of a number that comes next where it stands
+abbrev pub path_inside : State → ℕ → List PathStep
+path_inside s n = path_to s.frames s.scope n
 
 -- the reader has read what stands from p0 up to these bytes
 abbrev pub Reads : Types → ℕ → ℕ → ℕ → List Record → Place → State → List ℕ → Type 0

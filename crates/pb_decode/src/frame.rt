@@ -1,15 +1,15 @@
 //! Messages in frames: so many bytes of an input.
 
-ghost use Rattle.std.specs.Prelude.{◌≡◌, ◌≢◌, true, ◌+◌, ◌<◌, ◌≤◌, ◌^◌, length, drop, Some, Err, IfOk, IfErr, OnOk, IfSome, IsErrAnd, MatchResult};
+ghost use Rattle.std.specs.Prelude.{◌≡◌, ◌≢◌, true, ◌<◌, ◌≤◌, ◌^◌, length, drop, Some, Err, IfOk, IfErr, OnOk, IfSome};
 ghost use Rattle.pb_wire.specs.Fault.{Fault};
 ghost use Rattle.pb_value.specs.Data.{Message};
 ghost use Rattle.pb_decode.specs.declared.error.DecodeError.TheVariants.{Device};
-ghost use Rattle.pb_decode.specs.FromDevice.{IfRefused, IsNoFault, TellsFailures, TakesAtMost};
+ghost use Rattle.pb_decode.specs.FromDevice.{IfRefused, TellsFailures, TakesAtMost, GivesOrFails, TellsOrFails};
 ghost use Rattle.pb_decode.specs.Frame.{IsFrameOf, BadFrame, error_later};
 
 use crate::error::DecodeError;
 use crate::from_device::read_pieces;
-use crate::origin::{begin_empty, finish_message};
+use crate::reader::origin::{begin_empty, finish_message};
 use pb_schema::{MessageId, Pool};
 use pb_value::DynamicMessage;
 use pb_wire::{Input, Limits};
@@ -109,8 +109,8 @@ pub fn decode_frame<'p, I: Input>(
     ensures of_type { IfOk result (λ m. (m.pool ≡ pool.now) × (m.kind ≡ kind.0)) }
     ensures value { IfSome (I.left input.old) (λ left. IfOk result (λ m. IsFrameOf pool.now kind.0 limits size left m.body)) }
     ensures fault { IfErr result (λ e. IfRefused e (λ f. IfSome (I.left input.old) (λ left. BadFrame pool.now kind.0 limits.depth start size left f))) }
-    ensures accepted { IfSome (I.left input.old) (λ left. (v : Message) → IsFrameOf pool.now kind.0 limits size left v → MatchResult result (λ m. m.body ≡ v) IsNoFault) }
-    ensures refused { IfSome (I.left input.old) (λ left. (f : Fault) → BadFrame pool.now kind.0 limits.depth start size left f → IsErrAnd result (λ e. IfRefused e (λ g. g ≡ f))) }
+    ensures accepted { IfSome (I.left input.old) (λ left. (v : Message) → IsFrameOf pool.now kind.0 limits size left v → GivesOrFails result v) }
+    ensures refused { IfSome (I.left input.old) (λ left. (f : Fault) → BadFrame pool.now kind.0 limits.depth start size left f → TellsOrFails result f) }
     // what it leaves of the input
     ensures rest { OnOk result (IfSome (I.left input.old) (λ left. I.left input.new ≡ Some (drop size left))) }
     ensures most { TakesAtMost size (I.left input.old) (I.left input.new) }

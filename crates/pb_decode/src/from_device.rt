@@ -1,24 +1,23 @@
 //! Reading the bytes of an input in pieces.
 
-ghost use Rattle.std.specs.Prelude.{◌≡◌, ◌≢◌, ◌⊎◌, true, false, ◌+◌, ◌<◌, ◌≤◌, ◌^◌, ℕ, List, [], length, None, Some, Err, IfOk, IfErr, OnOk, IfSome, IsErrAnd, MatchResult};
+ghost use Rattle.std.specs.Prelude.{◌≡◌, ◌≢◌, ◌⊎◌, true, false, ◌+◌, ◌<◌, ◌≤◌, ◌^◌, ℕ, List, [], length, None, Some, Err, IfOk, IfErr, OnOk, IfSome};
 ghost use Rattle.std.specs.Io.KnownBytes.{Consumes, IsAtEnd};
 ghost use Rattle.pb_wire.specs.Record.{Record};
 ghost use Rattle.pb_wire.specs.Fault.{Fault};
-ghost use Rattle.pb_wire.specs.Grammar.{HasFault};
 ghost use Rattle.pb_schema.specs.Rules.{IsPool};
-ghost use Rattle.pb_schema.specs.Context.{a_message, schema_of};
 ghost use Rattle.pb_value.specs.Data.{Message};
 ghost use Rattle.pb_value.specs.Derives.{Text};
 ghost use Rattle.pb_decode.specs.declared.error.DecodeError.TheVariants.{Device};
-ghost use Rattle.pb_decode.specs.Reader.{state_view};
-ghost use Rattle.pb_decode.specs.Origin.{Origin, origin, TookFrom};
-ghost use Rattle.pb_decode.specs.FromDevice.{IfRefused, IsNoFault, TellsFailures, TakesAtMost};
+ghost use Rattle.pb_decode.specs.Reader.Origin.{Origin, origin};
+ghost use Rattle.pb_decode.specs.FromDevice.{IfRefused, TellsFailures, TakesAtMost, GivesOrFails, TellsOrFails};
 ghost use Rattle.pb_decode.specs.Loops.{ReadsOn, ToldOf};
+ghost use Rattle.pb_decode.specs.Reader.Pieces.{received, ReadFrom};
+ghost use Rattle.pb_decode.specs.Push.{IsFaultOf};
 
 use crate::error::DecodeError;
-use crate::fault::too_large;
-use crate::origin::{begin_empty, finish_message, take_onward};
 use crate::push::Reading;
+use crate::reader::fault::too_large;
+use crate::reader::origin::{begin_empty, finish_message, take_onward};
 use pb_schema::{MessageId, Pool};
 use pb_value::DynamicMessage;
 use pb_wire::{Input, Limits};
@@ -36,12 +35,13 @@ fn read_piece<I: Input>(
     buffer: &mut [u8],
 ) -> Result<usize, DecodeError>
     requires rules { IsPool pool.now }
-    requires took { (o : Origin) × TookFrom pool.now o (state_view reading.old.reader) reading.old.held.items }
-    requires small { reading.old.reader.at + length reading.old.held.items + length buffer.old < 2 ^ 31 }
+    requires took { (o : Origin) × ReadFrom pool.now o reading.old }
+    requires small { received reading.old + length buffer.old < 2 ^ 31 }
     ensures count { IfOk result (λ n. n ≤ length buffer.old) }
     ensures read { IfOk result (λ n. ReadsOn pool.now reading.old reading.new (I.left input.old) (I.left input.new) n) }
     ensures ends { IfOk result (λ n. n ≡ 0 → 0 < length buffer.old → IsAtEnd (I.left input.new)) }
-    ensures fault { (o : Origin) → TookFrom pool.now o (state_view reading.old.reader) reading.old.held.items → IfErr result (λ e. IfRefused e (ToldOf pool.now o (I.left input.old) (I.left input.new) (length buffer.old))) }
+    ensures fault { (o : Origin) → ReadFrom pool.now o reading.old
+        → IfErr result (λ e. IfRefused e (ToldOf pool.now o (I.left input.old) (I.left input.new) (length buffer.old))) }
     ensures most { TakesAtMost (length buffer.old) (I.left input.old) (I.left input.new) }
     ensures failures { TellsFailures result (I.failures input.old) (I.failures input.new) }
     ensures steady { I.is_steady input.old ≡ true → result ≢ Err Device }
@@ -63,12 +63,13 @@ pub(crate) fn read_pieces<I: Input>(
     most: usize,
 ) -> Result<usize, DecodeError>
     requires rules { IsPool pool.now }
-    requires took { (o : Origin) × TookFrom pool.now o (state_view reading.old.reader) reading.old.held.items }
-    requires small { reading.old.reader.at + length reading.old.held.items + most < 2 ^ 31 }
+    requires took { (o : Origin) × ReadFrom pool.now o reading.old }
+    requires small { received reading.old + most < 2 ^ 31 }
     ensures count { IfOk result (λ n. n ≤ most) }
     ensures read { IfOk result (λ n. ReadsOn pool.now reading.old reading.new (I.left input.old) (I.left input.new) n) }
     ensures ends { IfOk result (λ n. (n ≡ most) ⊎ IsAtEnd (I.left input.new)) }
-    ensures fault { (o : Origin) → TookFrom pool.now o (state_view reading.old.reader) reading.old.held.items → IfErr result (λ e. IfRefused e (ToldOf pool.now o (I.left input.old) (I.left input.new) most)) }
+    ensures fault { (o : Origin) → ReadFrom pool.now o reading.old
+        → IfErr result (λ e. IfRefused e (ToldOf pool.now o (I.left input.old) (I.left input.new) most)) }
     ensures taken { TakesAtMost most (I.left input.old) (I.left input.new) }
     ensures failures { TellsFailures result (I.failures input.old) (I.failures input.new) }
     ensures steady { I.is_steady input.old ≡ true → result ≢ Err Device }
@@ -118,11 +119,11 @@ fn read_within<I: Input>(
     input: &mut I,
 ) -> Result<(), DecodeError>
     requires rules { IsPool pool.now }
-    requires took { (base : List Record) × TookFrom pool.now (origin kind.0 limits.depth base None) (state_view reading.old.reader) reading.old.held.items }
+    requires took { (base : List Record) × ReadFrom pool.now (origin kind.0 limits.depth base None) reading.old }
     ensures read { OnOk result ((n : ℕ) × (n ≤ limits.bytes) × ReadsOn pool.now reading.old reading.new (I.left input.old) (I.left input.new) n) }
     ensures ends { OnOk result (IsAtEnd (I.left input.new)) }
     ensures small { limits.bytes < 2 ^ 31 }
-    ensures fault { IfErr result (λ e. IfRefused e (λ f. IfSome (I.left input.old) (λ left. HasFault (schema_of pool.now) (a_message kind.0) limits left f))) }
+    ensures fault { IfErr result (λ e. IfRefused e (λ f. IfSome (I.left input.old) (λ left. IsFaultOf pool.now kind.0 limits left f))) }
     ensures most { TakesAtMost (limits.bytes + 1) (I.left input.old) (I.left input.new) }
     ensures failures { TellsFailures result (I.failures input.old) (I.failures input.new) }
     ensures steady { I.is_steady input.old ≡ true → result ≢ Err Device }
@@ -152,7 +153,7 @@ fn read_message<'p, I: Input>(
     ensures of_type { IfOk result (λ m. (m.pool ≡ pool.now) × (m.kind ≡ kind.0)) }
     ensures value { IfSome (I.left input.old) (λ left. IfOk result (λ m. Text pool.now kind.0 limits left m.body)) }
     ensures rest { OnOk result (IfSome (I.left input.old) (λ left. I.left input.new ≡ Some [])) }
-    ensures fault { IfErr result (λ e. IfRefused e (λ f. IfSome (I.left input.old) (λ left. HasFault (schema_of pool.now) (a_message kind.0) limits left f))) }
+    ensures fault { IfErr result (λ e. IfRefused e (λ f. IfSome (I.left input.old) (λ left. IsFaultOf pool.now kind.0 limits left f))) }
     ensures most { TakesAtMost (limits.bytes + 1) (I.left input.old) (I.left input.new) }
     ensures failures { TellsFailures result (I.failures input.old) (I.failures input.new) }
     ensures steady { I.is_steady input.old ≡ true → result ≢ Err Device }
@@ -179,9 +180,9 @@ pub fn decode_from<'p, I: Input>(
     requires { kind.0 < length pool.now.messages }
     ensures of_type { IfOk result (λ m. (m.pool ≡ pool.now) × (m.kind ≡ kind.0)) }
     ensures value { IfSome (I.left input.old) (λ left. IfOk result (λ m. Text pool.now kind.0 limits left m.body)) }
-    ensures fault { IfErr result (λ e. IfRefused e (λ f. IfSome (I.left input.old) (λ left. HasFault (schema_of pool.now) (a_message kind.0) limits left f))) }
-    ensures accepted { IfSome (I.left input.old) (λ left. (v : Message) → Text pool.now kind.0 limits left v → MatchResult result (λ m. m.body ≡ v) IsNoFault) }
-    ensures refused { IfSome (I.left input.old) (λ left. (f : Fault) → HasFault (schema_of pool.now) (a_message kind.0) limits left f → IsErrAnd result (λ e. IfRefused e (λ g. g ≡ f))) }
+    ensures fault { IfErr result (λ e. IfRefused e (λ f. IfSome (I.left input.old) (λ left. IsFaultOf pool.now kind.0 limits left f))) }
+    ensures accepted { IfSome (I.left input.old) (λ left. (v : Message) → Text pool.now kind.0 limits left v → GivesOrFails result v) }
+    ensures refused { IfSome (I.left input.old) (λ left. (f : Fault) → IsFaultOf pool.now kind.0 limits left f → TellsOrFails result f) }
     // what it leaves of the input
     ensures rest { OnOk result (IfSome (I.left input.old) (λ left. I.left input.new ≡ Some [])) }
     ensures most { TakesAtMost (limits.bytes + 1) (I.left input.old) (I.left input.new) }

@@ -1,27 +1,25 @@
 //! Decoding onto a message.
 
-ghost use Rattle.std.specs.Prelude.{◌≡◌, ◌+◌, ◌<◌, ◌≤◌, ◌^◌, ◌++◌, ℕ, List, [], length, None, OnOk, IfOk, IfErr, IsErrAnd, MatchResult};
+ghost use Rattle.std.specs.Prelude.{◌≡◌, ◌+◌, ◌<◌, ◌≤◌, ◌^◌, ◌++◌, ℕ, List, length, None, OnOk, IfOk, IfErr};
 ghost use Rattle.pb_wire.specs.Record.{Record};
 ghost use Rattle.pb_wire.specs.Fault.{Fault};
-ghost use Rattle.pb_wire.specs.Grammar.{HasFault};
 ghost use Rattle.pb_wire.specs.Exact.{Exactly};
 ghost use Rattle.pb_wire.specs.Limits.{full};
 ghost use Rattle.pb_schema.specs.Rules.{IsPool};
-ghost use Rattle.pb_schema.specs.Context.{a_message, schema_of};
 ghost use Rattle.pb_value.specs.Data.{Message};
-ghost use Rattle.pb_value.specs.Canon.{canon_bytes};
 ghost use Rattle.pb_value.specs.View.{body_view};
 ghost use Rattle.pb_value.specs.WellFormed.{IsWellFormed};
-ghost use Rattle.pb_value.specs.Derives.{Derives, Text};
-ghost use Rattle.pb_decode.specs.declared.error.DecodeError.TheVariants.{Memory};
-ghost use Rattle.pb_decode.specs.Reader.{state_view, IfFault};
-ghost use Rattle.pb_decode.specs.Origin.{origin, further, TookFrom};
-ghost use Rattle.pb_decode.specs.Onto.{IsTextOnto};
+ghost use Rattle.pb_value.specs.Derives.{Text};
+ghost use Rattle.pb_decode.specs.Reader.{IfFault};
+ghost use Rattle.pb_decode.specs.Reader.Origin.{origin, further};
+ghost use Rattle.pb_decode.specs.Onto.{IsTextOnto, TextOnto, DerivesFor, canonical};
+ghost use Rattle.pb_decode.specs.Reader.Pieces.{received, ReadFrom};
+ghost use Rattle.pb_decode.specs.Push.{IsFaultOf, Gives, Tells};
 
 use crate::error::DecodeError;
-use crate::fault::too_large;
-use crate::origin::{begin_at, finish_message, take_onward};
 use crate::push::Reading;
+use crate::reader::fault::too_large;
+use crate::reader::origin::{begin_at, finish_message, take_onward};
 use pb_schema::{MessageId, Pool};
 use pb_value::{Body, DynamicMessage};
 use pb_wire::Limits;
@@ -37,11 +35,12 @@ fn take_within(
     bytes: &[u8],
 ) -> Result<(), DecodeError>
     requires rules { IsPool pool.now }
-    requires took { (base : List Record) × TookFrom pool.now (origin kind.0 limits.depth base None) (state_view reading.old.reader) reading.old.held.items }
+    requires took { (base : List Record) × ReadFrom pool.now (origin kind.0 limits.depth base None) reading.old }
     ensures size { OnOk result (length bytes.now ≤ limits.bytes) }
-    ensures at { OnOk result (reading.new.reader.at + length reading.new.held.items ≡ length bytes.now) }
-    ensures took { (base : List Record) → TookFrom pool.now (origin kind.0 limits.depth base None) (state_view reading.old.reader) reading.old.held.items → OnOk result (TookFrom pool.now (further (origin kind.0 limits.depth base None) bytes.now) (state_view reading.new.reader) reading.new.held.items) }
-    ensures fault { IfErr result (λ e. IfFault e (HasFault (schema_of pool.now) (a_message kind.0) limits bytes.now)) }
+    ensures at { OnOk result (received reading.new ≡ length bytes.now) }
+    ensures took { (base : List Record) → ReadFrom pool.now (origin kind.0 limits.depth base None) reading.old
+        → OnOk result (ReadFrom pool.now (further (origin kind.0 limits.depth base None) bytes.now) reading.new) }
+    ensures fault { IfErr result (λ e. IfFault e (IsFaultOf pool.now kind.0 limits bytes.now)) }
 {
     let most = limits.max_bytes();
     if bytes.len() > most as usize {
@@ -66,7 +65,7 @@ pub(crate) fn read_onto<'p>(
     ensures deep { limits.depth ≤ 100 }
     ensures of_type { IfOk result (λ m. (m.pool ≡ pool.now) × (m.kind ≡ kind.0)) }
     ensures value { IfOk result (λ m. IsTextOnto pool.now kind.0 limits (body_view body) bytes.now m.body) }
-    ensures fault { IfErr result (λ e. IfFault e (HasFault (schema_of pool.now) (a_message kind.0) limits bytes.now)) }
+    ensures fault { IfErr result (λ e. IfFault e (IsFaultOf pool.now kind.0 limits bytes.now)) }
 {
     let room = limits.max_depth();
     let mut reading = begin_at(alloc, kind, body, room, None);
@@ -84,16 +83,19 @@ pub fn decode_onto<'p>(
     limits: Limits,
 ) -> Result<DynamicMessage<'p>, DecodeError>
     ensures of_type { IfOk result (λ m. (m.pool ≡ message.entry.pool) × (m.kind ≡ message.entry.kind)) }
-    ensures value { IfOk result (λ m. IsTextOnto message.entry.pool message.entry.kind limits message.entry.body bytes.now m.body) }
-    ensures fault { IfErr result (λ e. IfFault e (HasFault (schema_of message.entry.pool) (a_message message.entry.kind) limits bytes.now)) }
-    ensures accepted { (w : Message) → IsTextOnto message.entry.pool message.entry.kind limits message.entry.body bytes.now w → MatchResult result (λ m. m.body ≡ w) (λ e. e ≡ Memory) }
-    ensures refused { (f : Fault) → HasFault (schema_of message.entry.pool) (a_message message.entry.kind) limits bytes.now f → IsErrAnd result (λ e. IfFault e (λ g. g ≡ f)) }
-    ensures one { Exactly ((w : Message) × IsTextOnto message.entry.pool message.entry.kind limits message.entry.body bytes.now w) (HasFault (schema_of message.entry.pool) (a_message message.entry.kind) limits bytes.now) }
+    ensures value { IfOk result (λ m. TextOnto message.entry limits bytes.now m.body) }
+    ensures fault { IfErr result (λ e. IfFault e (IsFaultOf message.entry.pool message.entry.kind limits bytes.now)) }
+    ensures accepted { (w : Message) → TextOnto message.entry limits bytes.now w → Gives result w }
+    ensures refused { (f : Fault) → IsFaultOf message.entry.pool message.entry.kind limits bytes.now f → Tells result f }
+    ensures one { Exactly ((w : Message) × TextOnto message.entry limits bytes.now w) (IsFaultOf message.entry.pool message.entry.kind limits bytes.now) }
     // behind any bytes that the message derives from
-    ensures joined { (a : List ℕ) → Derives message.entry.pool message.entry.kind limits.depth a message.entry.body → IfOk result (λ m. Derives message.entry.pool message.entry.kind limits.depth (a ++ bytes.now) m.body) }
-    ensures accepts_joined { (a : List ℕ) (w : Message) → length bytes.now ≤ limits.bytes → Derives message.entry.pool message.entry.kind limits.depth a message.entry.body → Derives message.entry.pool message.entry.kind limits.depth (a ++ bytes.now) w → MatchResult result (λ m. m.body ≡ w) (λ e. e ≡ Memory) }
+    ensures joined { (a : List ℕ) → DerivesFor message.entry limits a message.entry.body
+        → IfOk result (λ m. DerivesFor message.entry limits (a ++ bytes.now) m.body) }
+    ensures accepts_joined { (a : List ℕ) (w : Message) → length bytes.now ≤ limits.bytes → DerivesFor message.entry limits a message.entry.body
+        → DerivesFor message.entry limits (a ++ bytes.now) w → Gives result w }
     // behind its canonical bytes
-    ensures text { length (canon_bytes message.entry.pool message.entry.kind message.entry.body ++ bytes.now) < 2 ^ 31 → IfOk result (λ m. Text message.entry.pool message.entry.kind full (canon_bytes message.entry.pool message.entry.kind message.entry.body ++ bytes.now) m.body) }
+    ensures text { length (canonical message.entry ++ bytes.now) < 2 ^ 31
+        → IfOk result (λ m. Text message.entry.pool message.entry.kind full (canonical message.entry ++ bytes.now) m.body) }
 {
     let alloc = message.alloc();
     let pool = message.pool();

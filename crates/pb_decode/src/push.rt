@@ -1,26 +1,25 @@
 //! Decoding, whole and in pieces.
 
-ghost use Rattle.std.specs.Prelude.{◌≡◌, ◌+◌, ◌-◌, ◌<◌, ◌≤◌, ◌^◌, ◌++◌, ℕ, List, [], drop, length, vec_len, OnOk, IfOk, IfErr, IsErrAnd, MatchResult};
-ghost use Rattle.pb_wire.specs.Record.{Record};
-ghost use Rattle.pb_wire.specs.Fault.{Fault, fault, Place};
+ghost use Rattle.std.specs.Prelude.{◌≡◌, ◌+◌, ◌-◌, ◌<◌, ◌≤◌, ◌^◌, ◌++◌, ℕ, List, [], drop, length, vec_len, OnOk, IfOk, IfErr};
+ghost use Rattle.pb_wire.specs.Fault.{Fault, fault};
 ghost use Rattle.pb_wire.specs.declared.fault.Cause.TheVariants.{Truncated};
-ghost use Rattle.pb_wire.specs.Grammar.{HasFault};
-ghost use Rattle.pb_wire.specs.Exact.{longer, Exactly};
+ghost use Rattle.pb_wire.specs.Exact.{Exactly};
 ghost use Rattle.pb_schema.specs.Rules.{IsPool};
-ghost use Rattle.pb_schema.specs.Context.{a_message, schema_of};
 ghost use Rattle.pb_value.specs.Data.{Message};
 ghost use Rattle.pb_value.specs.Derives.{Text};
 ghost use Rattle.pb_decode.specs.declared.error.DecodeError.TheVariants.{Memory};
-ghost use Rattle.pb_decode.specs.Reader.{state_view, path_here, Reads, IsReading, Stops, IfFault, Told};
-ghost use Rattle.pb_decode.specs.Push.{Took, TookSome, IsSettled};
-ghost use Rattle.pb_decode.specs.Waiting.{Waits, lists_in};
+ghost use Rattle.pb_decode.specs.Reader.{state_view, path_here, IsReading, IfFault};
+ghost use Rattle.pb_decode.specs.Push.{IsSettled, IsFaultOf, Gives, Tells};
+ghost use Rattle.pb_decode.specs.Reader.Waiting.{Waits, lists_in};
+ghost use Rattle.pb_decode.specs.Reader.Steps.{TellsFault};
+ghost use Rattle.pb_decode.specs.Reader.Pieces.{received, ReadText, ReadSome, TakesFront, TakesPiece, TellsPieceFault};
 
 use crate::error::DecodeError;
-use crate::fault::{fault_at, too_large};
 use crate::onto::read_onto;
-use crate::origin::{begin_empty, finish_message};
-use crate::reader::{Reader, take_all};
-use crate::step::Step;
+use crate::reader::fault::{fault_at, too_large};
+use crate::reader::origin::{begin_empty, finish_message};
+use crate::reader::state::{Reader, take_all};
+use crate::tokens::step::Step;
 use pb_schema::{MessageId, Pool};
 use pb_value::{DynamicMessage, empty_body};
 use pb_wire::{Cause, Limits};
@@ -44,10 +43,10 @@ fn take_front(
     requires rules { IsPool pool.now }
     requires reading { IsReading pool.now (state_view reading.old.reader) bytes.now }
     requires none_held { length reading.old.held.items ≡ 0 }
-    ensures at { OnOk result (reading.new.reader.at + length reading.new.held.items ≡ reading.old.reader.at + length bytes.now) }
-    ensures taken { (m depth levels : ℕ) (base : List Record) (p0 : Place) → Reads pool.now m depth levels base p0 (state_view reading.old.reader) bytes.now → OnOk result (Reads pool.now m depth levels base p0 (state_view reading.new.reader) reading.new.held.items × Stops pool.now m depth p0 (state_view reading.new.reader) reading.new.held.items) }
+    ensures at { OnOk result (received reading.new ≡ reading.old.reader.at + length bytes.now) }
+    ensures taken { TakesFront pool.now reading.old reading.new bytes.now result }
     ensures waits { OnOk result (Waits (state_view reading.new.reader) reading.new.held.items) }
-    ensures refused { (m depth levels : ℕ) (base : List Record) (p0 : Place) → Reads pool.now m depth levels base p0 (state_view reading.old.reader) bytes.now → IfErr result (λ e. IfFault e (Told pool.now m depth p0)) }
+    ensures refused { TellsFault pool.now reading.old.reader bytes.now result }
 {
     let size = take_all(alloc, pool, &mut reading.reader, bytes)?;
     reading.held.extend_from_slice(&bytes[size..])?;
@@ -68,10 +67,10 @@ fn rest_of(alloc: Global, bytes: &[u8], from: usize) -> Result<Vec<u8>, DecodeEr
 fn take_held(alloc: Global, pool: &Pool, reading: &mut Reading) -> Result<(), DecodeError>
     requires rules { IsPool pool.now }
     requires reading { IsReading pool.now (state_view reading.old.reader) reading.old.held.items }
-    ensures at { OnOk result (reading.new.reader.at + length reading.new.held.items ≡ reading.old.reader.at + length reading.old.held.items) }
-    ensures taken { (m depth levels : ℕ) (base : List Record) (p0 : Place) → Reads pool.now m depth levels base p0 (state_view reading.old.reader) reading.old.held.items → OnOk result (Reads pool.now m depth levels base p0 (state_view reading.new.reader) reading.new.held.items × Stops pool.now m depth p0 (state_view reading.new.reader) reading.new.held.items) }
+    ensures at { OnOk result (received reading.new ≡ received reading.old) }
+    ensures taken { TakesFront pool.now reading.old reading.new reading.old.held.items result }
     ensures waits { OnOk result (Waits (state_view reading.new.reader) reading.new.held.items) }
-    ensures refused { (m depth levels : ℕ) (base : List Record) (p0 : Place) → Reads pool.now m depth levels base p0 (state_view reading.old.reader) reading.old.held.items → IfErr result (λ e. IfFault e (Told pool.now m depth p0)) }
+    ensures refused { TellsFault pool.now reading.old.reader reading.old.held.items result }
 {
     let size = take_all(alloc, pool, &mut reading.reader, &reading.held)?;
     if size == 0 {
@@ -91,11 +90,11 @@ fn take_joined(
 ) -> Result<(), DecodeError>
     requires rules { IsPool pool.now }
     requires reading { IsReading pool.now (state_view reading.old.reader) reading.old.held.items }
-    requires small { reading.old.reader.at + length reading.old.held.items + length more.now < 2 ^ 31 }
-    ensures at { OnOk result (reading.new.reader.at + length reading.new.held.items ≡ reading.old.reader.at + length reading.old.held.items + length more.now) }
-    ensures taken { (m depth levels : ℕ) (base : List Record) (p0 : Place) → Reads pool.now m depth levels base p0 (state_view reading.old.reader) reading.old.held.items → OnOk result (Reads pool.now m depth levels base (longer p0 more.now) (state_view reading.new.reader) reading.new.held.items × Stops pool.now m depth (longer p0 more.now) (state_view reading.new.reader) reading.new.held.items) }
+    requires small { received reading.old + length more.now < 2 ^ 31 }
+    ensures at { OnOk result (received reading.new ≡ received reading.old + length more.now) }
+    ensures taken { TakesPiece pool.now reading.old reading.new more.now result }
     ensures waits { OnOk result (Waits (state_view reading.new.reader) reading.new.held.items) }
-    ensures refused { (m depth levels : ℕ) (base : List Record) (p0 : Place) → Reads pool.now m depth levels base p0 (state_view reading.old.reader) reading.old.held.items → IfErr result (λ e. IfFault e (Told pool.now m depth (longer p0 more.now))) }
+    ensures refused { TellsPieceFault pool.now reading.old more.now result }
 {
     reading.held.extend_from_slice(more)?;
     take_held(alloc, pool, reading)
@@ -127,11 +126,11 @@ pub(crate) fn take_piece(
 ) -> Result<(), DecodeError>
     requires rules { IsPool pool.now }
     requires reading { IsReading pool.now (state_view reading.old.reader) reading.old.held.items }
-    requires small { reading.old.reader.at + length reading.old.held.items + length piece.now < 2 ^ 31 }
-    ensures at { OnOk result (reading.new.reader.at + length reading.new.held.items ≡ reading.old.reader.at + length reading.old.held.items + length piece.now) }
-    ensures taken { (m depth levels : ℕ) (base : List Record) (p0 : Place) → Reads pool.now m depth levels base p0 (state_view reading.old.reader) reading.old.held.items → OnOk result (Reads pool.now m depth levels base (longer p0 piece.now) (state_view reading.new.reader) reading.new.held.items × Stops pool.now m depth (longer p0 piece.now) (state_view reading.new.reader) reading.new.held.items) }
+    requires small { received reading.old + length piece.now < 2 ^ 31 }
+    ensures at { OnOk result (received reading.new ≡ received reading.old + length piece.now) }
+    ensures taken { TakesPiece pool.now reading.old reading.new piece.now result }
     ensures waits { OnOk result (Waits (state_view reading.new.reader) reading.new.held.items) }
-    ensures refused { (m depth levels : ℕ) (base : List Record) (p0 : Place) → Reads pool.now m depth levels base p0 (state_view reading.old.reader) reading.old.held.items → IfErr result (λ e. IfFault e (Told pool.now m depth (longer p0 piece.now))) }
+    ensures refused { TellsPieceFault pool.now reading.old piece.now result }
 {
     let mut here = 0;
     while !reading.held.is_empty() {
@@ -162,10 +161,11 @@ pub(crate) fn take_text(
     piece: &[u8],
 ) -> Result<(), DecodeError>
     requires rules { IsPool pool.now }
-    requires took { TookSome pool.now kind.0 limits (state_view reading.old.reader) reading.old.held.items }
-    ensures after { (b : List ℕ) → Took pool.now kind.0 limits b (state_view reading.old.reader) reading.old.held.items → OnOk result (Took pool.now kind.0 limits (b ++ piece.now) (state_view reading.new.reader) reading.new.held.items) }
+    requires took { ReadSome pool.now kind.0 limits reading.old }
+    ensures after { (b : List ℕ) → ReadText pool.now kind.0 limits b reading.old → OnOk result (ReadText pool.now kind.0 limits (b ++ piece.now) reading.new) }
     ensures waits { OnOk result (Waits (state_view reading.new.reader) reading.new.held.items) }
-    ensures fault { (b : List ℕ) → Took pool.now kind.0 limits b (state_view reading.old.reader) reading.old.held.items → IfErr result (λ e. IfFault e (IsSettled pool.now kind.0 limits (b ++ piece.now))) }
+    ensures fault { (b : List ℕ) → ReadText pool.now kind.0 limits b reading.old
+        → IfErr result (λ e. IfFault e (IsSettled pool.now kind.0 limits (b ++ piece.now))) }
 {
     let most = limits.max_bytes();
     let room = room_for(most, reading);
@@ -179,7 +179,7 @@ pub(crate) fn take_text(
 /// Where no byte is taken yet.
 pub(crate) fn start(alloc: Global, pool: &Pool, kind: MessageId, limits: Limits) -> Reading
     requires { kind.0 < length pool.now.messages }
-    ensures took { Took pool.now kind.0 limits [] (state_view result.reader) result.held.items }
+    ensures took { ReadText pool.now kind.0 limits [] result }
     ensures waits { Waits (state_view result.reader) result.held.items }
 {
     begin_empty(alloc, pool, kind, limits, None)
@@ -209,8 +209,8 @@ pub(crate) fn open_contexts(reading: &Reading) -> usize
 
 /// The fault that the input ends too early.
 pub(crate) fn cut_short(alloc: Global, reading: &Reading) -> DecodeError
-    requires { reading.now.reader.at + length reading.now.held.items < 2 ^ 31 }
-    ensures { IfFault result (λ f. f ≡ fault (reading.now.reader.at + length reading.now.held.items) (path_here (state_view reading.now.reader)) Truncated) }
+    requires { received reading.now < 2 ^ 31 }
+    ensures { IfFault result (λ f. f ≡ fault (received reading.now) (path_here (state_view reading.now.reader)) Truncated) }
 {
     let byte = reading.reader.at + reading.held.len() as u32;
     fault_at(alloc, &reading.reader, byte, Cause::Truncated)
@@ -226,10 +226,10 @@ pub(crate) fn end<'p>(
 ) -> Result<DynamicMessage<'p>, DecodeError>
     requires rules { IsPool pool.now }
     requires within { kind.0 < length pool.now.messages }
-    requires took { TookSome pool.now kind.0 limits (state_view reading.reader) reading.held.items }
+    requires took { ReadSome pool.now kind.0 limits reading }
     ensures of_type { IfOk result (λ m. (m.pool ≡ pool.now) × (m.kind ≡ kind.0)) }
-    ensures value { (b : List ℕ) → Took pool.now kind.0 limits b (state_view reading.reader) reading.held.items → IfOk result (λ m. Text pool.now kind.0 limits b m.body) }
-    ensures fault { (b : List ℕ) → Took pool.now kind.0 limits b (state_view reading.reader) reading.held.items → IfErr result (λ e. IfFault e (HasFault (schema_of pool.now) (a_message kind.0) limits b)) }
+    ensures value { (b : List ℕ) → ReadText pool.now kind.0 limits b reading → IfOk result (λ m. Text pool.now kind.0 limits b m.body) }
+    ensures fault { (b : List ℕ) → ReadText pool.now kind.0 limits b reading → IfErr result (λ e. IfFault e (IsFaultOf pool.now kind.0 limits b)) }
 {
     let _small = limits.max_bytes();
     finish_message(alloc, pool, kind, reading)
@@ -249,10 +249,10 @@ pub fn decode<'p>(
     requires { kind.0 < length pool.now.messages }
     ensures of_type { IfOk result (λ m. (m.pool ≡ pool.now) × (m.kind ≡ kind.0)) }
     ensures value { IfOk result (λ m. Text pool.now kind.0 limits bytes.now m.body) }
-    ensures fault { IfErr result (λ e. IfFault e (HasFault (schema_of pool.now) (a_message kind.0) limits bytes.now)) }
-    ensures accepted { (v : Message) → Text pool.now kind.0 limits bytes.now v → MatchResult result (λ m. m.body ≡ v) (λ e. e ≡ Memory) }
-    ensures refused { (f : Fault) → HasFault (schema_of pool.now) (a_message kind.0) limits bytes.now f → IsErrAnd result (λ e. IfFault e (λ g. g ≡ f)) }
-    ensures one { Exactly ((v : Message) × Text pool.now kind.0 limits bytes.now v) (HasFault (schema_of pool.now) (a_message kind.0) limits bytes.now) }
+    ensures fault { IfErr result (λ e. IfFault e (IsFaultOf pool.now kind.0 limits bytes.now)) }
+    ensures accepted { (v : Message) → Text pool.now kind.0 limits bytes.now v → Gives result v }
+    ensures refused { (f : Fault) → IsFaultOf pool.now kind.0 limits bytes.now f → Tells result f }
+    ensures one { Exactly ((v : Message) × Text pool.now kind.0 limits bytes.now v) (IsFaultOf pool.now kind.0 limits bytes.now) }
 {
     let _types = pool.messages();
     read_onto(alloc, pool, kind, empty_body(alloc), bytes, limits)

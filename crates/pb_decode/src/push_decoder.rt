@@ -47,18 +47,14 @@ impl<'p> Model for PushDecoder<'p> {
 }
 
 impl<'p> PushDecoder<'p> {
-    ghost use Rattle.std.specs.Prelude.{◌≡◌, ◌<◌, ◌≤◌, ◌+◌, ◌*◌, ◌++◌, max, ℕ, List, [], length, None, Err, OnOk, OnErr, IfOk, IfErr, IsErrAnd, MatchResult};
+    ghost use Rattle.std.specs.Prelude.{◌≡◌, ◌<◌, ◌≤◌, ◌+◌, ◌*◌, ◌++◌, max, ℕ, List, [], length, None, Err, OnOk, OnErr, IfOk, IfErr};
     ghost use Rattle.pb_wire.specs.Fault.{Fault};
-    ghost use Rattle.pb_wire.specs.Grammar.{HasFault};
     ghost use Rattle.pb_wire.specs.Exact.{Exactly};
-    ghost use Rattle.pb_schema.specs.Context.{a_message, schema_of};
     ghost use Rattle.pb_value.specs.Data.{Message};
-    ghost use Rattle.pb_value.specs.Derives.{Text};
     ghost use Rattle.pb_decode.specs.declared.error.DecodeError.TheVariants.{Memory, Finished};
     ghost use Rattle.pb_decode.specs.Reader.{IfFault};
-    ghost use Rattle.pb_decode.specs.Push.{IsGoing, IsSettled};
-    ghost use Rattle.pb_decode.specs.Received.{After};
-    ghost use Rattle.pb_decode.specs.Pending.{IsPending, HasOpen, IsDeclared};
+    ghost use Rattle.pb_decode.specs.Received.{After, IsTextFor, IsFaultFor, IsSettledFor, IsGoingFor, IsPendingFor, IsOpenFor, IsDeclaredFor};
+    ghost use Rattle.pb_decode.specs.Push.{Gives, Tells};
 
     /// A decoder that has received no byte. `kind` is a type of the pool.
     pub fn new(
@@ -88,10 +84,10 @@ impl<'p> PushDecoder<'p> {
     pub fn feed(&mut self, piece: &[u8]) -> Result<(), DecodeError>
         ensures same { (self.new.pool ≡ self.old.pool) × (self.new.kind ≡ self.old.kind) × (self.new.limits ≡ self.old.limits) }
         ensures after { (b : List ℕ) → After self.old b → OnOk result (After self.new (b ++ piece.now)) }
-        ensures goes_on { (b : List ℕ) → After self.old b → OnOk result (IsGoing self.old.pool self.old.kind self.old.limits (b ++ piece.now)) }
-        ensures fault { (b : List ℕ) → After self.old b → IfErr result (λ e. IfFault e (IsSettled self.old.pool self.old.kind self.old.limits (b ++ piece.now))) }
-        ensures going { (b : List ℕ) → After self.old b → IsGoing self.old.pool self.old.kind self.old.limits (b ++ piece.now) → IfErr result (λ e. e ≡ Memory) }
-        ensures refused { (b : List ℕ) (f : Fault) → After self.old b → IsSettled self.old.pool self.old.kind self.old.limits (b ++ piece.now) f → IsErrAnd result (λ e. IfFault e (λ g. g ≡ f)) }
+        ensures goes_on { (b : List ℕ) → After self.old b → OnOk result (IsGoingFor self.old (b ++ piece.now)) }
+        ensures fault { (b : List ℕ) → After self.old b → IfErr result (λ e. IfFault e (IsSettledFor self.old (b ++ piece.now))) }
+        ensures going { (b : List ℕ) → After self.old b → IsGoingFor self.old (b ++ piece.now) → IfErr result (λ e. e ≡ Memory) }
+        ensures refused { (b : List ℕ) (f : Fault) → After self.old b → IsSettledFor self.old (b ++ piece.now) f → Tells result f }
         ensures closes { OnErr result (self.new.reading ≡ None) }
         ensures finished { self.old.reading ≡ None → (result ≡ Err Finished) × (self.new ≡ self.old) }
     {
@@ -117,11 +113,11 @@ impl<'p> PushDecoder<'p> {
     /// The message of all bytes received. Every later call answers [`DecodeError::Finished`].
     pub fn finish(&mut self) -> Result<DynamicMessage<'p>, DecodeError>
         ensures same { (self.new.pool ≡ self.old.pool) × (self.new.kind ≡ self.old.kind) × (self.new.limits ≡ self.old.limits) }
-        ensures value { (b : List ℕ) → After self.old b → IfOk result (λ m. (m.pool ≡ self.old.pool) × (m.kind ≡ self.old.kind) × Text self.old.pool self.old.kind self.old.limits b m.body) }
-        ensures fault { (b : List ℕ) → After self.old b → IfErr result (λ e. IfFault e (HasFault (schema_of self.old.pool) (a_message self.old.kind) self.old.limits b)) }
-        ensures accepted { (b : List ℕ) (v : Message) → After self.old b → Text self.old.pool self.old.kind self.old.limits b v → MatchResult result (λ m. m.body ≡ v) (λ e. e ≡ Memory) }
-        ensures refused { (b : List ℕ) (f : Fault) → After self.old b → HasFault (schema_of self.old.pool) (a_message self.old.kind) self.old.limits b f → IsErrAnd result (λ e. IfFault e (λ g. g ≡ f)) }
-        ensures one { (b : List ℕ) → After self.old b → Exactly ((v : Message) × Text self.old.pool self.old.kind self.old.limits b v) (HasFault (schema_of self.old.pool) (a_message self.old.kind) self.old.limits b) }
+        ensures value { (b : List ℕ) → After self.old b → IfOk result (λ m. (m.pool ≡ self.old.pool) × (m.kind ≡ self.old.kind) × IsTextFor self.old b m.body) }
+        ensures fault { (b : List ℕ) → After self.old b → IfErr result (λ e. IfFault e (IsFaultFor self.old b)) }
+        ensures accepted { (b : List ℕ) (v : Message) → After self.old b → IsTextFor self.old b v → Gives result v }
+        ensures refused { (b : List ℕ) (f : Fault) → After self.old b → IsFaultFor self.old b f → Tells result f }
+        ensures one { (b : List ℕ) → After self.old b → Exactly ((v : Message) × IsTextFor self.old b v) (IsFaultFor self.old b) }
         ensures closes { self.new.reading ≡ None }
         ensures finished { self.old.reading ≡ None → result ≡ Err Finished }
     {
@@ -133,12 +129,12 @@ impl<'p> PushDecoder<'p> {
     /// How many bytes are held: those received of the open token, or of the payload of a text, of bytes or of an unknown
     /// record. They are at most ten, or the one length declared for that payload. 0 where the decoder is finished.
     pub fn pending(&self) -> usize
-        ensures held { (b : List ℕ) → After self.now b → IsPending (schema_of self.now.pool) (a_message self.now.kind) self.now.limits.depth b result }
-        ensures one { (b : List ℕ) (n : ℕ) → After self.now b → IsPending (schema_of self.now.pool) (a_message self.now.kind) self.now.limits.depth b n → n ≡ result }
-        ensures bound { (b : List ℕ) → After self.now b → (n : ℕ) × IsDeclared (schema_of self.now.pool) (a_message self.now.kind) self.now.limits.depth b n × (result ≤ max 10 n) }
+        ensures held { (b : List ℕ) → After self.now b → IsPendingFor self.now b result }
+        ensures one { (b : List ℕ) (n : ℕ) → After self.now b → IsPendingFor self.now b n → n ≡ result }
+        ensures bound { (b : List ℕ) → After self.now b → (n : ℕ) × IsDeclaredFor self.now b n × (result ≤ max 10 n) }
         ensures one_bound { (b : List ℕ) (n k : ℕ)
-            → IsDeclared (schema_of self.now.pool) (a_message self.now.kind) self.now.limits.depth b n
-            → IsDeclared (schema_of self.now.pool) (a_message self.now.kind) self.now.limits.depth b k → n ≡ k }
+            → IsDeclaredFor self.now b n
+            → IsDeclaredFor self.now b k → n ≡ k }
         ensures closed { self.now.reading ≡ None → result ≡ 0 }
     {
         match &self.reading {
@@ -149,8 +145,8 @@ impl<'p> PushDecoder<'p> {
 
     /// How many messages, map entries, groups and packed lists are open, the top one too. 0 where the decoder is finished.
     pub fn frames(&self) -> usize
-        ensures open { (b : List ℕ) → After self.now b → HasOpen (schema_of self.now.pool) (a_message self.now.kind) self.now.limits.depth b result }
-        ensures one { (b : List ℕ) (n : ℕ) → After self.now b → HasOpen (schema_of self.now.pool) (a_message self.now.kind) self.now.limits.depth b n → n ≡ result }
+        ensures open { (b : List ℕ) → After self.now b → IsOpenFor self.now b result }
+        ensures one { (b : List ℕ) (n : ℕ) → After self.now b → IsOpenFor self.now b n → n ≡ result }
         ensures bound { result ≤ 2 * self.now.limits.depth + 2 }
         ensures closed { self.now.reading ≡ None → result ≡ 0 }
     {

@@ -190,8 +190,7 @@ fn message_decl(alloc: Global, message: &Value) -> Result<MessageDecl, AllocErro
     ensures { IfOk result (λ m. message_view m ≡ message_in (value_view message.now)) }
 {
     let inner = message_decls(alloc, values_at(message, 3))?;
-    let decl = message_with(alloc, message, inner)?;
-    Ok(decl)
+    message_with(alloc, message, inner)
 }
 
 #[cycle(declare)]

@@ -188,8 +188,7 @@ fn descriptor_file(alloc: Global) -> Result<FileInfo, AllocError>
 fn descriptor_messages(alloc: Global) -> Result<Vec<MessageType>, AllocError>
     ensures { IfOk result (λ v. map message_view v.items ≡ descriptor_types.messages) }
 {
-    let messages = types_of(alloc, TYPES)?;
-    Ok(messages)
+    types_of(alloc, TYPES)
 }
 
 /// The pool that descriptor sets are read and written by: the part of descriptor.proto that declarations are made of, as one file of 15

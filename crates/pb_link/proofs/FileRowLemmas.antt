@@ -5,8 +5,8 @@ use Rattle.std.specs.Str.{bytes_eq}
 use Rattle.pb_schema.specs.Names.{in_scope}
 use Rattle.pb_schema.specs.Types.{FileView, Types}
 use Rattle.pb_decl.specs.Decls.{DeclaredEnum, MessageHead, DeclaredMessage, message, DeclaredMessages, no_messages, more_messages, messages_of}
-use Rattle.pb_link.specs.Declarations.{a_field, a_oneof, a_value, Declaration, fields_of, oneofs_of, enum_declared, enums_declared, head_row, message_declared, messages_declared, file_declared, files_declared}
-use Rattle.pb_link.specs.Rules.{is_file_named}
+use Rattle.pb_names.specs.Declarations.{a_field, a_oneof, a_value, Declaration, fields_of, oneofs_of, enum_declared, enums_declared, head_row, message_declared, messages_declared, file_declared, files_declared}
+use Rattle.pb_rules.specs.Rules.{is_file_named}
 use Rattle.pb_link.specs.ToDecls.{outermost_messages, outermost_enums, declared_enum, declared_message, declared_file}
 
 abbrev pub NamesFile : List ℕ → Declaration → Bool

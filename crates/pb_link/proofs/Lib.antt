@@ -6,20 +6,6 @@ mod Rows
 -- small files of proto2
 mod Proto2Rows
 -- ---- linking: the least fault, or a pool
--- the walk over all declarations in order tells the least fault of all
-pub mod FirstLemmas
--- and exactly that one, since there is one world for each list of files
-pub mod ExactLemmas
--- for the loops that put all that files declare in one row
-pub mod RowLemmas
--- for what a message stands for, part by part
-pub mod ViewLemmas
--- for the judge of one declaration: what it tests is all that can fail there
-pub mod JudgeLemmas
--- for a walk over the declarations, from one on to the end
-pub mod WalkLemmas
--- for the row: the parts of a declaration stand behind it, and what is around one stands before it
-pub mod BehindLemmas
 -- for `link`: it answers what the walk tells
 pub mod LinkLemmas
 -- for the law that files make one pool, or have one fault
@@ -61,47 +47,12 @@ pub mod NameLemmas
 pub mod SyntaxLemmas
 -- all of them together: a pool
 pub mod PoolLemmas
--- ---- tables: what the rules look up, place by place
--- for tests that some element passes
-pub mod AnyLemmas
--- for what is reached by imports, which can be tested: so there is a world for each list of files
-pub mod WorldLemmas
--- for `Reach`: bits and a list that tell what is reached along a graph
-pub mod ReachLemmas
--- for tables of first places
-pub mod FirstsLemmas
--- for imports as graphs, and what a file sees along them
-pub mod GraphLemmas
--- for the walk that numbers components, and for files that no import leads back to
-pub mod ComponentLemmas
--- for sets of names, and the packages that files make
-pub mod NameSetsLemmas
--- for scopes, one after another outwards
-pub mod ScopeSteps
--- for the places of full names
-pub mod PlacesLemmas
--- for what names come to, by place
-pub mod NamesLemmas
--- for the fields that use a type
-pub mod UseLemmas
--- for entry messages and the rules of map fields
-pub mod MapLemmas
--- for marks, by the index of what they speak of
-pub mod MarkLemmas
--- for reserved ranges, sorted: they overlap, and hold a number, exactly where the ranges as given do
-pub mod ReservedLemmas
--- for the members of oneofs, counted, and the rules of them
-pub mod OneofCountLemmas
--- for `first_fault`: what the tables tell at a place holds of the declaration there
-pub mod TableLemmas
 -- ---- the pool of what is declared
 -- for the loops that make its parts
 pub mod PartLemmas
 -- for its types, read off the row
 pub mod ReadLemmas
 -- ---- whether files link, and with types resolved
--- for `verdict`: whether the rules hold of files
-pub mod VerdictLemmas
 -- for `resolve`: what the names came to, taken in declaration order, resolves the files
 pub mod ResolvedLemmas
 -- for messages that are resolved: they stand in each other as deep as before

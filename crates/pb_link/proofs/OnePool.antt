@@ -1,22 +1,24 @@
 -- Files make one pool, or have one fault.
-use Rattle.std.proofs.Common.{◌≡◌, ℕ, zero, suc, ◌<◌, ◌⊎◌, inl, inr, List, [], ◌∷◌, length, Option, Some, None, refl, sym, ap, ◌∙◌, subst, arith}
+use Rattle.std.proofs.Common.{◌≡◌, ℕ, zero, suc, ◌<◌, ◌⊎◌, inl, inr, List, [], ◌∷◌, length, Option, Some, None, refl, ◌∙◌, subst, arith}
 use Rattle.std.specs.Prelude.{slice_get}
 use Rattle.std.proofs.lemmas.List.{length-map}
 use Rattle.pb_schema.specs.Types.{Types}
 use Rattle.pb_decl.specs.Decls.{DeclaredFile}
 use Rattle.pb_decl.specs.One.{ExactlyOne}
-use Rattle.pb_link.specs.declared.cause.LinkCause.{LinkCause}
-use Rattle.pb_link.specs.Declarations.{full_name}
-use Rattle.pb_link.specs.Sees.{file_of}
-use Rattle.pb_link.specs.Rules.{World}
-use Rattle.pb_link.specs.Link.{IsWorldOf, first_fault}
-use Rattle.pb_link.specs.Linking.{Links, ToldFault, HasLinkFault}
+use Rattle.pb_rules.specs.declared.cause.LinkCause.{LinkCause}
+use Rattle.pb_names.specs.Declarations.{full_name}
+use Rattle.pb_names.specs.Sees.{file_of}
+use Rattle.pb_rules.specs.Rules.{World}
+use Rattle.pb_rules.specs.Link.{IsWorldOf, first_fault}
+use Rattle.pb_link.specs.Linking.{Links}
+use Rattle.pb_rules.specs.Faults.{ToldFault, HasLinkFault}
 use Rattle.pb_link.specs.PoolOf.{pool_of}
-use Rattle.pb_link.proofs.FirstLemmas.{first_fault-first, first_fault-none}
-use Rattle.pb_link.proofs.ExactLemmas.{one_world, first_fault-silent, first-told}
-use Rattle.pb_link.proofs.IndexLemmas.{has_file}
-use Rattle.pb_link.proofs.LinkLemmas.{silent_fault, same_fault}
-use Rattle.pb_link.proofs.WorldLemmas.{a_world}
+use Rattle.pb_rules.proofs.FirstLemmas.{first_fault-first, first_fault-none}
+use Rattle.pb_rules.proofs.ExactLemmas.{first_fault-silent, first-told}
+use Rattle.pb_rules.proofs.ThereLemmas.{has_file}
+use Rattle.pb_rules.proofs.FaultLemmas.{silent_fault, same_fault}
+use Rattle.pb_link.proofs.LinkLemmas.{links_same}
+use Rattle.pb_rules.proofs.WorldLemmas.{a_world}
 
 -- what stands at an index
 found : {A : Type 0} (xs : List A) (i : ℕ) → i < length xs → (x : A) × (slice_get xs i ≡ Some x)
@@ -53,9 +55,6 @@ module _ (files : List DeclaredFile) where
   never_both : (ts : Types) (f : ToldFault) → Links files ts → HasLinkFault files f → ⊥
   never_both ts f links fault = silent_fault files links.world f.0 f.1 f.2 links.is_world (first_fault-silent links.world links.holds) fault
 
-  one_types : (ts us : Types) → Links files ts → Links files us → ts ≡ us
-  one_types ts us one other = one.made ∙ ap (pool_of files) (one_world files one.world other.world one.is_world other.is_world) ∙ sym other.made
-
   one_told : (f g : ToldFault) → HasLinkFault files f → HasLinkFault files g → f ≡ g
   one_told f g one other =
       let told = first-told files one.world one.is_world one.place f.2 (one.world, one.is_world, one.fails_first) in
@@ -65,4 +64,4 @@ module _ (files : List DeclaredFile) where
   pub one_pool : ExactlyOne (Links files) (HasLinkFault files)
   one_pool =
       let w = a_world files in
-      record { either = answer w.0 w.1 (first_fault w.0 0 w.0.declared) refl; not_both = never_both; one_meaning = one_types; one_fault = one_told }
+      record { either = answer w.0 w.1 (first_fault w.0 0 w.0.declared) refl; not_both = never_both; one_meaning = links_same files; one_fault = one_told }

@@ -9,11 +9,11 @@ use Rattle.pb_schema.specs.declared.types.Kind.{Kind}
 use Rattle.pb_decl.specs.Decls.{DeclaredFile, MessageHead}
 use Rattle.pb_decl.specs.View.{field_view}
 use Rattle.pb_decl.specs.declared.decl.FieldDecl.{FieldDecl}
-use Rattle.pb_link.specs.Sees.{file_of}
-use Rattle.pb_link.specs.Rules.{key_name}
-use Rattle.pb_link.specs.Declarations.{is_synthetic}
+use Rattle.pb_names.specs.Sees.{file_of}
+use Rattle.pb_rules.specs.Rules.{key_name}
+use Rattle.pb_names.specs.Declarations.{is_synthetic}
 use Rattle.pb_link.specs.Parts.{real_from, kind_of_number, kind_read, place_named, parts_read}
-use Rattle.pb_link.specs.declared.found.TypeNames.{TypeNames}
+use Rattle.pb_names.specs.declared.found.TypeNames.{TypeNames}
 use Rattle.pb_link.specs.declared.parts.tables.Tables.{Tables}
 
 -- the elements from an index on, as they are seen

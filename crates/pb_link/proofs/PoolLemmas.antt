@@ -2,9 +2,9 @@
 use Rattle.std.proofs.Common.{List}
 use Rattle.pb_schema.specs.Rules.{FileRules, FieldRules}
 use Rattle.pb_decl.specs.Decls.{DeclaredFile}
-use Rattle.pb_link.specs.Sees.{files_of}
-use Rattle.pb_link.specs.Rules.{World}
-use Rattle.pb_link.specs.Link.{NothingFails, IsWorldOf}
+use Rattle.pb_names.specs.Sees.{files_of}
+use Rattle.pb_rules.specs.Rules.{World}
+use Rattle.pb_rules.specs.Link.{NothingFails, IsWorldOf}
 use Rattle.pb_link.specs.PoolOf.{pool_of}
 use Rattle.pb_link.specs.Law.{LinkedIsPool}
 use Rattle.pb_link.proofs.FileLemmas.{files_named, packages_named, imports_few, imports_there, no_cycle}

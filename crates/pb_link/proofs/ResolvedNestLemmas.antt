@@ -4,7 +4,7 @@ use Rattle.std.specs.List.{AllByRecursion, enumerate_from}
 use Rattle.pb_schema.specs.Names.{in_scope}
 use Rattle.pb_decl.specs.Decls.{DeclaredMessage, message, DeclaredMessages, no_messages, more_messages, DeclaredFile}
 use Rattle.pb_decl.specs.Nests.{nests, all_nest}
-use Rattle.pb_link.specs.Rules.{World}
+use Rattle.pb_rules.specs.Rules.{World}
 use Rattle.pb_link.specs.Resolved.{resolved_message, resolved_messages, resolved_file, Resolves}
 
 mutual

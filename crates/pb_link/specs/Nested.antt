@@ -1,5 +1,6 @@
 -- What stands in the files and messages of a pool, while its messages are nested from the last one to the first.
-use Rattle.std.specs.Prelude.{◌≡◌, None, ◌<◌, ℕ, List, [], ◌∷◌, ◌++◌, length, map, filter, drop, take, reverse, ◌==◌, ◌&&◌, if◌then◌else◌, Option, Some, option_map, slice_get}
+use Rattle.std.specs.Prelude.{◌≡◌, None, ◌<◌, ℕ, List, [], ◌∷◌, ◌++◌, length, map, filter, drop, take}
+use Rattle.std.specs.Prelude.{reverse, ◌==◌, ◌&&◌, if◌then◌else◌, Option, Some, option_map, slice_get}
 use Rattle.pb_schema.specs.Types.{MessageView, EnumView, Types}
 use Rattle.pb_decl.specs.Decls.{DeclaredEnum, DeclaredMessage}
 use Rattle.pb_decl.specs.View.{enum_view, message_view}

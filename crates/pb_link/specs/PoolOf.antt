@@ -1,5 +1,6 @@
 -- The types that declarations make.
-use Rattle.std.specs.Prelude.{ℕ, ℤ, pos, negsuc, List, length, map, take, filter, Bool, true, false, not, ◌&&◌, if◌then◌else◌, Option, Some, None, find, filter_map, option_and_then, slice_get}
+use Rattle.std.specs.Prelude.{ℕ, ℤ, pos, negsuc, List, length, map, take, filter, Bool, true, false, not, ◌&&◌}
+use Rattle.std.specs.Prelude.{if◌then◌else◌, Option, Some, None, find, filter_map, option_and_then, slice_get}
 use Rattle.std.specs.List.{enumerate_from}
 use Rattle.std.specs.Option.{option_map_or}
 use Rattle.std.specs.Str.{bytes_eq}
@@ -13,10 +14,10 @@ use Rattle.pb_schema.specs.Types.{FieldView, MessageView, EnumView, Types}
 use Rattle.pb_decl.specs.declared.decl.TypeCode.{TypeCode}
 use Rattle.pb_decl.specs.declared.decl.TypeCode.TheVariants as code
 use Rattle.pb_decl.specs.Decls.{DeclaredField, MessageHead, DeclaredFile}
-use Rattle.pb_link.specs.Sees.{files_of}
-use Rattle.pb_link.specs.Declarations.{Item, a_file, a_message, a_field, a_oneof, an_enum, a_value, a_service, a_method, Declaration, full_name, is_synthetic}
-use Rattle.pb_link.specs.Lookup.{looked_up}
-use Rattle.pb_link.specs.Rules.{World, is_two, item_at, is_enum, is_message_type, is_group, place_found, value_name, key_name}
+use Rattle.pb_names.specs.Sees.{files_of}
+use Rattle.pb_names.specs.Declarations.{Item, a_file, a_message, a_field, a_oneof, an_enum, a_value, a_service, a_method, Declaration, full_name, is_synthetic}
+use Rattle.pb_names.specs.Lookup.{looked_up}
+use Rattle.pb_rules.specs.Rules.{World, is_two, item_at, is_enum, is_message_type, is_group, place_found, value_name, key_name}
 
 -- how many declarations before a place pass a test
 abbrev pub count_before : (Item → Bool) → World → ℕ → ℕ

@@ -1,11 +1,12 @@
 -- How declarations are resolved by what the type names of all came to, in declaration order, and what of it is left behind each.
 -- Words for the contracts of private functions; no public contract rests on them.
 use Rattle.std.specs.Prelude.{List, [], ◌∷◌, length, drop, map, Option, None}
-use Rattle.pb_decl.specs.Decls.{DeclaredField, DeclaredEnum, MessageHead, DeclaredMessage, message, DeclaredMessages, no_messages, more_messages, DeclaredMethod, DeclaredService, DeclaredFile}
-use Rattle.pb_link.specs.Declarations.{Declaration}
-use Rattle.pb_link.specs.Lookup.{Found}
+use Rattle.pb_decl.specs.Decls.{DeclaredField, DeclaredEnum, MessageHead, DeclaredMessage, message, DeclaredMessages}
+use Rattle.pb_decl.specs.Decls.{no_messages, more_messages, DeclaredMethod, DeclaredService, DeclaredFile}
+use Rattle.pb_names.specs.Declarations.{Declaration}
+use Rattle.pb_names.specs.Lookup.{Found}
 use Rattle.pb_link.specs.Resolved.{type_at, field_of_type, method_of_types}
-use Rattle.pb_link.specs.View.{type_names_view}
+use Rattle.pb_names.specs.View.{type_names_view}
 use Rattle.pb_link.specs.declared.resolving.upcoming.Upcoming.{Upcoming}
 
 -- what the type names of the declarations that come next came to

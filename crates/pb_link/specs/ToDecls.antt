@@ -1,5 +1,6 @@
 -- The declarations of a pool's types.
-use Rattle.std.specs.Prelude.{ℕ, zero, suc, ℤ, pos, ◌+◌, List, [], ◌∷◌, ◌++◌, length, map, filter, Bool, true, false, not, ◌==◌, ◌&&◌, if◌then◌else◌, Option, Some, None, is_none, filter_map}
+use Rattle.std.specs.Prelude.{ℕ, zero, suc, ℤ, pos, ◌+◌, List, [], ◌∷◌, ◌++◌, length, map, filter, Bool, true}
+use Rattle.std.specs.Prelude.{false, not, ◌==◌, ◌&&◌, if◌then◌else◌, Option, Some, None, is_none, filter_map}
 use Rattle.std.specs.List.{list_any, enumerate_from}
 use Rattle.std.specs.Ordering.{int_eq}
 use Rattle.pb_schema.specs.declared.types.Kind.{Kind}
@@ -12,7 +13,7 @@ use Rattle.pb_schema.specs.Types.{FieldView, MessageView, EnumView, FileView, Ty
 use Rattle.pb_decl.specs.declared.decl.TypeCode.{TypeCode}
 use Rattle.pb_decl.specs.declared.decl.TypeCode.TheVariants as code
 use Rattle.pb_decl.specs.Decls.{DeclaredField, DeclaredEnum, MessageHead, DeclaredMessage, message, no_messages, messages_of, DeclaredFile}
-use Rattle.pb_link.specs.Rules.{key_name, value_name}
+use Rattle.pb_rules.specs.Rules.{key_name, value_name}
 
 -- KINDS
 

@@ -17,15 +17,16 @@ ghost use Rattle.pb_decl.specs.View.{file_view};
 ghost use Rattle.pb_descr.specs.Causes.{set_causes};
 ghost use Rattle.pb_descr.specs.Sets.{IsSetOf, IsWritable, set_bytes};
 ghost use Rattle.pb_descr.specs.Writing.{set_body};
-ghost use Rattle.pb_link.specs.declared.error.LinkError.TheVariants.{Memory};
+ghost use Rattle.pb_rules.specs.declared.error.LinkError.TheVariants.{Memory};
 ghost use Rattle.pb_link.specs.Linking.{Links};
 ghost use Rattle.pb_link.specs.ToDecls.{numbered, declared_file, decls_of};
 ghost use Rattle.pb_link.specs.Nested.{inside_view, inside_file, AreInside};
 
 use crate::declaring::nesting::{Inside, nested};
-use crate::error::LinkError;
 pub use order::{declared_order, declared_pool};
-use pb_descr::{FileDecl, set_back};
+use pb_decl::FileDecl;
+use pb_descr::set_back;
+use pb_rules::LinkError;
 use pb_schema::{FileInfo, Pool};
 use std::alloc::{AllocError, Global};
 

@@ -6,8 +6,9 @@ ghost use Rattle.pb_schema.specs.Types.{Types};
 ghost use Rattle.pb_schema.specs.Rules.{IsPool};
 ghost use Rattle.pb_decl.specs.Decls.{DeclaredFile};
 ghost use Rattle.pb_decl.specs.One.{ExactlyOne};
-ghost use Rattle.pb_link.specs.Declarations.{declarations};
-ghost use Rattle.pb_link.specs.Linking.{Links, HasLinkFault};
+ghost use Rattle.pb_names.specs.Declarations.{declarations};
+ghost use Rattle.pb_link.specs.Linking.{Links};
+ghost use Rattle.pb_rules.specs.Faults.{HasLinkFault};
 ghost use Rattle.pb_link.specs.Resolved.{Resolves, IsTypedFile};
 
 /// Where every rule of linking holds of some files, the types that they declare are a pool.

@@ -8,22 +8,22 @@ pub(crate) mod types;
 ghost use Rattle.std.specs.Prelude.{◌≡◌, map, length, IfOk, IfErr};
 ghost use Rattle.pb_schema.specs.declared.error.PoolError.TheVariants.{Memory};
 ghost use Rattle.pb_decl.specs.View.{file_view};
-ghost use Rattle.pb_link.specs.Sees.{files_of};
-ghost use Rattle.pb_link.specs.Declarations.{declarations};
-ghost use Rattle.pb_link.specs.Rules.{World, lookups};
-ghost use Rattle.pb_link.specs.Link.{IsWorldOf, NothingFails};
+ghost use Rattle.pb_names.specs.Sees.{files_of};
+ghost use Rattle.pb_rules.specs.Rules.{World, lookups};
+ghost use Rattle.pb_rules.specs.Link.{IsWorldOf, NothingFails};
 ghost use Rattle.pb_link.specs.PoolOf.{pool_of};
-ghost use Rattle.pb_link.specs.View.{declaration_view, type_names_view};
-ghost use Rattle.pb_link.specs.Tables.{AreNamesOf};
+ghost use Rattle.pb_names.specs.View.{declaration_view, type_names_view};
+ghost use Rattle.pb_rules.specs.Judged.{IsJudged};
+ghost use Rattle.pb_link.specs.Linking.{Links};
 
-use crate::declaration::Declaration;
-use crate::found::TypeNames;
-use crate::imports::Imports;
-use crate::names::Names;
 use crate::parts::files::files_of;
 use crate::parts::tables::{Tables, kinds};
 use crate::parts::types::{enums_of, messages_of};
-use pb_descr::FileDecl;
+use pb_decl::FileDecl;
+use pb_names::declaration::Declaration;
+use pb_names::found::TypeNames;
+use pb_names::imports::Imports;
+use pb_rules::judged::Judged;
 use pb_schema::{Pool, PoolError};
 use std::alloc::Global;
 
@@ -57,22 +57,20 @@ pub(crate) fn linked_pool(
     }
 }
 
-/// The pool of declarations that link, by what files, names and type names came to.
+/// The pool of files of which every rule holds.
 pub(crate) fn pool_of_names(
     alloc: Global,
     files: &[FileDecl],
-    row: &[Declaration<'_>],
-    names: &Names,
+    judged: &Judged,
 ) -> Result<Pool, PoolError>
-    requires row { map declaration_view row.now ≡ declarations (map file_view files.now) }
-    requires sizes { length names.now.found.items ≡ length row.now }
-    ensures made { (w : World) → IsWorldOf (map file_view files.now) w → NothingFails w → AreNamesOf w names.now
-        → IfOk result (λ p. p ≡ pool_of (map file_view files.now) w) }
-    ensures refused { (w : World) → IsWorldOf (map file_view files.now) w → NothingFails w → AreNamesOf w names.now → IfErr result (λ e. e ≡ Memory) }
+    requires { IsJudged (map file_view files.now) judged.now }
+    ensures made { IfOk result (Links (map file_view files.now)) }
+    ensures refused { IfErr result (λ e. e ≡ Memory) }
 {
     let imports = Imports::new(alloc, files)?;
     let all = imports.all.as_slice();
-    let found = names.found.as_slice();
+    let row = judged.row.as_slice();
+    let found = judged.names.found.as_slice();
     match linked_pool(alloc, files, all, row, found) {
         Ok(pool) => Ok(pool),
         Err(error) => Err(error),

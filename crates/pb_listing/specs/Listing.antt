@@ -12,7 +12,8 @@ use Rattle.pb_schema.specs.Types.{FieldView, Types, message_fields, field_number
 use Rattle.pb_schema.specs.Kinds.{enum_of_kind, message_of_kind}
 use Rattle.pb_schema.specs.EnumValues.{enum_values, value_name}
 use Rattle.pb_schema.specs.Scalar.{Scalar, int32, int64, uint32, uint64, boolean, float, double, enum, text, bytes}
-use Rattle.pb_value.specs.Data.{Datum, scalar, message, Datums, no_datums, datum, Entries, no_entries, entry, Holding, one, list, map, Fields, no_fields, field, Message, body}
+use Rattle.pb_value.specs.Data.{Datum, scalar, message, Datums, no_datums, datum, Entries, no_entries, entry}
+use Rattle.pb_value.specs.Data.{Holding, one, list, map, Fields, no_fields, field, Message, body}
 use Rattle.pb_value.specs.Dynamic.{Dynamic}
 use Rattle.pb_listing.specs.RawListing.{line, record_lines}
 

@@ -71,7 +71,11 @@ impl Sink {
             return Err(DeviceFault);
         }
         self.flush(out);
-        if self.failed { Err(DeviceFault) } else { Ok(()) }
+        if self.failed {
+            Err(DeviceFault)
+        } else {
+            Ok(())
+        }
     }
 
     /// Whether the output failed.

@@ -11,9 +11,9 @@ ghost use Rattle.pb_schema.specs.Packed.{elements, number_bytes, element_bytes};
 ghost use Rattle.pb_schema.specs.PayloadView.{payload_view};
 ghost use Rattle.pb_schema_tests.specs.Cuts.{Cuts};
 
-use pb_schema::scalars::*;
 use pb_schema::Kind;
 use pb_schema::laws::{packed_numbers, reads_back};
+use pb_schema::scalars::*;
 use pb_wire::{put_varint, read_varint};
 use std::alloc::{AllocError, Global};
 use std::test::Fail;

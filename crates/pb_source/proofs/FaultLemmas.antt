@@ -9,8 +9,8 @@ use Rattle.pb_source.specs.declared.rule.Rule.{Rule}
 use Rattle.pb_source.specs.declared.rule.Rule.TheVariants.{NumbersFit as numbers_fit, OptionsKnown as options_known, SyntaxFirst as syntax_first, NestsBounded as nests_bounded, TextsValid as texts_valid}
 use Rattle.pb_source.specs.Readers.Forms.{Reader}
 use Rattle.pb_source.specs.SyntaxFault.{IsCause, Fault}
-use Rattle.pb_source.specs.declared.fault.Cause.{Cause}
-use Rattle.pb_source.specs.declared.fault.Cause.TheVariants.{Unexpected}
+use Rattle.pb_source.specs.declared.fault.SourceCause.{SourceCause}
+use Rattle.pb_source.specs.declared.fault.SourceCause.TheVariants.{Unexpected}
 use Rattle.pb_source.proofs.ReaderLaws.{Reads, Refused, leaves}
 
 leaves_itself : (r : Rule) → leaves (without r) (Some r) ≡ true
@@ -118,7 +118,7 @@ module _ {A : Type 0} (e : Symbol → Bool) (File : Rules → A → Language) (p
       (subst (λ c. IsCause File c (told why)) (sym (take_more r.front t x)) (at_symbol r.front t x why h'))))
 
   -- and nothing else
-  pub only_so : (ts rest : List Symbol) (why : Option Rule) (k : ℕ) (c : Cause) → ts ≢ [] → Refuses all_rules ts rest why → Fault File ts k c
+  pub only_so : (ts rest : List Symbol) (why : Option Rule) (k : ℕ) (c : SourceCause) → ts ≢ [] → Refuses all_rules ts rest why → Fault File ts k c
       → (k ≡ length ts - length rest) × (c ≡ told why)
   only_so ts rest why k c some h f = by_fault rest why h f
     where
@@ -134,7 +134,7 @@ module _ {A : Type 0} (e : Symbol → Bool) (File : Rules → A → Language) (p
       at_the_end : (why : Option Rule) → Refuses all_rules ts [] why → why ≡ None
       at_the_end why h = (reads (length ts)).at_end all_rules ts why (omega arith) (h (length ts) (omega arith))
 
-      same_cause : (front : List Symbol) (t : Symbol) (x : List Symbol) (why : Option Rule) (c : Cause)
+      same_cause : (front : List Symbol) (t : Symbol) (x : List Symbol) (why : Option Rule) (c : SourceCause)
           → Refuses all_rules (front ++ t ∷ x) (t ∷ x) why → IsCause File (front ++ t ∷ []) c → c ≡ told why
       same_cause front t x None c h (IsCause.a_rule r b) =
           absurd (no_word (without r) front t x None (λ n l. (reads n).same (without r) (front ++ t ∷ x) (t ∷ x) None l refl (h n l)) b)
@@ -146,11 +146,11 @@ module _ {A : Type 0} (e : Symbol → Bool) (File : Rules → A → Language) (p
       same_cause front t x None c h (IsCause.no_rule g) = refl
       same_cause front t x (Some s) c h (IsCause.no_rule g) = absurd (refuted (at_symbol front t x (Some s) h) refl)
         where
-          refuted : {d : Cause} → IsCause File (front ++ t ∷ []) d → d ≡ told (Some s) → ⊥
+          refuted : {d : SourceCause} → IsCause File (front ++ t ∷ []) d → d ≡ told (Some s) → ⊥
           refuted (IsCause.a_rule r b) e = g r b
           refuted (IsCause.no_rule _) e = not_unexpected s e
 
-      by_fault : (rest : List Symbol) (why : Option Rule) {k : ℕ} {c : Cause} → Refuses all_rules ts rest why → Fault File ts k c → (k ≡ length ts - length rest) × (c ≡ told why)
+      by_fault : (rest : List Symbol) (why : Option Rule) {k : ℕ} {c : SourceCause} → Refuses all_rules ts rest why → Fault File ts k c → (k ≡ length ts - length rest) × (c ≡ told why)
       by_fault rest why h (Fault.no_symbols e) = absurd (some e)
       by_fault [] why h (Fault.at_end _ b none) = (omega arith, ap told (sym (at_the_end why h)))
       by_fault (t ∷ x) why h (Fault.at_end _ b none) =

@@ -8,8 +8,8 @@ use Rattle.pb_source.specs.Meaning.{FileStatement}
 use Rattle.pb_source.specs.Grammar.{file}
 use Rattle.pb_source.specs.SyntaxFault.{Fault, SyntaxFault}
 use Rattle.pb_source.specs.declared.rule.Rule.{Rule}
-use Rattle.pb_source.specs.declared.fault.Cause.{Cause}
-use Rattle.pb_source.specs.declared.fault.Cause.TheVariants.{Unexpected, NotProto3}
+use Rattle.pb_source.specs.declared.fault.SourceCause.{SourceCause}
+use Rattle.pb_source.specs.declared.fault.SourceCause.TheVariants.{Unexpected, NotProto3}
 use Rattle.pb_source.specs.Readers.Forms.{Outcome, Reader, to_end}
 use Rattle.pb_source.specs.Readers.Lines.{syntax_reader, file_statement_reader, is_package, file_reader}
 use Rattle.pb_source.proofs.ReaderLaws.{bind_ok}
@@ -68,11 +68,11 @@ further ts t x why h n l = refused_further all_rules ts t x why (length ts) n l 
 
 -- ---- always one of the two
 
-pub file_or_fault : (ts : List Symbol) → ((v : List FileStatement) × file all_rules v ts) ⊎ ((k : ℕ) × (c : Cause) × SyntaxFault ts k c)
+pub file_or_fault : (ts : List Symbol) → ((v : List FileStatement) × file all_rules v ts) ⊎ ((k : ℕ) × (c : SourceCause) × SyntaxFault ts k c)
 file_or_fault ts = by_answer ts (file_reader (length ts) all_rules ts) refl
   where
     by_answer : (ts : List Symbol) (o : Outcome (List FileStatement)) → Answer ts o → ((v : List FileStatement) × file all_rules v ts)
-        ⊎ ((k : ℕ) × (c : Cause) × SyntaxFault ts k c)
+        ⊎ ((k : ℕ) × (c : SourceCause) × SyntaxFault ts k c)
     by_answer ts (Ok (v, rest)) h = inl (v, is_word ts v rest h)
     by_answer [] (Err e) h = inr (0, NotProto3, Fault.no_symbols refl)
     by_answer (s ∷ ts) (Err ([], why)) h = inr (length (s ∷ ts), Unexpected, Fault.at_end (λ e. cc e) (begins (s ∷ ts) why h) (no_word (s ∷ ts) [] why h))
@@ -92,7 +92,7 @@ begins_front ts k (v, more, d) = (
   subst (file all_rules v) (ap (λ r. r ++ more) (sym (take-append-drop k ts)) ∙ Rattle.std.proofs.Common.append_assoc (take k ts) (drop k ts) more) d,
 )
 
-pub file_no_fault : (ts : List Symbol) (v : List FileStatement) (k : ℕ) (c : Cause) → file all_rules v ts → SyntaxFault ts k c → ⊥
+pub file_no_fault : (ts : List Symbol) (v : List FileStatement) (k : ℕ) (c : SourceCause) → file all_rules v ts → SyntaxFault ts k c → ⊥
 file_no_fault ts v k c d (Fault.no_symbols e) = file_not_empty all_rules v (subst (file all_rules v) e d)
 file_no_fault ts v k c d (Fault.at_end some b none) = none v d
 file_no_fault ts v k c d (Fault.at_symbol l b never w) = never (begins_front ts (suc k) (v, [], subst (file all_rules v) (sym (append-nil ts)) d))
@@ -105,21 +105,21 @@ one_statements ts v w d e = same (word_read ts v d) (word_read ts w e)
     same : {o : Outcome (List FileStatement)} {x y : List FileStatement} → o ≡ Ok (x, []) → o ≡ Ok (y, []) → x ≡ y
     same {o} {x} {y} h k = let e : ◌≡◌ {A = List FileStatement × List Symbol} (x, []) (y, []) = cc (h, k) in ap (λ z. z.0) e
 
-pub one_syntax_fault : (ts : List Symbol) (j k : ℕ) (c d : Cause) → SyntaxFault ts j c → SyntaxFault ts k d → (j ≡ k) × (c ≡ d)
+pub one_syntax_fault : (ts : List Symbol) (j k : ℕ) (c d : SourceCause) → SyntaxFault ts j c → SyntaxFault ts k d → (j ≡ k) × (c ≡ d)
 one_syntax_fault ts j k c d f g = by_answer ts (file_reader (length ts) all_rules ts) refl f g
   where
-    nothing : (k : ℕ) (c : Cause) → SyntaxFault [] k c → (k ≡ 0) × (c ≡ NotProto3)
+    nothing : (k : ℕ) (c : SourceCause) → SyntaxFault [] k c → (k ≡ 0) × (c ≡ NotProto3)
     nothing k c (Fault.no_symbols e) = (refl, refl)
     nothing k c (Fault.at_end some b none) = absurd (some refl)
     nothing k c (Fault.at_symbol l b never w) = absurd (omega arith)
 
-    at_the_end : (s : Symbol) (ts : List Symbol) (k : ℕ) (c : Cause) → Begins (file all_rules) (s ∷ ts) → SyntaxFault (s ∷ ts) k c
+    at_the_end : (s : Symbol) (ts : List Symbol) (k : ℕ) (c : SourceCause) → Begins (file all_rules) (s ∷ ts) → SyntaxFault (s ∷ ts) k c
         → (k ≡ length (s ∷ ts)) × (c ≡ Unexpected)
     at_the_end s ts k c b (Fault.no_symbols e) = absurd (cc e)
     at_the_end s ts k c b (Fault.at_end some a none) = (refl, refl)
     at_the_end s ts k c b (Fault.at_symbol l a never w) = absurd (never (begins_front (s ∷ ts) (suc k) b))
 
-    alike : {a b p : ℕ} {x y q : Cause} → (a ≡ p) × (x ≡ q) → (b ≡ p) × (y ≡ q) → (a ≡ b) × (x ≡ y)
+    alike : {a b p : ℕ} {x y q : SourceCause} → (a ≡ p) × (x ≡ q) → (b ≡ p) × (y ≡ q) → (a ≡ b) × (x ≡ y)
     alike h k = (h.0 ∙ sym k.0, h.1 ∙ sym k.1)
 
     by_answer : (ts : List Symbol) (o : Outcome (List FileStatement)) → Answer ts o → SyntaxFault ts j c → SyntaxFault ts k d → (j ≡ k) × (c ≡ d)

@@ -2,7 +2,7 @@
 use Rattle.std.proofs.Common.{◌≡◌, ℕ, zero, suc, ◌+◌, ◌-◌, ◌<◌, ◌≤◌, List, [], ◌∷◌, ◌++◌, length, take, drop, refl, ap, sym, ◌∙◌, subst, arith, length-append, drop_of_length-le}
 use Rattle.std.proofs.Math.Seq.{drop-append_seam, take-append_seam}
 use Rattle.pb_source.specs.Tokens.{PlacedToken, Lexes, FaultHere, after_mark, AreTokens, LexFault}
-use Rattle.pb_source.specs.declared.fault.Cause.{Cause}
+use Rattle.pb_source.specs.declared.fault.SourceCause.{SourceCause}
 use Rattle.pb_source.proofs.LexLemmas.{tail_at}
 use Rattle.pb_source.proofs.OnePiece.{Found, found_at, blank_found, comment_found, spelled_found, fault_found}
 
@@ -10,7 +10,7 @@ use Rattle.pb_source.proofs.OnePiece.{Found, found_at, blank_found, comment_foun
 
 data Lexed : Type 0 where
   tokens : List PlacedToken → Lexed
-  fault_at : ℕ → Cause → Lexed
+  fault_at : ℕ → SourceCause → Lexed
 
 abbrev behind : PlacedToken → Lexed → Lexed
 behind t (Lexed.tokens ts) = Lexed.tokens (t ∷ ts)
@@ -68,7 +68,7 @@ before_tokens : (ts : List PlacedToken) → before ts (Lexed.tokens []) ≡ Lexe
 before_tokens [] = refl
 before_tokens (t ∷ ts) = ap (behind t) (before_tokens ts)
 
-before_fault : (ts : List PlacedToken) (place : ℕ) (c : Cause) → before ts (Lexed.fault_at place c) ≡ Lexed.fault_at place c
+before_fault : (ts : List PlacedToken) (place : ℕ) (c : SourceCause) → before ts (Lexed.fault_at place c) ≡ Lexed.fault_at place c
 before_fault [] place c = refl
 before_fault (t ∷ ts) place c = ap (behind t) (before_fault ts place c)
 
@@ -76,7 +76,7 @@ no_bytes : (m y : ℕ) → lexed m y [] ≡ Lexed.tokens []
 no_bytes zero y = refl
 no_bytes (suc m) y = refl
 
-fault_lexed : (y place : ℕ) (rest : List ℕ) (c : Cause) → FaultHere y rest place c → (m : ℕ) → length rest ≤ m → lexed m y rest ≡ Lexed.fault_at place c
+fault_lexed : (y place : ℕ) (rest : List ℕ) (c : SourceCause) → FaultHere y rest place c → (m : ℕ) → length rest ≤ m → lexed m y rest ≡ Lexed.fault_at place c
 fault_lexed y place rest c h zero l = let s = (fault_found h).some in absurd (omega arith)
 fault_lexed y place rest c h (suc m) l =
     let g = fault_found h in
@@ -88,7 +88,7 @@ source_lexed bs = lexed (length (after_mark bs).1) (after_mark bs).0 (after_mark
 tokens_lexed : (bs : List ℕ) (ts : List PlacedToken) → AreTokens bs ts → source_lexed bs ≡ Lexed.tokens ts
 tokens_lexed bs ts (y, g) = lexes_to (Lexed.tokens []) g (λ m l. no_bytes m y) (length (after_mark bs).1) (omega arith) ∙ before_tokens ts
 
-refused_lexed : (bs : List ℕ) (place : ℕ) (c : Cause) → LexFault bs place c → source_lexed bs ≡ Lexed.fault_at place c
+refused_lexed : (bs : List ℕ) (place : ℕ) (c : SourceCause) → LexFault bs place c → source_lexed bs ≡ Lexed.fault_at place c
 refused_lexed bs place c (ts, y, rest, g, h) = lexes_to (Lexed.fault_at place c) g (fault_lexed y place rest c h) (length (after_mark bs).1) (omega arith) ∙ before_fault ts place c
 
 -- ---- the laws
@@ -99,13 +99,13 @@ one_list bs ts us g h = same (sym (tokens_lexed bs ts g) ∙ tokens_lexed bs us 
     same : Lexed.tokens ts ≡ Lexed.tokens us → ts ≡ us
     same e = cc e
 
-pub one_fault : (bs : List ℕ) (p q : ℕ) (c d : Cause) → LexFault bs p c → LexFault bs q d → (p ≡ q) × (c ≡ d)
+pub one_fault : (bs : List ℕ) (p q : ℕ) (c d : SourceCause) → LexFault bs p c → LexFault bs q d → (p ≡ q) × (c ≡ d)
 one_fault bs p q c d g h = same (sym (refused_lexed bs p c g) ∙ refused_lexed bs q d h)
   where
     same : Lexed.fault_at p c ≡ Lexed.fault_at q d → (p ≡ q) × (c ≡ d)
     same e = (cc e, cc e)
 
-pub not_both : (bs : List ℕ) (ts : List PlacedToken) (p : ℕ) (c : Cause) → AreTokens bs ts → LexFault bs p c → ⊥
+pub not_both : (bs : List ℕ) (ts : List PlacedToken) (p : ℕ) (c : SourceCause) → AreTokens bs ts → LexFault bs p c → ⊥
 not_both bs ts p c g h = apart (sym (tokens_lexed bs ts g) ∙ refused_lexed bs p c h)
   where
     apart : Lexed.tokens ts ≡ Lexed.fault_at p c → ⊥
@@ -116,6 +116,6 @@ not_both bs ts p c g h = apart (sym (tokens_lexed bs ts g) ∙ refused_lexed bs 
 pub all_read : (bs : List ℕ) (at : ℕ) (ts : List PlacedToken) → length bs ≤ at → Lexes (after_mark bs).0 (after_mark bs).1 ts at (drop at bs) → AreTokens bs ts
 all_read bs at ts l g = (at, subst (λ r. Lexes (after_mark bs).0 (after_mark bs).1 ts at r) (drop_of_length-le bs l) g)
 
-pub refused_there : (bs : List ℕ) (at offset : ℕ) (c : Cause) (ts : List PlacedToken) → Lexes (after_mark bs).0 (after_mark bs).1 ts at (drop at bs)
+pub refused_there : (bs : List ℕ) (at offset : ℕ) (c : SourceCause) (ts : List PlacedToken) → Lexes (after_mark bs).0 (after_mark bs).1 ts at (drop at bs)
     → ((x : ℕ) → FaultHere x (take (length bs - at) (drop at bs)) (x + offset) c) → LexFault bs (at + offset) c
 refused_there bs at offset c ts g h = (ts, at, drop at bs, g, subst (λ r. FaultHere at r (at + offset) c) (tail_at bs at) (h at))

@@ -5,7 +5,7 @@ use Rattle.pb_source.specs.Tokens.{PlacedToken, AreTokens, LexFault}
 use Rattle.pb_source.specs.Texts.{text_meaning}
 use Rattle.pb_source.specs.Symbols.{Symbol, word, number, text, sign, PlacedSymbol, Means, Joined, BeginsNoText, AreSymbols}
 use Rattle.pb_source.specs.SymbolView.{HasSymbols}
-use Rattle.pb_source.specs.declared.fault.Cause.{Cause}
+use Rattle.pb_source.specs.declared.fault.SourceCause.{SourceCause}
 use Rattle.pb_source.specs.declared.token.TokenKind.{TokenKind}
 use Rattle.pb_source.specs.declared.token.TokenKind.TheVariants.{Word, Number, Text, Sign}
 use Rattle.pb_source.proofs.OneLexing.{one_list, not_both}
@@ -84,5 +84,5 @@ one_reading ts ss us a b = sym (symbols_so a) ∙ symbols_so b
 pub one_source : (source : List ℕ) (ts : List PlacedToken) (ss us : List PlacedSymbol) → AreTokens source ts → AreSymbols ts ss → HasSymbols source us → ss ≡ us
 one_source source ts ss us a b (vs, c, d) = one_reading ts ss us b (subst (λ vs. AreSymbols vs us) (one_list source vs ts c a) d)
 
-pub no_symbols : (source : List ℕ) (place : ℕ) (cause : Cause) (us : List PlacedSymbol) → LexFault source place cause → HasSymbols source us → ⊥
+pub no_symbols : (source : List ℕ) (place : ℕ) (cause : SourceCause) (us : List PlacedSymbol) → LexFault source place cause → HasSymbols source us → ⊥
 no_symbols source place cause us h (vs, c, d) = not_both source vs place cause c h

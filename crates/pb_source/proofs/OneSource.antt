@@ -6,8 +6,8 @@ use Rattle.std.specs.Str.{is_utf8}
 use Rattle.std.specs.Str.Lossy.{utf8_valid_len}
 use Rattle.pb_decl.specs.Decls.{DeclaredFile}
 use Rattle.pb_decl.specs.One.{ExactlyOne}
-use Rattle.pb_source.specs.declared.fault.Cause.{Cause}
-use Rattle.pb_source.specs.declared.fault.Cause.TheVariants.{SourceTooLarge, BadUtf8}
+use Rattle.pb_source.specs.declared.fault.SourceCause.{SourceCause}
+use Rattle.pb_source.specs.declared.fault.SourceCause.TheVariants.{SourceTooLarge, BadUtf8}
 use Rattle.pb_source.specs.declared.fault.SourceFault.{SourceFault}
 use Rattle.pb_source.specs.Fault.{fault}
 use Rattle.pb_source.specs.Tokens.{PlacedToken, AreTokens, LexFault}
@@ -40,7 +40,7 @@ one_lexing bytes = record {
   one_fault = λ e g f h. same_told e g (one_fault bytes e.byte g.byte e.cause g.cause f h);
 }
   where
-    told : ((ts : List PlacedToken) × AreTokens bytes ts) ⊎ ((place : ℕ) × (c : Cause) × LexFault bytes place c)
+    told : ((ts : List PlacedToken) × AreTokens bytes ts) ⊎ ((place : ℕ) × (c : SourceCause) × LexFault bytes place c)
         → ((ts : List PlacedToken) × AreTokens bytes ts) ⊎ ((e : SourceFault) × LexFault bytes e.byte e.cause)
     told (inl h) = inl h
     told (inr (place, c, f)) = inr (fault place c, f)
@@ -58,7 +58,7 @@ module _ (name bytes : List ℕ) where
       let word : file all_rules s.means.0 (symbols_alone t.symbols) = subst (λ ss. file all_rules s.means.0 (symbols_alone ss)) same s.means.1 in
       s.means.2 ∙ ap (file_of name) (one_statements (symbols_alone t.symbols) s.means.0 t.means.0 word t.means.1) ∙ sym t.means.2
 
-  never_both : (d : DeclaredFile) (place : ℕ) (c : Cause) → IsSource name bytes d → HasFault bytes place c → ⊥
+  never_both : (d : DeclaredFile) (place : ℕ) (c : SourceCause) → IsSource name bytes d → HasFault bytes place c → ⊥
   never_both d place c s (HasFault.too_large l) = let k = s.size in omega arith
   never_both d place c s (HasFault.bad_utf8 l h) = h s.valid
   never_both d place c s (HasFault.in_token l v f) = not_both bytes s.tokens place c s.lexed f
@@ -66,10 +66,10 @@ module _ (name bytes : List ℕ) where
       let same = same_symbols s.symbols ss (s.tokens, s.lexed, s.read) (ts, a, b) in
       file_no_fault (symbols_alone ss) s.means.0 k c (subst (λ ss. file all_rules s.means.0 (symbols_alone ss)) same s.means.1) f
 
-  turned : {p q : ℕ} {c d : Cause} → (q ≡ p) × (d ≡ c) → (p ≡ q) × (c ≡ d)
+  turned : {p q : ℕ} {c d : SourceCause} → (q ≡ p) × (d ≡ c) → (p ≡ q) × (c ≡ d)
   turned h = (sym h.0, sym h.1)
 
-  same_fault : (p q : ℕ) (c d : Cause) → HasFault bytes p c → HasFault bytes q d → (p ≡ q) × (c ≡ d)
+  same_fault : (p q : ℕ) (c d : SourceCause) → HasFault bytes p c → HasFault bytes q d → (p ≡ q) × (c ≡ d)
   same_fault p q c d (HasFault.too_large l) g = turned (too_large_only bytes l q d g)
   same_fault p q c d (HasFault.bad_utf8 l h) g = turned (bad_utf8_only bytes l h q d g)
   same_fault p q c d (HasFault.in_token l v f) g = turned (token_only bytes l v p c f q d g)
@@ -87,13 +87,13 @@ module _ (name bytes : List ℕ) where
   Answered = ((d : DeclaredFile) × IsSource name bytes d) ⊎ ((e : SourceFault) × HasFault bytes e.byte e.cause)
 
   by_file : length bytes ≤ 2 ^ 31 - 1 → IsUtf8 bytes → (ts : List PlacedToken) → AreTokens bytes ts → (ss : List PlacedSymbol) → AreSymbols ts ss
-      → ((v : List FileStatement) × file all_rules v (symbols_alone ss)) ⊎ ((k : ℕ) × (c : Cause) × SyntaxFault (symbols_alone ss) k c) → Answered
+      → ((v : List FileStatement) × file all_rules v (symbols_alone ss)) ⊎ ((k : ℕ) × (c : SourceCause) × SyntaxFault (symbols_alone ss) k c) → Answered
   by_file l u ts a ss b (inl (v, d)) =
       inl (file_of name v, record { size = l; valid = u; tokens = ts; lexed = a; symbols = ss; read = b; means = (v, d, refl) })
   by_file l u ts a ss b (inr (k, c, f)) = inr (fault (place_in ss (length bytes) k) c, HasFault.in_syntax {ts = ts} {ss = ss} {k = k} l u a b f)
 
   by_tokens : length bytes ≤ 2 ^ 31 - 1 → IsUtf8 bytes → ((ts : List PlacedToken) × AreTokens bytes ts)
-      ⊎ ((place : ℕ) × (c : Cause) × LexFault bytes place c) → Answered
+      ⊎ ((place : ℕ) × (c : SourceCause) × LexFault bytes place c) → Answered
   by_tokens l u (inl (ts, a)) = let s = some_symbols ts (tokens_meant bytes ts a) in by_file l u ts a s.0 s.1 (file_or_fault (symbols_alone s.0))
   by_tokens l u (inr (place, c, f)) = inr (fault place c, HasFault.in_token l u f)
 

@@ -1,7 +1,7 @@
 -- What is told of a source is its declaration, or its fault and no other.
 use Rattle.std.proofs.Common.{◌≡◌, ℕ, zero, suc, ◌^◌, ◌-◌, ◌<◌, ◌≤◌, List, [], ◌∷◌, length, get_or, refl, ap, sym, ◌∙◌, subst, arith, ◌⊎◌, inl, inr, IsUtf8}
 use Rattle.pb_decl.specs.Decls.{DeclaredFile}
-use Rattle.pb_source.specs.declared.fault.Cause.{Cause}
+use Rattle.pb_source.specs.declared.fault.SourceCause.{SourceCause}
 use Rattle.pb_source.specs.declared.fault.SourceFault.{SourceFault}
 use Rattle.pb_source.specs.declared.refusal.Refusal.{Refusal}
 use Rattle.pb_source.specs.declared.refusal.Refusal.TheVariants as refusal
@@ -22,12 +22,12 @@ use Rattle.pb_source.proofs.SourceLaws.{ReadsAll, is_source, only_source, no_fau
 pub record Declared (name bytes : List ℕ) (d : DeclaredFile) : Type 0 where
   pub source : IsSource name bytes d
   pub only : (e : DeclaredFile) → IsSource name bytes e → d ≡ e
-  pub none : (place : ℕ) (c : Cause) → HasFault bytes place c → ⊥
+  pub none : (place : ℕ) (c : SourceCause) → HasFault bytes place c → ⊥
 
 -- the fault of the bytes, which have no other, and declare nothing
 pub record Faulty (bytes : List ℕ) (e : SourceFault) : Type 0 where
   pub fault : HasFault bytes e.byte e.cause
-  pub only : (place : ℕ) (c : Cause) → HasFault bytes place c → (place ≡ e.byte) × (c ≡ e.cause)
+  pub only : (place : ℕ) (c : SourceCause) → HasFault bytes place c → (place ≡ e.byte) × (c ≡ e.cause)
   pub none : (name : List ℕ) (d : DeclaredFile) → IsSource name bytes d → ⊥
 
 abbrev pub Told : List ℕ → SourceFault → Type 0
@@ -42,7 +42,7 @@ module _ (bytes : List ℕ) (e : SourceFault) where
   told_nothing name d s (inl m) = m
   told_nothing name d s (inr f) = absurd (f.none name d s)
 
-  pub told_only : (place : ℕ) (c : Cause) → HasFault bytes place c → Told bytes e → (e ≡ fault place c) ⊎ (e ≡ out_of_memory)
+  pub told_only : (place : ℕ) (c : SourceCause) → HasFault bytes place c → Told bytes e → (e ≡ fault place c) ⊎ (e ≡ out_of_memory)
   told_only place c h (inl m) = inr m
   told_only place c h (inr f) = let x = f.only place c h in inl (ap (λ p. fault p e.cause) (sym x.0) ∙ ap (λ c. fault place c) (sym x.1))
 

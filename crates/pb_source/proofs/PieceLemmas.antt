@@ -7,7 +7,7 @@ use Rattle.std.specs.Prelude.{slice_index}
 use Rattle.pb_source.specs.Tokens.{Spelled, Comment, FaultHere, Stops, begins_word, continues_word, goes_on_line, is_blank, is_sign, is_quote, begins_comment, has_close}
 use Rattle.pb_source.specs.Lexing.{IsGap, IsTokenAt}
 use Rattle.pb_source.specs.declared.token.TokenKind.TheVariants.{Word, Number, Sign}
-use Rattle.pb_source.specs.declared.fault.Cause.TheVariants.{BadToken, OpenComment}
+use Rattle.pb_source.specs.declared.fault.SourceCause.TheVariants.{BadToken, OpenComment}
 
 first_size : (n : ℕ) (c : ℕ) (cs : List ℕ) → n ≤ length cs → length (c ∷ take n cs) ≡ 1 + n
 first_size n c cs l = let e = length-take-le n cs l in omega arith

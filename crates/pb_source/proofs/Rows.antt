@@ -5,7 +5,7 @@ use Rattle.pb_source.specs.Symbols.{Symbol, AreSymbols}
 use Rattle.pb_source.specs.SyntaxFault.{Fault}
 use Rattle.pb_source.specs.Source.{place_in, HasFault}
 use Rattle.pb_source.specs.Texts.{escape_len, text_meaning}
-use Rattle.pb_source.specs.declared.fault.Cause.TheVariants.{BadToken, OpenComment, OpenText, NotProto3}
+use Rattle.pb_source.specs.declared.fault.SourceCause.TheVariants.{BadToken, OpenComment, OpenText, NotProto3}
 use Rattle.pb_source.specs.declared.token.TokenKind.{TokenKind}
 use Rattle.pb_source.specs.declared.token.TokenKind.TheVariants.{Word, Number, Text, Sign}
 use Rattle.pb_source.proofs.TextLemmas.{no_escape}

@@ -6,8 +6,8 @@ use Rattle.std.specs.Char.{is_ascii_digit}
 use Rattle.pb_source.specs.Tokens.{PlacedToken, Spelled, Comment, Lexes, FaultHere, Stops, begins_word, continues_word, goes_on_line, is_blank, is_sign, is_quote, has_close, is_closed, after_mark, AreTokens, LexFault}
 use Rattle.pb_source.specs.Texts.{units_len}
 use Rattle.pb_source.specs.declared.token.TokenKind.{TokenKind}
-use Rattle.pb_source.specs.declared.fault.Cause.{Cause}
-use Rattle.pb_source.specs.declared.fault.Cause.TheVariants.{BadToken, OpenComment, OpenText}
+use Rattle.pb_source.specs.declared.fault.SourceCause.{SourceCause}
+use Rattle.pb_source.specs.declared.fault.SourceCause.TheVariants.{BadToken, OpenComment, OpenText}
 use Rattle.pb_source.proofs.CommentLemmas.{both_false}
 use Rattle.pb_source.proofs.PieceLemmas.{bad_piece}
 use Rattle.pb_source.proofs.TextPieces.{open_text_there, text_piece, text_fault}
@@ -85,7 +85,7 @@ data Stands (bs : List ℕ) : Type 0 where
   a_blank : {c : ℕ} {rest : List ℕ} → is_blank c ≡ true → bs ≡ c ∷ rest → Stands bs
   a_comment : {c rest : List ℕ} → Comment c rest → bs ≡ c ++ rest → Stands bs
   a_token : {k : TokenKind} {t rest : List ℕ} → Spelled k t rest → bs ≡ t ++ rest → Stands bs
-  a_fault : (offset : ℕ) (c : Cause) → ((x : ℕ) → FaultHere x bs (x + offset) c) → Stands bs
+  a_fault : (offset : ℕ) (c : SourceCause) → ((x : ℕ) → FaultHere x bs (x + offset) c) → Stands bs
 
 word_there : (c : ℕ) (cs : List ℕ) → begins_word c ≡ true → Stands (c ∷ cs)
 word_there c cs h = let r = run continues_word cs in
@@ -144,7 +144,7 @@ stands c cs = by_tests (is_blank c) (begins_word c) (is_ascii_digit c) (is_quote
 -- from a place on there are whole tokens up to the end, or up to a fault
 data Ends (x : ℕ) (bs : List ℕ) : Type 0 where
   at_end : {y : ℕ} {ts : List PlacedToken} → Lexes x bs ts y [] → Ends x bs
-  at_fault : {y place : ℕ} {ts : List PlacedToken} {rest : List ℕ} {c : Cause} → Lexes x bs ts y rest → FaultHere y rest place c → Ends x bs
+  at_fault : {y place : ℕ} {ts : List PlacedToken} {rest : List ℕ} {c : SourceCause} → Lexes x bs ts y rest → FaultHere y rest place c → Ends x bs
 
 shorter : (a b c : List ℕ) (m : ℕ) → a ≡ b ++ c → 0 < length b → length a ≤ suc m → length c ≤ m
 shorter a b c m j l k = let e : length a ≡ length b + length c = ap length j ∙ length-append b c in omega arith
@@ -172,9 +172,9 @@ ends (suc m) x (c ∷ cs) l = go_on (ends m) (stands c cs)
     go_on f (Stands.a_token {k} {t} {rest} s j) = token s j (f (x + length t) rest (shorter (c ∷ cs) t rest m j (spelled_found s).some l))
     go_on f (Stands.a_fault offset d g) = Ends.at_fault Lexes.done (g x)
 
-pub tokens_or_fault : (bs : List ℕ) → ((ts : List PlacedToken) × AreTokens bs ts) ⊎ ((place : ℕ) × (c : Cause) × LexFault bs place c)
+pub tokens_or_fault : (bs : List ℕ) → ((ts : List PlacedToken) × AreTokens bs ts) ⊎ ((place : ℕ) × (c : SourceCause) × LexFault bs place c)
 tokens_or_fault bs = told (ends (length (after_mark bs).1) (after_mark bs).0 (after_mark bs).1 (omega arith))
   where
-    told : Ends (after_mark bs).0 (after_mark bs).1 → ((ts : List PlacedToken) × AreTokens bs ts) ⊎ ((place : ℕ) × (c : Cause) × LexFault bs place c)
+    told : Ends (after_mark bs).0 (after_mark bs).1 → ((ts : List PlacedToken) × AreTokens bs ts) ⊎ ((place : ℕ) × (c : SourceCause) × LexFault bs place c)
     told (Ends.at_end {y} {ts} g) = inl (ts, (y, g))
     told (Ends.at_fault {y} {place} {ts} {rest} {c} g f) = inr (place, c, (ts, y, rest, g, f))

@@ -4,8 +4,8 @@ use Rattle.std.proofs.lemmas.Bool.{cases_lt}
 use Rattle.std.proofs.lemmas.List.{length-map, take-append-drop}
 use Rattle.std.specs.Str.Lossy.{utf8_valid_len}
 use Rattle.pb_decl.specs.Decls.{DeclaredFile}
-use Rattle.pb_source.specs.declared.fault.Cause.{Cause}
-use Rattle.pb_source.specs.declared.fault.Cause.TheVariants.{SourceTooLarge, BadUtf8, NotProto3}
+use Rattle.pb_source.specs.declared.fault.SourceCause.{SourceCause}
+use Rattle.pb_source.specs.declared.fault.SourceCause.TheVariants.{SourceTooLarge, BadUtf8, NotProto3}
 use Rattle.pb_source.specs.declared.rule.Rule.{Rule}
 use Rattle.pb_source.specs.declared.symbol.Placed.{Placed}
 use Rattle.pb_source.specs.Tokens.{LexFault}
@@ -114,10 +114,10 @@ module _ (bytes : Bytes) (size : length bytes ≤ 2 ^ 31 - 1) (valid : IsUtf8 by
   -- ---- faults
 
   -- the fault of a source that has symbols is that of its symbols
-  data InSymbols (place : ℕ) (c : Cause) : Type 0 where
+  data InSymbols (place : ℕ) (c : SourceCause) : Type 0 where
     in_symbols : (k : ℕ) → place ≡ place_in (symbols_of ps) (length bytes) k → SyntaxFault (symbols_from ps 0) k c → InSymbols place c
 
-  symbols_fault : (place : ℕ) (c : Cause) → HasFault bytes place c → InSymbols place c
+  symbols_fault : (place : ℕ) (c : SourceCause) → HasFault bytes place c → InSymbols place c
   symbols_fault place c (HasFault.too_large l) = absurd (omega arith)
   symbols_fault place c (HasFault.bad_utf8 l h) = absurd (h valid)
   symbols_fault place c (HasFault.in_token l v f) = absurd (no_symbols bytes place c (symbols_of ps) f has)
@@ -137,7 +137,7 @@ module _ (bytes : Bytes) (size : length bytes ≤ 2 ^ 31 - 1) (valid : IsUtf8 by
         (read_words always file file_reader reads_file (symbols_from ps 0) ss (length ps) room (h (length ps) (omega arith))),
   )
 
-  no_syntax_fault : (ss : List FileStatement) → ReadsAll ps ss → (k : ℕ) (c : Cause) → SyntaxFault (symbols_from ps 0) k c → ⊥
+  no_syntax_fault : (ss : List FileStatement) → ReadsAll ps ss → (k : ℕ) (c : SourceCause) → SyntaxFault (symbols_from ps 0) k c → ⊥
   no_syntax_fault ss h k c (Fault.no_symbols e) = no_end_of (symbols_from ps 0) e (read_words always file file_reader reads_file (symbols_from ps 0) ss (length ps) room (h (length ps) (omega arith)))
     where
       -- a file has a symbol
@@ -149,7 +149,7 @@ module _ (bytes : Bytes) (size : length bytes ≤ 2 ^ 31 - 1) (valid : IsUtf8 by
   no_syntax_fault ss h k c (Fault.at_end some b none) = no_end ss h none
   no_syntax_fault ss h k c (Fault.at_symbol l b never w) = never (begins_all ss h (suc k))
 
-  pub no_fault : (ss : List FileStatement) → ReadsAll ps ss → (place : ℕ) (c : Cause) → HasFault bytes place c → ⊥
+  pub no_fault : (ss : List FileStatement) → ReadsAll ps ss → (place : ℕ) (c : SourceCause) → HasFault bytes place c → ⊥
   no_fault ss h place c f = on_symbols (symbols_fault place c f)
     where
       on_symbols : InSymbols place c → ⊥
@@ -165,11 +165,11 @@ module _ (bytes : Bytes) (size : length bytes ≤ 2 ^ 31 - 1) (valid : IsUtf8 by
           refused_so always file file_reader reads_file (symbols_from (q ∷ qs) 0) (symbols_from (q ∷ qs) at) rule (λ e. cc e)
           (λ n l. h n (let e = length_from (q ∷ qs) 0 in omega arith))
 
-  pub only_syntax_fault : (at : ℕ) (rule : Option Rule) → RefusesAt ps at rule → (k : ℕ) (c : Cause) → SyntaxFault (symbols_from ps 0) k c
+  pub only_syntax_fault : (at : ℕ) (rule : Option Rule) → RefusesAt ps at rule → (k : ℕ) (c : SourceCause) → SyntaxFault (symbols_from ps 0) k c
       → (k ≡ length (symbols_from ps 0) - length (symbols_from ps at)) × (c ≡ cause_at ps rule)
   only_syntax_fault at rule h k c f = by_symbols ps h f
     where
-      no_symbols_so : (k : ℕ) (c : Cause) → SyntaxFault [] k c → (k ≡ 0) × (c ≡ NotProto3)
+      no_symbols_so : (k : ℕ) (c : SourceCause) → SyntaxFault [] k c → (k ≡ 0) × (c ≡ NotProto3)
       no_symbols_so k c (Fault.no_symbols e) = (refl, refl)
       no_symbols_so k c (Fault.at_end some b none) = absurd (some refl)
       no_symbols_so k c (Fault.at_symbol l b never w) = absurd (omega arith)
@@ -186,7 +186,7 @@ module _ (bytes : Bytes) (size : length bytes ≤ 2 ^ 31 - 1) (valid : IsUtf8 by
       (HasFault.in_syntax {ts = has.0} {ss = symbols_of ps} size valid has.1 has.2
       (subst (λ ts. SyntaxFault ts (length (symbols_from ps 0) - length (symbols_from ps at)) (cause_at ps rule)) (sym (alone_is ps)) (syntax_fault at rule h)))
 
-  pub only_fault : (at : ℕ) (rule : Option Rule) → RefusesAt ps at rule → (place : ℕ) (c : Cause) → HasFault bytes place c
+  pub only_fault : (at : ℕ) (rule : Option Rule) → RefusesAt ps at rule → (place : ℕ) (c : SourceCause) → HasFault bytes place c
       → (place ≡ place_in (symbols_of ps) (length bytes) at) × (c ≡ cause_at ps rule)
   only_fault at rule h place c f = on_symbols (symbols_fault place c f)
     where
@@ -201,7 +201,7 @@ module _ (bytes : Bytes) where
   pub too_large_no_source : 2 ^ 31 - 1 < length bytes → (name : Bytes) (d : DeclaredFile) → IsSource name bytes d → ⊥
   too_large_no_source l name d s = let k = s.size in omega arith
 
-  pub too_large_only : 2 ^ 31 - 1 < length bytes → (place : ℕ) (c : Cause) → HasFault bytes place c
+  pub too_large_only : 2 ^ 31 - 1 < length bytes → (place : ℕ) (c : SourceCause) → HasFault bytes place c
       → (place ≡ 2 ^ 31 - 1) × (c ≡ SourceTooLarge)
   too_large_only l place c (HasFault.too_large k) = (refl, refl)
   too_large_only l place c (HasFault.bad_utf8 k h) = absurd (omega arith)
@@ -211,17 +211,17 @@ module _ (bytes : Bytes) where
   pub bad_utf8_no_source : ¬ IsUtf8 bytes → (name : Bytes) (d : DeclaredFile) → IsSource name bytes d → ⊥
   bad_utf8_no_source h name d s = h s.valid
 
-  pub bad_utf8_only : length bytes ≤ 2 ^ 31 - 1 → ¬ IsUtf8 bytes → (place : ℕ) (c : Cause) → HasFault bytes place c
+  pub bad_utf8_only : length bytes ≤ 2 ^ 31 - 1 → ¬ IsUtf8 bytes → (place : ℕ) (c : SourceCause) → HasFault bytes place c
       → (place ≡ utf8_valid_len bytes) × (c ≡ BadUtf8)
   bad_utf8_only l h place c (HasFault.too_large k) = absurd (omega arith)
   bad_utf8_only l h place c (HasFault.bad_utf8 k i) = (refl, refl)
   bad_utf8_only l h place c (HasFault.in_token k v f) = absurd (h v)
   bad_utf8_only l h place c (HasFault.in_syntax k v a b f) = absurd (h v)
 
-  pub token_no_source : (at : ℕ) (why : Cause) → LexFault bytes at why → (name : Bytes) (d : DeclaredFile) → IsSource name bytes d → ⊥
+  pub token_no_source : (at : ℕ) (why : SourceCause) → LexFault bytes at why → (name : Bytes) (d : DeclaredFile) → IsSource name bytes d → ⊥
   token_no_source at why f name d s = not_both bytes s.tokens at why s.lexed f
 
-  pub token_only : length bytes ≤ 2 ^ 31 - 1 → IsUtf8 bytes → (at : ℕ) (why : Cause) → LexFault bytes at why → (place : ℕ) (c : Cause) → HasFault bytes place c → (place ≡ at) × (c ≡ why)
+  pub token_only : length bytes ≤ 2 ^ 31 - 1 → IsUtf8 bytes → (at : ℕ) (why : SourceCause) → LexFault bytes at why → (place : ℕ) (c : SourceCause) → HasFault bytes place c → (place ≡ at) × (c ≡ why)
   token_only l u at why g place c (HasFault.too_large k) = absurd (omega arith)
   token_only l u at why g place c (HasFault.bad_utf8 k h) = absurd (h u)
   token_only l u at why g place c (HasFault.in_token k v f) = one_fault bytes place at c why f g

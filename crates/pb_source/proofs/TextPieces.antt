@@ -6,7 +6,7 @@ use Rattle.pb_source.specs.Tokens.{short_escape, is_plain, is_quote, AreDigits, 
 use Rattle.pb_source.specs.Lexing.{IsTokenAt}
 use Rattle.pb_source.specs.Texts.{escape_len, units_from, units_len}
 use Rattle.pb_source.specs.declared.token.TokenKind.TheVariants.{Text}
-use Rattle.pb_source.specs.declared.fault.Cause.TheVariants.{BadToken, OpenText}
+use Rattle.pb_source.specs.declared.fault.SourceCause.TheVariants.{BadToken, OpenText}
 use Rattle.pb_source.proofs.DigitLemmas.{digit_apart}
 use Rattle.pb_source.proofs.TextLemmas.{plain_is, no_escape, units_there}
 

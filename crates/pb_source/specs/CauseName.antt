@@ -1,9 +1,10 @@
 -- The numbers and the names of causes.
 use Rattle.std.specs.Prelude.{ℕ, List, codes}
-use Rattle.pb_source.specs.declared.fault.Cause.{Cause}
-use Rattle.pb_source.specs.declared.fault.Cause.TheVariants.{SourceTooLarge, BadUtf8, BadToken, OpenComment, OpenText, Unexpected, NumberTooLarge, CustomOption, NotProto3, NestedTooDeep, Memory}
+use Rattle.pb_source.specs.declared.fault.SourceCause.{SourceCause}
+use Rattle.pb_source.specs.declared.fault.SourceCause.TheVariants.{SourceTooLarge, BadUtf8, BadToken, OpenComment, OpenText, Unexpected}
+use Rattle.pb_source.specs.declared.fault.SourceCause.TheVariants.{NumberTooLarge, CustomOption, NotProto3, NestedTooDeep, Memory}
 
-abbrev pub number_of : Cause → ℕ
+abbrev pub number_of : SourceCause → ℕ
 number_of SourceTooLarge = 50
 number_of BadUtf8 = 61
 number_of BadToken = 62
@@ -16,7 +17,7 @@ number_of NotProto3 = 68
 number_of NestedTooDeep = 69
 number_of Memory = 70
 
-abbrev pub name_of : Cause → List ℕ
+abbrev pub name_of : SourceCause → List ℕ
 name_of SourceTooLarge = codes "SourceTooLarge"
 name_of BadUtf8 = codes "BadUtf8"
 name_of BadToken = codes "BadToken"

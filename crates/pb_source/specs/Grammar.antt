@@ -1,18 +1,21 @@
 -- The grammar of proto3 sources, line by line as the language specification has it, and what each line means (Protocol Buffers Language
 -- Specification (Proto3)). R ▸ S is R, then S; a language that depends on a value holds the words that mean the value.
 use Prim.Native.String.{String}
-use Rattle.std.specs.Prelude.{◌≡◌, ℕ, zero, suc, ◌≤◌, min, ℤ, pos, negsuc, neg_ℤ, List, [], ◌∷◌, length, codes, Bool, true, false, ◌||◌, if◌then◌else◌, Option, Some, None, ◌⊎◌, IsUtf8}
+use Rattle.std.specs.Prelude.{◌≡◌, ℕ, zero, suc, ◌≤◌, min, ℤ, pos, negsuc, neg_ℤ, List, [], ◌∷◌, length, codes}
+use Rattle.std.specs.Prelude.{Bool, true, false, ◌||◌, if◌then◌else◌, Option, Some, None, ◌⊎◌, IsUtf8}
 use Rattle.std.specs.Str.{bytes_eq}
 use Rattle.pb_decl.specs.Decls.{DeclaredField, DeclaredEnum, DeclaredMessage, DeclaredMethod, DeclaredService, DeclaredFile}
 use Rattle.pb_decl.specs.declared.decl.TypeCode.{TypeCode}
 use Rattle.pb_decl.specs.declared.decl.TypeCode.TheVariants as code
 use Rattle.pb_source.specs.declared.kind.Label.{Label}
 use Rattle.pb_source.specs.declared.kind.Label.TheVariants.{Unlabelled, Repeated, Optional}
-use Rattle.pb_source.specs.declared.rule.Rule.TheVariants.{NumbersFit as numbers_fit, OptionsKnown as options_known, SyntaxFirst as syntax_first, NestsBounded as nests_bounded, TextsValid as texts_valid}
+use Rattle.pb_source.specs.declared.rule.Rule.TheVariants.{NumbersFit as numbers_fit, OptionsKnown as options_known, SyntaxFirst as syntax_first}
+use Rattle.pb_source.specs.declared.rule.Rule.TheVariants.{NestsBounded as nests_bounded, TextsValid as texts_valid}
 use Rattle.pb_source.specs.Symbols.{Symbol, word, number, text, sign}
 use Rattle.pb_source.specs.Integers.{integer_of}
 use Rattle.pb_source.specs.Language.{Language, ◌▸◌, ◌or◌, one, nothing, Rules, all_rules}
-use Rattle.pb_source.specs.Meaning.{TypeSaid, a_scalar, a_name, MapDecl, MessageStatement, EnumStatement, FileStatement, joined, those_said, last_said, field_of, message_of, enum_of, all_said, packages_said, file_of}
+use Rattle.pb_source.specs.Meaning.{TypeSaid, a_scalar, a_name, MapDecl, MessageStatement, EnumStatement, FileStatement, joined}
+use Rattle.pb_source.specs.Meaning.{those_said, last_said, field_of, message_of, enum_of, all_said, packages_said, file_of}
 
 -- ---- words, signs and repetition
 

@@ -2,9 +2,10 @@
 use Rattle.std.specs.Prelude.{◌≡◌, ℕ, List, [], ◌∷◌, ◌++◌, Bool, true, not, ◌==◌, Option, Some, None, ◌⊎◌}
 use Rattle.pb_source.specs.Symbols.{Symbol}
 use Rattle.pb_source.specs.declared.rule.Rule.{Rule}
-use Rattle.pb_source.specs.declared.rule.Rule.TheVariants.{NumbersFit as numbers_fit, OptionsKnown as options_known, SyntaxFirst as syntax_first, NestsBounded as nests_bounded, TextsValid as texts_valid}
-use Rattle.pb_source.specs.declared.fault.Cause.{Cause}
-use Rattle.pb_source.specs.declared.fault.Cause.TheVariants as cause
+use Rattle.pb_source.specs.declared.rule.Rule.TheVariants.{NumbersFit as numbers_fit, OptionsKnown as options_known, SyntaxFirst as syntax_first}
+use Rattle.pb_source.specs.declared.rule.Rule.TheVariants.{NestsBounded as nests_bounded, TextsValid as texts_valid}
+use Rattle.pb_source.specs.declared.fault.SourceCause.{SourceCause}
+use Rattle.pb_source.specs.declared.fault.SourceCause.TheVariants as cause
 
 abbrev pub Language : Type 1
 Language = List Symbol → Type 0
@@ -46,7 +47,7 @@ abbrev pub without : Rule → Rules
 without r s = not (number_of_rule r == number_of_rule s)
 
 -- what is told of a breach
-abbrev pub cause_of : Rule → Cause
+abbrev pub cause_of : Rule → SourceCause
 cause_of numbers_fit = cause.NumberTooLarge
 cause_of options_known = cause.CustomOption
 cause_of syntax_first = cause.NotProto3
@@ -54,7 +55,7 @@ cause_of nests_bounded = cause.NestedTooDeep
 cause_of texts_valid = cause.BadUtf8
 
 -- what is told where a rule is broken, or where a symbol was not expected
-abbrev pub told : Option Rule → Cause
+abbrev pub told : Option Rule → SourceCause
 told None = cause.Unexpected
 told (Some r) = cause_of r
 

@@ -1,7 +1,8 @@
 -- What statements come to: the parts of a message, of an enum and of a file, from their statements in order.
 use Rattle.std.specs.Prelude.{ℕ, suc, ℤ, pos, List, [], ◌∷◌, ◌++◌, length, map, codes, Bool, true, false, if◌then◌else◌, Option, Some, None}
 use Rattle.pb_schema.specs.Names.{in_scope, entry_name}
-use Rattle.pb_decl.specs.Decls.{DeclaredField, DeclaredEnum, DeclaredMessage, message as message_decl, DeclaredMessages, no_messages, more_messages, DeclaredService, DeclaredFile}
+use Rattle.pb_decl.specs.Decls.{DeclaredField, DeclaredEnum, DeclaredMessage, message as message_decl, DeclaredMessages}
+use Rattle.pb_decl.specs.Decls.{no_messages, more_messages, DeclaredService, DeclaredFile}
 use Rattle.pb_decl.specs.declared.decl.TypeCode.{TypeCode}
 use Rattle.pb_decl.specs.declared.decl.TypeCode.TheVariants.{Message as message_code}
 use Rattle.pb_source.specs.declared.kind.Label.{Label}

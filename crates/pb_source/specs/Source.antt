@@ -6,8 +6,8 @@ use Rattle.pb_source.specs.Tokens.{PlacedToken, AreTokens, LexFault}
 use Rattle.pb_source.specs.Symbols.{Symbol, PlacedSymbol, AreSymbols}
 use Rattle.pb_source.specs.Grammar.{FileSyntax}
 use Rattle.pb_source.specs.SyntaxFault.{SyntaxFault}
-use Rattle.pb_source.specs.declared.fault.Cause.{Cause}
-use Rattle.pb_source.specs.declared.fault.Cause.TheVariants.{SourceTooLarge, BadUtf8}
+use Rattle.pb_source.specs.declared.fault.SourceCause.{SourceCause}
+use Rattle.pb_source.specs.declared.fault.SourceCause.TheVariants.{SourceTooLarge, BadUtf8}
 
 abbrev pub symbols_alone : List PlacedSymbol → List Symbol
 symbols_alone = map (λ p. p.symbol)
@@ -29,10 +29,10 @@ pub record IsSource (name bytes : List ℕ) (d : DeclaredFile) : Type 0 where
   pub means : FileSyntax name (symbols_alone symbols) d
 
 -- the one fault of bytes that are no source
-pub data HasFault (bytes : List ℕ) : ℕ → Cause → Type 0 where
+pub data HasFault (bytes : List ℕ) : ℕ → SourceCause → Type 0 where
   too_large : 2 ^ 31 - 1 < length bytes → HasFault bytes (2 ^ 31 - 1) SourceTooLarge
   bad_utf8 : length bytes ≤ 2 ^ 31 - 1 → ¬ IsUtf8 bytes → HasFault bytes (utf8_valid_len bytes) BadUtf8
-  in_token : {place : ℕ} {c : Cause} → length bytes ≤ 2 ^ 31 - 1 → IsUtf8 bytes → LexFault bytes place c → HasFault bytes place c
+  in_token : {place : ℕ} {c : SourceCause} → length bytes ≤ 2 ^ 31 - 1 → IsUtf8 bytes → LexFault bytes place c → HasFault bytes place c
   in_syntax :
-      {ts : List PlacedToken} {ss : List PlacedSymbol} {k : ℕ} {c : Cause} → length bytes ≤ 2 ^ 31 - 1 → IsUtf8 bytes → AreTokens bytes ts → AreSymbols ts ss
+      {ts : List PlacedToken} {ss : List PlacedSymbol} {k : ℕ} {c : SourceCause} → length bytes ≤ 2 ^ 31 - 1 → IsUtf8 bytes → AreTokens bytes ts → AreSymbols ts ss
       → SyntaxFault (symbols_alone ss) k c → HasFault bytes (place_in ss (length bytes) k) c

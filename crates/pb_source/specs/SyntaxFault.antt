@@ -4,21 +4,21 @@ use Rattle.pb_source.specs.Symbols.{Symbol}
 use Rattle.pb_source.specs.Language.{Language, Rules, all_rules, without, cause_of, Begins}
 use Rattle.pb_source.specs.declared.rule.Rule.{Rule}
 use Rattle.pb_source.specs.Grammar.{file}
-use Rattle.pb_source.specs.declared.fault.Cause.{Cause}
-use Rattle.pb_source.specs.declared.fault.Cause.TheVariants.{Unexpected, NotProto3}
+use Rattle.pb_source.specs.declared.fault.SourceCause.{SourceCause}
+use Rattle.pb_source.specs.declared.fault.SourceCause.TheVariants.{Unexpected, NotProto3}
 
 -- The symbols so far begin no file. The cause is the rule without which they would, and where there is none, the last symbol was not expected.
-pub data IsCause {A : Type 0} (File : Rules → A → Language) (ts : List Symbol) : Cause → Type 0 where
+pub data IsCause {A : Type 0} (File : Rules → A → Language) (ts : List Symbol) : SourceCause → Type 0 where
   a_rule : (r : Rule) → Begins (File (without r)) ts → IsCause File ts (cause_of r)
   no_rule : ((r : Rule) → ¬ Begins (File (without r)) ts) → IsCause File ts Unexpected
 
 -- The fault at the symbol of this index; at the index behind the last, that of the source's end.
-pub data Fault {A : Type 0} (File : Rules → A → Language) (ts : List Symbol) : ℕ → Cause → Type 0 where
+pub data Fault {A : Type 0} (File : Rules → A → Language) (ts : List Symbol) : ℕ → SourceCause → Type 0 where
   no_symbols : ts ≡ [] → Fault File ts 0 NotProto3
   at_end : ts ≢ [] → Begins (File all_rules) ts → ((v : A) → ¬ File all_rules v ts) → Fault File ts (length ts) Unexpected
   at_symbol :
-      {k : ℕ} {c : Cause} → k < length ts → Begins (File all_rules) (take k ts) → ¬ Begins (File all_rules) (take (suc k) ts)
+      {k : ℕ} {c : SourceCause} → k < length ts → Begins (File all_rules) (take k ts) → ¬ Begins (File all_rules) (take (suc k) ts)
       → IsCause File (take (suc k) ts) c → Fault File ts k c
 
-abbrev pub SyntaxFault : List Symbol → ℕ → Cause → Type 0
+abbrev pub SyntaxFault : List Symbol → ℕ → SourceCause → Type 0
 SyntaxFault = Fault file

@@ -1,5 +1,6 @@
 -- How far texts and their escapes go, and what they mean: what the rules of `Tokens` leave no choice about.
-use Rattle.std.specs.Prelude.{ℕ, zero, suc, ◌+◌, ◌*◌, ◌%◌, List, [], ◌∷◌, ◌++◌, Bool, not, ◌&&◌, ◌||◌, ◌==◌, if◌then◌else◌, Option, Some, None, nat_lt, is_some, encode_utf8}
+use Rattle.std.specs.Prelude.{ℕ, zero, suc, ◌+◌, ◌*◌, ◌%◌, List, [], ◌∷◌, ◌++◌, Bool, not, ◌&&◌, ◌||◌}
+use Rattle.std.specs.Prelude.{◌==◌, if◌then◌else◌, Option, Some, None, nat_lt, is_some, encode_utf8}
 use Rattle.std.specs.Char.{digit_value, is_digit}
 use Rattle.pb_source.specs.Tokens.{short_escape, is_plain}
 

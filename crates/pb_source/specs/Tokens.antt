@@ -1,5 +1,6 @@
 -- The tokens of a source, and the fault of a source that has none (Protocol Buffers Language Specification (Proto3), "Lexical Elements").
-use Rattle.std.specs.Prelude.{◌≡◌, ◌≢◌, ℕ, suc, ◌+◌, ◌%◌, ◌<◌, List, [], ◌∷◌, ◌++◌, length, Bool, true, false, not, ◌&&◌, ◌||◌, ◌==◌, if◌then◌else◌, Option, Some, None, ◌⊎◌, encode_utf8}
+use Rattle.std.specs.Prelude.{◌≡◌, ◌≢◌, ℕ, suc, ◌+◌, ◌%◌, ◌<◌, List, [], ◌∷◌, ◌++◌, length, Bool, true, false}
+use Rattle.std.specs.Prelude.{not, ◌&&◌, ◌||◌, ◌==◌, if◌then◌else◌, Option, Some, None, ◌⊎◌, encode_utf8}
 use Rattle.std.specs.List.{list_all}
 use Rattle.std.specs.Char.{is_ascii_digit, is_ascii_punctuation, is_digit}
 use Rattle.std.specs.Int.{is_in_range}
@@ -7,8 +8,8 @@ use Rattle.std.specs.Str.Parse.{AllDigits, digits_value}
 pub use Rattle.pb_schema.specs.Names.{begins_word, continues_word}
 use Rattle.pb_source.specs.declared.token.TokenKind.{TokenKind}
 use Rattle.pb_source.specs.declared.token.TokenKind.TheVariants.{Word, Number, Text, Sign}
-use Rattle.pb_source.specs.declared.fault.Cause.{Cause}
-use Rattle.pb_source.specs.declared.fault.Cause.TheVariants.{BadToken, OpenComment, OpenText}
+use Rattle.pb_source.specs.declared.fault.SourceCause.{SourceCause}
+use Rattle.pb_source.specs.declared.fault.SourceCause.TheVariants.{BadToken, OpenComment, OpenText}
 
 -- a token, by the byte that it begins at and the bytes that it has there
 pub record PlacedToken : Type 0 where
@@ -124,7 +125,7 @@ abbrev pub NoEscape : List ℕ → Type 0
 NoEscape bs = (e v rest : List ℕ) → Escape e v rest → bs ≢ e ++ rest
 
 -- What stands here is the beginning of no token, comment or blank.
-pub data FaultHere (x : ℕ) : List ℕ → ℕ → Cause → Type 0 where
+pub data FaultHere (x : ℕ) : List ℕ → ℕ → SourceCause → Type 0 where
   open_comment : {bs : List ℕ} → has_close bs ≡ false → FaultHere x (47 ∷ 42 ∷ bs) x OpenComment
   open_text : {quote : ℕ} {bs : List ℕ} → is_quote quote ≡ true → is_closed quote bs ≡ false → FaultHere x (quote ∷ bs) x OpenText
   nul_in_text :
@@ -151,5 +152,5 @@ abbrev pub AreTokens : List ℕ → List PlacedToken → Type 0
 AreTokens bs ts = (y : ℕ) × Lexes (after_mark bs).0 (after_mark bs).1 ts y []
 
 -- the fault of a source that has none
-abbrev pub LexFault : List ℕ → ℕ → Cause → Type 0
+abbrev pub LexFault : List ℕ → ℕ → SourceCause → Type 0
 LexFault bs place c = (ts : List PlacedToken) × (y : ℕ) × (rest : List ℕ) × Lexes (after_mark bs).0 (after_mark bs).1 ts y rest × FaultHere y rest place c

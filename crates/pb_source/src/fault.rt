@@ -10,7 +10,7 @@ use thiserror::Error;
 
 /// Why a source is refused. A cause shows as its name.
 #[derive(Clone, Copy, Debug, PartialEq, Eq)]
-pub enum Cause {
+pub enum SourceCause {
     /// The source has more than 2^31 - 1 bytes.
     SourceTooLarge,
     /// The source, an import or a reserved name is not UTF-8.
@@ -35,23 +35,23 @@ pub enum Cause {
     Memory,
 }
 
-impl Cause {
+impl SourceCause {
     /// The cause's number: 50, or from 61 to 70.
     pub fn number(self) -> u8
         ensures { result ≡ number_of self }
     {
         match self {
-            Cause::SourceTooLarge => 50,
-            Cause::BadUtf8 => 61,
-            Cause::BadToken => 62,
-            Cause::OpenComment => 63,
-            Cause::OpenText => 64,
-            Cause::Unexpected => 65,
-            Cause::NumberTooLarge => 66,
-            Cause::CustomOption => 67,
-            Cause::NotProto3 => 68,
-            Cause::NestedTooDeep => 69,
-            Cause::Memory => 70,
+            SourceCause::SourceTooLarge => 50,
+            SourceCause::BadUtf8 => 61,
+            SourceCause::BadToken => 62,
+            SourceCause::OpenComment => 63,
+            SourceCause::OpenText => 64,
+            SourceCause::Unexpected => 65,
+            SourceCause::NumberTooLarge => 66,
+            SourceCause::CustomOption => 67,
+            SourceCause::NotProto3 => 68,
+            SourceCause::NestedTooDeep => 69,
+            SourceCause::Memory => 70,
         }
     }
 
@@ -60,22 +60,22 @@ impl Cause {
         ensures { result.now ≡ name_of self }
     {
         match self {
-            Cause::SourceTooLarge => "SourceTooLarge",
-            Cause::BadUtf8 => "BadUtf8",
-            Cause::BadToken => "BadToken",
-            Cause::OpenComment => "OpenComment",
-            Cause::OpenText => "OpenText",
-            Cause::Unexpected => "Unexpected",
-            Cause::NumberTooLarge => "NumberTooLarge",
-            Cause::CustomOption => "CustomOption",
-            Cause::NotProto3 => "NotProto3",
-            Cause::NestedTooDeep => "NestedTooDeep",
-            Cause::Memory => "Memory",
+            SourceCause::SourceTooLarge => "SourceTooLarge",
+            SourceCause::BadUtf8 => "BadUtf8",
+            SourceCause::BadToken => "BadToken",
+            SourceCause::OpenComment => "OpenComment",
+            SourceCause::OpenText => "OpenText",
+            SourceCause::Unexpected => "Unexpected",
+            SourceCause::NumberTooLarge => "NumberTooLarge",
+            SourceCause::CustomOption => "CustomOption",
+            SourceCause::NotProto3 => "NotProto3",
+            SourceCause::NestedTooDeep => "NestedTooDeep",
+            SourceCause::Memory => "Memory",
         }
     }
 }
 
-impl fmt::Display for Cause {
+impl fmt::Display for SourceCause {
     ghost use Rattle.std.specs.Prelude.{Some};
 
     ghost output = { λ cause. Some (name_of cause) };
@@ -85,14 +85,14 @@ impl fmt::Display for Cause {
     }
 }
 
-impl StdError for Cause {}
+impl StdError for SourceCause {}
 
 /// What is wrong with a source, and the byte of the source where it is told; where memory ran out, the byte is 0.
 #[derive(Clone, Copy, Debug, PartialEq, Eq, Error)]
 #[error("{cause} at byte {byte}")]
 pub struct SourceFault {
     pub byte: u64,
-    pub cause: Cause,
+    pub cause: SourceCause,
 }
 
 impl From<AllocError> for SourceFault {
@@ -103,7 +103,7 @@ impl From<AllocError> for SourceFault {
     fn from(_e: AllocError) -> SourceFault {
         SourceFault {
             byte: 0,
-            cause: Cause::Memory,
+            cause: SourceCause::Memory,
         }
     }
 }
@@ -116,7 +116,7 @@ impl<T: Drop> From<AllocFailed<T>> for SourceFault {
     fn from(_e: AllocFailed<T>) -> SourceFault {
         SourceFault {
             byte: 0,
-            cause: Cause::Memory,
+            cause: SourceCause::Memory,
         }
     }
 }

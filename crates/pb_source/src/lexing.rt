@@ -6,11 +6,11 @@ ghost use Rattle.pb_source.specs.Tokens.{PlacedToken, Stops, begins_comment, Fau
 ghost use Rattle.pb_source.specs.TokenView.{tokens_of, IsSliceOf};
 ghost use Rattle.pb_source.specs.Fault.{fault, out_of_memory};
 ghost use Rattle.pb_source.specs.Lexing.{IsPiece, IsTokenAt, IsGap};
-ghost use Rattle.pb_source.specs.declared.fault.Cause.{Cause};
+ghost use Rattle.pb_source.specs.declared.fault.SourceCause.{SourceCause};
 ghost use Rattle.pb_source.specs.declared.token.TokenKind.TheVariants.{Text};
 
 use crate::bytes::{begins_word, close_at, is_blank, is_quote, is_sign, line_len, word_len};
-use crate::fault::{Cause, SourceFault};
+use crate::fault::{SourceCause, SourceFault};
 use crate::text::{is_closed, units_len};
 use crate::token::{Token, TokenKind};
 use std::alloc::Global;
@@ -27,7 +27,7 @@ pub(crate) enum Piece {
 #[derive(Clone, Copy, Debug, PartialEq, Eq)]
 pub(crate) struct PieceFault {
     pub offset: usize,
-    pub cause: Cause,
+    pub cause: SourceCause,
 }
 
 /// How many bytes of a comment stand behind its slash, where the bytes behind the slash make it one.
@@ -51,7 +51,7 @@ fn comment_len(after: &[u8]) -> Result<Option<usize>, PieceFault>
         Some(n) => Ok(Some(n + 3)),
         None => Err(PieceFault {
             offset: 0,
-            cause: Cause::OpenComment,
+            cause: SourceCause::OpenComment,
         }),
     }
 }
@@ -89,7 +89,7 @@ fn piece_at_front(bytes: &[u8]) -> Result<Piece, PieceFault>
     }
     Err(PieceFault {
         offset: 0,
-        cause: Cause::BadToken,
+        cause: SourceCause::BadToken,
     })
 }
 
@@ -106,7 +106,7 @@ fn text_at_front(bytes: &[u8]) -> Result<usize, PieceFault>
     if !is_closed(quote, inside) {
         return Err(PieceFault {
             offset: 0,
-            cause: Cause::OpenText,
+            cause: SourceCause::OpenText,
         });
     }
     let len = units_len(quote, inside);
@@ -115,7 +115,7 @@ fn text_at_front(bytes: &[u8]) -> Result<usize, PieceFault>
     }
     Err(PieceFault {
         offset: 1 + len,
-        cause: Cause::BadToken,
+        cause: SourceCause::BadToken,
     })
 }
 
@@ -143,7 +143,7 @@ pub fn lex<'a>(alloc: Global, source: &'a str) -> Result<Vec<Token<'a>>, SourceF
     // Each list of tokens is answered and each fault is told, unless memory runs out.
     ensures accepted { (ts : List PlacedToken) → AreTokens source.now ts
         → MatchResult result (λ us. tokens_of us.items ≡ ts) (λ e. e ≡ out_of_memory) }
-    ensures refused { (place : ℕ) (cause : Cause) → LexFault source.now place cause
+    ensures refused { (place : ℕ) (cause : SourceCause) → LexFault source.now place cause
         → IsErrAnd result (λ e. (e ≡ out_of_memory) ⊎ (e ≡ fault place cause)) }
 
     ensures slices { IfOk result (λ ts. All (IsSliceOf source.now) ts.items) }

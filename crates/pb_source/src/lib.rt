@@ -43,7 +43,7 @@ mod symbols;
 mod text;
 mod token;
 
-pub use fault::{Cause, SourceFault};
+pub use fault::{SourceCause, SourceFault};
 pub use lexing::lex;
 pub use source::parse;
 pub use token::{Token, TokenKind};

@@ -3,14 +3,14 @@
 ghost use Rattle.std.specs.Prelude.{◌≡◌, ◌^◌, ◌-◌, ◌≤◌, ◌⊎◌, ℕ, List, length, IfOk, IfErr, MatchResult, IsUtf8};
 ghost use Rattle.pb_decl.specs.Decls.{DeclaredFile};
 ghost use Rattle.pb_decl.specs.View.{file_view};
-ghost use Rattle.pb_source.specs.declared.fault.Cause.{Cause};
+ghost use Rattle.pb_source.specs.declared.fault.SourceCause.{SourceCause};
 ghost use Rattle.pb_source.specs.Fault.{fault, out_of_memory};
 ghost use Rattle.pb_source.specs.Language.{told};
 ghost use Rattle.pb_source.specs.SymbolView.{symbols_of};
 ghost use Rattle.pb_source.specs.Source.{place_in, IsSource, HasFault};
 ghost use Rattle.pb_source.specs.Readers.Given.{fault_at};
 
-use crate::fault::{Cause, SourceFault};
+use crate::fault::{SourceCause, SourceFault};
 use crate::parsing::file;
 use crate::refusal::Refusal;
 use crate::rule::Rule;
@@ -23,16 +23,16 @@ use std::alloc::Global;
 const MAX_BYTES: usize = 2147483647;
 
 /// The cause that is told where a rule is broken, or where a symbol was not expected.
-fn cause_of(rule: Option<Rule>) -> Cause
+fn cause_of(rule: Option<Rule>) -> SourceCause
     ensures { result ≡ told rule }
 {
     match rule {
-        None => Cause::Unexpected,
-        Some(Rule::NumbersFit) => Cause::NumberTooLarge,
-        Some(Rule::OptionsKnown) => Cause::CustomOption,
-        Some(Rule::SyntaxFirst) => Cause::NotProto3,
-        Some(Rule::NestsBounded) => Cause::NestedTooDeep,
-        Some(Rule::TextsValid) => Cause::BadUtf8,
+        None => SourceCause::Unexpected,
+        Some(Rule::NumbersFit) => SourceCause::NumberTooLarge,
+        Some(Rule::OptionsKnown) => SourceCause::CustomOption,
+        Some(Rule::SyntaxFirst) => SourceCause::NotProto3,
+        Some(Rule::NestsBounded) => SourceCause::NestedTooDeep,
+        Some(Rule::TextsValid) => SourceCause::BadUtf8,
     }
 }
 
@@ -53,11 +53,11 @@ fn fault_of(symbols: &[Placed], end: u64, refusal: Refusal) -> SourceFault
     let Refusal::At { at, rule } = refusal else {
         return SourceFault {
             byte: 0,
-            cause: Cause::Memory,
+            cause: SourceCause::Memory,
         };
     };
     let cause = if symbols.is_empty() {
-        Cause::NotProto3
+        SourceCause::NotProto3
     } else {
         cause_of(rule)
     };
@@ -73,20 +73,20 @@ fn text_of(source: &[u8]) -> Result<&str, SourceFault>
     ensures valid { IfOk result (λ t. IsUtf8 source.now) }
     ensures text { IfOk result (λ t. t.now ≡ source.now) }
     ensures fault { IfErr result (λ e. HasFault source.now e.byte e.cause) }
-    ensures only_fault { IfErr result (λ e. (place : ℕ) (cause : Cause) → HasFault source.now place cause → (place ≡ e.byte) × (cause ≡ e.cause)) }
+    ensures only_fault { IfErr result (λ e. (place : ℕ) (cause : SourceCause) → HasFault source.now place cause → (place ≡ e.byte) × (cause ≡ e.cause)) }
     ensures no_source { IfErr result (λ e. (name : List ℕ) (d : DeclaredFile) → IsSource name source.now d → ⊥) }
 {
     if source.len() > MAX_BYTES {
         return Err(SourceFault {
             byte: MAX_BYTES as u64,
-            cause: Cause::SourceTooLarge,
+            cause: SourceCause::SourceTooLarge,
         });
     }
     match simdutf8::compat::from_utf8(source) {
         Ok(text) => Ok(text),
         Err(error) => Err(SourceFault {
             byte: error.valid_up_to() as u64,
-            cause: Cause::BadUtf8,
+            cause: SourceCause::BadUtf8,
         }),
     }
 }
@@ -101,7 +101,7 @@ pub fn parse(alloc: Global, name: &str, source: &[u8]) -> Result<FileDecl, Sourc
 
     // The declaration of a source is answered, and the fault of what is none, unless memory runs out.
     ensures accepted { (d : DeclaredFile) → IsSource name.now source.now d → MatchResult result (λ f. file_view f ≡ d) (λ e. e ≡ out_of_memory) }
-    ensures refused { (place : ℕ) (cause : Cause) → HasFault source.now place cause
+    ensures refused { (place : ℕ) (cause : SourceCause) → HasFault source.now place cause
         → MatchResult result (λ f. ⊥) (λ e. (e ≡ fault place cause) ⊎ (e ≡ out_of_memory)) }
 {
     let text = text_of(source)?;

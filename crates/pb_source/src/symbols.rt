@@ -6,7 +6,7 @@ ghost use Rattle.pb_source.specs.TokenView.{tokens_of};
 ghost use Rattle.pb_source.specs.Symbols.{PlacedSymbol, Joined, BeginsNoText, AreSymbols, IsMeant};
 ghost use Rattle.pb_source.specs.SymbolView.{placed_of, symbols_of, HasSymbols};
 ghost use Rattle.pb_source.specs.Fault.{fault, out_of_memory};
-ghost use Rattle.pb_source.specs.declared.fault.Cause.{Cause};
+ghost use Rattle.pb_source.specs.declared.fault.SourceCause.{SourceCause};
 
 use crate::fault::SourceFault;
 use crate::lexing::lex;
@@ -96,7 +96,7 @@ pub(crate) fn source_symbols<'a>(
     // Symbols are answered wherever a source has some, and the fault of its tokens is told where it has one, unless memory runs out.
     ensures accepted { (ss : List PlacedSymbol) → HasSymbols source.now ss
         → MatchResult result (λ us. symbols_of us.items ≡ ss) (λ e. e ≡ out_of_memory) }
-    ensures refused { (place : ℕ) (cause : Cause) → LexFault source.now place cause
+    ensures refused { (place : ℕ) (cause : SourceCause) → LexFault source.now place cause
         → IsErrAnd result (λ e. (e ≡ out_of_memory) ⊎ (e ≡ fault place cause)) }
 {
     let tokens = lex(alloc, source)?;

@@ -2,31 +2,31 @@
 
 ghost use Rattle.std.specs.Prelude.{◌<◌};
 
-use pb_source::{Cause, SourceFault, TokenKind, lex};
+use pb_source::{SourceCause, SourceFault, TokenKind, lex};
 use std::alloc::Global;
 use std::test::Fail;
 
 /// A cause, its number and its name.
 #[derive(Clone, Copy)]
 struct Named {
-    cause: Cause,
+    cause: SourceCause,
     number: u8,
     name: &'static str,
 }
 
 const CAUSES: &[Named] = &[
     Named {
-        cause: Cause::SourceTooLarge,
+        cause: SourceCause::SourceTooLarge,
         number: 50,
         name: "SourceTooLarge",
     },
     Named {
-        cause: Cause::BadToken,
+        cause: SourceCause::BadToken,
         number: 62,
         name: "BadToken",
     },
     Named {
-        cause: Cause::Memory,
+        cause: SourceCause::Memory,
         number: 70,
         name: "Memory",
     },
@@ -39,7 +39,7 @@ fn causes(rt: HostRuntime) -> Result<(), Fail> {
     }
     let fault = SourceFault {
         byte: 7,
-        cause: Cause::OpenText,
+        cause: SourceCause::OpenText,
     };
     let line = format!(in rt.alloc(); "{fault}")?;
     assert_eq!(rt; line.as_str(), "OpenText at byte 7");
@@ -84,7 +84,7 @@ fn growths(rt: HostRuntime) -> Result<(), Fail> {
             fault
                 == SourceFault {
                     byte: 0,
-                    cause: Cause::Memory,
+                    cause: SourceCause::Memory,
                 }
         }
     };

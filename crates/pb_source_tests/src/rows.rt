@@ -1,6 +1,6 @@
 //! Sources with their tokens or their fault, written out by the rules.
 
-use pb_source::{Cause, SourceFault, Token, TokenKind, lex};
+use pb_source::{SourceCause, SourceFault, Token, TokenKind, lex};
 use std::alloc::Global;
 use std::test::Fail;
 
@@ -129,11 +129,11 @@ fn has_tokens(alloc: Global, source: &str, words: &str) -> Result<bool, Fail> {
     Ok(rest.next().is_none())
 }
 
-fn cause_of(name: &str) -> Option<Cause> {
+fn cause_of(name: &str) -> Option<SourceCause> {
     match name {
-        "BadToken" => Some(Cause::BadToken),
-        "OpenComment" => Some(Cause::OpenComment),
-        "OpenText" => Some(Cause::OpenText),
+        "BadToken" => Some(SourceCause::BadToken),
+        "OpenComment" => Some(SourceCause::OpenComment),
+        "OpenText" => Some(SourceCause::OpenText),
         _ => None,
     }
 }

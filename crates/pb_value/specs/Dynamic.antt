@@ -1,8 +1,7 @@
 -- A message beside its pool and its type.
 use Rattle.std.specs.Prelude.{◌≡◌, ℕ}
 use Rattle.pb_schema.specs.Types.{Types}
-use Rattle.pb_value.specs.Data.{Fields, Message, fields_of}
-use Rattle.pb_value.specs.Change.{with_fields}
+use Rattle.pb_value.specs.Data.{Fields, Message, body, fields_of, unknown_of}
 
 pub record Dynamic : Type 0 where
   pub pool : Types
@@ -12,7 +11,7 @@ pub record Dynamic : Type 0 where
 
 -- the message with its fields changed so
 abbrev pub with_changed : Dynamic → (Fields → Fields) → Dynamic
-with_changed v change = record v { body = with_fields v.body (change (fields_of v.body)) }
+with_changed v change = record v { body = body (change (fields_of v.body)) (unknown_of v.body) }
 
 -- two messages of one type, of pools that hold the same
 pub record IsSameType (v w : Dynamic) : Type 0 where

@@ -5,7 +5,7 @@ ghost use Rattle.pb_schema.specs.View.{enum_view as view_of_enum};
 ghost use Rattle.pb_decl.specs.View.{enum_view, numbered_view};
 ghost use Rattle.pb_link.specs.ToDecls.{shares_numbers, declared_enum};
 
-use pb_descr::EnumDecl;
+use pb_decl::EnumDecl;
 use pb_schema::EnumType;
 use std::alloc::{AllocError, Global};
 use std::collections::BTreeSet;

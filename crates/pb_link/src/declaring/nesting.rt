@@ -13,7 +13,7 @@ ghost use Rattle.pb_link.specs.Nested.{whole_message, inside_message, inside_fil
 use crate::declaring::enums::enum_decl;
 use crate::declaring::fields::{add_entries, add_synthetic, field_decls};
 use crate::declaring::text::copied;
-use pb_descr::{EnumDecl, MessageDecl};
+use pb_decl::{EnumDecl, MessageDecl};
 use pb_schema::{Field, MessageId, MessageType, Pool};
 use std::alloc::{AllocError, Global};
 

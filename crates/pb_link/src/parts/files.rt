@@ -3,9 +3,9 @@
 ghost use Rattle.std.specs.Prelude.{◌≡◌, map, length, IfOk};
 ghost use Rattle.pb_schema.specs.View.{file_view};
 ghost use Rattle.pb_decl.specs.View.{file_view as declared_view};
-ghost use Rattle.pb_link.specs.Sees.{files_of};
+ghost use Rattle.pb_names.specs.Sees.{files_of};
 
-use pb_descr::FileDecl;
+use pb_decl::FileDecl;
 use pb_schema::FileInfo;
 use std::alloc::{AllocError, Global};
 

@@ -7,7 +7,7 @@ ghost use Rattle.pb_link.specs.Resolving.{coming, each_behind, behind_enum};
 use crate::declaring::enums::value_decls;
 use crate::declaring::text::copied;
 use crate::resolving::upcoming::Upcoming;
-use pb_descr::EnumDecl;
+use pb_decl::EnumDecl;
 use std::alloc::{AllocError, Global};
 
 fn copied_enum(alloc: Global, entry: &EnumDecl) -> Result<EnumDecl, AllocError>

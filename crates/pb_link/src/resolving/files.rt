@@ -3,16 +3,16 @@
 ghost use Rattle.std.specs.Prelude.{◌≡◌, map, IfOk, OnOk};
 ghost use Rattle.pb_decl.specs.View.{file_view};
 ghost use Rattle.pb_link.specs.Resolving.{coming, file_read, files_read, behind_file};
-ghost use Rattle.pb_link.specs.View.{declaration_view, type_names_view};
+ghost use Rattle.pb_names.specs.View.{declaration_view, type_names_view};
 
-use crate::declaration::Declaration;
 use crate::declaring::text::copied;
-use crate::found::TypeNames;
 use crate::resolving::enums::{copied_enums, skip_enums};
 use crate::resolving::messages::resolve_messages;
 use crate::resolving::services::resolve_services;
 use crate::resolving::upcoming::Upcoming;
-use pb_descr::FileDecl;
+use pb_decl::FileDecl;
+use pb_names::declaration::Declaration;
+use pb_names::found::TypeNames;
 use std::alloc::{AllocError, Global};
 
 fn resolve_file(

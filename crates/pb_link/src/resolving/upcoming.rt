@@ -1,10 +1,10 @@
 //! What type names came to, one declaration after another.
 
 ghost use Rattle.std.specs.Prelude.{◌≡◌, drop};
-ghost use Rattle.pb_link.specs.View.{type_names_view};
+ghost use Rattle.pb_names.specs.View.{type_names_view};
 ghost use Rattle.pb_link.specs.Resolving.{coming, names_here};
 
-use crate::found::TypeNames;
+use pb_names::found::TypeNames;
 
 /// What the type names of the declarations that come next came to, in declaration order.
 #[derive(Drop)]

@@ -1,7 +1,7 @@
 -- What a function of the code that reads symbols gives.
 use Rattle.std.specs.Prelude.{◌≡◌, ◌≤◌, ℕ, List, [], ◌∷◌, length, map, drop, Option, Result, Ok, Err}
-use Rattle.pb_source.specs.declared.fault.Cause.{Cause}
-use Rattle.pb_source.specs.declared.fault.Cause.TheVariants.{NotProto3}
+use Rattle.pb_source.specs.declared.fault.SourceCause.{SourceCause}
+use Rattle.pb_source.specs.declared.fault.SourceCause.TheVariants.{NotProto3}
 use Rattle.pb_source.specs.declared.rule.Rule.{Rule}
 use Rattle.pb_source.specs.declared.symbol.Placed.{Placed}
 use Rattle.pb_source.specs.declared.refusal.Refusal.{Refusal}
@@ -31,12 +31,12 @@ Gives ps view (Err e) read = Fails ps e read
 abbrev pub Reads : {X A : Type 0} → List Placed → ℕ → (X → A × ℕ) → Result X Refusal → Reader A → Type 0
 Reads ps at view result reader = Gives ps view result (reader all_rules (symbols_from ps at))
 
--- the same of a reader that takes as many steps at most as there are symbols
+-- the same of a reader that may take any number of steps, from the number of symbols on
 abbrev pub ReadsInSteps : {X A : Type 0} → List Placed → ℕ → (X → A × ℕ) → Result X Refusal → (ℕ → Reader A) → Type 0
 ReadsInSteps ps at view result reader = (n : ℕ) → length ps ≤ n → Reads ps at view result (reader n)
 
 -- the cause of symbols that are refused so: a file without symbols does not begin with its syntax
-abbrev pub cause_at : List Placed → Option Rule → Cause
+abbrev pub cause_at : List Placed → Option Rule → SourceCause
 cause_at [] rule = NotProto3
 cause_at (p ∷ ps) rule = told rule
 

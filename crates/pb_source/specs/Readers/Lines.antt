@@ -17,12 +17,15 @@ use Rattle.pb_source.specs.declared.kind.ServiceKind.{ServiceKind}
 use Rattle.pb_source.specs.declared.kind.ServiceKind.TheVariants as in_service
 use Rattle.pb_source.specs.declared.kind.MethodKind.{MethodKind}
 use Rattle.pb_source.specs.declared.kind.MethodKind.TheVariants as in_method
-use Rattle.pb_source.specs.declared.rule.Rule.TheVariants.{NumbersFit as numbers_fit, OptionsKnown as options_known, SyntaxFirst as syntax_first, NestsBounded as nests_bounded, TextsValid as texts_valid}
+use Rattle.pb_source.specs.declared.rule.Rule.TheVariants.{NumbersFit as numbers_fit, OptionsKnown as options_known, SyntaxFirst as syntax_first}
+use Rattle.pb_source.specs.declared.rule.Rule.TheVariants.{NestsBounded as nests_bounded, TextsValid as texts_valid}
 use Rattle.pb_source.specs.Symbols.{Symbol, word, number, text, sign}
 use Rattle.pb_source.specs.Integers.{integer_of}
-use Rattle.pb_source.specs.Meaning.{TypeSaid, a_scalar, a_name, MapDecl, MessageStatement, EnumStatement, FileStatement, joined, those_said, last_said, field_of, message_of, enum_of}
+use Rattle.pb_source.specs.Meaning.{TypeSaid, a_scalar, a_name, MapDecl, MessageStatement, EnumStatement, FileStatement}
+use Rattle.pb_source.specs.Meaning.{joined, those_said, last_said, field_of, message_of, enum_of}
 use Rattle.pb_source.specs.Grammar.{is_the_name, found_in, key_words, scalar_code, end_behind}
-use Rattle.pb_source.specs.Readers.Forms.{Reader, answer, chain, mapped, both, behind, before, choice, by_kind, guarded, symbol, plain, judged, is_keyword, is_mark, tested, keyword_reader, mark_reader, until, separated, to_end}
+use Rattle.pb_source.specs.Readers.Forms.{Reader, answer, chain, mapped, both, behind, before, choice, by_kind, guarded, symbol, plain}
+use Rattle.pb_source.specs.Readers.Forms.{judged, is_keyword, is_mark, tested, keyword_reader, mark_reader, until, separated, to_end}
 
 abbrev pub is_dot : Symbol → Bool
 is_dot = is_mark (codes ".")

@@ -45,4 +45,4 @@ returns-clause-status g c = never_two _ _ c.perform-outcome.result c.conclude.re
 
 pub returns-clause-kept : goal.returns-clause-kept
 returns-clause-kept g c = λ other.
-    kept_but_at_three _ _ c.perform-outcome.result c.conclude.result _ c.conclude.ensures c.perform-outcome.ensures.kept c.perform-outcome.ensures.told other
+    kept_but_at_three _ _ c.perform-outcome.result c.conclude.result _ c.conclude.ensures c.perform-outcome.ensures.kept other

@@ -3,7 +3,7 @@ use Rattle.std.proofs.Common.{◌≡◌, ◌<◌, ◌^◌, [], Some, refl, ◌�
 use Rattle.std.specs.Prelude.{IfSome, drop}
 use Rattle.std.proofs.lemmas.Result.{err_from_is_err_and}
 use Rattle.pb_value.specs.Dynamic.{Dynamic}
-use Rattle.pb_decode.specs.Origin.{Origin, origin, further, IsWhole, BadFrom}
+use Rattle.pb_decode.specs.Reader.Origin.{Origin, origin, further, IsWhole, BadFrom}
 use Rattle.pb_decode.specs.Loops.{ToldOf}
 use Rattle.pb_decode.specs.Frame.{IsFrameOf, BadFrame}
 use Rattle.pb_decode.proofs.Outcomes.{ok_weaker, on_ok, ok_left, tells_kept, never_device}

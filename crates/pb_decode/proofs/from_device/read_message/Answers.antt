@@ -5,7 +5,7 @@ use Rattle.pb_wire.specs.Grammar.{HasFault}
 use Rattle.pb_schema.specs.Context.{a_message, schema_of}
 use Rattle.pb_value.specs.Derives.{Text}
 use Rattle.pb_value.specs.Dynamic.{Dynamic}
-use Rattle.pb_decode.specs.Origin.{Origin, origin, further, IsWhole, BadFrom}
+use Rattle.pb_decode.specs.Reader.Origin.{Origin, origin, further, IsWhole, BadFrom}
 use Rattle.pb_decode.proofs.Outcomes.{ok_weaker, ok_left, tells_kept, never_device}
 use Rattle.pb_decode.proofs.DeviceLemmas.{reads_at, text_left, fault_left, err_refused}
 use Rattle.pb_decode.proofs.from_device.read_message.Goals as goal

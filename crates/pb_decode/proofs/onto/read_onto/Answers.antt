@@ -7,7 +7,7 @@ use Rattle.pb_value.specs.Canon.{canon}
 use Rattle.pb_value.specs.Dynamic.{Dynamic}
 use Rattle.pb_value.specs.View.{body_view}
 use Rattle.pb_decode.specs.Reader.{state_view}
-use Rattle.pb_decode.specs.Origin.{Origin, origin, further, BadFrom, IsWhole}
+use Rattle.pb_decode.specs.Reader.Origin.{Origin, origin, further, BadFrom, IsWhole}
 use Rattle.pb_decode.specs.Onto.{IsTextOnto}
 use Rattle.pb_decode.proofs.Outcomes.{ok_weaker, fault_weaker}
 use Rattle.pb_decode.proofs.OntoText.{begun_onto, text_onto, whole_fault}

@@ -6,7 +6,7 @@ use Rattle.pb_wire.specs.declared.fault.Cause.TheVariants.{InputTooLarge}
 use Rattle.pb_wire.specs.Grammar.{HasFault}
 use Rattle.pb_schema.specs.Context.{a_message, schema_of}
 use Rattle.pb_decode.specs.Reader.{state_view}
-use Rattle.pb_decode.specs.Origin.{origin}
+use Rattle.pb_decode.specs.Reader.Origin.{origin}
 use Rattle.pb_decode.proofs.ReaderLemmas.{if_fault_weaker}
 use Rattle.pb_decode.proofs.OntoText.{whole_fault, front_told, beyond_told}
 use Rattle.pb_decode.proofs.Outcomes.{fault_weaker}

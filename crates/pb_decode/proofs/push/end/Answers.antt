@@ -5,7 +5,7 @@ use Rattle.pb_schema.specs.Context.{a_message, schema_of}
 use Rattle.pb_value.specs.Derives.{Text}
 use Rattle.pb_value.specs.Dynamic.{Dynamic}
 use Rattle.pb_decode.specs.Reader.{state_view}
-use Rattle.pb_decode.specs.Origin.{origin, further, IsWhole, BadFrom}
+use Rattle.pb_decode.specs.Reader.Origin.{origin, further, IsWhole, BadFrom}
 use Rattle.pb_decode.proofs.Outcomes.{ok_weaker, fault_weaker}
 use Rattle.pb_decode.proofs.OntoText.{text_from, from_took, whole_fault}
 use Rattle.pb_decode.proofs.push.end.Goals as goal

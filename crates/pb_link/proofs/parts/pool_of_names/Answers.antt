@@ -1,5 +1,7 @@
 use Rattle.std.proofs.Common.{◌≡◌, rules, map, ap, sym, ◌∙◌}
-use Rattle.pb_link.specs.View.{type_names_view}
+use Rattle.pb_names.specs.View.{declaration_view, type_names_view}
+use Rattle.pb_rules.specs.Rules.{lookups}
+use Rattle.pb_link.proofs.LinkLemmas.{as_many}
 use Rattle.pb_link.proofs.parts.pool_of_names.Goals as goal
 
 pub linked_pool-requires-clause-imports : goal.linked_pool-requires-clause-imports
@@ -7,12 +9,28 @@ linked_pool-requires-clause-imports c =
     let same : c.as_slice-all.result.now ≡ c.in_ok-imports.imports.all.items = search rules in
     ap (map (λ v. v.items)) same ∙ c.in_ok-imports.ensures.exact.all
 
+pub linked_pool-requires-clause-sizes : goal.linked_pool-requires-clause-sizes
+linked_pool-requires-clause-sizes c =
+    let j = c.requires in
+    let row : c.as_slice-row.result.now ≡ c.args.judged.now.row.items = search rules in
+    let found : c.as_slice-found.result.now ≡ c.args.judged.now.names.found.items = search rules in
+    as_many declaration_view type_names_view (lookups j.world) c.as_slice-row.result.now c.as_slice-found.result.now j.world.declared (ap (map declaration_view) row ∙ j.row) (ap (map type_names_view) found ∙ j.names.of_names.found)
+
 pub returns-in-Ok-clause-made : goal.returns-in-Ok-clause-made
-returns-in-Ok-clause-made c = λ w world nothing names.
-    let same : c.as_slice-found.result.now ≡ c.args.names.now.found.items = search rules in
-    c.in-Ok.ensures.made w world nothing (world.declared ∙ sym c.requires.row) (ap (map type_names_view) same ∙ names.found)
+returns-in-Ok-clause-made c =
+    let j = c.requires in
+    let row : c.as_slice-row.result.now ≡ c.args.judged.now.row.items = search rules in
+    let found : c.as_slice-found.result.now ≡ c.args.judged.now.names.found.items = search rules in
+    record {
+      world = j.world;
+      is_world = j.is_world;
+      holds = j.holds;
+      made = c.in-Ok.ensures.made j.world j.is_world j.holds (sym j.row ∙ ap (map declaration_view) (sym row)) (ap (map type_names_view) found ∙ j.names.of_names.found);
+    }
 
 pub returns-clause-refused : goal.returns-clause-refused
-returns-clause-refused c = λ w world nothing names.
-    let same : c.as_slice-found.result.now ≡ c.args.names.now.found.items = search rules in
-    c.in-Err.ensures.refused w world nothing (world.declared ∙ sym c.requires.row) (ap (map type_names_view) same ∙ names.found)
+returns-clause-refused c =
+    let j = c.requires in
+    let row : c.as_slice-row.result.now ≡ c.args.judged.now.row.items = search rules in
+    let found : c.as_slice-found.result.now ≡ c.args.judged.now.names.found.items = search rules in
+    c.in-Err.ensures.refused j.world j.is_world j.holds (sym j.row ∙ ap (map declaration_view) (sym row)) (ap (map type_names_view) found ∙ j.names.of_names.found)

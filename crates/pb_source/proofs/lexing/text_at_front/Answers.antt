@@ -4,7 +4,7 @@ use Rattle.pb_source.specs.Tokens.{FaultHere, is_closed}
 use Rattle.pb_source.specs.Lexing.{IsTokenAt}
 use Rattle.pb_source.specs.Texts.{units_len}
 use Rattle.pb_source.specs.declared.token.TokenKind.TheVariants.{Text}
-use Rattle.pb_source.specs.declared.fault.Cause.TheVariants.{BadToken}
+use Rattle.pb_source.specs.declared.fault.SourceCause.TheVariants.{BadToken}
 use Rattle.pb_source.proofs.PieceLemmas.{tail}
 use Rattle.pb_source.proofs.TextPieces.{open_text_there, text_piece, text_fault, text_room}
 use Rattle.pb_source.proofs.lexing.text_at_front.Goals as goal

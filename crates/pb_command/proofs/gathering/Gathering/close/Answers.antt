@@ -49,7 +49,7 @@ returns-in_err-go_on-clause-files g c =
     keeps_then (g.F.Files.contents c.args.files.now) (g.F.Files.contents c.loop.files) (g.F.Files.contents c.go_on.new.files) c.loop.invariant.files
     c.in_err-go_on.ensures.files
 
-pub returns-in_err-go_on-clause-told : goal.returns-in_err-go_on-clause-told
-returns-in_err-go_on-clause-told g c =
+pub returns-in_err-go_on-clause-kept : goal.returns-in_err-go_on-clause-kept
+returns-in_err-go_on-clause-kept g c =
     let p = err_from_is_err_and c.from_residual-in_err-go_on.result c.from_residual-in_err-go_on.ensures.1 in
-    rw (p.1, p.2) (λ other. c.in_err-go_on.ensures.told other ∙ c.loop.invariant.kept)
+    rw (p.1, p.2) (λ other. c.in_err-go_on.ensures.kept other ∙ c.loop.invariant.kept)

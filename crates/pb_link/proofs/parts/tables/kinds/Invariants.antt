@@ -1,5 +1,5 @@
 use Rattle.std.proofs.Common.{◌≡◌, ◌++◌, ◌≤◌, map, drop}
-use Rattle.pb_link.specs.View.{declaration_view}
+use Rattle.pb_names.specs.View.{declaration_view}
 use Rattle.pb_decl.specs.View.{file_view}
 use Rattle.pb_link.specs.Parts.{kinds_from}
 use Rattle.pb_link.proofs.parts.tables.kinds.Given as goal

@@ -1,6 +1,6 @@
 use Rattle.std.proofs.Common.{◌≡◌, ◌++◌, map, drop}
 use Rattle.pb_schema.specs.View.{enum_view}
-use Rattle.pb_link.specs.View.{declaration_view}
+use Rattle.pb_names.specs.View.{declaration_view}
 use Rattle.pb_link.specs.Parts.{enums_read}
 use Rattle.pb_link.proofs.parts.types.enums_of.Given as goal
 

@@ -1,0 +1,49 @@
+-- The length stands behind the tag, and the payload behind it.
+use Rattle.std.proofs.Common.{ℕ, ◌+◌, ◌-◌, ◌∙◌, Option, option_map, refl, ap, arith, take, drop, length, length-drop}
+use Rattle.pb_wire.specs.Fault.{Place, Reads as ReadsNumber}
+use Rattle.pb_wire.specs.Token.{passed}
+use Rattle.pb_decode.specs.Reader.{state_view, left_of, here}
+use Rattle.pb_decode.proofs.ReaderLemmas.{slice_from}
+use Rattle.pb_decode.proofs.QuickLemmas.{front_there, there_behind, payload_ends}
+use Rattle.pb_decode.proofs.reader.quick_record.length_behind.Goals as goal
+
+pub overflow_add-start : goal.overflow_add-start
+overflow_add-start c =
+    let is = ap length (slice_from c.args.tag_size c.args.bytes.now) ∙ length-drop c.args.tag_size c.args.bytes.now in
+    let used = (front_there 0 c.left_behind-behind.result (take (length c.args.bytes.now - c.args.tag_size) (drop c.args.tag_size c.args.bytes.now)) c.in-Ok-Some.field-0 c.in-Ok-Some.length c.in-Ok-Some.used c.in-Ok-Some.field-0-is (c.in-Ok-Some.ensures.whole 0)).0 in
+    let small = c.requires.small in
+    omega (arith, is, used, small)
+
+pub overflow_cast-start : goal.overflow_cast-start
+overflow_cast-start c =
+    let is = ap length (slice_from c.args.tag_size c.args.bytes.now) ∙ length-drop c.args.tag_size c.args.bytes.now in
+    let used = (front_there 0 c.left_behind-behind.result (take (length c.args.bytes.now - c.args.tag_size) (drop c.args.tag_size c.args.bytes.now)) c.in-Ok-Some.field-0 c.in-Ok-Some.length c.in-Ok-Some.used c.in-Ok-Some.field-0-is (c.in-Ok-Some.ensures.whole 0)).0 in
+    let small = c.requires.small in
+    let within = c.requires.within in
+    omega (arith, is, used, small, within)
+
+pub overflow_add-reader : goal.overflow_add-reader
+overflow_add-reader c =
+    let is = ap length (slice_from c.args.tag_size c.args.bytes.now) ∙ length-drop c.args.tag_size c.args.bytes.now in
+    let used = (front_there 0 c.left_behind-behind.result (take (length c.args.bytes.now - c.args.tag_size) (drop c.args.tag_size c.args.bytes.now)) c.in-Ok-Some.field-0 c.in-Ok-Some.length c.in-Ok-Some.used c.in-Ok-Some.field-0-is (c.in-Ok-Some.ensures.whole 0)).0 in
+    let small = c.requires.small in
+    let within = c.requires.within in
+    omega (arith, is, used, small, within)
+
+pub returns-in-Ok-clause-within : goal.returns-in-Ok-clause-within
+returns-in-Ok-clause-within c =
+    let is = ap length (slice_from c.args.tag_size c.args.bytes.now) ∙ length-drop c.args.tag_size c.args.bytes.now in
+    let used = (front_there 0 c.left_behind-behind.result (take (length c.args.bytes.now - c.args.tag_size) (drop c.args.tag_size c.args.bytes.now)) c.in-Ok-Some.field-0 c.in-Ok-Some.length c.in-Ok-Some.used c.in-Ok-Some.field-0-is (c.in-Ok-Some.ensures.whole 0)).0 in
+    let within = c.requires.within in
+    (omega arith, omega (arith, is, used, within), c.in-Ok.ensures.small)
+
+pub returns-in-Ok-clause-whole : goal.returns-in-Ok-clause-whole
+returns-in-Ok-clause-whole c =
+    λ pool m depth levels number wire_type base p0 begun has.
+    let s = state_view c.args.reader.now in
+    let first = front_there (c.args.reader.now.at + c.args.tag_size) c.left_behind-behind.result (take (length c.args.bytes.now - c.args.tag_size) (drop c.args.tag_size c.args.bytes.now)) c.in-Ok-Some.field-0 c.in-Ok-Some.length c.in-Ok-Some.used c.in-Ok-Some.field-0-is (c.in-Ok-Some.ensures.whole (c.args.reader.now.at + c.args.tag_size)) in
+    let behind = c.left_behind-behind.ensures ∙ ap (λ (z : Option ℕ). option_map (λ (e : ℕ). e - c.args.tag_size) z) c.left.ensures in
+    let reads =
+    there_behind (λ (p q : Place). ReadsNumber p c.in-Ok-Some.length q) c.args.reader.now.at (left_of (state_view c.args.reader.now)) c.left_behind-behind.result c.args.bytes.now c.args.tag_size c.in-Ok-Some.used behind first.1 in
+    c.in-Ok.ensures.whole (passed (here (state_view c.args.reader.now) c.args.bytes.now) c.args.tag_size) (passed (here (state_view c.args.reader.now) c.args.bytes.now) (c.args.tag_size + c.in-Ok-Some.used)) reads refl
+    (payload_ends (state_view c.args.reader.now) c.args.bytes.now begun has reads)

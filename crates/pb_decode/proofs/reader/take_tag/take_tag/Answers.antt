@@ -1,0 +1,82 @@
+-- A tag is taken whole, or refused, or it is cut, or there is none.
+use Rattle.std.proofs.Common.{◌≡◌, ◌≢◌, ◌⊎◌, [], ℕ, Option, Some, refl, sym, ◌∙◌, subst, arith}
+use Rattle.std.proofs.lemmas.Result.{err_from_is_err_and}
+use Rattle.pb_wire.specs.Fault.{fault}
+use Rattle.pb_wire.specs.Token.{given_at}
+use Rattle.pb_decode.specs.Open.Frames.{Stands}
+use Rattle.pb_decode.specs.Open.PartView.{part_view, scope_view}
+use Rattle.pb_decode.specs.Reader.{state_view, frames_view, left_of, path_here}
+use Rattle.pb_decode.proofs.ReaderLemmas.{fault_told}
+use Rattle.pb_decode.proofs.EndedLemmas.{standing}
+use Rattle.pb_decode.proofs.TagTaken.{light, number_long, front_whole, front_short, stops_at_tag, tag_short, refused_at_tag}
+use Rattle.pb_decode.proofs.WaitLemmas.{end_waits, tag_waits}
+use Rattle.pb_decode.proofs.reader.take_tag.take_tag.Goals as goal
+
+pub returns-then-is_spent-clause-taken : goal.returns-then-is_spent-clause-taken
+returns-then-is_spent-clause-taken c =
+    λ m depth levels base p0 begun. (
+      begun,
+      stops_at_tag (state_view c.args.reader.now) c.args.bytes.now begun c.requires.step c.requires.goes_on
+          (subst (λ (z : Option ℕ). (c.args.bytes.now ≡ []) ⊎ (z ≡ Some 0)) c.left.ensures c.if-is_spent.ensures),
+    )
+
+pub pass_tag-requires-clause-fits : goal.pass_tag-requires-clause-fits
+pass_tag-requires-clause-fits c =
+    let told = front_whole c.args.reader.now.at c.left-2.result c.left-2.result c.args.bytes.now c.in-Ok-Some.field-0 c.in-Ok-Some.tag c.in-Ok-Some.size c.in-Ok-Some.field-0-is refl (c.in-Ok-Some.ensures.whole c.args.reader.now.at) in
+    let within = told.0 in
+    let small = c.requires.reading.small in
+    omega (arith, within, small)
+
+pub returns-in_err-pass_tag-in-Ok-Some-clause-refused :
+    goal.returns-in_err-pass_tag-in-Ok-Some-clause-refused
+returns-in_err-pass_tag-in-Ok-Some-clause-refused c =
+    λ m depth levels base p0 begun.
+    let told =
+    front_whole c.args.reader.now.at c.left-2.result (left_of (state_view c.args.reader.now)) c.args.bytes.now c.in-Ok-Some.field-0 c.in-Ok-Some.tag c.in-Ok-Some.size c.in-Ok-Some.field-0-is c.left-2.ensures
+    (c.in-Ok-Some.ensures.whole c.args.reader.now.at) in
+    let p = err_from_is_err_and c.from_residual.result c.from_residual.ensures.1 in
+    rw (p.1, p.2) (c.in_err-pass_tag-in-Ok-Some.ensures.refused m depth levels base p0 c.args.bytes.now begun told.1)
+
+pub returns-in_ok-pass_tag-in-Ok-Some-clause-passes : goal.returns-in_ok-pass_tag-in-Ok-Some-clause-passes
+returns-in_ok-pass_tag-in-Ok-Some-clause-passes c =
+    let told = front_whole c.args.reader.now.at c.left-2.result c.left-2.result c.args.bytes.now c.in-Ok-Some.field-0 c.in-Ok-Some.tag c.in-Ok-Some.size c.in-Ok-Some.field-0-is refl (c.in-Ok-Some.ensures.whole c.args.reader.now.at) in
+    let some = number_long (given_at c.args.reader.now.at c.left-2.result c.args.bytes.now) c.in-Ok-Some.size told.1 in
+    let small = light c.pass_tag.new.reader.step in
+    (told.0, c.in_ok-pass_tag-in-Ok-Some.ensures.at, omega (arith, some, small))
+
+pub returns-in_ok-pass_tag-in-Ok-Some-clause-taken : goal.returns-in_ok-pass_tag-in-Ok-Some-clause-taken
+returns-in_ok-pass_tag-in-Ok-Some-clause-taken c =
+    λ m depth levels base p0 begun.
+    let told =
+    front_whole c.args.reader.now.at c.left-2.result (left_of (state_view c.args.reader.now)) c.args.bytes.now c.in-Ok-Some.field-0 c.in-Ok-Some.tag c.in-Ok-Some.size c.in-Ok-Some.field-0-is c.left-2.ensures
+    (c.in-Ok-Some.ensures.whole c.args.reader.now.at) in
+    c.in_ok-pass_tag-in-Ok-Some.ensures.reads m depth levels base p0 c.args.bytes.now begun told.1
+
+pub returns-in-Ok-None-clause-taken : goal.returns-in-Ok-None-clause-taken
+returns-in-Ok-None-clause-taken c =
+    λ m depth levels base p0 begun.
+    let open_end : left_of (state_view c.args.reader.now) ≢ Some 0 = subst (λ (z : Option ℕ). z ≢ Some 0) c.left.ensures c.if-is_spent.ensures.1 in (
+      begun,
+      tag_short (state_view c.args.reader.now) c.args.bytes.now begun c.requires.step open_end c.if-is_spent.ensures.0
+          (front_short c.args.reader.now.at c.left-2.result (left_of (state_view c.args.reader.now)) c.args.bytes.now c.in-Ok-None.field-0 c.in-Ok-None.field-0-is c.left-2.ensures (c.in-Ok-None.ensures.short c.args.reader.now.at)),
+    )
+
+pub returns-in-Err-clause-refused : goal.returns-in-Err-clause-refused
+returns-in-Err-clause-refused c =
+    λ m depth levels base p0 begun.
+    let open_end : c.left-2.result ≢ Some 0 = subst (λ (z : Option ℕ). z ≢ Some 0) (c.left.ensures ∙ sym c.left-2.ensures) c.if-is_spent.ensures.1 in
+    let stands =
+    subst (λ (z : Option ℕ). Stands c.args.pool.now m depth levels base p0 (frames_view c.args.reader.now.frames.items) (part_view c.args.reader.now.part) (scope_view c.args.reader.now.scope) (given_at c.args.reader.now.at z c.args.bytes.now)) (sym c.left-2.ensures)
+    (standing (state_view c.args.reader.now) c.args.bytes.now (frames_view c.args.reader.now.frames.items) (part_view c.args.reader.now.part) begun c.requires.step refl refl) in
+    fault_told c.fault_at.result (fault c.args.reader.now.at (path_here (state_view c.args.reader.now)) c.in-Err.cause) c.fault_at.ensures
+    (refused_at_tag (state_view c.args.reader.now) c.in-Err.cause c.requires.step c.in-Err.ensures.settled
+    (c.in-Err.ensures.tag c.args.pool.now m depth levels c.args.reader.now.at base p0 (frames_view c.args.reader.now.frames.items) (scope_view c.args.reader.now.scope) (part_view c.args.reader.now.part) stands open_end c.if-is_spent.ensures.0))
+
+pub returns-then-is_spent-clause-waits : goal.returns-then-is_spent-clause-waits
+returns-then-is_spent-clause-waits c =
+    end_waits (state_view c.args.reader.now) c.args.bytes.now c.requires.step c.requires.goes_on (subst (λ (z : Option ℕ). (c.args.bytes.now ≡ []) ⊎ (z ≡ Some 0)) c.left.ensures c.if-is_spent.ensures)
+
+pub returns-in-Ok-None-clause-waits : goal.returns-in-Ok-None-clause-waits
+returns-in-Ok-None-clause-waits c =
+    tag_waits (state_view c.args.reader.now) c.args.bytes.now c.requires.step
+    (front_short c.args.reader.now.at c.left-2.result (left_of (state_view c.args.reader.now)) c.args.bytes.now c.in-Ok-None.field-0 c.in-Ok-None.field-0-is c.left-2.ensures (c.in-Ok-None.ensures.short c.args.reader.now.at))

@@ -1,0 +1,9 @@
+-- What is open, what records are for in it, and what they open.
+pub mod Opened
+pub mod Frames
+pub mod PartView
+pub mod Purposes
+pub mod KnownPurpose
+pub mod Occurrences
+pub mod Openings
+pub mod Opens

@@ -1,0 +1,146 @@
+-- What a step of the reader does that has read what stands up to these bytes. Each holds wherever it began: of any type, any levels, any records before
+-- and any first place.
+use Rattle.std.specs.Prelude.{◌≡◌, ℕ, List, drop, Option, Some, Result, IfOk, IfErr, IfSome, OnOk}
+use Rattle.pb_wire.specs.Record.{Record, wire_type}
+use Rattle.pb_wire.specs.Fault.{Place, Moves, HasTag, HasLength, Reads as HasNumber}
+use Rattle.pb_wire.specs.Token.{passed}
+use Rattle.pb_schema.specs.declared.types.Kind.{Kind}
+use Rattle.pb_schema.specs.Types.{Types}
+use Rattle.pb_schema.specs.Rules.{IsPool}
+use Rattle.pb_schema.specs.Kinds.{wire_type_of}
+use Rattle.pb_decode.specs.declared.error.DecodeError.{DecodeError}
+use Rattle.pb_decode.specs.declared.open.purpose.Purpose.{Purpose}
+use Rattle.pb_decode.specs.declared.reader.state.Reader.{Reader}
+use Rattle.pb_decode.specs.declared.tokens.number.Number.{Number}
+use Rattle.pb_decode.specs.declared.tokens.step.Step.TheVariants.{Elements}
+use Rattle.pb_decode.specs.Open.Frames.{CanHold}
+use Rattle.pb_decode.specs.Open.Openings.{innermost_group}
+use Rattle.pb_decode.specs.Open.PartView.{part_view}
+use Rattle.pb_decode.specs.Open.Purposes.{Means, part_context}
+use Rattle.pb_decode.specs.Tokens.Number.{number_view}
+use Rattle.pb_decode.specs.Tokens.Numbers.{Follows}
+use Rattle.pb_decode.specs.Tokens.After.{tag, awaited}
+use Rattle.pb_decode.specs.Reader.{State, frames_view, state_view, here, Reads, StandsAt, AfterAt, Stops, Taken, IfFault, Told}
+
+-- a tag stands at the front of these bytes, and takes so many of them
+abbrev pub HasTagHere : State → List ℕ → ℕ → ℕ → ℕ → Type 0
+HasTagHere s rest number type size = HasTag (here s rest) number type (passed (here s rest) size)
+
+-- the error, if there is one, tells a fault that no more bytes change
+abbrev pub TellsFault : {A : Type 0} → Types → Reader → List ℕ → Result A DecodeError → Type 0
+TellsFault pool old rest result =
+    (m depth levels : ℕ) (base : List Record) (p0 : Place)
+    → Reads pool m depth levels base p0 (state_view old) rest → IfErr result (λ e. IfFault e (Told pool m depth p0))
+
+-- and does so whatever bytes follow
+abbrev pub TellsFaultAnyway : {A : Type 0} → Types → Reader → Result A DecodeError → Type 0
+TellsFaultAnyway pool old result =
+    (m depth levels : ℕ) (base : List Record) (p0 : Place) (rest : List ℕ)
+    → Reads pool m depth levels base p0 (state_view old) rest → IfErr result (λ e. IfFault e (Told pool m depth p0))
+
+-- ---- what is taken
+-- what comes next is taken, or none where the bytes end too early
+abbrev pub TakesNext : Types → Reader → Reader → List ℕ → Result (Option ℕ) DecodeError → Type 0
+TakesNext pool old new rest result =
+    (m depth levels : ℕ) (base : List Record) (p0 : Place)
+    → Reads pool m depth levels base p0 (state_view old) rest → IfOk result (λ o. Taken pool m depth levels base p0 (state_view new) rest o)
+
+-- what stands whole at the front is taken, if anything is
+abbrev pub TakesWhole : Types → Reader → Reader → List ℕ → Result (Option ℕ) DecodeError → Type 0
+TakesWhole pool old new rest result =
+    (m depth levels : ℕ) (base : List Record) (p0 : Place)
+    → Reads pool m depth levels base p0 (state_view old) rest
+    → IfOk result (λ o. IfSome o (λ n. Reads pool m depth levels base p0 (state_view new) (drop n rest)))
+
+-- so many bytes are taken
+abbrev pub TakesMany : Types → Reader → Reader → List ℕ → Result ℕ DecodeError → Type 0
+TakesMany pool old new rest result =
+    (m depth levels : ℕ) (base : List Record) (p0 : Place)
+    → Reads pool m depth levels base p0 (state_view old) rest → IfOk result (λ n. Reads pool m depth levels base p0 (state_view new) (drop n rest))
+
+-- and no more can be
+abbrev pub TakesAll : Types → Reader → Reader → List ℕ → Result ℕ DecodeError → Type 0
+TakesAll pool old new rest result =
+    (m depth levels : ℕ) (base : List Record) (p0 : Place)
+    → Reads pool m depth levels base p0 (state_view old) rest
+    → IfOk result (λ n. Reads pool m depth levels base p0 (state_view new) (drop n rest) × Stops pool m depth p0 (state_view new) (drop n rest))
+
+-- no byte is taken, and what was read is read
+abbrev pub KeepsReading : {A : Type 0} → Types → Reader → Reader → Result A DecodeError → Type 0
+KeepsReading pool old new result =
+    (m depth levels : ℕ) (base : List Record) (p0 : Place) (rest : List ℕ)
+    → Reads pool m depth levels base p0 (state_view old) rest → OnOk result (Reads pool m depth levels base p0 (state_view new) rest)
+
+-- ---- behind a value, whose bytes are these
+abbrev pub StandsBehindNumber : {A : Type 0} → Types → Reader → Reader → ℕ → Purpose → Number → Result A DecodeError → Type 0
+StandsBehindNumber pool old new number purpose value result =
+    (m depth levels : ℕ) (base : List Record) (p0 w : Place) (rest : List ℕ)
+    → Reads pool m depth levels base p0 (state_view old) rest → awaited old.step ≡ Some (tag number (wire_type (number_view value)) purpose)
+    → Follows (here (state_view old) rest) (number_view value) w → OnOk result (StandsAt pool m depth levels base p0 (state_view new) w)
+
+abbrev pub StandsBehindPayload : {A : Type 0} → Types → Reader → Reader → List ℕ → Result A DecodeError → Type 0
+StandsBehindPayload pool old new bytes result =
+    (m depth levels : ℕ) (base : List Record) (p0 w : Place) (rest : List ℕ)
+    → Reads pool m depth levels base p0 (state_view old) rest → Moves (here (state_view old) rest) bytes w
+    → OnOk result (StandsAt pool m depth levels base p0 (state_view new) w)
+
+abbrev pub TellsPayloadFault : {A : Type 0} → Types → Reader → List ℕ → Result A DecodeError → Type 0
+TellsPayloadFault pool old bytes result =
+    (m depth levels : ℕ) (base : List Record) (p0 w : Place) (rest : List ℕ)
+    → Reads pool m depth levels base p0 (state_view old) rest → Moves (here (state_view old) rest) bytes w
+    → IfErr result (λ e. IfFault e (Told pool m depth p0))
+
+-- the list goes on behind an element
+abbrev pub GoesOnBehindElement : {A : Type 0} → Types → Reader → Reader → ℕ → Kind → Number → Result A DecodeError → Type 0
+GoesOnBehindElement pool old new number kind value result =
+    (m depth levels : ℕ) (base : List Record) (p0 w : Place) (rest : List ℕ) (outer : Option ℕ)
+    → Reads pool m depth levels base p0 (state_view old) rest → old.step ≡ Elements number kind outer → wire_type (number_view value) ≡ wire_type_of kind
+    → Follows (here (state_view old) rest) (number_view value) w → OnOk result (AfterAt pool m depth levels base p0 (state_view new) w)
+
+-- ---- behind a tag, which takes so many bytes
+abbrev pub PassesTag : {A : Type 0} → Types → Reader → Reader → ℕ → ℕ → ℕ → Result A DecodeError → Type 0
+PassesTag pool old new number type size result =
+    (m depth levels : ℕ) (base : List Record) (p0 : Place) (rest : List ℕ)
+    → Reads pool m depth levels base p0 (state_view old) rest → HasTagHere (state_view old) rest number type size
+    → OnOk result (Reads pool m depth levels base p0 (state_view new) (drop size rest))
+
+abbrev pub TellsTagFault : {A : Type 0} → Types → Reader → ℕ → ℕ → ℕ → Result A DecodeError → Type 0
+TellsTagFault pool old number type size result =
+    (m depth levels : ℕ) (base : List Record) (p0 : Place) (rest : List ℕ)
+    → Reads pool m depth levels base p0 (state_view old) rest → HasTagHere (state_view old) rest number type size
+    → IfErr result (λ e. IfFault e (Told pool m depth p0))
+
+-- the same of a tag that is a number so far
+abbrev pub PassesTagNumber : {A : Type 0} → Types → Reader → Reader → ℕ → ℕ → Result A DecodeError → Type 0
+PassesTagNumber pool old new n size result =
+    (m depth levels : ℕ) (base : List Record) (p0 : Place) (rest : List ℕ)
+    → Reads pool m depth levels base p0 (state_view old) rest → HasNumber (here (state_view old) rest) n (passed (here (state_view old) rest) size)
+    → OnOk result (Reads pool m depth levels base p0 (state_view new) (drop size rest))
+
+abbrev pub TellsTagNumberFault : {A : Type 0} → Types → Reader → ℕ → ℕ → Result A DecodeError → Type 0
+TellsTagNumberFault pool old n size result =
+    (m depth levels : ℕ) (base : List Record) (p0 : Place) (rest : List ℕ)
+    → Reads pool m depth levels base p0 (state_view old) rest → HasNumber (here (state_view old) rest) n (passed (here (state_view old) rest) size)
+    → IfErr result (λ e. IfFault e (Told pool m depth p0))
+
+-- the group is open that its first tag begins, by what its record is for
+abbrev pub EntersGroup : {A : Type 0} → Reader → Reader → ℕ → Purpose → ℕ → Result A DecodeError → Type 0
+EntersGroup old new number meant size result =
+    (pool : Types) (m depth levels : ℕ) (base : List Record) (p0 : Place) (rest : List ℕ)
+    → IsPool pool → CanHold pool (part_view old.part) → Means pool (part_context (part_view old.part)) number 3 meant
+    → Reads pool m depth levels base p0 (state_view old) rest → HasTagHere (state_view old) rest number 3 size
+    → OnOk result (Reads pool m depth levels base p0 (state_view new) (drop size rest))
+
+-- the innermost group is closed that its last tag ends
+abbrev pub LeavesGroup : {A : Type 0} → Types → Reader → Reader → ℕ → Result A DecodeError → Type 0
+LeavesGroup pool old new size result =
+    (m depth levels number : ℕ) (base : List Record) (p0 : Place) (rest : List ℕ)
+    → Reads pool m depth levels base p0 (state_view old) rest → innermost_group (frames_view old.frames.items) ≡ Some number
+    → HasTagHere (state_view old) rest number 4 size → OnOk result (Reads pool m depth levels base p0 (state_view new) (drop size rest))
+
+-- behind a tag of so many bytes stands a length, and behind that the payload begins
+abbrev pub TellsLengthBehind : Reader → ℕ → List ℕ → Option (ℕ × ℕ) → Type 0
+TellsLengthBehind old tag_size rest result =
+    (pool : Types) (m depth levels number type : ℕ) (base : List Record) (p0 : Place)
+    → Reads pool m depth levels base p0 (state_view old) rest → HasTagHere (state_view old) rest number type tag_size
+    → IfSome result (λ t. HasLength (passed (here (state_view old) rest) tag_size) t.1 (passed (here (state_view old) rest) t.0))

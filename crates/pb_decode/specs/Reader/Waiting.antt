@@ -1,0 +1,44 @@
+-- What a reader that stops waits for.
+use Rattle.std.specs.Prelude.{◌≡◌, ◌⊎◌, ℕ, ◌<◌, List, [], length}
+use Rattle.pb_wire.specs.Fault.{fault, Place, input_end, VarintFault}
+use Rattle.pb_wire.specs.Exact.{IsOver}
+use Rattle.pb_wire.specs.declared.fault.Cause.TheVariants.{Truncated}
+use Rattle.pb_schema.specs.Kinds.{wire_type_of}
+use Rattle.pb_decode.specs.declared.tokens.step.Step.{Step}
+use Rattle.pb_decode.specs.declared.tokens.step.Step.TheVariants as step
+use Rattle.pb_decode.specs.Open.Frames.{Frame}
+use Rattle.pb_decode.specs.Tokens.Numbers.{NumberFault}
+use Rattle.pb_decode.specs.Reader.{State, here}
+
+-- the input ends inside the varint that begins here
+abbrev pub IsCutVarint : Place → Type 0
+IsCutVarint p = VarintFault p (fault (input_end p) [] Truncated)
+
+-- or inside the number, behind a tag of this wire type
+abbrev pub IsCutNumber : ℕ → Place → Type 0
+IsCutNumber w p = NumberFault w p (fault (input_end p) [] Truncated)
+
+-- With these frames around the part, what comes next at this place is not whole in the bytes that are given. Where a tag may come, the message may
+-- also be over.
+abbrev pub WaitsAt : Step → List Frame → Place → Type 0
+WaitsAt step.Tag frames p = IsCutVarint p ⊎ ((frames ≡ []) × IsOver p)
+WaitsAt (step.Varint n q) frames p = IsCutNumber 0 p
+WaitsAt (step.I64 n q) frames p = IsCutNumber 1 p
+WaitsAt (step.I32 n q) frames p = IsCutNumber 5 p
+WaitsAt (step.Length n q) frames p = IsCutVarint p
+WaitsAt (step.Payload n q size) frames p = length p.rest < size
+WaitsAt (step.Elements n k outer) frames p = IsCutNumber (wire_type_of k) p
+
+-- more bytes are wanted behind these
+abbrev pub Waits : State → List ℕ → Type 0
+Waits s rest = WaitsAt s.next s.frames (here s rest)
+
+-- how many packed lists are open where this comes next
+abbrev pub lists_in : Step → ℕ
+lists_in (step.Elements n k outer) = 1
+lists_in step.Tag = 0
+lists_in (step.Varint n p) = 0
+lists_in (step.I64 n p) = 0
+lists_in (step.I32 n p) = 0
+lists_in (step.Length n p) = 0
+lists_in (step.Payload n p size) = 0

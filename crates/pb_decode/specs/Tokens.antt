@@ -1,0 +1,5 @@
+-- Tags, lengths and numbers at the front of bytes, and what comes next.
+pub mod Number
+pub mod Numbers
+pub mod After
+pub mod Told

@@ -1,0 +1,127 @@
+//! Where a reader stands, as the path of a fault.
+
+ghost use Rattle.std.specs.Prelude.{◌≡◌, ◌∷◌, [], map, IfOk, IfErr, IfSome, IfNone};
+ghost use Rattle.pb_wire.specs.Fault.{fault as fault_of};
+ghost use Rattle.pb_wire.specs.declared.fault.Cause.TheVariants.{InputTooLarge};
+ghost use Rattle.pb_decode.specs.declared.error.DecodeError.TheVariants.{Memory};
+ghost use Rattle.pb_decode.specs.Open.Frames.{next_step, Scope as ScopeView};
+ghost use Rattle.pb_decode.specs.Open.PartView.{scope_view};
+ghost use Rattle.pb_decode.specs.Reader.{state_view, own_step, path_here as steps_here, IfFault, path_inside as steps_inside};
+
+use crate::error::DecodeError;
+use crate::open::part::Frame;
+use crate::reader::state::Reader;
+use crate::tokens::step::Step;
+use pb_wire::{Cause, PathStep};
+use std::alloc::Global;
+
+/// The step into the record that is open in a part.
+fn frame_step(frame: &Frame) -> PathStep
+    ensures { result ≡ next_step frame.now.number (scope_view frame.now.scope) }
+{
+    PathStep {
+        number: frame.number,
+        occurrence: frame.scope.occurrences.count(frame.number),
+    }
+}
+
+/// The steps to the innermost part, outermost first.
+fn frame_steps(alloc: Global, frames: &[Frame]) -> Result<Vec<PathStep>, DecodeError>
+    ensures steps { IfOk result (λ v. v.items ≡ map (λ f. next_step f.number (scope_view f.scope)) frames.now) }
+    ensures memory { IfErr result (λ e. e ≡ Memory) }
+{
+    let mut steps = Vec::new(alloc);
+    for frame in frames {
+        steps.push(frame_step(frame))?;
+    }
+    Ok(steps)
+}
+
+/// The number of the record that is begun.
+fn begun_number(step: Step) -> Option<u32>
+    ensures begun { IfSome result (λ n. (scope : ScopeView) → own_step step scope ≡ next_step n scope ∷ []) }
+    ensures none { IfNone result ((scope : ScopeView) → own_step step scope ≡ []) }
+{
+    match step {
+        Step::Tag => None,
+        Step::Varint(number, _) => Some(number),
+        Step::I64(number, _) => Some(number),
+        Step::I32(number, _) => Some(number),
+        Step::Length(number, _) => Some(number),
+        Step::Payload(number, _, _) => Some(number),
+        Step::Elements(number, _, _) => Some(number),
+    }
+}
+
+/// The steps to the record of a number that comes next in the innermost part.
+fn path_inside(alloc: Global, reader: &Reader, number: u32) -> Result<Vec<PathStep>, DecodeError>
+    ensures path { IfOk result (λ v. v.items ≡ steps_inside (state_view reader.now) number) }
+    ensures memory { IfErr result (λ e. e ≡ Memory) }
+{
+    let mut path = frame_steps(alloc, &reader.frames)?;
+    let occurrence = reader.scope.occurrences.count(number);
+    path.push(PathStep { number, occurrence })?;
+    Ok(path)
+}
+
+/// The steps to where a reader stands.
+fn path_here(alloc: Global, reader: &Reader) -> Result<Vec<PathStep>, DecodeError>
+    ensures path { IfOk result (λ v. v.items ≡ steps_here (state_view reader.now)) }
+    ensures memory { IfErr result (λ e. e ≡ Memory) }
+{
+    match begun_number(reader.step) {
+        None => {
+            let path = frame_steps(alloc, &reader.frames)?;
+            Ok(path)
+        }
+        Some(number) => {
+            let path = path_inside(alloc, reader, number)?;
+            Ok(path)
+        }
+    }
+}
+
+/// The fault of what stands here.
+pub(crate) fn fault_at(alloc: Global, reader: &Reader, byte: u32, cause: Cause) -> DecodeError
+    ensures { IfFault result (λ f. f ≡ fault_of byte (steps_here (state_view reader.now)) cause) }
+{
+    match path_here(alloc, reader) {
+        Ok(path) => DecodeError::Fault {
+            byte: u64::from(byte),
+            path,
+            cause,
+        },
+        Err(_) => DecodeError::Memory,
+    }
+}
+
+/// The fault of the record of a number that comes next.
+pub(crate) fn fault_inside(
+    alloc: Global,
+    reader: &Reader,
+    number: u32,
+    byte: u32,
+    cause: Cause,
+) -> DecodeError
+    ensures { IfFault result (λ f. f ≡ fault_of byte (steps_inside (state_view reader.now) number) cause) }
+{
+    match path_inside(alloc, reader, number) {
+        Ok(path) => DecodeError::Fault {
+            byte: u64::from(byte),
+            path,
+            cause,
+        },
+        Err(_) => DecodeError::Memory,
+    }
+}
+
+/// The fault that there are more bytes than the limit allows.
+pub(crate) fn too_large(alloc: Global, most: u32) -> DecodeError
+    ensures { IfFault result (λ f. f ≡ fault_of most [] InputTooLarge) }
+{
+    DecodeError::Fault {
+        byte: u64::from(most),
+        path: Vec::new(alloc),
+        cause: Cause::InputTooLarge,
+    }
+}

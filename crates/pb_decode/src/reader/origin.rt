@@ -1,0 +1,166 @@
+//! A reader from where it begins to the end of its message.
+
+ghost use Rattle.std.specs.Prelude.{◌≡◌, true, false, ◌+◌, ◌<◌, ◌≤◌, ◌^◌, ℕ, List, [], length, None, OnOk, OnErr, IfOk, IfErr};
+ghost use Rattle.pb_wire.specs.Record.{Record};
+ghost use Rattle.pb_schema.specs.Types.{Types};
+ghost use Rattle.pb_schema.specs.Rules.{IsPool};
+ghost use Rattle.pb_value.specs.Data.{Message};
+ghost use Rattle.pb_value.specs.Value.{value};
+ghost use Rattle.pb_value.specs.View.{body_view};
+ghost use Rattle.pb_value.specs.WellFormed.{IsWellFormed};
+ghost use Rattle.pb_decode.specs.Open.Frames.{message_part};
+ghost use Rattle.pb_decode.specs.Open.PartView.{part_view};
+ghost use Rattle.pb_decode.specs.Reader.{state_view, IfFault};
+ghost use Rattle.pb_decode.specs.Reader.Waiting.{Waits};
+ghost use Rattle.pb_decode.specs.Reader.Origin.{Origin, origin, further, IsOverAt, IsWhole, BadFrom, ToldFrom};
+ghost use Rattle.pb_decode.specs.Reader.Pieces.{received, ReadFrom};
+
+use crate::error::DecodeError;
+use crate::open::occurrences::Occurrences;
+use crate::open::part::{Part, Scope};
+use crate::push::{Reading, cut_short, take_piece};
+use crate::reader::state::{Reader, left};
+use crate::tokens::step::Step;
+use pb_schema::{MessageId, Pool};
+use pb_value::{Body, DynamicMessage, empty_body};
+use pb_wire::Limits;
+use std::alloc::Global;
+
+/// Where no byte is taken yet: what comes goes onto a message that has this body, with so many levels left, up to the known
+/// end if there is one.
+pub(crate) fn begin_at(
+    alloc: Global,
+    kind: MessageId,
+    body: Body,
+    room: u8,
+    end: Option<u32>,
+) -> Reading
+    requires { room ≤ 100 }
+    ensures at { (result.reader.at ≡ 0) × (length result.held.items ≡ 0) }
+    ensures waits { end ≡ None → Waits (state_view result.reader) result.held.items }
+    ensures took { (pool : Types) (base : List Record) → kind.0 < length pool.messages → IsWellFormed pool kind.0 (body_view body)
+        → body_view body ≡ value pool kind.0 base → ReadFrom pool (origin kind.0 room base end) result }
+{
+    let occurrences = Occurrences::new(alloc);
+    let frames = Vec::new(alloc);
+    let held = Vec::new(alloc);
+    Reading {
+        reader: Reader {
+            at: 0,
+            part: Part::Message(kind, body),
+            scope: Scope {
+                room,
+                end,
+                occurrences,
+            },
+            frames,
+            step: Step::Tag,
+        },
+        held,
+    }
+}
+
+/// Where no byte is taken yet of a message that is empty so far, up to the known end if there is one.
+pub(crate) fn begin_empty(
+    alloc: Global,
+    pool: &Pool,
+    kind: MessageId,
+    limits: Limits,
+    end: Option<u32>,
+) -> Reading
+    requires { kind.0 < length pool.now.messages }
+    ensures at { (result.reader.at ≡ 0) × (length result.held.items ≡ 0) }
+    ensures waits { end ≡ None → Waits (state_view result.reader) result.held.items }
+    ensures took { ReadFrom pool.now (origin kind.0 limits.depth [] end) result }
+{
+    let room = limits.max_depth();
+    begin_at(alloc, kind, empty_body(alloc), room, end)
+}
+
+/// Takes a piece behind the bytes that are held.
+pub(crate) fn take_onward(
+    alloc: Global,
+    pool: &Pool,
+    reading: &mut Reading,
+    piece: &[u8],
+) -> Result<(), DecodeError>
+    requires rules { IsPool pool.now }
+    requires took { (o : Origin) × ReadFrom pool.now o reading.old }
+    requires small { received reading.old + length piece.now < 2 ^ 31 }
+    ensures at { OnOk result (received reading.new ≡ received reading.old + length piece.now) }
+    ensures took { (o : Origin) → ReadFrom pool.now o reading.old → OnOk result (ReadFrom pool.now (further o piece.now) reading.new) }
+    ensures fault { (o : Origin) → ReadFrom pool.now o reading.old → IfErr result (λ e. IfFault e (ToldFrom pool.now (further o piece.now))) }
+{
+    take_piece(alloc, pool, reading, piece)
+}
+
+/// Says that nothing is open but the message, and that it ends here: at its known end, or if none is known with the bytes.
+fn is_over(reading: &Reading) -> bool
+    ensures over { result ≡ true → IsOverAt (state_view reading.now.reader) reading.now.held.items }
+    ensures goes_on { result ≡ false → IsOverAt (state_view reading.now.reader) reading.now.held.items → ⊥ }
+{
+    let ends = match left(&reading.reader) {
+        None => reading.held.is_empty(),
+        Some(left) => left == 0,
+    };
+    match reading.reader.step {
+        Step::Tag => reading.reader.frames.is_empty() && ends,
+        Step::Varint(_, _) => false,
+        Step::I64(_, _) => false,
+        Step::I32(_, _) => false,
+        Step::Length(_, _) => false,
+        Step::Payload(_, _, _) => false,
+        Step::Elements(_, _, _) => false,
+    }
+}
+
+/// The body of a part that is a message.
+fn body_of(part: Part) -> Result<Body, DecodeError>
+    ensures message { IfOk result (λ body. (k : ℕ) × (part_view part ≡ message_part k (body_view body))) }
+    ensures other { OnErr result ((k : ℕ) (v : Message) → part_view part ≡ message_part k v → ⊥) }
+{
+    match part {
+        Part::Message(_, body) => Ok(body),
+        Part::Entry {
+            key_kind: _,
+            value_kind: _,
+            key: _,
+            value: _,
+        } => Err(DecodeError::Finished),
+        Part::Group(_) => Err(DecodeError::Finished),
+    }
+}
+
+/// The body of the message that is read, or the fault that it is cut short.
+fn whole_body(alloc: Global, pool: &Pool, reading: Reading) -> Result<Body, DecodeError>
+    requires rules { IsPool pool.now }
+    requires took { (o : Origin) × ReadFrom pool.now o reading }
+    requires small { received reading < 2 ^ 31 }
+    ensures well_formed { (o : Origin) → ReadFrom pool.now o reading → IfOk result (λ v. IsWellFormed pool.now o.kind (body_view v)) }
+    ensures whole { (o : Origin) → ReadFrom pool.now o reading → IfOk result (λ v. IsWhole pool.now o (body_view v)) }
+    ensures fault { (o : Origin) → ReadFrom pool.now o reading → IfErr result (λ e. IfFault e (BadFrom pool.now o)) }
+{
+    if !is_over(&reading) {
+        return Err(cut_short(alloc, &reading));
+    }
+    body_of(reading.reader.part)
+}
+
+/// The message that is read, or the fault that it is cut short.
+pub(crate) fn finish_message<'p>(
+    alloc: Global,
+    pool: &'p Pool,
+    kind: MessageId,
+    reading: Reading,
+) -> Result<DynamicMessage<'p>, DecodeError>
+    requires rules { IsPool pool.now }
+    requires within { kind.0 < length pool.now.messages }
+    requires took { (o : Origin) × (o.kind ≡ kind.0) × ReadFrom pool.now o reading }
+    requires small { received reading < 2 ^ 31 }
+    ensures of_type { IfOk result (λ m. (m.pool ≡ pool.now) × (m.kind ≡ kind.0)) }
+    ensures whole { (o : Origin) → ReadFrom pool.now o reading → IfOk result (λ m. IsWhole pool.now o m.body) }
+    ensures fault { (o : Origin) → ReadFrom pool.now o reading → IfErr result (λ e. IfFault e (BadFrom pool.now o)) }
+{
+    let body = whole_body(alloc, pool, reading)?;
+    Ok(DynamicMessage::from_well_formed(alloc, pool, kind, body))
+}

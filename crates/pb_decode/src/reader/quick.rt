@@ -1,0 +1,107 @@
+//! What stands whole in the bytes is taken where the reader stands: records, elements of packed lists, and the tags and lengths
+//! that open or end messages, entries, lists and groups.
+
+ghost use Rattle.std.specs.Prelude.{◌≡◌, ◌+◌, ◌*◌, ◌≤◌, ◌<◌, length, OnOk, IfOk, IfErr, IfSome, IfNone};
+ghost use Rattle.pb_schema.specs.Rules.{IsPool};
+ghost use Rattle.pb_decode.specs.declared.tokens.step.Step.TheVariants.{Elements};
+ghost use Rattle.pb_decode.specs.declared.error.DecodeError.TheVariants.{Memory};
+ghost use Rattle.pb_decode.specs.Open.KnownPurpose.{IsKnown};
+ghost use Rattle.pb_decode.specs.Close.Ended.{NothingEnds};
+ghost use Rattle.pb_decode.specs.Reader.{state_view, weight, IsReading};
+ghost use Rattle.pb_decode.specs.Reader.Steps.{TellsFault, TakesWhole, TakesMany};
+
+use crate::close::take_ended::take_ended;
+use crate::error::DecodeError;
+use crate::open::known_purpose::KnownPurpose;
+use crate::reader::quick_record::take_record;
+use crate::reader::state::{Reader, left};
+use crate::tokens::step::Step;
+use crate::values::put_elements::put_elements;
+use crate::values::run::read_run;
+use pb_schema::{Kind, Pool};
+use std::alloc::Global;
+
+/// Takes the elements that stand whole at the front of the bytes, if there are any, and how many bytes they take.
+fn take_run(
+    alloc: Global,
+    pool: &Pool,
+    reader: &mut Reader,
+    number: u32,
+    kind: Kind,
+    outer: Option<u32>,
+    bytes: &[u8],
+) -> Result<Option<usize>, DecodeError>
+    requires rules { IsPool pool.now }
+    requires reading { IsReading pool.now (state_view reader.old) bytes.now }
+    requires step { reader.old.step ≡ Elements number kind outer }
+    ensures passes { IfOk result (λ o. IfSome o (λ n. (0 < n) × (n ≤ length bytes.now) × (reader.new.at ≡ reader.old.at + n))) }
+    ensures none { IfOk result (λ o. IfNone o (reader.new ≡ reader.old)) }
+    ensures taken { TakesWhole pool.now reader.old reader.new bytes.now result }
+    ensures memory { IfErr result (λ e. e ≡ Memory) }
+{
+    let (values, size) = read_run(alloc, pool, kind, bytes, left(reader))?;
+    if size == 0 {
+        return Ok(None);
+    }
+    put_elements(alloc, &mut reader.part, number, values)?;
+    reader.at += size as u32;
+    Ok(Some(size))
+}
+
+/// Takes what stands whole at the front of the bytes, a record or what opens one, the end of a group, or an element, and how
+/// many bytes it takes.
+fn take_whole(
+    alloc: Global,
+    pool: &Pool,
+    reader: &mut Reader,
+    known: &mut Option<KnownPurpose>,
+    bytes: &[u8],
+) -> Result<Option<usize>, DecodeError>
+    requires rules { IsPool pool.now }
+    requires reading { IsReading pool.now (state_view reader.old) bytes.now }
+    requires known { IsKnown pool.now known.old }
+    ensures passes { IfOk result (λ o. IfSome o (λ n. (0 < n) × (n ≤ length bytes.now) × (reader.new.at ≡ reader.old.at + n))) }
+    ensures none { IfOk result (λ o. IfNone o (reader.new ≡ reader.old)) }
+    ensures taken { TakesWhole pool.now reader.old reader.new bytes.now result }
+    ensures memory { IfErr result (λ e. e ≡ Memory) }
+    ensures known { IsKnown pool.now known.new }
+{
+    match reader.step {
+        Step::Tag => take_record(alloc, pool, reader, known, bytes),
+        Step::Elements(number, kind, outer) => {
+            take_run(alloc, pool, reader, number, kind, outer, bytes)
+        }
+        Step::Varint(_, _) => Ok(None),
+        Step::I64(_, _) => Ok(None),
+        Step::I32(_, _) => Ok(None),
+        Step::Length(_, _) => Ok(None),
+        Step::Payload(_, _, _) => Ok(None),
+    }
+}
+
+/// Takes all that stands whole at the front of the bytes, one behind another, and how many bytes that are. What ends there is
+/// closed, and a byte that is refused stays where it is.
+pub(crate) fn quick(
+    alloc: Global,
+    pool: &Pool,
+    reader: &mut Reader,
+    bytes: &[u8],
+) -> Result<usize, DecodeError>
+    requires rules { IsPool pool.now }
+    requires reading { IsReading pool.now (state_view reader.old) bytes.now }
+    ensures passes { IfOk result (λ n. (n ≤ length bytes.now) × (reader.new.at ≡ reader.old.at + n)
+        × (weight reader.new.step ≤ 2 * n + weight reader.old.step)) }
+    ensures goes_on { OnOk result (NothingEnds (state_view reader.new)) }
+    ensures taken { TakesMany pool.now reader.old reader.new bytes.now result }
+    ensures refused { TellsFault pool.now reader.old bytes.now result }
+{
+    let mut here = 0;
+    let mut known = None;
+    loop {
+        take_ended(alloc, pool, reader)?;
+        let Some(size) = take_whole(alloc, pool, reader, &mut known, &bytes[here..])? else {
+            return Ok(here);
+        };
+        here += size;
+    }
+}

@@ -1,0 +1,297 @@
+//! Records of numbers and of bytes, taken whole, and what opens or ends messages, entries, lists and groups.
+
+ghost use Rattle.std.specs.Prelude.{◌≡◌, ◌⊎◌, ◌+◌, ◌≤◌, ◌<◌, ◌^◌, true, length, IfOk, IfErr, IfSome, IfNone};
+ghost use Rattle.pb_schema.specs.Rules.{IsPool};
+ghost use Rattle.pb_decode.specs.declared.tokens.step.Step.TheVariants.{Tag};
+ghost use Rattle.pb_decode.specs.declared.error.DecodeError.TheVariants.{Memory};
+ghost use Rattle.pb_decode.specs.Open.PartView.{part_view};
+ghost use Rattle.pb_decode.specs.Open.Purposes.{Means, part_context};
+ghost use Rattle.pb_decode.specs.Open.KnownPurpose.{IsKnown};
+ghost use Rattle.pb_decode.specs.Values.PayloadValue.{IsBytesPurpose};
+ghost use Rattle.pb_decode.specs.Reader.{state_view, IsReading};
+ghost use Rattle.pb_decode.specs.Reader.Steps.{HasTagHere, TakesWhole, TellsLengthBehind};
+
+use crate::close::put::count_one;
+use crate::error::DecodeError;
+use crate::open::known_purpose::{KnownPurpose, purpose_by};
+use crate::open::pass_length::pass_length;
+use crate::open::purpose::{Purpose, purpose_of};
+use crate::reader::state::{Reader, left, number_at};
+use crate::reader::take_tag::{enter_group, innermost, leave_group};
+use crate::tokens::front::front_number;
+use crate::tokens::number_token::NumberToken;
+use crate::tokens::record_tag::{RecordTag, left_behind, record_tag};
+use crate::tokens::tag::{group_end, payload_size};
+use crate::tokens::tag_step::has_room;
+use crate::values::payload_value::PayloadError;
+use crate::values::put_number::put_number;
+use crate::values::put_payload::put_payload;
+use pb_schema::Pool;
+use std::alloc::Global;
+
+/// Takes the record of a number, behind whose tag the number stands whole, and how many bytes the record takes.
+fn take_number_record(
+    alloc: Global,
+    pool: &Pool,
+    reader: &mut Reader,
+    tag: RecordTag,
+    known: &mut Option<KnownPurpose>,
+    bytes: &[u8],
+) -> Result<Option<usize>, DecodeError>
+    requires rules { IsPool pool.now }
+    requires reading { IsReading pool.now (state_view reader.old) bytes.now }
+    requires step { reader.old.step ≡ Tag }
+    requires number { (tag.wire_type ≡ 0) ⊎ (tag.wire_type ≡ 1) ⊎ (tag.wire_type ≡ 5) }
+    requires within { tag.size ≤ length bytes.now }
+    requires tag { HasTagHere (state_view reader.old) bytes.now tag.number tag.wire_type tag.size }
+    requires known { IsKnown pool.now known.old }
+    ensures passes { IfOk result (λ o. IfSome o (λ n. (tag.size ≤ n) × (n ≤ length bytes.now) × (reader.new.at ≡ reader.old.at + n))) }
+    ensures none { IfOk result (λ o. IfNone o (reader.new ≡ reader.old)) }
+    ensures taken { TakesWhole pool.now reader.old reader.new bytes.now result }
+    ensures memory { IfErr result (λ e. e ≡ Memory) }
+    ensures known { IsKnown pool.now known.new }
+{
+    let behind = left_behind(left(reader), tag.size);
+    match number_at(tag.wire_type, &bytes[tag.size..], behind) {
+        NumberToken::Whole(value, size) => {
+            let purpose = purpose_by(pool, &reader.part, tag.number, tag.wire_type, known);
+            put_number(alloc, pool, &mut reader.part, tag.number, purpose, value)?;
+            count_one(&mut reader.scope, tag.number)?;
+            let used = tag.size + size;
+            reader.at += used as u32;
+            Ok(Some(used))
+        }
+        NumberToken::Short => Ok(None),
+        NumberToken::Fault(_) => Ok(None),
+    }
+}
+
+/// Says that a record of a purpose has its payload's bytes for its value, or is unknown.
+fn is_for_bytes(purpose: Purpose) -> bool
+    ensures { result ≡ true → IsBytesPurpose purpose }
+{
+    match purpose {
+        Purpose::One(_, _) => true,
+        Purpose::Element(_) => true,
+        Purpose::Key(_) => true,
+        Purpose::EntryValue(_) => true,
+        Purpose::Unknown => true,
+        Purpose::Packed(_) => false,
+        Purpose::Message(_, _) => false,
+        Purpose::Entry(_, _) => false,
+    }
+}
+
+/// Where the payload of a record begins whose tag takes so many bytes, and its size.
+fn length_behind(reader: &Reader, tag_size: usize, bytes: &[u8]) -> Option<(usize, u32)>
+    requires within { tag_size ≤ length bytes.now }
+    requires small { reader.now.at + length bytes.now < 2 ^ 31 }
+    ensures within { IfSome result (λ t. (tag_size ≤ t.0) × (t.0 ≤ length bytes.now) × (t.1 < 2 ^ 31)) }
+    ensures whole { TellsLengthBehind reader.now tag_size bytes.now result }
+{
+    let behind = left_behind(left(reader), tag_size);
+    let Ok(Some((length, used))) = front_number(&bytes[tag_size..], behind) else {
+        return None;
+    };
+    let start = tag_size + used;
+    match payload_size(length, reader.at + start as u32, reader.scope.end) {
+        Ok(size) => Some((start, size)),
+        Err(_) => None,
+    }
+}
+
+/// Takes the record of bytes, behind whose tag its payload stands whole, and how many bytes the record takes.
+fn take_bytes_record(
+    alloc: Global,
+    pool: &Pool,
+    reader: &mut Reader,
+    tag: RecordTag,
+    purpose: Purpose,
+    bytes: &[u8],
+) -> Result<Option<usize>, DecodeError>
+    requires rules { IsPool pool.now }
+    requires reading { IsReading pool.now (state_view reader.old) bytes.now }
+    requires step { reader.old.step ≡ Tag }
+    requires bytes { tag.wire_type ≡ 2 }
+    requires within { tag.size ≤ length bytes.now }
+    requires tag { HasTagHere (state_view reader.old) bytes.now tag.number tag.wire_type tag.size }
+    requires means { Means pool.now (part_context (part_view reader.old.part)) tag.number 2 purpose }
+    requires purpose { IsBytesPurpose purpose }
+    ensures passes { IfOk result (λ o. IfSome o (λ n. (tag.size ≤ n) × (n ≤ length bytes.now) × (reader.new.at ≡ reader.old.at + n))) }
+    ensures none { IfOk result (λ o. IfNone o (reader.new ≡ reader.old)) }
+    ensures taken { TakesWhole pool.now reader.old reader.new bytes.now result }
+    ensures memory { IfErr result (λ e. e ≡ Memory) }
+{
+    let Some((start, size)) = length_behind(reader, tag.size, bytes) else {
+        return Ok(None);
+    };
+    let size = size as usize;
+    if bytes.len() - start < size {
+        return Ok(None);
+    }
+    let end = start + size;
+    let payload = &bytes[start..end];
+    match put_payload(alloc, pool, &mut reader.part, tag.number, purpose, payload) {
+        Ok(()) => {
+            count_one(&mut reader.scope, tag.number)?;
+            reader.at += end as u32;
+            Ok(Some(end))
+        }
+        Err(PayloadError::BadText(_)) => Ok(None),
+        Err(PayloadError::Memory) => Err(DecodeError::Memory),
+    }
+}
+
+/// Opens the message, the entry or the packed list of a record, where a level is left for it, and how many bytes its tag and
+/// its length take.
+fn take_opening(
+    alloc: Global,
+    pool: &Pool,
+    reader: &mut Reader,
+    tag: RecordTag,
+    purpose: Purpose,
+    bytes: &[u8],
+) -> Result<Option<usize>, DecodeError>
+    requires rules { IsPool pool.now }
+    requires reading { IsReading pool.now (state_view reader.old) bytes.now }
+    requires step { reader.old.step ≡ Tag }
+    requires bytes { tag.wire_type ≡ 2 }
+    requires within { tag.size ≤ length bytes.now }
+    requires tag { HasTagHere (state_view reader.old) bytes.now tag.number tag.wire_type tag.size }
+    requires means { Means pool.now (part_context (part_view reader.old.part)) tag.number 2 purpose }
+    ensures passes { IfOk result (λ o. IfSome o (λ n. (tag.size ≤ n) × (n ≤ length bytes.now) × (reader.new.at ≡ reader.old.at + n))) }
+    ensures none { IfOk result (λ o. IfNone o (reader.new ≡ reader.old)) }
+    ensures taken { TakesWhole pool.now reader.old reader.new bytes.now result }
+    ensures memory { IfErr result (λ e. e ≡ Memory) }
+{
+    if !has_room(reader.scope.room, purpose) {
+        return Ok(None);
+    }
+    let Some((start, size)) = length_behind(reader, tag.size, bytes) else {
+        return Ok(None);
+    };
+    let begin = reader.at + start as u32;
+    pass_length(alloc, reader, tag.number, purpose, begin, size)?;
+    Ok(Some(start))
+}
+
+/// Takes the record of a length if its bytes are its value and stand whole behind its tag, or opens what it opens, and how many
+/// bytes that takes.
+fn take_length_record(
+    alloc: Global,
+    pool: &Pool,
+    reader: &mut Reader,
+    tag: RecordTag,
+    known: &mut Option<KnownPurpose>,
+    bytes: &[u8],
+) -> Result<Option<usize>, DecodeError>
+    requires rules { IsPool pool.now }
+    requires reading { IsReading pool.now (state_view reader.old) bytes.now }
+    requires step { reader.old.step ≡ Tag }
+    requires bytes { tag.wire_type ≡ 2 }
+    requires within { tag.size ≤ length bytes.now }
+    requires tag { HasTagHere (state_view reader.old) bytes.now tag.number tag.wire_type tag.size }
+    requires known { IsKnown pool.now known.old }
+    ensures passes { IfOk result (λ o. IfSome o (λ n. (tag.size ≤ n) × (n ≤ length bytes.now) × (reader.new.at ≡ reader.old.at + n))) }
+    ensures none { IfOk result (λ o. IfNone o (reader.new ≡ reader.old)) }
+    ensures taken { TakesWhole pool.now reader.old reader.new bytes.now result }
+    ensures memory { IfErr result (λ e. e ≡ Memory) }
+    ensures known { IsKnown pool.now known.new }
+{
+    let purpose = purpose_by(pool, &reader.part, tag.number, 2, known);
+    if is_for_bytes(purpose) {
+        take_bytes_record(alloc, pool, reader, tag, purpose, bytes)
+    } else {
+        take_opening(alloc, pool, reader, tag, purpose, bytes)
+    }
+}
+
+/// Opens the group whose first tag is there, where a level is left for it.
+fn take_group_start(
+    alloc: Global,
+    pool: &Pool,
+    reader: &mut Reader,
+    tag: RecordTag,
+    bytes: &[u8],
+) -> Result<Option<usize>, DecodeError>
+    requires rules { IsPool pool.now }
+    requires reading { IsReading pool.now (state_view reader.old) bytes.now }
+    requires step { reader.old.step ≡ Tag }
+    requires start { tag.wire_type ≡ 3 }
+    requires within { tag.size ≤ length bytes.now }
+    requires tag { HasTagHere (state_view reader.old) bytes.now tag.number tag.wire_type tag.size }
+    ensures passes { IfOk result (λ o. IfSome o (λ n. (n ≡ tag.size) × (reader.new.at ≡ reader.old.at + n))) }
+    ensures none { IfOk result (λ o. IfNone o (reader.new ≡ reader.old)) }
+    ensures taken { TakesWhole pool.now reader.old reader.new bytes.now result }
+    ensures memory { IfErr result (λ e. e ≡ Memory) }
+{
+    if reader.scope.room == 0 {
+        return Ok(None);
+    }
+    let meant = purpose_of(pool, &reader.part, tag.number, tag.wire_type);
+    enter_group(alloc, reader, tag.number, meant, tag.size)?;
+    Ok(Some(tag.size))
+}
+
+/// Closes the group whose last tag is there, if it is the innermost one.
+fn take_group_end(
+    alloc: Global,
+    pool: &Pool,
+    reader: &mut Reader,
+    tag: RecordTag,
+    bytes: &[u8],
+) -> Result<Option<usize>, DecodeError>
+    requires rules { IsPool pool.now }
+    requires reading { IsReading pool.now (state_view reader.old) bytes.now }
+    requires step { reader.old.step ≡ Tag }
+    requires end { tag.wire_type ≡ 4 }
+    requires within { tag.size ≤ length bytes.now }
+    requires tag { HasTagHere (state_view reader.old) bytes.now tag.number tag.wire_type tag.size }
+    ensures passes { IfOk result (λ o. IfSome o (λ n. (n ≡ tag.size) × (reader.new.at ≡ reader.old.at + n))) }
+    ensures none { IfOk result (λ o. IfNone o (reader.new ≡ reader.old)) }
+    ensures taken { TakesWhole pool.now reader.old reader.new bytes.now result }
+    ensures memory { IfErr result (λ e. e ≡ Memory) }
+{
+    match group_end(innermost(&reader.frames), tag.number) {
+        Ok(()) => {
+            leave_group(alloc, pool, reader, tag.size)?;
+            Ok(Some(tag.size))
+        }
+        Err(_) => Ok(None),
+    }
+}
+
+/// Takes the record at the front of the bytes, if it is one of a number or of bytes and stands whole there, or opens or closes
+/// what its tag and its length open or close, and how many bytes that takes.
+pub(crate) fn take_record(
+    alloc: Global,
+    pool: &Pool,
+    reader: &mut Reader,
+    known: &mut Option<KnownPurpose>,
+    bytes: &[u8],
+) -> Result<Option<usize>, DecodeError>
+    requires rules { IsPool pool.now }
+    requires reading { IsReading pool.now (state_view reader.old) bytes.now }
+    requires step { reader.old.step ≡ Tag }
+    requires known { IsKnown pool.now known.old }
+    ensures passes { IfOk result (λ o. IfSome o (λ n. (0 < n) × (n ≤ length bytes.now) × (reader.new.at ≡ reader.old.at + n))) }
+    ensures none { IfOk result (λ o. IfNone o (reader.new ≡ reader.old)) }
+    ensures taken { TakesWhole pool.now reader.old reader.new bytes.now result }
+    ensures memory { IfErr result (λ e. e ≡ Memory) }
+    ensures known { IsKnown pool.now known.new }
+{
+    let Some(tag) = record_tag(bytes, left(reader)) else {
+        return Ok(None);
+    };
+    if tag.wire_type == 2 {
+        take_length_record(alloc, pool, reader, tag, known, bytes)
+    } else if tag.wire_type == 0 || tag.wire_type == 1 || tag.wire_type == 5 {
+        take_number_record(alloc, pool, reader, tag, known, bytes)
+    } else if tag.wire_type == 3 {
+        take_group_start(alloc, pool, reader, tag, bytes)
+    } else if tag.wire_type == 4 {
+        take_group_end(alloc, pool, reader, tag, bytes)
+    } else {
+        Ok(None)
+    }
+}

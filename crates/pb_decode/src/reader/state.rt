@@ -1,0 +1,143 @@
+//! A reader of a message: a stack of what is open, and what comes next.
+
+ghost use Rattle.std.specs.Prelude.{◌≡◌, ◌⊎◌, ◌+◌, ◌-◌, ◌<◌, ◌≤◌, ◌^◌, ℕ, Some, drop, length, OnOk, IfOk, IfErr, IfNone};
+ghost use Rattle.pb_wire.specs.Token.{given_at};
+ghost use Rattle.pb_schema.specs.Rules.{IsPool};
+ghost use Rattle.pb_decode.specs.declared.tokens.step.Step.TheVariants.{Tag};
+ghost use Rattle.pb_decode.specs.declared.error.DecodeError.TheVariants.{Memory};
+ghost use Rattle.pb_decode.specs.Open.Frames.{CanHold};
+ghost use Rattle.pb_decode.specs.Tokens.Numbers.{TellsNumber};
+ghost use Rattle.pb_decode.specs.Open.Occurrences.{counts_view};
+ghost use Rattle.pb_decode.specs.Open.PartView.{part_view};
+ghost use Rattle.pb_decode.specs.Tokens.After.{tag, awaited};
+ghost use Rattle.pb_decode.specs.Reader.{state_view, left_of, IsReading, Passes};
+ghost use Rattle.pb_decode.specs.Reader.Waiting.{Waits};
+ghost use Rattle.pb_decode.specs.Reader.Steps.{TellsFault, TakesNext, TakesAll, StandsBehindNumber};
+
+use crate::close::put::count_one;
+use crate::error::DecodeError;
+use crate::open::part::{Frame, Part, Scope};
+use crate::open::purpose::Purpose;
+use crate::reader::fault::fault_at;
+use crate::reader::take_next::take_next;
+use crate::tokens::number::Number;
+use crate::tokens::number_token::{
+    NumberToken, eight_byte_number, four_byte_number, varint_number,
+};
+use crate::tokens::step::Step;
+use crate::values::put_number::put_number;
+use pb_schema::Pool;
+use pb_wire::Cause;
+use std::alloc::Global;
+
+/// What a decoder keeps between the bytes that it takes.
+#[derive(Drop)]
+pub(crate) struct Reader {
+    /// How many bytes are taken.
+    pub at: u32,
+    /// What there is of the innermost part.
+    pub part: Part,
+    pub scope: Scope,
+    /// The parts around it, outermost first.
+    pub frames: Vec<Frame>,
+    pub step: Step,
+}
+
+/// How many bytes stand before the known end of the innermost part.
+pub(crate) fn left(reader: &Reader) -> Option<u32>
+    ensures { result ≡ left_of (state_view reader.now) }
+{
+    reader.scope.end.map(|end| end.saturating_sub(reader.at))
+}
+
+/// The number of a wire type at the front of some bytes, with so many bytes before the known end.
+pub(crate) fn number_at(wire_type: u8, bytes: &[u8], left: Option<u32>) -> NumberToken
+    requires { (wire_type ≡ 0) ⊎ (wire_type ≡ 1) ⊎ (wire_type ≡ 5) }
+    ensures { (at : ℕ) → TellsNumber wire_type (given_at at left bytes.now) result }
+{
+    if wire_type == 0 {
+        varint_number(bytes, left)
+    } else if wire_type == 1 {
+        eight_byte_number(bytes, left)
+    } else {
+        four_byte_number(bytes, left)
+    }
+}
+
+/// Puts a number of so many bytes into the part that its record stands in, behind which the reader then stands.
+fn pass_number(
+    alloc: Global,
+    pool: &Pool,
+    reader: &mut Reader,
+    number: u32,
+    purpose: Purpose,
+    value: Number,
+    size: usize,
+) -> Result<(), DecodeError>
+    requires rules { IsPool pool.now }
+    requires can { CanHold pool.now (part_view reader.old.part) }
+    requires few { counts_view reader.old.scope.occurrences number < 2 ^ 32 - 1 }
+    requires fits { reader.old.at + size < 2 ^ 32 }
+    ensures at { OnOk result ((reader.new.at ≡ reader.old.at + size) × (reader.new.step ≡ Tag)) }
+    ensures same_end { OnOk result (reader.new.scope.end ≡ reader.old.scope.end) }
+    ensures stands { StandsBehindNumber pool.now reader.old reader.new number purpose value result }
+    ensures memory { IfErr result (λ e. e ≡ Memory) }
+{
+    put_number(alloc, pool, &mut reader.part, number, purpose, value)?;
+    count_one(&mut reader.scope, number)?;
+    reader.at += size as u32;
+    reader.step = Step::Tag;
+    Ok(())
+}
+
+/// Takes the number of a record.
+pub(crate) fn take_number(
+    alloc: Global,
+    pool: &Pool,
+    reader: &mut Reader,
+    number: u32,
+    wire_type: u8,
+    purpose: Purpose,
+    bytes: &[u8],
+) -> Result<Option<usize>, DecodeError>
+    requires rules { IsPool pool.now }
+    requires reading { IsReading pool.now (state_view reader.old) bytes.now }
+    requires number { (wire_type ≡ 0) ⊎ (wire_type ≡ 1) ⊎ (wire_type ≡ 5) }
+    requires step { awaited reader.old.step ≡ Some (tag number wire_type purpose) }
+    ensures passes { IfOk result (λ o. Passes (state_view reader.old) bytes.now (state_view reader.new) o) }
+    ensures taken { TakesNext pool.now reader.old reader.new bytes.now result }
+    ensures waits { IfOk result (λ o. IfNone o (Waits (state_view reader.new) bytes.now)) }
+    ensures refused { TellsFault pool.now reader.old bytes.now result }
+{
+    match number_at(wire_type, bytes, left(reader)) {
+        NumberToken::Whole(value, size) => {
+            pass_number(alloc, pool, reader, number, purpose, value, size)?;
+            Ok(Some(size))
+        }
+        NumberToken::Short => Ok(None),
+        NumberToken::Fault(cause) => Err(fault_at(alloc, reader, reader.at, cause)),
+    }
+}
+
+/// Takes all that stands whole at the front of the bytes, and how many bytes that are.
+pub(crate) fn take_all(
+    alloc: Global,
+    pool: &Pool,
+    reader: &mut Reader,
+    bytes: &[u8],
+) -> Result<usize, DecodeError>
+    requires rules { IsPool pool.now }
+    requires reading { IsReading pool.now (state_view reader.old) bytes.now }
+    ensures passes { IfOk result (λ n. (n ≤ length bytes.now) × (reader.new.at ≡ reader.old.at + n)) }
+    ensures taken { TakesAll pool.now reader.old reader.new bytes.now result }
+    ensures waits { IfOk result (λ n. Waits (state_view reader.new) (drop n bytes.now)) }
+    ensures refused { TellsFault pool.now reader.old bytes.now result }
+{
+    let mut here = 0;
+    loop {
+        let Some(size) = take_next(alloc, pool, reader, &bytes[here..])? else {
+            return Ok(here);
+        };
+        here += size;
+    }
+}

@@ -1,0 +1,75 @@
+//! The next step of a reader.
+
+ghost use Rattle.std.specs.Prelude.{IfOk, IfNone};
+ghost use Rattle.pb_schema.specs.Rules.{IsPool};
+ghost use Rattle.pb_decode.specs.Reader.{state_view, IsReading, Passes};
+ghost use Rattle.pb_decode.specs.Reader.Waiting.{Waits};
+ghost use Rattle.pb_decode.specs.Close.Ended.{NothingEnds};
+ghost use Rattle.pb_decode.specs.Reader.Steps.{TellsFault, TakesNext};
+
+use crate::error::DecodeError;
+use crate::open::take_length::take_length;
+use crate::reader::quick::quick;
+use crate::reader::state::{Reader, take_number};
+use crate::reader::take_payload::take_payload;
+use crate::reader::take_tag::take_tag;
+use crate::tokens::step::Step;
+use crate::values::element::take_element;
+use pb_schema::Pool;
+use std::alloc::Global;
+
+/// Takes what comes next, where nothing ends before it.
+fn take_open(
+    alloc: Global,
+    pool: &Pool,
+    reader: &mut Reader,
+    bytes: &[u8],
+) -> Result<Option<usize>, DecodeError>
+    requires rules { IsPool pool.now }
+    requires reading { IsReading pool.now (state_view reader.old) bytes.now }
+    requires goes_on { NothingEnds (state_view reader.old) }
+    ensures passes { IfOk result (λ o. Passes (state_view reader.old) bytes.now (state_view reader.new) o) }
+    ensures taken { TakesNext pool.now reader.old reader.new bytes.now result }
+    ensures waits { IfOk result (λ o. IfNone o (Waits (state_view reader.new) bytes.now)) }
+    ensures refused { TellsFault pool.now reader.old bytes.now result }
+{
+    match reader.step {
+        Step::Tag => take_tag(alloc, pool, reader, bytes),
+        Step::Varint(number, purpose) => take_number(
+            alloc, pool, reader, number, 0, purpose, bytes,
+        ),
+        Step::I64(number, purpose) => take_number(alloc, pool, reader, number, 1, purpose, bytes),
+        Step::I32(number, purpose) => take_number(alloc, pool, reader, number, 5, purpose, bytes),
+        Step::Length(number, purpose) => take_length(alloc, pool, reader, number, purpose, bytes),
+        Step::Payload(number, purpose, size) => {
+            take_payload(alloc, pool, reader, number, purpose, size, bytes)
+        }
+        Step::Elements(number, kind, outer) => {
+            take_element(alloc, pool, reader, number, kind, outer, bytes)
+        }
+    }
+}
+
+/// Takes what comes next at the front of the bytes: what stands whole there, and how many bytes that are. There is none
+/// where the bytes end too early, or with the message. All records and elements that stand whole one behind another are
+/// taken at once, and what ends is closed.
+pub(crate) fn take_next(
+    alloc: Global,
+    pool: &Pool,
+    reader: &mut Reader,
+    bytes: &[u8],
+) -> Result<Option<usize>, DecodeError>
+    requires rules { IsPool pool.now }
+    requires reading { IsReading pool.now (state_view reader.old) bytes.now }
+    ensures passes { IfOk result (λ o. Passes (state_view reader.old) bytes.now (state_view reader.new) o) }
+    ensures taken { TakesNext pool.now reader.old reader.new bytes.now result }
+    ensures waits { IfOk result (λ o. IfNone o (Waits (state_view reader.new) bytes.now)) }
+    ensures refused { TellsFault pool.now reader.old bytes.now result }
+{
+    let ahead = quick(alloc, pool, reader, bytes)?;
+    match take_open(alloc, pool, reader, &bytes[ahead..])? {
+        Some(size) => Ok(Some(ahead + size)),
+        None if ahead > 0 => Ok(Some(ahead)),
+        None => Ok(None),
+    }
+}

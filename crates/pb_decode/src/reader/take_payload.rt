@@ -1,0 +1,85 @@
+//! Whole payloads of bytes.
+
+ghost use Rattle.std.specs.Prelude.{◌≡◌, ◌+◌, ◌-◌, ◌<◌, ◌^◌, length, OnOk, IfOk, IfNone};
+ghost use Rattle.pb_schema.specs.Rules.{IsPool};
+ghost use Rattle.pb_decode.specs.declared.tokens.step.Step.TheVariants.{Tag, Payload};
+ghost use Rattle.pb_decode.specs.Open.Frames.{CanHold};
+ghost use Rattle.pb_decode.specs.Open.Occurrences.{counts_view};
+ghost use Rattle.pb_decode.specs.Open.PartView.{part_view};
+ghost use Rattle.pb_decode.specs.Values.PayloadValue.{IsBytesPurpose};
+ghost use Rattle.pb_decode.specs.Reader.{state_view, IsReading, Passes};
+ghost use Rattle.pb_decode.specs.Reader.Waiting.{Waits};
+ghost use Rattle.pb_decode.specs.Reader.Steps.{TellsFault, TakesNext, StandsBehindPayload, TellsPayloadFault};
+
+use crate::close::put::count_one;
+use crate::error::DecodeError;
+use crate::open::purpose::Purpose;
+use crate::reader::fault::fault_at;
+use crate::reader::state::Reader;
+use crate::tokens::step::Step;
+use crate::values::payload_value::PayloadError;
+use crate::values::put_payload::put_payload;
+use pb_schema::Pool;
+use pb_wire::Cause;
+use std::alloc::Global;
+
+/// Puts a whole payload into the part that its record stands in, behind which the reader then stands.
+fn pass_payload(
+    alloc: Global,
+    pool: &Pool,
+    reader: &mut Reader,
+    number: u32,
+    purpose: Purpose,
+    bytes: &[u8],
+) -> Result<(), DecodeError>
+    requires rules { IsPool pool.now }
+    requires can { CanHold pool.now (part_view reader.old.part) }
+    requires purpose { IsBytesPurpose purpose }
+    requires step { reader.old.step ≡ Payload number purpose (length bytes.now) }
+    requires few { counts_view reader.old.scope.occurrences number < 2 ^ 32 - 1 }
+    requires fits { reader.old.at + length bytes.now < 2 ^ 32 }
+    ensures at { OnOk result ((reader.new.at ≡ reader.old.at + length bytes.now) × (reader.new.step ≡ Tag)) }
+    ensures same_end { OnOk result (reader.new.scope.end ≡ reader.old.scope.end) }
+    ensures stands { StandsBehindPayload pool.now reader.old reader.new bytes.now result }
+    ensures refused { TellsPayloadFault pool.now reader.old bytes.now result }
+{
+    match put_payload(alloc, pool, &mut reader.part, number, purpose, bytes) {
+        Ok(()) => {
+            count_one(&mut reader.scope, number)?;
+            reader.at += bytes.len() as u32;
+            reader.step = Step::Tag;
+            Ok(())
+        }
+        Err(PayloadError::BadText(valid)) => {
+            let byte = reader.at + valid as u32;
+            Err(fault_at(alloc, reader, byte, Cause::BadText))
+        }
+        Err(PayloadError::Memory) => Err(DecodeError::Memory),
+    }
+}
+
+/// Takes the payload of a record, of so many bytes.
+pub(crate) fn take_payload(
+    alloc: Global,
+    pool: &Pool,
+    reader: &mut Reader,
+    number: u32,
+    purpose: Purpose,
+    size: u32,
+    bytes: &[u8],
+) -> Result<Option<usize>, DecodeError>
+    requires rules { IsPool pool.now }
+    requires reading { IsReading pool.now (state_view reader.old) bytes.now }
+    requires step { reader.old.step ≡ Payload number purpose size }
+    ensures passes { IfOk result (λ o. Passes (state_view reader.old) bytes.now (state_view reader.new) o) }
+    ensures taken { TakesNext pool.now reader.old reader.new bytes.now result }
+    ensures waits { IfOk result (λ o. IfNone o (Waits (state_view reader.new) bytes.now)) }
+    ensures refused { TellsFault pool.now reader.old bytes.now result }
+{
+    let wanted = size as usize;
+    if bytes.len() < wanted {
+        return Ok(None);
+    }
+    pass_payload(alloc, pool, reader, number, purpose, &bytes[..wanted])?;
+    Ok(Some(wanted))
+}

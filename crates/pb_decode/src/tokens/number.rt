@@ -1,0 +1,58 @@
+//! Numbers of the wire as values.
+
+ghost use Rattle.std.specs.Prelude.{◌≡◌, option_map};
+ghost use Rattle.pb_wire.specs.Record.{varint};
+ghost use Rattle.pb_schema.specs.Kinds.{read};
+ghost use Rattle.pb_value.specs.Data.{scalar};
+ghost use Rattle.pb_value.specs.View.{value_view};
+ghost use Rattle.pb_decode.specs.Tokens.Number.{number_view};
+
+use pb_schema::Kind;
+use pb_schema::scalars::low_half;
+use pb_value::Value;
+use pb_wire::{unzigzag32, unzigzag64};
+
+/// What stands behind the tag of a number.
+#[derive(Clone, Copy)]
+pub(crate) enum Number {
+    Varint(u64),
+    I64(u64),
+    I32(u32),
+}
+
+/// The value of a kind that a number stands for. There is none where the number is of another wire type.
+pub(crate) fn number_value(kind: Kind, number: Number) -> Option<Value>
+    ensures { option_map value_view result ≡ option_map scalar (read kind (number_view number)) }
+{
+    match number {
+        Number::Varint(n) => varint_value(kind, n),
+        Number::I64(n) => match kind {
+            Kind::Fixed64 => Some(Value::U64(n)),
+            Kind::Sfixed64 => Some(Value::I64(n.cast_signed())),
+            Kind::Double => Some(Value::F64(n)),
+            _ => None,
+        },
+        Number::I32(n) => match kind {
+            Kind::Fixed32 => Some(Value::U32(n)),
+            Kind::Sfixed32 => Some(Value::I32(n.cast_signed())),
+            Kind::Float => Some(Value::F32(n)),
+            _ => None,
+        },
+    }
+}
+
+fn varint_value(kind: Kind, n: u64) -> Option<Value>
+    ensures { option_map value_view result ≡ option_map scalar (read kind (varint n)) }
+{
+    match kind {
+        Kind::Int32 => Some(Value::I32(low_half(n).cast_signed())),
+        Kind::Int64 => Some(Value::I64(n.cast_signed())),
+        Kind::Uint32 => Some(Value::U32(low_half(n))),
+        Kind::Uint64 => Some(Value::U64(n)),
+        Kind::Sint32 => Some(Value::I32(unzigzag32(low_half(n)))),
+        Kind::Sint64 => Some(Value::I64(unzigzag64(n))),
+        Kind::Bool => Some(Value::Bool(n != 0)),
+        Kind::Enum(_) | Kind::ClosedEnum(_) => Some(Value::Enum(low_half(n).cast_signed())),
+        _ => None,
+    }
+}

@@ -1,8 +1,0 @@
-use Rattle.std.proofs.Common.{◌≡◌, ◌++◌, map, take}
-use Rattle.pb_decl.specs.View.{enum_view, numbered_view}
-use Rattle.pb_link.specs.Declarations.{values_of}
-use Rattle.pb_link.specs.View.{declaration_view}
-use Rattle.pb_link.proofs.declared.add_values.Given as goal
-
-abbrev pub invariant-loop-index : goal.invariant-loop-index
-invariant-loop-index l = map declaration_view l.row.items ≡ map declaration_view l.initial.row.items ++ values_of l.file l.parent l.scope (enum_view l.entry) (map numbered_view (take l.index l.values))

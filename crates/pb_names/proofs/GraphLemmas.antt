@@ -1,0 +1,207 @@
+-- Imports as graphs: what they lead to are files, and what is reached along them is seen.
+use Rattle.std.proofs.Common.{◌≡◌, ℕ, zero, suc, ◌+◌, ◌<◌, ◌≤◌, ◌↔◌, ◌⊎◌, inl, inr, ⊎_elim, List, [], ◌∷◌, ◌++◌, map, take, length, get_or, Bool, true, false, ◌==◌, refl, sym, ap, ◌∙◌, subst, arith, IsTrue, Contains, Option, Some, None, cond, Vec, Global}
+use Rattle.std.specs.Prelude.{ℤ, pos, negsuc, filter_map, option_and_then, option_to_list, slice_get}
+use Rattle.std.specs.List.{AllByRecursion, cons_option, position_from}
+use Rattle.std.specs.Cmp.{unsigned_Decides}
+use Rattle.std.specs.Str.{bytes_eq}
+use Rattle.std.proofs.lemmas.Option.{none-some}
+use Rattle.std.proofs.lemmas.List.{length-map, take_more, take_all, map-append}
+use Rattle.std.proofs.lemmas.List.Elements.{filter_map-append}
+use Rattle.pb_schema.specs.Types.{FileView}
+use Rattle.pb_schema.specs.Imports.{imports_of, Reaches, directly, further}
+use Rattle.pb_decl.specs.Decls.{DeclaredFile}
+use Rattle.pb_decl.specs.View.{file_view}
+use Rattle.pb_decl.specs.declared.decl.FileDecl.{FileDecl}
+use Rattle.pb_names.specs.Sees.{file_named, import_at, file_of, files_of, public_file_of, public_files_of, Sees, itself, imported, onward}
+use Rattle.pb_names.specs.Reach.{graph_of, next_of, Reached, begun, further as led, IsGraph, is_marked}
+use Rattle.pb_names.specs.Graphs.{target_at, AreImports, LeadToFiles, KnowsSight, sees_by, is_file}
+use Rattle.pb_names.specs.declared.imports.Imports.{Imports}
+use Rattle.pb_names.specs.declared.sight.Sight.{Sight}
+use Rattle.pb_names.proofs.AnyLemmas.{or_cases, or_first, or_second, same_test}
+use Rattle.pb_names.proofs.FirstsLemmas.{position_from-first}
+
+some_same : {A : Type 0} (a b : A) → Some a ≡ Some b → a ≡ b
+some_same a b h = cc
+
+-- LISTS THAT GROW
+as_list : {Y : Type 0} (o : Option Y) → cons_option o [] ≡ option_to_list o
+as_list None = refl
+as_list (Some y) = refl
+
+pub filter_more : {X Y : Type 0} (h : X → Option Y) (xs : List X) (i : ℕ) (x : X) → i < length xs → x ≡ get_or xs i x → filter_map h (take (i + 1) xs) ≡ filter_map h (take i xs) ++ option_to_list (h x)
+filter_more h xs i x less is =
+    ap (filter_map h) (take_more xs i x less ∙ ap (λ z. take i xs ++ z ∷ []) (sym is)) ∙ filter_map-append h (take i xs) (x ∷ []) ∙ ap (λ l. filter_map h (take i xs) ++ l) (as_list (h x))
+
+pub public_more : (targets : List (Option ℕ)) (zs : List ℤ) (i : ℕ) (z : ℤ) (old new : List ℕ) (r : Option ℕ) → i < length zs → z ≡ get_or zs i z → r ≡ target_at targets z → old ≡ filter_map (target_at targets) (take i zs) → new ≡ old ++ option_to_list r → new ≡ filter_map (target_at targets) (take (i + 1) zs)
+public_more targets zs i z old new r less is at was now =
+    now ∙ ap (λ l. l ++ option_to_list r) was ∙ ap (λ o. filter_map (target_at targets) (take i zs) ++ option_to_list o) at ∙ sym (filter_more (target_at targets) zs i z less is)
+
+taken : {X : Type 0} (xs : List X) (i : ℕ) → i < length xs → (x : X) × (x ≡ get_or xs i x) × (slice_get xs i ≡ Some x)
+taken [] i less = absurd (omega (arith, less))
+taken (x ∷ xs) zero less = (x, refl, refl)
+taken (x ∷ xs) (suc i) less = taken xs i (omega (arith, less))
+
+pub all_more : (targets : List (Option ℕ)) (i : ℕ) (old new : List ℕ) (r : Option ℕ) → i < length targets → r ≡ option_and_then (λ (o : Option ℕ). o) (slice_get targets i) → old ≡ filter_map (λ (o : Option ℕ). o) (take i targets) → new ≡ old ++ option_to_list r → new ≡ filter_map (λ (o : Option ℕ). o) (take (i + 1) targets)
+all_more targets i old new r less at was now =
+    let here = taken targets i less in
+    now ∙ ap (λ l. l ++ option_to_list r) was ∙ ap (λ o. filter_map (λ (p : Option ℕ). p) (take i targets) ++ option_to_list o) (at ∙ ap (option_and_then (λ (p : Option ℕ). p)) here.2) ∙ sym (filter_more (λ (p : Option ℕ). p) targets i here.0 less here.1)
+
+pub map_more : {X Y : Type 0} (g : X → Y) (xs : List X) (i : ℕ) (x : X) → i < length xs → x ≡ get_or xs i x → map g (take (i + 1) xs) ≡ map g (take i xs) ++ g x ∷ []
+map_more g xs i x less is = ap (map g) (take_more xs i x less ∙ ap (λ z. take i xs ++ z ∷ []) (sym is)) ∙ map-append g (take i xs) (x ∷ [])
+
+pub lists_more : {X : Type 0} (g : X → List ℕ) (xs : List X) (i : ℕ) (x : X) (vs : List (Vec ℕ Global)) (v : Vec ℕ Global) → i < length xs → x ≡ get_or xs i x → graph_of vs ≡ map g (take i xs) → v.items ≡ g x → graph_of (vs ++ v ∷ []) ≡ map g (take (i + 1) xs)
+lists_more g xs i x vs v less is was new =
+    map-append (λ (u : Vec ℕ Global). u.items) vs (v ∷ []) ∙ ap (λ l. l ++ v.items ∷ []) was ∙ ap (λ l. map g (take i xs) ++ l ∷ []) new ∙ sym (map_more g xs i x less is)
+
+pub map_twice : {X Y Z : Type 0} (f : Y → Z) (g : X → Y) (xs : List X) → map f (map g xs) ≡ map (λ x. f (g x)) xs
+map_twice f g [] = refl
+map_twice f g (x ∷ xs) = ap (λ l. f (g x) ∷ l) (map_twice f g xs)
+
+-- TARGETS: what each import names
+filter_alike : {X Y : Type 0} (g h : X → Option Y) → ((x : X) → g x ≡ h x) → (xs : List X) → filter_map g xs ≡ filter_map h xs
+filter_alike g h same [] = refl
+filter_alike g h same (x ∷ xs) = ap (λ o. cons_option o (filter_map g xs)) (same x) ∙ ap (cons_option (h x)) (filter_alike g h same xs)
+
+pub all_targets : (t u : List ℕ → Option ℕ) → ((name : List ℕ) → t name ≡ u name) → (names : List (List ℕ)) → filter_map (λ (o : Option ℕ). o) (map t names) ≡ filter_map u names
+all_targets t u same [] = refl
+all_targets t u same (n ∷ ns) = ap (λ o. cons_option o (filter_map (λ (o : Option ℕ). o) (map t ns))) (same n) ∙ ap (cons_option (u n)) (all_targets t u same ns)
+
+at_import : (t u : List ℕ → Option ℕ) → ((name : List ℕ) → t name ≡ u name) → (names : List (List ℕ)) (i : ℕ) → option_and_then (λ (o : Option ℕ). o) (slice_get (map t names) i) ≡ option_and_then u (slice_get names i)
+at_import t u same [] i = refl
+at_import t u same (n ∷ ns) zero = same n
+at_import t u same (n ∷ ns) (suc i) = at_import t u same ns i
+
+pub public_targets : (t u : List ℕ → Option ℕ) → ((name : List ℕ) → t name ≡ u name) → (f : DeclaredFile) (zs : List ℤ) → filter_map (target_at (map t f.imports)) zs ≡ filter_map (λ z. option_and_then u (import_at f z)) zs
+public_targets t u same f zs = filter_alike (target_at (map t f.imports)) (λ z. option_and_then u (import_at f z)) each zs
+  where
+    each : (z : ℤ) → target_at (map t f.imports) z ≡ option_and_then u (import_at f z)
+    each (pos i) = at_import t u same f.imports i
+    each (negsuc i) = refl
+
+-- WHAT IS IMPORTED ARE FILES
+less_step : (n i j : ℕ) (b : Bool) (rest : Option ℕ) → (rest ≡ Some j → j < n + 1 + i) → cond b (Some n) rest ≡ Some j → j < n + suc i
+less_step n i j true rest within h = subst (λ k. k < n + suc i) (some_same n j h) (omega arith)
+less_step n i j false rest within h = omega (arith, within h)
+
+position_less : {X : Type 0} (t : X → Bool) (n : ℕ) (xs : List X) (j : ℕ) → position_from t n xs ≡ Some j → j < n + length xs
+position_less t n [] j h = absurd (none-some j h)
+position_less t n (x ∷ xs) j h = less_step n (length xs) j (t x) (position_from t (n + 1) xs) (position_less t (n + 1) xs j) h
+
+named_within : (files : List DeclaredFile) (name : List ℕ) (j : ℕ) → file_named files name ≡ Some j → j < length files
+named_within files name j h = omega (arith, position_less (λ f. bytes_eq name f.name) 0 files j (position_from-first (λ (f : DeclaredFile). bytes_eq name f.name) files ∙ h))
+
+and_then_within : (files : List DeclaredFile) (o : Option (List ℕ)) (j : ℕ) → option_and_then (file_named files) o ≡ Some j → j < length files
+and_then_within files None j h = absurd (none-some j h)
+and_then_within files (Some name) j h = named_within files name j h
+
+all_cons : (P : ℕ → Type 0) (o : Option ℕ) (ys : List ℕ) → ((y : ℕ) → o ≡ Some y → P y) → AllByRecursion P ys → AllByRecursion P (cons_option o ys)
+all_cons P None ys each all = all
+all_cons P (Some y) ys each all = (each y refl, all)
+
+all_filtered : {X : Type 0} (P : ℕ → Type 0) (h : X → Option ℕ) (xs : List X) → ((x : X) (y : ℕ) → h x ≡ Some y → P y) → AllByRecursion P (filter_map h xs)
+all_filtered P h [] each = tt
+all_filtered P h (x ∷ xs) each = all_cons P (h x) (filter_map h xs) (each x) (all_filtered P h xs each)
+
+all_lists : {X : Type 0} (P : ℕ → Type 0) (g : X → FileView) (xs : List X) → ((x : X) → AllByRecursion P (g x).imports) → AllByRecursion (AllByRecursion P) (map (λ (f : FileView). f.imports) (map g xs))
+all_lists P g [] each = tt
+all_lists P g (x ∷ xs) each = (each x, all_lists P g xs each)
+
+size_of : {X : Type 0} (g : X → FileView) (xs : List X) → length (map (λ (f : FileView). f.imports) (map g xs)) ≡ length xs
+size_of g [] = refl
+size_of g (x ∷ xs) = ap suc (size_of g xs)
+
+graph_all : (files : List DeclaredFile) → IsGraph (map (λ (f : FileView). f.imports) (files_of files))
+graph_all files = all_lists (λ j. j < length (map (λ (f : FileView). f.imports) (files_of files))) (file_of files) files (λ f. all_filtered (λ j. j < length (map (λ (g : FileView). g.imports) (files_of files))) (file_named files) f.imports (λ name j h. subst (λ n. j < n) (sym (size_of (file_of files) files)) (named_within files name j h)))
+
+graph_public : (files : List DeclaredFile) → IsGraph (map (λ (f : FileView). f.imports) (public_files_of files))
+graph_public files = all_lists (λ j. j < length (map (λ (f : FileView). f.imports) (public_files_of files))) (public_file_of files) files (λ f. all_filtered (λ j. j < length (map (λ (g : FileView). g.imports) (public_files_of files))) (λ z. option_and_then (file_named files) (import_at f z)) f.public_indexes (λ z j h. subst (λ n. j < n) (sym (size_of (public_file_of files) files)) (and_then_within files (import_at f z) j h)))
+
+pub lead_to_files : (files : List DeclaredFile) (m : Imports) → AreImports files m → LeadToFiles m
+lead_to_files files m are = record {
+  size = omega (arith, m.public.ok.0, m.all.ok.0, sizes m.public.items (public_file_of files) are.public, sizes m.all.items (file_of files) are.all);
+  all = subst IsGraph (sym are.all) (graph_all files);
+  public = subst IsGraph (sym are.public) (graph_public files);
+}
+  where
+    sizes : (vs : List (Vec ℕ Global)) (g : DeclaredFile → FileView) → graph_of vs ≡ map (λ (f : FileView). f.imports) (map g files) → length vs ≡ length files
+    sizes vs g e = sym (length-map vs (λ (v : Vec ℕ Global). v.items)) ∙ ap length e ∙ size_of g files
+
+-- all files' imports
+abbrev pub imports_in : List FileDecl → FileDecl → List ℕ
+imports_in files f = (file_of (map file_view files) (file_view f)).imports
+
+abbrev pub public_in : List FileDecl → FileDecl → List ℕ
+public_in files f = (public_file_of (map file_view files) (file_view f)).imports
+
+pub imports_whole : (files : List FileDecl) (i : ℕ) (m : Imports) → length files ≤ i → graph_of m.all.items ≡ map (imports_in files) (take i files) → graph_of m.public.items ≡ map (public_in files) (take i files) → AreImports (map file_view files) m
+imports_whole files i m past all public = record {
+  all = all ∙ ap (map (imports_in files)) (take_all i files past) ∙ sym (map_twice (λ (f : DeclaredFile). (file_of (map file_view files) f).imports) file_view files) ∙ sym (map_twice (λ (f : FileView). f.imports) (file_of (map file_view files)) (map file_view files));
+  public = public ∙ ap (map (public_in files)) (take_all i files past) ∙ sym (map_twice (λ (f : DeclaredFile). (public_file_of (map file_view files) f).imports) file_view files) ∙ sym (map_twice (λ (f : FileView). f.imports) (public_file_of (map file_view files)) (map file_view files));
+}
+
+-- WHAT IS SEEN
+next_files : (fs : List FileView) (i : ℕ) → next_of (map (λ (f : FileView). f.imports) fs) i ≡ imports_of fs i
+next_files [] i = refl
+next_files (f ∷ fs) zero = refl
+next_files (f ∷ fs) (suc i) = next_files fs i
+
+reaches_from : (fs : List FileView) (i j : ℕ) → Reached (map (λ (f : FileView). f.imports) fs) (imports_of fs i) j → Reaches fs i j
+reaches_from fs i j (begun among) = directly among
+reaches_from fs i j (led {k} way among) = further (reaches_from fs i k way) (subst (λ l. Contains l j) (next_files fs k) among)
+
+reached_by : (fs : List FileView) (i j : ℕ) → Reaches fs i j → Reached (map (λ (f : FileView). f.imports) fs) (imports_of fs i) j
+reached_by fs i j (directly among) = begun among
+reached_by fs i j (further {k} way among) = led (reached_by fs i k way) (subst (λ l. Contains l j) (sym (next_files fs k)) among)
+
+-- along public imports from where an import leads
+abbrev IsOnward : List DeclaredFile → ℕ → ℕ → Type 0
+IsOnward files i j = Contains (imports_of (files_of files) i) j ⊎ ((k : ℕ) × Contains (imports_of (files_of files) i) k × Reaches (public_files_of files) k j)
+
+onward_seen : (files : List DeclaredFile) (i j : ℕ) → IsOnward files i j → Sees files i j
+onward_seen files i j (inl among) = imported among
+onward_seen files i j (inr far) = onward far.1 far.2
+
+one_more : (files : List DeclaredFile) (i k j : ℕ) → IsOnward files i k → Contains (imports_of (public_files_of files) k) j → IsOnward files i j
+one_more files i k j (inl among) at = inr (k, among, directly at)
+one_more files i k j (inr far) at = inr (far.0, far.1, further far.2 at)
+
+onward_from : (files : List DeclaredFile) (i j : ℕ) → Reached (map (λ (f : FileView). f.imports) (public_files_of files)) (imports_of (files_of files) i) j → IsOnward files i j
+onward_from files i j (begun among) = inl among
+onward_from files i j (led {k} way among) = one_more files i k j (onward_from files i k way) (subst (λ l. Contains l j) (next_files (public_files_of files) k) among)
+
+led_by : (files : List DeclaredFile) (i k j : ℕ) → Contains (imports_of (files_of files) i) k → Reaches (public_files_of files) k j → Reached (map (λ (f : FileView). f.imports) (public_files_of files)) (imports_of (files_of files) i) j
+led_by files i k j among (directly at) = led (begun among) (subst (λ l. Contains l j) (sym (next_files (public_files_of files) k)) at)
+led_by files i k j among (further {k = m} way at) = led (led_by files i k m among way) (subst (λ l. Contains l j) (sym (next_files (public_files_of files) m)) at)
+
+-- the file, or what its imports lead to
+seen_cases : (files : List DeclaredFile) (i j : ℕ) → Sees files i j → (i ≡ j) ⊎ Reached (map (λ (f : FileView). f.imports) (public_files_of files)) (imports_of (files_of files) i) j
+seen_cases files i j itself = inl refl
+seen_cases files i j (imported among) = inr (begun among)
+seen_cases files i j (onward {k = k} among way) = inr (led_by files i k j among way)
+
+marked_reached : (files : List DeclaredFile) (m : Imports) (i j : ℕ) → AreImports files m → Reached (graph_of m.public.items) (next_of (graph_of m.all.items) i) j → Reached (map (λ (f : FileView). f.imports) (public_files_of files)) (imports_of (files_of files) i) j
+marked_reached files m i j are h =
+    subst (λ starts. Reached (map (λ (f : FileView). f.imports) (public_files_of files)) starts j) (ap (λ g. next_of g i) are.all ∙ next_files (files_of files) i) (subst (λ g. Reached g (next_of (graph_of m.all.items) i) j) are.public h)
+
+reached_marked : (files : List DeclaredFile) (m : Imports) (i j : ℕ) → AreImports files m → Reached (map (λ (f : FileView). f.imports) (public_files_of files)) (imports_of (files_of files) i) j → Reached (graph_of m.public.items) (next_of (graph_of m.all.items) i) j
+reached_marked files m i j are h =
+    subst (λ g. Reached g (next_of (graph_of m.all.items) i) j) (sym are.public) (subst (λ starts. Reached (map (λ (f : FileView). f.imports) (public_files_of files)) starts j) (sym (ap (λ g. next_of g i) are.all ∙ next_files (files_of files) i)) h)
+
+pub sees_exact : (files : List DeclaredFile) (m : Imports) (s : Sight) (i j : ℕ) → AreImports files m → KnowsSight m s → s.file ≡ Some i → IsTrue (sees_by s j) ↔ Sees files i j
+sees_exact files m s i j are knows at = (
+  λ h. ⊎_elim (λ own. subst (Sees files i) ((unsigned_Decides i j).0 (sym (own_file at) ∙ own)) itself) (λ far. onward_seen files i j (onward_from files i j (marked_reached files m i j are ((knows.exact i at j).0 far)))) (or_cases (is_file s.file j) (is_marked s.reach j) h),
+  λ seen. ⊎_elim (λ own. or_first (is_file s.file j) (is_marked s.reach j) (own_file at ∙ (unsigned_Decides i j).1 own)) (λ far. or_second (is_file s.file j) (is_marked s.reach j) ((knows.exact i at j).1 (reached_marked files m i j are far))) (seen_cases files i j seen),
+)
+  where
+    own_file : s.file ≡ Some i → is_file s.file j ≡ (i == j)
+    own_file e = ap (λ o. is_file o j) e
+
+-- what it sees is what any sight of the files tells
+pub sees_same : (files : List DeclaredFile) (m : Imports) (s : Sight) (i : ℕ) (sees : ℕ → ℕ → Bool) → AreImports files m → KnowsSight m s → s.file ≡ Some i → ((k j : ℕ) → IsTrue (sees k j) ↔ Sees files k j) → sees_by s ≡ sees i
+sees_same files m s i sees are knows at exact = λ p. λ j. same_test (sees_by s j) (sees i j) (λ h. (exact i j).1 ((sees_exact files m s i j are knows at).0 h)) (λ h. (sees_exact files m s i j are knows at).1 ((exact i j).0 h)) p
+
+pub cyclic_reaches : (files : List DeclaredFile) (m : Imports) (i : ℕ) → AreImports files m → Reached (graph_of m.all.items) (next_of (graph_of m.all.items) i) i ↔ Reaches (files_of files) i i
+cyclic_reaches files m i are = (
+  λ way. reaches_from (files_of files) i i (subst (λ starts. Reached (map (λ (f : FileView). f.imports) (files_of files)) starts i) (ap (λ g. next_of g i) are.all ∙ next_files (files_of files) i) (subst (λ g. Reached g (next_of (graph_of m.all.items) i) i) are.all way)),
+  λ way. subst (λ g. Reached g (next_of (graph_of m.all.items) i) i) (sym are.all) (subst (λ starts. Reached (map (λ (f : FileView). f.imports) (files_of files)) starts i) (sym (ap (λ g. next_of g i) are.all ∙ next_files (files_of files) i)) (reached_by (files_of files) i i way)),
+)

@@ -1,0 +1,37 @@
+-- Imports of files as graphs over their indexes.
+use Rattle.std.specs.Prelude.{◌≡◌, ◌↔◌, ℕ, ℤ, pos, negsuc, List, map, Bool, false, ◌==◌, ◌||◌, Option, Some, None, IsTrue, option_and_then, slice_get, vec_len}
+use Rattle.pb_decl.specs.Decls.{DeclaredFile}
+use Rattle.pb_names.specs.Sees.{files_of, public_files_of}
+use Rattle.pb_names.specs.Reach.{graph_of, next_of, Reached, IsGraph, is_marked, IsListed}
+use Rattle.pb_names.specs.declared.imports.Imports.{Imports}
+use Rattle.pb_names.specs.declared.sight.Sight.{Sight}
+
+-- the file that an import at an index names, by what each import names
+abbrev pub target_at : List (Option ℕ) → ℤ → Option ℕ
+target_at targets (pos i) = option_and_then (λ o. o) (slice_get targets i)
+target_at targets (negsuc i) = None
+
+-- the imports of these files, and which of them are public
+pub record AreImports (files : List DeclaredFile) (m : Imports) : Type 0 where
+  pub all : graph_of m.all.items ≡ map (λ f. f.imports) (files_of files)
+  pub public : graph_of m.public.items ≡ map (λ f. f.imports) (public_files_of files)
+
+-- what is imported are files
+pub record LeadToFiles (m : Imports) : Type 0 where
+  pub size : vec_len m.public ≡ vec_len m.all
+  pub all : IsGraph (graph_of m.all.items)
+  pub public : IsGraph (graph_of m.public.items)
+
+abbrev pub is_file : Option ℕ → ℕ → Bool
+is_file None j = false
+is_file (Some i) j = i == j
+
+-- the file that was looked at last sees this one
+abbrev pub sees_by : Sight → ℕ → Bool
+sees_by s j = is_file s.file j || is_marked s.reach j
+
+-- the bits are those of the file that was looked at last
+pub record KnowsSight (m : Imports) (s : Sight) : Type 0 where
+  pub size : vec_len s.reach.bits ≡ vec_len m.all
+  pub listed : IsListed s.reach
+  pub exact : (i : ℕ) → s.file ≡ Some i → (j : ℕ) → IsTrue (is_marked s.reach j) ↔ Reached (graph_of m.public.items) (next_of (graph_of m.all.items) i) j

@@ -1,0 +1,132 @@
+//! Which files each file imports, by their indexes.
+
+ghost use Rattle.std.specs.Prelude.{◌≡◌, ◌++◌, ℕ, List, map, string_bytes, filter_map, option_and_then, option_to_list, slice_get, IfOk, OnOk};
+ghost use Rattle.pb_decl.specs.Decls.{DeclaredFile};
+ghost use Rattle.pb_decl.specs.View.{file_view};
+ghost use Rattle.pb_names.specs.Sees.{file_named, file_of, public_file_of};
+ghost use Rattle.pb_names.specs.Firsts.{first_at};
+ghost use Rattle.pb_names.specs.Graphs.{target_at, AreImports, LeadToFiles};
+
+use crate::firsts::Firsts;
+use pb_decl::FileDecl;
+use std::alloc::{AllocError, Global};
+
+/// The imports of each file, and those that are public. An import whose file is not there is left out.
+#[derive(Drop)]
+pub struct Imports {
+    pub all: Vec<Vec<usize>>,
+    pub public: Vec<Vec<usize>>,
+}
+
+/// The first file of each name.
+pub(crate) fn files_by_name(alloc: Global, files: &[FileDecl]) -> Result<Firsts, AllocError>
+    ensures { IfOk result (λ t. (name : List ℕ) → first_at t name ≡ file_named (map file_view files.now) name) }
+{
+    let mut firsts = Firsts::new(alloc);
+    let mut index = files.len();
+    while index > 0 {
+        index -= 1;
+        firsts.put(alloc, files[index].name.as_str().as_bytes(), index)?;
+    }
+    Ok(firsts)
+}
+
+/// The file that each import names.
+fn targets(
+    alloc: Global,
+    firsts: &Firsts,
+    names: &[String],
+) -> Result<Vec<Option<usize>>, AllocError>
+    ensures { IfOk result (λ v. v.items ≡ map (first_at firsts.now) (map string_bytes names.now)) }
+{
+    let mut targets: Vec<Option<usize>> = Vec::new(alloc);
+    for name in names {
+        targets.push(firsts.get(name.as_str().as_bytes()))?;
+    }
+    Ok(targets)
+}
+
+fn push_target(indexes: &mut Vec<usize>, target: Option<usize>) -> Result<(), AllocError>
+    ensures { OnOk result (indexes.new.items ≡ indexes.old.items ++ option_to_list target) }
+{
+    let Some(index) = target else {
+        return Ok(());
+    };
+    indexes.push(index)?;
+    Ok(())
+}
+
+fn target_of(targets: &[Option<usize>], index: usize) -> Option<usize>
+    ensures { result ≡ option_and_then (λ o. o) (slice_get targets.now index) }
+{
+    match targets.get(index) {
+        Some(target) => *target,
+        None => None,
+    }
+}
+
+fn all_of(alloc: Global, targets: &[Option<usize>]) -> Result<Vec<usize>, AllocError>
+    ensures { IfOk result (λ v. v.items ≡ filter_map (λ o. o) targets.now) }
+{
+    let mut indexes: Vec<usize> = Vec::new(alloc);
+    for index in 0..targets.len() {
+        push_target(&mut indexes, target_of(targets, index))?;
+    }
+    Ok(indexes)
+}
+
+fn target_at(targets: &[Option<usize>], at: i32) -> Option<usize>
+    ensures { result ≡ target_at targets.now at }
+{
+    if at < 0 {
+        return None;
+    }
+    target_of(targets, at as usize)
+}
+
+fn public_of(
+    alloc: Global,
+    targets: &[Option<usize>],
+    public: &[i32],
+) -> Result<Vec<usize>, AllocError>
+    ensures { IfOk result (λ v. v.items ≡ filter_map (target_at targets.now) public.now) }
+{
+    let mut indexes: Vec<usize> = Vec::new(alloc);
+    for at in public {
+        push_target(&mut indexes, target_at(targets, *at))?;
+    }
+    Ok(indexes)
+}
+
+/// The imports of a file, and the public ones.
+fn imports_of(
+    alloc: Global,
+    firsts: &Firsts,
+    file: &FileDecl,
+) -> Result<(Vec<usize>, Vec<usize>), AllocError>
+    ensures { (files : List DeclaredFile) → ((name : List ℕ) → first_at firsts.now name ≡ file_named files name)
+        → IfOk result (λ r. (r.0.items ≡ (file_of files (file_view file.now)).imports) × (r.1.items ≡ (public_file_of files (file_view file.now)).imports)) }
+{
+    let targets = targets(alloc, firsts, &file.imports)?;
+    let all = all_of(alloc, &targets)?;
+    let public = public_of(alloc, &targets, &file.public)?;
+    Ok((all, public))
+}
+
+impl Imports {
+    /// The imports of these files, all and those that are public.
+    pub fn new(alloc: Global, files: &[FileDecl]) -> Result<Imports, AllocError>
+        ensures exact { IfOk result (AreImports (map file_view files.now)) }
+        ensures lead { IfOk result LeadToFiles }
+    {
+        let firsts = files_by_name(alloc, files)?;
+        let mut all = Vec::new(alloc);
+        let mut public = Vec::new(alloc);
+        for file in files {
+            let (near, onward) = imports_of(alloc, &firsts, file)?;
+            all.push(near)?;
+            public.push(onward)?;
+        }
+        Ok(Imports { all, public })
+    }
+}

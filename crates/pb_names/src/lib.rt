@@ -1,0 +1,21 @@
+//! What names mean: all that files declare in one row, what files see of each other, and which declaration a name is.
+//!
+//! An inner crate: `pb_rules` and `pb_link` stand on it.
+#![tactic(auto)]
+
+pub mod components;
+pub mod declaration;
+pub mod declared;
+pub mod firsts;
+pub mod found;
+pub mod imports;
+pub mod item;
+pub mod marks;
+pub mod name_set;
+pub mod packages;
+pub mod places;
+pub mod reach;
+pub mod scene;
+mod scopes;
+pub mod sight;
+pub mod type_refs;

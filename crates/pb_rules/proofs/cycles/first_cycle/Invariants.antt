@@ -1,0 +1,13 @@
+use Rattle.std.proofs.Common.{◌≡◌, List, map, vec_len}
+use Rattle.pb_decl.specs.Decls.{DeclaredFile}
+use Rattle.pb_rules.specs.Rules.{World}
+use Rattle.pb_rules.specs.Link.{IsWorldOf}
+use Rattle.pb_names.specs.Reach.{IsListed}
+use Rattle.pb_names.specs.Graphs.{AreImports}
+use Rattle.pb_names.specs.View.{declaration_view}
+use Rattle.pb_rules.proofs.TableLemmas.{IsHeldBefore}
+use Rattle.pb_rules.proofs.cycles.first_cycle.Given as goal
+
+abbrev pub invariant-loop-place : goal.invariant-loop-place
+invariant-loop-place l =
+    IsListed l.reach × (vec_len l.reach.bits ≡ vec_len l.imports.all) × ((files : List DeclaredFile) (w : World) → AreImports files l.imports → IsWorldOf files w → w.declared ≡ map declaration_view l.row → IsHeldBefore w l.place)

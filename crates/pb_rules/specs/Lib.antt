@@ -1,0 +1,11 @@
+pub mod Rules
+pub mod CauseName
+pub mod Link
+pub mod Faults
+pub mod Judging
+pub mod Tables
+pub mod Judged
+pub mod ErrorNumber
+pub mod Flags
+pub mod Uses
+pub mod Maps

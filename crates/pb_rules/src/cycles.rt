@@ -1,0 +1,96 @@
+//! The first file that reaches itself by imports.
+
+ghost use Rattle.std.specs.Prelude.{◌≡◌, ◌<◌, ◌↔◌, ℕ, List, IsTrue, All, IfOk, OnOk, map, not, position, vec_len};
+ghost use Rattle.pb_decl.specs.Decls.{DeclaredFile};
+ghost use Rattle.pb_rules.specs.declared.cause.LinkCause.TheVariants.{ImportCycle};
+ghost use Rattle.pb_names.specs.Components.{number_of, NeverRise};
+ghost use Rattle.pb_rules.specs.Rules.{World};
+ghost use Rattle.pb_rules.specs.Link.{holds, IsWorldOf};
+ghost use Rattle.pb_names.specs.Reach.{graph_of, next_of, Reached, IsListed};
+ghost use Rattle.pb_names.specs.Graphs.{AreImports, LeadToFiles};
+ghost use Rattle.pb_rules.specs.Tables.{holds_table};
+ghost use Rattle.pb_names.specs.View.{declaration_view};
+
+use pb_names::components::{component_numbers, number_of};
+use pb_names::declaration::Declaration;
+use pb_names::imports::Imports;
+use pb_names::reach::{Reach, next_of};
+use pb_names::type_refs::file_in;
+use std::alloc::{AllocError, Global};
+
+fn are_below(numbers: &[usize], indexes: &[usize], bound: usize) -> bool
+    ensures { IsTrue result ↔ All (λ j. number_of numbers.now j < bound) indexes.now }
+{
+    for index in indexes {
+        if number_of(numbers, *index) >= bound {
+            return false;
+        }
+    }
+    true
+}
+
+/// Whether a file reaches itself. What it reaches is walked only where an import has the file's number.
+fn is_cyclic(
+    reach: &mut Reach,
+    imports: &Imports,
+    numbers: &[usize],
+    file: usize,
+) -> Result<bool, AllocError>
+    requires lead { LeadToFiles imports.now }
+    requires numbers { NeverRise (graph_of imports.now.all.items) numbers.now }
+    requires listed { IsListed reach.old }
+    requires size { vec_len reach.old.bits ≡ vec_len imports.now.all }
+    ensures listed { OnOk result (IsListed reach.new) }
+    ensures size { OnOk result (vec_len reach.new.bits ≡ vec_len imports.now.all) }
+    ensures exact { IfOk result (λ b. IsTrue b ↔ Reached (graph_of imports.now.all.items) (next_of (graph_of imports.now.all.items) file) file) }
+{
+    let number = number_of(numbers, file);
+    if are_below(numbers, next_of(&imports.all, file), number) {
+        return Ok(false);
+    }
+    reach.reach(&imports.all, next_of(&imports.all, file))?;
+    Ok(reach.is_marked(file))
+}
+
+/// Whether a declaration is that of a file that reaches itself.
+fn is_cycle_at(
+    reach: &mut Reach,
+    imports: &Imports,
+    numbers: &[usize],
+    declaration: &Declaration,
+) -> Result<bool, AllocError>
+    requires lead { LeadToFiles imports.now }
+    requires numbers { NeverRise (graph_of imports.now.all.items) numbers.now }
+    requires listed { IsListed reach.old }
+    requires size { vec_len reach.old.bits ≡ vec_len imports.now.all }
+    ensures listed { OnOk result (IsListed reach.new) }
+    ensures size { OnOk result (vec_len reach.new.bits ≡ vec_len imports.now.all) }
+    ensures exact { IfOk result (λ b. (files : List DeclaredFile) (w : World) (place : ℕ) → AreImports files imports.now → IsWorldOf files w
+        → b ≡ not (holds w place (declaration_view declaration.now) ImportCycle)) }
+{
+    let Some(_) = file_in(declaration.item) else {
+        return Ok(false);
+    };
+    let is_cyclic = is_cyclic(reach, imports, numbers, declaration.file)?;
+    Ok(is_cyclic)
+}
+
+/// The place of the first file that reaches itself. Files behind it are not asked, so that one file is walked at most.
+pub(crate) fn first_cycle(
+    alloc: Global,
+    row: &[Declaration],
+    imports: &Imports,
+) -> Result<Option<usize>, AllocError>
+    requires { LeadToFiles imports.now }
+    ensures { IfOk result (λ first. (files : List DeclaredFile) (w : World) → AreImports files imports.now → IsWorldOf files w
+        → w.declared ≡ map declaration_view row.now → first ≡ position not (holds_table w ImportCycle)) }
+{
+    let numbers = component_numbers(alloc, &imports.all)?;
+    let mut reach = Reach::new(alloc, imports.all.len())?;
+    for (place, declaration) in row.iter().enumerate() {
+        if is_cycle_at(&mut reach, imports, &numbers, declaration)? {
+            return Ok(Some(place));
+        }
+    }
+    Ok(None)
+}
