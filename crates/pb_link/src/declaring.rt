@@ -3,7 +3,7 @@
 pub(crate) mod enums;
 mod fields;
 mod nesting;
-mod order;
+pub(crate) mod order;
 pub(crate) mod text;
 
 ghost use Rattle.std.specs.Prelude.{◌≡◌, ◌<◌, ◌^◌, [], pos, length, map, drop, string_bytes, Some, slice_get, IfOk, IfErr, OnOk};
@@ -23,9 +23,8 @@ ghost use Rattle.pb_link.specs.ToDecls.{numbered, declared_file, decls_of};
 ghost use Rattle.pb_link.specs.Nested.{inside_view, inside_file, AreInside};
 
 use crate::declaring::nesting::{Inside, nested};
-pub use order::{declared_order, declared_pool};
 use pb_decl::FileDecl;
-use pb_descr::set_back;
+use pb_descr::laws::set_back;
 use pb_rules::LinkError;
 use pb_schema::{FileInfo, Pool};
 use std::alloc::{AllocError, Global};

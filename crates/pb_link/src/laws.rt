@@ -11,6 +11,8 @@ ghost use Rattle.pb_link.specs.Linking.{Links};
 ghost use Rattle.pb_rules.specs.Faults.{HasLinkFault};
 ghost use Rattle.pb_link.specs.Resolved.{Resolves, IsTypedFile};
 
+pub use crate::declaring::order::{declared_order, declared_pool};
+
 /// Where every rule of linking holds of some files, the types that they declare are a pool.
 pub fn linked_types()
     ensures pool { (files : List DeclaredFile) (ts : Types) → Links files ts → IsPool ts }

@@ -26,13 +26,12 @@
 #![tactic(auto)]
 
 mod declaring;
-mod laws;
+pub mod laws;
 mod linking;
 mod parts;
 mod resolving;
 
-pub use declaring::{declared_order, declared_pool, to_decls};
-pub use laws::{linked_types, one_pool, resolved_types};
+pub use declaring::to_decls;
 pub use linking::link;
 pub use pb_rules::{LinkCause, LinkError};
 pub use resolving::resolve;
