@@ -17,7 +17,7 @@ use pb_wire::{Output, put_varint, write_all};
 /// Where the canonical bytes would pass 2^31 - 1, or memory for the plan is refused, nothing is written. Where the device
 /// fails, `written` counts the bytes of the whole frame that went out, those of the length too.
 ///
-/// [`written_frame`]: crate::written_frame
+/// [`written_frame`]: crate::laws::written_frame
 pub fn write_delimited<O: Output>(
     message: &DynamicMessage,
     output: &mut O,

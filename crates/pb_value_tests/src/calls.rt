@@ -3,10 +3,11 @@
 use super::sample::Schema;
 use pb_samples::{body_of, key_of, value_of};
 use pb_schema::{EnumId, Kind, MessageId};
-use pb_value::{
-    Content, DynamicMessage, Value, ValueError, canonical_spelling, default_value, joined_records,
-    key_order, merging, no_cause, one_value, reading_onto, round_trip, well_formed_values,
+use pb_value::laws::{
+    canonical_spelling, joined_records, key_order, merging, no_cause, one_value, reading_onto,
+    round_trip, well_formed_values,
 };
+use pb_value::{Content, DynamicMessage, Value, ValueError, default_value};
 use std::alloc::{AllocError, Global};
 use std::test::Fail;
 
