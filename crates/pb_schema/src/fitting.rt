@@ -8,6 +8,7 @@ use crate::types::{Field, Shape};
 
 /// A record of the field's number and of this wire type fits the field: the wire type is that of its kind. A length-delimited record
 /// also fits a list of a packable kind, packed or not. A map is fitted by a length-delimited record alone.
+#[inline(always)]
 pub fn fits(field: &Field, wire_type: u8) -> bool
     ensures { result ≡ fits_type (field_view field.now) wire_type }
 {

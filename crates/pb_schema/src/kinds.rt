@@ -8,6 +8,7 @@ use crate::types::{EnumId, Kind, MessageId};
 
 impl Kind {
     /// The number of the wire type that the kind's values are sent as.
+    #[inline(always)]
     pub fn wire_type(self) -> u8
         ensures { result ≡ wire_type_of self }
     {
@@ -29,6 +30,7 @@ impl Kind {
     }
 
     /// A repeated field of the kind may be packed.
+    #[inline(always)]
     pub fn is_packable(self) -> bool
         ensures { result ≡ is_packable self }
     {

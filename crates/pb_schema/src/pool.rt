@@ -164,6 +164,7 @@ impl Pool {
     }
 
     /// Whether an enum declares a value with this number. An index out of range declares none.
+    #[inline(always)]
     pub fn declares(&self, entry: EnumId, number: i32) -> bool
         ensures { result ≡ declares self.now entry.0 number }
     {
@@ -175,6 +176,7 @@ impl Pool {
 
     /// Whether a number that stands in a varint is one that the closed enum of a kind doesn't declare. Its low 32 bits are asked for. A kind
     /// that is no closed enum has no such number.
+    #[inline(always)]
     pub fn is_undeclared(&self, kind: Kind, number: u64) -> bool
         ensures { result ≡ is_undeclared self.now (closed_enum kind) (varint number) }
     {
@@ -185,6 +187,7 @@ impl Pool {
     }
 
     /// The field of a number in a message type.
+    #[inline(always)]
     pub fn field_by_number(&self, message: MessageId, number: u32) -> Option<&Field>
         requires { message.0 < length self.now.messages }
         ensures found { option_map (λ f. field_view f.now) result ≡ field_numbered number (message_fields self.now message.0) }

@@ -66,6 +66,7 @@ pub trait Scalar {
 }
 
 /// The low 32 bits, all that an int32, a uint32, a sint32 or an enum has of a varint.
+#[inline(always)]
 pub fn low_half(number: u64) -> u32
     ensures { result ≡ number % 2 ^ 32 }
 {

@@ -27,6 +27,7 @@ pub(crate) fn clear_field(message: &mut Body, number: u32)
 }
 
 /// Puts a content at a number.
+#[inline(always)]
 pub fn put_field(message: &mut Body, number: u32, content: Content) -> Result<(), ValueError>
     ensures ok { OnOk result (ChangesFields (put_field number (content_view content)) (body_view message.old) (body_view message.new)) }
     ensures err { OnErr result (body_view message.new ≡ body_view message.old) }
@@ -38,6 +39,7 @@ pub fn put_field(message: &mut Body, number: u32, content: Content) -> Result<()
 }
 
 /// Takes the content of a number out of a body.
+#[inline(always)]
 pub fn take_field(message: &mut Body, number: u32) -> Option<Content>
     ensures left { ChangesFields (drop_field number) (body_view message.old) (body_view message.new) }
     ensures taken { option_map content_view result ≡ get_field number (fields_of (body_view message.old)) }
@@ -46,6 +48,7 @@ pub fn take_field(message: &mut Body, number: u32) -> Option<Content>
 }
 
 /// The member that gives way to the field of a number: the one of its oneof that is set.
+#[inline(always)]
 pub(crate) fn gives_way(
     pool: &Pool,
     kind: MessageId,
@@ -65,6 +68,7 @@ pub(crate) fn gives_way(
 }
 
 /// Stores a content at a field, or clears the field where an absent one is the same.
+#[inline(always)]
 pub fn store(
     pool: &Pool,
     kind: MessageId,

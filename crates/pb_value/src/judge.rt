@@ -191,6 +191,7 @@ fn is_default(value: &Value) -> bool
 }
 
 /// Whether a field without the content is the same: an implicit field's default, an empty list or an empty map.
+#[inline(always)]
 pub(crate) fn is_absence(shape: Shape, content: &Content) -> bool
     ensures { result ≡ is_absence shape (content_view content.now) }
 {

@@ -24,6 +24,7 @@ pub enum Token {
 
 /// Reads the varint at the front of some bytes, with so many bytes before the known end, or with no known end. Where the
 /// bytes end before the varint and before the known end, it is short.
+#[inline(always)]
 pub fn varint_token(bytes: &[u8], left: Option<u32>) -> Token
     ensures { (at : ℕ) → TellsVarint (given_at at left bytes.now) result }
 {
@@ -38,6 +39,7 @@ pub fn varint_token(bytes: &[u8], left: Option<u32>) -> Token
 }
 
 /// Reads the eight bytes at the front of some bytes, as `varint_token` reads a varint.
+#[inline(always)]
 pub fn fixed64_token(bytes: &[u8], left: Option<u32>) -> Token
     ensures { (at : ℕ) → TellsFixed64 (given_at at left bytes.now) result }
 {
@@ -51,6 +53,7 @@ pub fn fixed64_token(bytes: &[u8], left: Option<u32>) -> Token
 }
 
 /// Reads the four bytes at the front of some bytes, as `varint_token` reads a varint.
+#[inline(always)]
 pub fn fixed32_token(bytes: &[u8], left: Option<u32>) -> Token
     ensures { (at : ℕ) → TellsFixed32 (given_at at left bytes.now) result }
 {
@@ -64,6 +67,7 @@ pub fn fixed32_token(bytes: &[u8], left: Option<u32>) -> Token
 }
 
 /// How many of the bytes stand before the known end.
+#[inline(always)]
 fn before_end(bytes: &[u8], left: Option<u32>) -> usize
     ensures within { result ≤ length bytes.now }
     ensures window { (at : ℕ) → window (given_at at left bytes.now) ≡ take result bytes.now }
@@ -75,6 +79,7 @@ fn before_end(bytes: &[u8], left: Option<u32>) -> usize
 }
 
 /// A token that goes on after so many bytes.
+#[inline(always)]
 fn cut_after(size: usize, left: Option<u32>) -> Token
     ensures past { left ≡ Some size → result ≡ token.Fault PastEnd }
     ensures short { left ≢ Some size → result ≡ token.Short }
@@ -86,6 +91,7 @@ fn cut_after(size: usize, left: Option<u32>) -> Token
 }
 
 /// Says that so many bytes pass the known end.
+#[inline(always)]
 fn passes_end(size: u32, left: Option<u32>) -> bool
     ensures yes { result ≡ true → MatchOption left (Unit {0}) (λ e. size ≤ e) → ⊥ }
     ensures no { result ≡ false → MatchOption left (Unit {0}) (λ e. size ≤ e) }

@@ -52,6 +52,7 @@ fn place_of(table: &[(u32, usize)], number: u32) -> Option<usize>
 }
 
 /// The field of a number: at its place where the numbers are 1, 2, 3 and so on, else by the table.
+#[inline(always)]
 pub(crate) fn field_at<'a>(
     fields: &'a [Field],
     table: &[(u32, usize)],

@@ -103,6 +103,7 @@ pub(crate) fn value_tables(alloc: Global, enums: &[EnumType]) -> Result<Vec<Valu
 }
 
 /// Whether a number has a mark.
+#[inline(always)]
 fn is_marked(table: &ValueTable, number: i32) -> bool
     ensures { (vs : List (List ℕ × ℤ)) → AreMarksOf vs table.now.least table.now.marks.items → IsTrue result → IsTrue (list_any (λ v. int_eq v.1 number) vs) }
 {
@@ -116,6 +117,7 @@ fn is_marked(table: &ValueTable, number: i32) -> bool
 }
 
 /// Whether a number is that of a value: it has a mark, or else a search finds it.
+#[inline(always)]
 pub(crate) fn has_number(table: &ValueTable, number: i32) -> bool
     ensures { (vs : List (List ℕ × ℤ)) → IsValueTable vs table.now → result ≡ list_any (λ v. int_eq v.1 number) vs }
 {

@@ -59,6 +59,7 @@ fn map_of(alloc: Global, key: MapKey, value: Value) -> Result<Content, ValueErro
 
 /// Puts a value under a key of a map, and gives the one that stood there. What is no map becomes a map of one entry; a field that
 /// was judged a map holds nothing else.
+#[inline(always)]
 fn put_under(
     alloc: Global,
     content: &mut Content,
@@ -82,6 +83,7 @@ fn put_under(
 
 /// Puts a value under a key of the map of a number, and gives the one that stood there. Where there is no map, the field then
 /// holds a map of one entry.
+#[inline(always)]
 pub fn insert_entry(
     alloc: Global,
     message: &mut Body,

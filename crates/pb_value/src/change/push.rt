@@ -59,6 +59,7 @@ fn list_of(alloc: Global, value: Value) -> Result<Content, ValueError>
 }
 
 /// Puts a value at the end of a list. What is no list becomes a list of one; a field that was judged a list holds nothing else.
+#[inline(always)]
 fn append(alloc: Global, content: &mut Content, value: Value) -> Result<(), ValueError>
     ensures ok { OnOk result (content_view content.new ≡ pushed (value_view value) (Some (content_view content.old))) }
     ensures err { OnErr result (content_view content.new ≡ content_view content.old) }
@@ -77,6 +78,7 @@ fn append(alloc: Global, content: &mut Content, value: Value) -> Result<(), Valu
 }
 
 /// Puts a value at the end of the list of a number. Where there is no list, the field then holds a list of one.
+#[inline(always)]
 pub fn push_element(
     alloc: Global,
     message: &mut Body,
