@@ -1,6 +1,6 @@
 //! Numbers as varints (encoding guide, "Base 128 Varints").
 
-ghost use Rattle.std.specs.Prelude.{◌≡◌, ◌≤◌, ℕ, [], Ok, length, take, IfOk, IfErr, IsErrAnd};
+ghost use Rattle.std.specs.Prelude.{◌≡◌, ◌≤◌, ℕ, [], Ok, length, take, IfOk, IfErr, IfSome, IsErrAnd};
 ghost use Rattle.pb_wire.specs.Varint.{IsVarint, shortest};
 ghost use Rattle.pb_wire.specs.Fault.{Fault, VarintFault, fault, text_at};
 
@@ -24,7 +24,7 @@ pub fn read_varint(bytes: &[u8]) -> Result<(u64, usize), WireFault>
     varint_at_front(bytes)
 }
 
-/// As `read_varint`. Most varints are one byte.
+/// As `read_varint`. Most varints are one byte, and most others two or three.
 #[inline(always)]
 pub(crate) fn varint_at_front(bytes: &[u8]) -> Result<(u64, usize), WireFault>
     ensures within { IfOk result (λ found. found.1 ≤ length bytes.now) }
@@ -33,10 +33,33 @@ pub(crate) fn varint_at_front(bytes: &[u8]) -> Result<(u64, usize), WireFault>
     ensures fault { IfErr result (λ e. VarintFault (text_at bytes.now) (fault e.byte [] e.cause)) }
 {
     if !bytes.is_empty() && bytes[0] < 0x80 {
-        Ok((u64::from(bytes[0]), 1))
-    } else {
-        long_varint(bytes)
+        return Ok((u64::from(bytes[0]), 1));
     }
+    match short_varint(bytes) {
+        Some((number, size)) => Ok((number, size)),
+        None => long_varint(bytes),
+    }
+}
+
+/// The varint of two or three bytes at the front, where three bytes are there and it is one.
+#[inline(always)]
+fn short_varint(bytes: &[u8]) -> Option<(u64, usize)>
+    ensures within { IfSome result (λ found. found.1 ≤ length bytes.now) }
+    ensures found { IfSome result (λ found. IsVarint found.0 (take found.1 bytes.now)) }
+{
+    if bytes.len() < 3 || bytes[0] < 0x80 {
+        return None;
+    }
+    let one = u64::from(bytes[0] & 0x7f);
+    let two = one | u64::from(bytes[1] & 0x7f) << 7;
+    if bytes[1] < 0x80 {
+        return Some((two, 2));
+    }
+    let three = two | u64::from(bytes[2] & 0x7f) << 14;
+    if bytes[2] < 0x80 {
+        return Some((three, 3));
+    }
+    None
 }
 
 /// As `read_varint`, byte by byte.
