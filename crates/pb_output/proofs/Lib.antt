@@ -4,3 +4,5 @@ pub mod SinkLemmas
 pub mod HexParts
 -- for short numbers, digit by digit
 pub mod Digits
+-- for varints of one byte and of two
+pub mod Varints

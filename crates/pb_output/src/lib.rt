@@ -4,5 +4,5 @@
 mod buffer;
 mod sink;
 
-pub use buffer::{OutputBuffer, SIZE};
+pub use buffer::{MAX_VARINT, OutputBuffer, SIZE};
 pub use sink::Sink;

@@ -1,10 +1,11 @@
 //! Output through a buffer of fixed size. The first failure of the output is kept, and nothing is written after it, so that putting needs no
 //! answer but at its end.
 
-ghost use Rattle.std.specs.Prelude.{◌≡◌, ◌+◌, ◌*◌, ◌≤◌, [], false, true, length, Some, None, if◌then◌else◌};
+ghost use Rattle.std.specs.Prelude.{◌≡◌, ◌+◌, ◌*◌, ◌≤◌, ◌++◌, [], false, true, length, Some, None, if◌then◌else◌};
 ghost use Rattle.hex.specs.Hex.{encode_lower};
+ghost use Rattle.pb_wire.specs.Varint.{shortest};
 
-use crate::buffer::{OutputBuffer, SIZE};
+use crate::buffer::{MAX_VARINT, OutputBuffer, SIZE};
 use pb_wire::{DeviceFault, Output, write_all};
 
 /// The bytes that are put in hexadecimal at a time.
@@ -144,6 +145,25 @@ impl Sink {
                 self.failed = true;
             }
         }
+    }
+
+    /// Puts a number as a varint, in its shortest spelling.
+    #[inline(always)]
+    pub fn put_varint<O: Output>(&mut self, out: &mut O, number: u64)
+        ensures { Puts O.written O.failures out.old out.new self.old self.new (shortest number) }
+    {
+        self.make_room(out, MAX_VARINT);
+        self.held.push_varint(number);
+    }
+
+    /// Puts two numbers as varints, one behind the other.
+    #[inline(always)]
+    pub fn put_varints<O: Output>(&mut self, out: &mut O, first: u64, second: u64)
+        ensures { Puts O.written O.failures out.old out.new self.old self.new (shortest first ++ shortest second) }
+    {
+        self.make_room(out, 2 * MAX_VARINT);
+        self.held.push_varint(first);
+        self.held.push_varint(second);
     }
 
     /// Puts bytes in hexadecimal, in lower case.

@@ -1,0 +1,7 @@
+-- The shortest varints of short numbers, byte by byte.
+use Rattle.std.proofs.Common.{◌≡◌, ℕ, ◌+◌, ◌/◌, ◌%◌, ◌<◌, ◌≤◌, [], ◌∷◌, arith}
+use Rattle.pb_wire.proofs.VarintLemmas.{shortest-last, shortest-more}
+use Rattle.pb_wire.specs.Varint.{shortest}
+
+pub shortest_two : (n : ℕ) → 128 ≤ n → n < 16384 → shortest n ≡ (n % 128 + 128) ∷ (n / 128) ∷ []
+shortest_two n low high = rw (shortest-more n low, shortest-last (n / 128) (omega arith))
