@@ -8,10 +8,10 @@ use Rattle.pb_tokens.specs.Language.{Language, Rules, all_rules, without, cause_
 use Rattle.pb_tokens.specs.declared.rule.Rule.{Rule}
 use Rattle.pb_tokens.specs.declared.rule.Rule.TheVariants.{NumbersFit as numbers_fit, OptionsKnown as options_known, SyntaxFirst as syntax_first, NestsBounded as nests_bounded, TextsValid as texts_valid}
 use Rattle.pb_tokens.specs.Readers.Forms.{Reader}
-use Rattle.pb_source.specs.SyntaxFault.{IsCause, Fault}
 use Rattle.pb_tokens.specs.declared.fault.SourceCause.{SourceCause}
 use Rattle.pb_tokens.specs.declared.fault.SourceCause.TheVariants.{Unexpected}
 use Rattle.pb_tokens.proofs.ReaderLaws.{Reads, Refused, leaves}
+use Rattle.pb_source.specs.SyntaxFault.{IsCause, Fault}
 
 leaves_itself : (r : Rule) → leaves (without r) (Some r) ≡ true
 leaves_itself numbers_fit = refl

@@ -4,6 +4,12 @@ use Rattle.std.specs.Prelude.{option_map}
 use Rattle.pb_decl.specs.Decls.{DeclaredMessage}
 use Rattle.pb_tokens.specs.declared.rule.Rule.{Rule}
 use Rattle.pb_tokens.proofs.Growing.{Grows, grows_same, grows_mapped, grows_both, grows_behind, grows_before, grows_choice, GrowsSome, grows_kinds, grows_guarded, grows_until, grows_to_end, grows_listed, grows_fullname, grows_typename, grows_option, grows_setting, grows_field_end, grows_value_end, grows_type}
+use Rattle.pb_tokens.specs.declared.rule.Rule.TheVariants.{NestsBounded as nests_bounded}
+use Rattle.pb_tokens.specs.Symbols.{Symbol}
+use Rattle.pb_tokens.specs.Language.{Rules}
+use Rattle.pb_tokens.specs.Said.{joined}
+use Rattle.pb_tokens.specs.Readers.Forms.{Outcome, Reader, answer, mapped, symbol, is_mark, is_keyword, keyword_reader, mark_reader}
+use Rattle.pb_tokens.specs.Readers.Phrases.{name_reader, counted_reader, key_reader, signed_reader, utf8_reader, type_of, message_range_reader, enum_range_reader, is_dot, is_text}
 use Rattle.pb_source.specs.declared.kind.Label.{Label}
 use Rattle.pb_source.specs.declared.kind.Label.TheVariants.{Unlabelled, Repeated, Optional}
 use Rattle.pb_source.specs.declared.kind.FileKind.{FileKind}
@@ -18,13 +24,7 @@ use Rattle.pb_source.specs.declared.kind.ServiceKind.{ServiceKind}
 use Rattle.pb_source.specs.declared.kind.ServiceKind.TheVariants as in_service
 use Rattle.pb_source.specs.declared.kind.MethodKind.{MethodKind}
 use Rattle.pb_source.specs.declared.kind.MethodKind.TheVariants as in_method
-use Rattle.pb_tokens.specs.declared.rule.Rule.TheVariants.{NestsBounded as nests_bounded}
-use Rattle.pb_tokens.specs.Symbols.{Symbol}
-use Rattle.pb_tokens.specs.Language.{Rules}
-use Rattle.pb_tokens.specs.Said.{joined}
 use Rattle.pb_source.specs.Meaning.{MessageStatement, EnumStatement, FileStatement, those_said, message_of, enum_of}
-use Rattle.pb_tokens.specs.Readers.Forms.{Outcome, Reader, answer, mapped, symbol, is_mark, is_keyword, keyword_reader, mark_reader}
-use Rattle.pb_tokens.specs.Readers.Phrases.{name_reader, counted_reader, key_reader, signed_reader, utf8_reader, type_of, message_range_reader, enum_range_reader, is_dot, is_text}
 use Rattle.pb_source.specs.Readers.Lines.{import_reader, syntax_reader, field_from, map_from, said_of_alias, method_from, service_from, is_closing, is_package, braced, field_tail_reader, field_reader, map_tail_reader, dotted_reader, of_map_reader, map_reader, oneof_kind, oneof_line, oneof_statement_reader, oneof_reader, reserved_reader, value_reader, enum_kind, enum_statement_line, enum_statement_reader, enum_reader, message_kind, message_statement_line, message_statement_reader, message_line_reader, last_statement_reader, room_statement_reader, streams, streamed_reader, method_kind, method_line, method_statement_reader, method_end_reader, parameter_reader, method_reader, service_kind, service_line, service_statement_reader, service_reader, package_reader, file_kind, file_line, file_statement_reader, file_reader}
 
 -- ---- repetition

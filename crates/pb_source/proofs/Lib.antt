@@ -29,7 +29,7 @@ pub mod OneFile
 pub mod SourceLaws
 -- for what is made of sources, in the crates above: messages stand in each other at most 65 deep
 pub mod NestLemmas
--- for the laws that a source is one list of tokens and one file, or has one fault
+-- for the law that a source is one file, or has one fault
 pub mod OneSource
 -- for `parse`: what it tells is the declaration, or the fault and no other
 pub mod ParseLemmas

@@ -5,8 +5,8 @@ use Rattle.pb_decl.specs.Decls.{DeclaredMessage, message as message_decl, Declar
 use Rattle.pb_decl.specs.Nests.{nests, all_nest}
 use Rattle.pb_tokens.specs.Symbols.{Symbol}
 use Rattle.pb_tokens.specs.Language.{Rules, all_rules, Language, nothing}
-use Rattle.pb_source.specs.Meaning.{MessageStatement, FileStatement, scoped, all_scoped, nested_messages, messages_said, file_messages, file_message_said, package_of}
 use Rattle.pb_tokens.specs.Phrases.{Until, mark}
+use Rattle.pb_source.specs.Meaning.{MessageStatement, FileStatement, scoped, all_scoped, nested_messages, messages_said, file_messages, file_message_said, package_of}
 use Rattle.pb_source.specs.Grammar.{message_statement, message, file_statement, FileSyntax}
 use Rattle.pb_source.specs.Source.{IsSource}
 

@@ -13,17 +13,17 @@ use Rattle.pb_tokens.specs.Fault.{fault}
 use Rattle.pb_tokens.specs.Tokens.{PlacedToken, AreTokens, LexFault}
 use Rattle.pb_tokens.specs.Symbols.{PlacedSymbol, AreSymbols}
 use Rattle.pb_tokens.specs.SymbolView.{HasSymbols}
-use Rattle.pb_tokens.proofs.Laws.{same_told}
-use Rattle.pb_source.specs.Meaning.{FileStatement, file_of}
-use Rattle.pb_source.specs.Grammar.{file}
+use Rattle.pb_tokens.proofs.OneOrFault.{same_told}
 use Rattle.pb_tokens.specs.Language.{all_rules}
-use Rattle.pb_source.specs.SyntaxFault.{SyntaxFault}
-use Rattle.pb_source.specs.Source.{symbols_alone, place_in, IsSource, HasFault}
 use Rattle.pb_tokens.proofs.OneLexing.{one_fault, not_both}
 use Rattle.pb_tokens.proofs.OneReading.{one_source}
 use Rattle.pb_tokens.proofs.SomeLexing.{tokens_or_fault}
 use Rattle.pb_tokens.proofs.SomeReading.{some_symbols}
 use Rattle.pb_tokens.proofs.SymbolLemmas.{tokens_meant}
+use Rattle.pb_source.specs.Meaning.{FileStatement, file_of}
+use Rattle.pb_source.specs.Grammar.{file}
+use Rattle.pb_source.specs.SyntaxFault.{SyntaxFault}
+use Rattle.pb_source.specs.Source.{symbols_alone, place_in, IsSource, HasFault}
 use Rattle.pb_source.proofs.OneFile.{file_or_fault, file_no_fault, one_statements, one_syntax_fault}
 use Rattle.pb_source.proofs.SourceLaws.{too_large_only, bad_utf8_only, token_only}
 

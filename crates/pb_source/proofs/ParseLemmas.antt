@@ -10,10 +10,10 @@ use Rattle.pb_tokens.specs.Fault.{fault, out_of_memory}
 use Rattle.pb_tokens.specs.Tokens.{LexFault}
 use Rattle.pb_tokens.specs.SymbolView.{symbols_of, HasSymbols}
 use Rattle.pb_tokens.specs.Language.{all_rules}
+use Rattle.pb_tokens.specs.Readers.Given.{symbols_from, Fails}
 use Rattle.pb_source.specs.Meaning.{FileStatement, file_of}
 use Rattle.pb_source.specs.Source.{place_in, IsSource, HasFault}
 use Rattle.pb_source.specs.Readers.Lines.{file_reader}
-use Rattle.pb_tokens.specs.Readers.Given.{symbols_from, Fails}
 use Rattle.pb_source.specs.Readers.Told.{fault_at}
 use Rattle.pb_source.proofs.SourceLaws.{ReadsAll, is_source, only_source, no_fault, has_fault, only_fault, no_source, token_only, token_no_source}
 

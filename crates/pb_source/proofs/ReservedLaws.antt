@@ -5,15 +5,15 @@ use Rattle.pb_tokens.specs.Symbols.{Symbol, word, number, text, sign}
 use Rattle.pb_tokens.specs.Language.{Language, ◌or◌, Rules}
 use Rattle.pb_tokens.specs.Phrases.{keyword, mark, range, utf8_text}
 use Rattle.pb_tokens.proofs.RangeLaws.{reads_utf8, utf8_first, begins_bound, is_to}
-use Rattle.pb_source.specs.Grammar.{ranges_line, names_line}
 use Rattle.pb_tokens.specs.Readers.Forms.{Reader, first_passes, is_keyword}
 use Rattle.pb_tokens.specs.Readers.Phrases.{is_text}
-use Rattle.pb_source.specs.Readers.Lines.{reserved_reader}
 use Rattle.pb_tokens.proofs.ReaderLaws.{Reads}
 use Rattle.pb_tokens.proofs.Compose.{never, reads_mapped, reads_behind, reads_before_so, reads_either, said_so}
 use Rattle.pb_tokens.proofs.Heads.{headed_one, headed_then, headed_separated, Apart, fails_front, filled_front}
 use Rattle.pb_tokens.proofs.SymbolTests.{reads_mark, reads_keyword}
 use Rattle.pb_tokens.proofs.OptionLaws.{reads_listed, stops_listed}
+use Rattle.pb_source.specs.Grammar.{ranges_line, names_line}
+use Rattle.pb_source.specs.Readers.Lines.{reserved_reader}
 
 bound_or_text : Apart begins_bound is_text
 bound_or_text (number v) h = refl

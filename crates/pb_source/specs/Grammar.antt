@@ -6,12 +6,12 @@ use Rattle.std.specs.Prelude.{Bool, true, false, if◌then◌else◌, Option, So
 use Rattle.pb_decl.specs.Decls.{DeclaredField, DeclaredEnum, DeclaredMessage, DeclaredMethod, DeclaredService, DeclaredFile}
 use Rattle.pb_tokens.specs.Phrases.{keyword, mark, name, Until, Listed, BeginsNot, fullname, counted, signed, option, setting, field_end, value_end}
 use Rattle.pb_tokens.specs.Phrases.{key_type, typename, typed, message_range, enum_range, utf8_text}
-use Rattle.pb_source.specs.declared.kind.Label.{Label}
-use Rattle.pb_source.specs.declared.kind.Label.TheVariants.{Unlabelled, Repeated, Optional}
 use Rattle.pb_tokens.specs.declared.rule.Rule.TheVariants.{SyntaxFirst as syntax_first, NestsBounded as nests_bounded}
 use Rattle.pb_tokens.specs.Symbols.{Symbol, text}
 use Rattle.pb_tokens.specs.Language.{Language, ◌▸◌, ◌or◌, one, nothing, Rules, all_rules}
 use Rattle.pb_tokens.specs.Said.{TypeSaid, joined}
+use Rattle.pb_source.specs.declared.kind.Label.{Label}
+use Rattle.pb_source.specs.declared.kind.Label.TheVariants.{Unlabelled, Repeated, Optional}
 use Rattle.pb_source.specs.Meaning.{MapDecl, MessageStatement, EnumStatement, FileStatement}
 use Rattle.pb_source.specs.Meaning.{those_said, field_of, message_of, enum_of, all_said, packages_said, file_of}
 

@@ -21,8 +21,8 @@ pub mod OnePiece
 pub mod OneLexing
 -- every source has tokens or a fault
 pub mod SomeLexing
--- for the law of the two
-pub mod Laws
+-- for the law that bytes are one list of tokens, or have one fault
+pub mod OneOrFault
 -- ---- symbols
 -- for what texts mean, as the code computes it
 pub mod TextMeaning
@@ -62,16 +62,15 @@ pub mod Guards
 pub mod KindLemmas
 -- of items up to the end
 pub mod ToEnd
--- ---- the lines of the grammar: their readers keep what they owe
+-- of readers that may go further: they answer the same, but where they came to the end of how far they might go
+pub mod Growing
+-- ---- the lines that statements are made of: their readers keep what they owe
 -- names and types
 pub mod NameLaws
 -- integers, constants and options
 pub mod OptionLaws
 -- ranges, and texts that are UTF-8
 pub mod RangeLaws
--- ---- whole sources
--- for readers that may go further: they answer the same, but where they came to the end of how far they might go
-pub mod Growing
 -- ---- worked out by the rules
--- small sources with their tokens and faults, and integers
+-- small sources with their tokens and faults, and the integers of number words
 mod Rows

@@ -4,6 +4,11 @@ use Rattle.std.specs.Str.{bytes_eq}
 use Rattle.pb_decl.specs.Decls.{DeclaredField, DeclaredEnum, DeclaredMessage, DeclaredMethod, DeclaredService}
 use Rattle.pb_decl.specs.declared.decl.TypeCode.{TypeCode}
 use Rattle.pb_tokens.specs.Readers.Phrases.{is_dot, listed, name_reader, fullname_reader, typename_reader, counted_reader, signed_reader, is_text, option_reader, setting_reader, field_end_reader, value_end_reader, type_of, type_reader, key_reader, message_range_reader, enum_range_reader, utf8_reader}
+use Rattle.pb_tokens.specs.declared.rule.Rule.TheVariants.{SyntaxFirst as syntax_first, NestsBounded as nests_bounded}
+use Rattle.pb_tokens.specs.Symbols.{Symbol, word, number, text, sign}
+use Rattle.pb_tokens.specs.Said.{TypeSaid, joined}
+use Rattle.pb_tokens.specs.Readers.Forms.{Reader, answer, mapped, both, behind, before, choice, by_kind, guarded, symbol}
+use Rattle.pb_tokens.specs.Readers.Forms.{judged, is_keyword, is_mark, keyword_reader, mark_reader, until, to_end}
 use Rattle.pb_source.specs.declared.kind.Label.{Label}
 use Rattle.pb_source.specs.declared.kind.Label.TheVariants.{Unlabelled, Repeated, Optional}
 use Rattle.pb_source.specs.declared.kind.FileKind.{FileKind}
@@ -18,15 +23,7 @@ use Rattle.pb_source.specs.declared.kind.ServiceKind.{ServiceKind}
 use Rattle.pb_source.specs.declared.kind.ServiceKind.TheVariants as in_service
 use Rattle.pb_source.specs.declared.kind.MethodKind.{MethodKind}
 use Rattle.pb_source.specs.declared.kind.MethodKind.TheVariants as in_method
-use Rattle.pb_tokens.specs.declared.rule.Rule.TheVariants.{SyntaxFirst as syntax_first}
-use Rattle.pb_tokens.specs.declared.rule.Rule.TheVariants.{NestsBounded as nests_bounded}
-use Rattle.pb_tokens.specs.Symbols.{Symbol, word, number, text, sign}
-use Rattle.pb_tokens.specs.Said.{TypeSaid}
-use Rattle.pb_source.specs.Meaning.{MapDecl, MessageStatement, EnumStatement, FileStatement}
-use Rattle.pb_tokens.specs.Said.{joined}
-use Rattle.pb_source.specs.Meaning.{those_said, field_of, message_of, enum_of}
-use Rattle.pb_tokens.specs.Readers.Forms.{Reader, answer, mapped, both, behind, before, choice, by_kind, guarded, symbol}
-use Rattle.pb_tokens.specs.Readers.Forms.{judged, is_keyword, is_mark, keyword_reader, mark_reader, until, to_end}
+use Rattle.pb_source.specs.Meaning.{MapDecl, MessageStatement, EnumStatement, FileStatement, those_said, field_of, message_of, enum_of}
 
 abbrev pub is_closing : Symbol → Bool
 is_closing = is_mark (codes "}")

@@ -7,10 +7,10 @@ use Rattle.pb_tokens.specs.declared.symbol.Placed.{Placed}
 use Rattle.pb_tokens.specs.declared.refusal.Refusal.{Refusal}
 use Rattle.pb_tokens.specs.declared.refusal.Refusal.TheVariants as refusal
 use Rattle.pb_tokens.specs.SymbolView.{symbols_of}
-use Rattle.pb_source.specs.Source.{place_in}
 use Rattle.pb_tokens.specs.Fault.{fault, out_of_memory}
 use Rattle.pb_tokens.specs.declared.fault.SourceFault.{SourceFault}
 use Rattle.pb_tokens.specs.Language.{told}
+use Rattle.pb_source.specs.Source.{place_in}
 
 -- the cause of symbols that are refused so: a file without symbols does not begin with its syntax
 abbrev pub cause_at : List Placed → Option Rule → SourceCause

@@ -5,9 +5,9 @@ ghost use Rattle.pb_schema.specs.Names.{entry_name};
 ghost use Rattle.pb_decl.specs.View.{field_view, message_view};
 ghost use Rattle.pb_decl.specs.declared.decl.TypeCode.{TypeCode};
 ghost use Rattle.pb_tokens.specs.Said.{a_scalar};
+ghost use Rattle.pb_tokens.specs.PhraseView.{type_view};
 ghost use Rattle.pb_source.specs.Meaning.{MessageStatement, FileStatement, entry_field, entry_of, map_field};
 ghost use Rattle.pb_source.specs.Meaning.{in_oneof, with_own_oneofs, own_oneofs, message_of, public_from};
-ghost use Rattle.pb_tokens.specs.PhraseView.{type_view};
 ghost use Rattle.pb_source.specs.StatementView.{map_view, message_statement_view, file_statement_view};
 ghost use Rattle.pb_source.specs.PartsView.{with_own_oneof, IsCounted, OnePackage, HoldsSaid, FileHolds};
 

@@ -2,13 +2,12 @@
 
 ghost use Rattle.std.specs.Prelude.{◌≡◌, ◌≤◌, ◌<◌, ◌++◌, ◌∷◌, ℕ, List, [], length, codes, IfOk, OnOk};
 ghost use Rattle.pb_decl.specs.View.{enum_view};
-ghost use Rattle.pb_source.specs.Meaning.{EnumStatement, enum_of};
 ghost use Rattle.pb_tokens.specs.Readers.Forms.{mapped, until, mark_reader};
 ghost use Rattle.pb_tokens.specs.Readers.Phrases.{enum_range_reader};
-ghost use Rattle.pb_source.specs.Readers.Lines.{is_closing, said_of_alias};
-ghost use Rattle.pb_source.specs.Readers.Lines.{reserved_reader, value_reader, enum_statement_reader, enum_reader};
-ghost use Rattle.pb_source.specs.StatementView.{enum_statement_view};
 ghost use Rattle.pb_tokens.specs.Readers.Given.{ReadsInSteps};
+ghost use Rattle.pb_source.specs.Meaning.{EnumStatement, enum_of};
+ghost use Rattle.pb_source.specs.Readers.Lines.{is_closing, said_of_alias, reserved_reader, value_reader, enum_statement_reader, enum_reader};
+ghost use Rattle.pb_source.specs.StatementView.{enum_statement_view};
 
 use crate::kind::EnumKind;
 use crate::parsing::kinds::enum_kind;

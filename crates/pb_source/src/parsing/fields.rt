@@ -2,13 +2,13 @@
 
 ghost use Rattle.std.specs.Prelude.{◌≡◌, ◌≤◌, ◌<◌, ◌++◌, [], length, map, codes, string_bytes, option_map, option_to_list, IfOk, OnOk};
 ghost use Rattle.pb_decl.specs.View.{field_view};
-ghost use Rattle.pb_source.specs.Meaning.{is_repeated_label, is_optional_label, field_of, those_said};
 ghost use Rattle.pb_tokens.specs.Readers.Forms.{mapped, until, mark_reader};
-ghost use Rattle.pb_source.specs.Readers.Lines.{is_closing, field_tail_reader, field_reader, map_tail_reader, map_reader, oneof_statement_reader, oneof_reader};
 ghost use Rattle.pb_tokens.specs.PhraseView.{type_view};
+ghost use Rattle.pb_tokens.specs.Readers.Given.{ReadsInSteps};
+ghost use Rattle.pb_source.specs.Meaning.{is_repeated_label, is_optional_label, field_of, those_said};
+ghost use Rattle.pb_source.specs.Readers.Lines.{is_closing, field_tail_reader, field_reader, map_tail_reader, map_reader, oneof_statement_reader, oneof_reader};
 ghost use Rattle.pb_source.specs.StatementView.{map_view, message_statement_view};
 ghost use Rattle.pb_source.specs.PartsView.{IsCounted};
-ghost use Rattle.pb_tokens.specs.Readers.Given.{ReadsInSteps};
 
 use crate::kind::{Label, OneofKind};
 use crate::parsing::kinds::oneof_kind;

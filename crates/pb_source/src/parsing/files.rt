@@ -4,13 +4,13 @@ ghost use Rattle.std.specs.Prelude.{◌≡◌, ◌≤◌, ◌<◌, ℕ, [], fals
 ghost use Rattle.std.specs.Str.{bytes_eq};
 ghost use Rattle.pb_decl.specs.View.{file_view};
 ghost use Rattle.pb_tokens.specs.Language.{all_rules};
-ghost use Rattle.pb_source.specs.Meaning.{FileStatement, file_of};
 ghost use Rattle.pb_tokens.specs.declared.rule.Rule.TheVariants.{SyntaxFirst};
 ghost use Rattle.pb_tokens.specs.Readers.Forms.{symbol, judged, to_end};
+ghost use Rattle.pb_tokens.specs.Readers.Given.{symbols_from, Fails, Reads, ReadsInSteps};
+ghost use Rattle.pb_source.specs.Meaning.{FileStatement, file_of};
 ghost use Rattle.pb_source.specs.Readers.Lines.{access_reader, import_reader, package_reader, file_statement_reader, file_reader};
 ghost use Rattle.pb_source.specs.Readers.Lines.{is_package, syntax_reader, syntax_word_in, syntax_text_in};
 ghost use Rattle.pb_source.specs.StatementView.{file_statement_view};
-ghost use Rattle.pb_tokens.specs.Readers.Given.{symbols_from, Fails, Reads, ReadsInSteps};
 
 use crate::kind::FileKind;
 use crate::parsing::declared::{FileParts, add_file_statement};

@@ -3,14 +3,13 @@
 ghost use Rattle.std.specs.Prelude.{◌≡◌, ◌≤◌, ◌<◌, [], length, codes, IfOk, Option, Some, true};
 ghost use Rattle.pb_decl.specs.View.{message_view, field_view};
 ghost use Rattle.pb_decl.specs.Decls.{DeclaredMessage};
-ghost use Rattle.pb_source.specs.Meaning.{MessageStatement, message_of};
 ghost use Rattle.pb_tokens.specs.Readers.Forms.{Reader, if_some, behind, mapped, until, keyword_reader, mark_reader};
 ghost use Rattle.pb_tokens.specs.Readers.Phrases.{message_range_reader};
-ghost use Rattle.pb_source.specs.Readers.Lines.{is_closing, field_reader, reserved_reader};
-ghost use Rattle.pb_source.specs.Readers.Lines.{message_statement_line, room_statement_reader, message_reader};
+ghost use Rattle.pb_tokens.specs.Readers.Given.{ReadsInSteps};
+ghost use Rattle.pb_source.specs.Meaning.{MessageStatement, message_of};
+ghost use Rattle.pb_source.specs.Readers.Lines.{is_closing, field_reader, reserved_reader, message_statement_line, room_statement_reader, message_reader};
 ghost use Rattle.pb_source.specs.StatementView.{message_statement_view};
 ghost use Rattle.pb_source.specs.PartsView.{is_member, is_plain, IsCounted};
-ghost use Rattle.pb_tokens.specs.Readers.Given.{ReadsInSteps};
 
 use crate::kind::{Label, MessageKind};
 use crate::parsing::declared::{MessageParts, add_statement, message_of};

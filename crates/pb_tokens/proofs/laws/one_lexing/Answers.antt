@@ -1,4 +1,4 @@
-use Rattle.pb_tokens.proofs.Laws.{one_lexing}
+use Rattle.pb_tokens.proofs.OneOrFault.{one_lexing}
 use Rattle.pb_tokens.proofs.laws.one_lexing.Goals as goal
 
 pub returns : goal.returns
