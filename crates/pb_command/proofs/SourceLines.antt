@@ -1,7 +1,7 @@
 -- The parts of the line of a source.
 use Rattle.std.proofs.Common.{◌≡◌, ℕ, List, ◌++◌, ap, append_assoc, codes, decimal}
-use Rattle.pb_source.specs.CauseName as source
-use Rattle.pb_source.specs.declared.fault.SourceCause.{SourceCause}
+use Rattle.pb_tokens.specs.CauseName as source
+use Rattle.pb_tokens.specs.declared.fault.SourceCause.{SourceCause}
 use Rattle.pb_command.specs.Report.{cause_end, source_line}
 
 -- which source is refused, and where

@@ -3,11 +3,11 @@ use Rattle.std.proofs.Common.{◌≡◌, ◌+◌, ◌⊎◌, ℕ, List, [], ◌�
 use Rattle.std.specs.Prelude.{IfSome, option_map}
 use Rattle.pb_wire.specs.Limits.{full}
 use Rattle.pb_decl.specs.Decls.{DeclaredFile}
+use Rattle.pb_tokens.specs.Fault.{out_of_memory}
+use Rattle.pb_tokens.specs.declared.fault.SourceCause.{SourceCause}
+use Rattle.pb_tokens.specs.declared.fault.SourceCause.TheVariants as cause
+use Rattle.pb_tokens.specs.declared.fault.SourceFault.{SourceFault}
 use Rattle.pb_source.specs.Source.{IsSource, HasFault, too_large, bad_utf8, in_token, in_syntax}
-use Rattle.pb_source.specs.Fault.{out_of_memory}
-use Rattle.pb_source.specs.declared.fault.SourceCause.{SourceCause}
-use Rattle.pb_source.specs.declared.fault.SourceCause.TheVariants as cause
-use Rattle.pb_source.specs.declared.fault.SourceFault.{SourceFault}
 use Rattle.pb_command.specs.Answer.{Answer, device_failed, refused}
 use Rattle.pb_command.specs.CompileAnswer.{CompileAnswer, untaken, unlinked, too_large as set_too_large, compiled, told_of}
 use Rattle.pb_command.specs.FileMap.{FileMap, IsHonest, IsOpened, KeepsMap}

@@ -7,8 +7,8 @@ use Rattle.pb_descr.specs.CauseName as descr
 use Rattle.pb_descr.specs.declared.cause.DeclCause.{DeclCause}
 use Rattle.pb_rules.specs.CauseName.{cause_name}
 use Rattle.pb_rules.specs.declared.cause.LinkCause.{LinkCause}
-use Rattle.pb_source.specs.CauseName as source
-use Rattle.pb_source.specs.declared.fault.SourceCause.{SourceCause}
+use Rattle.pb_tokens.specs.CauseName as source
+use Rattle.pb_tokens.specs.declared.fault.SourceCause.{SourceCause}
 
 -- what ends a line: the name of a cause
 abbrev pub cause_end : List ℕ → List ℕ

@@ -2,8 +2,8 @@
 
 ghost use Rattle.std.specs.Prelude.{◌≡◌, ◌+◌, true, ℕ, None, option_map, string_bytes, IfOk, IfErr, IsErrOf, MatchOption, OnOk};
 ghost use Rattle.pb_decl.specs.View.{file_view};
+ghost use Rattle.pb_tokens.specs.declared.fault.SourceCause.{SourceCause};
 ghost use Rattle.pb_source.specs.Source.{HasFault, IsSource};
-ghost use Rattle.pb_source.specs.declared.fault.SourceCause.{SourceCause};
 ghost use Rattle.pb_wire.specs.Limits.{full};
 ghost use Rattle.pb_command.specs.Answer.{refused};
 ghost use Rattle.pb_command.specs.CompileAnswer.{roots_of, texts_of, told_of};

@@ -5,6 +5,19 @@ use Rattle.std.specs.Str.{bytes_eq}
 use Rattle.std.proofs.lemmas.Bool.{false≢true, or_parts}
 use Rattle.std.proofs.lemmas.Slice.Eq.{bytes_eq-Decides}
 use Rattle.pb_decl.specs.Decls.{DeclaredField, DeclaredMethod, DeclaredService}
+use Rattle.pb_tokens.specs.Symbols.{Symbol, word, number, text, sign}
+use Rattle.pb_tokens.specs.Language.{Language, ◌▸◌, one, Rules}
+use Rattle.pb_tokens.specs.Phrases.{keyword, mark, name, BeginsNot, option, setting, signed, value_end, enum_range, typename}
+use Rattle.pb_tokens.specs.Readers.Forms.{Outcome, Reader, mapped, behind, on_kind, first_passes, by_kind, is_mark, choice, keyword_reader, mark_reader}
+use Rattle.pb_tokens.specs.Readers.Phrases.{option_reader, is_dot, enum_range_reader, name_reader, fullname_reader, typename_reader}
+use Rattle.pb_tokens.proofs.ReaderLaws.{Reads}
+use Rattle.pb_tokens.proofs.Compose.{never, Mapped, Both, Behind, Before, reads_mapped, reads_both, reads_behind, reads_before, reads_before_so, reads_some, reads_either, reads_equal, said_so}
+use Rattle.pb_tokens.proofs.Heads.{Headed, headed_one, headed_then, headed_separated, front_of, is_a_word}
+use Rattle.pb_tokens.proofs.SymbolTests.{is_the_sign, reads_mark, reads_keyword}
+use Rattle.pb_tokens.proofs.KindLemmas.{first_kind, ByKind, Offers, kinds_fail, kinds_filled, reads_kinds}
+use Rattle.pb_tokens.proofs.NameLaws.{reads_name, name_first, reads_typename}
+use Rattle.pb_tokens.proofs.OptionLaws.{reads_option, reads_setting, reads_signed, reads_value_end, end_stops}
+use Rattle.pb_tokens.proofs.RangeLaws.{reads_enum_range, enum_range_first}
 use Rattle.pb_source.specs.declared.kind.Label.TheVariants.{Unlabelled}
 use Rattle.pb_source.specs.declared.kind.EnumKind.{EnumKind}
 use Rattle.pb_source.specs.declared.kind.EnumKind.TheVariants as in_enum
@@ -14,22 +27,12 @@ use Rattle.pb_source.specs.declared.kind.ServiceKind.{ServiceKind}
 use Rattle.pb_source.specs.declared.kind.ServiceKind.TheVariants as in_service
 use Rattle.pb_source.specs.declared.kind.MethodKind.{MethodKind}
 use Rattle.pb_source.specs.declared.kind.MethodKind.TheVariants as in_method
-use Rattle.pb_source.specs.Symbols.{Symbol, word, number, text, sign}
-use Rattle.pb_source.specs.Language.{Language, ◌▸◌, one, Rules}
 use Rattle.pb_source.specs.Meaning.{EnumStatement, those_said, enum_of}
-use Rattle.pb_source.specs.Grammar.{keyword, mark, name, BeginsNot, option, setting, signed, value_end, field, oneof_statement, oneof, enum_range, enum_statement, enum_line, typename, streamed, parameter, method_statement, method_end, method, service_statement, service}
-use Rattle.pb_source.specs.Readers.Forms.{Outcome, Reader, mapped, behind, on_kind, first_passes, by_kind, is_mark, choice, keyword_reader, mark_reader}
-use Rattle.pb_source.specs.Readers.Lines.{option_reader, is_dot, is_closing, oneof_kind, oneof_line, oneof_statement_reader, oneof_reader, enum_range_reader, said_of_alias, enum_kind, value_reader, enum_statement_line, enum_statement_reader, enum_reader, name_reader, fullname_reader, typename_reader, streams, streamed_reader, method_kind, method_line, method_statement_reader, method_end_reader, method_from, parameter_reader, method_reader, service_kind, service_line, service_statement_reader, service_from, service_reader}
-use Rattle.pb_source.proofs.ReaderLaws.{Reads}
-use Rattle.pb_source.proofs.Compose.{never, Mapped, Both, Behind, Before, reads_mapped, reads_both, reads_behind, reads_before, reads_before_so, reads_some, reads_either, reads_equal, said_so}
-use Rattle.pb_source.proofs.Heads.{Headed, headed_one, headed_then, headed_separated, front_of, is_a_word}
-use Rattle.pb_source.proofs.SymbolTests.{is_the_sign, reads_mark, reads_keyword}
-use Rattle.pb_source.proofs.KindLemmas.{first_kind, ByKind, Offers, kinds_fail, kinds_filled, reads_kinds}
+use Rattle.pb_source.specs.Grammar.{field, oneof_statement, oneof, enum_statement, enum_line, streamed, parameter, method_statement, method_end, method, service_statement, service}
+use Rattle.pb_source.specs.Readers.Lines.{is_closing, oneof_kind, oneof_line, oneof_statement_reader, oneof_reader, said_of_alias, enum_kind, value_reader, enum_statement_line, enum_statement_reader, enum_reader, streams, streamed_reader, method_kind, method_line, method_statement_reader, method_end_reader, method_from, parameter_reader, method_reader, service_kind, service_line, service_statement_reader, service_from, service_reader}
 use Rattle.pb_source.proofs.StatementKinds.{kind_other, not_in_table, kind_one, kind_then, reads_braced}
-use Rattle.pb_source.proofs.NameLaws.{reads_name, name_first, reads_typename}
-use Rattle.pb_source.proofs.OptionLaws.{reads_option, reads_setting, reads_signed, reads_value_end, end_stops}
 use Rattle.pb_source.proofs.FieldLaws.{reads_field, begins_type, field_first}
-use Rattle.pb_source.proofs.ReservedLaws.{reads_enum_range, enum_range_first, Reserved, reads_reserved, reserved_first}
+use Rattle.pb_source.proofs.ReservedLaws.{Reserved, reads_reserved, reserved_first}
 
 -- ---- statements that say nothing
 

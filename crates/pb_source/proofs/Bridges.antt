@@ -1,14 +1,15 @@
 -- Readers that give the same where the code looks one symbol ahead.
 use Rattle.std.proofs.Common.{◌≡◌, ℕ, suc, List, [], ◌∷◌, ◌++◌, length, arith, Bool, true, false, codes, refl, ap, sym, ◌∙◌, subst, Ok, Err}
 use Rattle.std.specs.Prelude.{if◌then◌else◌}
+use Rattle.pb_tokens.specs.Symbols.{Symbol, word}
+use Rattle.pb_tokens.specs.Language.{Rules}
+use Rattle.pb_tokens.specs.Readers.Forms.{Outcome, on_outcome, answer, mapped, first_passes, is_mark, keyword_reader, mark_reader}
+use Rattle.pb_tokens.specs.Readers.Phrases.{is_dot, name_reader, fullname_reader, type_of, type_reader}
+use Rattle.pb_tokens.proofs.SymbolTests.{reads_keyword}
+use Rattle.pb_tokens.proofs.Compose.{never}
 use Rattle.pb_source.specs.declared.kind.Label.TheVariants.{Unlabelled}
-use Rattle.pb_source.specs.Symbols.{Symbol, word}
-use Rattle.pb_source.specs.Language.{Rules}
 use Rattle.pb_source.specs.Meaning.{MessageStatement}
-use Rattle.pb_source.specs.Readers.Forms.{Outcome, on_outcome, answer, mapped, first_passes, is_mark, keyword_reader, mark_reader}
-use Rattle.pb_source.specs.Readers.Lines.{is_dot, name_reader, fullname_reader, type_of, type_reader, field_tail_reader, field_from, field_reader, dotted_reader, of_map_reader, map_reader}
-use Rattle.pb_source.proofs.SymbolTests.{reads_keyword}
-use Rattle.pb_source.proofs.Compose.{never}
+use Rattle.pb_source.specs.Readers.Lines.{field_tail_reader, field_from, field_reader, dotted_reader, of_map_reader, map_reader}
 
 -- names behind a first one, whether the first is put before them or not
 names_so : {U V : Type 0} (dot : Outcome U) (names : List Symbol → Outcome (List (List ℕ))) (w : List ℕ) (g : List (List ℕ) → V)

@@ -4,21 +4,24 @@ use Rattle.std.specs.Str.{bytes_eq}
 use Rattle.std.proofs.lemmas.Bool.{false≢true}
 use Rattle.std.proofs.lemmas.Slice.Eq.{bytes_eq-Decides}
 use Rattle.pb_decl.specs.Decls.{DeclaredField}
+use Rattle.pb_tokens.specs.Symbols.{Symbol, word, number, text, sign}
+use Rattle.pb_tokens.specs.Language.{Language, ◌▸◌, ◌or◌, Rules}
+use Rattle.pb_tokens.specs.Said.{TypeSaid, a_scalar, a_name}
+use Rattle.pb_tokens.specs.Phrases.{keyword, mark, name, fullname, counted, field_end, key_type, typed}
+use Rattle.pb_tokens.specs.Readers.Forms.{first_passes, is_keyword, is_mark}
+use Rattle.pb_tokens.specs.Readers.Phrases.{is_dot, type_of}
+use Rattle.pb_tokens.proofs.ReaderLaws.{Reads, IsStop}
+use Rattle.pb_tokens.proofs.Parts.{Answered, reads_answer, reads_less}
+use Rattle.pb_tokens.proofs.Compose.{never, Mapped, Both, Behind, reads_mapped, reads_both, reads_both_so, reads_behind, reads_either, said_so}
+use Rattle.pb_tokens.proofs.Heads.{Headed, headed_one, headed_then, headed_separated, fails_front, fails_rest, stops_front, is_a_word, word_or_sign, front_of_one}
+use Rattle.pb_tokens.proofs.SymbolTests.{reads_mark, reads_keyword}
+use Rattle.pb_tokens.proofs.NameLaws.{reads_name, name_first, reads_fullname, reads_type, reads_key, Undotted, Dotted, undotted_typed, typed_so}
+use Rattle.pb_tokens.proofs.OptionLaws.{reads_counted, reads_field_end, mark_stops}
 use Rattle.pb_source.specs.declared.kind.Label.{Label}
 use Rattle.pb_source.specs.declared.kind.Label.TheVariants.{Unlabelled}
-use Rattle.pb_source.specs.Symbols.{Symbol, word, number, text, sign}
-use Rattle.pb_source.specs.Language.{Language, ◌▸◌, ◌or◌, Rules}
-use Rattle.pb_source.specs.Meaning.{TypeSaid, a_scalar, a_name, MapDecl, MessageStatement}
-use Rattle.pb_source.specs.Grammar.{keyword, mark, name, fullname, counted, field_end, key_type, typed, field, map_line}
-use Rattle.pb_source.specs.Readers.Forms.{first_passes, is_keyword, is_mark}
-use Rattle.pb_source.specs.Readers.Lines.{is_dot, type_of, field_tail_reader, field_from, field_reader, map_from, map_tail_reader, dotted_reader, of_map_reader, map_reader}
-use Rattle.pb_source.proofs.ReaderLaws.{Reads, IsStop}
-use Rattle.pb_source.proofs.Parts.{Answered, reads_answer, reads_less}
-use Rattle.pb_source.proofs.Compose.{never, Mapped, Both, Behind, reads_mapped, reads_both, reads_both_so, reads_behind, reads_either, said_so}
-use Rattle.pb_source.proofs.Heads.{Headed, headed_one, headed_then, headed_separated, fails_front, fails_rest, stops_front, is_a_word, word_or_sign, front_of_one}
-use Rattle.pb_source.proofs.SymbolTests.{reads_mark, reads_keyword}
-use Rattle.pb_source.proofs.NameLaws.{reads_name, name_first, reads_fullname, reads_type, reads_key, Undotted, Dotted, undotted_typed, typed_so}
-use Rattle.pb_source.proofs.OptionLaws.{reads_counted, reads_field_end, mark_stops}
+use Rattle.pb_source.specs.Meaning.{MapDecl, MessageStatement}
+use Rattle.pb_source.specs.Grammar.{field, map_line}
+use Rattle.pb_source.specs.Readers.Lines.{field_tail_reader, field_from, field_reader, map_from, map_tail_reader, dotted_reader, of_map_reader, map_reader}
 
 -- ---- fields
 

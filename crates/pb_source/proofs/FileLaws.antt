@@ -4,26 +4,28 @@ use Rattle.std.specs.Prelude.{if◌then◌else◌}
 use Rattle.std.specs.Str.{bytes_eq}
 use Rattle.std.proofs.lemmas.Bool.{false≢true, or_parts}
 use Rattle.std.proofs.lemmas.Slice.Eq.{bytes_eq-Decides}
+use Rattle.pb_tokens.specs.declared.rule.Rule.TheVariants.{SyntaxFirst as syntax_first}
+use Rattle.pb_tokens.specs.Symbols.{Symbol, word, number, text, sign}
+use Rattle.pb_tokens.specs.Language.{Language, ◌▸◌, ◌or◌, one, nothing, Rules}
+use Rattle.pb_tokens.specs.Said.{joined}
+use Rattle.pb_tokens.specs.Phrases.{keyword, mark, fullname, Until, option, utf8_text}
+use Rattle.pb_tokens.specs.Readers.Forms.{first_passes, is_keyword, symbol, judged}
+use Rattle.pb_tokens.proofs.ReaderLaws.{Reads, IsStop}
+use Rattle.pb_tokens.proofs.Parts.{Answered, reads_answer}
+use Rattle.pb_tokens.proofs.Compose.{never, Mapped, Both, Behind, Before, reads_mapped, reads_both_so, reads_behind, reads_before, reads_before_so, reads_either, said_so}
+use Rattle.pb_tokens.proofs.Heads.{headed_one, stops_rest, front_of, front_of_one}
+use Rattle.pb_tokens.proofs.SymbolTests.{is_the_word, Keeps, reads_judged, reads_mark, reads_keyword}
+use Rattle.pb_tokens.proofs.KindLemmas.{ByKind, Offers, kinds_filled, reads_kinds}
+use Rattle.pb_tokens.proofs.ToEnd.{always, Each, reads_to_end}
+use Rattle.pb_tokens.proofs.NameLaws.{reads_fullname}
+use Rattle.pb_tokens.proofs.OptionLaws.{end_stops}
+use Rattle.pb_tokens.proofs.RangeLaws.{reads_utf8}
 use Rattle.pb_source.specs.declared.kind.FileKind.{FileKind}
 use Rattle.pb_source.specs.declared.kind.FileKind.TheVariants as kind
-use Rattle.pb_source.specs.declared.rule.Rule.TheVariants.{SyntaxFirst as syntax_first}
-use Rattle.pb_source.specs.Symbols.{Symbol, word, number, text, sign}
-use Rattle.pb_source.specs.Language.{Language, ◌▸◌, ◌or◌, one, nothing, Rules}
-use Rattle.pb_source.specs.Meaning.{FileStatement, joined, all_said, packages_said}
-use Rattle.pb_source.specs.Grammar.{keyword, mark, fullname, Until, option, enum_line, message, room, service, access, utf8_text, file_statement, syntax_line, file}
-use Rattle.pb_source.specs.Readers.Forms.{first_passes, is_keyword, symbol, judged}
+use Rattle.pb_source.specs.Meaning.{FileStatement, all_said, packages_said}
+use Rattle.pb_source.specs.Grammar.{enum_line, message, room, service, access, file_statement, syntax_line, file}
 use Rattle.pb_source.specs.Readers.Lines.{access_reader, import_reader, package_reader, file_kind, file_line, file_statement_reader, syntax_word_in, syntax_text_in, syntax_reader, is_package, file_reader}
-use Rattle.pb_source.proofs.ReaderLaws.{Reads, IsStop}
-use Rattle.pb_source.proofs.Parts.{Answered, reads_answer}
-use Rattle.pb_source.proofs.Compose.{never, Mapped, Both, Behind, Before, reads_mapped, reads_both_so, reads_behind, reads_before, reads_before_so, reads_either, said_so}
-use Rattle.pb_source.proofs.Heads.{headed_one, stops_rest, front_of, front_of_one}
-use Rattle.pb_source.proofs.SymbolTests.{is_the_word, Keeps, reads_judged, reads_mark, reads_keyword}
-use Rattle.pb_source.proofs.KindLemmas.{ByKind, Offers, kinds_filled, reads_kinds}
 use Rattle.pb_source.proofs.StatementKinds.{kind_one, kind_then, kind_front}
-use Rattle.pb_source.proofs.ToEnd.{always, Each, reads_to_end}
-use Rattle.pb_source.proofs.NameLaws.{reads_fullname}
-use Rattle.pb_source.proofs.OptionLaws.{end_stops}
-use Rattle.pb_source.proofs.ReservedLaws.{reads_utf8}
 use Rattle.pb_source.proofs.BodyLaws.{Silent, reads_silent_end, reads_silent_option, not_empty_then, reads_enum, reads_service}
 use Rattle.pb_source.proofs.MessageLaws.{reads_message, file_message_first}
 

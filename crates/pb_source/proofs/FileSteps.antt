@@ -1,16 +1,16 @@
 -- What the statements of a file come to, one after another.
 use Rattle.std.proofs.Common.{◌≡◌, ◌≤◌, ℕ, List, [], ◌∷◌, ◌++◌, length, length-append, Bool, true, false, ◌||◌, refl, ap, ◌∙◌, arith, Ok}
 use Rattle.std.specs.Prelude.{if◌then◌else◌}
-use Rattle.pb_source.specs.declared.symbol.Placed.{Placed}
-use Rattle.pb_decl.specs.Decls.{more_messages, messages_of}
-use Rattle.pb_source.specs.Language.{all_rules}
+use Rattle.pb_tokens.specs.declared.symbol.Placed.{Placed}
+use Rattle.pb_tokens.specs.Language.{all_rules}
+use Rattle.pb_tokens.specs.Readers.Given.{symbols_from}
+use Rattle.pb_tokens.proofs.UntilSteps.{length_from}
 use Rattle.pb_source.specs.Meaning.{FileStatement, all_said, packages_said, file_messages}
 use Rattle.pb_source.specs.PartsView.{OnePackage, messages_listed}
 use Rattle.pb_source.specs.Readers.Lines.{is_package, file_statement_reader}
-use Rattle.pb_source.specs.Readers.Given.{symbols_from}
 use Rattle.pb_source.proofs.FileLaws.{Once, count, counted, at_most_one, reads_file_statement}
 use Rattle.pb_source.proofs.SaidSteps.{all_said-push}
-use Rattle.pb_source.proofs.UntilSteps.{length_from}
+use Rattle.pb_decl.specs.Decls.{more_messages, messages_of}
 
 pub listed_messages : (ss : List FileStatement) → messages_of (all_said messages_listed ss) ≡ file_messages ss
 listed_messages [] = refl

@@ -4,44 +4,26 @@ use Rattle.std.proofs.Common.{◌≡◌, ℕ, zero, suc, ◌≤◌, List, [], �
 use Rattle.pb_schema.specs.Names.{entry_name}
 use Rattle.pb_decl.specs.Decls.{DeclaredField, DeclaredEnum, DeclaredMethod, DeclaredFile, DeclaredMessages, message as message_decl, no_messages, more_messages}
 use Rattle.pb_decl.specs.declared.decl.TypeCode.TheVariants as code
-use Rattle.pb_source.specs.declared.fault.SourceCause.TheVariants.{Unexpected, NumberTooLarge, CustomOption, NotProto3, NestedTooDeep}
+use Rattle.pb_tokens.specs.declared.fault.SourceCause.TheVariants.{Unexpected, NumberTooLarge, CustomOption, NotProto3, NestedTooDeep}
+use Rattle.pb_tokens.specs.declared.rule.Rule.{Rule}
+use Rattle.pb_tokens.specs.declared.rule.Rule.TheVariants.{NumbersFit as numbers_fit, OptionsKnown as options_known, SyntaxFirst as syntax_first, NestsBounded as nests_bounded}
+use Rattle.pb_tokens.specs.Tokens.{Lexes}
+use Rattle.pb_tokens.specs.Symbols.{Symbol, word, number, text, sign, AreSymbols}
+use Rattle.pb_tokens.specs.Language.{all_rules}
+use Rattle.pb_tokens.specs.Said.{a_scalar, a_name}
+use Rattle.pb_tokens.specs.Readers.Forms.{Outcome}
+use Rattle.pb_tokens.specs.Readers.Phrases.{name_reader, fullname_reader, typename_reader, limited_reader, signed_reader, plus_or_minus_reader, constant_reader, optname_reader, assignment_reader, option_reader, setting_reader, field_option_reader, options_reader, field_end_reader, value_end_reader, type_reader, key_reader, range_reader, utf8_reader}
+use Rattle.pb_tokens.proofs.ToEnd.{always}
 use Rattle.pb_source.specs.declared.kind.Label.TheVariants.{Unlabelled, Optional}
-use Rattle.pb_source.specs.declared.rule.Rule.{Rule}
-use Rattle.pb_source.specs.declared.rule.Rule.TheVariants.{NumbersFit as numbers_fit, OptionsKnown as options_known, SyntaxFirst as syntax_first, NestsBounded as nests_bounded}
-use Rattle.pb_source.specs.Symbols.{Symbol, word, number, text, sign}
-use Rattle.pb_source.specs.Integers.{integer_of}
-use Rattle.pb_source.specs.Language.{all_rules}
-use Rattle.pb_source.specs.Meaning.{FileStatement, MessageStatement, a_scalar, a_name, MapDecl, field_of, message_of}
+use Rattle.pb_source.specs.Meaning.{FileStatement, MessageStatement, MapDecl, field_of, message_of}
 use Rattle.pb_source.specs.Grammar.{file, FileSyntax}
 use Rattle.pb_source.specs.SyntaxFault.{Fault, SyntaxFault}
-use Rattle.pb_source.specs.Readers.Forms.{Outcome}
-use Rattle.pb_source.specs.Readers.Lines.{name_reader, fullname_reader, typename_reader, limited_reader, signed_reader, plus_or_minus_reader, constant_reader, optname_reader, assignment_reader, option_reader, setting_reader, field_option_reader, options_reader, field_end_reader, value_end_reader, type_reader, key_reader, field_tail_reader, field_reader, map_tail_reader, dotted_reader, of_map_reader, map_reader, oneof_statement_reader, oneof_reader, range_reader, utf8_reader, reserved_reader, value_reader, enum_statement_reader, enum_reader, message_statement_reader, message_line_reader, last_statement_reader, room_statement_reader, streamed_reader, method_statement_reader, method_end_reader, parameter_reader, method_reader, service_statement_reader, service_reader, access_reader, import_reader, package_reader, file_statement_reader, syntax_reader, file_reader}
-use Rattle.pb_source.proofs.ToEnd.{always}
+use Rattle.pb_source.specs.Source.{place_in, HasFault}
+use Rattle.pb_source.specs.Readers.Lines.{field_tail_reader, field_reader, map_tail_reader, dotted_reader, of_map_reader, map_reader, oneof_statement_reader, oneof_reader, reserved_reader, value_reader, enum_statement_reader, enum_reader, message_statement_reader, message_line_reader, last_statement_reader, room_statement_reader, streamed_reader, method_statement_reader, method_end_reader, parameter_reader, method_reader, service_statement_reader, service_reader, access_reader, import_reader, package_reader, file_statement_reader, syntax_reader, file_reader}
 use Rattle.pb_source.proofs.FaultLemmas.{refused_so, read_words}
 use Rattle.pb_source.proofs.FileLaws.{reads_file}
 
--- ---- integers and names
-
-octal : integer_of (codes "010") ≡ Some 8
-octal = refl
-
-hexadecimal : integer_of (codes "0x1F") ≡ Some 31
-hexadecimal = refl
-
-only_zero : integer_of (codes "0") ≡ Some 0
-only_zero = refl
-
-no_octal_digit : integer_of (codes "08") ≡ None
-no_octal_digit = refl
-
-no_digits : integer_of (codes "0x") ≡ None
-no_digits = refl
-
-no_decimal : integer_of (codes "1a") ≡ None
-no_decimal = refl
-
-one_too_large : integer_of (codes "2147483648") ≡ Some 2147483648
-one_too_large = refl
+-- ---- names
 
 camel_case : entry_name (codes "my_map") ≡ codes "MyMapEntry"
 camel_case = refl
@@ -375,3 +357,16 @@ aliases = (
   read_words always file file_reader reads_file (proto3 ++ an_enum) (FileStatement.an_enum values ∷ []) 40 (lit≤ tt) refl,
   refl,
 )
+
+-- ---- where a fault is told
+
+-- a symbol behind the last is at the end of the source
+place_of_symbol : place_in (record { at = 3; symbol = Symbol.word (codes "a") } ∷ []) 9 0 ≡ 3
+place_of_symbol = refl
+
+place_of_end : place_in (record { at = 3; symbol = Symbol.word (codes "a") } ∷ []) 9 1 ≡ 9
+place_of_end = refl
+
+-- an empty source is refused at its end
+empty_source : HasFault [] 0 NotProto3
+empty_source = HasFault.in_syntax {ts = []} {ss = []} {k = 0} (lit≤ tt) ([], (refl, refl)) (0, Lexes.done) AreSymbols.none (Fault.no_symbols refl)

@@ -1,79 +1,16 @@
--- ---- tokens
--- for where a comment ends
-pub mod CommentLemmas
--- for texts that are cut: tokens begin and end with ASCII bytes
-pub mod AsciiLemmas
--- for the loop of `lex`: whole tokens, and then one thing more
-pub mod LexLemmas
--- for what stands at the front of bytes: a blank, a comment or a token
-pub mod PieceLemmas
--- for digits by the numbers that they count, in escapes and in what they mean
-pub mod DigitLemmas
--- for the loops over texts, step by step
-pub mod TextSteps
--- for the lengths of texts and escapes: the code computes those that the rules of tokens name
-pub mod TextLemmas
--- for texts that are closed: each is one, or stops at a NUL or at a `\` of no escape
-pub mod TextPieces
--- for the rules of tokens, which leave no choice at the front of bytes
-pub mod OnePiece
--- and none for a whole source: it has one list of tokens, or one fault
-pub mod OneLexing
--- every source has tokens or a fault
-pub mod SomeLexing
--- ---- symbols
--- for what texts mean, as the code computes it
-pub mod TextMeaning
--- for the loops that turn tokens into symbols
-pub mod SymbolLemmas
--- for the rules of symbols, which leave no choice: tokens have one list of them
-pub mod OneReading
--- and every list of tokens has one
-pub mod SomeReading
 -- ---- the loops of the parser, each turn a step of a reader, and what they put together
--- for loops up to a closing sign
-pub mod UntilSteps
--- for loops over items with a separator between
-pub mod SeparatedSteps
 -- for what is read where no symbol is left
-pub mod NoSymbols
+pub mod NoStatement
 -- for what statements say, one after another
 pub mod SaidSteps
 -- for the parts of a message and of a file, one statement after another
 pub mod PartSteps
--- for number words, by the integer as the code counts it
-pub mod NumberSteps
--- for words that are joined by dots
-pub mod NameSteps
--- ---- what a reader owes its language: each way of building readers of readers keeps it
--- what a reader owes, and what follows for readers built of others
-pub mod ReaderLaws
--- of nothing, of one symbol, of one of two languages
-pub mod Parts
--- of one thing behind another
-pub mod Compose
--- for all of them: the symbols that words begin with
-pub mod Heads
--- of one symbol that passes a test
-pub mod SymbolTests
--- of repetition
-pub mod Loops
--- of what a rule forbids, by the symbol that stands first
-pub mod Guards
--- of one of many languages, by the kind of that symbol
-pub mod KindLemmas
--- of items up to the end
-pub mod ToEnd
 -- ---- the lines of the grammar: their readers keep what they owe
--- names and types
-pub mod NameLaws
--- integers, constants and options
-pub mod OptionLaws
 -- kinds of statements by tables of words and signs, and bodies in braces
 pub mod StatementKinds
 -- fields and maps
 pub mod FieldLaws
--- reserved ranges and names
+-- what is reserved
 pub mod ReservedLaws
 -- oneofs, enums and services
 pub mod BodyLaws
@@ -84,15 +21,15 @@ pub mod FileLaws
 -- ---- whole sources
 -- for faults: a reader of a language tells exactly those, and reads exactly its words
 pub mod FaultLemmas
--- for readers that may go further: they answer the same, but where they came to the end of how far they might go
-pub mod Growing
+-- for readers of statements that may go further
+pub mod GrowingLines
 -- for symbols: they are one file, or have one fault
 pub mod OneFile
 -- for sources: what the reader of files gives on their symbols is their declaration or their fault
 pub mod SourceLaws
 -- for what is made of sources, in the crates above: messages stand in each other at most 65 deep
 pub mod NestLemmas
--- for the laws that a source is one list of tokens and one file, or has one fault
+-- for the law that a source is one file, or has one fault
 pub mod OneSource
 -- for `parse`: what it tells is the declaration, or the fault and no other
 pub mod ParseLemmas
@@ -107,7 +44,5 @@ pub mod FileSteps
 -- for where the code looks one symbol ahead: readers that give the same
 pub mod Bridges
 -- ---- worked out by the rules
--- small sources with their tokens and faults
-mod Rows
 -- small files with their declarations and faults
 mod GrammarRows

@@ -5,26 +5,29 @@ use Rattle.std.specs.Str.{bytes_eq}
 use Rattle.std.proofs.lemmas.Bool.{false≢true}
 use Rattle.std.proofs.lemmas.Slice.Eq.{bytes_eq-Decides}
 use Rattle.pb_decl.specs.Decls.{DeclaredMessage, DeclaredField}
+use Rattle.pb_tokens.specs.declared.rule.Rule.TheVariants.{NestsBounded as nests_bounded}
+use Rattle.pb_tokens.specs.Symbols.{Symbol, word, number, text, sign}
+use Rattle.pb_tokens.specs.Language.{Language, ◌▸◌, Rules, Begins}
+use Rattle.pb_tokens.specs.Phrases.{keyword, mark, name, Until, BeginsNot, option, message_range}
+use Rattle.pb_tokens.specs.Readers.Forms.{Reader, mapped, first_passes, is_keyword}
+use Rattle.pb_tokens.specs.Readers.Phrases.{message_range_reader}
+use Rattle.pb_tokens.proofs.ReaderLaws.{Reads}
+use Rattle.pb_tokens.proofs.Compose.{never, Mapped, Behind, reads_mapped, reads_both, reads_behind, said_so}
+use Rattle.pb_tokens.proofs.Heads.{Headed, headed_one, headed_then}
+use Rattle.pb_tokens.proofs.SymbolTests.{is_the_word, reads_keyword}
+use Rattle.pb_tokens.proofs.Guards.{reads_guarded}
+use Rattle.pb_tokens.proofs.KindLemmas.{first_kind, ByKind, Offers, kinds_fail, kinds_filled, reads_kinds}
+use Rattle.pb_tokens.proofs.NameLaws.{reads_name}
+use Rattle.pb_tokens.proofs.RangeLaws.{reads_message_range, message_range_first}
 use Rattle.pb_source.specs.declared.kind.Label.TheVariants.{Unlabelled, Repeated, Optional}
 use Rattle.pb_source.specs.declared.kind.MessageKind.{MessageKind}
 use Rattle.pb_source.specs.declared.kind.MessageKind.TheVariants as kind
-use Rattle.pb_source.specs.declared.rule.Rule.TheVariants.{NestsBounded as nests_bounded}
-use Rattle.pb_source.specs.Symbols.{Symbol, word, number, text, sign}
-use Rattle.pb_source.specs.Language.{Language, ◌▸◌, Rules, Begins}
 use Rattle.pb_source.specs.Meaning.{MessageStatement, message_of}
-use Rattle.pb_source.specs.Grammar.{keyword, mark, name, Until, BeginsNot, option, field, oneof, enum_line, message_range, message_statement, message, room}
-use Rattle.pb_source.specs.Readers.Forms.{Reader, mapped, first_passes, is_keyword}
-use Rattle.pb_source.specs.Readers.Lines.{is_closing, message_kind, message_range_reader, message_statement_line, message_statement_reader, message_line_reader, last_statement_reader, room_statement_reader, message_reader}
-use Rattle.pb_source.proofs.ReaderLaws.{Reads}
-use Rattle.pb_source.proofs.Compose.{never, Mapped, Behind, reads_mapped, reads_both, reads_behind, said_so}
-use Rattle.pb_source.proofs.Heads.{Headed, headed_one, headed_then}
-use Rattle.pb_source.proofs.SymbolTests.{is_the_word, reads_keyword}
-use Rattle.pb_source.proofs.Guards.{reads_guarded}
-use Rattle.pb_source.proofs.KindLemmas.{first_kind, ByKind, Offers, kinds_fail, kinds_filled, reads_kinds}
+use Rattle.pb_source.specs.Grammar.{field, oneof, enum_line, message_statement, message, room}
+use Rattle.pb_source.specs.Readers.Lines.{is_closing, message_kind, message_statement_line, message_statement_reader, message_line_reader, last_statement_reader, room_statement_reader, message_reader}
 use Rattle.pb_source.proofs.StatementKinds.{kind_other, not_in_table, in_front, in_both, kind_one, kind_then, kind_front, reads_braced}
-use Rattle.pb_source.proofs.NameLaws.{reads_name}
 use Rattle.pb_source.proofs.FieldLaws.{reads_field, begins_type, field_first, MapLine, reads_map, map_line_first}
-use Rattle.pb_source.proofs.ReservedLaws.{Reserved, reads_reserved, reserved_first, reads_message_range, message_range_first}
+use Rattle.pb_source.proofs.ReservedLaws.{Reserved, reads_reserved, reserved_first}
 use Rattle.pb_source.proofs.BodyLaws.{Silent, reads_silent_end, reads_silent_option, not_empty_then, closing_of_none, reads_oneof, reads_enum}
 
 -- ---- statements, by the messages that may stand among them

@@ -3,10 +3,11 @@ use Rattle.std.proofs.Common.{◌≡◌, ℕ, zero, suc, ◌≤◌, max, List, [
 use Rattle.pb_schema.specs.Names.{in_scope}
 use Rattle.pb_decl.specs.Decls.{DeclaredMessage, message as message_decl, DeclaredMessages, no_messages, more_messages, DeclaredFile}
 use Rattle.pb_decl.specs.Nests.{nests, all_nest}
-use Rattle.pb_source.specs.Symbols.{Symbol}
-use Rattle.pb_source.specs.Language.{Rules, all_rules, Language, nothing}
+use Rattle.pb_tokens.specs.Symbols.{Symbol}
+use Rattle.pb_tokens.specs.Language.{Rules, all_rules, Language, nothing}
+use Rattle.pb_tokens.specs.Phrases.{Until, mark}
 use Rattle.pb_source.specs.Meaning.{MessageStatement, FileStatement, scoped, all_scoped, nested_messages, messages_said, file_messages, file_message_said, package_of}
-use Rattle.pb_source.specs.Grammar.{Until, mark, message_statement, message, file_statement, FileSyntax}
+use Rattle.pb_source.specs.Grammar.{message_statement, message, file_statement, FileSyntax}
 use Rattle.pb_source.specs.Source.{IsSource}
 
 -- ---- names of entries change nothing

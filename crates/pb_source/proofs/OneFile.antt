@@ -2,22 +2,22 @@
 use Rattle.std.proofs.Common.{◌≡◌, ℕ, zero, suc, ◌-◌, ◌≤◌, List, [], ◌∷◌, ◌++◌, length, take, drop, Bool, true, false, refl, ap, sym, ◌∙◌, subst, arith, append-nil, Option, Ok, Err, ◌⊎◌, inl, inr}
 use Rattle.std.specs.Prelude.{if◌then◌else◌}
 use Rattle.std.proofs.lemmas.List.{take-append-drop}
-use Rattle.pb_source.specs.Symbols.{Symbol}
-use Rattle.pb_source.specs.Language.{Rules, all_rules, told, Begins}
+use Rattle.pb_tokens.specs.Symbols.{Symbol}
+use Rattle.pb_tokens.specs.Language.{Rules, all_rules, told, Begins}
+use Rattle.pb_tokens.specs.declared.rule.Rule.{Rule}
+use Rattle.pb_tokens.specs.declared.fault.SourceCause.{SourceCause}
+use Rattle.pb_tokens.specs.declared.fault.SourceCause.TheVariants.{Unexpected, NotProto3}
+use Rattle.pb_tokens.specs.Readers.Forms.{Outcome, Reader, to_end}
+use Rattle.pb_tokens.proofs.ReaderLaws.{bind_ok}
+use Rattle.pb_tokens.proofs.Parts.{ok_parts}
+use Rattle.pb_tokens.proofs.ToEnd.{always}
 use Rattle.pb_source.specs.Meaning.{FileStatement}
 use Rattle.pb_source.specs.Grammar.{file}
 use Rattle.pb_source.specs.SyntaxFault.{Fault, SyntaxFault}
-use Rattle.pb_source.specs.declared.rule.Rule.{Rule}
-use Rattle.pb_source.specs.declared.fault.SourceCause.{SourceCause}
-use Rattle.pb_source.specs.declared.fault.SourceCause.TheVariants.{Unexpected, NotProto3}
-use Rattle.pb_source.specs.Readers.Forms.{Outcome, Reader, to_end}
 use Rattle.pb_source.specs.Readers.Lines.{syntax_reader, file_statement_reader, is_package, file_reader}
-use Rattle.pb_source.proofs.ReaderLaws.{bind_ok}
-use Rattle.pb_source.proofs.Parts.{ok_parts}
-use Rattle.pb_source.proofs.ToEnd.{always}
 use Rattle.pb_source.proofs.FaultLemmas.{refused_so, only_so, words_read, read_words}
 use Rattle.pb_source.proofs.FileLaws.{reads_file, file_not_empty}
-use Rattle.pb_source.proofs.Growing.{refused_further}
+use Rattle.pb_source.proofs.GrowingLines.{refused_further}
 
 -- ---- what is read up to the end leaves nothing
 

@@ -6,44 +6,26 @@ use Rattle.std.specs.Str.{is_utf8}
 use Rattle.std.specs.Str.Lossy.{utf8_valid_len}
 use Rattle.pb_decl.specs.Decls.{DeclaredFile}
 use Rattle.pb_decl.specs.One.{ExactlyOne}
-use Rattle.pb_source.specs.declared.fault.SourceCause.{SourceCause}
-use Rattle.pb_source.specs.declared.fault.SourceCause.TheVariants.{SourceTooLarge, BadUtf8}
-use Rattle.pb_source.specs.declared.fault.SourceFault.{SourceFault}
-use Rattle.pb_source.specs.Fault.{fault}
-use Rattle.pb_source.specs.Tokens.{PlacedToken, AreTokens, LexFault}
-use Rattle.pb_source.specs.Symbols.{PlacedSymbol, AreSymbols}
-use Rattle.pb_source.specs.SymbolView.{HasSymbols}
+use Rattle.pb_tokens.specs.declared.fault.SourceCause.{SourceCause}
+use Rattle.pb_tokens.specs.declared.fault.SourceCause.TheVariants.{SourceTooLarge, BadUtf8}
+use Rattle.pb_tokens.specs.declared.fault.SourceFault.{SourceFault}
+use Rattle.pb_tokens.specs.Fault.{fault}
+use Rattle.pb_tokens.specs.Tokens.{PlacedToken, AreTokens, LexFault}
+use Rattle.pb_tokens.specs.Symbols.{PlacedSymbol, AreSymbols}
+use Rattle.pb_tokens.specs.SymbolView.{HasSymbols}
+use Rattle.pb_tokens.proofs.OneOrFault.{same_told}
+use Rattle.pb_tokens.specs.Language.{all_rules}
+use Rattle.pb_tokens.proofs.OneLexing.{one_fault, not_both}
+use Rattle.pb_tokens.proofs.OneReading.{one_source}
+use Rattle.pb_tokens.proofs.SomeLexing.{tokens_or_fault}
+use Rattle.pb_tokens.proofs.SomeReading.{some_symbols}
+use Rattle.pb_tokens.proofs.SymbolLemmas.{tokens_meant}
 use Rattle.pb_source.specs.Meaning.{FileStatement, file_of}
 use Rattle.pb_source.specs.Grammar.{file}
-use Rattle.pb_source.specs.Language.{all_rules}
 use Rattle.pb_source.specs.SyntaxFault.{SyntaxFault}
 use Rattle.pb_source.specs.Source.{symbols_alone, place_in, IsSource, HasFault}
-use Rattle.pb_source.proofs.OneLexing.{one_list, one_fault, not_both}
-use Rattle.pb_source.proofs.OneReading.{one_source}
-use Rattle.pb_source.proofs.SomeLexing.{tokens_or_fault}
-use Rattle.pb_source.proofs.SomeReading.{some_symbols}
-use Rattle.pb_source.proofs.SymbolLemmas.{tokens_meant}
 use Rattle.pb_source.proofs.OneFile.{file_or_fault, file_no_fault, one_statements, one_syntax_fault}
 use Rattle.pb_source.proofs.SourceLaws.{too_large_only, bad_utf8_only, token_only}
-
--- faults that are told at one place, for one cause
-same_told : (f g : SourceFault) → (f.byte ≡ g.byte) × (f.cause ≡ g.cause) → f ≡ g
-same_told f g h = λ i. fault (h.0 i) (h.1 i)
-
--- ---- tokens
-
-pub one_lexing : (bytes : List ℕ) → ExactlyOne (AreTokens bytes) (λ (e : SourceFault). LexFault bytes e.byte e.cause)
-one_lexing bytes = record {
-  either = told (tokens_or_fault bytes);
-  not_both = λ ts e h f. not_both bytes ts e.byte e.cause h f;
-  one_meaning = one_list bytes;
-  one_fault = λ e g f h. same_told e g (one_fault bytes e.byte g.byte e.cause g.cause f h);
-}
-  where
-    told : ((ts : List PlacedToken) × AreTokens bytes ts) ⊎ ((place : ℕ) × (c : SourceCause) × LexFault bytes place c)
-        → ((ts : List PlacedToken) × AreTokens bytes ts) ⊎ ((e : SourceFault) × LexFault bytes e.byte e.cause)
-    told (inl h) = inl h
-    told (inr (place, c, f)) = inr (fault place c, f)
 
 -- ---- whole sources
 

@@ -1,19 +1,20 @@
 -- What is told of a source is its declaration, or its fault and no other.
 use Rattle.std.proofs.Common.{◌≡◌, ℕ, zero, suc, ◌^◌, ◌-◌, ◌<◌, ◌≤◌, List, [], ◌∷◌, length, get_or, refl, ap, sym, ◌∙◌, subst, arith, ◌⊎◌, inl, inr, IsUtf8}
 use Rattle.pb_decl.specs.Decls.{DeclaredFile}
-use Rattle.pb_source.specs.declared.fault.SourceCause.{SourceCause}
-use Rattle.pb_source.specs.declared.fault.SourceFault.{SourceFault}
-use Rattle.pb_source.specs.declared.refusal.Refusal.{Refusal}
-use Rattle.pb_source.specs.declared.refusal.Refusal.TheVariants as refusal
-use Rattle.pb_source.specs.declared.symbol.Placed.{Placed}
-use Rattle.pb_source.specs.Fault.{fault, out_of_memory}
-use Rattle.pb_source.specs.Tokens.{LexFault}
-use Rattle.pb_source.specs.SymbolView.{symbols_of, HasSymbols}
-use Rattle.pb_source.specs.Language.{all_rules}
+use Rattle.pb_tokens.specs.declared.fault.SourceCause.{SourceCause}
+use Rattle.pb_tokens.specs.declared.fault.SourceFault.{SourceFault}
+use Rattle.pb_tokens.specs.declared.refusal.Refusal.{Refusal}
+use Rattle.pb_tokens.specs.declared.refusal.Refusal.TheVariants as refusal
+use Rattle.pb_tokens.specs.declared.symbol.Placed.{Placed}
+use Rattle.pb_tokens.specs.Fault.{fault, out_of_memory}
+use Rattle.pb_tokens.specs.Tokens.{LexFault}
+use Rattle.pb_tokens.specs.SymbolView.{symbols_of, HasSymbols}
+use Rattle.pb_tokens.specs.Language.{all_rules}
+use Rattle.pb_tokens.specs.Readers.Given.{symbols_from, Fails}
 use Rattle.pb_source.specs.Meaning.{FileStatement, file_of}
 use Rattle.pb_source.specs.Source.{place_in, IsSource, HasFault}
 use Rattle.pb_source.specs.Readers.Lines.{file_reader}
-use Rattle.pb_source.specs.Readers.Given.{symbols_from, Fails, fault_at}
+use Rattle.pb_source.specs.Readers.Told.{fault_at}
 use Rattle.pb_source.proofs.SourceLaws.{ReadsAll, is_source, only_source, no_fault, has_fault, only_fault, no_source, token_only, token_no_source}
 
 -- ---- what is told

@@ -4,16 +4,16 @@ use Rattle.std.specs.Prelude.{if◌then◌else◌}
 use Rattle.std.specs.Str.{bytes_eq}
 use Rattle.std.proofs.lemmas.Bool.{false≢true}
 use Rattle.pb_decl.specs.Decls.{DeclaredMessage}
+use Rattle.pb_tokens.specs.declared.rule.Rule.TheVariants.{NestsBounded as nests_bounded}
+use Rattle.pb_tokens.specs.Symbols.{Symbol, word, number, text, sign}
+use Rattle.pb_tokens.specs.Language.{all_rules}
+use Rattle.pb_tokens.specs.Readers.Forms.{Reader, if_some, on_kind, mapped, is_keyword}
+use Rattle.pb_tokens.proofs.SymbolTests.{is_the_word}
 use Rattle.pb_source.specs.declared.kind.MessageKind.{MessageKind}
 use Rattle.pb_source.specs.declared.kind.MessageKind.TheVariants as kind
-use Rattle.pb_source.specs.declared.rule.Rule.TheVariants.{NestsBounded as nests_bounded}
-use Rattle.pb_source.specs.Symbols.{Symbol, word, number, text, sign}
-use Rattle.pb_source.specs.Language.{all_rules}
 use Rattle.pb_source.specs.Meaning.{MessageStatement}
 use Rattle.pb_source.specs.PartsView.{is_plain}
-use Rattle.pb_source.specs.Readers.Forms.{Reader, if_some, on_kind, mapped, is_keyword}
 use Rattle.pb_source.specs.Readers.Lines.{kind_in, message_kind, message_statement_line, message_statement_reader, last_statement_reader, room_statement_reader, message_reader}
-use Rattle.pb_source.proofs.SymbolTests.{is_the_word}
 use Rattle.pb_source.proofs.StatementKinds.{NoRow}
 
 -- a kind that neither a row nor the other words have

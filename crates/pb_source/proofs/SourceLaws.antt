@@ -4,26 +4,27 @@ use Rattle.std.proofs.lemmas.Bool.{cases_lt}
 use Rattle.std.proofs.lemmas.List.{length-map, take-append-drop}
 use Rattle.std.specs.Str.Lossy.{utf8_valid_len}
 use Rattle.pb_decl.specs.Decls.{DeclaredFile}
-use Rattle.pb_source.specs.declared.fault.SourceCause.{SourceCause}
-use Rattle.pb_source.specs.declared.fault.SourceCause.TheVariants.{SourceTooLarge, BadUtf8, NotProto3}
-use Rattle.pb_source.specs.declared.rule.Rule.{Rule}
-use Rattle.pb_source.specs.declared.symbol.Placed.{Placed}
-use Rattle.pb_source.specs.Tokens.{LexFault}
-use Rattle.pb_source.specs.Symbols.{Symbol, PlacedSymbol}
-use Rattle.pb_source.specs.SymbolView.{symbol_of, placed_of, symbols_of, HasSymbols}
-use Rattle.pb_source.specs.Language.{all_rules, Begins}
+use Rattle.pb_tokens.specs.declared.fault.SourceCause.{SourceCause}
+use Rattle.pb_tokens.specs.declared.fault.SourceCause.TheVariants.{SourceTooLarge, BadUtf8, NotProto3}
+use Rattle.pb_tokens.specs.declared.rule.Rule.{Rule}
+use Rattle.pb_tokens.specs.declared.symbol.Placed.{Placed}
+use Rattle.pb_tokens.specs.Tokens.{LexFault}
+use Rattle.pb_tokens.specs.Symbols.{Symbol, PlacedSymbol}
+use Rattle.pb_tokens.specs.SymbolView.{symbol_of, placed_of, symbols_of, HasSymbols}
+use Rattle.pb_tokens.specs.Language.{all_rules, Begins}
+use Rattle.pb_tokens.specs.Readers.Forms.{Outcome}
+use Rattle.pb_tokens.specs.Readers.Given.{symbols_from}
+use Rattle.pb_tokens.proofs.ToEnd.{always}
+use Rattle.pb_tokens.proofs.OneLexing.{one_fault, not_both}
+use Rattle.pb_tokens.proofs.OneReading.{one_source, no_symbols}
 use Rattle.pb_source.specs.Meaning.{FileStatement, file_of}
 use Rattle.pb_source.specs.Grammar.{file}
 use Rattle.pb_source.specs.SyntaxFault.{Fault, SyntaxFault}
 use Rattle.pb_source.specs.Source.{symbols_alone, place_in, IsSource, HasFault}
-use Rattle.pb_source.specs.Readers.Forms.{Outcome}
 use Rattle.pb_source.specs.Readers.Lines.{file_reader}
-use Rattle.pb_source.specs.Readers.Given.{symbols_from, cause_at}
-use Rattle.pb_source.proofs.ToEnd.{always}
+use Rattle.pb_source.specs.Readers.Told.{cause_at}
 use Rattle.pb_source.proofs.FaultLemmas.{refused_so, only_so, words_read, read_words}
 use Rattle.pb_source.proofs.FileLaws.{reads_file, file_not_empty}
-use Rattle.pb_source.proofs.OneLexing.{one_fault, not_both}
-use Rattle.pb_source.proofs.OneReading.{one_source, no_symbols}
 
 -- ---- symbols and their places
 

@@ -5,13 +5,9 @@ use Rattle.pb_decl.specs.Decls.{DeclaredField, DeclaredEnum, DeclaredMessage, me
 use Rattle.pb_decl.specs.Decls.{no_messages, more_messages, DeclaredService, DeclaredFile}
 use Rattle.pb_decl.specs.declared.decl.TypeCode.{TypeCode}
 use Rattle.pb_decl.specs.declared.decl.TypeCode.TheVariants.{Message as message_code}
+use Rattle.pb_tokens.specs.Said.{TypeSaid, code_said, name_said, a_scalar}
 use Rattle.pb_source.specs.declared.kind.Label.{Label}
 use Rattle.pb_source.specs.declared.kind.Label.TheVariants.{Unlabelled, Repeated, Optional}
-
--- a type as it is written: a scalar, or the name of a message or an enum
-pub data TypeSaid : Type 0 where
-  a_scalar : TypeCode → TypeSaid
-  a_name : List ℕ → TypeSaid
 
 -- `map < key , value > name = number`
 pub record MapDecl : Type 0 where
@@ -48,33 +44,13 @@ pub data FileStatement : Type 0 where
   an_enum : DeclaredEnum → FileStatement
   a_service : DeclaredService → FileStatement
 
--- words joined by dots
-abbrev pub joined : List (List ℕ) → List ℕ
-joined [] = []
-joined (w ∷ []) = w
-joined (w ∷ v ∷ ws) = w ++ 46 ∷ joined (v ∷ ws)
-
 -- what was said, of statements that may say nothing
 abbrev pub those_said : {A : Type 0} → List (Option A) → List A
 those_said [] = []
 those_said (None ∷ xs) = those_said xs
 those_said (Some x ∷ xs) = x ∷ those_said xs
 
--- of what was said more than once, the last stands
-abbrev pub last_said : Option Bool → List (Option Bool) → Option Bool
-last_said now [] = now
-last_said now (None ∷ ss) = last_said now ss
-last_said now (Some b ∷ ss) = last_said (Some b) ss
-
 -- ---- fields
-
-abbrev pub code_said : TypeSaid → Option TypeCode
-code_said (a_scalar c) = Some c
-code_said (a_name n) = None
-
-abbrev pub name_said : TypeSaid → Option (List ℕ)
-name_said (a_scalar c) = None
-name_said (a_name n) = Some n
 
 abbrev pub is_repeated_label : Label → Bool
 is_repeated_label Unlabelled = false

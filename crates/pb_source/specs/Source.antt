@@ -2,12 +2,12 @@
 use Rattle.std.specs.Prelude.{ℕ, zero, suc, ◌^◌, ◌-◌, ◌<◌, ◌≤◌, List, [], ◌∷◌, length, map, IsUtf8}
 use Rattle.std.specs.Str.Lossy.{utf8_valid_len}
 use Rattle.pb_decl.specs.Decls.{DeclaredFile}
-use Rattle.pb_source.specs.Tokens.{PlacedToken, AreTokens, LexFault}
-use Rattle.pb_source.specs.Symbols.{Symbol, PlacedSymbol, AreSymbols}
+use Rattle.pb_tokens.specs.Tokens.{PlacedToken, AreTokens, LexFault}
+use Rattle.pb_tokens.specs.Symbols.{Symbol, PlacedSymbol, AreSymbols}
+use Rattle.pb_tokens.specs.declared.fault.SourceCause.{SourceCause}
+use Rattle.pb_tokens.specs.declared.fault.SourceCause.TheVariants.{SourceTooLarge, BadUtf8}
 use Rattle.pb_source.specs.Grammar.{FileSyntax}
 use Rattle.pb_source.specs.SyntaxFault.{SyntaxFault}
-use Rattle.pb_source.specs.declared.fault.SourceCause.{SourceCause}
-use Rattle.pb_source.specs.declared.fault.SourceCause.TheVariants.{SourceTooLarge, BadUtf8}
 
 abbrev pub symbols_alone : List PlacedSymbol → List Symbol
 symbols_alone = map (λ p. p.symbol)

@@ -1,12 +1,8 @@
 -- Statements and their parts as the code has them.
-use Rattle.std.specs.Prelude.{ℕ, List, [], ◌∷◌, Option, None, map, string_bytes}
-use Rattle.std.specs.Borrow.{Bor}
+use Rattle.std.specs.Prelude.{map, string_bytes}
 use Rattle.pb_decl.specs.View.{field_view, message_view, enum_view, service_view}
-use Rattle.pb_decl.specs.declared.decl.TypeCode.{TypeCode}
-use Rattle.pb_source.specs.Grammar.{scalar_code}
-use Rattle.pb_source.specs.Meaning.{TypeSaid, a_scalar, a_name, MapDecl, MessageStatement, EnumStatement, FileStatement}
-use Rattle.pb_source.specs.declared.parsing.statement.TypeSaid.{TypeSaid as CodeType}
-use Rattle.pb_source.specs.declared.parsing.statement.TypeSaid.TheVariants as type
+use Rattle.pb_tokens.specs.PhraseView.{type_view}
+use Rattle.pb_source.specs.Meaning.{MapDecl, MessageStatement, EnumStatement, FileStatement}
 use Rattle.pb_source.specs.declared.parsing.statement.MapSaid.{MapSaid}
 use Rattle.pb_source.specs.declared.parsing.statement.MessageSaid.{MessageSaid}
 use Rattle.pb_source.specs.declared.parsing.statement.MessageSaid.TheVariants as in_message
@@ -14,19 +10,6 @@ use Rattle.pb_source.specs.declared.parsing.statement.EnumSaid.{EnumSaid}
 use Rattle.pb_source.specs.declared.parsing.statement.EnumSaid.TheVariants as in_enum
 use Rattle.pb_source.specs.declared.parsing.statement.FileSaid.{FileSaid}
 use Rattle.pb_source.specs.declared.parsing.statement.FileSaid.TheVariants as in_file
-
-abbrev pub words_view : List (Bor (List ℕ)) → List (List ℕ)
-words_view = map (λ w. w.now)
-
--- the scalar whose word alone the words are
-abbrev pub scalar_of_words : List (List ℕ) → Option TypeCode
-scalar_of_words [] = None
-scalar_of_words (w ∷ []) = scalar_code w
-scalar_of_words (w ∷ v ∷ ws) = None
-
-abbrev pub type_view : CodeType → TypeSaid
-type_view (type.Scalar code) = a_scalar code
-type_view (type.Named name) = a_name (string_bytes name)
 
 abbrev pub map_view : MapSaid → MapDecl
 map_view m = record { key = m.key; value = type_view m.value; name = string_bytes m.name; number = m.number; packed = m.packed }

@@ -1,11 +1,11 @@
 -- The one fault of symbols that are no file: where they stop beginning one, and why.
 use Rattle.std.specs.Prelude.{◌≡◌, ◌≢◌, ℕ, suc, ◌<◌, List, [], length, take}
-use Rattle.pb_source.specs.Symbols.{Symbol}
-use Rattle.pb_source.specs.Language.{Language, Rules, all_rules, without, cause_of, Begins}
-use Rattle.pb_source.specs.declared.rule.Rule.{Rule}
+use Rattle.pb_tokens.specs.Symbols.{Symbol}
+use Rattle.pb_tokens.specs.Language.{Language, Rules, all_rules, without, cause_of, Begins}
+use Rattle.pb_tokens.specs.declared.rule.Rule.{Rule}
+use Rattle.pb_tokens.specs.declared.fault.SourceCause.{SourceCause}
+use Rattle.pb_tokens.specs.declared.fault.SourceCause.TheVariants.{Unexpected, NotProto3}
 use Rattle.pb_source.specs.Grammar.{file}
-use Rattle.pb_source.specs.declared.fault.SourceCause.{SourceCause}
-use Rattle.pb_source.specs.declared.fault.SourceCause.TheVariants.{Unexpected, NotProto3}
 
 -- The symbols so far begin no file. The cause is the rule without which they would, and where there is none, the last symbol was not expected.
 pub data IsCause {A : Type 0} (File : Rules → A → Language) (ts : List Symbol) : SourceCause → Type 0 where

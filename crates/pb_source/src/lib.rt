@@ -1,4 +1,4 @@
-//! Sources of proto3: their tokens, and readers of the lines of their grammar.
+//! Sources of proto3: which file a source declares, by its grammar. Its tokens and the readers of single lines stand in `pb_tokens`.
 //!
 //! ```rust
 //! use pb_source::parse;
@@ -28,22 +28,10 @@
 //! ```
 #![tactic(auto)]
 
-mod bytes;
-mod fault;
 mod kind;
 pub mod laws;
-mod lexing;
-mod meaning;
 mod parsing;
-mod refusal;
-mod rule;
 mod source;
-mod symbol;
-mod symbols;
-mod text;
-mod token;
 
-pub use fault::{SourceCause, SourceFault};
-pub use lexing::lex;
+pub use pb_tokens::{SourceCause, SourceFault, Token, TokenKind, lex};
 pub use source::parse;
-pub use token::{Token, TokenKind};

@@ -7,14 +7,8 @@ mod fields;
 mod files;
 mod kinds;
 mod messages;
-mod names;
-mod numbers;
-mod options;
-mod ranges;
 mod scopes;
 mod services;
-mod single;
 mod statement;
-mod types;
 
 pub(crate) use files::file;

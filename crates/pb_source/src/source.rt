@@ -3,20 +3,20 @@
 ghost use Rattle.std.specs.Prelude.{◌≡◌, ◌^◌, ◌-◌, ◌≤◌, ◌⊎◌, ℕ, List, length, IfOk, IfErr, MatchResult, IsUtf8};
 ghost use Rattle.pb_decl.specs.Decls.{DeclaredFile};
 ghost use Rattle.pb_decl.specs.View.{file_view};
-ghost use Rattle.pb_source.specs.declared.fault.SourceCause.{SourceCause};
-ghost use Rattle.pb_source.specs.Fault.{fault, out_of_memory};
-ghost use Rattle.pb_source.specs.Language.{told};
-ghost use Rattle.pb_source.specs.SymbolView.{symbols_of};
+ghost use Rattle.pb_tokens.specs.declared.fault.SourceCause.{SourceCause};
+ghost use Rattle.pb_tokens.specs.Fault.{fault, out_of_memory};
+ghost use Rattle.pb_tokens.specs.Language.{told};
+ghost use Rattle.pb_tokens.specs.SymbolView.{symbols_of};
 ghost use Rattle.pb_source.specs.Source.{place_in, IsSource, HasFault};
-ghost use Rattle.pb_source.specs.Readers.Given.{fault_at};
+ghost use Rattle.pb_source.specs.Readers.Told.{fault_at};
 
-use crate::fault::{SourceCause, SourceFault};
 use crate::parsing::file;
-use crate::refusal::Refusal;
-use crate::rule::Rule;
-use crate::symbol::Placed;
-use crate::symbols::source_symbols;
 use pb_decl::FileDecl;
+use pb_tokens::refusal::Refusal;
+use pb_tokens::rule::Rule;
+use pb_tokens::symbol::Placed;
+use pb_tokens::symbols::source_symbols;
+use pb_tokens::{SourceCause, SourceFault};
 use std::alloc::Global;
 
 /// The greatest number of bytes that a source may have.

@@ -4,16 +4,19 @@ ghost use Rattle.std.specs.Prelude.{◌≡◌, ◌≤◌, ◌<◌, ◌++◌, ◌
 ghost use Rattle.pb_schema.specs.Names.{entry_name};
 ghost use Rattle.pb_decl.specs.View.{field_view, message_view};
 ghost use Rattle.pb_decl.specs.declared.decl.TypeCode.{TypeCode};
-ghost use Rattle.pb_source.specs.Meaning.{MessageStatement, FileStatement, a_scalar, entry_field, entry_of, map_field};
+ghost use Rattle.pb_tokens.specs.Said.{a_scalar};
+ghost use Rattle.pb_tokens.specs.PhraseView.{type_view};
+ghost use Rattle.pb_source.specs.Meaning.{MessageStatement, FileStatement, entry_field, entry_of, map_field};
 ghost use Rattle.pb_source.specs.Meaning.{in_oneof, with_own_oneofs, own_oneofs, message_of, public_from};
-ghost use Rattle.pb_source.specs.StatementView.{type_view, map_view, message_statement_view, file_statement_view};
+ghost use Rattle.pb_source.specs.StatementView.{map_view, message_statement_view, file_statement_view};
 ghost use Rattle.pb_source.specs.PartsView.{with_own_oneof, IsCounted, OnePackage, HoldsSaid, FileHolds};
 
 use crate::kind::Label;
 use crate::parsing::fields::field_of;
-use crate::parsing::statement::{FileSaid, MapSaid, MessageSaid, TypeSaid};
+use crate::parsing::statement::{FileSaid, MapSaid, MessageSaid};
 use pb_decl::{EnumDecl, FieldDecl, MessageDecl, ServiceDecl, TypeCode};
 use pb_schema::entry_name;
+use pb_tokens::parsing::types::TypeSaid;
 use std::alloc::{AllocError, Global};
 
 /// What a message holds, whose statements are being read.

@@ -2,23 +2,25 @@
 
 ghost use Rattle.std.specs.Prelude.{◌≡◌, ◌≤◌, ◌<◌, ◌++◌, ◌∷◌, ℕ, List, [], length, codes, IfOk, OnOk};
 ghost use Rattle.pb_decl.specs.View.{enum_view};
+ghost use Rattle.pb_tokens.specs.Readers.Forms.{mapped, until, mark_reader};
+ghost use Rattle.pb_tokens.specs.Readers.Phrases.{enum_range_reader};
+ghost use Rattle.pb_tokens.specs.Readers.Given.{ReadsInSteps};
 ghost use Rattle.pb_source.specs.Meaning.{EnumStatement, enum_of};
-ghost use Rattle.pb_source.specs.Readers.Forms.{mapped, until, mark_reader};
-ghost use Rattle.pb_source.specs.Readers.Lines.{is_closing, said_of_alias, enum_range_reader};
-ghost use Rattle.pb_source.specs.Readers.Lines.{reserved_reader, value_reader, enum_statement_reader, enum_reader};
+ghost use Rattle.pb_source.specs.Readers.Lines.{is_closing, said_of_alias, reserved_reader, value_reader, enum_statement_reader, enum_reader};
 ghost use Rattle.pb_source.specs.StatementView.{enum_statement_view};
-ghost use Rattle.pb_source.specs.Readers.Given.{ReadsInSteps};
 
 use crate::kind::EnumKind;
 use crate::parsing::kinds::enum_kind;
-use crate::parsing::numbers::signed;
-use crate::parsing::options::{setting, value_end};
-use crate::parsing::ranges::{Within, names_line, ranges_line};
-use crate::parsing::single::{begins_with_mark, begins_with_text, keyword, mark, name, symbol_at};
 use crate::parsing::statement::EnumSaid;
-use crate::refusal::Refusal;
-use crate::symbol::Placed;
 use pb_decl::EnumDecl;
+use pb_tokens::parsing::numbers::signed;
+use pb_tokens::parsing::options::{setting, value_end};
+use pb_tokens::parsing::ranges::{Within, names_line, ranges_line};
+use pb_tokens::parsing::single::{
+    begins_with_mark, begins_with_text, keyword, mark, name, symbol_at,
+};
+use pb_tokens::refusal::Refusal;
+use pb_tokens::symbol::Placed;
 use std::alloc::{AllocError, Global};
 
 /// Reads a value.

@@ -2,23 +2,24 @@
 
 ghost use Rattle.std.specs.Prelude.{◌≡◌, ◌≤◌, ◌<◌, ◌++◌, [], length, map, codes, string_bytes, option_map, option_to_list, IfOk, OnOk};
 ghost use Rattle.pb_decl.specs.View.{field_view};
+ghost use Rattle.pb_tokens.specs.Readers.Forms.{mapped, until, mark_reader};
+ghost use Rattle.pb_tokens.specs.PhraseView.{type_view};
+ghost use Rattle.pb_tokens.specs.Readers.Given.{ReadsInSteps};
 ghost use Rattle.pb_source.specs.Meaning.{is_repeated_label, is_optional_label, field_of, those_said};
-ghost use Rattle.pb_source.specs.Readers.Forms.{mapped, until, mark_reader};
 ghost use Rattle.pb_source.specs.Readers.Lines.{is_closing, field_tail_reader, field_reader, map_tail_reader, map_reader, oneof_statement_reader, oneof_reader};
-ghost use Rattle.pb_source.specs.StatementView.{type_view, map_view, message_statement_view};
+ghost use Rattle.pb_source.specs.StatementView.{map_view, message_statement_view};
 ghost use Rattle.pb_source.specs.PartsView.{IsCounted};
-ghost use Rattle.pb_source.specs.Readers.Given.{ReadsInSteps};
 
 use crate::kind::{Label, OneofKind};
 use crate::parsing::kinds::oneof_kind;
-use crate::parsing::numbers::counted;
-use crate::parsing::options::{field_end, option};
-use crate::parsing::single::{begins_with_mark, keyword, mark, name, symbol_at};
-use crate::parsing::statement::{MapSaid, MessageSaid, TypeSaid};
-use crate::parsing::types::{code_of, key_type, name_of, typed};
-use crate::refusal::Refusal;
-use crate::symbol::Placed;
+use crate::parsing::statement::{MapSaid, MessageSaid};
 use pb_decl::FieldDecl;
+use pb_tokens::parsing::numbers::counted;
+use pb_tokens::parsing::options::{field_end, option};
+use pb_tokens::parsing::single::{begins_with_mark, keyword, mark, name, symbol_at};
+use pb_tokens::parsing::types::{TypeSaid, code_of, key_type, name_of, typed};
+use pb_tokens::refusal::Refusal;
+use pb_tokens::symbol::Placed;
 use std::alloc::{AllocError, Global};
 
 /// What stands behind a field's type.

@@ -3,30 +3,30 @@
 ghost use Rattle.std.specs.Prelude.{◌≡◌, ◌≤◌, ◌<◌, ℕ, [], false, length, codes, string_bytes, IfOk, IfErr, Ok, List};
 ghost use Rattle.std.specs.Str.{bytes_eq};
 ghost use Rattle.pb_decl.specs.View.{file_view};
-ghost use Rattle.pb_source.specs.Language.{all_rules};
+ghost use Rattle.pb_tokens.specs.Language.{all_rules};
+ghost use Rattle.pb_tokens.specs.declared.rule.Rule.TheVariants.{SyntaxFirst};
+ghost use Rattle.pb_tokens.specs.Readers.Forms.{symbol, judged, to_end};
+ghost use Rattle.pb_tokens.specs.Readers.Given.{symbols_from, Fails, Reads, ReadsInSteps};
 ghost use Rattle.pb_source.specs.Meaning.{FileStatement, file_of};
-ghost use Rattle.pb_source.specs.declared.rule.Rule.TheVariants.{SyntaxFirst};
-ghost use Rattle.pb_source.specs.Readers.Forms.{symbol, judged, to_end};
 ghost use Rattle.pb_source.specs.Readers.Lines.{access_reader, import_reader, package_reader, file_statement_reader, file_reader};
 ghost use Rattle.pb_source.specs.Readers.Lines.{is_package, syntax_reader, syntax_word_in, syntax_text_in};
 ghost use Rattle.pb_source.specs.StatementView.{file_statement_view};
-ghost use Rattle.pb_source.specs.Readers.Given.{symbols_from, Fails, Reads, ReadsInSteps};
 
 use crate::kind::FileKind;
 use crate::parsing::declared::{FileParts, add_file_statement};
 use crate::parsing::enums::enum_line;
 use crate::parsing::kinds::file_kind;
 use crate::parsing::messages::message;
-use crate::parsing::names::{joined, words};
-use crate::parsing::options::option;
 use crate::parsing::scopes::file_of;
 use crate::parsing::services::service;
-use crate::parsing::single::{begins_with, keyword, mark, symbol_at, utf8_text};
 use crate::parsing::statement::FileSaid;
-use crate::refusal::Refusal;
-use crate::rule::Rule;
-use crate::symbol::{Placed, Symbol, is_keyword};
 use pb_decl::FileDecl;
+use pb_tokens::parsing::names::{joined, words};
+use pb_tokens::parsing::options::option;
+use pb_tokens::parsing::single::{begins_with, keyword, mark, symbol_at, utf8_text};
+use pb_tokens::refusal::Refusal;
+use pb_tokens::rule::Rule;
+use pb_tokens::symbol::{Placed, Symbol, is_keyword};
 use std::alloc::Global;
 
 /// How many messages may nest in one of a file.

@@ -3,27 +3,29 @@
 ghost use Rattle.std.specs.Prelude.{◌≡◌, ◌≤◌, ◌<◌, [], length, codes, IfOk, Option, Some, true};
 ghost use Rattle.pb_decl.specs.View.{message_view, field_view};
 ghost use Rattle.pb_decl.specs.Decls.{DeclaredMessage};
+ghost use Rattle.pb_tokens.specs.Readers.Forms.{Reader, if_some, behind, mapped, until, keyword_reader, mark_reader};
+ghost use Rattle.pb_tokens.specs.Readers.Phrases.{message_range_reader};
+ghost use Rattle.pb_tokens.specs.Readers.Given.{ReadsInSteps};
 ghost use Rattle.pb_source.specs.Meaning.{MessageStatement, message_of};
-ghost use Rattle.pb_source.specs.Readers.Forms.{Reader, if_some, behind, mapped, until, keyword_reader, mark_reader};
-ghost use Rattle.pb_source.specs.Readers.Lines.{is_closing, field_reader, message_range_reader, reserved_reader};
-ghost use Rattle.pb_source.specs.Readers.Lines.{message_statement_line, room_statement_reader, message_reader};
+ghost use Rattle.pb_source.specs.Readers.Lines.{is_closing, field_reader, reserved_reader, message_statement_line, room_statement_reader, message_reader};
 ghost use Rattle.pb_source.specs.StatementView.{message_statement_view};
 ghost use Rattle.pb_source.specs.PartsView.{is_member, is_plain, IsCounted};
-ghost use Rattle.pb_source.specs.Readers.Given.{ReadsInSteps};
 
 use crate::kind::{Label, MessageKind};
 use crate::parsing::declared::{MessageParts, add_statement, message_of};
 use crate::parsing::enums::enum_line;
 use crate::parsing::fields::{field, map_or_field, oneof};
 use crate::parsing::kinds::message_kind;
-use crate::parsing::options::option;
-use crate::parsing::ranges::{Within, names_line, ranges_line};
-use crate::parsing::single::{begins_with_mark, begins_with_text, keyword, mark, name, symbol_at};
 use crate::parsing::statement::MessageSaid;
-use crate::refusal::Refusal;
-use crate::rule::Rule;
-use crate::symbol::Placed;
 use pb_decl::{FieldDecl, MessageDecl};
+use pb_tokens::parsing::options::option;
+use pb_tokens::parsing::ranges::{Within, names_line, ranges_line};
+use pb_tokens::parsing::single::{
+    begins_with_mark, begins_with_text, keyword, mark, name, symbol_at,
+};
+use pb_tokens::refusal::Refusal;
+use pb_tokens::rule::Rule;
+use pb_tokens::symbol::Placed;
 use std::alloc::Global;
 
 /// Reads what is reserved.

@@ -1,13 +1,7 @@
 //! Statements, as they were read.
 
 use pb_decl::{EnumDecl, FieldDecl, MessageDecl, ServiceDecl, TypeCode};
-
-/// A type as it is written: a scalar, or the name of a message or an enum.
-#[derive(Drop)]
-pub(crate) enum TypeSaid {
-    Scalar(TypeCode),
-    Named(String),
-}
+use pb_tokens::parsing::types::TypeSaid;
 
 /// A map: `map < key , value > name = number`.
 #[derive(Drop)]

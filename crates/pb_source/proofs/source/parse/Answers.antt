@@ -1,9 +1,10 @@
 use Rattle.std.proofs.Common.{◌≤◌, ℕ, length, ap, sym, subst, ◌∙◌}
 use Rattle.std.proofs.lemmas.Result.{err_from_is_err_and}
 use Rattle.pb_decl.specs.View.{file_view}
-use Rattle.pb_source.specs.Language.{all_rules}
+use Rattle.pb_tokens.specs.Language.{all_rules}
+use Rattle.pb_tokens.specs.Readers.Given.{symbols_from, Fails}
 use Rattle.pb_source.specs.Readers.Lines.{file_reader}
-use Rattle.pb_source.specs.Readers.Given.{symbols_from, Fails, fault_at}
+use Rattle.pb_source.specs.Readers.Told.{fault_at}
 use Rattle.pb_source.proofs.SourceLaws.{ReadsAll}
 use Rattle.pb_source.proofs.ParseLemmas.{Declared, Told, told_fault, told_nothing, told_only, token_told, declared, refusal_told}
 use Rattle.pb_source.proofs.source.parse.Goals as goal

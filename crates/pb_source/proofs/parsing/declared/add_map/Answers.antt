@@ -1,6 +1,7 @@
 use Rattle.std.proofs.Common.{ap, ◌∙◌}
+use Rattle.pb_tokens.specs.PhraseView.{type_view}
 use Rattle.pb_source.specs.Meaning.{entry_of}
-use Rattle.pb_source.specs.StatementView.{type_view, map_view}
+use Rattle.pb_source.specs.StatementView.{map_view}
 use Rattle.pb_source.proofs.PartSteps.{holds_map}
 use Rattle.pb_source.proofs.parsing.declared.add_map.Goals as goal
 

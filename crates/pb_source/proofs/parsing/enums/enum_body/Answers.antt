@@ -1,11 +1,11 @@
 use Rattle.std.proofs.Common.{[], ◌∷◌, ◌++◌, codes, sym, ◌∙◌, arith}
 use Rattle.std.proofs.lemmas.Result.{err_from_is_err_and}
+use Rattle.pb_tokens.specs.Readers.Forms.{mark_reader}
+use Rattle.pb_tokens.proofs.UntilSteps.{starts, goes_on, refuses, ends}
 use Rattle.pb_source.specs.Meaning.{enum_of}
 use Rattle.pb_source.specs.StatementView.{enum_statement_view}
-use Rattle.pb_source.specs.Readers.Forms.{mark_reader}
 use Rattle.pb_source.specs.Readers.Lines.{is_closing, enum_statement_reader}
-use Rattle.pb_source.proofs.UntilSteps.{starts, goes_on, refuses, ends}
-use Rattle.pb_source.proofs.NoSymbols.{no_enum_statement}
+use Rattle.pb_source.proofs.NoStatement.{no_enum_statement}
 use Rattle.pb_source.proofs.parsing.enums.enum_body.Goals as goal
 
 pub loop-alloc-init : goal.loop-alloc-init

@@ -1,10 +1,10 @@
 use Rattle.std.proofs.Common.{suc, sym, ◌∙◌, arith}
 use Rattle.std.proofs.lemmas.Result.{err_from_is_err_and}
-use Rattle.pb_source.specs.Language.{all_rules}
+use Rattle.pb_tokens.specs.Language.{all_rules}
+use Rattle.pb_tokens.specs.Readers.Given.{symbols_from}
+use Rattle.pb_tokens.proofs.UntilSteps.{mapped_fails, mapped_reads}
 use Rattle.pb_source.specs.Meaning.{MessageStatement}
-use Rattle.pb_source.specs.Readers.Given.{symbols_from}
 use Rattle.pb_source.proofs.Bridges.{map_is_field}
-use Rattle.pb_source.proofs.UntilSteps.{mapped_fails, mapped_reads}
 use Rattle.pb_source.proofs.parsing.fields.map_or_field.Goals as goal
 
 pub returns-in_err-field-clause-read : goal.returns-in_err-field-clause-read

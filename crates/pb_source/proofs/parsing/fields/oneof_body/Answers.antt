@@ -1,12 +1,12 @@
 use Rattle.std.proofs.Common.{[], ◌∷◌, ◌++◌, codes, option_map, refl, sym, ◌∙◌, arith}
 use Rattle.std.proofs.lemmas.Result.{err_from_is_err_and}
 use Rattle.pb_decl.specs.View.{field_view}
+use Rattle.pb_tokens.specs.Readers.Forms.{mark_reader}
+use Rattle.pb_tokens.proofs.UntilSteps.{starts, goes_on, refuses, ends}
 use Rattle.pb_source.specs.Meaning.{those_said}
 use Rattle.pb_source.proofs.SaidSteps.{said_more}
-use Rattle.pb_source.specs.Readers.Forms.{mark_reader}
 use Rattle.pb_source.specs.Readers.Lines.{is_closing, oneof_statement_reader}
-use Rattle.pb_source.proofs.UntilSteps.{starts, goes_on, refuses, ends}
-use Rattle.pb_source.proofs.NoSymbols.{no_oneof_statement}
+use Rattle.pb_source.proofs.NoStatement.{no_oneof_statement}
 use Rattle.pb_source.proofs.parsing.fields.oneof_body.Goals as goal
 
 pub loop-alloc-init : goal.loop-alloc-init

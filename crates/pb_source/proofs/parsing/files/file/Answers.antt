@@ -1,7 +1,7 @@
 use Rattle.std.proofs.Common.{refl}
 use Rattle.std.proofs.lemmas.Result.{err_from_is_err_and}
+use Rattle.pb_tokens.proofs.UntilSteps.{fails_on}
 use Rattle.pb_source.specs.Readers.Lines.{file_reader}
-use Rattle.pb_source.proofs.UntilSteps.{fails_on}
 use Rattle.pb_source.proofs.parsing.files.file.Goals as goal
 
 pub returns-in_err-after-clause-refused : goal.returns-in_err-after-clause-refused

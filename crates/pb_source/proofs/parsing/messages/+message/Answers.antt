@@ -1,14 +1,14 @@
 use Rattle.std.proofs.Common.{◌≡◌, ◌<◌, [], ◌∷◌, ◌++◌, codes, refl, ap, sym, ◌∙◌, true, Some, None, Ok, arith, rules}
 use Rattle.std.proofs.lemmas.Result.{err_from_is_err_and}
+use Rattle.pb_tokens.specs.SymbolView.{symbol_of}
+use Rattle.pb_tokens.specs.Readers.Forms.{mark_reader}
+use Rattle.pb_tokens.specs.Readers.Given.{symbols_from}
+use Rattle.pb_tokens.proofs.UntilSteps.{fails_on, mapped_fails, mapped_reads, before_map, fails_before, starts, goes_on, refuses, ends}
 use Rattle.pb_source.specs.declared.kind.MessageKind.TheVariants as kind
 use Rattle.pb_source.specs.Meaning.{MessageStatement, message_of}
 use Rattle.pb_source.specs.StatementView.{message_statement_view}
-use Rattle.pb_source.specs.SymbolView.{symbol_of}
 use Rattle.pb_source.specs.PartsView.{is_plain}
-use Rattle.pb_source.specs.Readers.Forms.{mark_reader}
 use Rattle.pb_source.specs.Readers.Lines.{is_closing, message_kind, message_line_reader, room_statement_reader}
-use Rattle.pb_source.specs.Readers.Given.{symbols_from}
-use Rattle.pb_source.proofs.UntilSteps.{fails_on, mapped_fails, mapped_reads, before_map, fails_before, starts, goes_on, refuses, ends}
 use Rattle.pb_source.proofs.RoomSteps.{inner_in, plain_in_room, none_in_room, message_in_room, message_too_deep, no_room_statement}
 use Rattle.pb_source.proofs.parsing.messages.+message.Goals as goal
 

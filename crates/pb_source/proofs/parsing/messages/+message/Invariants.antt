@@ -1,9 +1,9 @@
 use Rattle.std.proofs.Common.{◌+◌, ◌-◌, ◌*◌, List, length, codes}
+use Rattle.pb_tokens.specs.Readers.Forms.{mark_reader}
+use Rattle.pb_tokens.proofs.UntilSteps.{HasRead}
 use Rattle.pb_source.specs.Meaning.{MessageStatement}
 use Rattle.pb_source.specs.PartsView.{HoldsSaid}
-use Rattle.pb_source.specs.Readers.Forms.{mark_reader}
 use Rattle.pb_source.specs.Readers.Lines.{is_closing, room_statement_reader}
-use Rattle.pb_source.proofs.UntilSteps.{HasRead}
 use Rattle.pb_source.proofs.parsing.messages.+message.Given as goal
 
 abbrev pub decreases-message : goal.decreases-message

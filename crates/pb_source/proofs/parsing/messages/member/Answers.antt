@@ -1,6 +1,6 @@
 use Rattle.std.proofs.lemmas.Result.{err_from_is_err_and}
+use Rattle.pb_tokens.proofs.UntilSteps.{mapped_fails, mapped_reads}
 use Rattle.pb_source.specs.Meaning.{MessageStatement}
-use Rattle.pb_source.proofs.UntilSteps.{mapped_fails, mapped_reads}
 use Rattle.pb_source.proofs.parsing.messages.member.Goals as goal
 
 pub returns-in_err-field-in-Repeated-clause-read : goal.returns-in_err-field-in-Repeated-clause-read

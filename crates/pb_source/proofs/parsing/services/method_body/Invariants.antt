@@ -1,7 +1,7 @@
 use Rattle.std.proofs.Common.{◌-◌, List, length, codes}
-use Rattle.pb_source.specs.Readers.Forms.{mark_reader}
+use Rattle.pb_tokens.specs.Readers.Forms.{mark_reader}
+use Rattle.pb_tokens.proofs.UntilSteps.{HasRead}
 use Rattle.pb_source.specs.Readers.Lines.{is_closing, method_statement_reader}
-use Rattle.pb_source.proofs.UntilSteps.{HasRead}
 use Rattle.pb_source.proofs.parsing.services.method_body.Given as goal
 
 abbrev pub invariant-loop-alloc : goal.invariant-loop-alloc

@@ -1,0 +1,16 @@
+pub mod Tokens
+pub mod TokenView
+pub mod Fault
+pub mod CauseName
+pub mod Texts
+pub mod Lexing
+pub mod Symbols
+pub mod SymbolView
+pub mod Integers
+pub mod Language
+pub mod Said
+pub mod Phrases
+pub mod PhraseView
+pub mod Digits
+pub mod RangeView
+pub mod Readers

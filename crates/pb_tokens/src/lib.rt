@@ -1,0 +1,22 @@
+//! Which tokens a source of proto3 is, and the readers of symbols that the parser of `pb_source` is made of.
+//!
+//! An inner crate: `pb_source` stands on it, and publishes what stands at its root and the law of tokens. The modules `symbol`, `symbols`, `refusal`,
+//! `rule` and `parsing` are for its parser.
+#![tactic(auto)]
+
+mod bytes;
+mod fault;
+pub mod laws;
+mod lexing;
+mod meaning;
+pub mod parsing;
+pub mod refusal;
+pub mod rule;
+pub mod symbol;
+pub mod symbols;
+mod text;
+mod token;
+
+pub use fault::{SourceCause, SourceFault};
+pub use lexing::lex;
+pub use token::{Token, TokenKind};
