@@ -28,8 +28,6 @@ pub mod Honest
 -- for `frames`
 pub mod Commands
 -- ---- what `compile` gathers
--- for the names that were met, added to a set
-pub mod NameSetLemmas
 -- for gathering by parts, and the files that are open
 pub mod GatheringLemmas
 -- for the sources that were read

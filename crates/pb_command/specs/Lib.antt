@@ -1,7 +1,6 @@
 pub mod FileMap
 pub mod MemFiles
 pub mod Report
-pub mod NameSets
 pub mod Gathering
 pub mod Answer
 pub mod Refusal

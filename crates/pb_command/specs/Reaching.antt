@@ -6,7 +6,7 @@ use Rattle.pb_decl.specs.declared.decl.FileDecl.{FileDecl}
 use Rattle.pb_command.specs.Answer.{Answer}
 use Rattle.pb_command.specs.CompileAnswer.{told_of}
 use Rattle.pb_command.specs.Gathering.{Gathered, Trouble, Origin, imported, IsTaken, IsLeftOut, is_known, with_name, with_file}
-use Rattle.pb_command.specs.NameSets.{names_in}
+use Rattle.pb_sets.specs.NameSets.{names_in}
 use Rattle.pb_command.specs.declared.gathering.Gathering.{Gathering}
 use Rattle.pb_command.specs.declared.gathering.Open.{Open}
 

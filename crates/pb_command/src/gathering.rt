@@ -1,6 +1,9 @@
 //! The sources of a set: each file in turn, behind its imports and once.
 
-ghost use Rattle.std.specs.Prelude.{◌≡◌, [], ◌∷◌, map, true, option_map, IfOk, IfErr, OnOk};
+ghost use Rattle.std.specs.Prelude.{◌≡◌, ◌++◌, [], ◌∷◌, map, true, false, option_map, IfOk, IfErr, OnOk};
+ghost use Rattle.std.specs.List.{list_any};
+ghost use Rattle.std.specs.Str.{bytes_eq};
+ghost use Rattle.pb_sets.specs.NameSets.{names_in};
 ghost use Rattle.pb_decl.specs.View.{file_view};
 ghost use Rattle.pb_command.specs.CompileAnswer.{roots_of, texts_of, told_of};
 ghost use Rattle.pb_command.specs.FileMap.{KeepsMap};
@@ -11,10 +14,10 @@ ghost use Rattle.pb_command.specs.Steps.{AbsentOf, DeclaredOf, GathersOf, StopsO
 
 use crate::command::Roots;
 use crate::files::Files;
-use crate::name_set::NameSet;
 use crate::report::Refusal;
 use crate::sources::{leaves_root, read_given, read_source};
 use pb_descr::FileDecl;
+use pb_sets::name_set::NameSet;
 use std::alloc::{AllocError, Global};
 
 /// A file whose imports are being reached.
@@ -58,6 +61,15 @@ pub fn gather<'a, F: Files>(
     Ok(gathering.files)
 }
 
+/// Adds a name that the set does not have.
+fn add_name(names: &mut NameSet, alloc: Global, name: &[u8]) -> Result<(), AllocError>
+    ensures { OnOk result (list_any (bytes_eq name.now) (names_in names.old) ≡ false
+        → names_in names.new ≡ names_in names.old ++ name.now ∷ []) }
+{
+    names.add_copy(alloc, name)?;
+    Ok(())
+}
+
 /// Opens the file that was found, if one was.
 fn open_found(found: Option<FileDecl>, stack: &mut Vec<Open>) -> Result<(), AllocError>
     ensures { OnOk result (OpensFound stack.old.items found stack.new.items) }
@@ -91,7 +103,7 @@ impl Gathering {
             return Ok(());
         }
         let file = read_given(alloc, roots, name, files)?;
-        self.names.add(alloc, name.as_bytes())?;
+        add_name(&mut self.names, alloc, name.as_bytes())?;
         self.close(alloc, roots, file, files)?;
         Ok(())
     }
@@ -181,7 +193,7 @@ impl Gathering {
         let Some(file) = read_source(alloc, roots, name, files)? else {
             return Ok(None);
         };
-        self.names.add(alloc, name.as_bytes())?;
+        add_name(&mut self.names, alloc, name.as_bytes())?;
         Ok(Some(file))
     }
 }

@@ -12,7 +12,6 @@ mod gathering;
 mod host;
 mod memory;
 mod message;
-mod name_set;
 mod raw;
 mod reading;
 mod report;

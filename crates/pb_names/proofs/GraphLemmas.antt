@@ -9,11 +9,12 @@ use Rattle.std.proofs.lemmas.List.{length-map, take_more, take_all, map-append}
 use Rattle.std.proofs.lemmas.List.Elements.{filter_map-append}
 use Rattle.pb_schema.specs.Types.{FileView}
 use Rattle.pb_schema.specs.Imports.{imports_of, Reaches, directly, further}
+use Rattle.pb_schema.proofs.ImportLemmas.{next_files, reaches_from, reached_by}
 use Rattle.pb_decl.specs.Decls.{DeclaredFile}
 use Rattle.pb_decl.specs.View.{file_view}
 use Rattle.pb_decl.specs.declared.decl.FileDecl.{FileDecl}
 use Rattle.pb_names.specs.Sees.{file_named, import_at, file_of, files_of, public_file_of, public_files_of, Sees, itself, imported, onward}
-use Rattle.pb_names.specs.Reach.{graph_of, next_of, Reached, begun, further as led, IsGraph, is_marked}
+use Rattle.pb_sets.specs.Reach.{graph_of, next_of, Reached, begun, further as led, IsGraph, is_marked}
 use Rattle.pb_names.specs.Graphs.{target_at, AreImports, LeadToFiles, KnowsSight, sees_by, is_file}
 use Rattle.pb_names.specs.declared.imports.Imports.{Imports}
 use Rattle.pb_names.specs.declared.sight.Sight.{Sight}
@@ -140,19 +141,6 @@ imports_whole files i m past all public = record {
 }
 
 -- WHAT IS SEEN
-next_files : (fs : List FileView) (i : ℕ) → next_of (map (λ (f : FileView). f.imports) fs) i ≡ imports_of fs i
-next_files [] i = refl
-next_files (f ∷ fs) zero = refl
-next_files (f ∷ fs) (suc i) = next_files fs i
-
-reaches_from : (fs : List FileView) (i j : ℕ) → Reached (map (λ (f : FileView). f.imports) fs) (imports_of fs i) j → Reaches fs i j
-reaches_from fs i j (begun among) = directly among
-reaches_from fs i j (led {k} way among) = further (reaches_from fs i k way) (subst (λ l. Contains l j) (next_files fs k) among)
-
-reached_by : (fs : List FileView) (i j : ℕ) → Reaches fs i j → Reached (map (λ (f : FileView). f.imports) fs) (imports_of fs i) j
-reached_by fs i j (directly among) = begun among
-reached_by fs i j (further {k} way among) = led (reached_by fs i k way) (subst (λ l. Contains l j) (sym (next_files fs k)) among)
-
 -- along public imports from where an import leads
 abbrev IsOnward : List DeclaredFile → ℕ → ℕ → Type 0
 IsOnward files i j = Contains (imports_of (files_of files) i) j ⊎ ((k : ℕ) × Contains (imports_of (files_of files) i) k × Reaches (public_files_of files) k j)
@@ -202,6 +190,6 @@ sees_same files m s i sees are knows at exact = λ p. λ j. same_test (sees_by s
 
 pub cyclic_reaches : (files : List DeclaredFile) (m : Imports) (i : ℕ) → AreImports files m → Reached (graph_of m.all.items) (next_of (graph_of m.all.items) i) i ↔ Reaches (files_of files) i i
 cyclic_reaches files m i are = (
-  λ way. reaches_from (files_of files) i i (subst (λ starts. Reached (map (λ (f : FileView). f.imports) (files_of files)) starts i) (ap (λ g. next_of g i) are.all ∙ next_files (files_of files) i) (subst (λ g. Reached g (next_of (graph_of m.all.items) i) i) are.all way)),
-  λ way. subst (λ g. Reached g (next_of (graph_of m.all.items) i) i) (sym are.all) (subst (λ starts. Reached (map (λ (f : FileView). f.imports) (files_of files)) starts i) (sym (ap (λ g. next_of g i) are.all ∙ next_files (files_of files) i)) (reached_by (files_of files) i i way)),
+  λ way. reaches_from (files_of files) i (imports_of (files_of files) i) (λ j among. directly among) i (subst (λ starts. Reached (map (λ (f : FileView). f.imports) (files_of files)) starts i) (ap (λ g. next_of g i) are.all ∙ next_files (files_of files) i) (subst (λ g. Reached g (next_of (graph_of m.all.items) i) i) are.all way)),
+  λ way. subst (λ g. Reached g (next_of (graph_of m.all.items) i) i) (sym are.all) (subst (λ starts. Reached (map (λ (f : FileView). f.imports) (files_of files)) starts i) (sym (ap (λ g. next_of g i) are.all ∙ next_files (files_of files) i)) (reached_by (files_of files) i (imports_of (files_of files) i) (λ j among. among) i way)),
 )

@@ -15,8 +15,6 @@ pub mod OneofCountLemmas
 -- ---- tables: what is seen and looked up
 -- for tests that some element passes
 pub mod AnyLemmas
--- for `Reach`: bits and a list that tell what is reached along a graph
-pub mod ReachLemmas
 -- for tables of first places
 pub mod FirstsLemmas
 -- for imports as graphs, and what a file sees along them

@@ -1,5 +1,5 @@
 -- Sets of packages, and the packages that declarations make.
-use Rattle.std.proofs.Common.{◌≡◌, ℕ, zero, suc, ◌+◌, ◌<◌, ◌≤◌, ⊎_elim, List, [], ◌∷◌, ◌++◌, map, length, take, get_or, Bool, true, false, ◌||◌, ◌&&◌, ◌==◌, refl, sym, ap, ◌∙◌, subst, arith, Contains, Option, Some, None, Vec, Global, add-zero, append_assoc, append-nil}
+use Rattle.std.proofs.Common.{◌≡◌, ℕ, zero, suc, ◌+◌, ◌<◌, ◌≤◌, ⊎_elim, List, [], ◌∷◌, ◌++◌, map, length, take, get_or, Bool, true, false, ◌||◌, ◌&&◌, ◌==◌, refl, sym, ap, ◌∙◌, subst, arith, Contains, Option, Some, None, add-zero, append_assoc, append-nil}
 use Rattle.std.specs.Prelude.{if◌then◌else◌}
 use Rattle.std.specs.List.{list_any, enumerate_from}
 use Rattle.std.specs.Cmp.{unsigned_Decides}
@@ -8,15 +8,16 @@ use Rattle.std.proofs.lemmas.Bool.{false≢true, cases_eq}
 use Rattle.std.proofs.lemmas.Slice.Eq.{bytes_eq-Decides}
 use Rattle.std.proofs.lemmas.List.{take_more}
 use Rattle.std.proofs.lemmas.List.Elements.{Contains-push, Contains-append_left, Contains-append_right, Contains-append_cases}
-use Rattle.pb_schema.proofs.ImportLemmas.{Contains-none, Contains-one}
+use Rattle.pb_sets.proofs.ContainsLemmas.{Contains-none, Contains-one}
 use Rattle.pb_schema.specs.Names.{packages_of, fronts_from, with_front, in_scope}
 use Rattle.pb_decl.specs.Decls.{DeclaredEnum, MessageHead, DeclaredMessage, message, DeclaredMessages, no_messages, more_messages, DeclaredMethod, DeclaredService, DeclaredFile}
 use Rattle.pb_names.specs.Declarations.{a_field, a_oneof, a_value, a_method, Declaration, fields_of, oneofs_of, values_of, enum_declared, enums_declared, head_row, message_declared, messages_declared, service_declared, services_declared, file_declared, files_declared, declarations}
 use Rattle.pb_names.specs.Lookup.{Seen, every_file, makes_package, is_package_name}
-use Rattle.pb_names.specs.Reach.{is_marked, IsListed}
+use Rattle.pb_sets.specs.Reach.{is_marked, IsListed}
 use Rattle.pb_names.specs.Graphs.{is_file, sees_by}
 use Rattle.pb_names.specs.NameSets.{is_in_set, AddsNames, packages_at, own_index, ArePackagesAt, AddsPackages, ArePackages}
-use Rattle.pb_names.specs.declared.name_set.NameSet.{NameSet}
+use Rattle.pb_sets.specs.declared.name_set.NameSet.{NameSet}
+use Rattle.pb_sets.specs.NameSets.{names_in, with_name}
 use Rattle.pb_names.specs.declared.sight.Sight.{Sight}
 use Rattle.pb_names.proofs.AnyLemmas.{or_cases, or_first, or_second, and_cases, and_both, any_there, there_any, same_test}
 
@@ -37,16 +38,16 @@ any_alike t u same [] = refl
 any_alike t u same (x ∷ xs) = ap (λ b. b || list_any t xs) (same x) ∙ ap (λ b. u x || b) (any_alike t u same xs)
 
 -- ADDING NAMES
-known : (name other : List ℕ) (keys : List (Vec ℕ Global)) → list_any (λ k. bytes_eq name k.items) keys ≡ true → list_any (λ k. bytes_eq other k.items) keys ≡ (bytes_eq other name || list_any (λ k. bytes_eq other k.items) keys)
-known name other keys h = by (bytes_eq other name) refl
+known : (name other : List ℕ) (names : List (List ℕ)) → list_any (bytes_eq name) names ≡ true → list_any (bytes_eq other) names ≡ (bytes_eq other name || list_any (bytes_eq other) names)
+known name other names h = by (bytes_eq other name) refl
   where
-    by : (b : Bool) → bytes_eq other name ≡ b → list_any (λ k. bytes_eq other k.items) keys ≡ (b || list_any (λ k. bytes_eq other k.items) keys)
-    by true same = ap (λ n. list_any (λ (k : Vec ℕ Global). bytes_eq n k.items) keys) ((bytes_eq-Decides other name).0 same) ∙ h
+    by : (b : Bool) → bytes_eq other name ≡ b → list_any (bytes_eq other) names ≡ (b || list_any (bytes_eq other) names)
+    by true same = ap (λ n. list_any (bytes_eq n) names) ((bytes_eq-Decides other name).0 same) ∙ h
     by false other = refl
 
-unknown : (name other : List ℕ) (keys : List (Vec ℕ Global)) (key : Vec ℕ Global) → key.items ≡ name → list_any (λ k. bytes_eq other k.items) (keys ++ key ∷ []) ≡ (bytes_eq other name || list_any (λ k. bytes_eq other k.items) keys)
-unknown name other keys key is =
-    any_append (λ k. bytes_eq other k.items) keys (key ∷ []) ∙ ap (λ b. list_any (λ (k : Vec ℕ Global). bytes_eq other k.items) keys || b) (or_false (bytes_eq other key.items) ∙ ap (bytes_eq other) is) ∙ or_comm (list_any (λ k. bytes_eq other k.items) keys) (bytes_eq other name)
+unknown : (name other : List ℕ) (names : List (List ℕ)) → list_any (bytes_eq other) (names ++ name ∷ []) ≡ (bytes_eq other name || list_any (bytes_eq other) names)
+unknown name other names =
+    any_append (bytes_eq other) names (name ∷ []) ∙ ap (λ b. list_any (bytes_eq other) names || b) (or_false (bytes_eq other name)) ∙ or_comm (list_any (bytes_eq other) names) (bytes_eq other name)
   where
     or_comm : (a b : Bool) → (a || b) ≡ (b || a)
     or_comm true true = refl
@@ -54,13 +55,13 @@ unknown name other keys key is =
     or_comm false true = refl
     or_comm false false = refl
 
-pub name_added : (old new : NameSet) (name : List ℕ) (key : Vec ℕ Global) → key.items ≡ name → new.names.keys ≡ (if list_any (λ k. bytes_eq key.items k.items) old.names.keys then old.names.keys else old.names.keys ++ key ∷ []) → AddsNames (name ∷ []) old new
-name_added old new name key is keys other =
-    ap (λ l. list_any (λ (k : Vec ℕ Global). bytes_eq other k.items) l) keys ∙ by (list_any (λ k. bytes_eq key.items k.items) old.names.keys) refl
+pub name_added : (old new : NameSet) (name : List ℕ) → names_in new ≡ with_name name (names_in old) → AddsNames (name ∷ []) old new
+name_added old new name names other =
+    ap (list_any (bytes_eq other)) names ∙ by (list_any (bytes_eq name) (names_in old)) refl
   where
-    by : (has : Bool) → list_any (λ k. bytes_eq key.items k.items) old.names.keys ≡ has → list_any (λ k. bytes_eq other k.items) (if has then old.names.keys else old.names.keys ++ key ∷ []) ≡ ((bytes_eq other name || false) || is_in_set old other)
-    by true has = known name other old.names.keys (subst (λ n. list_any (λ k. bytes_eq n k.items) old.names.keys ≡ true) is has) ∙ ap (λ b. b || is_in_set old other) (sym (or_false (bytes_eq other name)))
-    by false has = unknown name other old.names.keys key is ∙ ap (λ b. b || is_in_set old other) (sym (or_false (bytes_eq other name)))
+    by : (has : Bool) → list_any (bytes_eq name) (names_in old) ≡ has → list_any (bytes_eq other) (if has then names_in old else names_in old ++ name ∷ []) ≡ ((bytes_eq other name || false) || is_in_set old other)
+    by true has = known name other (names_in old) has ∙ ap (λ b. b || is_in_set old other) (sym (or_false (bytes_eq other name)))
+    by false has = unknown name other (names_in old) ∙ ap (λ b. b || is_in_set old other) (sym (or_false (bytes_eq other name)))
 
 pub none_added : (p : NameSet) → AddsNames [] p p
 none_added p name = refl
@@ -208,8 +209,8 @@ seen_made files sees name i seen makes_it =
     made_by_files name sees 0 0 files ∙ index_at name sees 0 files i (subst (λ n. sees n ≡ true) same seen) makes_it
 
 -- THE PACKAGES OF SOME FILES: the names in the set are those that some of these indexes make
-pub packages_none : (files : List DeclaredFile) (p : NameSet) → ((name : List ℕ) → is_in_set p name ≡ false) → ArePackagesAt files [] p
-packages_none files p none name = none name
+pub packages_none : (files : List DeclaredFile) (p : NameSet) → names_in p ≡ [] → ArePackagesAt files [] p
+packages_none files p none name = ap (list_any (bytes_eq name)) none
 
 pub packages_more : (files : List DeclaredFile) (indexes : List ℕ) (i : ℕ) (a b : NameSet) → ArePackagesAt files indexes a → AddsNames (packages_at files i) a b → ArePackagesAt files (indexes ++ i ∷ []) b
 packages_more files indexes i a b are adds name =

@@ -2,7 +2,7 @@
 use Rattle.std.specs.Prelude.{◌≡◌, ◌↔◌, ℕ, ℤ, pos, negsuc, List, map, Bool, false, ◌==◌, ◌||◌, Option, Some, None, IsTrue, option_and_then, slice_get, vec_len}
 use Rattle.pb_decl.specs.Decls.{DeclaredFile}
 use Rattle.pb_names.specs.Sees.{files_of, public_files_of}
-use Rattle.pb_names.specs.Reach.{graph_of, next_of, Reached, IsGraph, is_marked, IsListed}
+use Rattle.pb_sets.specs.Reach.{graph_of, next_of, Reached, IsGraph, is_marked, IsListed}
 use Rattle.pb_names.specs.declared.imports.Imports.{Imports}
 use Rattle.pb_names.specs.declared.sight.Sight.{Sight}
 

@@ -6,7 +6,6 @@ pub mod ItemView
 pub mod Oneofs
 pub mod Marks
 pub mod View
-pub mod Reach
 pub mod Firsts
 pub mod Graphs
 pub mod Components

@@ -6,10 +6,11 @@ use Rattle.pb_schema.specs.Names.{packages_of}
 use Rattle.pb_decl.specs.Decls.{DeclaredFile}
 use Rattle.pb_names.specs.Declarations.{Declaration}
 use Rattle.pb_names.specs.Lookup.{Seen, is_package_name}
-use Rattle.pb_names.specs.declared.name_set.NameSet.{NameSet}
+use Rattle.pb_sets.specs.declared.name_set.NameSet.{NameSet}
+use Rattle.pb_sets.specs.NameSets.{names_in}
 
 abbrev pub is_in_set : NameSet → List ℕ → Bool
-is_in_set p name = list_any (λ k. bytes_eq name k.items) p.names.keys
+is_in_set p name = list_any (bytes_eq name) (names_in p)
 
 -- these names are added
 abbrev pub AddsNames : List (List ℕ) → NameSet → NameSet → Type 0

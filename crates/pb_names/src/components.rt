@@ -2,11 +2,11 @@
 
 ghost use Rattle.std.specs.Prelude.{◌≡◌, ◌<◌, ◌≤◌, ◌↔◌, ℕ, List, IsTrue, IfOk, OnOk, All, vec_len};
 ghost use Rattle.std.specs.List.{slice_index_or};
-ghost use Rattle.pb_names.specs.Reach.{graph_of, next_of};
+ghost use Rattle.pb_sets.specs.Reach.{graph_of, next_of};
 ghost use Rattle.pb_names.specs.Components.{Fits, work_left, number_of, NeverRise};
 ghost use Rattle.pb_names.specs.declared.components.Progress.TheVariants.{Numbered};
 
-use crate::reach::next_of;
+use pb_sets::reach::next_of;
 use std::alloc::{AllocError, Global};
 
 /// How far the walk is with an index.

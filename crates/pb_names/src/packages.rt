@@ -6,12 +6,12 @@ ghost use Rattle.pb_decl.specs.View.{file_view};
 ghost use Rattle.pb_names.specs.Declarations.{declarations};
 ghost use Rattle.pb_names.specs.Lookup.{every_file};
 ghost use Rattle.pb_names.specs.Graphs.{sees_by};
-ghost use Rattle.pb_names.specs.Reach.{IsListed};
+ghost use Rattle.pb_sets.specs.Reach.{IsListed};
 ghost use Rattle.pb_names.specs.NameSets.{AddsNames, packages_at, own_index, ArePackagesAt, AddsPackages, ArePackages};
 
-use crate::name_set::NameSet;
 use crate::sight::Sight;
 use pb_decl::FileDecl;
+use pb_sets::name_set::NameSet;
 use std::alloc::{AllocError, Global};
 
 /// Adds the front of a name that ends before an index, where a dot stands there.
@@ -27,7 +27,7 @@ fn add_front(
     if name[index] != b'.' {
         return Ok(());
     }
-    packages.add(alloc, &name[..index])?;
+    packages.add_copy(alloc, &name[..index])?;
     Ok(())
 }
 
@@ -41,7 +41,7 @@ fn add_package(packages: &mut NameSet, alloc: Global, name: &[u8]) -> Result<(),
     for index in 0..name.len() {
         add_front(packages, alloc, name, index)?;
     }
-    packages.add(alloc, name)?;
+    packages.add_copy(alloc, name)?;
     Ok(())
 }
 

@@ -12,11 +12,11 @@ ghost use Rattle.pb_names.specs.Scene.{IsScene, scene_sees};
 
 use crate::declaration::Declaration;
 use crate::found::Found;
-use crate::name_set::NameSet;
 use crate::places::{Places, Want};
 use crate::scopes::{first_part, has_dot, outer};
 use crate::sight::Sight;
 use pb_schema::scoped;
+use pb_sets::name_set::NameSet;
 use std::alloc::{AllocError, Global};
 
 /// The declarations by name, and what the file that was looked at last sees.

@@ -4,7 +4,7 @@ ghost use Rattle.std.specs.Prelude.{◌≡◌, Some, IfOk, OnOk};
 ghost use Rattle.pb_names.specs.Graphs.{LeadToFiles, KnowsSight, sees_by};
 
 use crate::imports::Imports;
-use crate::reach::{Reach, next_of};
+use pb_sets::reach::{Reach, next_of};
 use std::alloc::{AllocError, Global};
 
 /// What the file that was looked at last sees.

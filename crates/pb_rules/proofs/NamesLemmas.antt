@@ -3,6 +3,9 @@ use Rattle.std.proofs.Common.{◌≡◌, ℕ, zero, suc, ◌+◌, ◌<◌, ◌�
 use Rattle.std.specs.Prelude.{option_to_list, nat_le, nat_lt, ◌^◌}
 use Rattle.std.specs.List.{list_any, list_all, enumerate_from, position_from}
 use Rattle.std.specs.Option.{option_map_or}
+use Rattle.std.specs.Str.{bytes_eq}
+use Rattle.std.proofs.Math.Bool.{or-false}
+use Rattle.std.proofs.lemmas.Option.{none-some}
 use Rattle.std.proofs.lemmas.Bool.Decides.{nat_tests}
 use Rattle.std.proofs.lemmas.List.{drop_more, take-map, map-append}
 use Rattle.pb_schema.specs.Imports.{Reaches}
@@ -14,15 +17,15 @@ use Rattle.pb_rules.specs.Rules.{World, lookups, lookups_if, is_file_named, is_i
 use Rattle.pb_rules.specs.Link.{holds, IsWorldOf}
 use Rattle.pb_names.specs.Firsts.{first_at}
 use Rattle.pb_names.specs.Sees.{files_of}
-use Rattle.pb_names.specs.Reach.{graph_of, next_of, Reached}
+use Rattle.pb_sets.specs.Reach.{graph_of, next_of, Reached}
 use Rattle.pb_names.specs.Graphs.{AreImports, sees_by}
-use Rattle.pb_names.specs.NameSets.{is_in_set}
+use Rattle.pb_names.specs.NameSets.{is_in_set, AddsNames}
 use Rattle.pb_names.specs.Scene.{IsScene}
 use Rattle.pb_rules.specs.Tables.{holds_table}
 use Rattle.pb_names.specs.TypeRefs.{names_in, file_in}
 use Rattle.pb_rules.specs.Flags.{IsReady, is_first_file, are_right_imports, are_imports_there, is_free_name, is_not_before, AddsFileName}
 use Rattle.pb_names.specs.declared.imports.Imports.{Imports}
-use Rattle.pb_names.specs.declared.name_set.NameSet.{NameSet}
+use Rattle.pb_sets.specs.declared.name_set.NameSet.{NameSet}
 use Rattle.pb_names.specs.declared.scene.Scene.{Scene}
 use Rattle.pb_names.proofs.AnyLemmas.{same_test}
 use Rattle.pb_names.proofs.NameSetsLemmas.{any_append}
@@ -143,6 +146,22 @@ pub free_table : (w : World) (ds : List Declaration) → w.declared ≡ ds → m
 free_table w ds e = ap (λ x. map (is_free_name x) (enumerate_from 0 x)) (sym e)
 
 -- ONE FILE AFTER ANOTHER
+named_as_file : (name : List ℕ) (i : Item) (f : DeclaredFile) → file_in i ≡ Some f → is_file_named name i ≡ bytes_eq name f.name
+named_as_file name (a_file g) f e = ap (λ (o : Option DeclaredFile). option_map_or (λ h. bytes_eq name h.name) o false) e
+named_as_file name (a_message head inner) f e = absurd (none-some f e)
+named_as_file name (a_field head i g) f e = absurd (none-some f e)
+named_as_file name (a_oneof head i g) f e = absurd (none-some f e)
+named_as_file name (an_enum g) f e = absurd (none-some f e)
+named_as_file name (a_value g i v) f e = absurd (none-some f e)
+named_as_file name (a_service g) f e = absurd (none-some f e)
+named_as_file name (a_method g) f e = absurd (none-some f e)
+
+pub file_name_added : (d : Declaration) (f : DeclaredFile) (old new : NameSet) (name : List ℕ) (is_new : Bool) → file_in d.item ≡ Some f → name ≡ f.name → is_new ≡ not (is_in_set old name) → AddsNames (name ∷ []) old new → AddsFileName d old new is_new
+file_name_added d f old new name is_new file same was adds = record {
+  added = λ other. adds other ∙ ap (λ b. b || is_in_set old other) (or-false (bytes_eq other name) ∙ ap (bytes_eq other) same ∙ sym (named_as_file other d.item f file));
+  was_new = was ∙ ap (λ n. not (is_in_set old n)) same ∙ sym (ap (λ o. option_map_or (λ (g : DeclaredFile). not (is_in_set old g.name)) o true) file);
+}
+
 pub record FilesSoFar (ds so_far : List Declaration) (names : NameSet) (flags : List Bool) : Type 0 where
   pub flags_of : flags ≡ map (is_first_file ds) (enumerate_from 0 so_far)
   pub names_of : (name : List ℕ) → is_in_set names name ≡ list_any (λ d. is_file_named name d.item) so_far

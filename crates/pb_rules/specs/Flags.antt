@@ -10,7 +10,7 @@ use Rattle.pb_names.specs.Graphs.{AreImports, LeadToFiles, KnowsSight}
 use Rattle.pb_names.specs.NameSets.{is_in_set}
 use Rattle.pb_names.specs.Scene.{IsScene}
 use Rattle.pb_names.specs.declared.imports.Imports.{Imports}
-use Rattle.pb_names.specs.declared.name_set.NameSet.{NameSet}
+use Rattle.pb_sets.specs.declared.name_set.NameSet.{NameSet}
 use Rattle.pb_names.specs.declared.scene.Scene.{Scene}
 use Rattle.pb_names.specs.TypeRefs.{file_in}
 

@@ -6,7 +6,7 @@ ghost use Rattle.pb_rules.specs.declared.cause.LinkCause.TheVariants.{ImportCycl
 ghost use Rattle.pb_names.specs.Components.{number_of, NeverRise};
 ghost use Rattle.pb_rules.specs.Rules.{World};
 ghost use Rattle.pb_rules.specs.Link.{holds, IsWorldOf};
-ghost use Rattle.pb_names.specs.Reach.{graph_of, next_of, Reached, IsListed};
+ghost use Rattle.pb_sets.specs.Reach.{graph_of, next_of, Reached, IsListed};
 ghost use Rattle.pb_names.specs.Graphs.{AreImports, LeadToFiles};
 ghost use Rattle.pb_rules.specs.Tables.{holds_table};
 ghost use Rattle.pb_names.specs.View.{declaration_view};
@@ -14,8 +14,8 @@ ghost use Rattle.pb_names.specs.View.{declaration_view};
 use pb_names::components::{component_numbers, number_of};
 use pb_names::declaration::Declaration;
 use pb_names::imports::Imports;
-use pb_names::reach::{Reach, next_of};
 use pb_names::type_refs::file_in;
+use pb_sets::reach::{Reach, next_of};
 use std::alloc::{AllocError, Global};
 
 fn are_below(numbers: &[usize], indexes: &[usize], bound: usize) -> bool

@@ -12,9 +12,9 @@ ghost use Rattle.pb_rules.specs.Flags.{is_first_file, are_right_imports, are_imp
 
 use pb_decl::FileDecl;
 use pb_names::declaration::Declaration;
-use pb_names::name_set::NameSet;
 use pb_names::scene::Scene;
 use pb_names::type_refs::file_in;
+use pb_sets::name_set::NameSet;
 use std::alloc::{AllocError, Global};
 
 /// A file has fewer imports.
@@ -31,10 +31,8 @@ fn add_file_name(
     let Some(file) = file_in(declaration.item) else {
         return Ok(true);
     };
-    let name = file.name.as_str().as_bytes();
-    let is_known = names.contains(name);
-    names.add(alloc, name)?;
-    Ok(!is_known)
+    let is_new = names.add_copy(alloc, file.name.as_str().as_bytes())?;
+    Ok(is_new)
 }
 
 /// Whether each file is the first of its name, and the names of all files.

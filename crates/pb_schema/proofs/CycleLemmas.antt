@@ -6,6 +6,7 @@ use Rattle.std.proofs.lemmas.List.{length-set, length-replicate, get_or-set_same
 use Rattle.std.proofs.lemmas.List.Sums.{sum_by_push}
 use Rattle.std.proofs.lemmas.List.Elements.{Contains-push, Contains-push_cases, Contains-append_left}
 use Rattle.std.proofs.lemmas.Bool.{cases_eq}
+use Rattle.pb_sets.proofs.ContainsLemmas.{Contains-none, Contains-first, Contains-later, Contains-cases}
 use Rattle.pb_schema.specs.declared.imports.cycles.Progress.{Progress}
 use Rattle.pb_schema.specs.declared.imports.cycles.Progress.TheVariants.{Unseen, Open, Done}
 use Rattle.pb_schema.specs.declared.types.FileInfo.{FileInfo}
@@ -14,8 +15,7 @@ use Rattle.pb_schema.specs.Types.{FileView}
 use Rattle.pb_schema.specs.Rules.{ImportsNameFiles}
 use Rattle.pb_schema.specs.Imports.{imports_of, Reaches, directly, further}
 use Rattle.pb_schema.specs.Imports.Cycles.{progress_of, AreDone, AreSettled, AnswersWalk}
-use Rattle.pb_schema.proofs.ImportLemmas.{Contains-none, imports_within}
-use Rattle.pb_schema.proofs.NameSetLemmas.{Contains-first, Contains-later, Contains-cases}
+use Rattle.pb_schema.proofs.ImportLemmas.{imports_within}
 
 some_same : {x y : ℕ} {o : Option ℕ} → o ≡ Some x → o ≡ Some y → x ≡ y
 some_same p q = cc

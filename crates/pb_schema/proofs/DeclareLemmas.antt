@@ -7,6 +7,7 @@ use Rattle.std.proofs.lemmas.List.{length-map, take_more, map-append}
 use Rattle.std.proofs.lemmas.Grind.{flat_map-append}
 use Rattle.std.proofs.lemmas.Option.{slice_get_within}
 use Rattle.std.proofs.lemmas.List.Elements.{Contains-push, Contains-push_cases, Contains-append_left}
+use Rattle.pb_sets.proofs.ContainsLemmas.{Contains-none, Contains-first, Contains-later, Contains-cases}
 use Rattle.pb_schema.specs.declared.names.declared.Declarations.{Declarations}
 use Rattle.pb_schema.specs.declared.types.Kind.{Kind}
 use Rattle.pb_schema.specs.declared.types.Shape.TheVariants as shape
@@ -20,9 +21,8 @@ use Rattle.pb_schema.specs.Names.Tree.{IsTree, IsScope, scope_name, full_names_o
 use Rattle.pb_schema.specs.Rules.{AreWords, MessageIsOfWords, EnumIsOfWords, FullNamesDiffer, PackagesAreFree}
 use Rattle.pb_schema.specs.Names.Declared.{IsDeclared, Added, named_in, Adds, AddedAt, AddsOne, names_by_message, AddsMessage, scope_id, HaveNames, MayAddMessages, MessagesAdded, MayAddEnums}
 use Rattle.pb_schema.specs.declared.names.tree.NameTree.{NameTree}
-use Rattle.pb_schema.proofs.ImportLemmas.{Contains-none}
 use Rattle.pb_schema.proofs.OrderLemmas.{iff_trans}
-use Rattle.pb_schema.proofs.NameSetLemmas.{Contains-first, Contains-later, Contains-cases, All-at, AllDiffer-push, AllDiffer-front, AllDiffer-back, AllDiffer-new, all_front, all_back}
+use Rattle.pb_schema.proofs.NameSetLemmas.{All-at, AllDiffer-push, AllDiffer-front, AllDiffer-back, AllDiffer-new, all_front, all_back}
 use Rattle.pb_schema.proofs.NameTreeLemmas.{name_at-get, get-push, get-front, get-contains}
 use Rattle.pb_schema.proofs.PackageLemmas.{keeps_scope, packages_kept, zip_push, all_join, all_of}
 use Rattle.pb_schema.proofs.NameLemmas.{so_far, scope_of-names, parent_of-map, map_push}

@@ -18,18 +18,18 @@ pub mod EntryNames
 mod RuleRows
 -- for the loops that test each element: a step stops at one that fails, and goes on past one that passes
 pub mod Loops
--- for the walks over imports: what is visited, what waits, and what is marked
+-- for imports as a graph
 pub mod ImportLemmas
 -- for the rule that no file reaches itself
 pub mod CycleLemmas
--- for the marks of the files that a file sees
+-- for what is known of the files that a file sees
 pub mod SightLemmas
 -- for the rules of declaration order, and of messages in messages
 pub mod OrderLemmas
 -- for the rules of oneofs, and of the types that a file sees
 pub mod RuleLemmas
 -- ---- the rule that full names differ
--- for `NameSet`, and wherever it counts whether a list contains a name or its elements differ
+-- for names that are added one after another, and wherever it counts whether the elements of a list differ
 pub mod NameSetLemmas
 -- for `NameTree`: names as words in scopes
 pub mod NameTreeLemmas

@@ -8,9 +8,11 @@ use Rattle.std.proofs.lemmas.Slice.Eq.{bytes_eq-Decides}
 use Rattle.std.proofs.lemmas.List.Folds.{find_at}
 use Rattle.std.proofs.lemmas.List.{length-map}
 use Rattle.pb_schema.specs.declared.types.Field.{Field}
-use Rattle.pb_schema.specs.View.{field_view, bytes_of}
+use Rattle.pb_schema.specs.View.{field_view}
 use Rattle.pb_schema.specs.Types.{FieldView, MessageView, EnumView, Types, message_fields, fields_of_message, field_numbered}
-use Rattle.pb_schema.specs.declared.names.set.NameSet.{NameSet}
+use Rattle.pb_sets.specs.NameSets.{names_in}
+use Rattle.pb_sets.proofs.NameSetLemmas.{position-map}
+use Rattle.pb_schema.specs.declared.names.set.AddedNames.{AddedNames}
 use Rattle.pb_schema.specs.Nesting.{ParentsStandBefore}
 use Rattle.pb_schema.specs.Names.{AllDiffer, in_scope, scope_of, scope_by_names, message_name, enum_name, message_names, enum_names, names_in_message, declared_by_message, declared_by_enum}
 use Rattle.pb_schema.specs.Names.Set.{IsSetOf}
@@ -126,13 +128,6 @@ AllDiffer-firsts f g [] all = tt
 AllDiffer-firsts f g (x ∷ xs) all =
     (all_firsts (λ y. f x ≢ y) f g xs (all_back (λ y. f x ≢ y) (g x) (flat_map (λ y. f y ∷ g y) xs) all.0), AllDiffer-firsts f g xs (AllDiffer-back (g x) (flat_map (λ y. f y ∷ g y) xs) all.1))
 
-prefix_len-map : {A B : Type 0} (t : B → Bool) (f : A → B) (xs : List A) → prefix_len t (map f xs) ≡ prefix_len (λ x. t (f x)) xs
-prefix_len-map t f [] = refl
-prefix_len-map t f (x ∷ xs) = ap (λ n. cond (t (f x)) (1 + n) 0) (prefix_len-map t f xs)
-
-pub place_of-bytes : (q : List ℕ) (ks : List (Vec ℕ Global)) → position (λ k. bytes_eq q k.items) ks ≡ place_of q (bytes_of ks)
-place_of-bytes q ks = simp (prefix_len-map, length-map)
-
 -- TABLES
 
 pub pool_message_names : (ts : Types) → IsPool ts → AllDiffer (message_names ts)
@@ -158,11 +153,11 @@ enum_names_by ts names ok same = each ts.enums
 
 -- NAMES IN SETS
 
-pub set_of_messages : (ts : Types) (names : List (List ℕ)) (set : NameSet) → IsPool ts → names ≡ message_names ts → IsSetOf names set → bytes_of set.table.keys ≡ message_names ts
-set_of_messages ts names set ok same is = is.ordered (is.differ.1 (subst AllDiffer (sym same) (pool_message_names ts ok))) ∙ same
+pub set_of_messages : (ts : Types) (names : List (List ℕ)) (added : AddedNames) → IsPool ts → names ≡ message_names ts → IsSetOf names added → names_in added.set ≡ message_names ts
+set_of_messages ts names added ok same is = is.ordered (is.differ.1 (subst AllDiffer (sym same) (pool_message_names ts ok))) ∙ same
 
-pub set_of_enums : (ts : Types) (names : List (List ℕ)) (set : NameSet) → IsPool ts → names ≡ enum_names ts → IsSetOf names set → bytes_of set.table.keys ≡ enum_names ts
-set_of_enums ts names set ok same is = is.ordered (is.differ.1 (subst AllDiffer (sym same) (pool_enum_names ts ok))) ∙ same
+pub set_of_enums : (ts : Types) (names : List (List ℕ)) (added : AddedNames) → IsPool ts → names ≡ enum_names ts → IsSetOf names added → names_in added.set ≡ enum_names ts
+set_of_enums ts names added ok same is = is.ordered (is.differ.1 (subst AllDiffer (sym same) (pool_enum_names ts ok))) ∙ same
 
 -- FIELDS BY NAME
 
@@ -204,11 +199,8 @@ read_named name fs n None at past = sym (named_at name (map field_view fs) ∙ a
 read_named name fs n (Some x) at here = sym (named_at name (map field_view fs) ∙ ap (slice_get (map field_view fs)) at ∙ get_map fs n x.now here.0 here.1)
 
 -- the place of a name is that of its field
-pub place_by_name : (name : List ℕ) (fs : List FieldView) (ks : List (Vec ℕ Global)) → bytes_of ks ≡ map (λ f. f.name) fs → position (λ k. bytes_eq name k.items) ks ≡ position (λ (f : FieldView). bytes_eq name f.name) fs
-place_by_name name fs ks same = place_of-bytes name ks ∙ ap (place_of name) same ∙ names_in fs
-  where
-    names_in : (gs : List FieldView) → place_of name (map (λ f. f.name) gs) ≡ position (λ (f : FieldView). bytes_eq name f.name) gs
-    names_in gs = simp (prefix_len-map, length-map)
+pub place_by_name : (name : List ℕ) (fs : List FieldView) (names : List (List ℕ)) → names ≡ map (λ f. f.name) fs → position (bytes_eq name) names ≡ position (λ (f : FieldView). bytes_eq name f.name) fs
+place_by_name name fs names same = ap (place_of name) same ∙ position-map (bytes_eq name) (λ (f : FieldView). f.name) fs
 
 pub unnamed : (name : List ℕ) (fs : List FieldView) → position (λ (f : FieldView). bytes_eq name f.name) fs ≡ None → field_named name fs ≡ None
 unnamed name fs e = named_at name fs ∙ get_outside fs (position_or_len (λ (f : FieldView). bytes_eq name f.name) fs) (place_none (λ (f : FieldView). bytes_eq name f.name) fs e)

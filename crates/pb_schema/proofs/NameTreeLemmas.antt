@@ -14,8 +14,10 @@ use Rattle.pb_schema.specs.Names.{begins_word, continues_word, is_word, in_scope
 use Rattle.pb_schema.specs.declared.names.tree.NameTree.{NameTree}
 use Rattle.pb_schema.specs.View.{bytes_of}
 use Rattle.pb_schema.specs.Names.Tree.{scope_name, names_behind, full_names, full_names_of, IsScope, AreNamed, IsTree, IsInTree, NameAdded}
-use Rattle.pb_schema.proofs.ImportLemmas.{Contains-none}
-use Rattle.pb_schema.proofs.NameSetLemmas.{Contains-first, Contains-later, Contains-cases, All-at, AllDiffer-push, bytes_of-append, has_name, or_true}
+use Rattle.std.proofs.Math.Bool.{or-true}
+use Rattle.pb_sets.proofs.ContainsLemmas.{Contains-none, Contains-first, Contains-later, Contains-cases}
+use Rattle.pb_sets.proofs.NameSetLemmas.{has_text}
+use Rattle.pb_schema.proofs.NameSetLemmas.{All-at, AllDiffer-push, bytes_of-append}
 
 -- ELEMENTS BY INDEX
 
@@ -337,7 +339,7 @@ name_itself scope w = ap (λ b. b && eqb w w) (option_itself scope) ∙ (Decides
 any_true : {X : Type 0} (t : X → Bool) (xs : List X) (x : X) → t x ≡ true → Contains xs x → list_any t xs ≡ true
 any_true t [] x e h = Contains-none x h
 any_true t (y ∷ ys) x e h =
-    ⊎_elim (λ same. ap (λ b. b || list_any t ys) (subst (λ z. t z ≡ true) (sym same) e)) (λ later. ap (λ b. t y || b) (any_true t ys x e later) ∙ or_true (t y)) (Contains-cases x y ys h)
+    ⊎_elim (λ same. ap (λ b. b || list_any t ys) (subst (λ z. t z ≡ true) (sym same) e)) (λ later. ap (λ b. t y || b) (any_true t ys x e later) ∙ or-true (t y)) (Contains-cases x y ys h)
 
 module _ (a b : NameTree) (scope : Option ℕ) (text : List ℕ) (w i : ℕ) (is_new : Bool) (tree : IsTree a) (hs : IsInTree a scope) where
   -- the words with the new one
@@ -397,7 +399,7 @@ module _ (a b : NameTree) (scope : Option ℕ) (text : List ℕ) (w i : ℕ) (is
           let more : bytes_of b.words.keys ≡ W ++ text ∷ [] = ap bytes_of words ∙ bytes_of-append a.words.keys (word ∷ []) ∙ ap (λ l. W ++ l ∷ []) same in
           let kept : full_names (W ++ text ∷ []) a.names.keys ≡ full_names_of a = full_names-words W (text ∷ []) a.names.keys tree.named.words_within in
           let full : full_names (bytes_of b.words.keys) a.names.keys ≡ full_names_of a = ap (λ l. full_names l a.names.keys) more ∙ kept in
-          let unknown : ¬ Contains W text = λ h. false≢true (sym e ∙ (has_name word.items a.words.keys).1 (subst (Contains W) (sym same) h)) in
+          let unknown : ¬ Contains W text = λ h. false≢true (sym e ∙ (has_text word.items a.words.keys).1 (subst (Contains W) (sym same) h)) in
           let are : AreNamed (W ++ text ∷ []) a.names.keys (full_names_of a) = named-word W a.names.keys (full_names_of a) text tree.named ok unknown in
           let are' = subst (λ l. AreNamed l a.names.keys (full_names l a.names.keys)) (sym more) (subst (AreNamed (W ++ text ∷ []) a.names.keys) (sym kept) are) in
           by_name are' full here (list_any (is_name scope w) a.names.keys) refl names n at' is'

@@ -10,13 +10,13 @@ use Rattle.std.proofs.lemmas.List.Elements.{Contains-get_or}
 use Rattle.std.specs.Ordering.{nat_cmp, ordering_index}
 use Rattle.std.specs.declared.cmp.Ordering.TheVariants.{Less, Equal, Greater}
 use Rattle.std.proofs.lemmas.Map.Views.{Contains-from_any}
+use Rattle.pb_sets.proofs.ContainsLemmas.{Contains-none, Contains-first, Contains-later, Contains-cases}
 use Rattle.pb_schema.specs.Names.{AllDiffer}
 use Rattle.pb_schema.specs.declared.types.Field.{Field}
 use Rattle.pb_schema.specs.View.{field_view}
 use Rattle.pb_schema.specs.Types.{FieldView}
 use Rattle.pb_schema.specs.Tables.{IsNumbered}
-use Rattle.pb_schema.proofs.ImportLemmas.{Contains-none}
-use Rattle.pb_schema.proofs.NameSetLemmas.{Contains-first, Contains-later, Contains-cases, AllDiffer-push, AllDiffer-new}
+use Rattle.pb_schema.proofs.NameSetLemmas.{AllDiffer-push, AllDiffer-new}
 
 -- the numbers of fields, each with its index, from some index on
 abbrev pub entries_from : ℕ → List Field → List (ℕ × ℕ)

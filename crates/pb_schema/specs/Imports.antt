@@ -1,8 +1,7 @@
 -- Which files a file reaches by imports.
 pub mod Cycles
 pub mod Sight
-use Rattle.std.specs.Prelude.{◌≡◌, ◌⊎◌, ◌↔◌, ℕ, List, [], length, Bool, false, IsTrue, Option, Some, None, slice_get, Contains}
-use Rattle.std.specs.List.{slice_index_or}
+use Rattle.std.specs.Prelude.{◌≡◌, ◌⊎◌, ℕ, List, [], Option, Some, None, slice_get, Contains}
 use Rattle.pb_schema.specs.Types.{FileView}
 
 abbrev pub imports_of : List FileView → ℕ → List ℕ
@@ -19,8 +18,3 @@ pub data Reaches (files : List FileView) (i : ℕ) : ℕ → Type 0 where
 -- what is declared in file j may be named in file i
 abbrev pub IsSeen : List FileView → ℕ → ℕ → Type 0
 IsSeen files i j = (i ≡ j) ⊎ Reaches files i j
-
--- a bit for each file says that it is reached from i
-pub record AreReached (files : List FileView) (i : ℕ) (bits : List Bool) : Type 0 where
-  pub size : length bits ≡ length files
-  pub exact : (j : ℕ) → IsTrue (slice_index_or bits j false) ↔ Reaches files i j

@@ -1,3 +1,2 @@
 -- Facts that only loops need: no public contract rests on them.
 pub mod Members
-pub mod Imports

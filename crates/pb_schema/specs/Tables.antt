@@ -9,10 +9,10 @@ pub use Rattle.pb_schema.specs.Tables.Names.{IsNameTable, place_of, field_named}
 pub use Rattle.pb_schema.specs.Tables.Values.{AreNumbersOf, AreMarksOf, IsValueTable}
 use Rattle.std.specs.Prelude.{◌≡◌, ℕ, ℤ, length, List, [], ◌∷◌, Option, Vec}
 use Rattle.std.specs.declared.alloc.Global.{Global}
-use Rattle.pb_schema.specs.declared.names.set.NameSet.{NameSet}
+use Rattle.pb_sets.specs.declared.name_set.NameSet.{NameSet}
+use Rattle.pb_sets.specs.NameSets.{names_in}
 use Rattle.pb_schema.specs.declared.tables.Tables.{Tables}
 use Rattle.pb_schema.specs.declared.tables.values.ValueTable.{ValueTable}
-use Rattle.pb_schema.specs.View.{bytes_of}
 use Rattle.pb_schema.specs.Types.{MessageView, EnumView, Types}
 use Rattle.pb_schema.specs.Names.{message_names, enum_names}
 
@@ -38,8 +38,8 @@ AreValueTables es tables = HaveTables (λ e v. IsValueTable e.values v) es table
 -- the tables of a pool: the full names of messages and enums in their order, the numbers, the oneofs' members and the names of the fields of
 -- each message, and the numbers of the values of each enum
 pub record HasTables (ts : Types) (t : Tables) : Type 0 where
-  pub messages : bytes_of t.messages.keys ≡ message_names ts
-  pub enums : bytes_of t.enums.keys ≡ enum_names ts
+  pub messages : names_in t.messages ≡ message_names ts
+  pub enums : names_in t.enums ≡ enum_names ts
   pub numbers : AreNumberTables ts.messages t.numbers.items
   pub members : AreMemberTables ts.messages t.members.items
   pub names : AreNameTables ts.messages t.names.items

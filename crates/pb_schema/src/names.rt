@@ -70,7 +70,8 @@ fn message_name(
     message: &MessageType,
 ) -> Result<Vec<u8>, AllocError>
     ensures { IfOk result (λ v. v.items ≡
-        in_scope (scope_by_names (map file_view files.now) (bytes_of names.now) message.now.file (parent_view message.now.parent)) (string_bytes message.now.name)) }
+        in_scope (scope_by_names (map file_view files.now) (bytes_of names.now) message.now.file (parent_view message.now.parent))
+        (string_bytes message.now.name)) }
 {
     let around = scope(files, names, message.file, message.parent);
     scoped(alloc, around, message.name.as_str().as_bytes())

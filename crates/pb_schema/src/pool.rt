@@ -116,7 +116,7 @@ impl Pool {
         ensures found { option_map (λ m. m.0) result ≡ place_of name.now (message_names_of self.now) }
         ensures within { IfSome result (λ m. m.0 < length self.now.messages) }
     {
-        match self.tables.messages.get_index_of(name.as_bytes()) {
+        match self.tables.messages.index_of(name.as_bytes()) {
             Some(index) => Some(MessageId(index)),
             None => None,
         }
@@ -127,7 +127,7 @@ impl Pool {
         ensures found { option_map (λ e. e.0) result ≡ place_of name.now (enum_names_of self.now) }
         ensures within { IfSome result (λ e. e.0 < length self.now.enums) }
     {
-        match self.tables.enums.get_index_of(name.as_bytes()) {
+        match self.tables.enums.index_of(name.as_bytes()) {
             Some(index) => Some(EnumId(index)),
             None => None,
         }
@@ -138,8 +138,8 @@ impl Pool {
         requires { message.0 < length self.now.messages }
         ensures found { slice_get (message_names_of self.now) message.0 ≡ Some result.now }
     {
-        match self.tables.messages.get_index(message.0) {
-            Some(name) => name.as_slice(),
+        match self.tables.messages.get(message.0) {
+            Some(name) => name,
             None => &[],
         }
     }
@@ -149,8 +149,8 @@ impl Pool {
         requires { entry.0 < length self.now.enums }
         ensures found { slice_get (enum_names_of self.now) entry.0 ≡ Some result.now }
     {
-        match self.tables.enums.get_index(entry.0) {
-            Some(name) => name.as_slice(),
+        match self.tables.enums.get(entry.0) {
+            Some(name) => name,
             None => &[],
         }
     }

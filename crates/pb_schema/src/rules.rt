@@ -12,7 +12,7 @@ pub(crate) mod syntax;
 ghost use Rattle.std.specs.Prelude.{◌↔◌, IsTrue, IfOk, map, length};
 ghost use Rattle.pb_schema.specs.View.{file_view, message_view, enum_view, types_of};
 ghost use Rattle.pb_schema.specs.Nesting.{ParentsStandBefore};
-ghost use Rattle.pb_schema.specs.Rules.{FileRules, IndexRules, NameRules, ShapeRules, FieldRules, IsPool, ImportsNameFiles, MessagesHaveFiles};
+ghost use Rattle.pb_schema.specs.Rules.{FileRules, IndexRules, NameRules, ShapeRules, FieldRules, IsPool, ImportsNameFiles};
 ghost use Rattle.pb_schema.specs.Rules.{PackagesAreWords, MessageNamesAreWords, EnumNamesAreWords, FullNamesDiffer, PackagesAreFree};
 
 use crate::imports::cycles::no_file_reaches_itself;
@@ -78,8 +78,7 @@ fn fields_meet_rules(
     messages: &[MessageType],
     enums: &[EnumType],
 ) -> Result<bool, AllocError>
-    requires imports { ImportsNameFiles (map file_view files.now) }
-    requires within { MessagesHaveFiles (map file_view files.now) (map message_view messages.now) }
+    requires { ImportsNameFiles (map file_view files.now) }
     ensures { IfOk result (λ holds. IsTrue holds ↔ FieldRules (types_of files.now messages.now enums.now)) }
 {
     let differ = numbers_differ(alloc, messages)?;

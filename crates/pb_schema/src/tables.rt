@@ -10,7 +10,7 @@ ghost use Rattle.pb_schema.specs.View.{types_of};
 ghost use Rattle.pb_schema.specs.Rules.{IsPool};
 ghost use Rattle.pb_schema.specs.Tables.{HasTables};
 
-use crate::names::set::NameSet;
+use crate::names::set::AddedNames;
 use crate::names::{enum_names, message_names};
 use crate::rules::meet_rules;
 use crate::tables::members::{MemberTable, member_tables};
@@ -18,15 +18,15 @@ use crate::tables::names::{NameTable, name_tables};
 use crate::tables::numbers::{NumberTable, number_tables};
 use crate::tables::values::{ValueTable, value_tables};
 use crate::types::{EnumType, FileInfo, MessageType};
-use indexmap::IndexSet;
+use pb_sets::name_set::NameSet;
 use std::alloc::{AllocError, Global};
 
 /// The full names of messages and enums in their order, of each message the numbers of its fields, the members of its oneofs and the
 /// names of many fields, and of each enum the numbers of its values.
 #[derive(Debug, Drop)]
 pub(crate) struct Tables {
-    pub(crate) messages: IndexSet<Vec<u8>>,
-    pub(crate) enums: IndexSet<Vec<u8>>,
+    pub(crate) messages: NameSet,
+    pub(crate) enums: NameSet,
     pub(crate) numbers: Vec<NumberTable>,
     pub(crate) members: Vec<MemberTable>,
     pub(crate) names: Vec<NameTable>,
@@ -50,15 +50,15 @@ pub(crate) fn checked(
     }
     let names = message_names(alloc, files, messages)?;
     let names_of_enums = enum_names(alloc, files, &names, enums)?;
-    let enum_set = NameSet::collect(alloc, names_of_enums)?;
-    let message_set = NameSet::collect(alloc, names)?;
+    let added_enums = AddedNames::collect(alloc, names_of_enums)?;
+    let added_messages = AddedNames::collect(alloc, names)?;
     let numbers = number_tables(alloc, messages)?;
     let members = member_tables(alloc, messages)?;
     let field_names = name_tables(alloc, messages)?;
     let values = value_tables(alloc, enums)?;
     Ok(Some(Tables {
-        messages: message_set.table,
-        enums: enum_set.table,
+        messages: added_messages.set,
+        enums: added_enums.set,
         numbers,
         members,
         names: field_names,

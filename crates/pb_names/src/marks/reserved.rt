@@ -10,8 +10,8 @@ ghost use Rattle.pb_names.specs.NameSets.{is_in_set};
 ghost use Rattle.pb_names.specs.Reserved.{with_end_behind, is_filled, Rises, Reserves, ReservesInMessage, ReservesInEnum};
 ghost use Rattle.pb_names.specs.MarkRules.{is_in_message_range, message_ranges_overlap, none_overlap};
 
-use crate::name_set::NameSet;
 use pb_decl::{EnumDecl, MessageDecl};
+use pb_sets::name_set::NameSet;
 use std::alloc::{AllocError, Global};
 
 /// The ranges and names that a message or an enum reserves.
@@ -70,7 +70,7 @@ fn name_set(alloc: Global, names: &[String]) -> Result<NameSet, AllocError>
 {
     let mut set = NameSet::new(alloc);
     for name in names {
-        set.add(alloc, name.as_str().as_bytes())?;
+        set.add_copy(alloc, name.as_str().as_bytes())?;
     }
     Ok(set)
 }

@@ -1,13 +1,13 @@
 -- The tables of names.
 use Rattle.std.specs.Prelude.{◌≡◌, ℕ, map, List, Option, IfSome, position, find}
 use Rattle.std.specs.Str.{bytes_eq}
-use Rattle.pb_schema.specs.declared.names.set.NameSet.{NameSet}
-use Rattle.pb_schema.specs.View.{bytes_of}
+use Rattle.pb_sets.specs.declared.name_set.NameSet.{NameSet}
+use Rattle.pb_sets.specs.NameSets.{names_in}
 use Rattle.pb_schema.specs.Types.{FieldView}
 
 -- where there is a table it has the simple names of the fields in their order
 abbrev pub IsNameTable : List FieldView → Option NameSet → Type 0
-IsNameTable fs table = IfSome table (λ s. bytes_of s.table.keys ≡ map (λ f. f.name) fs)
+IsNameTable fs table = IfSome table (λ s. names_in s ≡ map (λ f. f.name) fs)
 
 -- the first place of a name among names
 abbrev pub place_of : List ℕ → List (List ℕ) → Option ℕ

@@ -1,25 +1,25 @@
-//! Names that are added one after another, and whether all of them differ.
+//! Names that are added one after another, and whether all of them differ; names in scopes.
 
 ghost use Rattle.std.specs.Prelude.{◌≡◌, [], ◌∷◌, IfOk, OnOk};
 ghost use Rattle.pb_schema.specs.View.{bytes_of};
 ghost use Rattle.pb_schema.specs.Names.{in_scope};
 ghost use Rattle.pb_schema.specs.Names.Set.{IsSetOf, Adds};
 
-use indexmap::IndexSet;
+use pb_sets::name_set::NameSet;
 use std::alloc::{AllocError, Global};
 
-#[derive(Debug, Drop)]
-pub(crate) struct NameSet {
-    pub(crate) table: IndexSet<Vec<u8>>,
+#[derive(Drop)]
+pub(crate) struct AddedNames {
+    pub(crate) set: NameSet,
     pub(crate) differ: bool,
 }
 
-impl NameSet {
-    pub(crate) fn new(alloc: Global) -> NameSet
+impl AddedNames {
+    pub(crate) fn new(alloc: Global) -> AddedNames
         ensures { IsSetOf [] result }
     {
-        NameSet {
-            table: IndexSet::new(alloc),
+        AddedNames {
+            set: NameSet::new(alloc),
             differ: true,
         }
     }
@@ -27,20 +27,19 @@ impl NameSet {
     pub(crate) fn add(&mut self, name: Vec<u8>) -> Result<(), AllocError>
         ensures { OnOk result (Adds (name.items ∷ []) self.old self.new) }
     {
-        let is_new = self.table.insert(name)?;
+        let is_new = self.set.add(name)?;
         self.differ &= is_new;
         Ok(())
     }
 
-    /// The set of these names.
-    pub(crate) fn collect(alloc: Global, names: Vec<Vec<u8>>) -> Result<NameSet, AllocError>
+    pub(crate) fn collect(alloc: Global, names: Vec<Vec<u8>>) -> Result<AddedNames, AllocError>
         ensures { IfOk result (IsSetOf (bytes_of names.items)) }
     {
-        let mut set = NameSet::new(alloc);
+        let mut added = AddedNames::new(alloc);
         for name in names {
-            set.add(name)?;
+            added.add(name)?;
         }
-        Ok(set)
+        Ok(added)
     }
 }
 

@@ -1,16 +1,16 @@
 //! The rules of numbers, oneofs and the types of fields.
 
-ghost use Rattle.std.specs.Prelude.{◌≡◌, ◌↔◌, ◌<◌, false, IsTrue, IfOk, OnOk, map, length};
+ghost use Rattle.std.specs.Prelude.{◌≡◌, ◌↔◌, false, IsTrue, IfOk, OnOk, map, option_map, slice_get};
 ghost use Rattle.std.specs.List.{AllByRecursion};
 ghost use Rattle.pb_schema.specs.View.{file_view, message_view, enum_view, field_view, types_of};
 ghost use Rattle.pb_schema.specs.Names.{AllDiffer};
-ghost use Rattle.pb_schema.specs.Imports.Sight.{KnowsAll, file_of_kind};
+ghost use Rattle.pb_schema.specs.Imports.Sight.{KnowsSight, file_of_kind};
 ghost use Rattle.pb_schema.specs.Loops.Members.{NotesMember, AreMembers};
-ghost use Rattle.pb_schema.specs.Rules.{ImportsNameFiles, MessagesHaveFiles, NumbersDiffer, TypeIsSeen, FieldsSeeTypes, TypesAreSeen};
+ghost use Rattle.pb_schema.specs.Rules.{ImportsNameFiles, NumbersDiffer, TypeIsSeen, FieldsSeeTypes, TypesAreSeen};
 ghost use Rattle.pb_schema.specs.Rules.{EachOneofHasMember, OneofsHaveMembers};
 
 use crate::imports::sight::Sight;
-use crate::types::{EnumType, Field, FileInfo, Kind, MessageType, Shape};
+use crate::types::{EnumId, EnumType, Field, FileInfo, Kind, MessageId, MessageType, Shape};
 use indexmap::IndexSet;
 use std::alloc::{AllocError, Global};
 
@@ -89,40 +89,39 @@ pub(crate) fn oneofs_have_members(
     Ok(true)
 }
 
+fn file_of_message(messages: &[MessageType], id: MessageId) -> Option<usize>
+    ensures { result ≡ option_map (λ t. t.file) (slice_get (map message_view messages.now) id.0) }
+{
+    match messages.get(id.0) {
+        Some(message) => Some(message.file),
+        None => None,
+    }
+}
+
+fn file_of_enum(enums: &[EnumType], id: EnumId) -> Option<usize>
+    ensures { result ≡ option_map (λ t. t.file) (slice_get (map enum_view enums.now) id.0) }
+{
+    match enums.get(id.0) {
+        Some(entry) => Some(entry.file),
+        None => None,
+    }
+}
+
 /// The file of the type that a kind names.
 fn file_of_kind(messages: &[MessageType], enums: &[EnumType], kind: Kind) -> Option<usize>
     ensures { result ≡ file_of_kind (map message_view messages.now) (map enum_view enums.now) kind }
 {
-    match kind {
-        Kind::Enum(id) | Kind::ClosedEnum(id) => match enums.get(id.0) {
-            Some(entry) => Some(entry.file),
-            None => None,
-        },
-        Kind::Message(id) | Kind::Group(id) => match messages.get(id.0) {
-            Some(message) => Some(message.file),
-            None => None,
-        },
-        Kind::Double
-        | Kind::Float
-        | Kind::Int64
-        | Kind::Uint64
-        | Kind::Int32
-        | Kind::Fixed64
-        | Kind::Fixed32
-        | Kind::Bool
-        | Kind::Text
-        | Kind::Bytes
-        | Kind::Uint32
-        | Kind::Sfixed32
-        | Kind::Sfixed64
-        | Kind::Sint32
-        | Kind::Sint64 => None,
+    if let Some(id) = kind.message() {
+        return file_of_message(messages, id);
+    }
+    match kind.enum_id() {
+        Some(id) => file_of_enum(enums, id),
+        None => None,
     }
 }
 
 /// The type that a kind names is declared in a file that this one sees.
 fn type_is_seen(
-    alloc: Global,
     files: &[FileInfo],
     messages: &[MessageType],
     enums: &[EnumType],
@@ -131,20 +130,18 @@ fn type_is_seen(
     kind: Kind,
 ) -> Result<bool, AllocError>
     requires imports { ImportsNameFiles (map file_view files.now) }
-    requires within { file < length files.now }
-    requires known { KnowsAll (map file_view files.now) sight.old }
+    requires known { KnowsSight (map file_view files.now) sight.old }
     ensures seen { IfOk result (λ holds. IsTrue holds ↔ TypeIsSeen (types_of files.now messages.now enums.now) file kind) }
-    ensures known { OnOk result (KnowsAll (map file_view files.now) sight.new) }
+    ensures known { OnOk result (KnowsSight (map file_view files.now) sight.new) }
 {
     match file_of_kind(messages, enums, kind) {
-        Some(target) => sight.sees(alloc, files, file, target),
+        Some(target) => sight.sees(files, file, target),
         None => Ok(true),
     }
 }
 
 /// The type of each field of a message is declared in a file that the message's file sees.
 fn fields_see_types(
-    alloc: Global,
     files: &[FileInfo],
     messages: &[MessageType],
     enums: &[EnumType],
@@ -152,22 +149,13 @@ fn fields_see_types(
     message: &MessageType,
 ) -> Result<bool, AllocError>
     requires imports { ImportsNameFiles (map file_view files.now) }
-    requires within { message.now.file < length files.now }
-    requires known { KnowsAll (map file_view files.now) sight.old }
+    requires known { KnowsSight (map file_view files.now) sight.old }
     ensures seen { IfOk result (λ holds. IsTrue holds ↔
         FieldsSeeTypes (types_of files.now messages.now enums.now) message.now.file (map field_view message.now.fields.items)) }
-    ensures known { OnOk result (KnowsAll (map file_view files.now) sight.new) }
+    ensures known { OnOk result (KnowsSight (map file_view files.now) sight.new) }
 {
     for field in &message.fields {
-        let seen = type_is_seen(
-            alloc,
-            files,
-            messages,
-            enums,
-            sight,
-            message.file,
-            field.kind,
-        )?;
+        let seen = type_is_seen(files, messages, enums, sight, message.file, field.kind)?;
         if !seen {
             return Ok(false);
         }
@@ -181,13 +169,12 @@ pub(crate) fn types_are_seen(
     messages: &[MessageType],
     enums: &[EnumType],
 ) -> Result<bool, AllocError>
-    requires imports { ImportsNameFiles (map file_view files.now) }
-    requires within { MessagesHaveFiles (map file_view files.now) (map message_view messages.now) }
+    requires { ImportsNameFiles (map file_view files.now) }
     ensures { IfOk result (λ holds. IsTrue holds ↔ TypesAreSeen (types_of files.now messages.now enums.now)) }
 {
     let mut sight = Sight::new(alloc, files)?;
     for message in messages {
-        let seen = fields_see_types(alloc, files, messages, enums, &mut sight, message)?;
+        let seen = fields_see_types(files, messages, enums, &mut sight, message)?;
         if !seen {
             return Ok(false);
         }

@@ -5,7 +5,7 @@ ghost use Rattle.std.specs.List.{AllByRecursion};
 ghost use Rattle.pb_schema.specs.View.{file_view};
 ghost use Rattle.pb_schema.specs.Rules.{FilesAreNamed, FileNamesDiffer, PackagesAreWords, ImportsAreFew, ImportsNameFiles};
 
-use crate::names::set::NameSet;
+use crate::names::set::AddedNames;
 use crate::names::words::is_package;
 use crate::types::FileInfo;
 use std::alloc::{AllocError, Global};
@@ -27,7 +27,7 @@ pub(crate) fn files_are_named(files: &[FileInfo]) -> bool
 pub(crate) fn file_names_differ(alloc: Global, files: &[FileInfo]) -> Result<bool, AllocError>
     ensures { IfOk result (λ holds. IsTrue holds ↔ FileNamesDiffer (map file_view files.now)) }
 {
-    let mut names = NameSet::new(alloc);
+    let mut names = AddedNames::new(alloc);
     for file in files {
         names.add(file.name.as_str().as_bytes().to_vec(alloc)?)?;
     }

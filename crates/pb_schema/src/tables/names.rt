@@ -5,8 +5,9 @@ ghost use Rattle.pb_schema.specs.View.{field_view, message_view};
 ghost use Rattle.pb_schema.specs.Names.Set.{IsSetOf};
 ghost use Rattle.pb_schema.specs.Tables.{IsNameTable, AreNameTables, field_named as named_field};
 
-use crate::names::set::NameSet;
+use crate::names::set::AddedNames;
 use crate::types::{Field, MessageType};
+use pb_sets::name_set::NameSet;
 use std::alloc::{AllocError, Global};
 
 /// From so many fields on a message has a table of their names; fewer are gone over.
@@ -15,16 +16,16 @@ const MANY: usize = 16;
 /// The simple names of a message's fields in their order, where there are many.
 pub(crate) type NameTable = Option<NameSet>;
 
-/// The set of the simple names of some fields.
-fn simple_names(alloc: Global, fields: &[Field]) -> Result<NameSet, AllocError>
+/// The simple names of some fields.
+fn simple_names(alloc: Global, fields: &[Field]) -> Result<AddedNames, AllocError>
     ensures { IfOk result (IsSetOf (map (λ f. f.name) (map field_view fields.now))) }
 {
-    let mut set = NameSet::new(alloc);
+    let mut names = AddedNames::new(alloc);
     for field in fields {
         let name = field.name.as_bytes().to_vec(alloc)?;
-        set.add(name)?;
+        names.add(name)?;
     }
-    Ok(set)
+    Ok(names)
 }
 
 fn name_table(alloc: Global, fields: &[Field]) -> Result<NameTable, AllocError>
@@ -33,8 +34,12 @@ fn name_table(alloc: Global, fields: &[Field]) -> Result<NameTable, AllocError>
     if fields.len() < MANY {
         return Ok(None);
     }
-    let set = simple_names(alloc, fields)?;
-    if set.differ { Ok(Some(set)) } else { Ok(None) }
+    let names = simple_names(alloc, fields)?;
+    if names.differ {
+        Ok(Some(names.set))
+    } else {
+        Ok(None)
+    }
 }
 
 /// A table for each message.
@@ -75,7 +80,7 @@ pub(crate) fn field_named<'a>(
     let Some(set) = names else {
         return find_name(fields, name);
     };
-    match set.table.get_index_of(name.as_bytes()) {
+    match set.index_of(name.as_bytes()) {
         Some(index) => fields.get(index),
         None => None,
     }

@@ -5,7 +5,7 @@ use Rattle.std.proofs.lemmas.Result.{err_from_is_err_and}
 use Rattle.pb_decl.specs.View.{file_view}
 use Rattle.pb_decl.specs.declared.decl.FileDecl.{FileDecl}
 use Rattle.pb_command.specs.CompileAnswer.{roots_of, texts_of}
-use Rattle.pb_command.specs.NameSets.{names_in}
+use Rattle.pb_sets.specs.NameSets.{names_in}
 use Rattle.pb_command.specs.Gathering.{Gathered, gathered, given, none_left, nothing_yet}
 use Rattle.pb_command.specs.Reaching.{reached}
 use Rattle.pb_command.specs.Steps.{GathersOf}

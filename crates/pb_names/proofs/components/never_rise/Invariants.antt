@@ -1,5 +1,5 @@
 use Rattle.std.proofs.Common.{ℕ, ◌<◌, ◌≤◌, All}
-use Rattle.pb_names.specs.Reach.{graph_of, next_of}
+use Rattle.pb_sets.specs.Reach.{graph_of, next_of}
 use Rattle.pb_names.specs.Components.{number_of}
 use Rattle.pb_names.proofs.components.never_rise.Given as goal
 

@@ -2,7 +2,7 @@ use Rattle.std.proofs.Common.{◌≡◌, List, map, vec_len}
 use Rattle.pb_decl.specs.Decls.{DeclaredFile}
 use Rattle.pb_rules.specs.Rules.{World}
 use Rattle.pb_rules.specs.Link.{IsWorldOf}
-use Rattle.pb_names.specs.Reach.{IsListed}
+use Rattle.pb_sets.specs.Reach.{IsListed}
 use Rattle.pb_names.specs.Graphs.{AreImports}
 use Rattle.pb_names.specs.View.{declaration_view}
 use Rattle.pb_rules.proofs.TableLemmas.{IsHeldBefore}

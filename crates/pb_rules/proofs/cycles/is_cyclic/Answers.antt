@@ -1,6 +1,6 @@
 use Rattle.std.proofs.Common.{List, ℕ, ◌<◌, ◌∙◌, All, ap, subst, Vec, Global}
 use Rattle.std.proofs.lemmas.Bool.{false≢true}
-use Rattle.pb_names.specs.Reach.{graph_of, next_of}
+use Rattle.pb_sets.specs.Reach.{graph_of, next_of}
 use Rattle.pb_names.specs.Components.{number_of}
 use Rattle.pb_names.proofs.ComponentLemmas.{not_back}
 use Rattle.pb_rules.proofs.cycles.is_cyclic.Goals as goal

@@ -13,8 +13,8 @@ returns-clause-tables c =
     let ok = c.in_ok-holds.ensures.0 c.if-not-holds.false in
     let of_enums = c.in_ok-names_of_enums.ensures ∙ enum_names_by ts (bytes_of c.deref.result.now) ok (ap bytes_of c.deref.ensures.value ∙ c.in_ok-names.ensures) in
     record {
-      messages = set_of_messages ts (bytes_of c.in_ok-names.names.items) c.in_ok-message_set.message_set ok c.in_ok-names.ensures c.in_ok-message_set.ensures;
-      enums = set_of_enums ts (bytes_of c.in_ok-names_of_enums.names_of_enums.items) c.in_ok-enum_set.enum_set ok of_enums c.in_ok-enum_set.ensures;
+      messages = set_of_messages ts (bytes_of c.in_ok-names.names.items) c.in_ok-added_messages.added_messages ok c.in_ok-names.ensures c.in_ok-added_messages.ensures;
+      enums = set_of_enums ts (bytes_of c.in_ok-names_of_enums.names_of_enums.items) c.in_ok-added_enums.added_enums ok of_enums c.in_ok-added_enums.ensures;
       numbers = c.in_ok-numbers.ensures;
       members = c.in_ok-members.ensures;
       names = c.in_ok-field_names.ensures;

@@ -6,7 +6,7 @@ use Rattle.pb_decl.specs.View.{file_view}
 use Rattle.pb_command.specs.Answer.{Answer}
 use Rattle.pb_command.specs.CompileAnswer.{roots_of, told_of}
 use Rattle.pb_command.specs.Gathering.{Trouble}
-use Rattle.pb_command.specs.NameSets.{names_in}
+use Rattle.pb_sets.specs.NameSets.{names_in}
 use Rattle.pb_command.specs.Reaching.{RefusesImport, StopsInside, open_view, reached}
 use Rattle.pb_command.specs.Steps.{AbsentOf, DeclaredOf, TroubleOf}
 use Rattle.pb_command.proofs.Coming.{refuses_map}

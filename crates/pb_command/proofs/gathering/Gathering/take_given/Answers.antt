@@ -4,7 +4,7 @@ use Rattle.pb_decl.specs.View.{file_view}
 use Rattle.std.proofs.Common.{map}
 use Rattle.pb_command.specs.CompileAnswer.{roots_of}
 use Rattle.pb_command.specs.Gathering.{is_known}
-use Rattle.pb_command.specs.NameSets.{names_in}
+use Rattle.pb_sets.specs.NameSets.{names_in}
 use Rattle.pb_command.specs.Reaching.{reached}
 use Rattle.pb_command.proofs.FileSteps.{keeps_then}
 use Rattle.pb_command.proofs.GatherSteps.{given_inside, given_known, given_read, given_refused, name_reached}
@@ -28,21 +28,21 @@ returns-in_err-close-clause-refused g c =
     let p = err_from_is_err_and c.from_residual-in_err-close.result c.from_residual-in_err-close.ensures.1 in
     let known = rw c.as_bytes.ensures.value at c.contains.ensures in
     let unknown : is_known (reached c.args.self.now) c.args.name.now ≡ false = sym known ∙ c.if-contains.false in
-    let added = rw c.as_bytes-2.ensures.value at c.in_ok-add.ensures in
+    let added = rw c.as_bytes-2.ensures.value at c.in_ok-add_name.ensures in
     rw (p.1, p.2)
     (given_inside g.F.Files.contents g.F.Files.is_steady c.args.files.now (roots_of c.args.roots) c.args.name.now (reached c.args.self.now) c.read_given.new.files
     c.in_ok-file.ensures.files c.in_ok-file.ensures.steady (file_view c.in_ok-file.file) _ unknown c.in_ok-file.ensures.read
-    (name_reached (names_in c.args.self.now.names) (names_in c.add.new.self) (map file_view c.args.self.now.files.items) c.args.name.now (added unknown))
+    (name_reached (names_in c.args.self.now.names) (names_in c.add_name.new.names) (map file_view c.args.self.now.files.items) c.args.name.now (added unknown))
     c.in_err-close.field-0.0 c.in_err-close.ensures.refused)
 
 pub returns-clause-taken : goal.returns-clause-taken
 returns-clause-taken g c =
     let known = rw c.as_bytes.ensures.value at c.contains.ensures in
     let unknown : is_known (reached c.args.self.now) c.args.name.now ≡ false = sym known ∙ c.if-contains.false in
-    let added = rw c.as_bytes-2.ensures.value at c.in_ok-add.ensures in
+    let added = rw c.as_bytes-2.ensures.value at c.in_ok-add_name.ensures in
     given_read g.F.Files.contents g.F.Files.is_steady c.args.files.now (roots_of c.args.roots) c.args.name.now (reached c.args.self.now) c.read_given.new.files
     c.in_ok-file.ensures.files c.in_ok-file.ensures.steady (file_view c.in_ok-file.file) _ unknown c.in_ok-file.ensures.read
-    (name_reached (names_in c.args.self.now.names) (names_in c.add.new.self) (map file_view c.args.self.now.files.items) c.args.name.now (added unknown))
+    (name_reached (names_in c.args.self.now.names) (names_in c.add_name.new.names) (map file_view c.args.self.now.files.items) c.args.name.now (added unknown))
     (reached c.close.new.self) c.in_ok-close.ensures.closed
 
 pub returns-clause-files : goal.returns-clause-files

@@ -1,6 +1,6 @@
 use Rattle.std.proofs.Common.{◌∙◌, map, ap}
 use Rattle.pb_decl.specs.View.{file_view}
-use Rattle.pb_names.specs.Reach.{graph_of}
+use Rattle.pb_sets.specs.Reach.{graph_of}
 use Rattle.pb_names.proofs.GraphLemmas.{lists_more, imports_in, public_in, imports_whole, lead_to_files}
 use Rattle.pb_names.proofs.imports.Imports.new.Goals as goal
 

@@ -1,5 +1,5 @@
 use Rattle.std.proofs.Common.{◌≡◌, map, take}
-use Rattle.pb_names.specs.Reach.{graph_of}
+use Rattle.pb_sets.specs.Reach.{graph_of}
 use Rattle.pb_names.proofs.GraphLemmas.{imports_in, public_in}
 use Rattle.pb_names.proofs.imports.Imports.new.Given as goal
 

@@ -1,16 +1,10 @@
-use Rattle.std.proofs.Common.{◌<◌, length, map, arith}
+use Rattle.std.proofs.Common.{arith}
 use Rattle.std.specs.List.{AllByRecursion}
-use Rattle.std.proofs.lemmas.List.{length-map}
 use Rattle.pb_schema.specs.Types.{MessageView}
-use Rattle.pb_schema.specs.View.{file_view, message_view, types_of}
+use Rattle.pb_schema.specs.View.{message_view, types_of}
 use Rattle.pb_schema.specs.Rules.{TypeIsSeen}
 use Rattle.pb_schema.proofs.Loops.{stops, goes_on}
-use Rattle.pb_schema.proofs.RuleLemmas.{all_at}
 use Rattle.pb_schema.proofs.rules.fields.types_are_seen.Goals as goal
-
-pub fields_see_types-requires-clause-within : goal.fields_see_types-requires-clause-within
-fields_see_types-requires-clause-within c =
-    simp length-map at (all_at (λ (t : MessageView). t.file < length (map file_view c.args.files.now)) message_view c.args.messages.now c.loop-message.message-index c.message-item.result c.requires.within (omega arith) c.message-item.is)
 
 pub returns-then-not-seen : goal.returns-then-not-seen
 returns-then-not-seen c =

@@ -8,4 +8,4 @@ use Rattle.pb_schema.proofs.tables.names.simple_names.Goals as goal
 
 pub returns : goal.returns
 returns c =
-    subst (λ (l : List Field). IsSetOf (map (λ (f : FieldView). f.name) (map field_view l)) c.loop-field.set) (all_taken c.args.fields.now c.loop-field.field-index (omega arith)) c.loop-field.invariant
+    subst (λ (l : List Field). IsSetOf (map (λ (f : FieldView). f.name) (map field_view l)) c.loop-field.names) (all_taken c.args.fields.now c.loop-field.field-index (omega arith)) c.loop-field.invariant
