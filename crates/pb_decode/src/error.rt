@@ -64,13 +64,36 @@ impl<T: Drop> From<AllocFailed<T>> for DecodeError {
     }
 }
 
+/// A growth was refused. What is put into a message fails for that alone, and this takes no room where it goes well.
+#[derive(Clone, Copy)]
+pub(crate) struct NoMemory;
+
+impl From<AllocError> for NoMemory {
+    fn from(_e: AllocError) -> NoMemory {
+        NoMemory
+    }
+}
+
+impl<T: Drop> From<AllocFailed<T>> for NoMemory {
+    fn from(_e: AllocFailed<T>) -> NoMemory {
+        NoMemory
+    }
+}
+
+impl From<NoMemory> for DecodeError {
+    ghost from_gives = { λ _ e. e ≡ Memory };
+
+    fn from(_e: NoMemory) -> DecodeError {
+        DecodeError::Memory
+    }
+}
+
 /// Why a change failed that fails for want of memory alone.
-pub(crate) fn memory_alone(cause: ValueError) -> DecodeError
+pub(crate) fn memory_alone(cause: ValueError) -> NoMemory
     requires { cause ≡ value.Memory }
-    ensures { result ≡ Memory }
 {
     match cause {
-        ValueError::Memory => DecodeError::Memory,
+        ValueError::Memory => NoMemory,
         _ => unreachable!(),
     }
 }

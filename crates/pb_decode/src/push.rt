@@ -7,14 +7,13 @@ ghost use Rattle.pb_wire.specs.Exact.{Exactly};
 ghost use Rattle.pb_schema.specs.Rules.{IsPool};
 ghost use Rattle.pb_value.specs.Data.{Message};
 ghost use Rattle.pb_value.specs.Derives.{Text};
-ghost use Rattle.pb_decode.specs.declared.error.DecodeError.TheVariants.{Memory};
 ghost use Rattle.pb_decode.specs.Reader.{state_view, path_here, IsReading, IfFault};
 ghost use Rattle.pb_decode.specs.Push.{IsSettled, IsFaultOf, Gives, Tells};
 ghost use Rattle.pb_decode.specs.Reader.Waiting.{Waits, lists_in};
 ghost use Rattle.pb_decode.specs.Reader.Steps.{TellsFault};
 ghost use Rattle.pb_decode.specs.Reader.Pieces.{received, ReadText, ReadSome, TakesFront, TakesPiece, TellsPieceFault};
 
-use crate::error::DecodeError;
+use crate::error::{DecodeError, NoMemory};
 use crate::onto::read_onto;
 use crate::reader::fault::{fault_at, too_large};
 use crate::reader::origin::{begin_empty, finish_message};
@@ -54,10 +53,9 @@ fn take_front(
 }
 
 /// The bytes from an index on.
-fn rest_of(alloc: Global, bytes: &[u8], from: usize) -> Result<Vec<u8>, DecodeError>
+fn rest_of(alloc: Global, bytes: &[u8], from: usize) -> Result<Vec<u8>, NoMemory>
     requires { from ≤ length bytes.now }
-    ensures rest { IfOk result (λ v. v.items ≡ drop from bytes.now) }
-    ensures memory { IfErr result (λ e. e ≡ Memory) }
+    ensures { IfOk result (λ v. v.items ≡ drop from bytes.now) }
 {
     let rest = Vec::from_slice(alloc, &bytes[from..])?;
     Ok(rest)

@@ -7,7 +7,6 @@ use Rattle.pb_schema.specs.declared.types.Kind.{Kind}
 use Rattle.pb_schema.specs.Types.{Types}
 use Rattle.pb_schema.specs.Rules.{IsPool}
 use Rattle.pb_value.specs.Data.{Message}
-use Rattle.pb_decode.specs.declared.error.DecodeError.{DecodeError}
 use Rattle.pb_decode.specs.declared.open.part.Part.{Part}
 use Rattle.pb_decode.specs.declared.open.part.Scope.{Scope}
 use Rattle.pb_decode.specs.declared.open.part.Slot.{Slot}
@@ -22,27 +21,27 @@ abbrev pub around : Part → Scope → ℕ → Slot → Bool → Frame
 around outer scope number slot group = frame_of (part_view outer) number slot group (scope_view scope)
 
 -- a part whose known end is reached goes into its slot of the outer part
-abbrev pub ClosesAtEnd : {A : Type 0} → Types → ℕ → Slot → PartView → Part → Scope → Part → Scope → Result A DecodeError → Type 0
+abbrev pub ClosesAtEnd : {A E : Type 0} → Types → ℕ → Slot → PartView → Part → Scope → Part → Scope → Result A E → Type 0
 ClosesAtEnd pool number slot now outer scope new_outer new_scope result =
     (m depth levels : ℕ) (base : List Record) (p0 q : Place) (frames : List Frame) (inner : ScopeView)
     → Stands pool m depth levels base p0 (around outer scope number slot false ∷ frames) now inner q → q.known ≡ Some 0
     → OnOk result (Stands pool m depth levels base p0 frames (part_view new_outer) (scope_view new_scope) (up_to scope.end q))
 
 -- a group whose last tag is there does
-abbrev pub ClosesAtTag : {A : Type 0} → Types → ℕ → Slot → PartView → Part → Scope → Part → Scope → Result A DecodeError → Type 0
+abbrev pub ClosesAtTag : {A E : Type 0} → Types → ℕ → Slot → PartView → Part → Scope → Part → Scope → Result A E → Type 0
 ClosesAtTag pool number slot now outer scope new_outer new_scope result =
     (m depth levels : ℕ) (base : List Record) (p0 q w : Place) (frames : List Frame) (inner : ScopeView)
     → Stands pool m depth levels base p0 (around outer scope number slot true ∷ frames) now inner q → HasTag q number 4 w
     → OnOk result (Stands pool m depth levels base p0 frames (part_view new_outer) (scope_view new_scope) w)
 
 -- the same of a message, of whatever type
-abbrev pub ClosesMessageAtEnd : {A : Type 0} → Types → ℕ → Slot → Message → Part → Scope → Part → Scope → Result A DecodeError → Type 0
+abbrev pub ClosesMessageAtEnd : {A E : Type 0} → Types → ℕ → Slot → Message → Part → Scope → Part → Scope → Result A E → Type 0
 ClosesMessageAtEnd pool number slot v outer scope new_outer new_scope result =
     (m depth levels k : ℕ) (base : List Record) (p0 q : Place) (frames : List Frame) (inner : ScopeView)
     → Stands pool m depth levels base p0 (around outer scope number slot false ∷ frames) (message_part k v) inner q → q.known ≡ Some 0
     → OnOk result (Stands pool m depth levels base p0 frames (part_view new_outer) (scope_view new_scope) (up_to scope.end q))
 
-abbrev pub ClosesMessageAtTag : {A : Type 0} → Types → ℕ → Slot → Message → Part → Scope → Part → Scope → Result A DecodeError → Type 0
+abbrev pub ClosesMessageAtTag : {A E : Type 0} → Types → ℕ → Slot → Message → Part → Scope → Part → Scope → Result A E → Type 0
 ClosesMessageAtTag pool number slot v outer scope new_outer new_scope result =
     (m depth levels k : ℕ) (base : List Record) (p0 q w : Place) (frames : List Frame) (inner : ScopeView)
     → Stands pool m depth levels base p0 (around outer scope number slot true ∷ frames) (message_part k v) inner q → HasTag q number 4 w
@@ -57,7 +56,7 @@ abbrev pub PartGoesOn : Reader → Type 0
 PartGoesOn r = (frames_view r.frames.items ≡ []) ⊎ (left_of (state_view r) ≢ Some 0)
 
 -- a packed list whose known end is reached is a whole record, and its part goes on to its own end
-abbrev pub EndsList : {A : Type 0} → ℕ → Option ℕ → Reader → Reader → Result A DecodeError → Type 0
+abbrev pub EndsList : {A E : Type 0} → ℕ → Option ℕ → Reader → Reader → Result A E → Type 0
 EndsList number outer old new result =
     (pool : Types) (m depth levels : ℕ) (kind : Kind) (base : List Record) (p0 : Place) (rest : List ℕ)
     → IsPool pool → Reads pool m depth levels base p0 (state_view old) rest → old.step ≡ Elements number kind outer → left_of (state_view old) ≡ Some 0

@@ -6,7 +6,6 @@ use Rattle.pb_wire.specs.Fault.{Place, HasTag, HasLength}
 use Rattle.pb_wire.specs.Grammar.{payload_at}
 use Rattle.pb_schema.specs.Types.{Types}
 use Rattle.pb_schema.specs.Rules.{IsPool}
-use Rattle.pb_decode.specs.declared.error.DecodeError.{DecodeError}
 use Rattle.pb_decode.specs.declared.open.part.Part.{Part}
 use Rattle.pb_decode.specs.declared.open.part.Scope.{Scope}
 use Rattle.pb_decode.specs.declared.open.part.Frame.{Frame as FrameKept}
@@ -35,7 +34,7 @@ OpensAtTag number meant outer around frame inner scope =
     → Stands pool m depth levels base p0 (frame_view frame ∷ frames) (part_view inner) (scope_view scope) u
 
 -- behind a length of this size, where its payload begins, the reader goes on by what its record is for
-abbrev pub PassesLength : {A : Type 0} → ℕ → Purpose → ℕ → ℕ → Reader → Reader → Result A DecodeError → Type 0
+abbrev pub PassesLength : {A E : Type 0} → ℕ → Purpose → ℕ → ℕ → Reader → Reader → Result A E → Type 0
 PassesLength number meant begin size old new result =
     (pool : Types) (m depth levels : ℕ) (base : List Record) (p0 u t : Place)
     → IsPool pool → CanHold pool (part_view old.part)

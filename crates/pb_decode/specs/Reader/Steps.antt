@@ -46,7 +46,7 @@ TakesNext pool old new rest result =
     → Reads pool m depth levels base p0 (state_view old) rest → IfOk result (λ o. Taken pool m depth levels base p0 (state_view new) rest o)
 
 -- what stands whole at the front is taken, if anything is
-abbrev pub TakesWhole : Types → Reader → Reader → List ℕ → Result (Option ℕ) DecodeError → Type 0
+abbrev pub TakesWhole : {E : Type 0} → Types → Reader → Reader → List ℕ → Result (Option ℕ) E → Type 0
 TakesWhole pool old new rest result =
     (m depth levels : ℕ) (base : List Record) (p0 : Place)
     → Reads pool m depth levels base p0 (state_view old) rest
@@ -66,13 +66,13 @@ TakesAll pool old new rest result =
     → IfOk result (λ n. Reads pool m depth levels base p0 (state_view new) (drop n rest) × Stops pool m depth p0 (state_view new) (drop n rest))
 
 -- no byte is taken, and what was read is read
-abbrev pub KeepsReading : {A : Type 0} → Types → Reader → Reader → Result A DecodeError → Type 0
+abbrev pub KeepsReading : {A E : Type 0} → Types → Reader → Reader → Result A E → Type 0
 KeepsReading pool old new result =
     (m depth levels : ℕ) (base : List Record) (p0 : Place) (rest : List ℕ)
     → Reads pool m depth levels base p0 (state_view old) rest → OnOk result (Reads pool m depth levels base p0 (state_view new) rest)
 
 -- ---- behind a value, whose bytes are these
-abbrev pub StandsBehindNumber : {A : Type 0} → Types → Reader → Reader → ℕ → Purpose → Number → Result A DecodeError → Type 0
+abbrev pub StandsBehindNumber : {A E : Type 0} → Types → Reader → Reader → ℕ → Purpose → Number → Result A E → Type 0
 StandsBehindNumber pool old new number purpose value result =
     (m depth levels : ℕ) (base : List Record) (p0 w : Place) (rest : List ℕ)
     → Reads pool m depth levels base p0 (state_view old) rest → awaited old.step ≡ Some (tag number (wire_type (number_view value)) purpose)
@@ -91,7 +91,7 @@ TellsPayloadFault pool old bytes result =
     → IfErr result (λ e. IfFault e (Told pool m depth p0))
 
 -- the list goes on behind an element
-abbrev pub GoesOnBehindElement : {A : Type 0} → Types → Reader → Reader → ℕ → Kind → Number → Result A DecodeError → Type 0
+abbrev pub GoesOnBehindElement : {A E : Type 0} → Types → Reader → Reader → ℕ → Kind → Number → Result A E → Type 0
 GoesOnBehindElement pool old new number kind value result =
     (m depth levels : ℕ) (base : List Record) (p0 w : Place) (rest : List ℕ) (outer : Option ℕ)
     → Reads pool m depth levels base p0 (state_view old) rest → old.step ≡ Elements number kind outer → wire_type (number_view value) ≡ wire_type_of kind
@@ -124,7 +124,7 @@ TellsTagNumberFault pool old n size result =
     → IfErr result (λ e. IfFault e (Told pool m depth p0))
 
 -- the group is open that its first tag begins, by what its record is for
-abbrev pub EntersGroup : {A : Type 0} → Reader → Reader → ℕ → Purpose → ℕ → Result A DecodeError → Type 0
+abbrev pub EntersGroup : {A E : Type 0} → Reader → Reader → ℕ → Purpose → ℕ → Result A E → Type 0
 EntersGroup old new number meant size result =
     (pool : Types) (m depth levels : ℕ) (base : List Record) (p0 : Place) (rest : List ℕ)
     → IsPool pool → CanHold pool (part_view old.part) → Means pool (part_context (part_view old.part)) number 3 meant
@@ -132,7 +132,7 @@ EntersGroup old new number meant size result =
     → OnOk result (Reads pool m depth levels base p0 (state_view new) (drop size rest))
 
 -- the innermost group is closed that its last tag ends
-abbrev pub LeavesGroup : {A : Type 0} → Types → Reader → Reader → ℕ → Result A DecodeError → Type 0
+abbrev pub LeavesGroup : {A E : Type 0} → Types → Reader → Reader → ℕ → Result A E → Type 0
 LeavesGroup pool old new size result =
     (m depth levels number : ℕ) (base : List Record) (p0 : Place) (rest : List ℕ)
     → Reads pool m depth levels base p0 (state_view old) rest → innermost_group (frames_view old.frames.items) ≡ Some number

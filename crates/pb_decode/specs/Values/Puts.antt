@@ -14,7 +14,6 @@ use Rattle.pb_schema.specs.Kinds.{wire_type_of}
 use Rattle.pb_schema.specs.Context.{a_message, schema_of}
 use Rattle.pb_value.specs.declared.body.Value.{Value}
 use Rattle.pb_value.specs.View.{value_view}
-use Rattle.pb_decode.specs.declared.error.DecodeError.{DecodeError}
 use Rattle.pb_decode.specs.declared.open.part.Part.{Part}
 use Rattle.pb_decode.specs.declared.open.purpose.Purpose.{Purpose}
 use Rattle.pb_decode.specs.declared.tokens.number.Number.{Number}
@@ -31,14 +30,14 @@ use Rattle.pb_decode.specs.Values.PayloadValue.{IfBadText}
 use Rattle.pb_decode.specs.Values.Run.{put_each}
 
 -- a number of a record with this purpose
-abbrev pub PutsNumber : {A : Type 0} → Types → ℕ → Purpose → Number → Part → Part → Result A DecodeError → Type 0
+abbrev pub PutsNumber : {A E : Type 0} → Types → ℕ → Purpose → Number → Part → Part → Result A E → Type 0
 PutsNumber pool number meant value old new result =
     (m depth levels : ℕ) (base : List Record) (p0 u w : Place) (frames : List Frame) (scope : Scope) (next : Step)
     → After pool m depth levels base p0 frames next (part_view old) scope u → awaited next ≡ Some (tag number (wire_type (number_view value)) meant)
     → Follows u (number_view value) w → OnOk result (Stands pool m depth levels base p0 frames (part_view new) (one_more_in number scope) w)
 
 -- an element of a packed list, which then goes on
-abbrev pub PutsElement : {A : Type 0} → Types → ℕ → Kind → Number → Part → Part → Result A DecodeError → Type 0
+abbrev pub PutsElement : {A E : Type 0} → Types → ℕ → Kind → Number → Part → Part → Result A E → Type 0
 PutsElement pool number kind value old new result =
     (m depth levels : ℕ) (end : Option ℕ) (base : List Record) (p0 u w : Place) (frames : List Frame) (scope : Scope)
     → After pool m depth levels base p0 frames (Elements number kind end) (part_view old) scope u → wire_type (number_view value) ≡ wire_type_of kind
@@ -69,7 +68,7 @@ TellsElement pool kind bytes left result =
     (passed (given_at at left bytes) r.1))
 
 -- the same of the values of a run
-abbrev pub TellsRun : Types → Kind → List ℕ → Option ℕ → Result (Vec Value Global × ℕ) DecodeError → Type 0
+abbrev pub TellsRun : {E : Type 0} → Types → Kind → List ℕ → Option ℕ → Result (Vec Value Global × ℕ) E → Type 0
 TellsRun pool kind bytes left result =
     (m depth levels at number : ℕ) (outer : Option ℕ) (base : List Record) (p0 : Place) (frames : List Frame) (scope : Scope) (now : PartView)
     → After pool m depth levels base p0 frames (Elements number kind outer) now scope (given_at at left bytes)

@@ -1,6 +1,6 @@
 //! Entries and groups that are whole go where they belong.
 
-ghost use Rattle.std.specs.Prelude.{◌≡◌, ◌<◌, ◌-◌, ◌^◌, IsTrue, unwrap_or, option_map, OnOk, IfErr};
+ghost use Rattle.std.specs.Prelude.{◌≡◌, ◌<◌, ◌-◌, ◌^◌, IsTrue, unwrap_or, option_map, OnOk};
 ghost use Rattle.pb_wire.specs.Unknown.{records_of};
 ghost use Rattle.pb_schema.specs.Types.{Types};
 ghost use Rattle.pb_schema.specs.Kinds.{default_of, is_key_kind};
@@ -11,11 +11,10 @@ ghost use Rattle.pb_decode.specs.Open.Frames.{put_entry as put_entry_view, put_g
 ghost use Rattle.pb_decode.specs.Close.Closing.{HasRoomFor};
 ghost use Rattle.pb_decode.specs.Open.Occurrences.{counts_view};
 ghost use Rattle.pb_decode.specs.Open.PartView.{part_view};
-ghost use Rattle.pb_decode.specs.declared.error.DecodeError.TheVariants.{Memory};
 ghost use Rattle.pb_decode.specs.Close.Closes.{ClosesAtEnd, ClosesAtTag};
 
 use crate::close::put::count_one;
-use crate::error::{DecodeError, memory_alone};
+use crate::error::{NoMemory, memory_alone};
 use crate::open::part::{Part, Scope, Slot};
 use crate::values::put_unknown::put_unknown;
 use pb_schema::Kind;
@@ -100,12 +99,11 @@ pub(crate) fn put_entry(
     value_kind: Kind,
     key: Option<MapKey>,
     value: Option<Value>,
-) -> Result<(), DecodeError>
+) -> Result<(), NoMemory>
     requires key { IsTrue (is_key_kind key_kind) }
     requires fits { HasRoomFor slot (part_view outer.old) key_kind (option_map key_view key) }
-    ensures put { OnOk result (part_view outer.new
+    ensures { OnOk result (part_view outer.new
         ≡ put_entry_view slot (part_view outer.old) key_kind value_kind (option_map key_view key) (option_map value_view value)) }
-    ensures memory { IfErr result (λ e. e ≡ Memory) }
 {
     let key = key_or_default(alloc, key_kind, key);
     let value = value_or_missing(alloc, value_kind, value);
@@ -133,9 +131,8 @@ pub(crate) fn put_group(
     slot: Slot,
     outer: &mut Part,
     records: Vec<(u32, Unknown)>,
-) -> Result<(), DecodeError>
-    ensures put { OnOk result (part_view outer.new ≡ put_group_view slot (part_view outer.old) (records_of records.items)) }
-    ensures memory { IfErr result (λ e. e ≡ Memory) }
+) -> Result<(), NoMemory>
+    ensures { OnOk result (part_view outer.new ≡ put_group_view slot (part_view outer.old) (records_of records.items)) }
 {
     match slot {
         Slot::Unknown(number) => {
@@ -160,14 +157,13 @@ pub(crate) fn close_entry(
     value_kind: Kind,
     key: Option<MapKey>,
     value: Option<Value>,
-) -> Result<(), DecodeError>
+) -> Result<(), NoMemory>
     requires key { IsTrue (is_key_kind key_kind) }
     requires fits { HasRoomFor slot (part_view outer.old) key_kind (option_map key_view key) }
     requires few { counts_view scope.old.occurrences number < 2 ^ 32 - 1 }
     ensures same_end { OnOk result (scope.new.end ≡ scope.old.end) }
     ensures stands { (pool : Types) → ClosesAtEnd pool number slot
         (entry_part key_kind value_kind (option_map key_view key) (option_map value_view value)) outer.old scope.old outer.new scope.new result }
-    ensures memory { IfErr result (λ e. e ≡ Memory) }
 {
     put_entry(alloc, slot, outer, key_kind, value_kind, key, value)?;
     count_one(scope, number)?;
@@ -182,11 +178,10 @@ pub(crate) fn close_group(
     number: u32,
     slot: Slot,
     records: Vec<(u32, Unknown)>,
-) -> Result<(), DecodeError>
+) -> Result<(), NoMemory>
     requires few { counts_view scope.old.occurrences number < 2 ^ 32 - 1 }
     ensures same_end { OnOk result (scope.new.end ≡ scope.old.end) }
     ensures stands { (pool : Types) → ClosesAtTag pool number slot (group_part (records_of records.items)) outer.old scope.old outer.new scope.new result }
-    ensures memory { IfErr result (λ e. e ≡ Memory) }
 {
     put_group(slot, outer, records)?;
     count_one(scope, number)?;

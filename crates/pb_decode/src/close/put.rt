@@ -1,14 +1,13 @@
 //! Messages that are whole go where they belong.
 
-ghost use Rattle.std.specs.Prelude.{◌≡◌, ◌<◌, ◌-◌, ◌^◌, OnOk, IfErr};
+ghost use Rattle.std.specs.Prelude.{◌≡◌, ◌<◌, ◌-◌, ◌^◌, OnOk};
 ghost use Rattle.pb_value.specs.View.{body_view};
 ghost use Rattle.pb_decode.specs.Open.Frames.{put_message as put_message_view, CanHold, message_part, one_more_in};
-ghost use Rattle.pb_decode.specs.declared.error.DecodeError.TheVariants.{Memory};
 ghost use Rattle.pb_decode.specs.Open.PartView.{part_view, scope_view};
 ghost use Rattle.pb_decode.specs.Open.Occurrences.{counts_view};
 ghost use Rattle.pb_decode.specs.Close.Closes.{ClosesMessageAtEnd, ClosesMessageAtTag};
 
-use crate::error::{DecodeError, memory_alone};
+use crate::error::{NoMemory, memory_alone};
 use crate::open::part::{Part, Scope, Slot};
 use pb_schema::{MessageId, Pool};
 use pb_value::parts::{push_element, store};
@@ -23,11 +22,10 @@ fn put_in_message(
     body: &mut Body,
     slot: Slot,
     message: Body,
-) -> Result<(), DecodeError>
+) -> Result<(), NoMemory>
     requires { CanHold pool.now (message_part kind.0 (body_view body.old)) }
-    ensures put { OnOk result (message_part kind.0 (body_view body.new)
+    ensures { OnOk result (message_part kind.0 (body_view body.new)
         ≡ put_message_view pool.now slot (message_part kind.0 (body_view body.old)) (body_view message)) }
-    ensures memory { IfErr result (λ e. e ≡ Memory) }
 {
     match slot {
         Slot::One(shape, number) => {
@@ -48,10 +46,9 @@ pub(crate) fn put_message(
     slot: Slot,
     outer: &mut Part,
     message: Body,
-) -> Result<(), DecodeError>
+) -> Result<(), NoMemory>
     requires { CanHold pool.now (part_view outer.old) }
-    ensures put { OnOk result (part_view outer.new ≡ put_message_view pool.now slot (part_view outer.old) (body_view message)) }
-    ensures memory { IfErr result (λ e. e ≡ Memory) }
+    ensures { OnOk result (part_view outer.new ≡ put_message_view pool.now slot (part_view outer.old) (body_view message)) }
 {
     match outer {
         Part::Message(kind, body) => {
@@ -75,11 +72,11 @@ pub(crate) fn put_message(
 }
 
 /// Counts one more record of a number in a part.
-pub(crate) fn count_one(scope: &mut Scope, number: u32) -> Result<(), DecodeError>
+#[inline(always)]
+pub(crate) fn count_one(scope: &mut Scope, number: u32) -> Result<(), NoMemory>
     requires { counts_view scope.old.occurrences number < 2 ^ 32 - 1 }
     ensures more { OnOk result (scope_view scope.new ≡ one_more_in number (scope_view scope.old)) }
     ensures same_end { OnOk result (scope.new.end ≡ scope.old.end) }
-    ensures memory { IfErr result (λ e. e ≡ Memory) }
 {
     scope.occurrences.add(number)?;
     Ok(())
@@ -95,13 +92,12 @@ pub(crate) fn close_message(
     number: u32,
     slot: Slot,
     message: Body,
-) -> Result<(), DecodeError>
+) -> Result<(), NoMemory>
     requires can { CanHold pool.now (part_view outer.old) }
     requires few { counts_view scope.old.occurrences number < 2 ^ 32 - 1 }
     ensures same_end { OnOk result (scope.new.end ≡ scope.old.end) }
     ensures stands { ClosesMessageAtEnd pool.now number slot (body_view message) outer.old scope.old outer.new scope.new result }
     ensures behind { ClosesMessageAtTag pool.now number slot (body_view message) outer.old scope.old outer.new scope.new result }
-    ensures memory { IfErr result (λ e. e ≡ Memory) }
 {
     put_message(alloc, pool, slot, outer, message)?;
     count_one(scope, number)?;

@@ -1,9 +1,8 @@
 //! What ends where a reader stands is closed before the next token.
 
-ghost use Rattle.std.specs.Prelude.{◌≡◌, ◌↔◌, ◌-◌, ◌<◌, ◌≤◌, ◌^◌, ℕ, List, Some, None, IsTrue, MatchBool, vec_len, OnOk, IfErr};
+ghost use Rattle.std.specs.Prelude.{◌≡◌, ◌↔◌, ◌-◌, ◌<◌, ◌≤◌, ◌^◌, ℕ, List, Some, None, IsTrue, MatchBool, vec_len, OnOk};
 ghost use Rattle.pb_schema.specs.Rules.{IsPool};
 ghost use Rattle.pb_decode.specs.declared.tokens.step.Step.TheVariants.{Tag};
-ghost use Rattle.pb_decode.specs.declared.error.DecodeError.TheVariants.{Memory};
 ghost use Rattle.pb_decode.specs.Open.Occurrences.{counts_view};
 ghost use Rattle.pb_decode.specs.Open.Openings.{innermost_group};
 ghost use Rattle.pb_decode.specs.Reader.{state_view, frames_view, left_of, IsReading, weight};
@@ -13,7 +12,7 @@ ghost use Rattle.pb_decode.specs.Close.Closes.{PartEnds, PartGoesOn, EndsList};
 
 use crate::close::closing::close_entry;
 use crate::close::put::{close_message, count_one};
-use crate::error::DecodeError;
+use crate::error::{DecodeError, NoMemory};
 use crate::open::part::{Frame, Part};
 use crate::reader::fault::fault_at;
 use crate::reader::state::{Reader, left};
@@ -25,6 +24,7 @@ use std::alloc::Global;
 use std::mem;
 
 /// Whether the known end is reached.
+#[inline(always)]
 fn is_at_end(reader: &Reader) -> bool
     ensures { IsTrue result ↔ (left_of (state_view reader.now) ≡ Some 0) }
 {
@@ -32,6 +32,7 @@ fn is_at_end(reader: &Reader) -> bool
 }
 
 /// Whether a part below the top ends at a tag.
+#[inline(always)]
 fn part_ends(reader: &Reader) -> bool
     ensures { MatchBool result (PartEnds reader.now) (PartGoesOn reader.now) }
 {
@@ -39,11 +40,10 @@ fn part_ends(reader: &Reader) -> bool
 }
 
 /// A packed list whose known end is reached is a whole record of its part, which goes on to its own end.
-fn end_list(reader: &mut Reader, number: u32, outer: Option<u32>) -> Result<(), DecodeError>
+fn end_list(reader: &mut Reader, number: u32, outer: Option<u32>) -> Result<(), NoMemory>
     requires few { counts_view reader.old.scope.occurrences number < 2 ^ 32 - 1 }
     ensures at { OnOk result ((reader.new.at ≡ reader.old.at) × (reader.new.step ≡ Tag)) }
     ensures taken { EndsList number outer reader.old reader.new result }
-    ensures memory { IfErr result (λ e. e ≡ Memory) }
 {
     reader.scope.end = outer;
     count_one(&mut reader.scope, number)?;
@@ -53,7 +53,7 @@ fn end_list(reader: &mut Reader, number: u32, outer: Option<u32>) -> Result<(), 
 
 /// The innermost part, which no end tag ends and whose known end is reached, goes where it belongs, and the reader stands in the
 /// part that holds it.
-fn close_innermost(alloc: Global, pool: &Pool, reader: &mut Reader) -> Result<(), DecodeError>
+fn close_innermost(alloc: Global, pool: &Pool, reader: &mut Reader) -> Result<(), NoMemory>
     requires rules { IsPool pool.now }
     requires reading { (rest : List ℕ) × IsReading pool.now (state_view reader.old) rest }
     requires tag { reader.old.step ≡ Tag }
@@ -63,7 +63,6 @@ fn close_innermost(alloc: Global, pool: &Pool, reader: &mut Reader) -> Result<()
     ensures at { OnOk result ((reader.new.at ≡ reader.old.at) × (reader.new.step ≡ Tag)) }
     ensures fewer { OnOk result (vec_len reader.new.frames < vec_len reader.old.frames) }
     ensures taken { KeepsReading pool.now reader.old reader.new result }
-    ensures memory { IfErr result (λ e. e ≡ Memory) }
 {
     let Some(frame) = reader.frames.pop() else {
         unreachable!();
@@ -100,7 +99,7 @@ fn close_innermost(alloc: Global, pool: &Pool, reader: &mut Reader) -> Result<()
 }
 
 /// Closes the parts that end at a tag, innermost first. The top stays open.
-fn close_ended(alloc: Global, pool: &Pool, reader: &mut Reader) -> Result<(), DecodeError>
+fn close_all_ended(alloc: Global, pool: &Pool, reader: &mut Reader) -> Result<(), DecodeError>
     requires rules { IsPool pool.now }
     requires reading { (rest : List ℕ) × IsReading pool.now (state_view reader.old) rest }
     requires tag { reader.old.step ≡ Tag }
@@ -118,8 +117,26 @@ fn close_ended(alloc: Global, pool: &Pool, reader: &mut Reader) -> Result<(), De
     Ok(())
 }
 
+/// As `close_all_ended`. At most tags nothing ends.
+#[inline(always)]
+fn close_ended(alloc: Global, pool: &Pool, reader: &mut Reader) -> Result<(), DecodeError>
+    requires rules { IsPool pool.now }
+    requires reading { (rest : List ℕ) × IsReading pool.now (state_view reader.old) rest }
+    requires tag { reader.old.step ≡ Tag }
+    ensures at { OnOk result ((reader.new.at ≡ reader.old.at) × (reader.new.step ≡ Tag)) }
+    ensures goes_on { OnOk result (PartGoesOn reader.new) }
+    ensures taken { KeepsReading pool.now reader.old reader.new result }
+    ensures refused { TellsFaultAnyway pool.now reader.old result }
+{
+    if !part_ends(reader) {
+        return Ok(());
+    }
+    close_all_ended(alloc, pool, reader)
+}
+
 /// Closes all that ends where the reader stands: a packed list, and then the parts that end with it, or those that end at a
 /// tag.
+#[inline(always)]
 pub(crate) fn take_ended(alloc: Global, pool: &Pool, reader: &mut Reader) -> Result<(), DecodeError>
     requires rules { IsPool pool.now }
     requires reading { (rest : List ℕ) × IsReading pool.now (state_view reader.old) rest }

@@ -21,6 +21,7 @@ pub(crate) struct KnownPurpose {
 
 impl KnownPurpose {
     /// Says that it is known of such records in messages of the type.
+    #[inline(always)]
     fn is_of(&self, kind: MessageId, number: u32, wire_type: u8) -> bool
         ensures { result ≡ true → (self.now.kind ≡ kind) × (self.now.number ≡ number) × (self.now.wire_type ≡ wire_type) }
     {
@@ -30,6 +31,7 @@ impl KnownPurpose {
 
 /// What a record of a number and a wire type is for. In a message that is looked up only where something else is known, and is
 /// known then.
+#[inline(always)]
 pub(crate) fn purpose_by(
     pool: &Pool,
     part: &Part,

@@ -101,6 +101,7 @@ impl Occurrences {
     }
 
     /// One more record of a number.
+    #[inline(always)]
     pub(crate) fn add(&mut self, number: u32) -> Result<(), AllocError>
         requires { counts_view self.old number < 2 ^ 32 - 1 }
         ensures added { OnOk result ((k : ℕ) → counts_view self.new k ≡ one_more_of number (counts_view self.old) k) }

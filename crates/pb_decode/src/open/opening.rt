@@ -41,6 +41,7 @@ fn message_in(alloc: Global, content: Option<Content>) -> Body
 }
 
 /// Takes out what a message that is opened for a slot goes on from.
+#[inline(always)]
 fn take_message(alloc: Global, slot: Slot, outer: &mut Part) -> Body
     ensures taken { body_view result ≡ taken_message slot (part_view outer.old) }
     ensures left { part_view outer.new ≡ without_message slot (part_view outer.old) }
@@ -64,6 +65,7 @@ fn take_message(alloc: Global, slot: Slot, outer: &mut Part) -> Body
 }
 
 /// How many levels are left in a message that is opened for a slot.
+#[inline(always)]
 fn room_in(slot: Slot, room: u8) -> u8
     ensures { result ≡ levels_in slot room }
 {
@@ -77,6 +79,7 @@ fn room_in(slot: Slot, room: u8) -> u8
 }
 
 /// The scope of a part in which no record stands yet.
+#[inline(always)]
 fn new_scope(alloc: Global, room: u8, end: Option<u32>) -> Scope
     ensures room { result.room ≡ room }
     ensures end { result.end ≡ end }
@@ -91,6 +94,7 @@ fn new_scope(alloc: Global, room: u8, end: Option<u32>) -> Scope
 
 /// Behind the length of a record of a message the message is open, up to its end. It goes on from what its slot holds, and
 /// the frame is that of what holds it.
+#[inline(always)]
 pub(crate) fn open_message(
     alloc: Global,
     part: &mut Part,
@@ -116,6 +120,7 @@ pub(crate) fn open_message(
 }
 
 /// Behind the length of a record of a map an entry is open, up to its end.
+#[inline(always)]
 pub(crate) fn open_entry(
     alloc: Global,
     part: &mut Part,
@@ -147,6 +152,7 @@ pub(crate) fn open_entry(
 
 /// Behind the first tag of a group that is a field its message is open. It goes on from what its slot holds, and its end is
 /// known where that of what holds it is.
+#[inline(always)]
 fn open_field_group(
     alloc: Global,
     part: &mut Part,
@@ -171,6 +177,7 @@ fn open_field_group(
 }
 
 /// Behind the first tag of a group that is no field the group is open. Its end is known where that of what holds it is.
+#[inline(always)]
 fn open_unknown_group(alloc: Global, part: &mut Part, scope: &mut Scope, number: u32) -> Frame
     ensures { OpensAtTag number purpose.Unknown part.old scope.old result part.new scope.new }
 {
@@ -187,6 +194,7 @@ fn open_unknown_group(alloc: Global, part: &mut Part, scope: &mut Scope, number:
 }
 
 /// The message that a record opens, and the slot that it goes into, if it opens one.
+#[inline(always)]
 fn message_slot(meant: Purpose) -> Option<(MessageId, Slot)>
     ensures some { IfSome result (λ r. meant ≡ purpose.Message r.0 r.1) }
     ensures none { IfNone result (IsNoMessage meant) }
@@ -204,6 +212,7 @@ fn message_slot(meant: Purpose) -> Option<(MessageId, Slot)>
 }
 
 /// Behind the first tag of a group the group is open, by what its record is for.
+#[inline(always)]
 pub(crate) fn open_group(
     alloc: Global,
     part: &mut Part,

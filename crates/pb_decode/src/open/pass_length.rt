@@ -1,7 +1,6 @@
 //! What begins behind the length of a record.
 
-ghost use Rattle.std.specs.Prelude.{◌≡◌, ◌+◌, ◌≤◌, ◌<◌, ◌^◌, ◌∷◌, OnOk, IfErr};
-ghost use Rattle.pb_decode.specs.declared.error.DecodeError.TheVariants.{Memory};
+ghost use Rattle.std.specs.Prelude.{◌≡◌, ◌+◌, ◌≤◌, ◌<◌, ◌^◌, ◌∷◌, OnOk};
 ghost use Rattle.pb_decode.specs.declared.open.purpose.Purpose.TheVariants as purposes;
 ghost use Rattle.pb_decode.specs.declared.tokens.step.Step.TheVariants as steps;
 ghost use Rattle.pb_decode.specs.Open.PartView.{frame_view};
@@ -9,7 +8,7 @@ ghost use Rattle.pb_decode.specs.Values.PayloadValue.{IsBytesPurpose};
 ghost use Rattle.pb_decode.specs.Reader.{frames_view, weight};
 ghost use Rattle.pb_decode.specs.Open.Opens.{PassesLength, PassesLengthAlone};
 
-use crate::error::DecodeError;
+use crate::error::NoMemory;
 use crate::open::opening::{open_entry, open_message};
 use crate::open::part::{Frame, Slot};
 use crate::open::purpose::Purpose;
@@ -20,13 +19,13 @@ use pb_schema::{Kind, MessageId};
 use std::alloc::Global;
 
 /// What is opened is the innermost part, which begins here; this is the frame of what holds it.
-pub(crate) fn enter(reader: &mut Reader, frame: Frame, at: u32) -> Result<(), DecodeError>
+#[inline(always)]
+pub(crate) fn enter(reader: &mut Reader, frame: Frame, at: u32) -> Result<(), NoMemory>
     ensures at { OnOk result (reader.new.at ≡ at) }
     ensures step { OnOk result (reader.new.step ≡ steps.Tag) }
     ensures part { OnOk result (reader.new.part ≡ reader.old.part) }
     ensures scope { OnOk result (reader.new.scope ≡ reader.old.scope) }
     ensures frames { OnOk result (frames_view reader.new.frames.items ≡ frame_view frame ∷ frames_view reader.old.frames.items) }
-    ensures memory { IfErr result (λ e. e ≡ Memory) }
 {
     reader.frames.push(frame)?;
     reader.at = at;
@@ -35,6 +34,7 @@ pub(crate) fn enter(reader: &mut Reader, frame: Frame, at: u32) -> Result<(), De
 }
 
 /// Behind the length of a message the message is open.
+#[inline(always)]
 fn pass_message(
     alloc: Global,
     reader: &mut Reader,
@@ -43,12 +43,11 @@ fn pass_message(
     slot: Slot,
     begin: u32,
     size: u32,
-) -> Result<(), DecodeError>
+) -> Result<(), NoMemory>
     requires { begin + size < 2 ^ 32 }
     ensures at { OnOk result (reader.new.at ≡ begin) }
     ensures step { OnOk result (weight reader.new.step ≡ 0) }
     ensures reads { PassesLength number (purposes.Message kind slot) begin size reader.old reader.new result }
-    ensures memory { IfErr result (λ e. e ≡ Memory) }
 {
     let end = begin + size;
     let frame = open_message(
@@ -65,6 +64,7 @@ fn pass_message(
 }
 
 /// Behind the length of an entry the entry is open.
+#[inline(always)]
 fn pass_entry(
     alloc: Global,
     reader: &mut Reader,
@@ -73,12 +73,11 @@ fn pass_entry(
     value_kind: Kind,
     begin: u32,
     size: u32,
-) -> Result<(), DecodeError>
+) -> Result<(), NoMemory>
     requires { begin + size < 2 ^ 32 }
     ensures at { OnOk result (reader.new.at ≡ begin) }
     ensures step { OnOk result (weight reader.new.step ≡ 0) }
     ensures reads { PassesLength number (purposes.Entry key_kind value_kind) begin size reader.old reader.new result }
-    ensures memory { IfErr result (λ e. e ≡ Memory) }
 {
     let frame = open_entry(
         alloc,
@@ -94,6 +93,7 @@ fn pass_entry(
 }
 
 /// Behind the length of a packed list its elements come next.
+#[inline(always)]
 fn pass_list(reader: &mut Reader, number: u32, kind: Kind, begin: u32, size: u32)
     requires { begin + size < 2 ^ 32 }
     ensures at { reader.new.at ≡ begin }
@@ -123,12 +123,11 @@ pub(crate) fn pass_length(
     purpose: Purpose,
     begin: u32,
     size: u32,
-) -> Result<(), DecodeError>
+) -> Result<(), NoMemory>
     requires { begin + size < 2 ^ 32 }
     ensures at { OnOk result (reader.new.at ≡ begin) }
     ensures step { OnOk result (weight reader.new.step ≤ 1) }
     ensures reads { PassesLength number purpose begin size reader.old reader.new result }
-    ensures memory { IfErr result (λ e. e ≡ Memory) }
 {
     match purpose {
         Purpose::Message(kind, slot) => {

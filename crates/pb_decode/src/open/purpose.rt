@@ -32,6 +32,7 @@ pub(crate) enum Purpose {
 }
 
 /// What a record is for that fits a field.
+#[inline(always)]
 fn of_field(field: &Field, number: u32, wire_type: u8) -> Purpose
     requires { fits_type (field_view field.now) wire_type ≡ true }
     ensures { OfField (field_view field.now) number wire_type result }
@@ -55,6 +56,7 @@ fn of_field(field: &Field, number: u32, wire_type: u8) -> Purpose
 }
 
 /// What a record is for that fits a field of one value.
+#[inline(always)]
 fn of_single(kind: Kind, shape: Shape, number: u32) -> Purpose
     ensures { OfSingle kind shape number result }
 {

@@ -1,14 +1,13 @@
 //! Where a reader stands, as the path of a fault.
 
-ghost use Rattle.std.specs.Prelude.{◌≡◌, ◌∷◌, [], map, IfOk, IfErr, IfSome, IfNone};
+ghost use Rattle.std.specs.Prelude.{◌≡◌, ◌∷◌, [], map, IfOk, IfSome, IfNone};
 ghost use Rattle.pb_wire.specs.Fault.{fault as fault_of};
 ghost use Rattle.pb_wire.specs.declared.fault.Cause.TheVariants.{InputTooLarge};
-ghost use Rattle.pb_decode.specs.declared.error.DecodeError.TheVariants.{Memory};
 ghost use Rattle.pb_decode.specs.Open.Frames.{next_step, Scope as ScopeView};
 ghost use Rattle.pb_decode.specs.Open.PartView.{scope_view};
 ghost use Rattle.pb_decode.specs.Reader.{state_view, own_step, path_here as steps_here, IfFault, path_inside as steps_inside};
 
-use crate::error::DecodeError;
+use crate::error::{DecodeError, NoMemory};
 use crate::open::part::Frame;
 use crate::reader::state::Reader;
 use crate::tokens::step::Step;
@@ -26,9 +25,8 @@ fn frame_step(frame: &Frame) -> PathStep
 }
 
 /// The steps to the innermost part, outermost first.
-fn frame_steps(alloc: Global, frames: &[Frame]) -> Result<Vec<PathStep>, DecodeError>
-    ensures steps { IfOk result (λ v. v.items ≡ map (λ f. next_step f.number (scope_view f.scope)) frames.now) }
-    ensures memory { IfErr result (λ e. e ≡ Memory) }
+fn frame_steps(alloc: Global, frames: &[Frame]) -> Result<Vec<PathStep>, NoMemory>
+    ensures { IfOk result (λ v. v.items ≡ map (λ f. next_step f.number (scope_view f.scope)) frames.now) }
 {
     let mut steps = Vec::new(alloc);
     for frame in frames {
@@ -54,9 +52,8 @@ fn begun_number(step: Step) -> Option<u32>
 }
 
 /// The steps to the record of a number that comes next in the innermost part.
-fn path_inside(alloc: Global, reader: &Reader, number: u32) -> Result<Vec<PathStep>, DecodeError>
-    ensures path { IfOk result (λ v. v.items ≡ steps_inside (state_view reader.now) number) }
-    ensures memory { IfErr result (λ e. e ≡ Memory) }
+fn path_inside(alloc: Global, reader: &Reader, number: u32) -> Result<Vec<PathStep>, NoMemory>
+    ensures { IfOk result (λ v. v.items ≡ steps_inside (state_view reader.now) number) }
 {
     let mut path = frame_steps(alloc, &reader.frames)?;
     let occurrence = reader.scope.occurrences.count(number);
@@ -65,9 +62,8 @@ fn path_inside(alloc: Global, reader: &Reader, number: u32) -> Result<Vec<PathSt
 }
 
 /// The steps to where a reader stands.
-fn path_here(alloc: Global, reader: &Reader) -> Result<Vec<PathStep>, DecodeError>
-    ensures path { IfOk result (λ v. v.items ≡ steps_here (state_view reader.now)) }
-    ensures memory { IfErr result (λ e. e ≡ Memory) }
+fn path_here(alloc: Global, reader: &Reader) -> Result<Vec<PathStep>, NoMemory>
+    ensures { IfOk result (λ v. v.items ≡ steps_here (state_view reader.now)) }
 {
     match begun_number(reader.step) {
         None => {

@@ -1,17 +1,16 @@
 //! What stands whole in the bytes is taken where the reader stands: records, elements of packed lists, and the tags and lengths
 //! that open or end messages, entries, lists and groups.
 
-ghost use Rattle.std.specs.Prelude.{◌≡◌, ◌+◌, ◌*◌, ◌≤◌, ◌<◌, length, OnOk, IfOk, IfErr, IfSome, IfNone};
+ghost use Rattle.std.specs.Prelude.{◌≡◌, ◌+◌, ◌*◌, ◌≤◌, ◌<◌, length, OnOk, IfOk, IfSome, IfNone};
 ghost use Rattle.pb_schema.specs.Rules.{IsPool};
 ghost use Rattle.pb_decode.specs.declared.tokens.step.Step.TheVariants.{Elements};
-ghost use Rattle.pb_decode.specs.declared.error.DecodeError.TheVariants.{Memory};
 ghost use Rattle.pb_decode.specs.Open.KnownPurpose.{IsKnown};
 ghost use Rattle.pb_decode.specs.Close.Ended.{NothingEnds};
 ghost use Rattle.pb_decode.specs.Reader.{state_view, weight, IsReading};
 ghost use Rattle.pb_decode.specs.Reader.Steps.{TellsFault, TakesWhole, TakesMany};
 
 use crate::close::take_ended::take_ended;
-use crate::error::DecodeError;
+use crate::error::{DecodeError, NoMemory};
 use crate::open::known_purpose::KnownPurpose;
 use crate::reader::quick_record::take_record;
 use crate::reader::state::{Reader, left};
@@ -30,14 +29,13 @@ fn take_run(
     kind: Kind,
     outer: Option<u32>,
     bytes: &[u8],
-) -> Result<Option<usize>, DecodeError>
+) -> Result<Option<usize>, NoMemory>
     requires rules { IsPool pool.now }
     requires reading { IsReading pool.now (state_view reader.old) bytes.now }
     requires step { reader.old.step ≡ Elements number kind outer }
     ensures passes { IfOk result (λ o. IfSome o (λ n. (0 < n) × (n ≤ length bytes.now) × (reader.new.at ≡ reader.old.at + n))) }
     ensures none { IfOk result (λ o. IfNone o (reader.new ≡ reader.old)) }
     ensures taken { TakesWhole pool.now reader.old reader.new bytes.now result }
-    ensures memory { IfErr result (λ e. e ≡ Memory) }
 {
     let (values, size) = read_run(alloc, pool, kind, bytes, left(reader))?;
     if size == 0 {
@@ -56,14 +54,13 @@ fn take_whole(
     reader: &mut Reader,
     known: &mut Option<KnownPurpose>,
     bytes: &[u8],
-) -> Result<Option<usize>, DecodeError>
+) -> Result<Option<usize>, NoMemory>
     requires rules { IsPool pool.now }
     requires reading { IsReading pool.now (state_view reader.old) bytes.now }
     requires known { IsKnown pool.now known.old }
     ensures passes { IfOk result (λ o. IfSome o (λ n. (0 < n) × (n ≤ length bytes.now) × (reader.new.at ≡ reader.old.at + n))) }
     ensures none { IfOk result (λ o. IfNone o (reader.new ≡ reader.old)) }
     ensures taken { TakesWhole pool.now reader.old reader.new bytes.now result }
-    ensures memory { IfErr result (λ e. e ≡ Memory) }
     ensures known { IsKnown pool.now known.new }
 {
     match reader.step {

@@ -1,9 +1,8 @@
 //! Records of numbers and of bytes, taken whole, and what opens or ends messages, entries, lists and groups.
 
-ghost use Rattle.std.specs.Prelude.{◌≡◌, ◌⊎◌, ◌+◌, ◌≤◌, ◌<◌, ◌^◌, true, length, IfOk, IfErr, IfSome, IfNone};
+ghost use Rattle.std.specs.Prelude.{◌≡◌, ◌⊎◌, ◌+◌, ◌≤◌, ◌<◌, ◌^◌, true, length, IfOk, IfSome, IfNone};
 ghost use Rattle.pb_schema.specs.Rules.{IsPool};
 ghost use Rattle.pb_decode.specs.declared.tokens.step.Step.TheVariants.{Tag};
-ghost use Rattle.pb_decode.specs.declared.error.DecodeError.TheVariants.{Memory};
 ghost use Rattle.pb_decode.specs.Open.PartView.{part_view};
 ghost use Rattle.pb_decode.specs.Open.Purposes.{Means, part_context};
 ghost use Rattle.pb_decode.specs.Open.KnownPurpose.{IsKnown};
@@ -12,7 +11,7 @@ ghost use Rattle.pb_decode.specs.Reader.{state_view, IsReading};
 ghost use Rattle.pb_decode.specs.Reader.Steps.{HasTagHere, TakesWhole, TellsLengthBehind};
 
 use crate::close::put::count_one;
-use crate::error::DecodeError;
+use crate::error::NoMemory;
 use crate::open::known_purpose::{KnownPurpose, purpose_by};
 use crate::open::pass_length::pass_length;
 use crate::open::purpose::{Purpose, purpose_of};
@@ -37,7 +36,7 @@ fn take_number_record(
     tag: RecordTag,
     known: &mut Option<KnownPurpose>,
     bytes: &[u8],
-) -> Result<Option<usize>, DecodeError>
+) -> Result<Option<usize>, NoMemory>
     requires rules { IsPool pool.now }
     requires reading { IsReading pool.now (state_view reader.old) bytes.now }
     requires step { reader.old.step ≡ Tag }
@@ -48,7 +47,6 @@ fn take_number_record(
     ensures passes { IfOk result (λ o. IfSome o (λ n. (tag.size ≤ n) × (n ≤ length bytes.now) × (reader.new.at ≡ reader.old.at + n))) }
     ensures none { IfOk result (λ o. IfNone o (reader.new ≡ reader.old)) }
     ensures taken { TakesWhole pool.now reader.old reader.new bytes.now result }
-    ensures memory { IfErr result (λ e. e ≡ Memory) }
     ensures known { IsKnown pool.now known.new }
 {
     let behind = left_behind(left(reader), tag.size);
@@ -108,7 +106,7 @@ fn take_bytes_record(
     tag: RecordTag,
     purpose: Purpose,
     bytes: &[u8],
-) -> Result<Option<usize>, DecodeError>
+) -> Result<Option<usize>, NoMemory>
     requires rules { IsPool pool.now }
     requires reading { IsReading pool.now (state_view reader.old) bytes.now }
     requires step { reader.old.step ≡ Tag }
@@ -120,7 +118,6 @@ fn take_bytes_record(
     ensures passes { IfOk result (λ o. IfSome o (λ n. (tag.size ≤ n) × (n ≤ length bytes.now) × (reader.new.at ≡ reader.old.at + n))) }
     ensures none { IfOk result (λ o. IfNone o (reader.new ≡ reader.old)) }
     ensures taken { TakesWhole pool.now reader.old reader.new bytes.now result }
-    ensures memory { IfErr result (λ e. e ≡ Memory) }
 {
     let Some((start, size)) = length_behind(reader, tag.size, bytes) else {
         return Ok(None);
@@ -138,7 +135,7 @@ fn take_bytes_record(
             Ok(Some(end))
         }
         Err(PayloadError::BadText(_)) => Ok(None),
-        Err(PayloadError::Memory) => Err(DecodeError::Memory),
+        Err(PayloadError::Memory) => Err(NoMemory),
     }
 }
 
@@ -151,7 +148,7 @@ fn take_opening(
     tag: RecordTag,
     purpose: Purpose,
     bytes: &[u8],
-) -> Result<Option<usize>, DecodeError>
+) -> Result<Option<usize>, NoMemory>
     requires rules { IsPool pool.now }
     requires reading { IsReading pool.now (state_view reader.old) bytes.now }
     requires step { reader.old.step ≡ Tag }
@@ -162,7 +159,6 @@ fn take_opening(
     ensures passes { IfOk result (λ o. IfSome o (λ n. (tag.size ≤ n) × (n ≤ length bytes.now) × (reader.new.at ≡ reader.old.at + n))) }
     ensures none { IfOk result (λ o. IfNone o (reader.new ≡ reader.old)) }
     ensures taken { TakesWhole pool.now reader.old reader.new bytes.now result }
-    ensures memory { IfErr result (λ e. e ≡ Memory) }
 {
     if !has_room(reader.scope.room, purpose) {
         return Ok(None);
@@ -184,7 +180,7 @@ fn take_length_record(
     tag: RecordTag,
     known: &mut Option<KnownPurpose>,
     bytes: &[u8],
-) -> Result<Option<usize>, DecodeError>
+) -> Result<Option<usize>, NoMemory>
     requires rules { IsPool pool.now }
     requires reading { IsReading pool.now (state_view reader.old) bytes.now }
     requires step { reader.old.step ≡ Tag }
@@ -195,7 +191,6 @@ fn take_length_record(
     ensures passes { IfOk result (λ o. IfSome o (λ n. (tag.size ≤ n) × (n ≤ length bytes.now) × (reader.new.at ≡ reader.old.at + n))) }
     ensures none { IfOk result (λ o. IfNone o (reader.new ≡ reader.old)) }
     ensures taken { TakesWhole pool.now reader.old reader.new bytes.now result }
-    ensures memory { IfErr result (λ e. e ≡ Memory) }
     ensures known { IsKnown pool.now known.new }
 {
     let purpose = purpose_by(pool, &reader.part, tag.number, 2, known);
@@ -213,7 +208,7 @@ fn take_group_start(
     reader: &mut Reader,
     tag: RecordTag,
     bytes: &[u8],
-) -> Result<Option<usize>, DecodeError>
+) -> Result<Option<usize>, NoMemory>
     requires rules { IsPool pool.now }
     requires reading { IsReading pool.now (state_view reader.old) bytes.now }
     requires step { reader.old.step ≡ Tag }
@@ -223,7 +218,6 @@ fn take_group_start(
     ensures passes { IfOk result (λ o. IfSome o (λ n. (n ≡ tag.size) × (reader.new.at ≡ reader.old.at + n))) }
     ensures none { IfOk result (λ o. IfNone o (reader.new ≡ reader.old)) }
     ensures taken { TakesWhole pool.now reader.old reader.new bytes.now result }
-    ensures memory { IfErr result (λ e. e ≡ Memory) }
 {
     if reader.scope.room == 0 {
         return Ok(None);
@@ -240,7 +234,7 @@ fn take_group_end(
     reader: &mut Reader,
     tag: RecordTag,
     bytes: &[u8],
-) -> Result<Option<usize>, DecodeError>
+) -> Result<Option<usize>, NoMemory>
     requires rules { IsPool pool.now }
     requires reading { IsReading pool.now (state_view reader.old) bytes.now }
     requires step { reader.old.step ≡ Tag }
@@ -250,7 +244,6 @@ fn take_group_end(
     ensures passes { IfOk result (λ o. IfSome o (λ n. (n ≡ tag.size) × (reader.new.at ≡ reader.old.at + n))) }
     ensures none { IfOk result (λ o. IfNone o (reader.new ≡ reader.old)) }
     ensures taken { TakesWhole pool.now reader.old reader.new bytes.now result }
-    ensures memory { IfErr result (λ e. e ≡ Memory) }
 {
     match group_end(innermost(&reader.frames), tag.number) {
         Ok(()) => {
@@ -269,7 +262,7 @@ pub(crate) fn take_record(
     reader: &mut Reader,
     known: &mut Option<KnownPurpose>,
     bytes: &[u8],
-) -> Result<Option<usize>, DecodeError>
+) -> Result<Option<usize>, NoMemory>
     requires rules { IsPool pool.now }
     requires reading { IsReading pool.now (state_view reader.old) bytes.now }
     requires step { reader.old.step ≡ Tag }
@@ -277,7 +270,6 @@ pub(crate) fn take_record(
     ensures passes { IfOk result (λ o. IfSome o (λ n. (0 < n) × (n ≤ length bytes.now) × (reader.new.at ≡ reader.old.at + n))) }
     ensures none { IfOk result (λ o. IfNone o (reader.new ≡ reader.old)) }
     ensures taken { TakesWhole pool.now reader.old reader.new bytes.now result }
-    ensures memory { IfErr result (λ e. e ≡ Memory) }
     ensures known { IsKnown pool.now known.new }
 {
     let Some(tag) = record_tag(bytes, left(reader)) else {

@@ -1,10 +1,9 @@
 //! A reader of a message: a stack of what is open, and what comes next.
 
-ghost use Rattle.std.specs.Prelude.{◌≡◌, ◌⊎◌, ◌+◌, ◌-◌, ◌<◌, ◌≤◌, ◌^◌, ℕ, Some, drop, length, OnOk, IfOk, IfErr, IfNone};
+ghost use Rattle.std.specs.Prelude.{◌≡◌, ◌⊎◌, ◌+◌, ◌-◌, ◌<◌, ◌≤◌, ◌^◌, ℕ, Some, drop, length, OnOk, IfOk, IfNone};
 ghost use Rattle.pb_wire.specs.Token.{given_at};
 ghost use Rattle.pb_schema.specs.Rules.{IsPool};
 ghost use Rattle.pb_decode.specs.declared.tokens.step.Step.TheVariants.{Tag};
-ghost use Rattle.pb_decode.specs.declared.error.DecodeError.TheVariants.{Memory};
 ghost use Rattle.pb_decode.specs.Open.Frames.{CanHold};
 ghost use Rattle.pb_decode.specs.Tokens.Numbers.{TellsNumber};
 ghost use Rattle.pb_decode.specs.Open.Occurrences.{counts_view};
@@ -15,7 +14,7 @@ ghost use Rattle.pb_decode.specs.Reader.Waiting.{Waits};
 ghost use Rattle.pb_decode.specs.Reader.Steps.{TellsFault, TakesNext, TakesAll, StandsBehindNumber};
 
 use crate::close::put::count_one;
-use crate::error::DecodeError;
+use crate::error::{DecodeError, NoMemory};
 use crate::open::part::{Frame, Part, Scope};
 use crate::open::purpose::Purpose;
 use crate::reader::fault::fault_at;
@@ -73,7 +72,7 @@ fn pass_number(
     purpose: Purpose,
     value: Number,
     size: usize,
-) -> Result<(), DecodeError>
+) -> Result<(), NoMemory>
     requires rules { IsPool pool.now }
     requires can { CanHold pool.now (part_view reader.old.part) }
     requires few { counts_view reader.old.scope.occurrences number < 2 ^ 32 - 1 }
@@ -81,7 +80,6 @@ fn pass_number(
     ensures at { OnOk result ((reader.new.at ≡ reader.old.at + size) × (reader.new.step ≡ Tag)) }
     ensures same_end { OnOk result (reader.new.scope.end ≡ reader.old.scope.end) }
     ensures stands { StandsBehindNumber pool.now reader.old reader.new number purpose value result }
-    ensures memory { IfErr result (λ e. e ≡ Memory) }
 {
     put_number(alloc, pool, &mut reader.part, number, purpose, value)?;
     count_one(&mut reader.scope, number)?;

@@ -1,10 +1,9 @@
 //! Tags, where one may come.
 
-ghost use Rattle.std.specs.Prelude.{◌≡◌, ◌≢◌, ◌⊎◌, ◌+◌, ◌<◌, ◌^◌, ℕ, List, [], Some, MatchBool, OnOk, IfOk, IfErr, IfNone};
+ghost use Rattle.std.specs.Prelude.{◌≡◌, ◌≢◌, ◌⊎◌, ◌+◌, ◌<◌, ◌^◌, ℕ, List, [], Some, MatchBool, OnOk, IfOk, IfNone};
 ghost use Rattle.pb_schema.specs.Types.{Types};
 ghost use Rattle.pb_schema.specs.Rules.{IsPool};
 ghost use Rattle.pb_decode.specs.declared.tokens.step.Step.TheVariants.{Tag};
-ghost use Rattle.pb_decode.specs.declared.error.DecodeError.TheVariants.{Memory};
 ghost use Rattle.pb_decode.specs.Open.Frames.{CanHold};
 ghost use Rattle.pb_decode.specs.Open.PartView.{part_view};
 ghost use Rattle.pb_decode.specs.Open.Openings.{innermost_group};
@@ -15,7 +14,7 @@ ghost use Rattle.pb_decode.specs.Reader.Steps.{TellsFault, TakesNext, PassesTag,
 
 use crate::close::closing::close_group;
 use crate::close::put::close_message;
-use crate::error::DecodeError;
+use crate::error::{DecodeError, NoMemory};
 use crate::open::opening::open_group;
 use crate::open::part::{Frame, Part};
 use crate::open::pass_length::enter;
@@ -31,6 +30,7 @@ use std::alloc::Global;
 use std::mem;
 
 /// The number of the group that is open innermost, if an end tag ends what is open there.
+#[inline(always)]
 pub(crate) fn innermost(frames: &[Frame]) -> Option<u32>
     ensures { result ≡ innermost_group (frames_view frames.now) }
 {
@@ -83,14 +83,13 @@ pub(crate) fn enter_group(
     number: u32,
     meant: Purpose,
     size: usize,
-) -> Result<(), DecodeError>
+) -> Result<(), NoMemory>
     requires step { reader.old.step ≡ Tag }
     requires room { 0 < reader.old.scope.room }
     requires fits { reader.old.at + size < 2 ^ 32 }
     ensures at { OnOk result (reader.new.at ≡ reader.old.at + size) }
     ensures step { OnOk result (reader.new.step ≡ Tag) }
     ensures reads { EntersGroup reader.old reader.new number meant size result }
-    ensures memory { IfErr result (λ e. e ≡ Memory) }
 {
     let begin = reader.at + size as u32;
     let frame = open_group(alloc, &mut reader.part, &mut reader.scope, number, meant);
@@ -128,7 +127,7 @@ pub(crate) fn leave_group(
     pool: &Pool,
     reader: &mut Reader,
     size: usize,
-) -> Result<(), DecodeError>
+) -> Result<(), NoMemory>
     requires reading { (rest : List ℕ) × IsReading pool.now (state_view reader.old) rest }
     requires step { reader.old.step ≡ Tag }
     requires group { (number : ℕ) × (innermost_group (frames_view reader.old.frames.items) ≡ Some number) }
@@ -136,7 +135,6 @@ pub(crate) fn leave_group(
     ensures at { OnOk result (reader.new.at ≡ reader.old.at + size) }
     ensures step { OnOk result (reader.new.step ≡ Tag) }
     ensures reads { LeavesGroup pool.now reader.old reader.new size result }
-    ensures memory { IfErr result (λ e. e ≡ Memory) }
 {
     let Some(frame) = reader.frames.pop() else {
         unreachable!();

@@ -21,6 +21,7 @@ pub(crate) enum Number {
 }
 
 /// The value of a kind that a number stands for. There is none where the number is of another wire type.
+#[inline(always)]
 pub(crate) fn number_value(kind: Kind, number: Number) -> Option<Value>
     ensures { option_map value_view result ≡ option_map scalar (read kind (number_view number)) }
 {
@@ -41,6 +42,7 @@ pub(crate) fn number_value(kind: Kind, number: Number) -> Option<Value>
     }
 }
 
+#[inline(always)]
 fn varint_value(kind: Kind, n: u64) -> Option<Value>
     ensures { option_map value_view result ≡ option_map scalar (read kind (varint n)) }
 {

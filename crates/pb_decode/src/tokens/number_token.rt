@@ -22,6 +22,7 @@ pub(crate) enum NumberToken {
 }
 
 /// The varint at the front of some bytes, with so many bytes before the known end, or with no known end.
+#[inline(always)]
 pub(crate) fn varint_number(bytes: &[u8], left: Option<u32>) -> NumberToken
     ensures { (at : ℕ) → TellsNumber 0 (given_at at left bytes.now) result }
 {
@@ -33,6 +34,7 @@ pub(crate) fn varint_number(bytes: &[u8], left: Option<u32>) -> NumberToken
 }
 
 /// A whole number of eight bytes.
+#[inline(always)]
 fn eight_bytes(number: u64, size: usize) -> NumberToken
     ensures same { result ≡ Whole (I64 number) size }
     ensures small { number < 2 ^ 64 }
@@ -41,6 +43,7 @@ fn eight_bytes(number: u64, size: usize) -> NumberToken
 }
 
 /// The number of eight bytes, likewise.
+#[inline(always)]
 pub(crate) fn eight_byte_number(bytes: &[u8], left: Option<u32>) -> NumberToken
     ensures { (at : ℕ) → TellsNumber 1 (given_at at left bytes.now) result }
 {
@@ -52,6 +55,7 @@ pub(crate) fn eight_byte_number(bytes: &[u8], left: Option<u32>) -> NumberToken
 }
 
 /// The number of four bytes, likewise.
+#[inline(always)]
 pub(crate) fn four_byte_number(bytes: &[u8], left: Option<u32>) -> NumberToken
     ensures { (at : ℕ) → TellsNumber 5 (given_at at left bytes.now) result }
 {

@@ -1,16 +1,15 @@
 //! Elements of a packed list.
 
-ghost use Rattle.std.specs.Prelude.{◌≡◌, ◌≢◌, ◌+◌, ◌<◌, ◌^◌, Some, OnOk, IfOk, IfErr, IfNone};
+ghost use Rattle.std.specs.Prelude.{◌≡◌, ◌≢◌, ◌+◌, ◌<◌, ◌^◌, Some, OnOk, IfOk, IfNone};
 ghost use Rattle.pb_schema.specs.Rules.{IsPool};
 ghost use Rattle.pb_decode.specs.declared.tokens.step.Step.TheVariants.{Elements};
-ghost use Rattle.pb_decode.specs.declared.error.DecodeError.TheVariants.{Memory};
 ghost use Rattle.pb_decode.specs.Open.Frames.{CanHold};
 ghost use Rattle.pb_decode.specs.Open.PartView.{part_view};
 ghost use Rattle.pb_decode.specs.Reader.{state_view, left_of, IsReading, Passes};
 ghost use Rattle.pb_decode.specs.Reader.Waiting.{Waits};
 ghost use Rattle.pb_decode.specs.Reader.Steps.{TellsFault, TakesNext, GoesOnBehindElement};
 
-use crate::error::DecodeError;
+use crate::error::{DecodeError, NoMemory};
 use crate::reader::fault::fault_at;
 use crate::reader::state::{Reader, left, number_at};
 use crate::tokens::number::Number;
@@ -28,13 +27,12 @@ fn pass_element(
     kind: Kind,
     value: Number,
     size: usize,
-) -> Result<(), DecodeError>
+) -> Result<(), NoMemory>
     requires can { CanHold pool.now (part_view reader.old.part) }
     requires fits { reader.old.at + size < 2 ^ 32 }
     ensures at { OnOk result ((reader.new.at ≡ reader.old.at + size) × (reader.new.step ≡ reader.old.step)) }
     ensures same_end { OnOk result (reader.new.scope.end ≡ reader.old.scope.end) }
     ensures goes_on { GoesOnBehindElement pool.now reader.old reader.new number kind value result }
-    ensures memory { IfErr result (λ e. e ≡ Memory) }
 {
     put_element(alloc, pool, &mut reader.part, number, kind, value)?;
     reader.at += size as u32;

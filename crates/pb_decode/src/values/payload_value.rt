@@ -10,7 +10,7 @@ ghost use Rattle.pb_value.specs.View.{value_view};
 ghost use Rattle.pb_decode.specs.declared.values.payload_value.PayloadError.TheVariants.{Memory};
 ghost use Rattle.pb_decode.specs.Values.PayloadValue.{IsPayloadError};
 
-use crate::error::DecodeError;
+use crate::error::NoMemory;
 use pb_schema::Kind;
 use pb_value::Value;
 use pb_wire::Unknown;
@@ -33,10 +33,10 @@ impl From<AllocError> for PayloadError {
 }
 
 // What puts a value into a part fails for want of memory alone.
-impl From<DecodeError> for PayloadError {
+impl From<NoMemory> for PayloadError {
     ghost from_gives = { λ _ e. e ≡ Memory };
 
-    fn from(_e: DecodeError) -> PayloadError {
+    fn from(_e: NoMemory) -> PayloadError {
         PayloadError::Memory
     }
 }

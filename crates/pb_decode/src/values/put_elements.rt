@@ -1,12 +1,11 @@
 //! The values of a run of elements go to the end of their list.
 
-ghost use Rattle.std.specs.Prelude.{◌≡◌, map, OnOk, IfErr};
+ghost use Rattle.std.specs.Prelude.{◌≡◌, map, OnOk};
 ghost use Rattle.pb_value.specs.View.{body_view, value_view};
-ghost use Rattle.pb_decode.specs.declared.error.DecodeError.TheVariants.{Memory};
 ghost use Rattle.pb_decode.specs.Values.Run.{put_each, with_each};
 ghost use Rattle.pb_decode.specs.Open.PartView.{part_view};
 
-use crate::error::{DecodeError, memory_alone};
+use crate::error::{NoMemory, memory_alone};
 use crate::open::part::Part;
 use pb_value::parts::{push_element, put_field};
 use pb_value::{Body, Content, Value};
@@ -18,9 +17,8 @@ fn push_all(
     message: &mut Body,
     number: u32,
     values: Vec<Value>,
-) -> Result<(), DecodeError>
-    ensures put { OnOk result (body_view message.new ≡ with_each number (map value_view values.items) (body_view message.old)) }
-    ensures memory { IfErr result (λ e. e ≡ Memory) }
+) -> Result<(), NoMemory>
+    ensures { OnOk result (body_view message.new ≡ with_each number (map value_view values.items) (body_view message.old)) }
 {
     for value in values {
         push_element(alloc, message, number, value).map_err(memory_alone)?;
@@ -34,9 +32,8 @@ fn store_all(
     message: &mut Body,
     number: u32,
     values: Vec<Value>,
-) -> Result<(), DecodeError>
-    ensures put { OnOk result (body_view message.new ≡ with_each number (map value_view values.items) (body_view message.old)) }
-    ensures memory { IfErr result (λ e. e ≡ Memory) }
+) -> Result<(), NoMemory>
+    ensures { OnOk result (body_view message.new ≡ with_each number (map value_view values.items) (body_view message.old)) }
 {
     if message.fields.contains_key(&number) {
         push_all(alloc, message, number, values)?;
@@ -57,9 +54,8 @@ pub(crate) fn put_elements(
     part: &mut Part,
     number: u32,
     values: Vec<Value>,
-) -> Result<(), DecodeError>
-    ensures put { OnOk result (part_view part.new ≡ put_each number (map value_view values.items) (part_view part.old)) }
-    ensures memory { IfErr result (λ e. e ≡ Memory) }
+) -> Result<(), NoMemory>
+    ensures { OnOk result (part_view part.new ≡ put_each number (map value_view values.items) (part_view part.old)) }
 {
     match part {
         Part::Message(_, body) => {

@@ -1,6 +1,6 @@
 //! Numbers go where their records' purposes say.
 
-ghost use Rattle.std.specs.Prelude.{◌≡◌, None, Some, OnOk, IfErr};
+ghost use Rattle.std.specs.Prelude.{◌≡◌, None, Some, OnOk};
 ghost use Rattle.pb_schema.specs.declared.types.Kind.{Kind as KindView};
 ghost use Rattle.pb_schema.specs.Rules.{IsPool};
 ghost use Rattle.pb_schema.specs.Scalar.{Scalar};
@@ -8,13 +8,12 @@ ghost use Rattle.pb_schema.specs.Kinds.{closed_enum, read};
 ghost use Rattle.pb_schema.specs.Closed.{is_undeclared};
 ghost use Rattle.pb_value.specs.Data.{scalar};
 ghost use Rattle.pb_decode.specs.Open.Frames.{CanHold};
-ghost use Rattle.pb_decode.specs.declared.error.DecodeError.TheVariants.{Memory};
 ghost use Rattle.pb_decode.specs.Open.PartView.{part_view};
 ghost use Rattle.pb_decode.specs.Tokens.Number.{number_view};
 ghost use Rattle.pb_decode.specs.Values.Put.{scalar_kind as kind_given, put_datum, put_record};
 ghost use Rattle.pb_decode.specs.Values.Puts.{PutsNumber, PutsElement};
 
-use crate::error::DecodeError;
+use crate::error::NoMemory;
 use crate::open::part::Part;
 use crate::open::purpose::Purpose;
 use crate::tokens::number::{Number, number_value};
@@ -24,6 +23,7 @@ use pb_schema::{Kind, Pool};
 use std::alloc::Global;
 
 /// The kind of the scalar that a record gives.
+#[inline(always)]
 pub(crate) fn scalar_kind(purpose: Purpose) -> Option<Kind>
     ensures { result ≡ kind_given purpose }
 {
@@ -40,6 +40,7 @@ pub(crate) fn scalar_kind(purpose: Purpose) -> Option<Kind>
 }
 
 /// Whether a number is one that the closed enum of a kind doesn't declare.
+#[inline(always)]
 pub(crate) fn is_undeclared(pool: &Pool, kind: Kind, value: Number) -> bool
     ensures { result ≡ is_undeclared pool.now (closed_enum kind) (number_view value) }
 {
@@ -50,6 +51,7 @@ pub(crate) fn is_undeclared(pool: &Pool, kind: Kind, value: Number) -> bool
 }
 
 /// Puts the value that a number stands for into the part that its record stands in.
+#[inline(always)]
 fn put_value(
     alloc: Global,
     pool: &Pool,
@@ -57,13 +59,12 @@ fn put_value(
     number: u32,
     purpose: Purpose,
     value: Number,
-) -> Result<(), DecodeError>
+) -> Result<(), NoMemory>
     requires { CanHold pool.now (part_view part.old) }
     ensures put { (kind : KindView) (x : Scalar) → kind_given purpose ≡ Some kind → read kind (number_view value) ≡ Some x
         → OnOk result (part_view part.new ≡ put_datum pool.now number purpose (part_view part.old) (scalar x)) }
     ensures no_kind { kind_given purpose ≡ None → part.new ≡ part.old }
     ensures unread { (kind : KindView) → kind_given purpose ≡ Some kind → read kind (number_view value) ≡ None → part.new ≡ part.old }
-    ensures memory { IfErr result (λ e. e ≡ Memory) }
 {
     let Some(kind) = scalar_kind(purpose) else {
         return Ok(());
@@ -75,15 +76,16 @@ fn put_value(
 }
 
 /// Puts a number among the unknown records of the part that its record stands in.
-fn put_unknown_number(part: &mut Part, number: u32, value: Number) -> Result<(), DecodeError>
-    ensures put { OnOk result (part_view part.new ≡ put_record number (number_view value) (part_view part.old)) }
-    ensures memory { IfErr result (λ e. e ≡ Memory) }
+#[inline(always)]
+fn put_unknown_number(part: &mut Part, number: u32, value: Number) -> Result<(), NoMemory>
+    ensures { OnOk result (part_view part.new ≡ put_record number (number_view value) (part_view part.old)) }
 {
     let unknown = unknown_number(value);
     put_unknown(part, number, unknown)
 }
 
 /// A number that comes next goes into the part that its record stands in, and one stands behind it.
+#[inline(always)]
 pub(crate) fn put_number(
     alloc: Global,
     pool: &Pool,
@@ -91,11 +93,10 @@ pub(crate) fn put_number(
     number: u32,
     purpose: Purpose,
     value: Number,
-) -> Result<(), DecodeError>
+) -> Result<(), NoMemory>
     requires rules { IsPool pool.now }
     requires can { CanHold pool.now (part_view part.old) }
-    ensures stands { PutsNumber pool.now number purpose value part.old part.new result }
-    ensures memory { IfErr result (λ e. e ≡ Memory) }
+    ensures { PutsNumber pool.now number purpose value part.old part.new result }
 {
     match scalar_kind(purpose) {
         Some(kind) => {
@@ -122,10 +123,9 @@ pub(crate) fn put_element(
     number: u32,
     kind: Kind,
     value: Number,
-) -> Result<(), DecodeError>
+) -> Result<(), NoMemory>
     requires { CanHold pool.now (part_view part.old) }
-    ensures stands { PutsElement pool.now number kind value part.old part.new result }
-    ensures memory { IfErr result (λ e. e ≡ Memory) }
+    ensures { PutsElement pool.now number kind value part.old part.new result }
 {
     if is_undeclared(pool, kind, value) {
         put_unknown_number(part, number, value)?;

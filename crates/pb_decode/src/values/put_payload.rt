@@ -6,7 +6,6 @@ ghost use Rattle.pb_schema.specs.Rules.{IsPool};
 ghost use Rattle.pb_schema.specs.Scalar.{Scalar};
 ghost use Rattle.pb_value.specs.Data.{scalar};
 ghost use Rattle.pb_value.specs.View.{value_view};
-ghost use Rattle.pb_decode.specs.declared.error.DecodeError.TheVariants.{Memory as OutOfMemory};
 ghost use Rattle.pb_decode.specs.declared.values.payload_value.PayloadError.TheVariants.{Memory};
 ghost use Rattle.pb_decode.specs.Open.Frames.{CanHold};
 ghost use Rattle.pb_decode.specs.Open.PartView.{part_view};
@@ -14,7 +13,7 @@ ghost use Rattle.pb_decode.specs.Values.Put.{scalar_kind as kind_given, put_datu
 ghost use Rattle.pb_decode.specs.Values.PayloadValue.{IfBadText, IsBytesPurpose};
 ghost use Rattle.pb_decode.specs.Values.Puts.{PutsPayload, RefusesPayload};
 
-use crate::error::DecodeError;
+use crate::error::NoMemory;
 use crate::open::part::Part;
 use crate::open::purpose::Purpose;
 use crate::values::payload_value::{PayloadError, gathered_value, payload_value, unknown_payload};
@@ -34,12 +33,11 @@ fn put_value(
     number: u32,
     purpose: Purpose,
     value: Option<Value>,
-) -> Result<(), DecodeError>
+) -> Result<(), NoMemory>
     requires { CanHold pool.now (part_view part.old) }
     ensures put { (x : Scalar) → option_map value_view value ≡ Some (scalar x)
         → OnOk result (part_view part.new ≡ put_datum pool.now number purpose (part_view part.old) (scalar x)) }
     ensures same { IfNone value (part.new ≡ part.old) }
-    ensures memory { IfErr result (λ e. e ≡ OutOfMemory) }
 {
     let Some(value) = value else {
         return Ok(());

@@ -1,15 +1,14 @@
 //! Scalars go where their records' purposes say.
 
-ghost use Rattle.std.specs.Prelude.{◌≡◌, ℕ, OnOk, IfErr, option_map};
+ghost use Rattle.std.specs.Prelude.{◌≡◌, ℕ, OnOk, option_map};
 ghost use Rattle.pb_schema.specs.declared.types.Kind.{Kind};
 ghost use Rattle.pb_schema.specs.Types.{Types};
 ghost use Rattle.pb_value.specs.View.{body_view, key_view, value_view};
 ghost use Rattle.pb_decode.specs.Open.Frames.{CanHold, message_part, entry_part};
-ghost use Rattle.pb_decode.specs.declared.error.DecodeError.TheVariants.{Memory};
 ghost use Rattle.pb_decode.specs.Open.PartView.{part_view};
 ghost use Rattle.pb_decode.specs.Values.Put.{key_in, put_datum};
 
-use crate::error::{DecodeError, memory_alone};
+use crate::error::{NoMemory, memory_alone};
 use crate::open::part::Part;
 use crate::open::purpose::Purpose;
 use pb_schema::{MessageId, Pool};
@@ -18,6 +17,7 @@ use pb_value::{Body, Content, MapKey, Value};
 use std::alloc::Global;
 
 /// A value as a map's key. There is none of a kind that no key has.
+#[inline(always)]
 pub(crate) fn key_of(value: Value) -> Option<MapKey>
     ensures { option_map key_view result ≡ key_in (value_view value) }
 {
@@ -37,6 +37,7 @@ pub(crate) fn key_of(value: Value) -> Option<MapKey>
 }
 
 /// Puts a scalar into a message: into the field of one value, or at the end of a list.
+#[inline(always)]
 fn put_in_message(
     alloc: Global,
     pool: &Pool,
@@ -45,11 +46,10 @@ fn put_in_message(
     number: u32,
     purpose: Purpose,
     value: Value,
-) -> Result<(), DecodeError>
+) -> Result<(), NoMemory>
     requires { CanHold pool.now (message_part kind.0 (body_view body.old)) }
-    ensures put { OnOk result (message_part kind.0 (body_view body.new)
+    ensures { OnOk result (message_part kind.0 (body_view body.new)
         ≡ put_datum pool.now number purpose (message_part kind.0 (body_view body.old)) (value_view value)) }
-    ensures memory { IfErr result (λ e. e ≡ Memory) }
 {
     match purpose {
         Purpose::One(_, shape) => {
@@ -66,6 +66,7 @@ fn put_in_message(
 }
 
 /// Puts a scalar into an entry, as its key or as its value.
+#[inline(always)]
 fn put_in_entry(key: &mut Option<MapKey>, held: &mut Option<Value>, purpose: Purpose, value: Value)
     ensures { (pool : Types) (n : ℕ) (k d : Kind) → entry_part k d (option_map key_view key.new) (option_map value_view held.new)
         ≡ put_datum pool n purpose (entry_part k d (option_map key_view key.old) (option_map value_view held.old)) (value_view value) }
@@ -83,6 +84,7 @@ fn put_in_entry(key: &mut Option<MapKey>, held: &mut Option<Value>, purpose: Pur
 }
 
 /// Puts a scalar into the part that its record stands in. A group holds unknown records alone.
+#[inline(always)]
 pub(crate) fn put_scalar(
     alloc: Global,
     pool: &Pool,
@@ -90,10 +92,9 @@ pub(crate) fn put_scalar(
     number: u32,
     purpose: Purpose,
     value: Value,
-) -> Result<(), DecodeError>
+) -> Result<(), NoMemory>
     requires { CanHold pool.now (part_view part.old) }
-    ensures put { OnOk result (part_view part.new ≡ put_datum pool.now number purpose (part_view part.old) (value_view value)) }
-    ensures memory { IfErr result (λ e. e ≡ Memory) }
+    ensures { OnOk result (part_view part.new ≡ put_datum pool.now number purpose (part_view part.old) (value_view value)) }
 {
     match part {
         Part::Message(kind, body) => {

@@ -1,20 +1,20 @@
 //! Records that no field has.
 
-ghost use Rattle.std.specs.Prelude.{◌≡◌, OnOk, IfErr};
+ghost use Rattle.std.specs.Prelude.{◌≡◌, OnOk};
 ghost use Rattle.pb_wire.specs.Unknown.{payload_of};
 ghost use Rattle.pb_value.specs.View.{body_view};
-ghost use Rattle.pb_decode.specs.declared.error.DecodeError.TheVariants.{Memory};
 ghost use Rattle.pb_decode.specs.Open.PartView.{part_view};
 ghost use Rattle.pb_decode.specs.Tokens.Number.{number_view};
 ghost use Rattle.pb_decode.specs.Values.Put.{put_record, with_record};
 
-use crate::error::DecodeError;
+use crate::error::NoMemory;
 use crate::open::part::Part;
 use crate::tokens::number::Number;
 use pb_value::Body;
 use pb_wire::Unknown;
 
 /// A number as the payload of an unknown record.
+#[inline(always)]
 pub(crate) fn unknown_number(value: Number) -> Unknown
     ensures { payload_of result ≡ number_view value }
 {
@@ -26,18 +26,18 @@ pub(crate) fn unknown_number(value: Number) -> Unknown
 }
 
 /// Puts a record after the unknown ones of a message.
-fn push_unknown(message: &mut Body, number: u32, unknown: Unknown) -> Result<(), DecodeError>
-    ensures put { OnOk result (body_view message.new ≡ with_record number (payload_of unknown) (body_view message.old)) }
-    ensures memory { IfErr result (λ e. e ≡ Memory) }
+#[inline(always)]
+fn push_unknown(message: &mut Body, number: u32, unknown: Unknown) -> Result<(), NoMemory>
+    ensures { OnOk result (body_view message.new ≡ with_record number (payload_of unknown) (body_view message.old)) }
 {
     message.unknown.push((number, unknown))?;
     Ok(())
 }
 
 /// Puts an unknown record into the part that it stands in. An entry drops it.
-pub(crate) fn put_unknown(part: &mut Part, number: u32, unknown: Unknown) -> Result<(), DecodeError>
-    ensures put { OnOk result (part_view part.new ≡ put_record number (payload_of unknown) (part_view part.old)) }
-    ensures memory { IfErr result (λ e. e ≡ Memory) }
+#[inline(always)]
+pub(crate) fn put_unknown(part: &mut Part, number: u32, unknown: Unknown) -> Result<(), NoMemory>
+    ensures { OnOk result (part_view part.new ≡ put_record number (payload_of unknown) (part_view part.old)) }
 {
     match part {
         Part::Message(_, body) => {

@@ -1,11 +1,10 @@
 //! Runs of elements of a packed list, as values.
 
-ghost use Rattle.std.specs.Prelude.{◌≡◌, ◌⊎◌, ◌≤◌, ◌<◌, length, IfOk, IfErr, IfSome};
+ghost use Rattle.std.specs.Prelude.{◌≡◌, ◌⊎◌, ◌≤◌, ◌<◌, length, IfOk, IfSome};
 ghost use Rattle.pb_schema.specs.Kinds.{wire_type_of};
-ghost use Rattle.pb_decode.specs.declared.error.DecodeError.TheVariants.{Memory};
 ghost use Rattle.pb_decode.specs.Values.Puts.{TellsElement, TellsRun};
 
-use crate::error::DecodeError;
+use crate::error::NoMemory;
 use crate::reader::state::number_at;
 use crate::tokens::number::number_value;
 use crate::tokens::number_token::NumberToken;
@@ -37,6 +36,32 @@ fn element_at(pool: &Pool, kind: Kind, bytes: &[u8], left: Option<u32>) -> Optio
     }
 }
 
+/// How many of the bytes end a varint.
+fn varint_ends(bytes: &[u8]) -> usize {
+    let mut ends = 0usize;
+    for byte in bytes {
+        ends = ends.wrapping_add(usize::from(*byte < 0x80));
+    }
+    ends
+}
+
+/// How many elements of a kind end within some bytes and before the known end, where they are sound: room for all of them. A run
+/// of a closed enum may end before any of them, and others follow it, so it grows as it goes.
+fn room_wanted(kind: Kind, bytes: &[u8], left: Option<u32>) -> usize {
+    if let Kind::ClosedEnum(_) = kind {
+        return 0;
+    }
+    let within = match left {
+        Some(left) => bytes.len().min(left as usize),
+        None => bytes.len(),
+    };
+    match kind.wire_type() {
+        1 => within / 8,
+        5 => within / 4,
+        _ => varint_ends(&bytes[..within]),
+    }
+}
+
 /// The values of the elements that stand whole at the front of some bytes, one behind another, with so many bytes before the
 /// known end, and how many bytes they take.
 pub(crate) fn read_run(
@@ -45,13 +70,12 @@ pub(crate) fn read_run(
     kind: Kind,
     bytes: &[u8],
     left: Option<u32>,
-) -> Result<(Vec<Value>, usize), DecodeError>
+) -> Result<(Vec<Value>, usize), NoMemory>
     requires { (wire_type_of kind ≡ 0) ⊎ (wire_type_of kind ≡ 1) ⊎ (wire_type_of kind ≡ 5) }
     ensures within { IfOk result (λ r. r.1 ≤ length bytes.now) }
     ensures put { TellsRun pool.now kind bytes.now left result }
-    ensures memory { IfErr result (λ e. e ≡ Memory) }
 {
-    let mut values = Vec::new(alloc);
+    let mut values = Vec::with_capacity(alloc, room_wanted(kind, bytes, left))?;
     let mut here = 0;
     while let Some((value, size)) = element_at(
         pool,

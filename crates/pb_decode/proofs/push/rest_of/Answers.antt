@@ -2,5 +2,5 @@ use Rattle.std.proofs.Common.{◌∙◌}
 use Rattle.pb_decode.proofs.ReaderLemmas.{slice_from}
 use Rattle.pb_decode.proofs.push.rest_of.Goals as goal
 
-pub returns-clause-rest : goal.returns-clause-rest
-returns-clause-rest c = c.in_ok-rest.ensures.items ∙ slice_from c.args.from c.args.bytes.now
+pub returns : goal.returns
+returns c = c.in_ok-rest.ensures.items ∙ slice_from c.args.from c.args.bytes.now

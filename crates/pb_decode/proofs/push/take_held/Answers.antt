@@ -21,6 +21,6 @@ returns-then-size-eq0-clause-taken c =
 pub returns-clause-taken : goal.returns-clause-taken
 returns-clause-taken c =
     λ m depth levels base p0 begun.
-    held_rest c.args.pool.now m depth levels base p0 (state_view c.take_all.new.reader) c.in_ok-size.size c.args.reading.now.held.items c.in_ok-rest.rest.items (c.in_ok-rest.ensures.rest ∙ ap (drop c.in_ok-size.size) c.deref-2.ensures.value)
+    held_rest c.args.pool.now m depth levels base p0 (state_view c.take_all.new.reader) c.in_ok-size.size c.args.reading.now.held.items c.in_ok-rest.rest.items (c.in_ok-rest.ensures ∙ ap (drop c.in_ok-size.size) c.deref-2.ensures.value)
     (subst (λ (z : List ℕ). Reads c.args.pool.now m depth levels base p0 (state_view c.take_all.new.reader) (drop c.in_ok-size.size z) × Stops c.args.pool.now m depth p0 (state_view c.take_all.new.reader) (drop c.in_ok-size.size z)) c.deref.ensures.value
     (c.in_ok-size.ensures.taken m depth levels base p0 (subst (Reads c.args.pool.now m depth levels base p0 (state_view c.args.reading.now.reader)) (sym c.deref.ensures.value) begun)))

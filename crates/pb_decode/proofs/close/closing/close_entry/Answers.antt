@@ -9,4 +9,4 @@ pub returns-clause-stands : goal.returns-clause-stands
 returns-clause-stands c =
     λ pool m depth levels base p0 q frames inner s end.
     subst (λ (z : Scope). Stands pool m depth levels base p0 frames (part_view c.put_entry.new.outer) z (up_to c.args.scope.now.end q)) (sym c.in_ok-count_one.ensures.more)
-    (entry_closes (part_view c.put_entry.new.outer) s refl end c.in_ok-put_entry.ensures.put)
+    (entry_closes (part_view c.put_entry.new.outer) s refl end c.in_ok-put_entry.ensures)

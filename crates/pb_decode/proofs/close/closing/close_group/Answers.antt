@@ -9,4 +9,4 @@ pub returns-clause-stands : goal.returns-clause-stands
 returns-clause-stands c =
     λ pool m depth levels base p0 q w frames inner s end.
     subst (λ (z : Scope). Stands pool m depth levels base p0 frames (part_view c.put_group.new.outer) z w) (sym c.in_ok-count_one.ensures.more)
-    (group_closes (part_view c.put_group.new.outer) s refl end c.in_ok-put_group.ensures.put)
+    (group_closes (part_view c.put_group.new.outer) s refl end c.in_ok-put_group.ensures)

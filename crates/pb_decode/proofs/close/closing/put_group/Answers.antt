@@ -10,7 +10,7 @@ use Rattle.pb_decode.specs.declared.open.part.Slot.{Slot}
 use Rattle.pb_decode.proofs.ClosingLemmas.{group_put}
 use Rattle.pb_decode.proofs.close.closing.put_group.Goals as goal
 
-pub returns-in_ok-put_unknown-in-Unknown-clause-put : goal.returns-in_ok-put_unknown-in-Unknown-clause-put
-returns-in_ok-put_unknown-in-Unknown-clause-put c =
-    c.in_ok-put_unknown-in-Unknown.ensures.put ∙ ap (λ (z : Payload). put_record c.in-Unknown.number z (part_view c.args.outer.now)) (payload_of-Group c.args.records) ∙ sym (group_put c.in-Unknown.number (part_view c.args.outer.now) (records_of c.args.records.items))
+pub returns-in_ok-put_unknown-in-Unknown : goal.returns-in_ok-put_unknown-in-Unknown
+returns-in_ok-put_unknown-in-Unknown c =
+    c.in_ok-put_unknown-in-Unknown.ensures ∙ ap (λ (z : Payload). put_record c.in-Unknown.number z (part_view c.args.outer.now)) (payload_of-Group c.args.records) ∙ sym (group_put c.in-Unknown.number (part_view c.args.outer.now) (records_of c.args.records.items))
     ∙ ap (λ (z : Slot). put_group z (part_view c.args.outer.now) (records_of c.args.records.items)) (sym c.in-Unknown.is)

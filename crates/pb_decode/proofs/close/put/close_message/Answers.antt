@@ -10,10 +10,10 @@ pub returns-clause-stands : goal.returns-clause-stands
 returns-clause-stands c =
     λ m depth levels k base p0 q frames inner s end.
     subst (λ (z : Scope). Stands c.args.pool.now m depth levels base p0 frames (part_view c.put_message.new.outer) z (up_to c.args.scope.now.end q)) (sym c.in_ok-count_one.ensures.more)
-    (message_closes (part_view c.put_message.new.outer) s refl end c.in_ok-put_message.ensures.put)
+    (message_closes (part_view c.put_message.new.outer) s refl end c.in_ok-put_message.ensures)
 
 pub returns-clause-behind : goal.returns-clause-behind
 returns-clause-behind c =
     λ m depth levels k base p0 q w frames inner s end.
     subst (λ (z : Scope). Stands c.args.pool.now m depth levels base p0 frames (part_view c.put_message.new.outer) z w) (sym c.in_ok-count_one.ensures.more)
-    (message_group_closes (part_view c.put_message.new.outer) s refl end c.in_ok-put_message.ensures.put)
+    (message_group_closes (part_view c.put_message.new.outer) s refl end c.in_ok-put_message.ensures)

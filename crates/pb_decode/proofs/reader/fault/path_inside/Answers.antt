@@ -9,8 +9,8 @@ use Rattle.pb_decode.proofs.reader.fault.path_inside.Goals as goal
 abbrev step_of : ℕ → ℕ → PathStep
 step_of number occurrence = record { number = number; occurrence = occurrence }
 
-pub returns-clause-path : goal.returns-clause-path
-returns-clause-path c =
+pub returns : goal.returns
+returns c =
     path_begun c.args.reader.now.frames.items c.deref.result.now c.in_ok-path.path.items (next_step c.args.number (scope_view c.args.reader.now.scope) ∷ []) c.push.new.self.items
-    (record { number = c.args.number; occurrence = c.count-occurrence.result }) (next_step c.args.number (scope_view c.args.reader.now.scope)) c.in_ok-path.ensures.steps c.deref.ensures.value
+    (record { number = c.args.number; occurrence = c.count-occurrence.result }) (next_step c.args.number (scope_view c.args.reader.now.scope)) c.in_ok-path.ensures c.deref.ensures.value
     refl (ap (step_of c.args.number) c.count-occurrence.ensures) c.in_ok-push.ensures.items

@@ -26,4 +26,4 @@ returns-clause-taken c =
     (record { at = c.args.reader.now.at + c.in_ok-values.size; now = part_view c.put_elements.new.part; scope = scope_view c.args.reader.now.scope; frames = frames_view c.args.reader.now.frames.items; next = c.args.reader.now.step })
     c.in_ok-values.size c.args.bytes.now refl refl
     (subst (λ (z : Step). After c.args.pool.now m depth levels base p0 (frames_view c.args.reader.now.frames.items) z (part_view c.put_elements.new.part) (scope_view c.args.reader.now.scope) (passed (here (state_view c.args.reader.now) c.args.bytes.now) c.in_ok-values.size)) (sym c.requires.step)
-    (subst (λ (z : Part). After c.args.pool.now m depth levels base p0 (frames_view c.args.reader.now.frames.items) (Elements c.args.number c.args.kind c.args.outer) z (scope_view c.args.reader.now.scope) (passed (here (state_view c.args.reader.now) c.args.bytes.now) c.in_ok-values.size)) (sym c.in_ok-put_elements.ensures.put) back))
+    (subst (λ (z : Part). After c.args.pool.now m depth levels base p0 (frames_view c.args.reader.now.frames.items) (Elements c.args.number c.args.kind c.args.outer) z (scope_view c.args.reader.now.scope) (passed (here (state_view c.args.reader.now) c.args.bytes.now) c.in_ok-values.size)) (sym c.in_ok-put_elements.ensures) back))

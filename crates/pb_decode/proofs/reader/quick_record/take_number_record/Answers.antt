@@ -39,7 +39,7 @@ returns-in_ok-count_one-in-Whole-clause-taken c =
     (record { at = c.args.reader.now.at + (c.args.tag.size + c.in-Whole.size); now = part_view c.put_number.new.part; scope = scope_view c.count_one.new.scope; frames = frames_view c.args.reader.now.frames.items; next = c.args.reader.now.step })
     (c.args.tag.size + c.in-Whole.size) c.args.bytes.now refl c.in_ok-count_one-in-Whole.ensures.same_end c.requires.step
     (subst (λ (z : Scope). Stands c.args.pool.now m depth levels base p0 (frames_view c.args.reader.now.frames.items) (part_view c.put_number.new.part) z w) (sym c.in_ok-count_one-in-Whole.ensures.more)
-    (c.in_ok-put_number-in-Whole.ensures.stands m depth levels base p0 u w (frames_view c.args.reader.now.frames.items) (scope_view c.args.reader.now.scope) next.0 next.2
+    (c.in_ok-put_number-in-Whole.ensures m depth levels base p0 u w (frames_view c.args.reader.now.frames.items) (scope_view c.args.reader.now.scope) next.0 next.2
     (next.1 ∙ ap (λ (z : ℕ). Some (tag c.args.tag.number z c.purpose_by-purpose.result)) (sym told.0)) follows))
 
 pub overflow_add-used : goal.overflow_add-used

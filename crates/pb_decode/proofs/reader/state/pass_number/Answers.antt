@@ -9,4 +9,4 @@ pub returns-clause-stands : goal.returns-clause-stands
 returns-clause-stands c =
     λ m depth levels base p0 w rest begun is follows.
     subst (λ (z : Scope). Stands c.args.pool.now m depth levels base p0 (frames_view c.args.reader.now.frames.items) (part_view c.put_number.new.part) z w) (sym c.in_ok-count_one.ensures.more)
-    (c.in_ok-put_number.ensures.stands m depth levels base p0 (here (state_view c.args.reader.now) rest) w (frames_view c.args.reader.now.frames.items) (scope_view c.args.reader.now.scope) c.args.reader.now.step begun is follows)
+    (c.in_ok-put_number.ensures m depth levels base p0 (here (state_view c.args.reader.now) rest) w (frames_view c.args.reader.now.frames.items) (scope_view c.args.reader.now.scope) c.args.reader.now.step begun is follows)

@@ -10,5 +10,5 @@ pub returns-clause-goes_on : goal.returns-clause-goes_on
 returns-clause-goes_on c =
     λ m depth levels base p0 w rest outer begun is type follows.
     subst (λ (z : Step). After c.args.pool.now m depth levels base p0 (frames_view c.args.reader.now.frames.items) z (part_view c.put_element.new.part) (scope_view c.args.reader.now.scope) w) (sym is)
-    (c.in_ok-put_element.ensures.stands m depth levels outer base p0 (here (state_view c.args.reader.now) rest) w (frames_view c.args.reader.now.frames.items) (scope_view c.args.reader.now.scope)
+    (c.in_ok-put_element.ensures m depth levels outer base p0 (here (state_view c.args.reader.now) rest) w (frames_view c.args.reader.now.frames.items) (scope_view c.args.reader.now.scope)
     (subst (λ (z : Step). After c.args.pool.now m depth levels base p0 (frames_view c.args.reader.now.frames.items) z (part_view c.args.reader.now.part) (scope_view c.args.reader.now.scope) (here (state_view c.args.reader.now) rest)) is begun) type follows)

@@ -8,14 +8,14 @@ use Rattle.pb_decode.proofs.PieceLemmas.{none_held}
 use Rattle.pb_decode.proofs.RunLemmas.{listed_first, nothing_stored, absent, no_values, some_values}
 use Rattle.pb_decode.proofs.values.put_elements.store_all.Goals as goal
 
-pub returns-then-is_empty-clause-put : goal.returns-then-is_empty-clause-put
-returns-then-is_empty-clause-put c =
+pub returns-then-is_empty : goal.returns-then-is_empty
+returns-then-is_empty c =
     let empty = none_held (vec_len c.args.values) c.if-is_empty.ensures in
     let none : length c.args.values.items ≡ 0 = omega (arith, empty) in
     nothing_stored c.args.number _ (body_view c.args.message.now) (no_values c.args.values.items none)
 
-pub returns-in-Ok-clause-put : goal.returns-in-Ok-clause-put
-returns-in-Ok-clause-put c =
+pub returns-in-Ok : goal.returns-in-Ok
+returns-in-Ok c =
     let size : vec_len c.args.values ≡ length c.args.values.items = omega arith in
     c.in-Ok.ensures.ok
     ∙ ap (λ (h : Holding). with_fields (body_view c.args.message.now) (put_field c.args.number h (fields_of (body_view c.args.message.now)))) (content_view-List c.args.values)

@@ -5,13 +5,13 @@ use Rattle.pb_decode.proofs.NumberSteps.{read_some}
 use Rattle.pb_decode.proofs.ListSteps.{element_put, element_passed}
 use Rattle.pb_decode.proofs.values.put_number.put_element.Goals as goal
 
-pub returns-clause-stands : goal.returns-clause-stands
-returns-clause-stands c =
+pub returns : goal.returns
+returns c =
     λ m depth levels end base p0 u w frames scope begun type follows.
     let there = read_some c.args.kind c.args.value type in
     element_put c.args.number c.args.kind end c.args.value there.0 (part_view c.put_value.new.part) begun type there.1 (sym c.is_undeclared.ensures ∙ c.if-is_undeclared.false) follows (c.in_ok-put_value.ensures.put c.args.kind there.0 refl there.1)
 
-pub returns-then-is_undeclared-clause-stands : goal.returns-then-is_undeclared-clause-stands
-returns-then-is_undeclared-clause-stands c =
+pub returns-then-is_undeclared : goal.returns-then-is_undeclared
+returns-then-is_undeclared c =
     λ m depth levels end base p0 u w frames scope begun type follows.
-    element_passed c.args.number c.args.kind end c.args.value (part_view c.put_unknown_number.new.part) begun type (sym c.is_undeclared.ensures ∙ c.if-is_undeclared.true) follows c.in_ok-put_unknown_number.ensures.put
+    element_passed c.args.number c.args.kind end c.args.value (part_view c.put_unknown_number.new.part) begun type (sym c.is_undeclared.ensures ∙ c.if-is_undeclared.true) follows c.in_ok-put_unknown_number.ensures

@@ -6,8 +6,8 @@ use Rattle.pb_decode.proofs.UnknownSteps.{unknown_put}
 use Rattle.pb_decode.proofs.UndeclaredSteps.{undeclared_put}
 use Rattle.pb_decode.proofs.values.put_number.put_number.Goals as goal
 
-pub returns-in_ok-put_value-in-Some-clause-stands : goal.returns-in_ok-put_value-in-Some-clause-stands
-returns-in_ok-put_value-in-Some-clause-stands c =
+pub returns-in_ok-put_value-in-Some : goal.returns-in_ok-put_value-in-Some
+returns-in_ok-put_value-in-Some c =
     λ m depth levels base p0 u w frames scope next begun is follows.
     let kind = c.in-Some.kind in
     let of = sym c.scalar_kind.ensures ∙ c.in-Some.is in
@@ -15,13 +15,13 @@ returns-in_ok-put_value-in-Some-clause-stands c =
     number_put c.args.number c.args.value c.args.purpose kind begun is of there.0 (part_view c.put_value.new.part) c.requires.rules c.requires.can there.1 (sym c.is_undeclared.ensures ∙ c.if-is_undeclared.false) follows
     (c.in_ok-put_value-in-Some.ensures.put kind there.0 of there.1)
 
-pub returns-then-is_undeclared-clause-stands : goal.returns-then-is_undeclared-clause-stands
-returns-then-is_undeclared-clause-stands c =
+pub returns-then-is_undeclared : goal.returns-then-is_undeclared
+returns-then-is_undeclared c =
     λ m depth levels base p0 u w frames scope next begun is follows.
     undeclared_put c.args.number c.args.value c.args.purpose c.in-Some.kind (part_view c.put_unknown_number.new.part) begun is (sym c.scalar_kind.ensures ∙ c.in-Some.is) c.requires.rules c.requires.can
-    (sym c.is_undeclared.ensures ∙ c.if-is_undeclared.true) follows c.in_ok-put_unknown_number-in-Some.ensures.put
+    (sym c.is_undeclared.ensures ∙ c.if-is_undeclared.true) follows c.in_ok-put_unknown_number-in-Some.ensures
 
-pub returns-in_ok-put_unknown_number-in-None-clause-stands : goal.returns-in_ok-put_unknown_number-in-None-clause-stands
-returns-in_ok-put_unknown_number-in-None-clause-stands c =
+pub returns-in_ok-put_unknown_number-in-None : goal.returns-in_ok-put_unknown_number-in-None
+returns-in_ok-put_unknown_number-in-None c =
     λ m depth levels base p0 u w frames scope next begun is follows.
-    unknown_put c.args.number c.args.value c.args.purpose (part_view c.put_unknown_number-in-None.new.part) begun is (sym c.scalar_kind.ensures ∙ c.in-None.is) c.requires.rules c.requires.can follows c.in_ok-put_unknown_number-in-None.ensures.put
+    unknown_put c.args.number c.args.value c.args.purpose (part_view c.put_unknown_number-in-None.new.part) begun is (sym c.scalar_kind.ensures ∙ c.in-None.is) c.requires.rules c.requires.can follows c.in_ok-put_unknown_number-in-None.ensures

@@ -38,4 +38,4 @@ pub returns-in_ok-put_unknown-in-None-clause-stands : goal.returns-in_ok-put_unk
 returns-in_ok-put_unknown-in-None-clause-stands c =
     λ m depth levels n base p0 u w frames scope begun size moves.
     unknown_payload_put c.args.number c.args.purpose n begun c.requires.can c.args.bytes.items (part_view c.put_unknown.new.part) c.requires.bytes (sym c.scalar_kind.ensures ∙ c.in-None.is) c.requires.rules size moves
-    (c.in_ok-put_unknown-in-None.ensures.put ∙ ap (λ (z : Payload). put_record c.args.number z (part_view c.args.part.now)) (payload_of-Len c.args.bytes))
+    (c.in_ok-put_unknown-in-None.ensures ∙ ap (λ (z : Payload). put_record c.args.number z (part_view c.args.part.now)) (payload_of-Len c.args.bytes))

@@ -37,4 +37,4 @@ pub returns-in_ok-put_unknown-in-None-clause-stands : goal.returns-in_ok-put_unk
 returns-in_ok-put_unknown-in-None-clause-stands c =
     λ m depth levels n base p0 u w frames scope begun size moves.
     unknown_payload_put c.args.number c.args.purpose n begun c.requires.can c.args.bytes.now (part_view c.put_unknown.new.part) c.requires.bytes (sym c.scalar_kind.ensures ∙ c.in-None.is) c.requires.rules size moves
-    (c.in_ok-put_unknown-in-None.ensures.put ∙ ap (λ (z : Payload). put_record c.args.number z (part_view c.args.part.now)) c.in_ok-unknown-in-None.ensures)
+    (c.in_ok-put_unknown-in-None.ensures ∙ ap (λ (z : Payload). put_record c.args.number z (part_view c.args.part.now)) c.in_ok-unknown-in-None.ensures)

@@ -8,7 +8,7 @@ use Rattle.pb_wire.specs.Fault.{fault}
 use Rattle.pb_wire.specs.declared.fault.Cause.TheVariants.{PastEnd}
 use Rattle.pb_decode.proofs.ReaderLemmas.{fault_told}
 use Rattle.pb_decode.proofs.EndedLemmas.{group_at_end}
-use Rattle.pb_decode.proofs.close.take_ended.close_ended.Goals as goal
+use Rattle.pb_decode.proofs.close.take_ended.close_all_ended.Goals as goal
 
 pub close_innermost-requires-clause-reading : goal.close_innermost-requires-clause-reading
 close_innermost-requires-clause-reading c =

@@ -3,7 +3,7 @@ use Rattle.pb_wire.specs.Record.{Record}
 use Rattle.pb_wire.specs.Fault.{Place}
 use Rattle.pb_decode.specs.declared.tokens.step.Step.TheVariants.{Tag}
 use Rattle.pb_decode.specs.Reader.{state_view, Reads}
-use Rattle.pb_decode.proofs.close.take_ended.close_ended.Given as goal
+use Rattle.pb_decode.proofs.close.take_ended.close_all_ended.Given as goal
 
 abbrev pub invariant-loop-alloc : goal.invariant-loop-alloc
 invariant-loop-alloc l = record {
