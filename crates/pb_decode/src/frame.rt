@@ -97,20 +97,21 @@ fn read_frame_at<'p, I: Input>(
 pub fn decode_frame<'p, I: Input>(
     alloc: Global,
     pool: &'p Pool,
-    kind: MessageId,
+    message_type: MessageId,
     input: &mut I,
     start: u64,
     size: u32,
     limits: Limits,
 ) -> Result<DynamicMessage<'p>, DecodeError>
-    requires within { kind.0 < length pool.now.messages }
+    requires within { message_type.0 < length pool.now.messages }
     requires start { start ≤ 10 }
     requires size { size ≤ limits.bytes }
-    ensures of_type { IfOk result (λ m. (m.pool ≡ pool.now) × (m.kind ≡ kind.0)) }
-    ensures value { IfSome (I.left input.old) (λ left. IfOk result (λ m. IsFrameOf pool.now kind.0 limits size left m.body)) }
-    ensures fault { IfErr result (λ e. IfRefused e (λ f. IfSome (I.left input.old) (λ left. BadFrame pool.now kind.0 limits.depth start size left f))) }
-    ensures accepted { IfSome (I.left input.old) (λ left. (v : Message) → IsFrameOf pool.now kind.0 limits size left v → GivesOrFails result v) }
-    ensures refused { IfSome (I.left input.old) (λ left. (f : Fault) → BadFrame pool.now kind.0 limits.depth start size left f → TellsOrFails result f) }
+    ensures of_type { IfOk result (λ m. (m.pool ≡ pool.now) × (m.kind ≡ message_type.0)) }
+    ensures value { IfSome (I.left input.old) (λ left. IfOk result (λ m. IsFrameOf pool.now message_type.0 limits size left m.body)) }
+    ensures fault { IfErr result (λ e. IfRefused e (λ f. IfSome (I.left input.old) (λ left. BadFrame pool.now message_type.0 limits.depth start size left f))) }
+    ensures accepted { IfSome (I.left input.old) (λ left. (v : Message) → IsFrameOf pool.now message_type.0 limits size left v → GivesOrFails result v) }
+    ensures refused { IfSome (I.left input.old) (λ left. (f : Fault)
+        → BadFrame pool.now message_type.0 limits.depth start size left f → TellsOrFails result f) }
     // what it leaves of the input
     ensures rest { OnOk result (IfSome (I.left input.old) (λ left. I.left input.new ≡ Some (drop size left))) }
     ensures most { TakesAtMost size (I.left input.old) (I.left input.new) }
@@ -119,5 +120,5 @@ pub fn decode_frame<'p, I: Input>(
     ensures steady { I.is_steady input.old ≡ true → result ≢ Err Device }
     ensures stays { I.is_steady input.old ≡ true → I.is_steady input.new ≡ true }
 {
-    read_frame_at(alloc, pool, kind, input, start, size, limits)
+    read_frame_at(alloc, pool, message_type, input, start, size, limits)
 }

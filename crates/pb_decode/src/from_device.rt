@@ -173,16 +173,16 @@ fn read_message<'p, I: Input>(
 pub fn decode_from<'p, I: Input>(
     alloc: Global,
     pool: &'p Pool,
-    kind: MessageId,
+    message_type: MessageId,
     input: &mut I,
     limits: Limits,
 ) -> Result<DynamicMessage<'p>, DecodeError>
-    requires { kind.0 < length pool.now.messages }
-    ensures of_type { IfOk result (λ m. (m.pool ≡ pool.now) × (m.kind ≡ kind.0)) }
-    ensures value { IfSome (I.left input.old) (λ left. IfOk result (λ m. Text pool.now kind.0 limits left m.body)) }
-    ensures fault { IfErr result (λ e. IfRefused e (λ f. IfSome (I.left input.old) (λ left. IsFaultOf pool.now kind.0 limits left f))) }
-    ensures accepted { IfSome (I.left input.old) (λ left. (v : Message) → Text pool.now kind.0 limits left v → GivesOrFails result v) }
-    ensures refused { IfSome (I.left input.old) (λ left. (f : Fault) → IsFaultOf pool.now kind.0 limits left f → TellsOrFails result f) }
+    requires { message_type.0 < length pool.now.messages }
+    ensures of_type { IfOk result (λ m. (m.pool ≡ pool.now) × (m.kind ≡ message_type.0)) }
+    ensures value { IfSome (I.left input.old) (λ left. IfOk result (λ m. Text pool.now message_type.0 limits left m.body)) }
+    ensures fault { IfErr result (λ e. IfRefused e (λ f. IfSome (I.left input.old) (λ left. IsFaultOf pool.now message_type.0 limits left f))) }
+    ensures accepted { IfSome (I.left input.old) (λ left. (v : Message) → Text pool.now message_type.0 limits left v → GivesOrFails result v) }
+    ensures refused { IfSome (I.left input.old) (λ left. (f : Fault) → IsFaultOf pool.now message_type.0 limits left f → TellsOrFails result f) }
     // what it leaves of the input
     ensures rest { OnOk result (IfSome (I.left input.old) (λ left. I.left input.new ≡ Some [])) }
     ensures most { TakesAtMost (limits.bytes + 1) (I.left input.old) (I.left input.new) }
@@ -191,5 +191,5 @@ pub fn decode_from<'p, I: Input>(
     ensures steady { I.is_steady input.old ≡ true → result ≢ Err Device }
     ensures stays { I.is_steady input.old ≡ true → I.is_steady input.new ≡ true }
 {
-    read_message(alloc, pool, kind, input, limits)
+    read_message(alloc, pool, message_type, input, limits)
 }

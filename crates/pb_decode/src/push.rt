@@ -240,18 +240,18 @@ pub(crate) fn end<'p>(
 pub fn decode<'p>(
     alloc: Global,
     pool: &'p Pool,
-    kind: MessageId,
+    message_type: MessageId,
     bytes: &[u8],
     limits: Limits,
 ) -> Result<DynamicMessage<'p>, DecodeError>
-    requires { kind.0 < length pool.now.messages }
-    ensures of_type { IfOk result (λ m. (m.pool ≡ pool.now) × (m.kind ≡ kind.0)) }
-    ensures value { IfOk result (λ m. Text pool.now kind.0 limits bytes.now m.body) }
-    ensures fault { IfErr result (λ e. IfFault e (IsFaultOf pool.now kind.0 limits bytes.now)) }
-    ensures accepted { (v : Message) → Text pool.now kind.0 limits bytes.now v → Gives result v }
-    ensures refused { (f : Fault) → IsFaultOf pool.now kind.0 limits bytes.now f → Tells result f }
-    ensures one { Exactly ((v : Message) × Text pool.now kind.0 limits bytes.now v) (IsFaultOf pool.now kind.0 limits bytes.now) }
+    requires { message_type.0 < length pool.now.messages }
+    ensures of_type { IfOk result (λ m. (m.pool ≡ pool.now) × (m.kind ≡ message_type.0)) }
+    ensures value { IfOk result (λ m. Text pool.now message_type.0 limits bytes.now m.body) }
+    ensures fault { IfErr result (λ e. IfFault e (IsFaultOf pool.now message_type.0 limits bytes.now)) }
+    ensures accepted { (v : Message) → Text pool.now message_type.0 limits bytes.now v → Gives result v }
+    ensures refused { (f : Fault) → IsFaultOf pool.now message_type.0 limits bytes.now f → Tells result f }
+    ensures one { Exactly ((v : Message) × Text pool.now message_type.0 limits bytes.now v) (IsFaultOf pool.now message_type.0 limits bytes.now) }
 {
     let _types = pool.messages();
-    read_onto(alloc, pool, kind, empty_body(alloc), bytes, limits)
+    read_onto(alloc, pool, message_type, empty_body(alloc), bytes, limits)
 }

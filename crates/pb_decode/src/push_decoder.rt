@@ -60,20 +60,20 @@ impl<'p> PushDecoder<'p> {
     pub fn new(
         alloc: Global,
         pool: &'p Pool,
-        kind: MessageId,
+        message_type: MessageId,
         limits: Limits,
     ) -> Result<PushDecoder<'p>, DecodeError>
-        requires { kind.0 < length pool.now.messages }
-        ensures of_type { IfOk result (λ d. (d.pool ≡ pool.now) × (d.kind ≡ kind.0) × (d.limits ≡ limits)) }
+        requires { message_type.0 < length pool.now.messages }
+        ensures of_type { IfOk result (λ d. (d.pool ≡ pool.now) × (d.kind ≡ message_type.0) × (d.limits ≡ limits)) }
         ensures after { IfOk result (λ d. After d []) }
         ensures memory { IfErr result (λ e. e ≡ Memory) }
     {
         let _types = pool.messages();
-        let reading = start(alloc, pool, kind, limits);
+        let reading = start(alloc, pool, message_type, limits);
         Ok(PushDecoder {
             alloc,
             pool,
-            kind,
+            kind: message_type,
             limits,
             reading: Some(reading),
         })

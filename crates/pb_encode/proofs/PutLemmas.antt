@@ -2,6 +2,7 @@
 use Rattle.std.proofs.Common.{◌≡◌, ℕ, ◌+◌, ◌<◌, List, [], ◌++◌, length, drop, get_or, refl, ap, sym, ◌∙◌, subst, append_assoc, append-nil, Option}
 use Rattle.std.specs.Prelude.{true}
 use Rattle.std.proofs.lemmas.List.{drop_more}
+use Rattle.pb_wire.specs.Varint.{shortest}
 use Rattle.pb_wire.specs.Spell.{shortest_record, shortest_records}
 use Rattle.pb_wire.specs.declared.unknown.Unknown.{Unknown}
 use Rattle.pb_wire.specs.Unknown.{payload_of, records_of}
@@ -27,6 +28,11 @@ packed_more k (scalar x) ds = ap (λ (l : List ℕ). l ++ packed_bytes k ds) (sy
 packed_more k (message m) ds = refl
 
 module _ {D : Type 0} {written : D → Option (List ℕ)} {failures : D → ℕ} where
+  -- bytes behind a number that is told in two ways
+  pub puts_behind_number :
+      {d0 d1 : D} {a b : Sink} (m n : ℕ) (rest : List ℕ) → m ≡ n → Puts written failures d0 d1 a b (shortest m ++ rest) → Puts written failures d0 d1 a b (shortest n ++ rest)
+  puts_behind_number {d0} {d1} {a} {b} m n rest e h = subst (λ (i : ℕ). Puts written failures d0 d1 a b (shortest i ++ rest)) e h
+
   pub to_put_start : {d : D} {a : Sink} (all : List ℕ) → ToPut written failures d d a a all all
   to_put_start all = record { done = []; whole = refl; puts = puts_none }
 

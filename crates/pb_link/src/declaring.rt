@@ -6,7 +6,7 @@ mod nesting;
 pub(crate) mod order;
 pub(crate) mod text;
 
-ghost use Rattle.std.specs.Prelude.{◌≡◌, ◌<◌, ◌^◌, [], pos, length, map, drop, string_bytes, Some, slice_get, IfOk, IfErr, OnOk};
+ghost use Rattle.std.specs.Prelude.{◌≡◌, ◌<◌, ◌^◌, [], pos, length, map, string_bytes, Some, slice_get, IfOk, IfErr, OnOk};
 ghost use Rattle.std.specs.List.{enumerate_from};
 ghost use Rattle.pb_wire.specs.Limits.{full};
 ghost use Rattle.pb_schema.specs.Types.{FileView};
@@ -20,7 +20,7 @@ ghost use Rattle.pb_descr.specs.Writing.{set_body};
 ghost use Rattle.pb_rules.specs.declared.error.LinkError.TheVariants.{Memory};
 ghost use Rattle.pb_link.specs.Linking.{Links};
 ghost use Rattle.pb_link.specs.ToDecls.{numbered, declared_file, decls_of};
-ghost use Rattle.pb_link.specs.Nested.{inside_view, inside_file, AreInside};
+ghost use Rattle.pb_link.specs.Nested.{inside_view, inside_file};
 
 use crate::declaring::nesting::{Inside, nested};
 use pb_decl::FileDecl;

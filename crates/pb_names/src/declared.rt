@@ -1,6 +1,6 @@
 //! All declarations of some files in one row, in declaration order.
 
-ghost use Rattle.std.specs.Prelude.{◌≡◌, ◌+◌, [], ◌∷◌, length, map, IfOk, OnOk, string_bytes, vec_len};
+ghost use Rattle.std.specs.Prelude.{◌≡◌, [], ◌∷◌, length, map, IfOk, OnOk, string_bytes};
 ghost use Rattle.std.specs.List.{enumerate_from};
 ghost use Rattle.pb_schema.specs.Names.{in_scope};
 ghost use Rattle.pb_decl.specs.Decls.{messages_of};
@@ -8,7 +8,7 @@ ghost use Rattle.pb_decl.specs.View.{field_view, message_view, numbered_view, en
 ghost use Rattle.pb_names.specs.Declarations.{a_field, a_oneof, a_value, fields_of, oneofs_of};
 ghost use Rattle.pb_names.specs.Declarations.{values_of, enum_declared, enums_declared, head_row, message_declared};
 ghost use Rattle.pb_names.specs.Declarations.{messages_declared, methods_of, service_declared, services_declared, file_declared};
-ghost use Rattle.pb_names.specs.Declarations.{files_declared, declarations, head_of, simple_name};
+ghost use Rattle.pb_names.specs.Declarations.{declarations, head_of, simple_name};
 ghost use Rattle.pb_names.specs.ItemView.{item_view};
 ghost use Rattle.pb_names.specs.Marks.{marks_of};
 ghost use Rattle.pb_names.specs.View.{declaration_view, Adds};

@@ -4,7 +4,7 @@ pub mod oneofs;
 mod ranges;
 pub(crate) mod reserved;
 
-ghost use Rattle.std.specs.Prelude.{◌≡◌, ◌<◌, [], ◌+◌, List, map, take, length, true, not, ◌||◌, if◌then◌else◌, ℤ, IfOk, OnOk, string_bytes, ℕ};
+ghost use Rattle.std.specs.Prelude.{◌≡◌, ◌<◌, List, take, length, true, not, ◌||◌, if◌then◌else◌, ℤ, IfOk, OnOk, ℕ};
 ghost use Rattle.std.specs.List.{list_any, enumerate_from};
 ghost use Rattle.std.specs.Ordering.{int_eq, int_cmp};
 ghost use Rattle.std.specs.BTreeSet.{contains};

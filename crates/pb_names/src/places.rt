@@ -1,6 +1,6 @@
 //! The declarations of each full name.
 
-ghost use Rattle.std.specs.Prelude.{◌≡◌, ◌<◌, map, length, position, vec_len, IfOk, OnOk};
+ghost use Rattle.std.specs.Prelude.{◌≡◌, ◌<◌, map, position, vec_len, IfOk, OnOk};
 ghost use Rattle.pb_names.specs.ItemView.{item_view};
 ghost use Rattle.pb_names.specs.View.{declaration_view};
 ghost use Rattle.pb_names.specs.Places.{ArePlaces, PutsPlace, is_wanted, sees_if, counts, is_sought};

@@ -1,6 +1,6 @@
 //! Looking up type names.
 
-ghost use Rattle.std.specs.Prelude.{◌≡◌, ℕ, List, false, IfOk, map, option_map, find};
+ghost use Rattle.std.specs.Prelude.{◌≡◌, List, false, IfOk, map, option_map, find};
 ghost use Rattle.std.specs.List.{list_any};
 ghost use Rattle.pb_schema.specs.Names.{in_scope};
 ghost use Rattle.pb_names.specs.View.{declaration_view, found_view};

@@ -1,6 +1,6 @@
 //! The least rule that fails at a declaration.
 
-ghost use Rattle.std.specs.Prelude.{◌≡◌, ◌∷◌, ◌&&◌, [], ◌<◌, ℕ, map, length, not};
+ghost use Rattle.std.specs.Prelude.{◌≡◌, ◌&&◌, ◌<◌, ℕ, map, not};
 ghost use Rattle.pb_decl.specs.View.{field_view, file_view, message_view};
 ghost use Rattle.pb_names.specs.Declarations.{head_of};
 ghost use Rattle.pb_names.specs.ItemView.{item_view};

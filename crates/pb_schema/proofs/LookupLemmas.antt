@@ -1,12 +1,11 @@
 -- What look-ups stand on.
-use Rattle.std.proofs.Common.{◌≡◌, ◌≢◌, ℕ, zero, suc, ◌+◌, ◌<◌, ◌≤◌, get_or, MatchOption, List, [], ◌∷◌, Bool, true, false, cond, map, length, refl, sym, ◌∙◌, ap, subst, arith, nat_lt, eqb, Option, Some, None, option_map, IfSome, find, position, Vec, Global, Bor}
+use Rattle.std.proofs.Common.{◌≡◌, ◌≢◌, ℕ, zero, suc, ◌<◌, ◌≤◌, get_or, MatchOption, List, [], ◌∷◌, Bool, true, false, cond, map, length, refl, sym, ◌∙◌, ap, subst, arith, nat_lt, eqb, Option, Some, None, option_map, IfSome, find, position, Bor}
 use Rattle.std.specs.Prelude.{slice_get}
-use Rattle.std.specs.List.{AllByRecursion, flat_map, prefix_len, position_or_len, HoldsAt}
+use Rattle.std.specs.List.{AllByRecursion, flat_map, position_or_len, HoldsAt}
 use Rattle.std.specs.Str.{bytes_eq}
 use Rattle.std.proofs.lemmas.Bool.Decides.{Decides-eqb}
 use Rattle.std.proofs.lemmas.Slice.Eq.{bytes_eq-Decides}
 use Rattle.std.proofs.lemmas.List.Folds.{find_at}
-use Rattle.std.proofs.lemmas.List.{length-map}
 use Rattle.pb_schema.specs.declared.types.Field.{Field}
 use Rattle.pb_schema.specs.View.{field_view}
 use Rattle.pb_schema.specs.Types.{FieldView, MessageView, EnumView, Types, message_fields, fields_of_message, field_numbered}

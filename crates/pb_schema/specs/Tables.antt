@@ -7,7 +7,7 @@ pub use Rattle.pb_schema.specs.Tables.Numbers.{IsNumbered, IsNumberTable}
 pub use Rattle.pb_schema.specs.Tables.Members.{IsMemberTable}
 pub use Rattle.pb_schema.specs.Tables.Names.{IsNameTable, place_of, field_named}
 pub use Rattle.pb_schema.specs.Tables.Values.{AreNumbersOf, AreMarksOf, IsValueTable}
-use Rattle.std.specs.Prelude.{◌≡◌, ℕ, ℤ, length, List, [], ◌∷◌, Option, Vec}
+use Rattle.std.specs.Prelude.{◌≡◌, ℕ, length, List, [], ◌∷◌, Option, Vec}
 use Rattle.std.specs.declared.alloc.Global.{Global}
 use Rattle.pb_sets.specs.declared.name_set.NameSet.{NameSet}
 use Rattle.pb_sets.specs.NameSets.{names_in}

@@ -1,6 +1,6 @@
 //! Sets of names.
 
-ghost use Rattle.std.specs.Prelude.{◌≡◌, [], map, not, position, option_map, slice_get, IfOk, OnOk};
+ghost use Rattle.std.specs.Prelude.{◌≡◌, [], not, position, option_map, slice_get, IfOk, OnOk};
 ghost use Rattle.std.specs.List.{list_any};
 ghost use Rattle.std.specs.Str.{bytes_eq};
 ghost use Rattle.pb_sets.specs.NameSets.{names_in, with_name};

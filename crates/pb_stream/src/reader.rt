@@ -43,17 +43,17 @@ impl<'p, I: Input + Drop> DelimitedReader<'p, I> {
     pub fn new(
         alloc: Global,
         pool: &'p Pool,
-        kind: MessageId,
+        message_type: MessageId,
         input: I,
         limits: Limits,
     ) -> DelimitedReader<'p, I>
-        requires { kind.0 < length pool.now.messages }
-        ensures { result ≡ record { pool = pool.now; kind = kind.0; limits = limits; input = input; taken = 0; finished = false } }
+        requires { message_type.0 < length pool.now.messages }
+        ensures { result ≡ record { pool = pool.now; kind = message_type.0; limits = limits; input = input; taken = 0; finished = false } }
     {
         DelimitedReader {
             alloc,
             pool,
-            kind,
+            kind: message_type,
             limits,
             input,
             taken: 0,

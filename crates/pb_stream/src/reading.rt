@@ -25,16 +25,16 @@ pub(crate) struct Framed<'p> {
 fn take_frame<'p, I: Input>(
     alloc: Global,
     pool: &'p Pool,
-    kind: MessageId,
+    message_type: MessageId,
     input: &mut I,
     limits: Limits,
 ) -> Result<Option<Framed<'p>>, DecodeError>
-    requires { kind.0 < length pool.now.messages }
-    ensures of_type { IfOk result (λ o. IfSome o (λ r. (r.message.pool ≡ pool.now) × (r.message.kind ≡ kind.0))) }
+    requires { message_type.0 < length pool.now.messages }
+    ensures of_type { IfOk result (λ o. IfSome o (λ r. (r.message.pool ≡ pool.now) × (r.message.kind ≡ message_type.0))) }
     ensures end { IfOk result (λ o. IfNone o (TakesNone (I.left input.old) (I.left input.new))) }
-    ensures message { AnswersFrame (λ r. r.message.body) pool.now kind.0 limits (I.left input.old) (I.left input.new) result }
+    ensures message { AnswersFrame (λ r. r.message.body) pool.now message_type.0 limits (I.left input.old) (I.left input.new) result }
     ensures counted { IfOk result (λ o. IfSome o (λ r. Takes r.size (I.left input.old) (I.left input.new))) }
-    ensures fault { TellsFrameFault pool.now kind.0 limits (I.left input.old) result }
+    ensures fault { TellsFrameFault pool.now message_type.0 limits (I.left input.old) result }
     ensures within { StaysInFrame limits (I.left input.old) (I.left input.new) }
     ensures failures { TellsFailures result (I.failures input.old) (I.failures input.new) }
     ensures none_left { I.left input.old ≡ Some [] → result ≢ Err Memory }
@@ -45,7 +45,7 @@ fn take_frame<'p, I: Input>(
         return Ok(None);
     };
     let start = header.start as u64;
-    let message = decode_frame(alloc, pool, kind, input, start, header.size, limits)?;
+    let message = decode_frame(alloc, pool, message_type, input, start, header.size, limits)?;
     Ok(Some(Framed {
         message,
         size: start + u64::from(header.size),
@@ -56,27 +56,27 @@ fn take_frame<'p, I: Input>(
 pub(crate) fn read_frame<'p, I: Input>(
     alloc: Global,
     pool: &'p Pool,
-    kind: MessageId,
+    message_type: MessageId,
     input: &mut I,
     limits: Limits,
 ) -> Result<Option<Framed<'p>>, DecodeError>
-    requires { kind.0 < length pool.now.messages }
-    ensures of_type { IfOk result (λ o. IfSome o (λ r. (r.message.pool ≡ pool.now) × (r.message.kind ≡ kind.0))) }
+    requires { message_type.0 < length pool.now.messages }
+    ensures of_type { IfOk result (λ o. IfSome o (λ r. (r.message.pool ≡ pool.now) × (r.message.kind ≡ message_type.0))) }
     ensures end { IfOk result (λ o. IfNone o (TakesNone (I.left input.old) (I.left input.new))) }
-    ensures message { AnswersFrame (λ r. r.message.body) pool.now kind.0 limits (I.left input.old) (I.left input.new) result }
+    ensures message { AnswersFrame (λ r. r.message.body) pool.now message_type.0 limits (I.left input.old) (I.left input.new) result }
     ensures counted { IfOk result (λ o. IfSome o (λ r. Takes r.size (I.left input.old) (I.left input.new))) }
-    ensures fault { TellsFrameFault pool.now kind.0 limits (I.left input.old) result }
+    ensures fault { TellsFrameFault pool.now message_type.0 limits (I.left input.old) result }
 
     ensures ended { I.left input.old ≡ Some [] → MatchResult result (λ o. o ≡ None) (λ e. e ≡ Device) }
-    ensures accepted { AcceptsFrame (λ r. r.message.body) pool.now kind.0 limits (I.left input.old) result }
-    ensures refused { RefusesFrameFault pool.now kind.0 limits (I.left input.old) result }
+    ensures accepted { AcceptsFrame (λ r. r.message.body) pool.now message_type.0 limits (I.left input.old) result }
+    ensures refused { RefusesFrameFault pool.now message_type.0 limits (I.left input.old) result }
 
     ensures within { StaysInFrame limits (I.left input.old) (I.left input.new) }
     ensures failures { TellsFailures result (I.failures input.old) (I.failures input.new) }
     ensures steady { I.is_steady input.old ≡ true → result ≢ Err Device }
     ensures stays { I.is_steady input.old ≡ true → I.is_steady input.new ≡ true }
 {
-    take_frame(alloc, pool, kind, input, limits)
+    take_frame(alloc, pool, message_type, input, limits)
 }
 
 /// Reads a message of a type behind its length, or nothing where nothing is left.
@@ -87,27 +87,27 @@ pub(crate) fn read_frame<'p, I: Input>(
 pub fn read_delimited<'p, I: Input>(
     alloc: Global,
     pool: &'p Pool,
-    kind: MessageId,
+    message_type: MessageId,
     input: &mut I,
     limits: Limits,
 ) -> Result<Option<DynamicMessage<'p>>, DecodeError>
-    requires { kind.0 < length pool.now.messages }
-    ensures of_type { IfOk result (λ o. IfSome o (λ m. (m.pool ≡ pool.now) × (m.kind ≡ kind.0))) }
+    requires { message_type.0 < length pool.now.messages }
+    ensures of_type { IfOk result (λ o. IfSome o (λ m. (m.pool ≡ pool.now) × (m.kind ≡ message_type.0))) }
     ensures end { IfOk result (λ o. IfNone o (TakesNone (I.left input.old) (I.left input.new))) }
-    ensures message { AnswersFrame (λ m. m.body) pool.now kind.0 limits (I.left input.old) (I.left input.new) result }
-    ensures fault { TellsFrameFault pool.now kind.0 limits (I.left input.old) result }
+    ensures message { AnswersFrame (λ m. m.body) pool.now message_type.0 limits (I.left input.old) (I.left input.new) result }
+    ensures fault { TellsFrameFault pool.now message_type.0 limits (I.left input.old) result }
 
     // Whatever is right is answered, but where memory or the input fails.
     ensures ended { I.left input.old ≡ Some [] → MatchResult result (λ o. o ≡ None) (λ e. e ≡ Device) }
-    ensures accepted { AcceptsFrame (λ m. m.body) pool.now kind.0 limits (I.left input.old) result }
-    ensures refused { RefusesFrameFault pool.now kind.0 limits (I.left input.old) result }
+    ensures accepted { AcceptsFrame (λ m. m.body) pool.now message_type.0 limits (I.left input.old) result }
+    ensures refused { RefusesFrameFault pool.now message_type.0 limits (I.left input.old) result }
 
     ensures within { StaysInFrame limits (I.left input.old) (I.left input.new) }
     ensures failures { TellsFailures result (I.failures input.old) (I.failures input.new) }
     ensures steady { I.is_steady input.old ≡ true → result ≢ Err Device }
     ensures stays { I.is_steady input.old ≡ true → I.is_steady input.new ≡ true }
 {
-    match read_frame(alloc, pool, kind, input, limits)? {
+    match read_frame(alloc, pool, message_type, input, limits)? {
         None => Ok(None),
         Some(framed) => Ok(Some(framed.message)),
     }

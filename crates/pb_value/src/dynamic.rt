@@ -63,14 +63,14 @@ impl<'p> DynamicMessage<'p> {
     ghost use Rattle.pb_value.specs.WellFormed.{IsWellFormed};
 
     /// The empty message of a type.
-    pub fn new(alloc: Global, pool: &'p Pool, kind: MessageId) -> DynamicMessage<'p>
-        requires { kind.0 < length pool.now.messages }
-        ensures { result ≡ record { pool = pool.now; kind = kind.0; body = empty } }
+    pub fn new(alloc: Global, pool: &'p Pool, message_type: MessageId) -> DynamicMessage<'p>
+        requires { message_type.0 < length pool.now.messages }
+        ensures { result ≡ record { pool = pool.now; kind = message_type.0; body = empty } }
     {
         DynamicMessage {
             alloc,
             pool,
-            kind,
+            kind: message_type,
             body: empty_body(alloc),
         }
     }
@@ -82,20 +82,20 @@ impl<'p> DynamicMessage<'p> {
     pub fn from_body(
         alloc: Global,
         pool: &'p Pool,
-        kind: MessageId,
+        message_type: MessageId,
         body: Body,
     ) -> Result<DynamicMessage<'p>, ValueError>
-        requires { kind.0 < length pool.now.messages }
-        ensures made { IfOk result (λ m. m ≡ record { pool = pool.now; kind = kind.0; body = body_view body }) }
-        ensures well_formed { IfOk result (λ m. IsWellFormed pool.now kind.0 (body_view body)) }
-        ensures refused { IfErr result (FailsWith (message_cause pool.now kind.0 (body_view body))) }
-        ensures accepts { IsWellFormed pool.now kind.0 (body_view body) → IfErr result (λ e. e ≡ Memory) }
+        requires { message_type.0 < length pool.now.messages }
+        ensures made { IfOk result (λ m. m ≡ record { pool = pool.now; kind = message_type.0; body = body_view body }) }
+        ensures well_formed { IfOk result (λ m. IsWellFormed pool.now message_type.0 (body_view body)) }
+        ensures refused { IfErr result (FailsWith (message_cause pool.now message_type.0 (body_view body))) }
+        ensures accepts { IsWellFormed pool.now message_type.0 (body_view body) → IfErr result (λ e. e ≡ Memory) }
     {
-        check_message(alloc, pool, kind, &body)?;
+        check_message(alloc, pool, message_type, &body)?;
         Ok(DynamicMessage {
             alloc,
             pool,
-            kind,
+            kind: message_type,
             body,
         })
     }
@@ -246,17 +246,17 @@ impl<'p> DynamicMessage<'p> {
     pub fn from_well_formed(
         alloc: Global,
         pool: &'p Pool,
-        kind: MessageId,
+        message_type: MessageId,
         body: Body,
     ) -> DynamicMessage<'p>
-        requires within { kind.0 < length pool.now.messages }
-        requires well_formed { IsWellFormed pool.now kind.0 (body_view body) }
-        ensures { result ≡ record { pool = pool.now; kind = kind.0; body = body_view body } }
+        requires within { message_type.0 < length pool.now.messages }
+        requires well_formed { IsWellFormed pool.now message_type.0 (body_view body) }
+        ensures { result ≡ record { pool = pool.now; kind = message_type.0; body = body_view body } }
     {
         DynamicMessage {
             alloc,
             pool,
-            kind,
+            kind: message_type,
             body,
         }
     }

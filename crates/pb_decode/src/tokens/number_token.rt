@@ -1,6 +1,6 @@
 //! Numbers at the front of bytes that others may follow, up to a known end.
 
-ghost use Rattle.std.specs.Prelude.{◌≡◌, ◌⊎◌, ◌<◌, ◌^◌, ℕ};
+ghost use Rattle.std.specs.Prelude.{◌≡◌, ◌<◌, ◌^◌, ℕ};
 ghost use Rattle.pb_wire.specs.Token.{given_at};
 ghost use Rattle.pb_decode.specs.Tokens.Numbers.{TellsNumber};
 ghost use Rattle.pb_decode.specs.declared.tokens.number.Number.TheVariants.{I64};

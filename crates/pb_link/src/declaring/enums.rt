@@ -1,6 +1,6 @@
 //! The declarations of enums.
 
-ghost use Rattle.std.specs.Prelude.{◌≡◌, map, string_bytes, IfOk};
+ghost use Rattle.std.specs.Prelude.{◌≡◌, map, IfOk};
 ghost use Rattle.pb_schema.specs.View.{enum_view as view_of_enum};
 ghost use Rattle.pb_decl.specs.View.{enum_view, numbered_view};
 ghost use Rattle.pb_link.specs.ToDecls.{shares_numbers, declared_enum};

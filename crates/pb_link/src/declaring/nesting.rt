@@ -1,6 +1,6 @@
 //! Messages and enums in the messages and files that declare them.
 
-ghost use Rattle.std.specs.Prelude.{◌≡◌, ◌<◌, ◌+◌, ◌++◌, ◌∷◌, [], ℕ, length, map, drop, take, reverse, filter_map, string_bytes, Some, slice_get, IfOk, OnOk};
+ghost use Rattle.std.specs.Prelude.{◌≡◌, ◌<◌, ◌+◌, ◌++◌, [], length, map, drop, take, reverse, filter_map, string_bytes, Some, slice_get, IfOk, OnOk};
 ghost use Rattle.pb_schema.specs.Types.{MessageView, is_proto2};
 ghost use Rattle.pb_schema.specs.View.{field_view as view_of_field, message_view as view_of_message, parent_view};
 ghost use Rattle.pb_schema.specs.Rules.{IsPool};

@@ -1,6 +1,6 @@
 //! Texts that declarations are made of.
 
-ghost use Rattle.std.specs.Prelude.{◌≡◌, ◌++◌, ◌∷◌, IfOk, IsAscii, map, string_bytes};
+ghost use Rattle.std.specs.Prelude.{◌≡◌, ◌∷◌, IfOk, IsAscii, map, string_bytes};
 ghost use Rattle.pb_schema.specs.Names.{in_scope, entry_name};
 
 use pb_schema::entry_name;

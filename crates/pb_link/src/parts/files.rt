@@ -1,6 +1,6 @@
 //! Files of a pool.
 
-ghost use Rattle.std.specs.Prelude.{◌≡◌, map, length, IfOk};
+ghost use Rattle.std.specs.Prelude.{◌≡◌, map, IfOk};
 ghost use Rattle.pb_schema.specs.View.{file_view};
 ghost use Rattle.pb_decl.specs.View.{file_view as declared_view};
 ghost use Rattle.pb_names.specs.Sees.{files_of};

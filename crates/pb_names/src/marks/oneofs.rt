@@ -1,6 +1,6 @@
 //! Oneofs and their members.
 
-ghost use Rattle.std.specs.Prelude.{◌≡◌, ◌<◌, ◌+◌, ℕ, map, length, take, IfOk, not, false, ◌&&◌, ◌||◌, ◌^◌, slice_index, slice_set, nat_lt};
+ghost use Rattle.std.specs.Prelude.{◌≡◌, ◌<◌, ◌+◌, map, length, IfOk, not, false, ◌&&◌, ◌||◌, ◌^◌, slice_index, slice_set, nat_lt};
 ghost use Rattle.std.specs.List.{slice_index_or};
 ghost use Rattle.pb_decl.specs.Decls.{MessageHead};
 ghost use Rattle.pb_decl.specs.View.{field_view};

@@ -1,6 +1,6 @@
 //! Which fields use entry messages.
 
-ghost use Rattle.std.specs.Prelude.{◌≡◌, ◌<◌, ℕ, List, map, length, take, filter, string_bytes, option_map, IfOk};
+ghost use Rattle.std.specs.Prelude.{◌≡◌, ◌<◌, ℕ, List, map, length, filter, string_bytes, option_map, IfOk};
 ghost use Rattle.std.specs.List.{slice_index_or, enumerate_from};
 ghost use Rattle.pb_decl.specs.View.{field_view};
 ghost use Rattle.pb_names.specs.Declarations.{Declaration as DeclarationView};

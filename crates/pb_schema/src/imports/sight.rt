@@ -1,6 +1,6 @@
 //! Which files a file sees: itself, and those that it reaches by imports.
 
-ghost use Rattle.std.specs.Prelude.{◌≡◌, ◌↔◌, ◌<◌, Some, true, IsTrue, IfOk, OnOk, map, length};
+ghost use Rattle.std.specs.Prelude.{◌≡◌, ◌↔◌, ◌<◌, Some, true, IsTrue, IfOk, OnOk, map};
 ghost use Rattle.pb_schema.specs.View.{file_view};
 ghost use Rattle.pb_schema.specs.Imports.{IsSeen};
 ghost use Rattle.pb_schema.specs.Imports.Sight.{KnowsSight};

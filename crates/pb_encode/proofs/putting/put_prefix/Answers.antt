@@ -1,5 +1,6 @@
-use Rattle.pb_output.proofs.SinkLemmas.{puts_then}
+use Rattle.std.proofs.Common.{arith}
+use Rattle.pb_encode.proofs.PutLemmas.{puts_behind_number}
 use Rattle.pb_encode.proofs.putting.put_prefix.Goals as goal
 
 pub returns : goal.returns
-returns g c = puts_then c.put_tag.ensures c.put_number.ensures
+returns g c = puts_behind_number _ _ _ (omega arith) c.put_varints.ensures

@@ -5,13 +5,13 @@ use Rattle.pb_stream.proofs.reading.take_frame.Goals as goal
 pub returns-in_err-header-clause-fault : goal.returns-in_err-header-clause-fault
 returns-in_err-header-clause-fault g c =
     let p = err_from_is_err_and c.from_residual.result c.from_residual.ensures.1 in
-    rw (p.1, p.2) (whichever c.args.pool.now c.args.kind.0 c.args.limits (g.I.Input.left c.args.input.now) c.in_err-header.field-0.0 c.in_err-header.ensures.fault)
+    rw (p.1, p.2) (whichever c.args.pool.now c.args.message_type.0 c.args.limits (g.I.Input.left c.args.input.now) c.in_err-header.field-0.0 c.in_err-header.ensures.fault)
 
 pub returns-in_err-message-clause-fault : goal.returns-in_err-message-clause-fault
 returns-in_err-message-clause-fault g c =
     let p = err_from_is_err_and c.from_residual-in_err-message.result c.from_residual-in_err-message.ensures.1 in
     rw (p.1, p.2)
-    (fault_in_frame c.args.pool.now c.args.kind.0 c.args.limits (g.I.Input.left c.args.input.now) (g.I.Input.left c.read_length.new.input) c.in-Some.header.start
+    (fault_in_frame c.args.pool.now c.args.message_type.0 c.args.limits (g.I.Input.left c.args.input.now) (g.I.Input.left c.read_length.new.input) c.in-Some.header.start
     c.in-Some.header.size c.in_err-message.field-0.0 (rw c.in-Some.is at c.in_ok-header.ensures.length) ((rw c.in-Some.is at c.in_ok-header.ensures.small).1)
     c.in_err-message.ensures.fault)
 
@@ -21,14 +21,14 @@ returns-in_err-message-clause-within g c =
 
 pub returns-clause-message : goal.returns-clause-message
 returns-clause-message g c =
-    frame_taken c.args.pool.now c.args.kind.0 c.args.limits (g.I.Input.left c.args.input.now) (g.I.Input.left c.read_length.new.input)
+    frame_taken c.args.pool.now c.args.message_type.0 c.args.limits (g.I.Input.left c.args.input.now) (g.I.Input.left c.read_length.new.input)
     (g.I.Input.left c.decode_frame.new.input) c.in-Some.header.start c.in-Some.header.size c.in_ok-message.message.body
     (rw c.in-Some.is at c.in_ok-header.ensures.length) c.in_ok-message.ensures.value c.in_ok-message.ensures.rest
 
 pub returns-clause-counted : goal.returns-clause-counted
 returns-clause-counted g c =
     rw (c.from.ensures)
-    (frame_counted c.args.pool.now c.args.kind.0 c.args.limits (g.I.Input.left c.args.input.now) (g.I.Input.left c.read_length.new.input)
+    (frame_counted c.args.pool.now c.args.message_type.0 c.args.limits (g.I.Input.left c.args.input.now) (g.I.Input.left c.read_length.new.input)
     (g.I.Input.left c.decode_frame.new.input) c.in-Some.header.start c.in-Some.header.size c.in_ok-message.message.body
     (rw c.in-Some.is at c.in_ok-header.ensures.length) c.in_ok-message.ensures.value c.in_ok-message.ensures.rest)
 

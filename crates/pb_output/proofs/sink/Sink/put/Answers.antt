@@ -1,5 +1,4 @@
-use Rattle.std.proofs.Common.{refl}
-use Rattle.pb_output.proofs.SinkLemmas.{puts_held, puts_then}
+use Rattle.pb_output.proofs.SinkLemmas.{puts_then}
 use Rattle.pb_output.proofs.sink.Sink.put.Goals as goal
 
 pub returns : goal.returns

@@ -1,5 +1,4 @@
-use Rattle.std.proofs.Common.{rules, drop, ◌≤◌, arith}
-use Rattle.hex.specs.Hex.{encode_lower}
+use Rattle.std.proofs.Common.{rules, ◌≤◌, arith}
 use Rattle.pb_output.proofs.HexParts.{encode_lower-nil, encode_lower-parts, encode_lower-take}
 use Rattle.pb_output.proofs.SinkLemmas.{puts_lost, puts_none, puts_then}
 use Rattle.pb_output.proofs.sink.Sink.put_hex.Goals as goal
