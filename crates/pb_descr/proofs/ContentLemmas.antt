@@ -44,3 +44,8 @@ body_of_all all yielded left fields unknown split over none written =
     body_view-roll fields unknown
     ∙ (λ i. body (written i) (records_of (none i)))
     ∙ ap (λ es. body (fields_with (map entry_view es)) []) (sym (append-nil yielded) ∙ ap (λ l. yielded ++ l) (sym (nothing left over)) ∙ split)
+
+-- what is written of each item is that of what it stands for
+pub map_twice : {X Y Z : Type 0} (f : Y → Z) (g : X → Y) (xs : List X) → map f (map g xs) ≡ map (λ x. f (g x)) xs
+map_twice f g [] = refl
+map_twice f g (x ∷ xs) = ap (λ zs. f (g x) ∷ zs) (map_twice f g xs)

@@ -1,6 +1,7 @@
 //! The messages that declarations are written as, but for messages themselves.
 
 ghost use Rattle.std.specs.Prelude.{◌≡◌, pos, map, option_map, string_bytes, IfOk};
+ghost use Rattle.pb_value.specs.Data.{Datum};
 ghost use Rattle.pb_value.specs.View.{content_view, value_view};
 ghost use Rattle.pb_decl.specs.View.{field_view, numbered_view, enum_view, method_view, service_view};
 ghost use Rattle.pb_decl.specs.TypeNumbers.{number_of_type};
@@ -13,46 +14,51 @@ use pb_decl::{EnumDecl, FieldDecl, MethodDecl, ServiceDecl};
 use pb_value::{Content, Value};
 use std::alloc::{AllocError, Global};
 
-/// A list of texts.
-pub(crate) fn texts(alloc: Global, texts: &[String]) -> Result<Option<Content>, AllocError>
-    ensures { IfOk result (λ c. option_map content_view c ≡ a_list (map text_datum (map string_bytes texts.now))) }
-{
-    let mut values = Vec::with_capacity(alloc, texts.len())?;
-    for text in texts {
-        let owned = text.clone()?;
-        values.push(Value::Text(owned))?;
-    }
-    Ok(list(values))
+/// What is declared, as a value of a list.
+pub(crate) trait Written {
+    ghost datum: { Self → Datum };
+
+    fn value(&self, alloc: Global) -> Result<Value, AllocError>
+        ensures { IfOk result (λ v. value_view v ≡ datum self.now) };
 }
 
-/// A list of numbers.
-pub(crate) fn numbers(alloc: Global, numbers: &[i32]) -> Result<Option<Content>, AllocError>
-    ensures { IfOk result (λ c. option_map content_view c ≡ a_list (map int_datum numbers.now)) }
+/// A list of what is declared.
+pub(crate) fn list_of<T: Written>(alloc: Global, items: &[T]) -> Result<Option<Content>, AllocError>
+    ensures { IfOk result (λ c. option_map content_view c ≡ a_list (map T.datum items.now)) }
 {
-    let mut values = Vec::with_capacity(alloc, numbers.len())?;
-    for number in numbers {
-        values.push(Value::I32(*number))?;
-    }
-    Ok(list(values))
-}
-
-fn range_value(alloc: Global, range: &(i32, i32)) -> Result<Value, AllocError>
-    ensures { IfOk result (λ v. value_view v ≡ range_body range.now) }
-{
-    let (start, end) = *range;
-    message(alloc, [(1, Some(number(start))), (2, Some(number(end)))])
-}
-
-/// A list of ranges, each with its start and its end.
-pub(crate) fn ranges(alloc: Global, ranges: &[(i32, i32)]) -> Result<Option<Content>, AllocError>
-    ensures { IfOk result (λ c. option_map content_view c ≡ a_list (map range_body ranges.now)) }
-{
-    let mut values = Vec::with_capacity(alloc, ranges.len())?;
-    for range in ranges {
-        let value = range_value(alloc, range)?;
+    let mut values = Vec::with_capacity(alloc, items.len())?;
+    for item in items {
+        let value = item.value(alloc)?;
         values.push(value)?;
     }
     Ok(list(values))
+}
+
+impl Written for String {
+    ghost datum = { λ s. text_datum (string_bytes s) };
+
+    fn value(&self, _alloc: Global) -> Result<Value, AllocError> {
+        let owned = self.clone()?;
+        Ok(Value::Text(owned))
+    }
+}
+
+impl Written for i32 {
+    ghost datum = { int_datum };
+
+    fn value(&self, _alloc: Global) -> Result<Value, AllocError> {
+        Ok(Value::I32(*self))
+    }
+}
+
+/// A range by its start and its end.
+impl Written for (i32, i32) {
+    ghost datum = { range_body };
+
+    fn value(&self, alloc: Global) -> Result<Value, AllocError> {
+        let (start, end) = *self;
+        message(alloc, [(1, Some(number(start))), (2, Some(number(end)))])
+    }
 }
 
 /// Options of a mark alone, where it is true.
@@ -109,38 +115,28 @@ fn type_content(field: &FieldDecl) -> Option<Content>
     }
 }
 
-fn field_value(alloc: Global, field: &FieldDecl) -> Result<Value, AllocError>
-    ensures { IfOk result (λ v. value_view v ≡ field_body (field_view field.now)) }
-{
-    let name = text(alloc, &field.name)?;
-    let label = if field.repeated { REPEATED } else { OPTIONAL };
-    let type_name = optional_text(alloc, &field.type_name)?;
-    let packed = packed_content(alloc, field.packed)?;
-    message(
-        alloc,
-        [
-            (1, Some(name)),
-            (3, Some(number(field.number))),
-            (4, Some(number(label))),
-            (5, type_content(field)),
-            (6, type_name),
-            (8, packed),
-            (9, optional_number(field.oneof)),
-            (17, mark(field.proto3_optional)),
-        ],
-    )
-}
+impl Written for FieldDecl {
+    ghost datum = { λ f. field_body (field_view f) };
 
-/// A list of fields.
-pub(crate) fn fields(alloc: Global, fields: &[FieldDecl]) -> Result<Option<Content>, AllocError>
-    ensures { IfOk result (λ c. option_map content_view c ≡ a_list (map field_body (map field_view fields.now))) }
-{
-    let mut values = Vec::with_capacity(alloc, fields.len())?;
-    for field in fields {
-        let value = field_value(alloc, field)?;
-        values.push(value)?;
+    fn value(&self, alloc: Global) -> Result<Value, AllocError> {
+        let name = text(alloc, &self.name)?;
+        let label = if self.repeated { REPEATED } else { OPTIONAL };
+        let type_name = optional_text(alloc, &self.type_name)?;
+        let packed = packed_content(alloc, self.packed)?;
+        message(
+            alloc,
+            [
+                (1, Some(name)),
+                (3, Some(number(self.number))),
+                (4, Some(number(label))),
+                (5, type_content(self)),
+                (6, type_name),
+                (8, packed),
+                (9, optional_number(self.oneof)),
+                (17, mark(self.proto3_optional)),
+            ],
+        )
     }
-    Ok(list(values))
 }
 
 fn oneof_value(alloc: Global, name: &str) -> Result<Value, AllocError>
@@ -162,104 +158,65 @@ pub(crate) fn oneofs(alloc: Global, names: &[String]) -> Result<Option<Content>,
     Ok(list(values))
 }
 
-fn numbered_value(alloc: Global, value: &(String, i32)) -> Result<Value, AllocError>
-    ensures { IfOk result (λ v. value_view v ≡ value_body (numbered_view value.now)) }
-{
-    let name = text(alloc, &value.0)?;
-    message(alloc, [(1, Some(name)), (2, Some(number(value.1)))])
-}
+/// A value of an enum by its name and its number.
+impl Written for (String, i32) {
+    ghost datum = { λ v. value_body (numbered_view v) };
 
-fn numbered_values(alloc: Global, values: &[(String, i32)]) -> Result<Option<Content>, AllocError>
-    ensures { IfOk result (λ c. option_map content_view c ≡ a_list (map value_body (map numbered_view values.now))) }
-{
-    let mut written = Vec::with_capacity(alloc, values.len())?;
-    for value in values {
-        let value = numbered_value(alloc, value)?;
-        written.push(value)?;
+    fn value(&self, alloc: Global) -> Result<Value, AllocError> {
+        let name = text(alloc, &self.0)?;
+        message(alloc, [(1, Some(name)), (2, Some(number(self.1)))])
     }
-    Ok(list(written))
 }
 
-fn enum_value(alloc: Global, declared: &EnumDecl) -> Result<Value, AllocError>
-    ensures { IfOk result (λ v. value_view v ≡ enum_body (enum_view declared.now)) }
-{
-    let name = text(alloc, &declared.name)?;
-    let values = numbered_values(alloc, &declared.values)?;
-    let options = options(alloc, 2, declared.allow_alias)?;
-    let reserved = ranges(alloc, &declared.reserved)?;
-    let reserved_names = texts(alloc, &declared.reserved_names)?;
-    message(
-        alloc,
-        [
-            (1, Some(name)),
-            (2, values),
-            (3, options),
-            (4, reserved),
-            (5, reserved_names),
-        ],
-    )
-}
+impl Written for EnumDecl {
+    ghost datum = { λ e. enum_body (enum_view e) };
 
-/// A list of enums.
-pub(crate) fn enums(alloc: Global, enums: &[EnumDecl]) -> Result<Option<Content>, AllocError>
-    ensures { IfOk result (λ c. option_map content_view c ≡ a_list (map enum_body (map enum_view enums.now))) }
-{
-    let mut values = Vec::with_capacity(alloc, enums.len())?;
-    for declared in enums {
-        let value = enum_value(alloc, declared)?;
-        values.push(value)?;
+    fn value(&self, alloc: Global) -> Result<Value, AllocError> {
+        let name = text(alloc, &self.name)?;
+        let values = list_of(alloc, &self.values)?;
+        let options = options(alloc, 2, self.allow_alias)?;
+        let reserved = list_of(alloc, &self.reserved)?;
+        let reserved_names = list_of(alloc, &self.reserved_names)?;
+        message(
+            alloc,
+            [
+                (1, Some(name)),
+                (2, values),
+                (3, options),
+                (4, reserved),
+                (5, reserved_names),
+            ],
+        )
     }
-    Ok(list(values))
 }
 
-fn method_value(alloc: Global, method: &MethodDecl) -> Result<Value, AllocError>
-    ensures { IfOk result (λ v. value_view v ≡ method_body (method_view method.now)) }
-{
-    let name = text(alloc, &method.name)?;
-    let input = text(alloc, &method.input)?;
-    let output = text(alloc, &method.output)?;
-    message(
-        alloc,
-        [
-            (1, Some(name)),
-            (2, Some(input)),
-            (3, Some(output)),
-            (5, mark(method.client_stream)),
-            (6, mark(method.server_stream)),
-        ],
-    )
-}
+impl Written for MethodDecl {
+    ghost datum = { λ m. method_body (method_view m) };
 
-fn methods(alloc: Global, methods: &[MethodDecl]) -> Result<Option<Content>, AllocError>
-    ensures { IfOk result (λ c. option_map content_view c ≡ a_list (map method_body (map method_view methods.now))) }
-{
-    let mut values = Vec::with_capacity(alloc, methods.len())?;
-    for method in methods {
-        let value = method_value(alloc, method)?;
-        values.push(value)?;
+    fn value(&self, alloc: Global) -> Result<Value, AllocError> {
+        let name = text(alloc, &self.name)?;
+        let input = text(alloc, &self.input)?;
+        let output = text(alloc, &self.output)?;
+        message(
+            alloc,
+            [
+                (1, Some(name)),
+                (2, Some(input)),
+                (3, Some(output)),
+                (5, mark(self.client_stream)),
+                (6, mark(self.server_stream)),
+            ],
+        )
     }
-    Ok(list(values))
 }
 
-fn service_value(alloc: Global, service: &ServiceDecl) -> Result<Value, AllocError>
-    ensures { IfOk result (λ v. value_view v ≡ service_body (service_view service.now)) }
-{
-    let name = text(alloc, &service.name)?;
-    let methods = methods(alloc, &service.methods)?;
-    message(alloc, [(1, Some(name)), (2, methods)])
-}
+impl Written for ServiceDecl {
+    ghost datum = { λ s. service_body (service_view s) };
 
-/// A list of services.
-pub(crate) fn services(
-    alloc: Global,
-    services: &[ServiceDecl],
-) -> Result<Option<Content>, AllocError>
-    ensures { IfOk result (λ c. option_map content_view c ≡ a_list (map service_body (map service_view services.now))) }
-{
-    let mut values = Vec::with_capacity(alloc, services.len())?;
-    for service in services {
-        let value = service_value(alloc, service)?;
-        values.push(value)?;
+    #[tactic(auto, using(crate::proofs::ContentLemmas::map_twice))]
+    fn value(&self, alloc: Global) -> Result<Value, AllocError> {
+        let name = text(alloc, &self.name)?;
+        let methods = list_of(alloc, &self.methods)?;
+        message(alloc, [(1, Some(name)), (2, methods)])
     }
-    Ok(list(values))
 }

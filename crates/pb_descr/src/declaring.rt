@@ -1,8 +1,10 @@
 //! The declarations of a set's messages.
 
-ghost use Rattle.std.specs.Prelude.{◌≡◌, map, filter_map, option_map, option_and_then, string_bytes, IfOk};
+ghost use Rattle.std.specs.Prelude.{◌≡◌, ℤ, ℕ, List, map, filter_map, option_map, option_and_then, string_bytes, IfOk};
+ghost use Rattle.pb_value.specs.Data.{Datum};
 ghost use Rattle.pb_value.specs.View.{value_view};
 ghost use Rattle.pb_descr.specs.Held.{fields_in, data_at, text_in, int_in, text_at, int_at};
+ghost use Rattle.pb_decl.specs.Decls.{DeclaredField, DeclaredEnum, DeclaredMethod, DeclaredService, DeclaredFile};
 ghost use Rattle.pb_decl.specs.View.{field_view, numbered_view, enum_view, message_view, method_view, service_view, file_view};
 ghost use Rattle.pb_decl.specs.TypeNumbers.{type_of_number};
 ghost use Rattle.pb_descr.specs.Reading.{range_in, label_at, field_in, value_in, enum_in};
@@ -52,14 +54,41 @@ fn ints_in(alloc: Global, values: &[Value]) -> Result<Vec<i32>, AllocError>
     Ok(numbers)
 }
 
-fn ranges_in(alloc: Global, values: &[Value]) -> Result<Vec<(i32, i32)>, AllocError>
-    ensures { IfOk result (λ v. v.items ≡ map range_in (map value_view values.now)) }
+/// What a value of a list declares.
+pub(crate) trait Declared: Drop {
+    ghost Tree: { Type 0 };
+
+    ghost view: { Self → Tree };
+
+    ghost given: { Datum → Tree };
+
+    fn declared(alloc: Global, value: &Value) -> Result<Self, AllocError>
+        ensures { IfOk result (λ d. view d ≡ given (value_view value.now)) };
+}
+
+/// What each value of a list declares.
+pub(crate) fn list_in<T: Declared>(alloc: Global, values: &[Value]) -> Result<Vec<T>, AllocError>
+    ensures { IfOk result (λ v. map T.view v.items ≡ map T.given (map value_view values.now)) }
 {
-    let mut ranges = Vec::with_capacity(alloc, values.len())?;
+    let mut decls = Vec::with_capacity(alloc, values.len())?;
     for value in values {
-        ranges.push((number_at(value, 1), number_at(value, 2)))?;
+        let decl = T::declared(alloc, value)?;
+        decls.push(decl)?;
     }
-    Ok(ranges)
+    Ok(decls)
+}
+
+/// The start and the end of a range.
+impl Declared for (i32, i32) {
+    ghost Tree = { ℤ × ℤ };
+
+    ghost view = { λ r. r };
+
+    ghost given = { range_in };
+
+    fn declared(_alloc: Global, value: &Value) -> Result<(i32, i32), AllocError> {
+        Ok((number_at(value, 1), number_at(value, 2)))
+    }
 }
 
 fn type_name(alloc: Global, field: &Value) -> Result<Option<String>, AllocError>
@@ -81,81 +110,76 @@ fn type_code(field: &Value) -> Option<TypeCode>
     }
 }
 
-fn field_decl(alloc: Global, field: &Value) -> Result<FieldDecl, AllocError>
-    ensures { IfOk result (λ f. field_view f ≡ field_in (value_view field.now)) }
-{
-    let name = String::from_str(alloc, name_at(field, 1))?;
-    let type_name = type_name(alloc, field)?;
-    Ok(FieldDecl {
-        name,
-        number: number_at(field, 3),
-        repeated: label_at(field) == REPEATED,
-        ty: type_code(field),
-        type_name,
-        packed: bool_inside(field, 8, 2),
-        oneof: int_at(field, 9),
-        proto3_optional: mark_at(field, 17),
-    })
-}
+impl Declared for FieldDecl {
+    ghost Tree = { DeclaredField };
 
-fn field_decls(alloc: Global, fields: &[Value]) -> Result<Vec<FieldDecl>, AllocError>
-    ensures { IfOk result (λ v. map field_view v.items ≡ map field_in (map value_view fields.now)) }
-{
-    let mut decls = Vec::with_capacity(alloc, fields.len())?;
-    for field in fields {
-        let decl = field_decl(alloc, field)?;
-        decls.push(decl)?;
-    }
-    Ok(decls)
-}
+    ghost view = { field_view };
 
-fn oneof_names(alloc: Global, oneofs: &[Value]) -> Result<Vec<String>, AllocError>
-    ensures { IfOk result (λ v. map string_bytes v.items ≡ map oneof_in (map value_view oneofs.now)) }
-{
-    let mut names = Vec::with_capacity(alloc, oneofs.len())?;
-    for oneof in oneofs {
-        let name = String::from_str(alloc, name_at(oneof, 1))?;
-        names.push(name)?;
-    }
-    Ok(names)
-}
+    ghost given = { field_in };
 
-fn enum_values(alloc: Global, values: &[Value]) -> Result<Vec<(String, i32)>, AllocError>
-    ensures { IfOk result (λ v. map numbered_view v.items ≡ map value_in (map value_view values.now)) }
-{
-    let mut decls = Vec::with_capacity(alloc, values.len())?;
-    for value in values {
+    fn declared(alloc: Global, value: &Value) -> Result<FieldDecl, AllocError> {
         let name = String::from_str(alloc, name_at(value, 1))?;
-        decls.push((name, number_at(value, 2)))?;
+        let type_name = type_name(alloc, value)?;
+        Ok(FieldDecl {
+            name,
+            number: number_at(value, 3),
+            repeated: label_at(value) == REPEATED,
+            ty: type_code(value),
+            type_name,
+            packed: bool_inside(value, 8, 2),
+            oneof: int_at(value, 9),
+            proto3_optional: mark_at(value, 17),
+        })
     }
-    Ok(decls)
 }
 
-fn enum_decl(alloc: Global, declared: &Value) -> Result<EnumDecl, AllocError>
-    ensures { IfOk result (λ e. enum_view e ≡ enum_in (value_view declared.now)) }
-{
-    let name = String::from_str(alloc, name_at(declared, 1))?;
-    let values = enum_values(alloc, values_at(declared, 2))?;
-    let reserved = ranges_in(alloc, values_at(declared, 4))?;
-    let reserved_names = texts_in(alloc, values_at(declared, 5))?;
-    Ok(EnumDecl {
-        name,
-        values,
-        allow_alias: bool_inside(declared, 3, 2).unwrap_or(false),
-        reserved,
-        reserved_names,
-    })
+/// The name of a oneof.
+impl Declared for String {
+    ghost Tree = { List ℕ };
+
+    ghost view = { string_bytes };
+
+    ghost given = { oneof_in };
+
+    fn declared(alloc: Global, value: &Value) -> Result<String, AllocError> {
+        String::from_str(alloc, name_at(value, 1))
+    }
 }
 
-fn enum_decls(alloc: Global, enums: &[Value]) -> Result<Vec<EnumDecl>, AllocError>
-    ensures { IfOk result (λ v. map enum_view v.items ≡ map enum_in (map value_view enums.now)) }
-{
-    let mut decls = Vec::with_capacity(alloc, enums.len())?;
-    for declared in enums {
-        let decl = enum_decl(alloc, declared)?;
-        decls.push(decl)?;
+/// The name and the number of a value of an enum.
+impl Declared for (String, i32) {
+    ghost Tree = { List ℕ × ℤ };
+
+    ghost view = { numbered_view };
+
+    ghost given = { value_in };
+
+    fn declared(alloc: Global, value: &Value) -> Result<(String, i32), AllocError> {
+        let name = String::from_str(alloc, name_at(value, 1))?;
+        Ok((name, number_at(value, 2)))
     }
-    Ok(decls)
+}
+
+impl Declared for EnumDecl {
+    ghost Tree = { DeclaredEnum };
+
+    ghost view = { enum_view };
+
+    ghost given = { enum_in };
+
+    fn declared(alloc: Global, value: &Value) -> Result<EnumDecl, AllocError> {
+        let name = String::from_str(alloc, name_at(value, 1))?;
+        let values = list_in(alloc, values_at(value, 2))?;
+        let reserved = list_in(alloc, values_at(value, 4))?;
+        let reserved_names = texts_in(alloc, values_at(value, 5))?;
+        Ok(EnumDecl {
+            name,
+            values,
+            allow_alias: bool_inside(value, 3, 2).unwrap_or(false),
+            reserved,
+            reserved_names,
+        })
+    }
 }
 
 /// A message beside the messages that are declared in it.
@@ -168,10 +192,10 @@ fn message_with(
     ensures { IfOk result (λ m. message_view m ≡ message_in (value_view message.now)) }
 {
     let name = String::from_str(alloc, name_at(message, 1))?;
-    let fields = field_decls(alloc, values_at(message, 2))?;
-    let enums = enum_decls(alloc, values_at(message, 4))?;
-    let oneofs = oneof_names(alloc, values_at(message, 8))?;
-    let reserved = ranges_in(alloc, values_at(message, 9))?;
+    let fields = list_in(alloc, values_at(message, 2))?;
+    let enums = list_in(alloc, values_at(message, 4))?;
+    let oneofs = list_in(alloc, values_at(message, 8))?;
+    let reserved = list_in(alloc, values_at(message, 9))?;
     let reserved_names = texts_in(alloc, values_at(message, 10))?;
     Ok(MessageDecl {
         name,
@@ -205,42 +229,39 @@ fn message_decls(alloc: Global, messages: &[Value]) -> Result<Vec<MessageDecl>, 
     Ok(decls)
 }
 
-fn method_decl(alloc: Global, method: &Value) -> Result<MethodDecl, AllocError>
-    ensures { IfOk result (λ m. method_view m ≡ method_in (value_view method.now)) }
-{
-    let name = String::from_str(alloc, name_at(method, 1))?;
-    let input = String::from_str(alloc, name_at(method, 2))?;
-    let output = String::from_str(alloc, name_at(method, 3))?;
-    Ok(MethodDecl {
-        name,
-        input,
-        output,
-        client_stream: mark_at(method, 5),
-        server_stream: mark_at(method, 6),
-    })
+impl Declared for MethodDecl {
+    ghost Tree = { DeclaredMethod };
+
+    ghost view = { method_view };
+
+    ghost given = { method_in };
+
+    fn declared(alloc: Global, value: &Value) -> Result<MethodDecl, AllocError> {
+        let name = String::from_str(alloc, name_at(value, 1))?;
+        let input = String::from_str(alloc, name_at(value, 2))?;
+        let output = String::from_str(alloc, name_at(value, 3))?;
+        Ok(MethodDecl {
+            name,
+            input,
+            output,
+            client_stream: mark_at(value, 5),
+            server_stream: mark_at(value, 6),
+        })
+    }
 }
 
-fn method_decls(alloc: Global, methods: &[Value]) -> Result<Vec<MethodDecl>, AllocError>
-    ensures { IfOk result (λ v. map method_view v.items ≡ map method_in (map value_view methods.now)) }
-{
-    let mut decls = Vec::with_capacity(alloc, methods.len())?;
-    for method in methods {
-        let decl = method_decl(alloc, method)?;
-        decls.push(decl)?;
-    }
-    Ok(decls)
-}
+impl Declared for ServiceDecl {
+    ghost Tree = { DeclaredService };
 
-fn service_decls(alloc: Global, services: &[Value]) -> Result<Vec<ServiceDecl>, AllocError>
-    ensures { IfOk result (λ v. map service_view v.items ≡ map service_in (map value_view services.now)) }
-{
-    let mut decls = Vec::with_capacity(alloc, services.len())?;
-    for service in services {
-        let name = String::from_str(alloc, name_at(service, 1))?;
-        let methods = method_decls(alloc, values_at(service, 2))?;
-        decls.push(ServiceDecl { name, methods })?;
+    ghost view = { service_view };
+
+    ghost given = { service_in };
+
+    fn declared(alloc: Global, value: &Value) -> Result<ServiceDecl, AllocError> {
+        let name = String::from_str(alloc, name_at(value, 1))?;
+        let methods = list_in(alloc, values_at(value, 2))?;
+        Ok(ServiceDecl { name, methods })
     }
-    Ok(decls)
 }
 
 /// Whether the syntax of a file is `proto2`, as it is where none is given.
@@ -251,36 +272,30 @@ pub(crate) fn is_proto2(file: &Value) -> bool
     syntax.is_empty() || syntax == "proto2"
 }
 
-fn file_decl(alloc: Global, file: &Value) -> Result<FileDecl, AllocError>
-    ensures { IfOk result (λ f. file_view f ≡ file_in (value_view file.now)) }
-{
-    let name = String::from_str(alloc, name_at(file, 1))?;
-    let package = String::from_str(alloc, name_at(file, 2))?;
-    let imports = texts_in(alloc, values_at(file, 3))?;
-    let public = ints_in(alloc, values_at(file, 10))?;
-    let messages = message_decls(alloc, values_at(file, 4))?;
-    let enums = enum_decls(alloc, values_at(file, 5))?;
-    let services = service_decls(alloc, values_at(file, 6))?;
-    Ok(FileDecl {
-        name,
-        package,
-        imports,
-        public,
-        messages,
-        enums,
-        services,
-        proto2: is_proto2(file),
-    })
-}
+impl Declared for FileDecl {
+    ghost Tree = { DeclaredFile };
 
-/// The files of a set, which are its messages of files.
-pub(crate) fn file_decls(alloc: Global, files: &[Value]) -> Result<Vec<FileDecl>, AllocError>
-    ensures { IfOk result (λ v. map file_view v.items ≡ map file_in (map value_view files.now)) }
-{
-    let mut decls = Vec::with_capacity(alloc, files.len())?;
-    for file in files {
-        let decl = file_decl(alloc, file)?;
-        decls.push(decl)?;
+    ghost view = { file_view };
+
+    ghost given = { file_in };
+
+    fn declared(alloc: Global, value: &Value) -> Result<FileDecl, AllocError> {
+        let name = String::from_str(alloc, name_at(value, 1))?;
+        let package = String::from_str(alloc, name_at(value, 2))?;
+        let imports = texts_in(alloc, values_at(value, 3))?;
+        let public = ints_in(alloc, values_at(value, 10))?;
+        let messages = message_decls(alloc, values_at(value, 4))?;
+        let enums = list_in(alloc, values_at(value, 5))?;
+        let services = list_in(alloc, values_at(value, 6))?;
+        Ok(FileDecl {
+            name,
+            package,
+            imports,
+            public,
+            messages,
+            enums,
+            services,
+            proto2: is_proto2(value),
+        })
     }
-    Ok(decls)
 }

@@ -8,7 +8,7 @@ ghost use Rattle.pb_decl.specs.View.{message_view, file_view};
 ghost use Rattle.pb_descr.specs.Writing.{a_list, package_text, syntax_text, message_body, message_bodies, file_body, set_body};
 ghost use Rattle.pb_descr.specs.Sets.{CutAt};
 
-use crate::bodies::{enums, fields, numbers, oneofs, options, ranges, services, texts};
+use crate::bodies::{list_of, oneofs, options};
 use crate::contents::{body, list, message, text};
 use crate::error::WriteSetError;
 use pb_decl::{FileDecl, MessageDecl};
@@ -28,12 +28,12 @@ fn message_with(
     ensures { IfOk result (λ v. value_view v ≡ message_body (message_view declared.now)) }
 {
     let name = text(alloc, &declared.name)?;
-    let fields = fields(alloc, &declared.fields)?;
-    let enums = enums(alloc, &declared.enums)?;
+    let fields = list_of(alloc, &declared.fields)?;
+    let enums = list_of(alloc, &declared.enums)?;
     let options = options(alloc, 7, declared.map_entry)?;
     let oneofs = oneofs(alloc, &declared.oneofs)?;
-    let reserved = ranges(alloc, &declared.reserved)?;
-    let reserved_names = texts(alloc, &declared.reserved_names)?;
+    let reserved = list_of(alloc, &declared.reserved)?;
+    let reserved_names = list_of(alloc, &declared.reserved_names)?;
     message(
         alloc,
         [
@@ -109,10 +109,10 @@ fn file_with(alloc: Global, file: &FileDecl, messages: Option<Content>) -> Resul
 {
     let name = text(alloc, &file.name)?;
     let package = package_content(alloc, &file.package)?;
-    let imports = texts(alloc, &file.imports)?;
-    let enums = enums(alloc, &file.enums)?;
-    let services = services(alloc, &file.services)?;
-    let public = numbers(alloc, &file.public)?;
+    let imports = list_of(alloc, &file.imports)?;
+    let enums = list_of(alloc, &file.enums)?;
+    let services = list_of(alloc, &file.services)?;
+    let public = list_of(alloc, &file.public)?;
     let syntax = syntax_content(alloc, file.proto2)?;
     message(
         alloc,

@@ -17,7 +17,7 @@ ghost use Rattle.pb_descr.specs.declared.cause.DeclCause.{DeclCause};
 ghost use Rattle.pb_descr.specs.declared.error.DescrError.TheVariants.{Memory};
 
 use crate::checking::first_cause;
-use crate::declaring::file_decls;
+use crate::declaring::list_in;
 use crate::error::DescrError;
 use crate::held::values_at;
 use crate::pool::{SET, descriptor_pool};
@@ -67,7 +67,7 @@ fn declared_files(alloc: Global, set: Body) -> Result<Vec<FileDecl>, DescrError>
     if let Some((file, cause)) = first_cause(files) {
         return Err(DescrError::Decl { file, cause });
     }
-    let decls = file_decls(alloc, files)?;
+    let decls = list_in(alloc, files)?;
     Ok(decls)
 }
 

@@ -5,7 +5,7 @@ use Rattle.pb_decl.specs.Decls.{messages_of}
 use Rattle.pb_descr.specs.Held.{fields_in, text_in, int_in}
 use Rattle.pb_descr.specs.Reading.{message_in, enum_in, service_in}
 use Rattle.pb_descr.proofs.HeldLemmas.{messages_at-data}
-use Rattle.pb_descr.proofs.declaring.file_decl.Goals as goal
+use Rattle.pb_descr.proofs.declaring.FileDeclDeclared.declared.Goals as goal
 
 pub returns : goal.returns
 returns c = λ i. record {
@@ -13,7 +13,7 @@ returns c = λ i. record {
   package_name = (c.in_ok-package.ensures.ok ∙ c.name_at-2.ensures) i;
   imports = (c.in_ok-imports.ensures ∙ ap (filter_map text_in) c.values_at.ensures) i;
   public_indexes = (c.in_ok-public.ensures ∙ ap (filter_map int_in) c.values_at-2.ensures) i;
-  messages = (ap messages_of (c.in_ok-messages.ensures ∙ ap (map message_in) c.values_at-3.ensures) ∙ sym (messages_at-data 4 (fields_in (value_view c.args.file.now)))) i;
+  messages = (ap messages_of (c.in_ok-messages.ensures ∙ ap (map message_in) c.values_at-3.ensures) ∙ sym (messages_at-data 4 (fields_in (value_view c.args.value.now)))) i;
   enums = (c.in_ok-enums.ensures ∙ ap (map enum_in) c.values_at-4.ensures) i;
   services = (c.in_ok-services.ensures ∙ ap (map service_in) c.values_at-5.ensures) i;
   is_proto2 = c.is_proto2.ensures i;
