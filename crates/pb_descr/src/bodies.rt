@@ -220,3 +220,34 @@ impl Written for ServiceDecl {
         message(alloc, [(1, Some(name)), (2, methods)])
     }
 }
+
+/// A list of texts.
+#[tactic(auto, using(crate::proofs::ContentLemmas::map_twice))]
+pub(crate) fn texts(alloc: Global, texts: &[String]) -> Result<Option<Content>, AllocError>
+    ensures { IfOk result (λ c. option_map content_view c ≡ a_list (map text_datum (map string_bytes texts.now))) }
+{
+    list_of(alloc, texts)
+}
+
+/// A list of fields.
+#[tactic(auto, using(crate::proofs::ContentLemmas::map_twice))]
+pub(crate) fn fields(alloc: Global, fields: &[FieldDecl]) -> Result<Option<Content>, AllocError>
+    ensures { IfOk result (λ c. option_map content_view c ≡ a_list (map field_body (map field_view fields.now))) }
+{
+    list_of(alloc, fields)
+}
+
+/// A list of enums.
+#[tactic(auto, using(crate::proofs::ContentLemmas::map_twice))]
+pub(crate) fn enums(alloc: Global, enums: &[EnumDecl]) -> Result<Option<Content>, AllocError>
+    ensures { IfOk result (λ c. option_map content_view c ≡ a_list (map enum_body (map enum_view enums.now))) }
+{
+    list_of(alloc, enums)
+}
+
+/// A list of ranges.
+pub(crate) fn ranges(alloc: Global, ranges: &[(i32, i32)]) -> Result<Option<Content>, AllocError>
+    ensures { IfOk result (λ c. option_map content_view c ≡ a_list (map range_body ranges.now)) }
+{
+    list_of(alloc, ranges)
+}

@@ -8,7 +8,7 @@ ghost use Rattle.pb_decl.specs.View.{message_view, file_view};
 ghost use Rattle.pb_descr.specs.Writing.{a_list, package_text, syntax_text, message_body, message_bodies, file_body, set_body};
 ghost use Rattle.pb_descr.specs.Sets.{CutAt};
 
-use crate::bodies::{list_of, oneofs, options};
+use crate::bodies::{enums, fields, list_of, oneofs, options, ranges, texts};
 use crate::contents::{body, list, message, text};
 use crate::error::WriteSetError;
 use pb_decl::{FileDecl, MessageDecl};
@@ -28,12 +28,12 @@ fn message_with(
     ensures { IfOk result (λ v. value_view v ≡ message_body (message_view declared.now)) }
 {
     let name = text(alloc, &declared.name)?;
-    let fields = list_of(alloc, &declared.fields)?;
-    let enums = list_of(alloc, &declared.enums)?;
+    let fields = fields(alloc, &declared.fields)?;
+    let enums = enums(alloc, &declared.enums)?;
     let options = options(alloc, 7, declared.map_entry)?;
     let oneofs = oneofs(alloc, &declared.oneofs)?;
-    let reserved = list_of(alloc, &declared.reserved)?;
-    let reserved_names = list_of(alloc, &declared.reserved_names)?;
+    let reserved = ranges(alloc, &declared.reserved)?;
+    let reserved_names = texts(alloc, &declared.reserved_names)?;
     message(
         alloc,
         [
