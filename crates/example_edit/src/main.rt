@@ -44,10 +44,10 @@ fn read_pool(alloc: Global, set: &[u8]) -> Result<Pool> {
 
 /// The canonical bytes of an order with another date.
 fn change(rt: &impl Print, alloc: Global, pool: &Pool, bytes: &[u8]) -> Result<Vec<u8>> {
-    let kind = pool
+    let message_type = pool
         .message_by_name("shop.Order")
         .context("the set has no type shop.Order")?;
-    let mut order = decode(alloc, pool, kind, bytes, Limits::FULL)?;
+    let mut order = decode(alloc, pool, message_type, bytes, Limits::FULL)?;
     let before = placed_on(&order);
     println!(rt; "placed_on was {before}")?;
     place_on(alloc, &mut order, "2024-05-18")?;

@@ -27,7 +27,7 @@ fn main(rt: HostRuntime) -> Result<()> {
 
 /// Tells of each message of an input what it is. What was not read of one that is refused is passed over.
 fn inspect<R: Read>(rt: &impl Print, alloc: Global, pool: &Pool, input: &mut R) -> Result<()> {
-    let kind = pool
+    let message_type = pool
         .message_by_name("shop.Order")
         .context("the set has no type shop.Order")?;
     for index in 0..u64::MAX {
@@ -35,7 +35,15 @@ fn inspect<R: Read>(rt: &impl Print, alloc: Global, pool: &Pool, input: &mut R) 
             break;
         };
         let mut frame = ReadInput::new(input.by_ref().take(u64::from(length)));
-        let read = decode_frame(alloc, pool, kind, &mut frame, 0, length, Limits::FULL);
+        let read = decode_frame(
+            alloc,
+            pool,
+            message_type,
+            &mut frame,
+            0,
+            length,
+            Limits::FULL,
+        );
         tell(rt, index, read.err())?;
         io::copy(&mut frame.into_inner(), &mut io::sink())?;
     }
