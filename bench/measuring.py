@@ -1,0 +1,109 @@
+"""What the scripts that measure share: which tools are there, what a process took, and the file of the figures.
+
+Each script puts what it measured under its own word into bench/figures.json, with the day, the load and the commit. bench/report makes the
+tables of docs/SPEED.md and the plot of that file alone, so no number is typed by hand."""
+import datetime
+import json
+import os
+import shutil
+import subprocess
+import sys
+
+HERE = os.path.dirname(os.path.abspath(__file__))
+TOP = os.path.dirname(HERE)
+FIGURES = os.path.join(HERE, "figures.json")
+# Debian's packages of the tools.
+PACKAGES = {"protoc": "protobuf-compiler", "g++": "g++", "gcc": "gcc", "rustc": "rustc", "git": "git"}
+
+
+def want(*tools):
+    """Ends with a message where a tool is not there."""
+    missing = [it for it in tools if not shutil.which(it)]
+    if missing:
+        sys.exit(f"not installed: {', '.join(missing)} (Debian: {' '.join(PACKAGES.get(it, it) for it in missing)})")
+
+
+def say(*words):
+    print(*words, file=sys.stderr, flush=True)
+
+
+def run(*words, **how):
+    """What a command prints. Where it fails, all ends with what it printed."""
+    ran = subprocess.run(words, stdout=subprocess.PIPE, stderr=subprocess.PIPE, **how)
+    if ran.returncode:
+        sys.exit(f"{' '.join(words)}: status {ran.returncode}\n{(ran.stdout + ran.stderr).decode(errors='replace')[-2000:]}")
+    return ran.stdout
+
+
+def build_peer(source, out):
+    """A C++ program over libprotobuf."""
+    want("g++", "protoc")
+    ran = subprocess.run(["g++", "-O2", "-o", out, source, "-lprotobuf"], capture_output=True, text=True)
+    if ran.returncode:
+        sys.exit(f"{source} is not built; is libprotobuf there (Debian: libprotobuf-dev)?\n{ran.stderr[-2000:]}")
+    return out
+
+
+def pbtool():
+    """The released program, or the one that is built here."""
+    return run(os.path.join(TOP, "dist", "program")).decode().strip()
+
+
+class Process:
+    """Runs commands by the program process.c."""
+
+    def __init__(self, folder):
+        want("gcc")
+        self.program = os.path.join(folder, "process")
+        run("gcc", "-O2", "-o", self.program, os.path.join(HERE, "process.c"))
+
+    def one(self, words, given):
+        """A whole process: its seconds, its seconds of processor time, the most memory in MB, and its status."""
+        seconds, cpu, kilobytes, status = run(self.program, given, *words).split()
+        return float(seconds), float(cpu), int(kilobytes) / 1000, int(status)
+
+    def in_turn(self, commands, rounds):
+        """By name of a command (its words, and a file that it is given): the best seconds, the best processor time, the most memory and the
+        statuses of so many runs of each, in turn."""
+        taken = {name: [] for name in commands}
+        for _ in range(rounds):
+            for name, command in commands.items():
+                taken[name].append(self.one(*command))
+        return {
+            name: {"seconds": min(it[0] for it in runs), "cpu": min(it[1] for it in runs), "MB": max(it[2] for it in runs),
+                   "status": sorted({it[3] for it in runs})}
+            for name, runs in taken.items()
+        }
+
+
+class Load:
+    """The load of the machine over a run: the least and the most of what was seen."""
+
+    def __init__(self):
+        self.seen = []
+        self.look()
+
+    def look(self):
+        self.seen.append(os.getloadavg()[0])
+
+    def told(self):
+        return [round(min(self.seen), 1), round(max(self.seen), 1)]
+
+
+def machine():
+    model = next((line.split(":")[1].strip() for line in open("/proc/cpuinfo") if line.startswith("model name")), "unknown")
+    return f"{model}, {os.cpu_count()} processors"
+
+
+def save(part, load, figures):
+    """Puts figures in the place of those that an earlier run of the same script left."""
+    load.look()
+    commit = subprocess.run(["git", "-C", TOP, "rev-parse", "--short", "HEAD"], capture_output=True, text=True).stdout.strip()
+    protobuf = run("protoc", "--version").decode().split()[-1]
+    facts = {"date": datetime.date.today().isoformat(), "load": load.told(), "machine": machine(), "commit": commit, "protobuf": protobuf}
+    kept = json.load(open(FIGURES)) if os.path.exists(FIGURES) else {}
+    kept[part] = {**facts, **figures}
+    with open(FIGURES + ".new", "w") as out:
+        json.dump(kept, out, indent=1, sort_keys=True)
+        out.write("\n")
+    os.replace(FIGURES + ".new", FIGURES)
