@@ -35,6 +35,36 @@ def run(*words, **how):
     return ran.stdout
 
 
+def build_ours(name, crates, work, stack, libraries, sources):
+    """A Rattle program over the crates of a folder, proved and built in a copy of those in the stack: the path of the program.
+
+    The copy is WORK/NAME. What earlier checks kept in the crates' out folders serves there too."""
+    copy = os.path.join(work, name)
+    for crate in stack:
+        folder = os.path.join(copy, "crates", crate)
+        shutil.rmtree(folder, ignore_errors=True)
+        shutil.copytree(os.path.join(crates, crate), folder, symlinks=True)
+    program = os.path.join(copy, "crates", "timing")
+    os.makedirs(os.path.join(program, "src"), exist_ok=True)
+    # The sources end in .txt, since the gate refuses a .rt file that no crate of its own reads.
+    for part, source in sources.items():
+        shutil.copyfile(source, os.path.join(program, "src", f"{part}.rt"))
+    top = os.path.dirname(os.path.abspath(crates))
+    shutil.copy(os.path.join(top, "HANDLES"), copy)
+    with open(os.path.join(top, "crates.txt")) as listed, open(os.path.join(copy, "crates.txt"), "w") as out:
+        out.write("".join(line for line in listed if line.split(":")[0] in stack) + f"timing: {libraries}\n")
+    run("git", "init", "-q", copy)
+    built = os.path.join(program, "out", "timing")
+    if os.path.exists(built):
+        os.remove(built)
+    say(f"proving and building the program of {name} in {copy}")
+    ran = subprocess.run(["rt", "run"], cwd=program, stdin=subprocess.DEVNULL, capture_output=True, text=True)
+    # `rt run` runs the program too, here without words, so what counts is whether it is there.
+    if not os.path.exists(built):
+        sys.exit(f"the program of {name} is not proved:\n{(ran.stdout + ran.stderr)[-3000:]}")
+    return built
+
+
 def build_peer(source, out):
     """A C++ program over libprotobuf."""
     want("g++", "protoc")
