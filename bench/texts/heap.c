@@ -41,7 +41,7 @@ void *aligned_alloc(size_t alignment, size_t size) { return memalign(alignment, 
 
 int posix_memalign(void **block, size_t alignment, size_t size) { return (*block = memalign(alignment, size)) ? 0 : ENOMEM; }
 
-// A block that grows where it stands needs no second one beside it, so only the new size counts.
+// A block that grows is taken to grow where it stands, with no second one beside it.
 void *realloc(void *block, size_t size) {
     size_t before = block ? malloc_usable_size(block) + 8 : 0;
     void *grown = __libc_realloc(block, size);
