@@ -126,7 +126,7 @@ def plot(report):
     drawing.text(20, title, "title")
     drawing.y += 24
     told = report.figures["texts"]
-    drawing.text(20, f"MB of text a second of processor time, to decode and to drop; one run on {told['date']}, {told['machine']}", "small")
+    drawing.text(20, f"MB of text a second of processor time, to decode and to drop; the best of {told['passes'] * 2} rounds, {told['date']}", "small")
     drawing.y += 24
     drawing.legend(told["protobuf"])
     for of_part, found in parts.items():
