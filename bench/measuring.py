@@ -43,7 +43,8 @@ def build_ours(name, crates, work, stack, libraries, sources):
     for crate in stack:
         folder = os.path.join(copy, "crates", crate)
         shutil.rmtree(folder, ignore_errors=True)
-        shutil.copytree(os.path.join(crates, crate), folder, symlinks=True)
+        os.makedirs(os.path.dirname(folder), exist_ok=True)
+        run("cp", "-a", os.path.join(crates, crate), folder)
     program = os.path.join(copy, "crates", "timing")
     os.makedirs(os.path.join(program, "src"), exist_ok=True)
     # The sources end in .txt, since the gate refuses a .rt file that no crate of its own reads.
