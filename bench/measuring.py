@@ -35,12 +35,25 @@ def run(*words, **how):
     return ran.stdout
 
 
-def build_ours(name, crates, work, stack, libraries, sources):
-    """A Rattle program over the crates of a folder, proved and built in a copy of those in the stack: the path of the program.
+def lines_of(crates, libraries):
+    """The lines of crates.txt beside a folder of crates, of these libraries and of those that they stand on, by crate."""
+    with open(os.path.join(os.path.dirname(os.path.abspath(crates)), "crates.txt")) as listed:
+        lines = {line.split(":")[0].split()[0]: line for line in listed if ":" in line and not line.startswith("#")}
+    found, left = {}, list(libraries)
+    while left:
+        crate = left.pop()
+        if crate in lines and crate not in found:
+            found[crate] = lines[crate]
+            left += lines[crate].split(":")[1].split()
+    return found
+
+
+def build_ours(name, crates, work, libraries, sources):
+    """A Rattle program over libraries of a folder of crates, proved and built in a copy of what they stand on: the path of the program.
 
     The copy is WORK/NAME. What earlier checks kept in the crates' out folders serves there too."""
-    copy = os.path.join(work, name)
-    for crate in stack:
+    copy, lines = os.path.join(work, name), lines_of(crates, libraries)
+    for crate in lines:
         folder = os.path.join(copy, "crates", crate)
         shutil.rmtree(folder, ignore_errors=True)
         os.makedirs(os.path.dirname(folder), exist_ok=True)
@@ -50,10 +63,9 @@ def build_ours(name, crates, work, stack, libraries, sources):
     # The sources end in .txt, since the gate refuses a .rt file that no crate of its own reads.
     for part, source in sources.items():
         shutil.copyfile(source, os.path.join(program, "src", f"{part}.rt"))
-    top = os.path.dirname(os.path.abspath(crates))
-    shutil.copy(os.path.join(top, "HANDLES"), copy)
-    with open(os.path.join(top, "crates.txt")) as listed, open(os.path.join(copy, "crates.txt"), "w") as out:
-        out.write("".join(line for line in listed if line.split(":")[0] in stack) + f"timing: {libraries}\n")
+    shutil.copy(os.path.join(os.path.dirname(os.path.abspath(crates)), "HANDLES"), copy)
+    with open(os.path.join(copy, "crates.txt"), "w") as out:
+        out.write("".join(lines.values()) + f"timing: {' '.join(libraries)}\n")
     run("git", "init", "-q", copy)
     built = os.path.join(program, "out", "timing")
     if os.path.exists(built):
