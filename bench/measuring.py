@@ -138,6 +138,17 @@ def machine():
     return f"{model}, {os.cpu_count()} processors"
 
 
+def written(figures):
+    """The file's text: a line for each fact of a part, and for each row of a list."""
+    def line(value):
+        if isinstance(value, list) and value and isinstance(value[0], dict):
+            return "[\n   " + ",\n   ".join(map(line, value)) + "\n  ]"
+        return json.dumps(value, sort_keys=True)
+
+    parts = (f' "{part}": {{\n' + ",\n".join(f'  "{key}": {line(it)}' for key, it in sorted(facts.items())) + "\n }" for part, facts in sorted(figures.items()))
+    return "{\n" + ",\n".join(parts) + "\n}\n"
+
+
 def save(part, load, figures):
     """Puts figures in the place of those that an earlier run of the same script left."""
     load.look()
@@ -147,6 +158,5 @@ def save(part, load, figures):
     kept = json.load(open(FIGURES)) if os.path.exists(FIGURES) else {}
     kept[part] = {**facts, **figures}
     with open(FIGURES + ".new", "w") as out:
-        json.dump(kept, out, indent=1, sort_keys=True)
-        out.write("\n")
+        out.write(written(kept))
     os.replace(FIGURES + ".new", FIGURES)
