@@ -267,9 +267,8 @@ impl Decoder<'_> {
             Shape::List if wire == own => {
                 let mut list = body.take_list(field.number);
                 loop {
-                    match self.element(field, input, levels, body)? {
-                        Some(value) => list.push(value),
-                        None => {}
+                    if let Some(value) = self.element(field, input, levels, body)? {
+                        list.push(value);
                     }
                     if !input.goes_on(tag) {
                         break;
@@ -356,9 +355,10 @@ impl Decoder<'_> {
             if number == 1 && wire == wire_type(keys) {
                 of_key = Some(scalar(keys, &mut input)?);
             } else if number == 2 && wire == wire_type(values) {
+                let field = Field { number, kind: values, shape: Shape::Explicit };
                 of_value = Some(match (values, of_value.take()) {
-                    (Kind::Message(_), Some(Value::Message(before))) => self.inner(Field { number, kind: values, shape: Shape::Explicit }, &mut input, levels, before)?,
-                    (Kind::Message(_), _) => self.inner(Field { number, kind: values, shape: Shape::Explicit }, &mut input, levels, Body::new())?,
+                    (Kind::Message(_), Some(Value::Message(before))) => self.inner(field, &mut input, levels, before)?,
+                    (Kind::Message(_), _) => self.inner(field, &mut input, levels, Body::new())?,
                     _ => scalar(values, &mut input)?,
                 });
             } else {
