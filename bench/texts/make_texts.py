@@ -1,10 +1,13 @@
 #!/usr/bin/env python3
 """Writes texts of the types in messages.proto and old.proto, the same each time, and wide.proto, whose enum is large:
-make_texts.py MEGABYTES FOLDER.
+make_texts.py FOLDER [SCALE].
 
-Each text in the folders Texts and Old, named as its type, is the canonical bytes of its message: fields by rising number, map entries by
-rising key, the shortest spelling of each record. So what a codec encodes again is the text itself. Not so the texts in the folder
-Old.decode, which have undeclared numbers of closed enums inside runs of declared ones."""
+A file FOLDER/SIZE/TYPE/SHAPE has texts of one shape and of about one size, each behind its length in four bytes, the lowest first: one of
+10 MB, one of 2 MB, 4 KB each, and 30 to 500 bytes each, the last two 2 MB together. SCALE, as 0.1, makes the files smaller.
+
+Each text of the types Texts and Old is the canonical bytes of its message: fields by rising number, map entries by rising key, the shortest
+spelling of each record. So what a codec encodes again is the text itself. Not so those in a folder Old.decode, which have undeclared
+numbers of closed enums inside runs of declared ones."""
 import os
 import sys
 
@@ -40,28 +43,27 @@ def small(i):
     return length_delimited(1, item(i))
 
 
-def long(i):
+def long(i, size):
     """Long texts, in ASCII and beyond it, and byte strings."""
-    text = ("%s spricht %s, " % (word(i), "größer" if i % 2 else "smaller")) * 150
-    return length_delimited(2, text.encode())
+    part = "%s spricht %s, " % (word(i), "größer" if i % 2 else "smaller")
+    return length_delimited(2, (part * (size // len(part) + 1)).encode())
 
 
-def blob(i):
-    return length_delimited(3, mixed(i).to_bytes(8, "little") * 512)
+def blob(i, size):
+    return length_delimited(3, mixed(i).to_bytes(8, "little") * (size // 8 + 1))
 
 
 def packed(i):
-    """Packed numbers of one byte to ten, of signed numbers and of eight bytes."""
-    numbers = b"".join(varint(mixed(i * 1000 + k) % 2 ** (7 * (1 + k % 4))) for k in range(1000))
-    return numbers
+    """Packed numbers of one byte to four, of signed numbers, and of eight bytes each."""
+    return varint(mixed(i) % 2 ** (7 * (1 + i % 4)))
 
 
 def change(i):
-    return b"".join(varint(zigzag(mixed(i * 1000 + k) % 2 ** (8 + k % 50) - 2 ** (7 + k % 50))) for k in range(500))
+    return varint(zigzag(mixed(i) % 2 ** (8 + i % 50) - 2 ** (7 + i % 50)))
 
 
 def place(i):
-    return b"".join(mixed(i * 1000 + k).to_bytes(8, "little") for k in range(300))
+    return mixed(i).to_bytes(8, "little")
 
 
 def counted(i):
@@ -117,13 +119,13 @@ def wide_number(i):
     return i * 7919 % WIDE * 7
 
 
-def wide(count, gap=0):
-    """Numbers of Wide, and where a gap is told a number that it does not declare at each one of so many."""
-    return b"".join(varint(wide_number(mixed(i) % WIDE) + (1 if gap and i % gap == 0 else 0)) for i in range(count))
+def wide(i, gap=0):
+    """A number of Wide, and where a gap is told, at each one of so many, one that it does not declare."""
+    return varint(wide_number(mixed(i) % WIDE) + (1 if gap and i % gap == 0 else 0))
 
 
-def few(count, gap=0):
-    return b"".join(varint(9 if gap and i % gap == 0 else mixed(i) % 5) for i in range(count))
+def few(i, gap=0):
+    return varint(9 if gap and i % gap == 0 else mixed(i) % 5)
 
 
 def wide_proto():
@@ -131,43 +133,93 @@ def wide_proto():
     return 'syntax = "proto2";\n\nenum Wide {\n%s}\n' % values
 
 
-def until(size, part):
-    """Parts until there are so many bytes."""
-    out = bytearray()
-    i = 0
-    while len(out) < size:
-        out += part(i)
-        i += 1
-    return bytes(out)
+def until(size, first, part, again=100_000):
+    """Parts until there are so many bytes. Beyond so many parts they come again, since making them takes long."""
+    out, ends = bytearray(), [0]
+    while len(out) < size and len(ends) <= again:
+        out += part(first + len(ends) - 1)
+        ends.append(len(out))
+    rounds, left = divmod(size - len(out), len(out)) if len(out) < size else (0, 0)
+    return bytes(out) * (1 + rounds) + bytes(out[: next(it for it in ends if it >= left)])
+
+
+def run_of(number, part, gap=0):
+    """A shape of one record, whose payload is parts."""
+    return lambda size, first: length_delimited(number, until(size, first, (lambda i: part(i, gap)) if gap else part))
+
+
+def strings(size, first):
+    """Texts and byte strings of 4 KB, and of a half of the size where that is less."""
+    piece = min(4096, size // 2)
+    return until(size // 2, first, lambda i: long(i, piece)) + until(size // 2, first, lambda i: blob(i, piece))
+
+
+def lists(size, first):
+    return b"".join(length_delimited(4 + k, until(size // 3, first, part)) for k, part in enumerate((packed, change, place)))
+
+
+def maps(size, first):
+    """The keys of a map differ."""
+    return b"".join(until(size // 2, first, part, size) for part in (counted, entry))
+
+
+def deep(part, levels, least):
+    """Nests of so many levels, which take so many bytes at least, and one of less levels where the size asks for less."""
+    return lambda size, first: until(size, first, lambda i: part(i, min(levels, 1 + size * levels // least)))
+
+
+def parts(part):
+    return lambda size, first: until(size, first, part)
+
+
+# By folder and name: what makes a text of a size, from parts that begin with a number.
+SHAPES = {
+    "Texts/small": parts(small),
+    "Texts/strings": strings,
+    "Texts/packed": lists,
+    "Texts/maps": maps,
+    "Texts/nests": deep(nest, 90, 580),
+    "Texts/unknown": parts(unknown),
+    "Texts/repeats": run_of(11, repeat),
+    # Open enums, to compare closed ones with: the elements of both are the same.
+    "Texts/open": run_of(12, wide),
+    "Texts/openfew": run_of(12, few),
+    "Old/groups": parts(group),
+    "Old/inner": deep(inner_groups, 45, 640),
+    "Old/closed": run_of(3, wide),
+    "Old/few": run_of(4, few),
+    "Old.decode/gaps": run_of(3, wide, 10),
+    "Old.decode/fewgaps": run_of(4, few, 10),
+    "Old.decode/allgaps": run_of(4, few, 1),
+}
+
+# By folder: how large all texts are together, and how large each is at least, by its number.
+SIZES = {
+    "10MB": (10_000_000, lambda i: 10_000_000),
+    "2MB": (2_000_000, lambda i: 2_000_000),
+    "4KB": (2_000_000, lambda i: 4000),
+    "single": (2_000_000, lambda i: 30 + mixed(i) % 340),
+}
+
+
+def write(path, shape, total, size_of, scale):
+    """Writes texts until they take as much together as they have to."""
+    os.makedirs(os.path.dirname(path), exist_ok=True)
+    with open(path, "wb") as out:
+        count = 0
+        while out.tell() < total * scale:
+            size = size_of(count)
+            # Each text has other parts, and those of a text follow on each other.
+            text = shape(int(size * scale) if size == total else size, count * 1000)
+            out.write(len(text).to_bytes(4, "little") + text)
+            count += 1
 
 
 def main():
-    size, folder = int(float(sys.argv[1]) * 1_000_000), sys.argv[2]
-    # A million elements for ten megabytes, of up to three bytes each.
-    count = size // 10
-    texts = {
-        "Texts/small": lambda: until(size, small),
-        "Texts/strings": lambda: until(size // 2, long) + until(size // 2, blob),
-        "Texts/packed": lambda: b"".join(length_delimited(4 + k, until(size // 3, part)) for k, part in enumerate((packed, change, place))),
-        "Texts/maps": lambda: until(size // 2, counted) + until(size // 2, entry),
-        "Texts/nests": lambda: until(size, lambda i: nest(i, 90)),
-        "Texts/unknown": lambda: until(size, unknown),
-        "Texts/repeats": lambda: length_delimited(11, until(size, repeat)),
-        # Open enums, to compare closed ones with: the elements of both are the same.
-        "Texts/open": lambda: length_delimited(12, wide(count)),
-        "Texts/openfew": lambda: length_delimited(12, few(count)),
-        "Old/groups": lambda: until(size, group),
-        "Old/inner": lambda: until(size, lambda i: inner_groups(i, 45)),
-        "Old/closed": lambda: length_delimited(3, wide(count)),
-        "Old/few": lambda: length_delimited(4, few(count)),
-        "Old.decode/gaps": lambda: length_delimited(3, wide(count, 10)),
-        "Old.decode/fewgaps": lambda: length_delimited(4, few(count, 10)),
-        "Old.decode/allgaps": lambda: length_delimited(4, few(count, 1)),
-    }
-    for name, text in texts.items():
-        os.makedirs(os.path.dirname(os.path.join(folder, name)), exist_ok=True)
-        with open(os.path.join(folder, name), "wb") as out:
-            out.write(text())
+    folder, scale = sys.argv[1], float(sys.argv[2]) if len(sys.argv) > 2 else 1
+    for size, (total, size_of) in SIZES.items():
+        for name, shape in SHAPES.items():
+            write(os.path.join(folder, size, name), shape, total, size_of, scale)
     with open(os.path.join(folder, "wide.proto"), "w") as out:
         out.write(wide_proto())
 

@@ -1,76 +1,106 @@
-// Times libprotobuf's dynamic messages on texts: peer SET TYPE CALLS FILE..
+// Measures libprotobuf's dynamic messages on texts: peer SET TYPE CALLS ROUNDS FILE..
 //
-// SET is what protoc --include_imports --descriptor_set_out wrote. CALLS is `both`, or `decode` where no text is encoded. For each
-// file a line a call and run: the file's name, the call, the bytes of the text, and the nanoseconds that the call took.
+// SET is what protoc --include_imports --descriptor_set_out wrote. The other words and what is printed are those of main.rt.txt.
 #include <google/protobuf/descriptor.h>
 #include <google/protobuf/descriptor.pb.h>
 #include <google/protobuf/dynamic_message.h>
 
-#include <chrono>
 #include <cstdio>
+#include <cstdlib>
+#include <ctime>
 #include <fstream>
 #include <iterator>
 #include <memory>
 #include <string>
+#include <vector>
 
 using namespace google::protobuf;
-using Clock = std::chrono::steady_clock;
-
-static const int runs = 5;
 
 static std::string contents(const char* path) {
     std::ifstream in(path, std::ios::binary);
     return std::string(std::istreambuf_iterator<char>(in), std::istreambuf_iterator<char>());
 }
 
-static void tell(const char* path, const char* call, size_t bytes, Clock::time_point start) {
-    auto spent = std::chrono::duration_cast<std::chrono::nanoseconds>(Clock::now() - start).count();
-    std::string name(path);
-    printf("%s %s %zu %lld\n", name.substr(name.rfind('/') + 1).c_str(), call, bytes, (long long)spent);
+static std::vector<std::string> texts_of(const std::string& file) {
+    std::vector<std::string> texts;
+    size_t at = 0;
+    while (at + 4 <= file.size()) {
+        size_t size = 0;
+        for (int k = 3; k >= 0; k--) size = size << 8 | (unsigned char)file[at + k];
+        texts.push_back(file.substr(at + 4, size));
+        at += 4 + size;
+    }
+    return texts;
+}
+
+// Processor time of the process, in nanoseconds.
+static long long now() {
+    timespec time;
+    clock_gettime(CLOCK_PROCESS_CPUTIME_ID, &time);
+    return time.tv_sec * 1000000000LL + time.tv_nsec;
 }
 
 // A message is made, read and dropped.
-static bool time_decode(const Message& prototype, const char* path, const std::string& text) {
-    for (int run = 0; run < runs; run++) {
-        auto start = Clock::now();
+static void time_decode(const Message& prototype, const char* path, const std::vector<std::string>& texts) {
+    size_t read = 0;
+    long long start = now();
+    for (const std::string& text : texts) {
         std::unique_ptr<Message> message(prototype.New());
-        if (!message->ParseFromString(text)) return false;
-        message.reset();
-        tell(path, "decode", text.size(), start);
+        if (message->ParseFromString(text)) read += text.size();
     }
-    return true;
+    printf("%s decode %zu %lld\n", path, read, now() - start);
 }
 
-static bool time_encode(const Message& prototype, const char* path, const std::string& text) {
-    std::unique_ptr<Message> message(prototype.New());
-    if (!message->ParseFromString(text)) return false;
-    for (int run = 0; run < runs; run++) {
-        auto start = Clock::now();
-        std::string out;
-        if (!message->SerializeToString(&out)) return false;
-        tell(path, "encode", text.size(), start);
-        if (out.size() != text.size()) fprintf(stderr, "%s: %zu bytes\n", path, out.size());
+static void measure_held(const Message& prototype, const char* path, const std::vector<std::string>& texts) {
+    size_t read = 0;
+    long long held = 0;
+    for (const std::string& text : texts) {
+        long long start = now();
+        std::unique_ptr<Message> message(prototype.New());
+        bool is_read = message->ParseFromString(text);
+        held += now() - start;
+        if (is_read) read += text.size();
     }
-    return true;
+    printf("%s held %zu %lld\n", path, read, held);
+}
+
+// The messages of all texts stand in memory before they are encoded.
+static void time_encode(const Message& prototype, const char* path, const std::vector<std::string>& texts, int rounds) {
+    std::vector<std::unique_ptr<Message>> messages;
+    for (const std::string& text : texts) {
+        messages.emplace_back(prototype.New());
+        messages.back()->ParseFromString(text);
+    }
+    for (int round = 0; round < rounds; round++) {
+        size_t written = 0;
+        long long start = now();
+        for (const auto& message : messages) {
+            std::string out;
+            if (message->SerializeToString(&out)) written += out.size();
+        }
+        printf("%s encode %zu %lld\n", path, written, now() - start);
+    }
 }
 
 int main(int count, char** words) {
     FileDescriptorSet set;
     DescriptorPool pool;
-    if (count < 4 || !set.ParseFromString(contents(words[1]))) return 2;
+    if (count < 5 || !set.ParseFromString(contents(words[1]))) return 2;
     for (const FileDescriptorProto& file : set.file())
         if (!pool.BuildFile(file)) return 2;
     const Descriptor* type = pool.FindMessageTypeByName(words[2]);
     if (!type) return 2;
     DynamicMessageFactory factory;
     const Message* prototype = factory.GetPrototype(type);
-    bool encodes = std::string(words[3]) == "both";
-    for (int k = 4; k < count; k++) {
-        std::string text = contents(words[k]);
-        if (!time_decode(*prototype, words[k], text) || (encodes && !time_encode(*prototype, words[k], text))) {
-            fprintf(stderr, "%s: not read\n", words[k]);
-            return 1;
+    std::string calls(words[3]);
+    int rounds = atoi(words[4]);
+    for (int k = 5; k < count; k++) {
+        std::vector<std::string> texts = texts_of(contents(words[k]));
+        for (int round = 0; round < rounds; round++) {
+            if (calls == "held") measure_held(*prototype, words[k], texts);
+            else time_decode(*prototype, words[k], texts);
         }
+        if (calls == "both") time_encode(*prototype, words[k], texts, rounds);
     }
     return 0;
 }

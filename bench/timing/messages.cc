@@ -3,8 +3,8 @@
 #include <google/protobuf/descriptor.pb.h>
 #include <google/protobuf/dynamic_message.h>
 
-#include <chrono>
 #include <cstdio>
+#include <ctime>
 #include <memory>
 #include <string>
 
@@ -46,17 +46,23 @@ static void set_small(Message* message) {
     reflection->SetInt64(message, type->FindFieldByNumber(4), -123456);
 }
 
+// Processor time of the process, in nanoseconds.
+static long long now() {
+    timespec time;
+    clock_gettime(CLOCK_PROCESS_CPUTIME_ID, &time);
+    return time.tv_sec * 1000000000LL + time.tv_nsec;
+}
+
 static void time_all(const char* name, const Message& message, int rounds) {
     for (int run = 0; run < 5; run++) {
         unsigned long long bytes = 0;
-        auto start = std::chrono::steady_clock::now();
+        long long start = now();
         for (int i = 0; i < rounds; i++) {
             std::string text;
             message.SerializeToString(&text);
             bytes += text.size();
         }
-        auto spent = std::chrono::steady_clock::now() - start;
-        printf("%s libprotobuf %d %llu %lld\n", name, rounds, bytes, (long long)std::chrono::duration_cast<std::chrono::nanoseconds>(spent).count());
+        printf("%s libprotobuf %d %llu %lld\n", name, rounds, bytes, now() - start);
     }
 }
 
