@@ -110,12 +110,12 @@ fn skip(alloc: Global) -> Result<Reply, Stop>
 }
 
 /// The canonical bytes of what bytes mean by a type, or why there are none.
-fn test(alloc: Global, pool: &Pool, kind: MessageId, bytes: &[u8]) -> Result<Reply, Stop>
-    requires { kind.0 < length pool.now.messages }
-    ensures made { IfOk result (λ r. IsTestOf pool.now kind.0 bytes.now (message_of r)) }
+fn test(alloc: Global, pool: &Pool, message_type: MessageId, bytes: &[u8]) -> Result<Reply, Stop>
+    requires { message_type.0 < length pool.now.messages }
+    ensures made { IfOk result (λ r. IsTestOf pool.now message_type.0 bytes.now (message_of r)) }
     ensures memory { IfErr result (λ e. e ≡ Memory) }
 {
-    match decode(alloc, pool, kind, bytes, Limits::FULL) {
+    match decode(alloc, pool, message_type, bytes, Limits::FULL) {
         Ok(message) => write(alloc, &message),
         Err(DecodeError::Fault { byte, path, cause }) => {
             tell_fault(alloc, PARSE_ERROR, byte, &path, cause)

@@ -81,22 +81,22 @@ fn read_pool<'a>(alloc: Global, set: &[u8]) -> Result<Pool, Refusal<'a>>
 pub fn read_message<'p, 'a, F: Files>(
     alloc: Global,
     pool: &'p Pool,
-    kind: MessageId,
+    message_type: MessageId,
     path: &'a str,
     files: &mut F,
 ) -> Result<DynamicMessage<'p>, Refusal<'a>>
-    requires { kind.0 < length pool.now.messages }
-    ensures of_type { IfOk result (λ m. (m.pool ≡ pool.now) × (m.kind ≡ kind.0)) }
-    ensures read { IfOk result (λ m. IsWellFormed pool.now kind.0 m.body
-        × OfFiles F.contents F.is_steady files.old path.entry.now (λ content. TextAt content pool.now kind.0 m.body)) }
+    requires { message_type.0 < length pool.now.messages }
+    ensures of_type { IfOk result (λ m. (m.pool ≡ pool.now) × (m.kind ≡ message_type.0)) }
+    ensures read { IfOk result (λ m. IsWellFormed pool.now message_type.0 m.body
+        × OfFiles F.contents F.is_steady files.old path.entry.now (λ content. TextAt content pool.now message_type.0 m.body)) }
     ensures refused { IfErr result (Refuses (λ a. IsMissing F.contents F.is_steady files.old path.entry.now a
-        ⊎ ((f : Fault) × OfFiles F.contents F.is_steady files.old path.entry.now (λ content. FaultAt content pool.now kind.0 f)
+        ⊎ ((f : Fault) × OfFiles F.contents F.is_steady files.old path.entry.now (λ content. FaultAt content pool.now message_type.0 f)
         × (a ≡ refused (fault_line f))))) }
     ensures kept { KeepsFailures F.failures files.old files.new result }
     ensures files { KeepsMap (F.contents files.old) (F.contents files.new) }
 {
     let mut input = open_file(path, files)?;
-    let message = decode_input(alloc, pool, kind, path, &mut input)?;
+    let message = decode_input(alloc, pool, message_type, path, &mut input)?;
     Ok(message)
 }
 
@@ -104,18 +104,18 @@ pub fn read_message<'p, 'a, F: Files>(
 fn decode_input<'p, 'a, I: Input>(
     alloc: Global,
     pool: &'p Pool,
-    kind: MessageId,
+    message_type: MessageId,
     path: &'a str,
     input: &mut I,
 ) -> Result<DynamicMessage<'p>, Refusal<'a>>
-    requires { kind.0 < length pool.now.messages }
-    ensures of_type { IfOk result (λ m. (m.pool ≡ pool.now) × (m.kind ≡ kind.0)) }
-    ensures well { IfOk result (λ m. IsWellFormed pool.now kind.0 m.body) }
-    ensures read { IfOk result (λ m. OfInput I.left I.is_steady input.old (λ content. TextAt content pool.now kind.0 m.body)) }
+    requires { message_type.0 < length pool.now.messages }
+    ensures of_type { IfOk result (λ m. (m.pool ≡ pool.now) × (m.kind ≡ message_type.0)) }
+    ensures well { IfOk result (λ m. IsWellFormed pool.now message_type.0 m.body) }
+    ensures read { IfOk result (λ m. OfInput I.left I.is_steady input.old (λ content. TextAt content pool.now message_type.0 m.body)) }
     ensures refused { IfErr result (Refuses (λ a. (OfInput I.left I.is_steady input.old (λ content. content ≡ None) × (a ≡ device_failed path.entry.now))
-        ⊎ ((f : Fault) × OfInput I.left I.is_steady input.old (λ content. FaultAt content pool.now kind.0 f) × (a ≡ refused (fault_line f))))) }
+        ⊎ ((f : Fault) × OfInput I.left I.is_steady input.old (λ content. FaultAt content pool.now message_type.0 f) × (a ≡ refused (fault_line f))))) }
 {
-    match decode_from(alloc, pool, kind, input, Limits::FULL) {
+    match decode_from(alloc, pool, message_type, input, Limits::FULL) {
         Ok(message) => {
             let _body = message.body();
             Ok(message)

@@ -56,20 +56,20 @@ pub fn frames<'a, F: Files, O: Output>(
 fn frames_at<'a, F: Files, O: Output>(
     alloc: Global,
     pool: &Pool,
-    kind: MessageId,
+    message_type: MessageId,
     path: &'a str,
     files: &mut F,
     out: &mut O,
 ) -> Result<(), Refusal<'a>>
-    requires { kind.0 < length pool.now.messages }
+    requires { message_type.0 < length pool.now.messages }
     ensures comes { Comes (Sent O.written O.failures out.old out.new) (Cut O.written O.failures out.old out.new)
         (IsSaved F.contents files.old files.new) (IsUnsaved F.contents F.failures files.old files.new)
-        (StreamAt F.contents F.is_steady files.old pool.now kind.0 path.entry.now)
-        (StreamBegunAt F.contents F.is_steady files.old pool.now kind.0 path.entry.now) result }
+        (StreamAt F.contents F.is_steady files.old pool.now message_type.0 path.entry.now)
+        (StreamBegunAt F.contents F.is_steady files.old pool.now message_type.0 path.entry.now) result }
     ensures kept { KeepsFailures F.failures files.old files.new result }
 {
     let input = open_file(path, files)?;
-    let mut reader = DelimitedReader::new(alloc, pool, kind, input, Limits::FULL);
+    let mut reader = DelimitedReader::new(alloc, pool, message_type, input, Limits::FULL);
     write_frames(&mut reader, path, out)
 }
 

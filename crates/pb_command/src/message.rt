@@ -37,17 +37,17 @@ fn message_at<'a, F: Files, O: Output>(
     alloc: Global,
     form: Form<'a>,
     pool: &Pool,
-    kind: MessageId,
+    message_type: MessageId,
     path: &'a str,
     files: &mut F,
     out: &mut O,
 ) -> Result<(), Refusal<'a>>
-    requires { kind.0 < length pool.now.messages }
+    requires { message_type.0 < length pool.now.messages }
     ensures comes { Comes (Sent O.written O.failures out.old out.new) (Cut O.written O.failures out.old out.new)
         (IsSaved F.contents files.old files.new) (IsUnsaved F.contents F.failures files.old files.new)
-        (MessageAt F.contents F.is_steady files.old form.entry pool.now kind.0 path.entry.now) IsNothing result }
+        (MessageAt F.contents F.is_steady files.old form.entry pool.now message_type.0 path.entry.now) IsNothing result }
     ensures kept { KeepsFailures F.failures files.old files.new result }
 {
-    let message = read_message(alloc, pool, kind, path, files)?;
+    let message = read_message(alloc, pool, message_type, path, files)?;
     make(form, &message, files, out)
 }

@@ -19,17 +19,17 @@ use std::alloc::Global;
 fn read_frame<'p, I: Input>(
     alloc: Global,
     pool: &'p Pool,
-    kind: MessageId,
+    message_type: MessageId,
     input: &mut I,
     size: u32,
     limits: Limits,
 ) -> Result<DynamicMessage<'p>, DecodeError>
-    requires within { kind.0 < length pool.now.messages }
+    requires within { message_type.0 < length pool.now.messages }
     requires size { size ≤ limits.bytes }
-    ensures of_type { IfOk result (λ m. (m.pool ≡ pool.now) × (m.kind ≡ kind.0)) }
-    ensures value { IfSome (I.left input.old) (λ left. IfOk result (λ m. IsFrameOf pool.now kind.0 limits size left m.body)) }
+    ensures of_type { IfOk result (λ m. (m.pool ≡ pool.now) × (m.kind ≡ message_type.0)) }
+    ensures value { IfSome (I.left input.old) (λ left. IfOk result (λ m. IsFrameOf pool.now message_type.0 limits size left m.body)) }
     ensures rest { OnOk result (IfSome (I.left input.old) (λ left. I.left input.new ≡ Some (drop size left))) }
-    ensures fault { IfErr result (λ e. IfRefused e (λ f. IfSome (I.left input.old) (λ left. BadFrame pool.now kind.0 limits.depth 0 size left f))) }
+    ensures fault { IfErr result (λ e. IfRefused e (λ f. IfSome (I.left input.old) (λ left. BadFrame pool.now message_type.0 limits.depth 0 size left f))) }
     ensures low { IfErr result (λ e. IfRefused e (λ f. f.byte < 2 ^ 31)) }
     ensures most { TakesAtMost size (I.left input.old) (I.left input.new) }
     ensures failures { TellsFailures result (I.failures input.old) (I.failures input.new) }
@@ -37,10 +37,10 @@ fn read_frame<'p, I: Input>(
     ensures stays { I.is_steady input.old ≡ true → I.is_steady input.new ≡ true }
 {
     let _types = pool.messages();
-    let mut reading = begin_empty(alloc, pool, kind, limits, Some(size));
+    let mut reading = begin_empty(alloc, pool, message_type, limits, Some(size));
     let _small = limits.max_bytes();
     read_pieces(alloc, pool, &mut reading, input, size as usize)?;
-    finish_message(alloc, pool, kind, reading)
+    finish_message(alloc, pool, message_type, reading)
 }
 
 /// The error with its byte counted from so far before.
@@ -64,25 +64,25 @@ fn counted_from(error: DecodeError, start: u64) -> DecodeError
 fn read_frame_at<'p, I: Input>(
     alloc: Global,
     pool: &'p Pool,
-    kind: MessageId,
+    message_type: MessageId,
     input: &mut I,
     start: u64,
     size: u32,
     limits: Limits,
 ) -> Result<DynamicMessage<'p>, DecodeError>
-    requires within { kind.0 < length pool.now.messages }
+    requires within { message_type.0 < length pool.now.messages }
     requires start { start ≤ 10 }
     requires size { size ≤ limits.bytes }
-    ensures of_type { IfOk result (λ m. (m.pool ≡ pool.now) × (m.kind ≡ kind.0)) }
-    ensures value { IfSome (I.left input.old) (λ left. IfOk result (λ m. IsFrameOf pool.now kind.0 limits size left m.body)) }
+    ensures of_type { IfOk result (λ m. (m.pool ≡ pool.now) × (m.kind ≡ message_type.0)) }
+    ensures value { IfSome (I.left input.old) (λ left. IfOk result (λ m. IsFrameOf pool.now message_type.0 limits size left m.body)) }
     ensures rest { OnOk result (IfSome (I.left input.old) (λ left. I.left input.new ≡ Some (drop size left))) }
-    ensures fault { IfErr result (λ e. IfRefused e (λ f. IfSome (I.left input.old) (λ left. BadFrame pool.now kind.0 limits.depth start size left f))) }
+    ensures fault { IfErr result (λ e. IfRefused e (λ f. IfSome (I.left input.old) (λ left. BadFrame pool.now message_type.0 limits.depth start size left f))) }
     ensures most { TakesAtMost size (I.left input.old) (I.left input.new) }
     ensures failures { TellsFailures result (I.failures input.old) (I.failures input.new) }
     ensures steady { I.is_steady input.old ≡ true → result ≢ Err Device }
     ensures stays { I.is_steady input.old ≡ true → I.is_steady input.new ≡ true }
 {
-    match read_frame(alloc, pool, kind, input, size, limits) {
+    match read_frame(alloc, pool, message_type, input, size, limits) {
         Ok(message) => Ok(message),
         Err(error) => Err(counted_from(error, start)),
     }
@@ -93,7 +93,7 @@ fn read_frame_at<'p, I: Input>(
 ///
 /// The place of the first byte is `start`, at most 10, as it stands behind a length. The end of the frame is known: a token
 /// that would pass it is refused as [`Cause::PastEnd`](pb_wire::Cause::PastEnd). `size` is at most what the limits allow, and
-/// `kind` is a type of the pool. [`DecodeError::Device`] says that the input failed.
+/// `message_type` is a type of the pool. [`DecodeError::Device`] says that the input failed.
 pub fn decode_frame<'p, I: Input>(
     alloc: Global,
     pool: &'p Pool,

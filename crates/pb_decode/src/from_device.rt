@@ -113,17 +113,17 @@ fn has_byte<I: Input>(input: &mut I) -> Result<bool, DecodeError>
 fn read_within<I: Input>(
     alloc: Global,
     pool: &Pool,
-    kind: MessageId,
+    message_type: MessageId,
     limits: Limits,
     reading: &mut Reading,
     input: &mut I,
 ) -> Result<(), DecodeError>
     requires rules { IsPool pool.now }
-    requires took { (base : List Record) × ReadFrom pool.now (origin kind.0 limits.depth base None) reading.old }
+    requires took { (base : List Record) × ReadFrom pool.now (origin message_type.0 limits.depth base None) reading.old }
     ensures read { OnOk result ((n : ℕ) × (n ≤ limits.bytes) × ReadsOn pool.now reading.old reading.new (I.left input.old) (I.left input.new) n) }
     ensures ends { OnOk result (IsAtEnd (I.left input.new)) }
     ensures small { limits.bytes < 2 ^ 31 }
-    ensures fault { IfErr result (λ e. IfRefused e (λ f. IfSome (I.left input.old) (λ left. IsFaultOf pool.now kind.0 limits left f))) }
+    ensures fault { IfErr result (λ e. IfRefused e (λ f. IfSome (I.left input.old) (λ left. IsFaultOf pool.now message_type.0 limits left f))) }
     ensures most { TakesAtMost (limits.bytes + 1) (I.left input.old) (I.left input.new) }
     ensures failures { TellsFailures result (I.failures input.old) (I.failures input.new) }
     ensures steady { I.is_steady input.old ≡ true → result ≢ Err Device }
@@ -145,31 +145,31 @@ fn read_within<I: Input>(
 fn read_message<'p, I: Input>(
     alloc: Global,
     pool: &'p Pool,
-    kind: MessageId,
+    message_type: MessageId,
     input: &mut I,
     limits: Limits,
 ) -> Result<DynamicMessage<'p>, DecodeError>
-    requires { kind.0 < length pool.now.messages }
-    ensures of_type { IfOk result (λ m. (m.pool ≡ pool.now) × (m.kind ≡ kind.0)) }
-    ensures value { IfSome (I.left input.old) (λ left. IfOk result (λ m. Text pool.now kind.0 limits left m.body)) }
+    requires { message_type.0 < length pool.now.messages }
+    ensures of_type { IfOk result (λ m. (m.pool ≡ pool.now) × (m.kind ≡ message_type.0)) }
+    ensures value { IfSome (I.left input.old) (λ left. IfOk result (λ m. Text pool.now message_type.0 limits left m.body)) }
     ensures rest { OnOk result (IfSome (I.left input.old) (λ left. I.left input.new ≡ Some [])) }
-    ensures fault { IfErr result (λ e. IfRefused e (λ f. IfSome (I.left input.old) (λ left. IsFaultOf pool.now kind.0 limits left f))) }
+    ensures fault { IfErr result (λ e. IfRefused e (λ f. IfSome (I.left input.old) (λ left. IsFaultOf pool.now message_type.0 limits left f))) }
     ensures most { TakesAtMost (limits.bytes + 1) (I.left input.old) (I.left input.new) }
     ensures failures { TellsFailures result (I.failures input.old) (I.failures input.new) }
     ensures steady { I.is_steady input.old ≡ true → result ≢ Err Device }
     ensures stays { I.is_steady input.old ≡ true → I.is_steady input.new ≡ true }
 {
     let _types = pool.messages();
-    let mut reading = begin_empty(alloc, pool, kind, limits, None);
-    read_within(alloc, pool, kind, limits, &mut reading, input)?;
-    finish_message(alloc, pool, kind, reading)
+    let mut reading = begin_empty(alloc, pool, message_type, limits, None);
+    read_within(alloc, pool, message_type, limits, &mut reading, input)?;
+    finish_message(alloc, pool, message_type, reading)
 }
 
 /// Decodes a message of a type from what an input gives up to its end (encoding guide, "Message Structure").
 ///
 /// The answer is that of the bytes as a whole, however the input cuts them: the message's value, or [`DecodeError::Fault`]
 /// with the first byte that no text of the type can have there. [`DecodeError::Device`] says that the input failed. What is
-/// held meanwhile is the message so far and the bytes of one open token or payload. `kind` is a type of the pool.
+/// held meanwhile is the message so far and the bytes of one open token or payload. `message_type` is a type of the pool.
 pub fn decode_from<'p, I: Input>(
     alloc: Global,
     pool: &'p Pool,

@@ -9,8 +9,8 @@
 //!
 //! /// How many fields a message of type T has, or where its bytes fail and why.
 //! fn told(alloc: Global, pool: &Pool, bytes: &[u8]) -> Result<String, Fail> {
-//!     let kind = pool.message_by_name("T").ok_or("no type T")?;
-//!     match decode(alloc, pool, kind, bytes, Limits::FULL) {
+//!     let message_type = pool.message_by_name("T").ok_or("no type T")?;
+//!     match decode(alloc, pool, message_type, bytes, Limits::FULL) {
 //!         Ok(message) => Ok(format!(in alloc; "{} fields", message.body().fields.len())?),
 //!         Err(error) => Ok(format!(in alloc; "{error}")?), // the byte and the cause of a fault, which has a path too
 //!     }

@@ -29,18 +29,18 @@ use std::alloc::Global;
 fn take_within(
     alloc: Global,
     pool: &Pool,
-    kind: MessageId,
+    message_type: MessageId,
     limits: Limits,
     reading: &mut Reading,
     bytes: &[u8],
 ) -> Result<(), DecodeError>
     requires rules { IsPool pool.now }
-    requires took { (base : List Record) × ReadFrom pool.now (origin kind.0 limits.depth base None) reading.old }
+    requires took { (base : List Record) × ReadFrom pool.now (origin message_type.0 limits.depth base None) reading.old }
     ensures size { OnOk result (length bytes.now ≤ limits.bytes) }
     ensures at { OnOk result (received reading.new ≡ length bytes.now) }
-    ensures took { (base : List Record) → ReadFrom pool.now (origin kind.0 limits.depth base None) reading.old
-        → OnOk result (ReadFrom pool.now (further (origin kind.0 limits.depth base None) bytes.now) reading.new) }
-    ensures fault { IfErr result (λ e. IfFault e (IsFaultOf pool.now kind.0 limits bytes.now)) }
+    ensures took { (base : List Record) → ReadFrom pool.now (origin message_type.0 limits.depth base None) reading.old
+        → OnOk result (ReadFrom pool.now (further (origin message_type.0 limits.depth base None) bytes.now) reading.new) }
+    ensures fault { IfErr result (λ e. IfFault e (IsFaultOf pool.now message_type.0 limits bytes.now)) }
 {
     let most = limits.max_bytes();
     if bytes.len() > most as usize {
@@ -54,23 +54,23 @@ fn take_within(
 pub(crate) fn read_onto<'p>(
     alloc: Global,
     pool: &'p Pool,
-    kind: MessageId,
+    message_type: MessageId,
     body: Body,
     bytes: &[u8],
     limits: Limits,
 ) -> Result<DynamicMessage<'p>, DecodeError>
     requires rules { IsPool pool.now }
-    requires within { kind.0 < length pool.now.messages }
-    requires well_formed { IsWellFormed pool.now kind.0 (body_view body) }
+    requires within { message_type.0 < length pool.now.messages }
+    requires well_formed { IsWellFormed pool.now message_type.0 (body_view body) }
     ensures deep { limits.depth ≤ 100 }
-    ensures of_type { IfOk result (λ m. (m.pool ≡ pool.now) × (m.kind ≡ kind.0)) }
-    ensures value { IfOk result (λ m. IsTextOnto pool.now kind.0 limits (body_view body) bytes.now m.body) }
-    ensures fault { IfErr result (λ e. IfFault e (IsFaultOf pool.now kind.0 limits bytes.now)) }
+    ensures of_type { IfOk result (λ m. (m.pool ≡ pool.now) × (m.kind ≡ message_type.0)) }
+    ensures value { IfOk result (λ m. IsTextOnto pool.now message_type.0 limits (body_view body) bytes.now m.body) }
+    ensures fault { IfErr result (λ e. IfFault e (IsFaultOf pool.now message_type.0 limits bytes.now)) }
 {
     let room = limits.max_depth();
-    let mut reading = begin_at(alloc, kind, body, room, None);
-    take_within(alloc, pool, kind, limits, &mut reading, bytes)?;
-    finish_message(alloc, pool, kind, reading)
+    let mut reading = begin_at(alloc, message_type, body, room, None);
+    take_within(alloc, pool, message_type, limits, &mut reading, bytes)?;
+    finish_message(alloc, pool, message_type, reading)
 }
 
 /// Decodes bytes onto a message of their type: the answer is what the message's canonical form and the bytes behind it mean

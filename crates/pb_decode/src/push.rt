@@ -153,17 +153,18 @@ fn room_for(most: u32, reading: &Reading) -> usize
 pub(crate) fn take_text(
     alloc: Global,
     pool: &Pool,
-    kind: MessageId,
+    message_type: MessageId,
     limits: Limits,
     reading: &mut Reading,
     piece: &[u8],
 ) -> Result<(), DecodeError>
     requires rules { IsPool pool.now }
-    requires took { ReadSome pool.now kind.0 limits reading.old }
-    ensures after { (b : List ℕ) → ReadText pool.now kind.0 limits b reading.old → OnOk result (ReadText pool.now kind.0 limits (b ++ piece.now) reading.new) }
+    requires took { ReadSome pool.now message_type.0 limits reading.old }
+    ensures after { (b : List ℕ) → ReadText pool.now message_type.0 limits b reading.old
+        → OnOk result (ReadText pool.now message_type.0 limits (b ++ piece.now) reading.new) }
     ensures waits { OnOk result (Waits (state_view reading.new.reader) reading.new.held.items) }
-    ensures fault { (b : List ℕ) → ReadText pool.now kind.0 limits b reading.old
-        → IfErr result (λ e. IfFault e (IsSettled pool.now kind.0 limits (b ++ piece.now))) }
+    ensures fault { (b : List ℕ) → ReadText pool.now message_type.0 limits b reading.old
+        → IfErr result (λ e. IfFault e (IsSettled pool.now message_type.0 limits (b ++ piece.now))) }
 {
     let most = limits.max_bytes();
     let room = room_for(most, reading);
@@ -175,12 +176,12 @@ pub(crate) fn take_text(
 }
 
 /// Where no byte is taken yet.
-pub(crate) fn start(alloc: Global, pool: &Pool, kind: MessageId, limits: Limits) -> Reading
-    requires { kind.0 < length pool.now.messages }
-    ensures took { ReadText pool.now kind.0 limits [] result }
+pub(crate) fn start(alloc: Global, pool: &Pool, message_type: MessageId, limits: Limits) -> Reading
+    requires { message_type.0 < length pool.now.messages }
+    ensures took { ReadText pool.now message_type.0 limits [] result }
     ensures waits { Waits (state_view result.reader) result.held.items }
 {
-    begin_empty(alloc, pool, kind, limits, None)
+    begin_empty(alloc, pool, message_type, limits, None)
 }
 
 /// How many packed lists are open.
@@ -218,25 +219,26 @@ pub(crate) fn cut_short(alloc: Global, reading: &Reading) -> DecodeError
 pub(crate) fn end<'p>(
     alloc: Global,
     pool: &'p Pool,
-    kind: MessageId,
+    message_type: MessageId,
     limits: Limits,
     reading: Reading,
 ) -> Result<DynamicMessage<'p>, DecodeError>
     requires rules { IsPool pool.now }
-    requires within { kind.0 < length pool.now.messages }
-    requires took { ReadSome pool.now kind.0 limits reading }
-    ensures of_type { IfOk result (λ m. (m.pool ≡ pool.now) × (m.kind ≡ kind.0)) }
-    ensures value { (b : List ℕ) → ReadText pool.now kind.0 limits b reading → IfOk result (λ m. Text pool.now kind.0 limits b m.body) }
-    ensures fault { (b : List ℕ) → ReadText pool.now kind.0 limits b reading → IfErr result (λ e. IfFault e (IsFaultOf pool.now kind.0 limits b)) }
+    requires within { message_type.0 < length pool.now.messages }
+    requires took { ReadSome pool.now message_type.0 limits reading }
+    ensures of_type { IfOk result (λ m. (m.pool ≡ pool.now) × (m.kind ≡ message_type.0)) }
+    ensures value { (b : List ℕ) → ReadText pool.now message_type.0 limits b reading → IfOk result (λ m. Text pool.now message_type.0 limits b m.body) }
+    ensures fault { (b : List ℕ) → ReadText pool.now message_type.0 limits b reading
+        → IfErr result (λ e. IfFault e (IsFaultOf pool.now message_type.0 limits b)) }
 {
     let _small = limits.max_bytes();
-    finish_message(alloc, pool, kind, reading)
+    finish_message(alloc, pool, message_type, reading)
 }
 
 /// Decodes a message of a type from the bytes of its text (encoding guide, "Message Structure").
 ///
 /// The answer is the message's value, or [`DecodeError::Fault`] with the first byte that no text of the type can have there.
-/// `kind` is a type of the pool. Bytes past the limits are refused.
+/// `message_type` is a type of the pool. Bytes past the limits are refused.
 pub fn decode<'p>(
     alloc: Global,
     pool: &'p Pool,

@@ -56,7 +56,7 @@ impl<'p> PushDecoder<'p> {
     ghost use Rattle.pb_decode.specs.Received.{After, IsTextFor, IsFaultFor, IsSettledFor, IsGoingFor, IsPendingFor, IsOpenFor, IsDeclaredFor};
     ghost use Rattle.pb_decode.specs.Push.{Gives, Tells};
 
-    /// A decoder that has received no byte. `kind` is a type of the pool.
+    /// A decoder that has received no byte. `message_type` is a type of the pool.
     pub fn new(
         alloc: Global,
         pool: &'p Pool,

@@ -17,29 +17,29 @@ use std::test::Fail;
 fn decode_whole<'p>(
     alloc: Global,
     pool: &'p Pool,
-    kind: MessageId,
+    message_type: MessageId,
     bytes: &[u8],
     limits: Limits,
 ) -> Result<DynamicMessage<'p>, DecodeError>
-    requires { kind.0 < length pool.now.messages }
-    ensures { Answers pool.now kind.0 limits bytes.now result }
+    requires { message_type.0 < length pool.now.messages }
+    ensures { Answers pool.now message_type.0 limits bytes.now result }
 {
-    decode(alloc, pool, kind, bytes, limits)
+    decode(alloc, pool, message_type, bytes, limits)
 }
 
 /// What is answered to pieces that are fed one by one: the same as to their joining at once.
 fn decode_pieces<'p>(
     alloc: Global,
     pool: &'p Pool,
-    kind: MessageId,
+    message_type: MessageId,
     pieces: &[&[u8]],
     limits: Limits,
 ) -> Result<DynamicMessage<'p>, DecodeError>
-    requires { kind.0 < length pool.now.messages }
-    ensures { Answers pool.now kind.0 limits (joined pieces.now) result }
+    requires { message_type.0 < length pool.now.messages }
+    ensures { Answers pool.now message_type.0 limits (joined pieces.now) result }
 {
     laws::settled_fault();
-    let mut decoder = PushDecoder::new(alloc, pool, kind, limits)?;
+    let mut decoder = PushDecoder::new(alloc, pool, message_type, limits)?;
     for piece in pieces {
         if let Err(error) = decoder.feed(piece) {
             return Err(error);

@@ -27,33 +27,33 @@ use std::collections::BTreeMap;
 #[cycle(measure)]
 pub(crate) fn message_len(
     pool: &Pool,
-    kind: MessageId,
+    message_type: MessageId,
     body: &Body,
     lengths: &mut Lengths,
 ) -> Result<u128, AllocError>
-    requires { kind.0 < length pool.now.messages }
-    ensures { Measures lengths.old lengths.new result (lengths_in_message pool.now kind.0 (body_view body.now))
-        (length (canon_bytes pool.now kind.0 (body_view body.now))) }
+    requires { message_type.0 < length pool.now.messages }
+    ensures { Measures lengths.old lengths.new result (lengths_in_message pool.now message_type.0 (body_view body.now))
+        (length (canon_bytes pool.now message_type.0 (body_view body.now))) }
 {
-    let known = fields_len(pool, kind, &body.fields, lengths)?;
+    let known = fields_len(pool, message_type, &body.fields, lengths)?;
     Ok(known.saturating_add(unknowns_len(&body.unknown)))
 }
 
 #[cycle(measure)]
 fn fields_len(
     pool: &Pool,
-    kind: MessageId,
+    message_type: MessageId,
     fields: &BTreeMap<u32, Content>,
     lengths: &mut Lengths,
 ) -> Result<u128, AllocError>
-    requires { kind.0 < length pool.now.messages }
-    ensures { let all = message_fields pool.now kind.0 in let fs = fields_view fields.now.entries in
+    requires { message_type.0 < length pool.now.messages }
+    ensures { let all = message_fields pool.now message_type.0 in let fs = fields_view fields.now.entries in
         Measures lengths.old lengths.new result (lengths_in_fields pool.now all fs)
         (length (shortest_records (canon_fields pool.now all fs))) }
 {
     let mut total = 0u128;
     for (number, content) in fields {
-        if let Some(field) = field_at(pool, kind, *number) {
+        if let Some(field) = field_at(pool, message_type, *number) {
             total = total.saturating_add(content_len(pool, field, content, lengths)?);
         }
     }
@@ -207,13 +207,13 @@ fn elements_len(kind: Kind, values: &Vec<Value>) -> u128
 }
 
 /// The field of a number in a message type. The type that its kind names is one of the pool.
-pub(crate) fn field_at(pool: &Pool, kind: MessageId, number: u32) -> Option<&Field>
-    requires { kind.0 < length pool.now.messages }
-    ensures found { option_map (λ f. field_view f.now) result ≡ field_numbered number (message_fields pool.now kind.0) }
+pub(crate) fn field_at(pool: &Pool, message_type: MessageId, number: u32) -> Option<&Field>
+    requires { message_type.0 < length pool.now.messages }
+    ensures found { option_map (λ f. field_view f.now) result ≡ field_numbered number (message_fields pool.now message_type.0) }
     ensures named { IfSome result (λ f. NamesType (length pool.now.messages) (length pool.now.enums) f.now.kind) }
     ensures rules { IsPool pool.now }
 {
-    pool.field_by_number(kind, number)
+    pool.field_by_number(message_type, number)
 }
 
 pub(crate) fn is_packed(shape: Shape) -> bool

@@ -39,16 +39,16 @@ pub(crate) fn write_message<O: Output>(
     sink: &mut Sink,
     out: &mut O,
     pool: &Pool,
-    kind: MessageId,
+    message_type: MessageId,
     body: &Body,
     lengths: &[u32],
     at: usize,
 ) -> usize
-    requires { kind.0 < length pool.now.messages }
+    requires { message_type.0 < length pool.now.messages }
     ensures { Writes O.written O.failures out.old out.new sink.old sink.new lengths.now at result
-        (lengths_in_message pool.now kind.0 (body_view body.now)) (canon_bytes pool.now kind.0 (body_view body.now)) }
+        (lengths_in_message pool.now message_type.0 (body_view body.now)) (canon_bytes pool.now message_type.0 (body_view body.now)) }
 {
-    let next = write_fields(sink, out, pool, kind, &body.fields, lengths, at);
+    let next = write_fields(sink, out, pool, message_type, &body.fields, lengths, at);
     if sink.has_failed() {
         return next;
     }
@@ -61,13 +61,13 @@ fn write_fields<O: Output>(
     sink: &mut Sink,
     out: &mut O,
     pool: &Pool,
-    kind: MessageId,
+    message_type: MessageId,
     fields: &BTreeMap<u32, Content>,
     lengths: &[u32],
     at: usize,
 ) -> usize
-    requires { kind.0 < length pool.now.messages }
-    ensures { let all = message_fields pool.now kind.0 in let fs = fields_view fields.now.entries in
+    requires { message_type.0 < length pool.now.messages }
+    ensures { let all = message_fields pool.now message_type.0 in let fs = fields_view fields.now.entries in
         Writes O.written O.failures out.old out.new sink.old sink.new lengths.now at result
         (lengths_in_fields pool.now all fs) (shortest_records (canon_fields pool.now all fs)) }
 {
@@ -76,7 +76,7 @@ fn write_fields<O: Output>(
         if sink.has_failed() {
             return next;
         }
-        if let Some(field) = field_at(pool, kind, *number) {
+        if let Some(field) = field_at(pool, message_type, *number) {
             next = write_content(sink, out, pool, field, content, lengths, next);
         }
     }

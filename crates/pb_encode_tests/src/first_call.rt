@@ -9,8 +9,8 @@ use std::test::Fail;
 
 /// The canonical bytes of a message whose int32 field 1 is 150: 08 96 01.
 fn encoded(alloc: Global, pool: &Pool) -> Result<Vec<u8>, Fail> {
-    let kind = pool.message_by_name("T").ok_or("no type T")?;
-    let mut message = DynamicMessage::new(alloc, pool, kind);
+    let message_type = pool.message_by_name("T").ok_or("no type T")?;
+    let mut message = DynamicMessage::new(alloc, pool, message_type);
     message.set(1, Content::One(Value::I32(150)))?;
     let bytes = encode(&message)?; // or that they are too many, or want of memory
     Ok(bytes)

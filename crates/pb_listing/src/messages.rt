@@ -73,15 +73,15 @@ fn put_message<O: Output>(
     out: &mut O,
     level: usize,
     pool: &Pool,
-    kind: MessageId,
+    message_type: MessageId,
     body: &Body,
 )
     requires low { level ≤ 101 }
-    requires within { kind.0 < length pool.now.messages }
+    requires within { message_type.0 < length pool.now.messages }
     ensures { level + message_depth (body_view body.now) ≤ 101
-        → Puts O.written O.failures out.old out.new sink.old sink.new (message_lines pool.now level kind.0 (body_view body.now)) }
+        → Puts O.written O.failures out.old out.new sink.old sink.new (message_lines pool.now level message_type.0 (body_view body.now)) }
 {
-    put_fields(sink, out, level, pool, kind, &body.fields);
+    put_fields(sink, out, level, pool, message_type, &body.fields);
     put_unknown(sink, out, level, &body.unknown);
 }
 
@@ -91,20 +91,20 @@ fn put_fields<O: Output>(
     out: &mut O,
     level: usize,
     pool: &Pool,
-    kind: MessageId,
+    message_type: MessageId,
     fields: &BTreeMap<u32, Content>,
 )
     requires low { level ≤ 101 }
-    requires within { kind.0 < length pool.now.messages }
+    requires within { message_type.0 < length pool.now.messages }
     ensures { level + fields_depth (fields_view fields.now.entries) ≤ 101
         → Puts O.written O.failures out.old out.new sink.old sink.new
-        (fields_lines pool.now level (message_fields pool.now kind.0) (fields_view fields.now.entries)) }
+        (fields_lines pool.now level (message_fields pool.now message_type.0) (fields_view fields.now.entries)) }
 {
     for (number, content) in fields {
         if sink.has_failed() {
             return;
         }
-        if let Some(field) = pool.field_by_number(kind, *number) {
+        if let Some(field) = pool.field_by_number(message_type, *number) {
             put_content(sink, out, level, pool, field, content);
         }
     }

@@ -39,7 +39,7 @@ impl<'p, I: Input + Drop> DelimitedReader<'p, I> {
     ghost use Rattle.pb_stream.specs.Answers.{AnswersFrame, TellsFrameFault, AcceptsFrame, RefusesFrameFault};
     ghost use Rattle.pb_stream.specs.Taking.{StaysInFrame, TakesNone, Counts};
 
-    /// A reader that has taken no byte. `kind` is a type of the pool.
+    /// A reader that has taken no byte. `message_type` is a type of the pool.
     pub fn new(
         alloc: Global,
         pool: &'p Pool,

@@ -83,7 +83,7 @@ pub(crate) fn read_frame<'p, I: Input>(
 ///
 /// Just the frame is read: the length byte by byte, and then the bytes that it counts. Where the input begins with no frame,
 /// [`DecodeError::Fault`] tells the place from the first byte of the length on, and no byte past the frame is read. A length
-/// above `max_bytes` of the limits is too large. `kind` is a type of the pool.
+/// above `max_bytes` of the limits is too large. `message_type` is a type of the pool.
 pub fn read_delimited<'p, I: Input>(
     alloc: Global,
     pool: &'p Pool,

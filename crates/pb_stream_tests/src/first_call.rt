@@ -9,9 +9,9 @@ use std::test::Fail;
 
 /// How many messages of type T stand in a stream, each behind its length.
 fn count(alloc: Global, pool: &Pool, stream: &[u8]) -> Result<u64, Fail> {
-    let kind = pool.message_by_name("T").ok_or("no type T")?;
+    let message_type = pool.message_by_name("T").ok_or("no type T")?;
     let input = MemInput::new(stream, 4096, FailurePlan::NEVER); // or `ReadInput::new(rt.stdin())`
-    let mut reader = DelimitedReader::new(alloc, pool, kind, input, Limits::FULL);
+    let mut reader = DelimitedReader::new(alloc, pool, message_type, input, Limits::FULL);
     let mut count = 0;
     for index in 1..u64::MAX {
         if reader.next()?.is_none() {

@@ -51,19 +51,19 @@ pub fn take_field(message: &mut Body, number: u32) -> Option<Content>
 #[inline(always)]
 pub(crate) fn gives_way(
     pool: &Pool,
-    kind: MessageId,
+    message_type: MessageId,
     fields: &BTreeMap<u32, Content>,
     shape: Shape,
     number: u32,
 ) -> Option<u32>
-    requires within { kind.0 < length pool.now.messages }
-    requires one_each { HasOneMemberEach (message_fields pool.now kind.0) (fields_view fields.now.entries) }
-    ensures { result ≡ gives_way (message_fields pool.now kind.0) shape number (fields_view fields.now.entries) }
+    requires within { message_type.0 < length pool.now.messages }
+    requires one_each { HasOneMemberEach (message_fields pool.now message_type.0) (fields_view fields.now.entries) }
+    ensures { result ≡ gives_way (message_fields pool.now message_type.0) shape number (fields_view fields.now.entries) }
 {
     let Shape::OneofMember(oneof) = shape else {
         return None;
     };
-    let member = set_member(pool, kind, fields, oneof)?;
+    let member = set_member(pool, message_type, fields, oneof)?;
     if member == number { None } else { Some(member) }
 }
 
@@ -71,15 +71,15 @@ pub(crate) fn gives_way(
 #[inline(always)]
 pub fn store(
     pool: &Pool,
-    kind: MessageId,
+    message_type: MessageId,
     message: &mut Body,
     shape: Shape,
     number: u32,
     content: Content,
 ) -> Result<(), ValueError>
-    requires within { kind.0 < length pool.now.messages }
-    requires one_each { HasOneMemberEach (message_fields pool.now kind.0) (fields_of (body_view message.old)) }
-    ensures ok { OnOk result (ChangesFields (stored_at (message_fields pool.now kind.0) shape number (content_view content))
+    requires within { message_type.0 < length pool.now.messages }
+    requires one_each { HasOneMemberEach (message_fields pool.now message_type.0) (fields_of (body_view message.old)) }
+    ensures ok { OnOk result (ChangesFields (stored_at (message_fields pool.now message_type.0) shape number (content_view content))
         (body_view message.old) (body_view message.new)) }
     ensures err { OnErr result (body_view message.new ≡ body_view message.old) }
     ensures memory { IfErr result (λ e. e ≡ Memory) }
@@ -88,7 +88,7 @@ pub fn store(
         clear_field(message, number);
         return Ok(());
     }
-    let other = gives_way(pool, kind, &message.fields, shape, number);
+    let other = gives_way(pool, message_type, &message.fields, shape, number);
     put_field(message, number, content)?;
     if let Some(other) = other {
         clear_field(message, other);

@@ -17,10 +17,13 @@ pub(crate) struct FullName<'a> {
 }
 
 impl<'a> FullName<'a> {
-    pub(crate) fn new(pool: &'a Pool, kind: MessageId) -> FullName<'a>
-        requires { kind.0 < length pool.now.messages }
+    pub(crate) fn new(pool: &'a Pool, message_type: MessageId) -> FullName<'a>
+        requires { message_type.0 < length pool.now.messages }
     {
-        FullName { pool, kind }
+        FullName {
+            pool,
+            kind: message_type,
+        }
     }
 }
 
@@ -31,28 +34,32 @@ impl fmt::Debug for FullName<'_> {
 }
 
 /// Writes the full name of a message type: the names of its package and of the messages that it is declared in, and its own.
-fn write_name<W: fmt::Write>(f: &mut fmt::Formatter<W>, pool: &Pool, kind: MessageId) -> fmt::Result
-    requires { kind.0 < length pool.now.messages }
+fn write_name<W: fmt::Write>(
+    f: &mut fmt::Formatter<W>,
+    pool: &Pool,
+    message_type: MessageId,
+) -> fmt::Result
+    requires { message_type.0 < length pool.now.messages }
 {
-    match type_around(pool, kind) {
+    match type_around(pool, message_type) {
         Some(parent) => {
             write_name(f, pool, parent)?;
             f.write_str(".")?;
         }
-        None => write_package(f, pool, kind)?,
+        None => write_package(f, pool, message_type)?,
     }
-    f.write_str(name_of(pool, kind))
+    f.write_str(name_of(pool, message_type))
 }
 
 /// Writes the package of a message type and a dot, if there is one.
 fn write_package<W: fmt::Write>(
     f: &mut fmt::Formatter<W>,
     pool: &Pool,
-    kind: MessageId,
+    message_type: MessageId,
 ) -> fmt::Result
-    requires { kind.0 < length pool.now.messages }
+    requires { message_type.0 < length pool.now.messages }
 {
-    let Some(file) = pool.files().get(type_of(pool, kind).file) else {
+    let Some(file) = pool.files().get(type_of(pool, message_type).file) else {
         return Ok(());
     };
     if file.package.is_empty() {
@@ -63,35 +70,35 @@ fn write_package<W: fmt::Write>(
 }
 
 /// What a pool says of a message type.
-fn type_of(pool: &Pool, kind: MessageId) -> &MessageType
-    requires { kind.0 < length pool.now.messages }
-    ensures found { slice_get pool.now.messages kind.0 ≡ Some (message_view result.now) }
+fn type_of(pool: &Pool, message_type: MessageId) -> &MessageType
+    requires { message_type.0 < length pool.now.messages }
+    ensures found { slice_get pool.now.messages message_type.0 ≡ Some (message_view result.now) }
     ensures rules { IsPool pool.now }
 {
-    &pool.messages()[kind.0]
+    &pool.messages()[message_type.0]
 }
 
 /// The simple name of a message type.
-fn name_of(pool: &Pool, kind: MessageId) -> &str
-    requires { kind.0 < length pool.now.messages }
-    ensures { option_map (λ t. t.name) (slice_get pool.now.messages kind.0) ≡ Some result.now }
+fn name_of(pool: &Pool, message_type: MessageId) -> &str
+    requires { message_type.0 < length pool.now.messages }
+    ensures { option_map (λ t. t.name) (slice_get pool.now.messages message_type.0) ≡ Some result.now }
 {
-    type_of(pool, kind).name.as_str()
+    type_of(pool, message_type).name.as_str()
 }
 
 /// The message that a message type is declared in.
-fn declared_in(pool: &Pool, kind: MessageId) -> Option<MessageId>
-    requires { kind.0 < length pool.now.messages }
-    ensures parent { option_map (λ p. p.0) result ≡ parent_of pool.now.messages kind.0 }
+fn declared_in(pool: &Pool, message_type: MessageId) -> Option<MessageId>
+    requires { message_type.0 < length pool.now.messages }
+    ensures parent { option_map (λ p. p.0) result ≡ parent_of pool.now.messages message_type.0 }
     ensures rules { IsPool pool.now }
 {
-    type_of(pool, kind).parent
+    type_of(pool, message_type).parent
 }
 
 /// The same, which stands before the type.
-fn type_around(pool: &Pool, kind: MessageId) -> Option<MessageId>
-    requires { kind.0 < length pool.now.messages }
-    ensures { IfSome result (λ p. p.0 < kind.0) }
+fn type_around(pool: &Pool, message_type: MessageId) -> Option<MessageId>
+    requires { message_type.0 < length pool.now.messages }
+    ensures { IfSome result (λ p. p.0 < message_type.0) }
 {
-    declared_in(pool, kind)
+    declared_in(pool, message_type)
 }

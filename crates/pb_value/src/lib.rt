@@ -8,8 +8,8 @@
 //!
 //! /// Sets the int32 field 1 of a new message, and reads it.
 //! fn set_and_get(alloc: Global, pool: &Pool) -> Result<i32, Fail> {
-//!     let kind = pool.message_by_name("a.b.T").ok_or("no type a.b.T")?;
-//!     let mut message = DynamicMessage::new(alloc, pool, kind);
+//!     let message_type = pool.message_by_name("a.b.T").ok_or("no type a.b.T")?;
+//!     let mut message = DynamicMessage::new(alloc, pool, message_type);
 //!     message.set(1, Content::One(Value::I32(5)))?; // or why not, and the message as it was
 //!     match message.get(1) {
 //!         Some(Content::One(Value::I32(number))) => Ok(*number),

@@ -69,13 +69,13 @@ fn join_map(content: &mut Content, other: BTreeMap<MapKey, Value>) -> Result<(),
 }
 
 /// Clears the member that gives way to the field of a number, if one is set.
-fn make_way(pool: &Pool, kind: MessageId, message: &mut Body, shape: Shape, number: u32)
-    requires within { kind.0 < length pool.now.messages }
-    requires one_each { HasOneMemberEach (message_fields pool.now kind.0) (fields_of (body_view message.old)) }
-    ensures { ChangesFields (λ fs. drop_some (gives_way (message_fields pool.now kind.0) shape number fs) fs)
+fn make_way(pool: &Pool, message_type: MessageId, message: &mut Body, shape: Shape, number: u32)
+    requires within { message_type.0 < length pool.now.messages }
+    requires one_each { HasOneMemberEach (message_fields pool.now message_type.0) (fields_of (body_view message.old)) }
+    ensures { ChangesFields (λ fs. drop_some (gives_way (message_fields pool.now message_type.0) shape number fs) fs)
         (body_view message.old) (body_view message.new) }
 {
-    if let Some(member) = gives_way(pool, kind, &message.fields, shape, number) {
+    if let Some(member) = gives_way(pool, message_type, &message.fields, shape, number) {
         clear_field(message, member);
     }
 }
@@ -164,26 +164,26 @@ fn merge_at(
 #[cycle(merge)]
 fn merge_field(
     pool: &Pool,
-    kind: MessageId,
+    message_type: MessageId,
     message: &mut Body,
     number: u32,
     other: Content,
 ) -> Result<(), ValueError>
     requires rules { IsPool pool.now }
-    requires within { kind.0 < length pool.now.messages }
-    requires own { AreFields pool.now (message_fields pool.now kind.0) (fields_of (body_view message.old)) }
-    requires one_each { HasOneMemberEach (message_fields pool.now kind.0) (fields_of (body_view message.old)) }
-    requires other { CanStand pool.now (message_fields pool.now kind.0) number (content_view other) }
+    requires within { message_type.0 < length pool.now.messages }
+    requires own { AreFields pool.now (message_fields pool.now message_type.0) (fields_of (body_view message.old)) }
+    requires one_each { HasOneMemberEach (message_fields pool.now message_type.0) (fields_of (body_view message.old)) }
+    requires other { CanStand pool.now (message_fields pool.now message_type.0) number (content_view other) }
     ensures ok { OnOk result ((levels : ℕ) (f : FieldView) → holding_depth (content_view other) ≤ levels
-        → field_numbered number (message_fields pool.now kind.0) ≡ Some f
-        → ChangesFields (merged_in (merged_within pool.now levels) (message_fields pool.now kind.0) f (content_view other))
+        → field_numbered number (message_fields pool.now message_type.0) ≡ Some f
+        → ChangesFields (merged_in (merged_within pool.now levels) (message_fields pool.now message_type.0) f (content_view other))
         (body_view message.old) (body_view message.new)) }
     ensures memory { IfErr result (λ e. e ≡ Memory) }
 {
-    let Some(field) = field_at(pool, kind, number) else {
+    let Some(field) = field_at(pool, message_type, number) else {
         unreachable!();
     };
-    make_way(pool, kind, message, field.shape, number);
+    make_way(pool, message_type, message, field.shape, number);
     merge_at(pool, field.shape, field.kind, message, number, other)
 }
 
@@ -191,16 +191,16 @@ fn merge_field(
 #[cycle(merge)]
 pub(crate) fn merge_body(
     pool: &Pool,
-    kind: MessageId,
+    message_type: MessageId,
     message: &mut Body,
     other: Body,
 ) -> Result<(), ValueError>
     requires rules { IsPool pool.now }
-    requires within { kind.0 < length pool.now.messages }
-    requires own { IsBody pool.now kind.0 (body_view message.old) }
-    requires other { IsBody pool.now kind.0 (body_view other) }
+    requires within { message_type.0 < length pool.now.messages }
+    requires own { IsBody pool.now message_type.0 (body_view message.old) }
+    requires other { IsBody pool.now message_type.0 (body_view other) }
     ensures ok { OnOk result ((levels : ℕ) → message_depth (body_view other) < levels →
-        body_view message.new ≡ merged_within pool.now levels kind.0 (body_view message.old) (body_view other)) }
+        body_view message.new ≡ merged_within pool.now levels message_type.0 (body_view message.old) (body_view other)) }
     ensures memory { IfErr result (λ e. e ≡ Memory) }
 {
     let Body {
@@ -208,7 +208,7 @@ pub(crate) fn merge_body(
         mut unknown,
     } = other;
     for (number, content) in fields {
-        merge_field(pool, kind, message, number, content)?;
+        merge_field(pool, message_type, message, number, content)?;
     }
     message.unknown.append(&mut unknown)?;
     Ok(())

@@ -44,12 +44,16 @@ impl<'a> MessageRef<'a> {
     ghost use Rattle.pb_value.specs.WellFormed.{IsWellFormed};
 
     /// The view of a message of a type.
-    pub(crate) fn new(pool: &'a Pool, kind: MessageId, body: &'a Body) -> MessageRef<'a>
-        requires within { kind.0 < length pool.now.messages }
-        requires well_formed { IsWellFormed pool.now kind.0 (body_view body.now) }
-        ensures { result ≡ record { pool = pool.now; kind = kind.0; body = body_view body.now } }
+    pub(crate) fn new(pool: &'a Pool, message_type: MessageId, body: &'a Body) -> MessageRef<'a>
+        requires within { message_type.0 < length pool.now.messages }
+        requires well_formed { IsWellFormed pool.now message_type.0 (body_view body.now) }
+        ensures { result ≡ record { pool = pool.now; kind = message_type.0; body = body_view body.now } }
     {
-        MessageRef { pool, kind, body }
+        MessageRef {
+            pool,
+            kind: message_type,
+            body,
+        }
     }
 
     /// What the message holds.
@@ -175,28 +179,28 @@ fn value_under<'a>(content: &'a Content, key: &MapKey) -> Option<&'a Value>
 }
 
 /// The message type that the kind of the field of a number names.
-fn type_named(pool: &Pool, kind: MessageId, number: u32) -> Option<MessageId>
-    requires { kind.0 < length pool.now.messages }
-    ensures named { option_map (λ m. m.0) result ≡ type_named pool.now kind.0 number }
+fn type_named(pool: &Pool, message_type: MessageId, number: u32) -> Option<MessageId>
+    requires { message_type.0 < length pool.now.messages }
+    ensures named { option_map (λ m. m.0) result ≡ type_named pool.now message_type.0 number }
     ensures within { IfSome result (λ m. m.0 < length pool.now.messages) }
 {
-    field_at(pool, kind, number)?.kind.message()
+    field_at(pool, message_type, number)?.kind.message()
 }
 
 /// A value that the field of a number holds, as a message.
 fn as_message<'a>(
     pool: &'a Pool,
-    kind: MessageId,
+    message_type: MessageId,
     number: u32,
     value: &'a Value,
 ) -> Option<MessageRef<'a>>
-    requires within { kind.0 < length pool.now.messages }
-    requires part { IsPart pool.now (type_named pool.now kind.0 number) (value_view value.now) }
-    ensures { result ≡ as_message pool.now (type_named pool.now kind.0 number) (value_view value.now) }
+    requires within { message_type.0 < length pool.now.messages }
+    requires part { IsPart pool.now (type_named pool.now message_type.0 number) (value_view value.now) }
+    ensures { result ≡ as_message pool.now (type_named pool.now message_type.0 number) (value_view value.now) }
 {
     let Value::Message(body) = value else {
         return None;
     };
-    let kind = type_named(pool, kind, number)?;
-    Some(MessageRef::new(pool, kind, body))
+    let inner = type_named(pool, message_type, number)?;
+    Some(MessageRef::new(pool, inner, body))
 }

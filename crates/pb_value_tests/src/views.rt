@@ -86,9 +86,9 @@ pub(crate) fn are_groups_told(alloc: Global, schema: &Schema) -> Result<bool, Fa
     Ok(has_groups(&message))
 }
 
-fn is_whole(view: &MessageRef<'_>, message: &DynamicMessage<'_>, kind: MessageId) -> bool {
+fn is_whole(view: &MessageRef<'_>, message: &DynamicMessage<'_>, message_type: MessageId) -> bool {
     view.body() == message.body()
-        && view.message_type() == kind
+        && view.message_type() == message_type
         && view.pool().messages().len() == 2
         && view.which_oneof(0) == Some(8)
         && view.has(2)

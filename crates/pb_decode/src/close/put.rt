@@ -18,19 +18,19 @@ use std::alloc::Global;
 fn put_in_message(
     alloc: Global,
     pool: &Pool,
-    kind: MessageId,
+    message_type: MessageId,
     body: &mut Body,
     slot: Slot,
     message: Body,
 ) -> Result<(), NoMemory>
-    requires { CanHold pool.now (message_part kind.0 (body_view body.old)) }
-    ensures { OnOk result (message_part kind.0 (body_view body.new)
-        ≡ put_message_view pool.now slot (message_part kind.0 (body_view body.old)) (body_view message)) }
+    requires { CanHold pool.now (message_part message_type.0 (body_view body.old)) }
+    ensures { OnOk result (message_part message_type.0 (body_view body.new)
+        ≡ put_message_view pool.now slot (message_part message_type.0 (body_view body.old)) (body_view message)) }
 {
     match slot {
         Slot::One(shape, number) => {
             let content = Content::One(Value::Message(message));
-            store(pool, kind, body, shape, number, content).map_err(memory_alone)
+            store(pool, message_type, body, shape, number, content).map_err(memory_alone)
         }
         Slot::List(number) => {
             push_element(alloc, body, number, Value::Message(message)).map_err(memory_alone)

@@ -22,10 +22,10 @@ pub(crate) struct KnownPurpose {
 impl KnownPurpose {
     /// Says that it is known of such records in messages of the type.
     #[inline(always)]
-    fn is_of(&self, kind: MessageId, number: u32, wire_type: u8) -> bool
-        ensures { result ≡ true → (self.now.kind ≡ kind) × (self.now.number ≡ number) × (self.now.wire_type ≡ wire_type) }
+    fn is_of(&self, message_type: MessageId, number: u32, wire_type: u8) -> bool
+        ensures { result ≡ true → (self.now.kind ≡ message_type) × (self.now.number ≡ number) × (self.now.wire_type ≡ wire_type) }
     {
-        self.number == number && self.wire_type == wire_type && self.kind == kind
+        self.number == number && self.wire_type == wire_type && self.kind == message_type
     }
 }
 

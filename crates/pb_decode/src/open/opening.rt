@@ -100,15 +100,15 @@ pub(crate) fn open_message(
     part: &mut Part,
     scope: &mut Scope,
     number: u32,
-    kind: MessageId,
+    message_type: MessageId,
     slot: Slot,
     end: u32,
 ) -> Frame
-    ensures { OpensAtLength number (purpose.Message kind slot) end part.old scope.old result part.new scope.new }
+    ensures { OpensAtLength number (purpose.Message message_type slot) end part.old scope.old result part.new scope.new }
 {
     let message = take_message(alloc, slot, part);
     let inner = new_scope(alloc, room_in(slot, scope.room), Some(end));
-    let outer = mem::replace(part, Part::Message(kind, message));
+    let outer = mem::replace(part, Part::Message(message_type, message));
     let around = mem::replace(scope, inner);
     Frame {
         part: outer,
@@ -158,14 +158,14 @@ fn open_field_group(
     part: &mut Part,
     scope: &mut Scope,
     number: u32,
-    kind: MessageId,
+    message_type: MessageId,
     slot: Slot,
 ) -> Frame
-    ensures { OpensAtTag number (purpose.Message kind slot) part.old scope.old result part.new scope.new }
+    ensures { OpensAtTag number (purpose.Message message_type slot) part.old scope.old result part.new scope.new }
 {
     let message = take_message(alloc, slot, part);
     let inner = new_scope(alloc, scope.room.saturating_sub(1), scope.end);
-    let outer = mem::replace(part, Part::Message(kind, message));
+    let outer = mem::replace(part, Part::Message(message_type, message));
     let around = mem::replace(scope, inner);
     Frame {
         part: outer,

@@ -39,7 +39,7 @@ fn pass_message(
     alloc: Global,
     reader: &mut Reader,
     number: u32,
-    kind: MessageId,
+    message_type: MessageId,
     slot: Slot,
     begin: u32,
     size: u32,
@@ -47,7 +47,7 @@ fn pass_message(
     requires { begin + size < 2 ^ 32 }
     ensures at { OnOk result (reader.new.at ≡ begin) }
     ensures step { OnOk result (weight reader.new.step ≡ 0) }
-    ensures reads { PassesLength number (purposes.Message kind slot) begin size reader.old reader.new result }
+    ensures reads { PassesLength number (purposes.Message message_type slot) begin size reader.old reader.new result }
 {
     let end = begin + size;
     let frame = open_message(
@@ -55,7 +55,7 @@ fn pass_message(
         &mut reader.part,
         &mut reader.scope,
         number,
-        kind,
+        message_type,
         slot,
         end,
     );

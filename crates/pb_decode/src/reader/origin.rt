@@ -30,7 +30,7 @@ use std::alloc::Global;
 /// end if there is one.
 pub(crate) fn begin_at(
     alloc: Global,
-    kind: MessageId,
+    message_type: MessageId,
     body: Body,
     room: u8,
     end: Option<u32>,
@@ -38,8 +38,8 @@ pub(crate) fn begin_at(
     requires { room ≤ 100 }
     ensures at { (result.reader.at ≡ 0) × (length result.held.items ≡ 0) }
     ensures waits { end ≡ None → Waits (state_view result.reader) result.held.items }
-    ensures took { (pool : Types) (base : List Record) → kind.0 < length pool.messages → IsWellFormed pool kind.0 (body_view body)
-        → body_view body ≡ value pool kind.0 base → ReadFrom pool (origin kind.0 room base end) result }
+    ensures took { (pool : Types) (base : List Record) → message_type.0 < length pool.messages → IsWellFormed pool message_type.0 (body_view body)
+        → body_view body ≡ value pool message_type.0 base → ReadFrom pool (origin message_type.0 room base end) result }
 {
     let occurrences = Occurrences::new(alloc);
     let frames = Vec::new(alloc);
@@ -47,7 +47,7 @@ pub(crate) fn begin_at(
     Reading {
         reader: Reader {
             at: 0,
-            part: Part::Message(kind, body),
+            part: Part::Message(message_type, body),
             scope: Scope {
                 room,
                 end,
@@ -64,17 +64,17 @@ pub(crate) fn begin_at(
 pub(crate) fn begin_empty(
     alloc: Global,
     pool: &Pool,
-    kind: MessageId,
+    message_type: MessageId,
     limits: Limits,
     end: Option<u32>,
 ) -> Reading
-    requires { kind.0 < length pool.now.messages }
+    requires { message_type.0 < length pool.now.messages }
     ensures at { (result.reader.at ≡ 0) × (length result.held.items ≡ 0) }
     ensures waits { end ≡ None → Waits (state_view result.reader) result.held.items }
-    ensures took { ReadFrom pool.now (origin kind.0 limits.depth [] end) result }
+    ensures took { ReadFrom pool.now (origin message_type.0 limits.depth [] end) result }
 {
     let room = limits.max_depth();
-    begin_at(alloc, kind, empty_body(alloc), room, end)
+    begin_at(alloc, message_type, empty_body(alloc), room, end)
 }
 
 /// Takes a piece behind the bytes that are held.
@@ -150,17 +150,17 @@ fn whole_body(alloc: Global, pool: &Pool, reading: Reading) -> Result<Body, Deco
 pub(crate) fn finish_message<'p>(
     alloc: Global,
     pool: &'p Pool,
-    kind: MessageId,
+    message_type: MessageId,
     reading: Reading,
 ) -> Result<DynamicMessage<'p>, DecodeError>
     requires rules { IsPool pool.now }
-    requires within { kind.0 < length pool.now.messages }
-    requires took { (o : Origin) × (o.kind ≡ kind.0) × ReadFrom pool.now o reading }
+    requires within { message_type.0 < length pool.now.messages }
+    requires took { (o : Origin) × (o.kind ≡ message_type.0) × ReadFrom pool.now o reading }
     requires small { received reading < 2 ^ 31 }
-    ensures of_type { IfOk result (λ m. (m.pool ≡ pool.now) × (m.kind ≡ kind.0)) }
+    ensures of_type { IfOk result (λ m. (m.pool ≡ pool.now) × (m.kind ≡ message_type.0)) }
     ensures whole { (o : Origin) → ReadFrom pool.now o reading → IfOk result (λ m. IsWhole pool.now o m.body) }
     ensures fault { (o : Origin) → ReadFrom pool.now o reading → IfErr result (λ e. IfFault e (BadFrom pool.now o)) }
 {
     let body = whole_body(alloc, pool, reading)?;
-    Ok(DynamicMessage::from_well_formed(alloc, pool, kind, body))
+    Ok(DynamicMessage::from_well_formed(alloc, pool, message_type, body))
 }

@@ -41,19 +41,21 @@ pub(crate) fn key_of(value: Value) -> Option<MapKey>
 fn put_in_message(
     alloc: Global,
     pool: &Pool,
-    kind: MessageId,
+    message_type: MessageId,
     body: &mut Body,
     number: u32,
     purpose: Purpose,
     value: Value,
 ) -> Result<(), NoMemory>
-    requires { CanHold pool.now (message_part kind.0 (body_view body.old)) }
-    ensures { OnOk result (message_part kind.0 (body_view body.new)
-        ≡ put_datum pool.now number purpose (message_part kind.0 (body_view body.old)) (value_view value)) }
+    requires { CanHold pool.now (message_part message_type.0 (body_view body.old)) }
+    ensures { OnOk result (message_part message_type.0 (body_view body.new)
+        ≡ put_datum pool.now number purpose (message_part message_type.0 (body_view body.old)) (value_view value)) }
 {
     match purpose {
         Purpose::One(_, shape) => {
-            store(pool, kind, body, shape, number, Content::One(value)).map_err(memory_alone)
+            store(pool, message_type, body, shape, number, Content::One(value)).map_err(
+                memory_alone,
+            )
         }
         Purpose::Element(_) => { push_element(alloc, body, number, value).map_err(memory_alone) }
         Purpose::Packed(_)

@@ -22,16 +22,16 @@ use std::collections::BTreeMap;
 pub(crate) fn check_entry(
     alloc: Global,
     pool: &Pool,
-    kind: MessageId,
+    message_type: MessageId,
     number: u32,
     key: &MapKey,
     value: &Value,
 ) -> Result<(), ValueError>
-    requires { kind.0 < length pool.now.messages }
-    ensures judged { IsRefusedBy result (insert_cause pool.now kind.0 number (key_view key.now) (value_view value.now)) }
-    ensures fits { IfOk result (λ _. IsEntry pool.now kind.0 number (key_view key.now) (value_view value.now)) }
+    requires { message_type.0 < length pool.now.messages }
+    ensures judged { IsRefusedBy result (insert_cause pool.now message_type.0 number (key_view key.now) (value_view value.now)) }
+    ensures fits { IfOk result (λ _. IsEntry pool.now message_type.0 number (key_view key.now) (value_view value.now)) }
 {
-    let Some(field) = field_at(pool, kind, number) else {
+    let Some(field) = field_at(pool, message_type, number) else {
         return Err(ValueError::NoSuchField);
     };
     if !is_key_of(field.shape, key) || !is_value_of(field.kind, value) {

@@ -12,11 +12,11 @@ use pb_schema::{MessageId, Pool, Shape};
 use std::collections::BTreeMap;
 
 /// Whether the field of a number is a member of the oneof with an index.
-fn is_member(pool: &Pool, kind: MessageId, number: u32, oneof: u32) -> bool
-    requires { kind.0 < length pool.now.messages }
-    ensures { result ≡ is_member_at oneof (field_numbered number (message_fields pool.now kind.0)) }
+fn is_member(pool: &Pool, message_type: MessageId, number: u32, oneof: u32) -> bool
+    requires { message_type.0 < length pool.now.messages }
+    ensures { result ≡ is_member_at oneof (field_numbered number (message_fields pool.now message_type.0)) }
 {
-    match field_at(pool, kind, number) {
+    match field_at(pool, message_type, number) {
         Some(field) => match field.shape {
             Shape::OneofMember(index) => oneof == index,
             _ => false,
@@ -28,15 +28,15 @@ fn is_member(pool: &Pool, kind: MessageId, number: u32, oneof: u32) -> bool
 /// The number of the member that is set, looked for among what is stored.
 fn stored_member(
     pool: &Pool,
-    kind: MessageId,
+    message_type: MessageId,
     fields: &BTreeMap<u32, Content>,
     oneof: u32,
 ) -> Option<u32>
-    requires { kind.0 < length pool.now.messages }
-    ensures { result ≡ member_set (message_fields pool.now kind.0) oneof (fields_view fields.now.entries) }
+    requires { message_type.0 < length pool.now.messages }
+    ensures { result ≡ member_set (message_fields pool.now message_type.0) oneof (fields_view fields.now.entries) }
 {
     for (stored, _) in fields {
-        if is_member(pool, kind, *stored, oneof) {
+        if is_member(pool, message_type, *stored, oneof) {
             return Some(*stored);
         }
     }
@@ -46,15 +46,15 @@ fn stored_member(
 /// The number of the member that is set, looked for among the members.
 fn listed_member(
     pool: &Pool,
-    kind: MessageId,
+    message_type: MessageId,
     fields: &BTreeMap<u32, Content>,
     oneof: u32,
 ) -> Option<u32>
-    requires within { kind.0 < length pool.now.messages }
-    requires one_each { HasOneMemberEach (message_fields pool.now kind.0) (fields_view fields.now.entries) }
-    ensures { result ≡ member_set (message_fields pool.now kind.0) oneof (fields_view fields.now.entries) }
+    requires within { message_type.0 < length pool.now.messages }
+    requires one_each { HasOneMemberEach (message_fields pool.now message_type.0) (fields_view fields.now.entries) }
+    ensures { result ≡ member_set (message_fields pool.now message_type.0) oneof (fields_view fields.now.entries) }
 {
-    for number in pool.oneof_members(kind, oneof) {
+    for number in pool.oneof_members(message_type, oneof) {
         if fields.contains_key(number) {
             return Some(*number);
         }
@@ -65,17 +65,17 @@ fn listed_member(
 /// The number of the member that is set, of the oneof with an index. Looks at the fewer of the oneof's members and the stored fields.
 pub(crate) fn set_member(
     pool: &Pool,
-    kind: MessageId,
+    message_type: MessageId,
     fields: &BTreeMap<u32, Content>,
     oneof: u32,
 ) -> Option<u32>
-    requires within { kind.0 < length pool.now.messages }
-    requires one_each { HasOneMemberEach (message_fields pool.now kind.0) (fields_view fields.now.entries) }
-    ensures { result ≡ member_set (message_fields pool.now kind.0) oneof (fields_view fields.now.entries) }
+    requires within { message_type.0 < length pool.now.messages }
+    requires one_each { HasOneMemberEach (message_fields pool.now message_type.0) (fields_view fields.now.entries) }
+    ensures { result ≡ member_set (message_fields pool.now message_type.0) oneof (fields_view fields.now.entries) }
 {
-    if fields.len() < pool.oneof_members(kind, oneof).len() {
-        stored_member(pool, kind, fields, oneof)
+    if fields.len() < pool.oneof_members(message_type, oneof).len() {
+        stored_member(pool, message_type, fields, oneof)
     } else {
-        listed_member(pool, kind, fields, oneof)
+        listed_member(pool, message_type, fields, oneof)
     }
 }

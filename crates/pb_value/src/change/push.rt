@@ -21,15 +21,15 @@ use std::alloc::Global;
 pub(crate) fn check_element(
     alloc: Global,
     pool: &Pool,
-    kind: MessageId,
+    message_type: MessageId,
     number: u32,
     value: &Value,
 ) -> Result<(), ValueError>
-    requires { kind.0 < length pool.now.messages }
-    ensures judged { IsRefusedBy result (push_cause pool.now kind.0 number (value_view value.now)) }
-    ensures fits { IfOk result (λ _. IsElement pool.now kind.0 number (value_view value.now)) }
+    requires { message_type.0 < length pool.now.messages }
+    ensures judged { IsRefusedBy result (push_cause pool.now message_type.0 number (value_view value.now)) }
+    ensures fits { IfOk result (λ _. IsElement pool.now message_type.0 number (value_view value.now)) }
 {
-    let Some(field) = field_at(pool, kind, number) else {
+    let Some(field) = field_at(pool, message_type, number) else {
         return Err(ValueError::NoSuchField);
     };
     if !is_value_of(field.kind, value) {

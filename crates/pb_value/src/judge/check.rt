@@ -176,16 +176,16 @@ pub(crate) fn check_held(
 fn check_fields(
     alloc: Global,
     pool: &Pool,
-    kind: MessageId,
+    message_type: MessageId,
     fields: &BTreeMap<u32, Content>,
 ) -> Result<(), ValueError>
-    requires { kind.0 < length pool.now.messages }
-    ensures { let all = message_fields pool.now kind.0 in let fs = fields_view fields.now.entries in
+    requires { message_type.0 < length pool.now.messages }
+    ensures { let all = message_fields pool.now message_type.0 in let fs = fields_view fields.now.entries in
         JudgesOrFails result (fields_cause pool.now all (λ o. false) fs) (AreFields pool.now all fs × RisesFrom 0 fs × HasOneMemberEach all fs) }
 {
     let mut members = BTreeSet::new(alloc);
     for (number, content) in fields {
-        let Some(field) = field_at(pool, kind, *number) else {
+        let Some(field) = field_at(pool, message_type, *number) else {
             return Err(ValueError::NoSuchField);
         };
         check_stored(field.shape, field.kind, content, &mut members)?;
@@ -196,25 +196,30 @@ fn check_fields(
 
 /// Whether the parts of a body are well formed, at any depth.
 #[cycle(check)]
-fn check_body(alloc: Global, pool: &Pool, kind: MessageId, body: &Body) -> Result<(), ValueError>
-    requires { kind.0 < length pool.now.messages }
-    ensures { JudgesOrFails result (body_cause pool.now kind.0 (body_view body.now)) (IsBody pool.now kind.0 (body_view body.now)) }
+fn check_body(
+    alloc: Global,
+    pool: &Pool,
+    message_type: MessageId,
+    body: &Body,
+) -> Result<(), ValueError>
+    requires { message_type.0 < length pool.now.messages }
+    ensures { JudgesOrFails result (body_cause pool.now message_type.0 (body_view body.now)) (IsBody pool.now message_type.0 (body_view body.now)) }
 {
-    check_fields(alloc, pool, kind, &body.fields)?;
-    check_unknown(pool, kind, &body.unknown)
+    check_fields(alloc, pool, message_type, &body.fields)?;
+    check_unknown(pool, message_type, &body.unknown)
 }
 
 /// Whether a body is a well-formed message of a type, and if not why.
 pub(crate) fn check_message(
     alloc: Global,
     pool: &Pool,
-    kind: MessageId,
+    message_type: MessageId,
     body: &Body,
 ) -> Result<(), ValueError>
-    requires { kind.0 < length pool.now.messages }
-    ensures { JudgesOrFails result (message_cause pool.now kind.0 (body_view body.now)) (IsWellFormed pool.now kind.0 (body_view body.now)) }
+    requires { message_type.0 < length pool.now.messages }
+    ensures { JudgesOrFails result (message_cause pool.now message_type.0 (body_view body.now)) (IsWellFormed pool.now message_type.0 (body_view body.now)) }
 {
-    check_body(alloc, pool, kind, body)?;
+    check_body(alloc, pool, message_type, body)?;
     if !message_within(body, MAX_LEVELS) {
         return Err(ValueError::TooDeep);
     }

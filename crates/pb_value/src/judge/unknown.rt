@@ -104,18 +104,18 @@ fn is_known(pool: &Pool, field: &Field, payload: &Unknown) -> bool
 
 fn check_record(
     pool: &Pool,
-    kind: MessageId,
+    message_type: MessageId,
     number: u32,
     payload: &Unknown,
 ) -> Result<(), ValueError>
-    requires { kind.0 < length pool.now.messages }
-    ensures { let fs = message_fields pool.now kind.0 in let r = record_of number (payload_of payload.now) in
+    requires { message_type.0 < length pool.now.messages }
+    ensures { let fs = message_fields pool.now message_type.0 in let r = record_of number (payload_of payload.now) in
         Judges result (record_cause pool.now fs r) (IsUnknown pool.now fs r) }
 {
     if !is_number(number) || !is_numbered(payload) {
         return Err(ValueError::NoSuchField);
     }
-    if let Some(field) = field_at(pool, kind, number) {
+    if let Some(field) = field_at(pool, message_type, number) {
         if is_known(pool, field, payload) {
             return Err(ValueError::KnownAsUnknown);
         }
@@ -126,15 +126,15 @@ fn check_record(
 /// Whether records can be the unknown ones of a message of a type, and if not why, at the first that cannot.
 pub(crate) fn check_unknown(
     pool: &Pool,
-    kind: MessageId,
+    message_type: MessageId,
     records: &[(u32, Unknown)],
 ) -> Result<(), ValueError>
-    requires { kind.0 < length pool.now.messages }
-    ensures { let fs = message_fields pool.now kind.0 in
+    requires { message_type.0 < length pool.now.messages }
+    ensures { let fs = message_fields pool.now message_type.0 in
         Judges result (unknown_cause pool.now fs (records_of records.now)) (AreUnknown pool.now fs (records_of records.now)) }
 {
     for (number, payload) in records {
-        check_record(pool, kind, *number, payload)?;
+        check_record(pool, message_type, *number, payload)?;
     }
     Ok(())
 }

@@ -18,7 +18,7 @@ returns-in_err-input-clause-refused g c =
     rw (p.1, p.2)
     (refuses_map (λ a. Of (λ content. content ≡ None) × (a ≡ device_failed path))
     (λ a. (Of (λ content. content ≡ None) × (a ≡ device_failed path))
-    ⊎ ((f : Fault) × Of (λ content. FaultAt content c.args.pool.now c.args.kind.0 f) × (a ≡ refused (fault_line f)))) c.in_err-input.field-0.0
+    ⊎ ((f : Fault) × Of (λ content. FaultAt content c.args.pool.now c.args.message_type.0 f) × (a ≡ refused (fault_line f)))) c.in_err-input.field-0.0
     (λ a h. inl h) c.in_err-input.ensures.refused)
 
 pub returns-in_err-message-clause-refused : goal.returns-in_err-message-clause-refused
@@ -30,17 +30,17 @@ returns-in_err-message-clause-refused g c =
     rw (p.1, p.2)
     (refuses_map
     (λ a. (From (λ content. content ≡ None) × (a ≡ device_failed path))
-    ⊎ ((f : Fault) × From (λ content. FaultAt content c.args.pool.now c.args.kind.0 f) × (a ≡ refused (fault_line f))))
+    ⊎ ((f : Fault) × From (λ content. FaultAt content c.args.pool.now c.args.message_type.0 f) × (a ≡ refused (fault_line f))))
     (λ a. (Of (λ content. content ≡ None) × (a ≡ device_failed path))
-    ⊎ ((f : Fault) × Of (λ content. FaultAt content c.args.pool.now c.args.kind.0 f) × (a ≡ refused (fault_line f)))) c.in_err-message.field-0.0
+    ⊎ ((f : Fault) × Of (λ content. FaultAt content c.args.pool.now c.args.message_type.0 f) × (a ≡ refused (fault_line f)))) c.in_err-message.field-0.0
     (λ a h.
     refused_of g.F.Files.contents g.F.Files.is_steady c.args.files.now path g.F.In.Input.left g.F.In.Input.is_steady c.in_ok-input.input c.args.pool.now
-    c.args.kind.0 a c.in_ok-input.ensures.opened h) c.in_err-message.ensures.refused)
+    c.args.message_type.0 a c.in_ok-input.ensures.opened h) c.in_err-message.ensures.refused)
 
 pub returns-clause-read : goal.returns-clause-read
 returns-clause-read g c = (
   c.in_ok-message.ensures.well,
   opened_of g.F.Files.contents g.F.Files.is_steady c.args.files.now c.args.path.now g.F.In.Input.left g.F.In.Input.is_steady c.in_ok-input.input
-      (λ (content : Option (List ℕ)). TextAt content c.args.pool.now c.args.kind.0 c.in_ok-message.message.body) c.in_ok-input.ensures.opened
+      (λ (content : Option (List ℕ)). TextAt content c.args.pool.now c.args.message_type.0 c.in_ok-message.message.body) c.in_ok-input.ensures.opened
       c.in_ok-message.ensures.read,
 )

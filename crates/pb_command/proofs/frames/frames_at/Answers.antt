@@ -18,7 +18,7 @@ returns-in_err-input-clause-comes g c =
     let before = c.args.files.now in
     let path = c.args.path.now in
     let pool = c.args.pool.now in
-    let kind = c.args.kind.0 in
+    let kind = c.args.message_type.0 in
     rw (p.1, p.2)
     (refused_comes (Sent g.O.Output.written g.O.Output.failures c.args.out.now c.args.out.now) (Cut g.O.Output.written g.O.Output.failures c.args.out.now c.args.out.now)
     (IsSaved contents before c.open_file.new.files) (IsUnsaved contents g.F.Files.failures before c.open_file.new.files)
@@ -36,7 +36,7 @@ returns-clause-comes g c =
     let before = c.args.files.now in
     let path = c.args.path.now in
     let pool = c.args.pool.now in
-    let kind = c.args.kind.0 in
+    let kind = c.args.message_type.0 in
     let input = c.in_ok-input.input in
     let out = Sent g.O.Output.written g.O.Output.failures c.args.out.now c.write_frames.new.out in
     let cut = Cut g.O.Output.written g.O.Output.failures c.args.out.now c.write_frames.new.out in

@@ -14,7 +14,7 @@ pub returns-in_err-count-clause-fault : goal.returns-in_err-count-clause-fault
 returns-in_err-count-clause-fault g c =
     let p = err_from_is_err_and c.from_residual.result c.from_residual.ensures.1 in
     rw (p.1, p.2)
-    (if_refused_weaker c.in_err-count.field-0.0 _ (λ f. IfSome (g.I.Input.left c.args.input.now) (λ left. HasFault (schema_of c.args.pool.now) (a_message c.args.kind.0) c.args.limits left f))
+    (if_refused_weaker c.in_err-count.field-0.0 _ (λ f. IfSome (g.I.Input.left c.args.input.now) (λ left. HasFault (schema_of c.args.pool.now) (a_message c.args.message_type.0) c.args.limits left f))
     (λ f told. told_left c.requires.took.0 (g.I.Input.left c.args.input.now) (g.I.Input.left c.read_pieces.new.input) c.max_bytes-most.result f c.max_bytes-most.ensures.same told)
     (c.in_err-count.ensures.fault _ c.requires.took.1))
 
@@ -28,9 +28,9 @@ returns-then-more-clause-fault g c =
     let count = c.in_ok-count.ensures.count in
     let all = c.if-count-most.false in
     let is : c.in_ok-count.count ≡ c.max_bytes-most.result = omega (arith, count, all) in
-    if_fault_refused c.too_large.result (λ f. f ≡ fault c.max_bytes-most.result [] InputTooLarge) (λ f. IfSome (g.I.Input.left c.args.input.now) (λ left. HasFault (schema_of c.args.pool.now) (a_message c.args.kind.0) c.args.limits left f))
+    if_fault_refused c.too_large.result (λ f. f ≡ fault c.max_bytes-most.result [] InputTooLarge) (λ f. IfSome (g.I.Input.left c.args.input.now) (λ left. HasFault (schema_of c.args.pool.now) (a_message c.args.message_type.0) c.args.limits left f))
     (λ f same.
-    subst (λ (z : Fault). IfSome (g.I.Input.left c.args.input.now) (λ left. HasFault (schema_of c.args.pool.now) (a_message c.args.kind.0) c.args.limits left z)) (sym same)
+    subst (λ (z : Fault). IfSome (g.I.Input.left c.args.input.now) (λ left. HasFault (schema_of c.args.pool.now) (a_message c.args.message_type.0) c.args.limits left z)) (sym same)
     (more_left c.requires.took.0 (g.I.Input.left c.args.input.now) (g.I.Input.left c.read_pieces.new.input) (g.I.Input.left c.has_byte.new.input) c.max_bytes-most.result one.0 c.max_bytes-most.ensures.same c.requires.took.1
     (subst (ReadsOn c.args.pool.now c.args.reading.now c.read_pieces.new.reading (g.I.Input.left c.args.input.now) (g.I.Input.left c.read_pieces.new.input)) is c.in_ok-count.ensures.read) one.2 one.1))
     c.too_large.ensures

@@ -15,23 +15,23 @@ use Rattle.pb_decode.proofs.onto.read_onto.Goals as goal
 
 pub take_within-requires-clause-took : goal.take_within-requires-clause-took
 take_within-requires-clause-took c = (
-  canon c.args.pool.now c.args.kind.0 (body_view c.args.body),
+  canon c.args.pool.now c.args.message_type.0 (body_view c.args.body),
   begun_onto c.max_depth-room.result c.args.limits.depth (state_view c.begin_at-reading.result.reader) c.begin_at-reading.result.held.items c.max_depth-room.ensures.same c.requires.rules c.requires.within c.requires.well_formed c.begin_at-reading.ensures.took,
 )
 
 pub finish_message-requires-clause-took : goal.finish_message-requires-clause-took
 finish_message-requires-clause-took c = (
-  further (origin c.args.kind.0 c.args.limits.depth (canon c.args.pool.now c.args.kind.0 (body_view c.args.body)) None) c.args.bytes.now,
+  further (origin c.args.message_type.0 c.args.limits.depth (canon c.args.pool.now c.args.message_type.0 (body_view c.args.body)) None) c.args.bytes.now,
   refl,
-  c.in_ok-take_within.ensures.took (canon c.args.pool.now c.args.kind.0 (body_view c.args.body))
+  c.in_ok-take_within.ensures.took (canon c.args.pool.now c.args.message_type.0 (body_view c.args.body))
       (begun_onto c.max_depth-room.result c.args.limits.depth (state_view c.begin_at-reading.result.reader) c.begin_at-reading.result.held.items c.max_depth-room.ensures.same c.requires.rules c.requires.within c.requires.well_formed c.begin_at-reading.ensures.took),
 )
 
 pub returns-clause-value : goal.returns-clause-value
 returns-clause-value c =
-    let base : List Record = canon c.args.pool.now c.args.kind.0 (body_view c.args.body) in
-    let o : Origin = further (origin c.args.kind.0 c.args.limits.depth base None) c.args.bytes.now in
-    ok_weaker c.finish_message.result (λ (m : Dynamic). IsWhole c.args.pool.now o m.body) (λ (m : Dynamic). IsTextOnto c.args.pool.now c.args.kind.0 c.args.limits (body_view c.args.body) c.args.bytes.now m.body)
+    let base : List Record = canon c.args.pool.now c.args.message_type.0 (body_view c.args.body) in
+    let o : Origin = further (origin c.args.message_type.0 c.args.limits.depth base None) c.args.bytes.now in
+    ok_weaker c.finish_message.result (λ (m : Dynamic). IsWhole c.args.pool.now o m.body) (λ (m : Dynamic). IsTextOnto c.args.pool.now c.args.message_type.0 c.args.limits (body_view c.args.body) c.args.bytes.now m.body)
     (λ m whole. text_onto m.body c.in_ok-take_within.ensures.size whole)
     (c.finish_message.ensures.whole o
     (c.in_ok-take_within.ensures.took base
@@ -39,9 +39,9 @@ returns-clause-value c =
 
 pub returns-clause-fault : goal.returns-clause-fault
 returns-clause-fault c =
-    let base : List Record = canon c.args.pool.now c.args.kind.0 (body_view c.args.body) in
-    let o : Origin = further (origin c.args.kind.0 c.args.limits.depth base None) c.args.bytes.now in
-    fault_weaker c.finish_message.result (BadFrom c.args.pool.now o) (HasFault (schema_of c.args.pool.now) (a_message c.args.kind.0) c.args.limits c.args.bytes.now)
+    let base : List Record = canon c.args.pool.now c.args.message_type.0 (body_view c.args.body) in
+    let o : Origin = further (origin c.args.message_type.0 c.args.limits.depth base None) c.args.bytes.now in
+    fault_weaker c.finish_message.result (BadFrom c.args.pool.now o) (HasFault (schema_of c.args.pool.now) (a_message c.args.message_type.0) c.args.limits c.args.bytes.now)
     (λ f bad. whole_fault c.args.pool.now base f c.in_ok-take_within.ensures.size bad)
     (c.finish_message.ensures.fault o
     (c.in_ok-take_within.ensures.took base

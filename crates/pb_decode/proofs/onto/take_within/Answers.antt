@@ -16,14 +16,14 @@ pub returns-in_err-take_onward-clause-fault : goal.returns-in_err-take_onward-cl
 returns-in_err-take_onward-clause-fault c =
     let p = err_from_is_err_and c.from_residual.result c.from_residual.ensures.1 in
     rw (p.1, p.2)
-    (if_fault_weaker c.in_err-take_onward.field-0.0 _ (HasFault (schema_of c.args.pool.now) (a_message c.args.kind.0) c.args.limits c.args.bytes.now)
+    (if_fault_weaker c.in_err-take_onward.field-0.0 _ (HasFault (schema_of c.args.pool.now) (a_message c.args.message_type.0) c.args.limits c.args.bytes.now)
     (λ f told. front_told c.requires.took.0 c.max_bytes-most.result f c.max_bytes-most.ensures.same c.if-bytes-most.true told) (c.in_err-take_onward.ensures.fault _ c.requires.took.1))
 
 pub returns-then-bytes-most-clause-fault : goal.returns-then-bytes-most-clause-fault
 returns-then-bytes-most-clause-fault c =
-    if_fault_weaker c.too_large.result (λ f. f ≡ fault c.max_bytes-most.result [] InputTooLarge) (HasFault (schema_of c.args.pool.now) (a_message c.args.kind.0) c.args.limits c.args.bytes.now)
+    if_fault_weaker c.too_large.result (λ f. f ≡ fault c.max_bytes-most.result [] InputTooLarge) (HasFault (schema_of c.args.pool.now) (a_message c.args.message_type.0) c.args.limits c.args.bytes.now)
     (λ f is.
-    subst (HasFault (schema_of c.args.pool.now) (a_message c.args.kind.0) c.args.limits c.args.bytes.now) (sym is)
+    subst (HasFault (schema_of c.args.pool.now) (a_message c.args.message_type.0) c.args.limits c.args.bytes.now) (sym is)
     (beyond_told c.max_bytes-most.result (state_view c.take_onward.new.reading.reader) c.take_onward.new.reading.held.items c.max_bytes-most.ensures.same c.if-bytes-most.true (c.in_ok-take_onward.ensures.took _ c.requires.took.1)))
     c.too_large.ensures
 
@@ -38,10 +38,10 @@ returns-clause-at c =
     c.take_onward-2.ensures.at
 
 pub returns-clause-took : goal.returns-clause-took
-returns-clause-took c = λ base took. c.take_onward-2.ensures.took (origin c.args.kind.0 c.args.limits.depth base _) took
+returns-clause-took c = λ base took. c.take_onward-2.ensures.took (origin c.args.message_type.0 c.args.limits.depth base _) took
 
 pub returns-clause-fault : goal.returns-clause-fault
 returns-clause-fault c =
     let same = c.max_bytes-most.ensures.same in
-    fault_weaker c.take_onward-2.result _ (HasFault (schema_of c.args.pool.now) (a_message c.args.kind.0) c.args.limits c.args.bytes.now) (λ f told. whole_fault c.args.pool.now c.requires.took.0 f (omega (arith, same)) told.bad)
+    fault_weaker c.take_onward-2.result _ (HasFault (schema_of c.args.pool.now) (a_message c.args.message_type.0) c.args.limits c.args.bytes.now) (λ f told. whole_fault c.args.pool.now c.requires.took.0 f (omega (arith, same)) told.bad)
     (c.take_onward-2.ensures.fault _ c.requires.took.1)

@@ -21,8 +21,8 @@ returns-in_err-take_piece-clause-fault c =
     let room = c.room_for-room.ensures in
     let is : length b + c.room_for-room.result ≡ c.args.limits.bytes = omega (arith, at, size, most, room) in
     rw (p.1, p.2)
-    (if_fault_weaker c.in_err-take_piece.field-0.0 (Told c.args.pool.now c.args.kind.0 c.args.limits.depth (longer (text_at b) (take c.room_for-room.result c.args.piece.now))) (IsSettled c.args.pool.now c.args.kind.0 c.args.limits (b ++ c.args.piece.now))
-    (λ f told. front_bad b c.args.piece.now c.room_for-room.result f is (omega arith) told) (c.in_err-take_piece.ensures.refused c.args.kind.0 c.args.limits.depth 101 [] (text_at b) took.reads))
+    (if_fault_weaker c.in_err-take_piece.field-0.0 (Told c.args.pool.now c.args.message_type.0 c.args.limits.depth (longer (text_at b) (take c.room_for-room.result c.args.piece.now))) (IsSettled c.args.pool.now c.args.message_type.0 c.args.limits (b ++ c.args.piece.now))
+    (λ f told. front_bad b c.args.piece.now c.room_for-room.result f is (omega arith) told) (c.in_err-take_piece.ensures.refused c.args.message_type.0 c.args.limits.depth 101 [] (text_at b) took.reads))
 
 pub returns-then-piece-room-clause-fault : goal.returns-then-piece-room-clause-fault
 returns-then-piece-room-clause-fault c =
@@ -32,12 +32,12 @@ returns-then-piece-room-clause-fault c =
     let most = c.max_bytes-most.ensures.same in
     let room = c.room_for-room.ensures in
     let is : length b + c.room_for-room.result ≡ c.args.limits.bytes = omega (arith, at, size, most, room) in
-    let there = c.in_ok-take_piece.ensures.taken c.args.kind.0 c.args.limits.depth 101 [] (text_at b) took.reads in
+    let there = c.in_ok-take_piece.ensures.taken c.args.message_type.0 c.args.limits.depth 101 [] (text_at b) took.reads in
     let settled = too_large b c.args.piece.now c.room_for-room.result (state_view c.take_piece.new.reading.reader) c.take_piece.new.reading.held.items is (omega arith) there.0 there.1 in
-    if_fault_weaker c.too_large.result (λ f. f ≡ fault c.max_bytes-most.result [] InputTooLarge) (IsSettled c.args.pool.now c.args.kind.0 c.args.limits (b ++ c.args.piece.now))
+    if_fault_weaker c.too_large.result (λ f. f ≡ fault c.max_bytes-most.result [] InputTooLarge) (IsSettled c.args.pool.now c.args.message_type.0 c.args.limits (b ++ c.args.piece.now))
     (λ f told.
-    subst (IsSettled c.args.pool.now c.args.kind.0 c.args.limits (b ++ c.args.piece.now)) (sym told)
-    (subst (λ (z : ℕ). IsSettled c.args.pool.now c.args.kind.0 c.args.limits (b ++ c.args.piece.now) (fault z [] InputTooLarge)) (sym most) settled))
+    subst (IsSettled c.args.pool.now c.args.message_type.0 c.args.limits (b ++ c.args.piece.now)) (sym told)
+    (subst (λ (z : ℕ). IsSettled c.args.pool.now c.args.message_type.0 c.args.limits (b ++ c.args.piece.now) (fault z [] InputTooLarge)) (sym most) settled))
     c.too_large.ensures
 
 pub returns-clause-fault : goal.returns-clause-fault
@@ -47,8 +47,8 @@ returns-clause-fault c =
     let size = took.size in
     let most = c.max_bytes-most.ensures.same in
     let room = c.room_for-room.ensures in
-    fault_weaker c.take_piece-2.result (Told c.args.pool.now c.args.kind.0 c.args.limits.depth (longer (text_at b) c.args.piece.now)) (IsSettled c.args.pool.now c.args.kind.0 c.args.limits (b ++ c.args.piece.now))
-    (λ f told. whole_bad b c.args.piece.now f (omega (arith, at, size, most, room)) told) (c.take_piece-2.ensures.refused c.args.kind.0 c.args.limits.depth 101 [] (text_at b) took.reads)
+    fault_weaker c.take_piece-2.result (Told c.args.pool.now c.args.message_type.0 c.args.limits.depth (longer (text_at b) c.args.piece.now)) (IsSettled c.args.pool.now c.args.message_type.0 c.args.limits (b ++ c.args.piece.now))
+    (λ f told. whole_bad b c.args.piece.now f (omega (arith, at, size, most, room)) told) (c.take_piece-2.ensures.refused c.args.message_type.0 c.args.limits.depth 101 [] (text_at b) took.reads)
 
 pub returns-clause-after : goal.returns-clause-after
 returns-clause-after c =
@@ -59,4 +59,4 @@ returns-clause-after c =
     let room = c.room_for-room.ensures in
     on_ok_both c.take_piece-2.result
     (took_more b c.args.piece.now (state_view c.args.reading.now.reader) (state_view c.take_piece-2.new.reading.reader) c.args.reading.now.held.items c.take_piece-2.new.reading.held.items took (omega (arith, at, size, most, room)))
-    c.take_piece-2.ensures.at (c.take_piece-2.ensures.taken c.args.kind.0 c.args.limits.depth 101 [] (text_at b) took.reads)
+    c.take_piece-2.ensures.at (c.take_piece-2.ensures.taken c.args.message_type.0 c.args.limits.depth 101 [] (text_at b) took.reads)

@@ -20,13 +20,13 @@ loop-piece-preserved c =
 
 pub returns-in-Err : goal.returns-in-Err
 returns-in-Err c =
-    refused_pieces c.loop-piece.decoder c.args.pool.now c.args.kind.0 c.args.limits c.in-Err.error c.args.pieces.now c.loop-piece.piece-index _ c.loop-piece-test.true
+    refused_pieces c.loop-piece.decoder c.args.pool.now c.args.message_type.0 c.args.limits c.in-Err.error c.args.pieces.now c.loop-piece.piece-index _ c.loop-piece-test.true
     c.loop-piece.invariant.own c.settled_fault.ensures
     (c.in-Err.ensures.fault (joined (take c.loop-piece.piece-index c.args.pieces.now)) c.loop-piece.invariant.after)
 
 pub returns : goal.returns
 returns c =
-    answered_pieces c.loop-piece.decoder c.args.pool.now c.args.kind.0 c.args.limits c.finish.result (joined (take c.loop-piece.piece-index c.args.pieces.now)) (joined c.args.pieces.now)
+    answered_pieces c.loop-piece.decoder c.args.pool.now c.args.message_type.0 c.args.limits c.finish.result (joined (take c.loop-piece.piece-index c.args.pieces.now)) (joined c.args.pieces.now)
     c.loop-piece.invariant.own (ap joined (take_all c.loop-piece.piece-index c.args.pieces.now c.loop-piece-test.false))
     (c.finish.ensures.value (joined (take c.loop-piece.piece-index c.args.pieces.now)) c.loop-piece.invariant.after)
     (c.finish.ensures.fault (joined (take c.loop-piece.piece-index c.args.pieces.now)) c.loop-piece.invariant.after)

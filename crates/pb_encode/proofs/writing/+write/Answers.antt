@@ -49,32 +49,32 @@ write_entry-returns g t c =
     (rw (c.key_payload.ensures ∙ ap (λ (k : Kind). written k (key_view c.args.key.now)) c.key_kind.ensures) at c.put_scalar.ensures) c.write_value-next.ensures
 
 pub write_fields-loop-number-init : goal.write_fields-loop-number-init
-write_fields-loop-number-init g t c = write_fields_start c.args.pool.now (message_fields c.args.pool.now c.args.kind.0) c.args.fields.now.entries c.into_iter-number-iterator.result (search rules)
+write_fields-loop-number-init g t c = write_fields_start c.args.pool.now (message_fields c.args.pool.now c.args.message_type.0) c.args.fields.now.entries c.into_iter-number-iterator.result (search rules)
 
 pub write_fields-returns-then-has_failed : goal.write_fields-returns-then-has_failed
 write_fields-returns-then-has_failed g t c = to_write_lost c.loop-number.invariant (sym c.has_failed.ensures ∙ c.if-has_failed.true)
 
 pub write_fields-loop-number-preserved-in-Some-field_at : goal.write_fields-loop-number-preserved-in-Some-field_at
 write_fields-loop-number-preserved-in-Some-field_at g t c =
-    write_fields_step c.args.pool.now (message_fields c.args.pool.now c.args.kind.0) c.args.fields.now.entries c.loop-number.number-iterator c.next.new.self c.in-Some.number.now c.in-Some.content.now (field_view c.in-Some-field_at.field.now)
+    write_fields_step c.args.pool.now (message_fields c.args.pool.now c.args.message_type.0) c.args.fields.now.entries c.loop-number.number-iterator c.next.new.self c.in-Some.number.now c.in-Some.content.now (field_view c.in-Some-field_at.field.now)
     (search rules) (sym c.in-Some-field_at.ensures.found) (sym c.has_failed.ensures ∙ c.if-has_failed.false) c.write_content-next.ensures c.loop-number.invariant
 
 pub write_fields-loop-number-preserved : goal.write_fields-loop-number-preserved
 write_fields-loop-number-preserved g t c =
-    write_fields_skip c.args.pool.now (message_fields c.args.pool.now c.args.kind.0) c.args.fields.now.entries c.loop-number.number-iterator c.next.new.self c.in-Some.number.now c.in-Some.content.now (search rules)
+    write_fields_skip c.args.pool.now (message_fields c.args.pool.now c.args.message_type.0) c.args.fields.now.entries c.loop-number.number-iterator c.next.new.self c.in-Some.number.now c.in-Some.content.now (search rules)
     (sym c.field_at.ensures.found ∙ ap (option_map (λ f. field_view f.now)) c.in_default.is) c.loop-number.invariant
 
 pub write_fields-returns : goal.write_fields-returns
-write_fields-returns g t c = write_fields_end c.args.pool.now (message_fields c.args.pool.now c.args.kind.0) c.loop-number.number-iterator (search rules) c.loop-number.invariant
+write_fields-returns g t c = write_fields_end c.args.pool.now (message_fields c.args.pool.now c.args.message_type.0) c.loop-number.number-iterator (search rules) c.loop-number.invariant
 
 pub write_message-returns-then-has_failed : goal.write_message-returns-then-has_failed
 write_message-returns-then-has_failed g t c =
-    rw (body_view-out c.args.body.now) (writes_message_lost c.args.pool.now c.args.kind.0 _ _ c.write_fields-next.ensures (sym c.has_failed.ensures ∙ c.if-has_failed.true))
+    rw (body_view-out c.args.body.now) (writes_message_lost c.args.pool.now c.args.message_type.0 _ _ c.write_fields-next.ensures (sym c.has_failed.ensures ∙ c.if-has_failed.true))
 
 pub write_message-returns : goal.write_message-returns
 write_message-returns g t c =
     rw (body_view-out c.args.body.now)
-    (writes_message c.args.pool.now c.args.kind.0 _ _ c.write_fields-next.ensures (sym c.has_failed.ensures ∙ c.if-has_failed.false) (rw c.deref.ensures.value at c.put_unknowns.ensures))
+    (writes_message c.args.pool.now c.args.message_type.0 _ _ c.write_fields-next.ensures (sym c.has_failed.ensures ∙ c.if-has_failed.false) (rw c.deref.ensures.value at c.put_unknowns.ensures))
 
 pub write_value-returns-in-Message-kind : goal.write_value-returns-in-Message-kind
 write_value-returns-in-Message-kind g t c =

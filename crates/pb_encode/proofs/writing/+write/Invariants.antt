@@ -10,9 +10,9 @@ use Rattle.pb_encode.proofs.writing.+write.Given as goal
 
 abbrev pub invariant-write_fields-loop-number : goal.invariant-write_fields-loop-number
 invariant-write_fields-loop-number g l =
-    ToWrite g.O.Output.written g.O.Output.failures l.initial.out l.out l.initial.sink l.sink l.lengths l.at l.next (shortest_records (canon_fields l.pool (message_fields l.pool l.kind.0) (fields_view l.number-iterator)))
-    (shortest_records (canon_fields l.pool (message_fields l.pool l.kind.0) (fields_view l.fields.entries)))
-    (lengths_in_fields l.pool (message_fields l.pool l.kind.0) (fields_view l.number-iterator)) (lengths_in_fields l.pool (message_fields l.pool l.kind.0) (fields_view l.fields.entries))
+    ToWrite g.O.Output.written g.O.Output.failures l.initial.out l.out l.initial.sink l.sink l.lengths l.at l.next (shortest_records (canon_fields l.pool (message_fields l.pool l.message_type.0) (fields_view l.number-iterator)))
+    (shortest_records (canon_fields l.pool (message_fields l.pool l.message_type.0) (fields_view l.fields.entries)))
+    (lengths_in_fields l.pool (message_fields l.pool l.message_type.0) (fields_view l.number-iterator)) (lengths_in_fields l.pool (message_fields l.pool l.message_type.0) (fields_view l.fields.entries))
 
 abbrev pub invariant-write_values-loop-value : goal.invariant-write_values-loop-value
 invariant-write_values-loop-value g l =

@@ -30,14 +30,14 @@ put_entries-loop-key-preserved g t c = λ within.
 pub put_fields-loop-number-init : goal.put_fields-loop-number-init
 put_fields-loop-number-init g t c = λ within.
     left_start_at c.args.level (λ (fs : List (ℕ × Content)). fields_depth (fields_view fs))
-    (λ (fs : List (ℕ × Content)). fields_lines c.args.pool.now c.args.level (message_fields c.args.pool.now c.args.kind.0) (fields_view fs))
+    (λ (fs : List (ℕ × Content)). fields_lines c.args.pool.now c.args.level (message_fields c.args.pool.now c.args.message_type.0) (fields_view fs))
     c.into_iter-number-iterator.result c.args.fields.now.entries (search rules) within
 
 pub put_fields-loop-number-preserved-in-Some-field_by_number : goal.put_fields-loop-number-preserved-in-Some-field_by_number
 put_fields-loop-number-preserved-in-Some-field_by_number g t c = λ within.
     let split : c.loop-number.number-iterator ≡ (c.in-Some.number.now, c.in-Some.content.now) ∷ c.next.new.self = search rules in
     left_more _ _ _ _ (c.loop-number.invariant within) (fields_deep _ _ _ _ split)
-    (fields_next c.args.pool.now c.args.level (message_fields c.args.pool.now c.args.kind.0) _ _ _ _ (field_view c.in-Some-field_by_number.field.now) split
+    (fields_next c.args.pool.now c.args.level (message_fields c.args.pool.now c.args.message_type.0) _ _ _ _ (field_view c.in-Some-field_by_number.field.now) split
     (sym c.in-Some-field_by_number.ensures.found))
     c.put_content.ensures
 
@@ -76,7 +76,7 @@ pub put_fields-loop-number-preserved : goal.put_fields-loop-number-preserved
 put_fields-loop-number-preserved g t c = λ within.
     let split : c.loop-number.number-iterator ≡ (c.in-Some.number.now, c.in-Some.content.now) ∷ c.next.new.self = search rules in
     left_more _ _ _ _ (c.loop-number.invariant within) (fields_deep _ _ _ _ split)
-    (fields_skip c.args.pool.now c.args.level (message_fields c.args.pool.now c.args.kind.0) _ _ _ _ split
+    (fields_skip c.args.pool.now c.args.level (message_fields c.args.pool.now c.args.message_type.0) _ _ _ _ split
     (sym c.field_by_number.ensures.found ∙ ap (option_map (λ f. field_view f.now)) c.in_default.is))
     (λ below. puts_none)
 
@@ -84,7 +84,7 @@ pub put_fields-returns : goal.put_fields-returns
 put_fields-returns g t c = λ within.
     let end : c.loop-number.number-iterator ≡ [] = search rules in
     left_none (c.loop-number.invariant within)
-    (ap (λ (fs : List (ℕ × Content)). fields_lines c.args.pool.now c.args.level (message_fields c.args.pool.now c.args.kind.0) (fields_view fs)) end)
+    (ap (λ (fs : List (ℕ × Content)). fields_lines c.args.pool.now c.args.level (message_fields c.args.pool.now c.args.message_type.0) (fields_view fs)) end)
 
 pub put_entries-returns : goal.put_entries-returns
 put_entries-returns g t c = λ within.

@@ -11,8 +11,8 @@ abbrev pub invariant-put_fields-loop-number : goal.invariant-put_fields-loop-num
 invariant-put_fields-loop-number g l =
     l.level + fields_depth (fields_view l.fields.entries) ≤ 101
     → IsLeft g.O.Output.written g.O.Output.failures l.initial.out l.out l.initial.sink l.sink l.level (fields_depth (fields_view l.number-iterator))
-    (fields_lines l.pool l.level (message_fields l.pool l.kind.0) (fields_view l.number-iterator))
-    (fields_lines l.pool l.level (message_fields l.pool l.kind.0) (fields_view l.fields.entries))
+    (fields_lines l.pool l.level (message_fields l.pool l.message_type.0) (fields_view l.number-iterator))
+    (fields_lines l.pool l.level (message_fields l.pool l.message_type.0) (fields_view l.fields.entries))
 
 abbrev pub invariant-put_values-loop-value : goal.invariant-put_values-loop-value
 invariant-put_values-loop-value g l =

@@ -9,9 +9,9 @@ use Rattle.pb_value.proofs.change.store.Goals as goal
 
 pub returns-in-Some-clause-ok : goal.returns-in-Some-clause-ok
 returns-in-Some-clause-ok c =
-    stored_done (message_fields c.args.pool.now c.args.kind.0) c.args.shape c.args.number (content_view c.args.content) (body_view c.args.message.now)
+    stored_done (message_fields c.args.pool.now c.args.message_type.0) c.args.shape c.args.number (content_view c.args.content) (body_view c.args.message.now)
     (body_view c.put_field.new.message) (body_view c.clear_field-in-Some.new.message) (Some c.in-Some.other) (search rules) c.in_ok-put_field.ensures.ok
     c.clear_field-in-Some.ensures
     (sym c.in-Some.is ∙ c.gives_way-other.ensures
-    ∙ ap (λ (fs : Fields). gives_way (message_fields c.args.pool.now c.args.kind.0) c.args.shape c.args.number fs) (sym (ap fields_of (body_view-out c.args.message.now))))
+    ∙ ap (λ (fs : Fields). gives_way (message_fields c.args.pool.now c.args.message_type.0) c.args.shape c.args.number fs) (sym (ap fields_of (body_view-out c.args.message.now))))
     c.in_ok-put_field.ensures.rises

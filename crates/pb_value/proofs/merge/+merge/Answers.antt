@@ -91,7 +91,7 @@ merge_at-returns-in-None-clause-ok t c =
 
 pub merge_field-merge_at-requires : goal.merge_field-merge_at-requires
 merge_field-merge_at-requires t c =
-    let all = message_fields c.args.pool.now c.args.kind.0 in
+    let all = message_fields c.args.pool.now c.args.message_type.0 in
     let f = field_view c.in-Some.field.now in
     let found = sym c.in-Some.ensures.found in
     let own = subst (λ (v : Message). IfSome (get_field c.args.number (fields_of v)) (IsHeld c.args.pool.now f.shape f.kind)) (sym c.make_way.ensures)
@@ -100,7 +100,7 @@ merge_field-merge_at-requires t c =
 
 pub merge_field-returns-clause-ok : goal.merge_field-returns-clause-ok
 merge_field-returns-clause-ok t c =
-    on_ok_weaker c.merge_at.result (λ merged levels f l e. over_one (merged_within c.args.pool.now levels) (message_fields c.args.pool.now c.args.kind.0) c.args.number f (field_view c.in-Some.field.now) (content_view c.args.other)
+    on_ok_weaker c.merge_at.result (λ merged levels f l e. over_one (merged_within c.args.pool.now levels) (message_fields c.args.pool.now c.args.message_type.0) c.args.number f (field_view c.in-Some.field.now) (content_view c.args.other)
     (body_view c.args.message.now) (body_view c.make_way.new.message) (body_view c.merge_at.new.message) (sym c.in-Some.ensures.found) e c.make_way.ensures (merged levels l)) c.merge_at.ensures.ok
 
 -- ALL FIELDS
@@ -108,19 +108,19 @@ merge_field-returns-clause-ok t c =
 pub merge_body-loop-number-init : goal.merge_body-loop-number-init
 merge_body-loop-number-init t c = record {
   split = c.into_iter-number-iterator.ensures.into_iter_gives.0;
-  merged = merged_nothing c.args.pool.now c.requires.rules c.args.kind.0 (body_view c.args.message.now) c.args.other.fields.entries (records_of c.args.other.unknown.items) c.requires.own
-      (whole_view c.args.pool.now c.args.kind.0 c.args.other.fields c.args.other.unknown c.requires.other);
+  merged = merged_nothing c.args.pool.now c.requires.rules c.args.message_type.0 (body_view c.args.message.now) c.args.other.fields.entries (records_of c.args.other.unknown.items) c.requires.own
+      (whole_view c.args.pool.now c.args.message_type.0 c.args.other.fields c.args.other.unknown c.requires.other);
 }
 
 pub merge_body-merge_field-requires : goal.merge_body-merge_field-requires
 merge_body-merge_field-requires t c =
     let split = ap (λ (fs : List (ℕ × Content)). c.loop-number.yielded ++ fs) (sym c.in-Some.ensures.steps) ∙ c.loop-number.invariant.split in
-    let w = whole_view c.args.pool.now c.args.kind.0 c.args.other.fields c.args.other.unknown c.requires.other in
-    let now = ready c.args.pool.now c.requires.rules c.args.kind.0 (body_view c.args.message.now) c.args.other.fields.entries (records_of c.args.other.unknown.items) c.requires.own w
+    let w = whole_view c.args.pool.now c.args.message_type.0 c.args.other.fields c.args.other.unknown c.requires.other in
+    let now = ready c.args.pool.now c.requires.rules c.args.message_type.0 (body_view c.args.message.now) c.args.other.fields.entries (records_of c.args.other.unknown.items) c.requires.own w
     c.in-Some.number c.in-Some.content c.loop-number.yielded c.next.new.self (body_view c.loop-number.message) split c.loop-number.invariant.merged in
-    let stand = can_stand c.args.pool.now c.requires.rules c.args.kind.0 (body_view c.args.message.now) c.args.other.fields.entries (records_of c.args.other.unknown.items) c.requires.own w
+    let stand = can_stand c.args.pool.now c.requires.rules c.args.message_type.0 (body_view c.args.message.now) c.args.other.fields.entries (records_of c.args.other.unknown.items) c.requires.own w
     c.in-Some.number c.in-Some.content c.loop-number.yielded c.next.new.self (body_view c.loop-number.message) split c.loop-number.invariant.merged in
-    let depth = shallower c.args.pool.now c.requires.rules c.args.kind.0 (body_view c.args.message.now) c.args.other.fields.entries (records_of c.args.other.unknown.items) c.requires.own w
+    let depth = shallower c.args.pool.now c.requires.rules c.args.message_type.0 (body_view c.args.message.now) c.args.other.fields.entries (records_of c.args.other.unknown.items) c.requires.own w
     c.in-Some.number c.in-Some.content c.loop-number.yielded c.next.new.self (body_view c.loop-number.message) split c.loop-number.invariant.merged in
     let deep : holding_depth (content_view c.in-Some.content) ≤ message_depth (body_view c.args.other) =
     subst (λ (v : Message). holding_depth (content_view c.in-Some.content) ≤ message_depth v) (sym (body_view-roll c.args.other.fields c.args.other.unknown)) depth in
@@ -131,24 +131,24 @@ merge_body-loop-number-preserved t c =
     let split = ap (λ (fs : List (ℕ × Content)). c.loop-number.yielded ++ fs) (sym c.in-Some.ensures.steps) ∙ c.loop-number.invariant.split in
     record {
       split = append_assoc c.loop-number.yielded ((c.in-Some.number, c.in-Some.content) ∷ []) c.next.new.self ∙ split;
-      merged = merged_more c.args.pool.now c.requires.rules c.args.kind.0 (body_view c.args.message.now) c.args.other.fields.entries (records_of c.args.other.unknown.items) c.requires.own
-          (whole_view c.args.pool.now c.args.kind.0 c.args.other.fields c.args.other.unknown c.requires.other)
+      merged = merged_more c.args.pool.now c.requires.rules c.args.message_type.0 (body_view c.args.message.now) c.args.other.fields.entries (records_of c.args.other.unknown.items) c.requires.own
+          (whole_view c.args.pool.now c.args.message_type.0 c.args.other.fields c.args.other.unknown c.requires.other)
           c.in-Some.number c.in-Some.content c.loop-number.yielded c.next.new.self (body_view c.loop-number.message) split c.loop-number.invariant.merged (body_view c.merge_field.new.message) c.in_ok-merge_field.ensures.ok;
     }
 
 pub merge_body-returns-clause-ok : goal.merge_body-returns-clause-ok
 merge_body-returns-clause-ok t c =
     λ levels l.
-    let w = whole_view c.args.pool.now c.args.kind.0 c.args.other.fields c.args.other.unknown c.requires.other in
+    let w = whole_view c.args.pool.now c.args.message_type.0 c.args.other.fields c.args.other.unknown c.requires.other in
     let all_done : c.loop-number.yielded ≡ c.args.other.fields.entries =
     sym (append-nil c.loop-number.yielded) ∙ ap (λ (fs : List (ℕ × Content)). c.loop-number.yielded ++ fs) (sym c.in-None.ensures.steps.0) ∙ c.loop-number.invariant.split in
-    let merged = subst (Merged c.args.pool.now c.args.kind.0 (body_view c.args.message.now) c.args.other.fields.entries (body_view c.loop-number.message)) all_done c.loop-number.invariant.merged in
+    let merged = subst (Merged c.args.pool.now c.args.message_type.0 (body_view c.args.message.now) c.args.other.fields.entries (body_view c.loop-number.message)) all_done c.loop-number.invariant.merged in
     let us = records_of c.args.other.unknown.items in
     let other = body_view-roll c.args.other.fields c.args.other.unknown in
     body_view-roll c.loop-number.message.fields c.append.new.self
     ∙ ap (body (fields_view c.loop-number.message.fields.entries))
     (ap (λ (xs : List (ℕ × Unknown)). records_of xs) c.in_ok-append.ensures.items ∙ records_of-append c.loop-number.message.unknown.items c.args.other.unknown.items)
     ∙ sym (ap (λ (v : Message). body (fields_of v) (unknown_of v ++ us)) (body_view-out c.loop-number.message))
-    ∙ merged_whole c.args.pool.now c.requires.rules c.args.kind.0 (body_view c.args.message.now) c.args.other.fields.entries us c.requires.own w (body_view c.loop-number.message) merged levels
+    ∙ merged_whole c.args.pool.now c.requires.rules c.args.message_type.0 (body_view c.args.message.now) c.args.other.fields.entries us c.requires.own w (body_view c.loop-number.message) merged levels
     (subst (λ (v : Message). message_depth v < levels) other l)
-    ∙ ap (merged_within c.args.pool.now levels c.args.kind.0 (body_view c.args.message.now)) (sym other)
+    ∙ ap (merged_within c.args.pool.now levels c.args.message_type.0 (body_view c.args.message.now)) (sym other)

@@ -24,5 +24,5 @@ decreases-merge_message l = 5 * suc (message_depth (body_view l.other))
 abbrev pub invariant-merge_body-loop-number : goal.invariant-merge_body-loop-number
 invariant-merge_body-loop-number l = record {
   split : l.yielded ++ l.number-iterator ≡ (out-Body l.fn.other).fields.entries;
-  merged : Merged l.pool l.kind.0 (body_view l.fn.message) (out-Body l.fn.other).fields.entries (body_view l.message) l.yielded;
+  merged : Merged l.pool l.message_type.0 (body_view l.fn.message) (out-Body l.fn.other).fields.entries (body_view l.message) l.yielded;
 }

@@ -6,4 +6,4 @@ use Rattle.pb_value.proofs.change.oneof.stored_member.Given as goal
 
 abbrev pub invariant-loop-stored : goal.invariant-loop-stored
 invariant-loop-stored l =
-    member_set (message_fields l.pool l.kind.0) l.oneof (fields_view l.fields.entries) ≡ member_set (message_fields l.pool l.kind.0) l.oneof (fields_view l.stored-iterator)
+    member_set (message_fields l.pool l.message_type.0) l.oneof (fields_view l.fields.entries) ≡ member_set (message_fields l.pool l.message_type.0) l.oneof (fields_view l.stored-iterator)

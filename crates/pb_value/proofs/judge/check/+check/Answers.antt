@@ -11,13 +11,13 @@ check_entries-returns t c =
 
 pub check_fields-loop-number-init : goal.check_fields-loop-number-init
 check_fields-loop-number-init t c =
-    let p = fields_begin c.args.pool.now (message_fields c.args.pool.now c.args.kind.0) c.new-members.result c.args.fields.now.entries
+    let p = fields_begin c.args.pool.now (message_fields c.args.pool.now c.args.message_type.0) c.new-members.result c.args.fields.now.entries
     c.into_iter-number-iterator.result c.new-members.ensures.empty c.into_iter-number-iterator.ensures.into_iter_gives.0 in
     record { cause = p.0; good = p.1 }
 
 pub check_fields-loop-number-preserved : goal.check_fields-loop-number-preserved
 check_fields-loop-number-preserved t c =
-    let p = fields_go_on c.args.pool.now (message_fields c.args.pool.now c.args.kind.0) c.loop-number.members c.check_stored.new.members
+    let p = fields_go_on c.args.pool.now (message_fields c.args.pool.now c.args.message_type.0) c.loop-number.members c.check_stored.new.members
     c.args.fields.now.entries c.loop-number.number-iterator c.next.new.self c.in-Some.number.now c.in-Some.content.now
     (field_view c.in-Some-field_at.field.now) (search rules) (sym c.in-Some-field_at.ensures.found) c.in_ok-check_stored.ensures.judged
     c.in_ok-check_held.ensures c.in_ok-check_stored.ensures.added c.loop-number.invariant.cause c.loop-number.invariant.good in
@@ -25,5 +25,5 @@ check_fields-loop-number-preserved t c =
 
 pub check_fields-returns : goal.check_fields-returns
 check_fields-returns t c =
-    fields_done c.args.pool.now (message_fields c.args.pool.now c.args.kind.0) c.loop-number.members c.args.fields.now.entries c.loop-number.number-iterator
+    fields_done c.args.pool.now (message_fields c.args.pool.now c.args.message_type.0) c.loop-number.members c.args.fields.now.entries c.loop-number.number-iterator
     (search rules) c.loop-number.invariant.cause c.loop-number.invariant.good c.into_iter-number-iterator.ensures.into_iter_gives.5

@@ -22,8 +22,8 @@ invariant-check_entries-loop-key l = record {
 
 abbrev pub invariant-check_fields-loop-number : goal.invariant-check_fields-loop-number
 invariant-check_fields-loop-number l = record {
-  cause : fields_cause l.pool (message_fields l.pool l.kind.0) (λ o. false) (fields_view l.fields.entries)
-      ≡ fields_cause l.pool (message_fields l.pool l.kind.0) (λ o. contains nat_cmp l.members o) (fields_view l.number-iterator);
-  good : GoodFrom l.pool (message_fields l.pool l.kind.0) (λ o. contains nat_cmp l.members o) (fields_view l.number-iterator)
-      → GoodFrom l.pool (message_fields l.pool l.kind.0) (λ o. false) (fields_view l.fields.entries);
+  cause : fields_cause l.pool (message_fields l.pool l.message_type.0) (λ o. false) (fields_view l.fields.entries)
+      ≡ fields_cause l.pool (message_fields l.pool l.message_type.0) (λ o. contains nat_cmp l.members o) (fields_view l.number-iterator);
+  good : GoodFrom l.pool (message_fields l.pool l.message_type.0) (λ o. contains nat_cmp l.members o) (fields_view l.number-iterator)
+      → GoodFrom l.pool (message_fields l.pool l.message_type.0) (λ o. false) (fields_view l.fields.entries);
 }

@@ -7,6 +7,6 @@ use Rattle.pb_value.proofs.judge.unknown.check_unknown.Given as goal
 
 abbrev pub invariant-loop-number : goal.invariant-loop-number
 invariant-loop-number l = record {
-  cause : unknown_cause l.pool (message_fields l.pool l.kind.0) (records_of l.records) ≡ unknown_cause l.pool (message_fields l.pool l.kind.0) (records_of (drop l.number-index l.records));
-  good : AreUnknown l.pool (message_fields l.pool l.kind.0) (records_of (drop l.number-index l.records)) → AreUnknown l.pool (message_fields l.pool l.kind.0) (records_of l.records);
+  cause : unknown_cause l.pool (message_fields l.pool l.message_type.0) (records_of l.records) ≡ unknown_cause l.pool (message_fields l.pool l.message_type.0) (records_of (drop l.number-index l.records));
+  good : AreUnknown l.pool (message_fields l.pool l.message_type.0) (records_of (drop l.number-index l.records)) → AreUnknown l.pool (message_fields l.pool l.message_type.0) (records_of l.records);
 }
