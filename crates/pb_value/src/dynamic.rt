@@ -49,6 +49,7 @@ impl<'p> DynamicMessage<'p> {
     ghost use Rattle.pb_schema.specs.Types.{message_fields};
     ghost use Rattle.pb_schema.specs.Rules.{IsPool};
     ghost use Rattle.std.specs.Bool.{Decides};
+    ghost use Rattle.std.specs.Global.{Global};
     ghost use Rattle.pb_value.specs.Data.{empty, fields_of, get_field, drop_field};
     ghost use Rattle.pb_value.specs.Change.{set_at, set_cause, Allowed, push_at, push_cause, insert_at, entry_at, insert_cause};
     ghost use Rattle.pb_value.specs.Oneof.{member_set};
@@ -115,8 +116,10 @@ impl<'p> DynamicMessage<'p> {
         &self.body
     }
 
-    /// The allocator that the message was made with.
-    pub fn alloc(&self) -> Global {
+    /// The allocator that the message was made with, which is the one that there is.
+    pub fn alloc(&self) -> Global
+        ensures { (alloc : Global) → result ≡ alloc }
+    {
         self.alloc
     }
 
