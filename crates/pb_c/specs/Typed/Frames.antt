@@ -1,0 +1,26 @@
+-- What reading a frame comes to in the words of the call.
+use Rattle.std.specs.Prelude.{◌≡◌, ◌⊎◌, ◌++◌, ℕ, List, [], length}
+use Rattle.pb_wire.specs.Exact.{IsCut}
+use Rattle.pb_wire.specs.Fault.{Fault}
+use Rattle.pb_wire.specs.Limits.{Bounds}
+use Rattle.pb_schema.specs.Types.{Types}
+use Rattle.pb_value.specs.Data.{Message}
+use Rattle.pb_stream.specs.Frame.{Frame, FrameFault}
+use Rattle.pb_c.specs.declared.typed.frames.FrameReport.{FrameReport}
+
+-- where the message of a frame stands
+abbrev pub place_of : {pool : Types} {m : ℕ} {limits : Bounds} {bytes rest : List ℕ} {v : Message} → Frame pool m limits bytes v rest → FrameReport
+place_of f = record { begin = length f.front; end = length (f.front ++ f.text) }
+
+-- the bytes begin with a frame, whose message stands here
+abbrev pub IsFramed : Types → ℕ → Bounds → List ℕ → FrameReport → Type 0
+IsFramed pool m limits bytes report = (v : Message) × (rest : List ℕ) × ((f : Frame pool m limits bytes v rest) × (report ≡ place_of f))
+
+-- the bytes end before their frame does: there are none, or they are cut short
+abbrev pub IsPart : Types → ℕ → Bounds → List ℕ → Type 0
+IsPart pool m limits bytes = (bytes ≡ []) ⊎ ((f : Fault) × FrameFault pool m limits bytes f × IsCut f)
+
+-- what the bytes begin with is no frame, whatever follows them
+pub record IsNoFrame (pool : Types) (m : ℕ) (limits : Bounds) (bytes : List ℕ) (f : Fault) : Type 0 where
+  pub fault : FrameFault pool m limits bytes f
+  pub settled : ¬ IsCut f

@@ -1,0 +1,99 @@
+//! A message behind its length.
+
+ghost use Rattle.std.specs.Prelude.{◌≡◌, ◌≢◌, ◌<◌, ◌≤◌, ◌++◌, ◌↔◌, ◌⊎◌, ℕ, List, length};
+ghost use Rattle.pb_wire.specs.Exact.{IsCut};
+ghost use Rattle.pb_wire.specs.Fault.{Fault};
+ghost use Rattle.pb_wire.specs.Varint.{IsVarint};
+ghost use Rattle.pb_value.specs.Data.{Message};
+ghost use Rattle.pb_stream.specs.Frame.{Frame};
+ghost use Rattle.pb_c.specs.Told.{Tells};
+ghost use Rattle.pb_c.specs.Typed.{ByFault};
+ghost use Rattle.pb_c.specs.Typed.Frames.{IsFramed, IsNoFrame, IsPart, place_of};
+
+use crate::told::{DONE, FAULT, FaultReport, MEMORY, NO_TYPE, PART, Step};
+use crate::typed::{tell_error, type_numbered};
+use pb_decode::DecodeError;
+use pb_schema::Pool;
+use pb_stream::read_delimited;
+use pb_wire::{Cause, FailurePlan, Limits, MemInput, read_varint};
+use std::alloc::Global;
+
+/// Where the message of a frame stands.
+#[repr(C)]
+#[derive(Clone, Copy, Debug, PartialEq, Eq)]
+pub struct FrameReport {
+    /// Where it begins, behind its length.
+    pub begin: usize,
+    /// Where it ends, and the frame with it.
+    pub end: usize,
+}
+
+/// Checks the frame that the bytes begin with, a message of the type of a number behind its length.
+pub(crate) fn check_frame(
+    alloc: Global,
+    pool: &Pool,
+    number: u32,
+    bytes: &[u8],
+    limits: Limits,
+    frame: &mut FrameReport,
+    fault: &mut FaultReport,
+    path: &mut [Step],
+) -> u32
+    ensures framed { result ≡ DONE → IsFramed pool.now number limits bytes.now frame.new }
+    ensures part { result ≡ PART → IsPart pool.now number limits bytes.now }
+    ensures fault { result ≡ FAULT → (f : Fault) × IsNoFrame pool.now number limits bytes.now f × Tells f fault.new path.old path.new }
+    ensures unframed { result ≢ DONE → frame.new ≡ frame.old }
+    ensures untold { result ≢ FAULT → (fault.new ≡ fault.old) × (path.new ≡ path.old) }
+    ensures no_type { result ≡ NO_TYPE ↔ length pool.now.messages ≤ number }
+    ensures answers { (result ≡ DONE) ⊎ (result ≡ PART) ⊎ (result ≡ NO_TYPE) ⊎ (result ≡ FAULT) ⊎ (result ≡ MEMORY) }
+    ensures accepted { number < length pool.now.messages → (v : Message) → (rest : List ℕ) → (f : Frame pool.now number limits bytes.now v rest)
+        → ((result ≡ DONE) × (frame.new ≡ place_of f)) ⊎ (result ≡ MEMORY) }
+    ensures parted { number < length pool.now.messages → IsPart pool.now number limits bytes.now → (result ≡ PART) ⊎ (result ≡ MEMORY) }
+    ensures refused { number < length pool.now.messages → (f : Fault) → IsNoFrame pool.now number limits bytes.now f
+        → ((result ≡ FAULT) × Tells f fault.new path.old path.new) ⊎ (result ≡ MEMORY) }
+{
+    let Some(message_type) = type_numbered(pool, number) else {
+        return NO_TYPE;
+    };
+    let mut input = MemInput::new(bytes, usize::MAX, FailurePlan::NEVER);
+    match read_delimited(alloc, pool, message_type, &mut input, limits) {
+        Ok(Some(_)) => {
+            *frame = place_behind_length(bytes);
+            DONE
+        }
+        Ok(None) => PART,
+        Err(error) => tell_frame_error(&error, fault, path),
+    }
+}
+
+/// Where the message of the frame stands that the bytes begin with.
+fn place_behind_length(bytes: &[u8]) -> FrameReport
+    requires { (front : List ℕ) × (text : List ℕ) × (rest : List ℕ) × (bytes.now ≡ front ++ text ++ rest) × IsVarint (length text) front }
+    ensures { (front text rest : List ℕ) → bytes.now ≡ front ++ text ++ rest → IsVarint (length text) front
+        → result ≡ record { begin = length front; end = length (front ++ text) } }
+{
+    match read_varint(bytes) {
+        Ok((size, begin)) => FrameReport {
+            begin,
+            end: begin + size as usize,
+        },
+        Err(_) => unreachable!(),
+    }
+}
+
+/// Tells the fault of an error, if it has one that more bytes do not mend, and answers the error's number.
+fn tell_frame_error(error: &DecodeError, fault: &mut FaultReport, path: &mut [Step]) -> u32
+    ensures told { ByFault error.now (λ f. (IsCut f × (result ≡ PART)) ⊎ ((¬ IsCut f) × (result ≡ FAULT) × Tells f fault.new path.old path.new))
+        (result ≡ MEMORY) }
+    ensures untold { result ≢ FAULT → (fault.new ≡ fault.old) × (path.new ≡ path.old) }
+    ensures answers { (result ≡ PART) ⊎ (result ≡ FAULT) ⊎ (result ≡ MEMORY) }
+{
+    match error {
+        DecodeError::Fault {
+            byte: _,
+            path: _,
+            cause: Cause::Truncated,
+        } => PART,
+        _ => tell_error(error, fault, path),
+    }
+}
