@@ -1,5 +1,7 @@
 -- buffers whose front is laid
 pub mod Laid
+-- what is told of an error
+pub mod Telling
 -- what is told of an error of decoding
 pub mod Refusals
 -- what is made of a message

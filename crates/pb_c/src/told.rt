@@ -12,23 +12,11 @@ pub const DONE: u32 = 0;
 /// A limit is above the greatest.
 pub const BAD_LIMITS: u32 = 1;
 
-/// The pool has no message type of that name or number.
-pub const NO_TYPE: u32 = 2;
-
-/// The handle holds nothing.
-pub const EMPTY: u32 = 3;
-
-/// The bytes end before their frame does.
-pub const PART: u32 = 5;
-
 /// The bytes have a fault, which is told.
 pub const FAULT: u32 = 13;
 
 /// Memory ran out.
 pub const MEMORY: u32 = 14;
-
-/// What would be written has more than 2^31 - 1 bytes.
-pub const TOO_LARGE: u32 = 31;
 
 /// Which calls the library has: the number of the header.
 const INTERFACE: u32 = 1;

@@ -9,8 +9,8 @@ ghost use Rattle.pb_encode.specs.Encoding.{bytes_of};
 ghost use Rattle.pb_decode.specs.Push.{IsFaultOf};
 ghost use Rattle.pb_c.specs.Told.{IsLaid, Tells};
 
-use crate::told::{DONE, FAULT, FaultReport, MEMORY, NO_TYPE, Step, TOO_LARGE};
-use crate::typed::{read_message, write_out};
+use crate::told::{DONE, FAULT, FaultReport, MEMORY, Step};
+use crate::typed::{NO_TYPE, TOO_LARGE, read_message, write_out};
 use pb_encode::{EncodeError, encode};
 use pb_schema::Pool;
 use pb_value::DynamicMessage;

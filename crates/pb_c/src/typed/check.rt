@@ -7,8 +7,8 @@ ghost use Rattle.pb_value.specs.Derives.{Text};
 ghost use Rattle.pb_decode.specs.Push.{IsFaultOf};
 ghost use Rattle.pb_c.specs.Told.{Tells};
 
-use crate::told::{DONE, FAULT, FaultReport, MEMORY, NO_TYPE, Step};
-use crate::typed::read_message;
+use crate::told::{DONE, FAULT, FaultReport, MEMORY, Step};
+use crate::typed::{NO_TYPE, read_message};
 use pb_schema::Pool;
 use pb_wire::Limits;
 use std::alloc::Global;

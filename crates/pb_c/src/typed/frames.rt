@@ -10,8 +10,8 @@ ghost use Rattle.pb_c.specs.Told.{Tells};
 ghost use Rattle.pb_c.specs.Typed.{ByFault};
 ghost use Rattle.pb_c.specs.Typed.Frames.{IsFramed, IsNoFrame, IsPart, place_of};
 
-use crate::told::{DONE, FAULT, FaultReport, MEMORY, NO_TYPE, PART, Step};
-use crate::typed::{tell_error, type_numbered};
+use crate::told::{DONE, FAULT, FaultReport, MEMORY, Step};
+use crate::typed::{NO_TYPE, PART, tell_error, type_numbered};
 use pb_decode::DecodeError;
 use pb_schema::Pool;
 use pb_stream::read_delimited;

@@ -9,8 +9,8 @@ ghost use Rattle.pb_listing.specs.Listing.{listing};
 ghost use Rattle.pb_c.specs.Told.{IsLaid, Tells};
 ghost use Rattle.pb_c.specs.Typed.{message_of};
 
-use crate::told::{DONE, FAULT, FaultReport, MEMORY, NO_TYPE, Step};
-use crate::typed::{read_message, write_out};
+use crate::told::{DONE, FAULT, FaultReport, MEMORY, Step};
+use crate::typed::{NO_TYPE, read_message, write_out};
 use pb_listing::write_message;
 use pb_schema::Pool;
 use pb_value::DynamicMessage;
