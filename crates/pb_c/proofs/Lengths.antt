@@ -1,5 +1,5 @@
 -- The length that stands before a text.
-use Rattle.std.proofs.Common.{◌≡◌, ◌≤◌, ◌++◌, ℕ, List, length, take, Result, Ok, arith, length-append}
+use Rattle.std.proofs.Common.{◌≡◌, ◌≤◌, ◌+◌, ◌++◌, ℕ, List, length, take, Result, Ok, arith, ap}
 use Rattle.std.proofs.lemmas.Grind.{common_steps}
 use Rattle.pb_wire.specs.Varint.{IsVarint}
 
@@ -11,3 +11,19 @@ length_read bytes front text rest r joined counted only =
     let begins : take (length front) bytes ≡ front = grind (arith, common_steps) in
     let within : length front ≤ length bytes = grind (arith, common_steps) in
     only (length text) (length front) within (rw begins counted)
+
+-- where the text begins and how long it is
+pub begin_and_size : {E : Type 0} (r : Result (ℕ × ℕ) E) (size begin n k : ℕ) → r ≡ Ok (size, begin) → r ≡ Ok (n, k) → (size ≡ n) × (begin ≡ k)
+begin_and_size r size begin n k is read =
+    let same : ◌≡◌ {A = ℕ × ℕ} (size, begin) (n, k) = cc in
+    (ap (λ p. p.0) same, ap (λ p. p.1) same)
+
+-- the text ends within the bytes
+pub ends_within :
+    (bytes front text rest : List ℕ) (begin size : ℕ) → bytes ≡ front ++ text ++ rest → (size ≡ length text) × (begin ≡ length front) → begin + size ≤ length bytes
+ends_within bytes front text rest begin size joined (sized, begins) = grind (arith, common_steps)
+
+-- where it ends
+pub end_of :
+    (front text : List ℕ) (begin size : ℕ) → (size ≡ length text) × (begin ≡ length front) → begin + size ≡ length (front ++ text)
+end_of front text begin size (sized, begins) = grind (arith, common_steps)

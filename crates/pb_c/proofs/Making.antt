@@ -1,5 +1,5 @@
 -- What is made of a message that was decoded is made of the value of its bytes.
-use Rattle.std.proofs.Common.{◌≡◌, ◌⊎◌, ◌<◌, ◌≤◌, ◌^◌, ℕ, List, length, inl, inr, arith, subst}
+use Rattle.std.proofs.Common.{◌≡◌, ◌⊎◌, ◌<◌, ◌≤◌, ◌^◌, ℕ, List, length, inl, inr, arith, subst, sym, refl}
 use Rattle.pb_schema.specs.Types.{Types}
 use Rattle.pb_value.specs.Data.{Message}
 use Rattle.pb_value.specs.Dynamic.{Dynamic}
@@ -7,7 +7,7 @@ use Rattle.pb_c.specs.Typed.{message_of}
 
 -- a message of this pool, type and value
 pub the_message : (d : Dynamic) (pool : Types) (m : ℕ) (v : Message) → d.pool ≡ pool → d.kind ≡ m → d.body ≡ v → d ≡ message_of pool m v
-the_message d pool m v of_pool of_kind of_body = cc
+the_message d pool m v of_pool of_kind of_body = rw (sym of_pool, sym of_kind, sym of_body) refl
 
 -- canonical bytes that are few enough are written, unless memory runs out
 pub written :

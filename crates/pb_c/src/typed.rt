@@ -8,10 +8,10 @@ ghost use Rattle.pb_decode.specs.Push.{IsFaultOf};
 ghost use Rattle.pb_c.specs.Told.{IsLaid, Tells};
 ghost use Rattle.pb_c.specs.Typed.{ByFault};
 
-mod canon;
-mod check;
-mod frames;
-mod show;
+pub(crate) mod canon;
+pub(crate) mod check;
+pub(crate) mod frames;
+pub(crate) mod show;
 
 use crate::told::{FAULT, FaultReport, MEMORY, Step, lay_over, tell_fault};
 use pb_decode::{DecodeError, decode};

@@ -24,3 +24,7 @@ IsPart pool m limits bytes = (bytes ≡ []) ⊎ ((f : Fault) × FrameFault pool 
 pub record IsNoFrame (pool : Types) (m : ℕ) (limits : Bounds) (bytes : List ℕ) (f : Fault) : Type 0 where
   pub fault : FrameFault pool m limits bytes f
   pub settled : ¬ IsCut f
+
+-- a call's answer to the fault of a frame: more bytes are needed, or else this is told
+abbrev pub AnswersFault : ℕ → (Fault → Type 0) → Fault → Type 0
+AnswersFault answer Told f = (IsCut f × (answer ≡ 5)) ⊎ ((¬ IsCut f) × (answer ≡ 13) × Told f)

@@ -1,17 +1,19 @@
 //! A message behind its length.
 
-ghost use Rattle.std.specs.Prelude.{◌≡◌, ◌≢◌, ◌<◌, ◌≤◌, ◌++◌, ◌↔◌, ◌⊎◌, ℕ, List, length};
-ghost use Rattle.pb_wire.specs.Exact.{IsCut};
+ghost use Rattle.std.specs.Prelude.{◌≡◌, ◌≢◌, ◌<◌, ◌≤◌, ◌++◌, ◌↔◌, ◌⊎◌, ℕ, List, None, length};
 ghost use Rattle.pb_wire.specs.Fault.{Fault};
 ghost use Rattle.pb_wire.specs.Varint.{IsVarint};
+ghost use Rattle.pb_schema.specs.Types.{Types};
 ghost use Rattle.pb_value.specs.Data.{Message};
 ghost use Rattle.pb_stream.specs.Frame.{Frame};
-ghost use Rattle.pb_c.specs.Told.{Tells};
-ghost use Rattle.pb_c.specs.Typed.{ByFault};
-ghost use Rattle.pb_c.specs.Typed.Frames.{IsFramed, IsNoFrame, IsPart, place_of};
+ghost use Rattle.pb_c.specs.Held.{held};
+ghost use Rattle.pb_c.specs.Told.{AreLimits, Tells, bounds};
+ghost use Rattle.pb_c.specs.Typed.{ByFault, HasType, LacksType};
+ghost use Rattle.pb_c.specs.Typed.Frames.{AnswersFault, IsFramed, IsNoFrame, IsPart, place_of};
 
-use crate::told::{DONE, FAULT, FaultReport, MEMORY, Step};
-use crate::typed::{NO_TYPE, PART, tell_error, type_numbered};
+use crate::handle::{PoolHandle, put, take};
+use crate::told::{BAD_LIMITS, DONE, FAULT, FaultReport, MEMORY, Step};
+use crate::typed::{EMPTY, NO_TYPE, PART, tell_error, type_numbered};
 use pb_decode::DecodeError;
 use pb_schema::Pool;
 use pb_stream::read_delimited;
@@ -28,8 +30,67 @@ pub struct FrameReport {
     pub end: usize,
 }
 
+/// Checks the frame that the bytes begin with: a message of the type of this number in the pool, behind its length.
+///
+/// Answers DONE with where the message begins and ends, whatever follows it; PART where the bytes end before their frame does, so that
+/// more are needed; and else as `mb_check` does. A fault's byte counts from the first byte of the length. What is told of the frame
+/// is written at DONE alone.
+#[unsafe(no_mangle)]
+pub extern "C" fn mb_frames(
+    alloc: Global,
+    pool: &mut PoolHandle,
+    message_type: u32,
+    bytes: &[u8],
+    max_bytes: u32,
+    max_depth: u8,
+    frame: &mut FrameReport,
+    fault: &mut FaultReport,
+    path: &mut [Step],
+) -> u32
+    ensures framed { result ≡ DONE → (p : Types) × HasType (held pool.old) message_type p
+        × IsFramed p message_type (bounds max_bytes max_depth) bytes.now frame.new }
+    ensures part { result ≡ PART → (p : Types) × HasType (held pool.old) message_type p
+        × IsPart p message_type (bounds max_bytes max_depth) bytes.now }
+    ensures fault { result ≡ FAULT → (p : Types) × HasType (held pool.old) message_type p
+        × ((f : Fault) × IsNoFrame p message_type (bounds max_bytes max_depth) bytes.now f × Tells f fault.new path.old path.new) }
+    ensures unframed { result ≢ DONE → frame.new ≡ frame.old }
+    ensures untold { result ≢ FAULT → (fault.new ≡ fault.old) × (path.new ≡ path.old) }
+    ensures limits { result ≡ BAD_LIMITS ↔ ¬ AreLimits max_bytes max_depth }
+    ensures empty { result ≡ EMPTY ↔ AreLimits max_bytes max_depth × (held pool.old ≡ None) }
+    ensures no_type { result ≡ NO_TYPE ↔ AreLimits max_bytes max_depth × LacksType (held pool.old) message_type }
+    ensures kept { held pool.new ≡ held pool.old }
+
+    // Each frame is accepted, and of all other bytes it is told what they are, unless memory runs out.
+    ensures accepted { AreLimits max_bytes max_depth → (p : Types) → HasType (held pool.old) message_type p → (v : Message)
+        → (rest : List ℕ) → (f : Frame p message_type (bounds max_bytes max_depth) bytes.now v rest)
+        → ((result ≡ DONE) × (frame.new ≡ place_of f)) ⊎ (result ≡ MEMORY) }
+    ensures parted { AreLimits max_bytes max_depth → (p : Types) → HasType (held pool.old) message_type p
+        → IsPart p message_type (bounds max_bytes max_depth) bytes.now → (result ≡ PART) ⊎ (result ≡ MEMORY) }
+    ensures refused { AreLimits max_bytes max_depth → (p : Types) → HasType (held pool.old) message_type p → (f : Fault)
+        → IsNoFrame p message_type (bounds max_bytes max_depth) bytes.now f → ((result ≡ FAULT) × Tells f fault.new path.old path.new) ⊎ (result ≡ MEMORY) }
+{
+    let Some(limits) = Limits::new(max_bytes, max_depth) else {
+        return BAD_LIMITS;
+    };
+    let Some(shared) = take(alloc, pool) else {
+        return EMPTY;
+    };
+    let answer = check_frame(
+        alloc,
+        &shared.pool,
+        message_type,
+        bytes,
+        limits,
+        frame,
+        fault,
+        path,
+    );
+    put(pool, shared);
+    answer
+}
+
 /// Checks the frame that the bytes begin with, a message of the type of a number behind its length.
-pub(crate) fn check_frame(
+fn check_frame(
     alloc: Global,
     pool: &Pool,
     number: u32,
@@ -83,8 +144,7 @@ fn place_behind_length(bytes: &[u8]) -> FrameReport
 
 /// Tells the fault of an error, if it has one that more bytes do not mend, and answers the error's number.
 fn tell_frame_error(error: &DecodeError, fault: &mut FaultReport, path: &mut [Step]) -> u32
-    ensures told { ByFault error.now (λ f. (IsCut f × (result ≡ PART)) ⊎ ((¬ IsCut f) × (result ≡ FAULT) × Tells f fault.new path.old path.new))
-        (result ≡ MEMORY) }
+    ensures told { ByFault error.now (AnswersFault result (λ f. Tells f fault.new path.old path.new)) (result ≡ MEMORY) }
     ensures untold { result ≢ FAULT → (fault.new ≡ fault.old) × (path.new ≡ path.old) }
     ensures answers { (result ≡ PART) ⊎ (result ≡ FAULT) ⊎ (result ≡ MEMORY) }
 {

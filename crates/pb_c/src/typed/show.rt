@@ -1,24 +1,83 @@
 //! The listing of a message.
 
-ghost use Rattle.std.specs.Prelude.{◌≡◌, ◌≢◌, ◌<◌, ◌≤◌, ◌↔◌, ◌⊎◌, length};
+ghost use Rattle.std.specs.Prelude.{◌≡◌, ◌≢◌, ◌<◌, ◌≤◌, ◌↔◌, ◌⊎◌, None, length};
 ghost use Rattle.pb_wire.specs.Fault.{Fault};
+ghost use Rattle.pb_schema.specs.Types.{Types};
 ghost use Rattle.pb_value.specs.Data.{Message};
 ghost use Rattle.pb_value.specs.Derives.{Text};
 ghost use Rattle.pb_decode.specs.Push.{IsFaultOf};
 ghost use Rattle.pb_listing.specs.Listing.{listing};
-ghost use Rattle.pb_c.specs.Told.{IsLaid, Tells};
-ghost use Rattle.pb_c.specs.Typed.{message_of};
+ghost use Rattle.pb_c.specs.Held.{held};
+ghost use Rattle.pb_c.specs.Told.{AreLimits, IsLaid, Tells, bounds};
+ghost use Rattle.pb_c.specs.Typed.{HasType, LacksType, message_of};
 
-use crate::told::{DONE, FAULT, FaultReport, MEMORY, Step};
-use crate::typed::{NO_TYPE, read_message, write_out};
+use crate::handle::{PoolHandle, put, take};
+use crate::told::{BAD_LIMITS, DONE, FAULT, FaultReport, MEMORY, Step};
+use crate::typed::{EMPTY, NO_TYPE, read_message, write_out};
 use pb_listing::write_message;
 use pb_schema::Pool;
 use pb_value::DynamicMessage;
 use pb_wire::{FailurePlan, Limits, MemOutput};
 use std::alloc::Global;
 
+/// Writes the listing of the message that the bytes are, as `pbtool show` prints it, as much of it as the buffer holds, and tells its
+/// whole length.
+///
+/// Answers as `mb_check` does. The listing and its length are written at DONE alone.
+#[unsafe(no_mangle)]
+pub extern "C" fn mb_show(
+    alloc: Global,
+    pool: &mut PoolHandle,
+    message_type: u32,
+    bytes: &[u8],
+    max_bytes: u32,
+    max_depth: u8,
+    out: &mut [u8],
+    size: &mut usize,
+    fault: &mut FaultReport,
+    path: &mut [Step],
+) -> u32
+    ensures text { result ≡ DONE → (p : Types) × HasType (held pool.old) message_type p
+        × ((v : Message) × Text p message_type (bounds max_bytes max_depth) bytes.now v × IsLaid (listing (message_of p message_type v)) out.old out.new size.new) }
+    ensures fault { result ≡ FAULT → (p : Types) × HasType (held pool.old) message_type p
+        × ((f : Fault) × IsFaultOf p message_type (bounds max_bytes max_depth) bytes.now f × Tells f fault.new path.old path.new) }
+    ensures unwritten { result ≢ DONE → (out.new ≡ out.old) × (size.new ≡ size.old) }
+    ensures untold { result ≢ FAULT → (fault.new ≡ fault.old) × (path.new ≡ path.old) }
+    ensures limits { result ≡ BAD_LIMITS ↔ ¬ AreLimits max_bytes max_depth }
+    ensures empty { result ≡ EMPTY ↔ AreLimits max_bytes max_depth × (held pool.old ≡ None) }
+    ensures no_type { result ≡ NO_TYPE ↔ AreLimits max_bytes max_depth × LacksType (held pool.old) message_type }
+    ensures kept { held pool.new ≡ held pool.old }
+
+    // Each text is accepted and each fault is told, unless memory runs out.
+    ensures accepted { AreLimits max_bytes max_depth → (p : Types) → HasType (held pool.old) message_type p → (v : Message)
+        → Text p message_type (bounds max_bytes max_depth) bytes.now v
+        → ((result ≡ DONE) × IsLaid (listing (message_of p message_type v)) out.old out.new size.new) ⊎ (result ≡ MEMORY) }
+    ensures refused { AreLimits max_bytes max_depth → (p : Types) → HasType (held pool.old) message_type p → (f : Fault)
+        → IsFaultOf p message_type (bounds max_bytes max_depth) bytes.now f → ((result ≡ FAULT) × Tells f fault.new path.old path.new) ⊎ (result ≡ MEMORY) }
+{
+    let Some(limits) = Limits::new(max_bytes, max_depth) else {
+        return BAD_LIMITS;
+    };
+    let Some(shared) = take(alloc, pool) else {
+        return EMPTY;
+    };
+    let answer = show_message(
+        alloc,
+        &shared.pool,
+        message_type,
+        bytes,
+        limits,
+        out,
+        size,
+        fault,
+        path,
+    );
+    put(pool, shared);
+    answer
+}
+
 /// Writes the listing of the message that the bytes are, by its type's number.
-pub(crate) fn show_message(
+fn show_message(
     alloc: Global,
     pool: &Pool,
     number: u32,
