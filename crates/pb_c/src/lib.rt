@@ -1,9 +1,13 @@
 //! The calls of the library for C, as `include/mabristu.h` declares them. A call judges its arguments itself, and answers by a number.
 #![tactic(auto)]
 
+mod handle;
 mod raw;
 mod told;
 
+pub use handle::PoolHandle;
+pub use handle::seal::Seal;
+pub use handle::shared::Shared;
 pub use raw::check::mb_raw_check;
 pub use raw::short::mb_raw_short;
 pub use told::{FaultReport, Step, mb_interface};
