@@ -8,3 +8,7 @@ pub mod Refusals
 pub mod Making
 -- the length before a text
 pub mod Lengths
+-- a seal, its parts and a box of a pool as one type
+pub mod AsBox
+-- an option that is there
+pub mod Filled

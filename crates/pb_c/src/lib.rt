@@ -6,6 +6,9 @@ mod raw;
 mod told;
 mod typed;
 
+pub use handle::PoolHandle;
+pub use handle::seal::Seal;
+pub use handle::shared::Shared;
 pub use raw::check::mb_raw_check;
 pub use raw::short::mb_raw_short;
 pub use told::{FaultReport, Step, mb_interface};

@@ -8,7 +8,7 @@ ghost use Rattle.pb_value.specs.Data.{Message};
 ghost use Rattle.pb_value.specs.Derives.{Text};
 ghost use Rattle.pb_encode.specs.Encoding.{bytes_of};
 ghost use Rattle.pb_decode.specs.Push.{IsFaultOf};
-ghost use Rattle.pb_c.specs.Held.{held};
+ghost use Rattle.pb_c.specs.Held.{types_held};
 ghost use Rattle.pb_c.specs.Told.{AreLimits, IsLaid, Tells, bounds};
 ghost use Rattle.pb_c.specs.Typed.{HasType, LacksType};
 
@@ -38,28 +38,28 @@ pub extern "C" fn mb_canon(
     fault: &mut FaultReport,
     path: &mut [Step],
 ) -> u32
-    ensures text { result ≡ DONE → (p : Types) × HasType (held pool.old) message_type p
+    ensures text { result ≡ DONE → (p : Types) × HasType (types_held pool.old) message_type p
         × ((v : Message) × Text p message_type (bounds max_bytes max_depth) bytes.now v × (length (canon_bytes p message_type v) < 2 ^ 31)
         × IsLaid (canon_bytes p message_type v) out.old out.new size.new) }
-    ensures too_large { result ≡ TOO_LARGE → (p : Types) × HasType (held pool.old) message_type p
+    ensures too_large { result ≡ TOO_LARGE → (p : Types) × HasType (types_held pool.old) message_type p
         × ((v : Message) × Text p message_type (bounds max_bytes max_depth) bytes.now v × (2 ^ 31 ≤ length (canon_bytes p message_type v))) }
-    ensures fault { result ≡ FAULT → (p : Types) × HasType (held pool.old) message_type p
+    ensures fault { result ≡ FAULT → (p : Types) × HasType (types_held pool.old) message_type p
         × ((f : Fault) × IsFaultOf p message_type (bounds max_bytes max_depth) bytes.now f × Tells f fault.new path.old path.new) }
     ensures unwritten { result ≢ DONE → (out.new ≡ out.old) × (size.new ≡ size.old) }
     ensures untold { result ≢ FAULT → (fault.new ≡ fault.old) × (path.new ≡ path.old) }
     ensures limits { result ≡ BAD_LIMITS ↔ ¬ AreLimits max_bytes max_depth }
-    ensures empty { result ≡ EMPTY ↔ AreLimits max_bytes max_depth × (held pool.old ≡ None) }
-    ensures no_type { result ≡ NO_TYPE ↔ AreLimits max_bytes max_depth × LacksType (held pool.old) message_type }
-    ensures kept { held pool.new ≡ held pool.old }
+    ensures empty { result ≡ EMPTY ↔ AreLimits max_bytes max_depth × (types_held pool.old ≡ None) }
+    ensures no_type { result ≡ NO_TYPE ↔ AreLimits max_bytes max_depth × LacksType (types_held pool.old) message_type }
+    ensures kept { types_held pool.new ≡ types_held pool.old }
 
     // Each text is accepted and each fault is told, unless memory runs out.
-    ensures accepted { AreLimits max_bytes max_depth → (p : Types) → HasType (held pool.old) message_type p → (v : Message)
+    ensures accepted { AreLimits max_bytes max_depth → (p : Types) → HasType (types_held pool.old) message_type p → (v : Message)
         → Text p message_type (bounds max_bytes max_depth) bytes.now v → length (canon_bytes p message_type v) < 2 ^ 31
         → ((result ≡ DONE) × IsLaid (canon_bytes p message_type v) out.old out.new size.new) ⊎ (result ≡ MEMORY) }
-    ensures oversized { AreLimits max_bytes max_depth → (p : Types) → HasType (held pool.old) message_type p → (v : Message)
+    ensures oversized { AreLimits max_bytes max_depth → (p : Types) → HasType (types_held pool.old) message_type p → (v : Message)
         → Text p message_type (bounds max_bytes max_depth) bytes.now v → 2 ^ 31 ≤ length (canon_bytes p message_type v)
         → (result ≡ TOO_LARGE) ⊎ (result ≡ MEMORY) }
-    ensures refused { AreLimits max_bytes max_depth → (p : Types) → HasType (held pool.old) message_type p → (f : Fault)
+    ensures refused { AreLimits max_bytes max_depth → (p : Types) → HasType (types_held pool.old) message_type p → (f : Fault)
         → IsFaultOf p message_type (bounds max_bytes max_depth) bytes.now f → ((result ≡ FAULT) × Tells f fault.new path.old path.new) ⊎ (result ≡ MEMORY) }
 {
     let Some(limits) = Limits::new(max_bytes, max_depth) else {

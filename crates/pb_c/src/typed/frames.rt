@@ -6,7 +6,7 @@ ghost use Rattle.pb_wire.specs.Varint.{IsVarint};
 ghost use Rattle.pb_schema.specs.Types.{Types};
 ghost use Rattle.pb_value.specs.Data.{Message};
 ghost use Rattle.pb_stream.specs.Frame.{Frame};
-ghost use Rattle.pb_c.specs.Held.{held};
+ghost use Rattle.pb_c.specs.Held.{types_held};
 ghost use Rattle.pb_c.specs.Told.{AreLimits, Tells, bounds};
 ghost use Rattle.pb_c.specs.Typed.{ByFault, HasType, LacksType};
 ghost use Rattle.pb_c.specs.Typed.Frames.{AnswersFault, IsFramed, IsNoFrame, IsPart, place_of};
@@ -47,26 +47,26 @@ pub extern "C" fn mb_frames(
     fault: &mut FaultReport,
     path: &mut [Step],
 ) -> u32
-    ensures framed { result ≡ DONE → (p : Types) × HasType (held pool.old) message_type p
+    ensures framed { result ≡ DONE → (p : Types) × HasType (types_held pool.old) message_type p
         × IsFramed p message_type (bounds max_bytes max_depth) bytes.now frame.new }
-    ensures part { result ≡ PART → (p : Types) × HasType (held pool.old) message_type p
+    ensures part { result ≡ PART → (p : Types) × HasType (types_held pool.old) message_type p
         × IsPart p message_type (bounds max_bytes max_depth) bytes.now }
-    ensures fault { result ≡ FAULT → (p : Types) × HasType (held pool.old) message_type p
+    ensures fault { result ≡ FAULT → (p : Types) × HasType (types_held pool.old) message_type p
         × ((f : Fault) × IsNoFrame p message_type (bounds max_bytes max_depth) bytes.now f × Tells f fault.new path.old path.new) }
     ensures unframed { result ≢ DONE → frame.new ≡ frame.old }
     ensures untold { result ≢ FAULT → (fault.new ≡ fault.old) × (path.new ≡ path.old) }
     ensures limits { result ≡ BAD_LIMITS ↔ ¬ AreLimits max_bytes max_depth }
-    ensures empty { result ≡ EMPTY ↔ AreLimits max_bytes max_depth × (held pool.old ≡ None) }
-    ensures no_type { result ≡ NO_TYPE ↔ AreLimits max_bytes max_depth × LacksType (held pool.old) message_type }
-    ensures kept { held pool.new ≡ held pool.old }
+    ensures empty { result ≡ EMPTY ↔ AreLimits max_bytes max_depth × (types_held pool.old ≡ None) }
+    ensures no_type { result ≡ NO_TYPE ↔ AreLimits max_bytes max_depth × LacksType (types_held pool.old) message_type }
+    ensures kept { types_held pool.new ≡ types_held pool.old }
 
     // Each frame is accepted, and of all other bytes it is told what they are, unless memory runs out.
-    ensures accepted { AreLimits max_bytes max_depth → (p : Types) → HasType (held pool.old) message_type p → (v : Message)
+    ensures accepted { AreLimits max_bytes max_depth → (p : Types) → HasType (types_held pool.old) message_type p → (v : Message)
         → (rest : List ℕ) → (f : Frame p message_type (bounds max_bytes max_depth) bytes.now v rest)
         → ((result ≡ DONE) × (frame.new ≡ place_of f)) ⊎ (result ≡ MEMORY) }
-    ensures parted { AreLimits max_bytes max_depth → (p : Types) → HasType (held pool.old) message_type p
+    ensures parted { AreLimits max_bytes max_depth → (p : Types) → HasType (types_held pool.old) message_type p
         → IsPart p message_type (bounds max_bytes max_depth) bytes.now → (result ≡ PART) ⊎ (result ≡ MEMORY) }
-    ensures refused { AreLimits max_bytes max_depth → (p : Types) → HasType (held pool.old) message_type p → (f : Fault)
+    ensures refused { AreLimits max_bytes max_depth → (p : Types) → HasType (types_held pool.old) message_type p → (f : Fault)
         → IsNoFrame p message_type (bounds max_bytes max_depth) bytes.now f → ((result ≡ FAULT) × Tells f fault.new path.old path.new) ⊎ (result ≡ MEMORY) }
 {
     let Some(limits) = Limits::new(max_bytes, max_depth) else {
