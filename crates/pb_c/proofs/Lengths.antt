@@ -1,7 +1,8 @@
 -- The length that stands before a text.
-use Rattle.std.proofs.Common.{◌≡◌, ◌≤◌, ◌+◌, ◌++◌, ℕ, List, length, take, Result, Ok, arith, ap}
+use Rattle.std.proofs.Common.{◌≡◌, ◌≤◌, ◌+◌, ◌++◌, ℕ, List, length, take, Result, Ok, arith, ap, refl, sym}
 use Rattle.std.proofs.lemmas.Grind.{common_steps}
 use Rattle.pb_wire.specs.Varint.{IsVarint}
+use Rattle.pb_c.specs.declared.typed.frames.FrameReport.{FrameReport}
 
 -- what a reader of varints answers of it
 pub length_read :
@@ -27,3 +28,8 @@ ends_within bytes front text rest begin size joined (sized, begins) = grind (ari
 pub end_of :
     (front text : List ℕ) (begin size : ℕ) → (size ≡ length text) × (begin ≡ length front) → begin + size ≡ length (front ++ text)
 end_of front text begin size (sized, begins) = grind (arith, common_steps)
+
+-- two places that begin and end alike
+pub same_place :
+    (placed r : FrameReport) (begin end : ℕ) → placed ≡ record { begin = begin; end = end } → r.begin ≡ begin → r.end ≡ end → placed ≡ r
+same_place placed r begin end is begins ends = rw (is, sym begins, sym ends) refl

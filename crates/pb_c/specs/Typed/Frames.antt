@@ -8,13 +8,13 @@ use Rattle.pb_value.specs.Data.{Message}
 use Rattle.pb_stream.specs.Frame.{Frame, FrameFault}
 use Rattle.pb_c.specs.declared.typed.frames.FrameReport.{FrameReport}
 
--- where the message of a frame stands
-abbrev pub place_of : {pool : Types} {m : ℕ} {limits : Bounds} {bytes rest : List ℕ} {v : Message} → Frame pool m limits bytes v rest → FrameReport
-place_of f = record { begin = length f.front; end = length (f.front ++ f.text) }
-
--- the bytes begin with a frame, whose message stands here
-abbrev pub IsFramed : Types → ℕ → Bounds → List ℕ → FrameReport → Type 0
-IsFramed pool m limits bytes report = (v : Message) × (rest : List ℕ) × ((f : Frame pool m limits bytes v rest) × (report ≡ place_of f))
+-- The bytes begin with a frame, whose message stands here.
+pub record IsFramed (pool : Types) (m : ℕ) (limits : Bounds) (bytes : List ℕ) (report : FrameReport) : Type 0 where
+  pub value : Message
+  pub rest : List ℕ
+  pub frame : Frame pool m limits bytes value rest
+  pub begins : report.begin ≡ length frame.front
+  pub ends : report.end ≡ length (frame.front ++ frame.text)
 
 -- the bytes end before their frame does: there are none, or they are cut short
 abbrev pub IsPart : Types → ℕ → Bounds → List ℕ → Type 0

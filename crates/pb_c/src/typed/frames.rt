@@ -4,12 +4,10 @@ ghost use Rattle.std.specs.Prelude.{◌≡◌, ◌≢◌, ◌<◌, ◌≤◌, �
 ghost use Rattle.pb_wire.specs.Fault.{Fault};
 ghost use Rattle.pb_wire.specs.Varint.{IsVarint};
 ghost use Rattle.pb_schema.specs.Types.{Types};
-ghost use Rattle.pb_value.specs.Data.{Message};
-ghost use Rattle.pb_stream.specs.Frame.{Frame};
 ghost use Rattle.pb_c.specs.Held.{types_held};
 ghost use Rattle.pb_c.specs.Told.{AreLimits, Tells, bounds};
 ghost use Rattle.pb_c.specs.Typed.{ByFault, HasType, LacksType};
-ghost use Rattle.pb_c.specs.Typed.Frames.{AnswersFault, IsFramed, IsNoFrame, IsPart, place_of};
+ghost use Rattle.pb_c.specs.Typed.Frames.{AnswersFault, IsFramed, IsNoFrame, IsPart};
 
 use crate::handle::{PoolHandle, put, take};
 use crate::told::{BAD_LIMITS, DONE, FAULT, FaultReport, MEMORY, Step};
@@ -61,9 +59,8 @@ pub extern "C" fn mb_frames(
     ensures kept { types_held pool.new ≡ types_held pool.old }
 
     // Each frame is accepted, and of all other bytes it is told what they are, unless memory runs out.
-    ensures accepted { AreLimits max_bytes max_depth → (p : Types) → HasType (types_held pool.old) message_type p → (v : Message)
-        → (rest : List ℕ) → (f : Frame p message_type (bounds max_bytes max_depth) bytes.now v rest)
-        → ((result ≡ DONE) × (frame.new ≡ place_of f)) ⊎ (result ≡ MEMORY) }
+    ensures accepted { AreLimits max_bytes max_depth → (p : Types) → HasType (types_held pool.old) message_type p → (r : FrameReport)
+        → IsFramed p message_type (bounds max_bytes max_depth) bytes.now r → ((result ≡ DONE) × (frame.new ≡ r)) ⊎ (result ≡ MEMORY) }
     ensures parted { AreLimits max_bytes max_depth → (p : Types) → HasType (types_held pool.old) message_type p
         → IsPart p message_type (bounds max_bytes max_depth) bytes.now → (result ≡ PART) ⊎ (result ≡ MEMORY) }
     ensures refused { AreLimits max_bytes max_depth → (p : Types) → HasType (types_held pool.old) message_type p → (f : Fault)
@@ -107,8 +104,8 @@ fn check_frame(
     ensures untold { result ≢ FAULT → (fault.new ≡ fault.old) × (path.new ≡ path.old) }
     ensures no_type { result ≡ NO_TYPE ↔ length pool.now.messages ≤ number }
     ensures answers { (result ≡ DONE) ⊎ (result ≡ PART) ⊎ (result ≡ NO_TYPE) ⊎ (result ≡ FAULT) ⊎ (result ≡ MEMORY) }
-    ensures accepted { number < length pool.now.messages → (v : Message) → (rest : List ℕ) → (f : Frame pool.now number limits bytes.now v rest)
-        → ((result ≡ DONE) × (frame.new ≡ place_of f)) ⊎ (result ≡ MEMORY) }
+    ensures accepted { number < length pool.now.messages → (r : FrameReport) → IsFramed pool.now number limits bytes.now r
+        → ((result ≡ DONE) × (frame.new ≡ r)) ⊎ (result ≡ MEMORY) }
     ensures parted { number < length pool.now.messages → IsPart pool.now number limits bytes.now → (result ≡ PART) ⊎ (result ≡ MEMORY) }
     ensures refused { number < length pool.now.messages → (f : Fault) → IsNoFrame pool.now number limits bytes.now f
         → ((result ≡ FAULT) × Tells f fault.new path.old path.new) ⊎ (result ≡ MEMORY) }
