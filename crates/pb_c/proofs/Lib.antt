@@ -2,3 +2,13 @@
 pub mod Laid
 -- what is told of an error
 pub mod Telling
+-- what is told of an error of decoding
+pub mod Refusals
+-- what is made of a message
+pub mod Making
+-- the length before a text
+pub mod Lengths
+-- a seal, its parts and a box of a pool as one type
+pub mod AsBox
+-- an option that is there
+pub mod Filled
