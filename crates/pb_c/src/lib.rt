@@ -2,12 +2,15 @@
 #![tactic(auto)]
 
 mod handle;
+mod pool;
 mod raw;
 mod told;
 
 pub use handle::PoolHandle;
 pub use handle::seal::Seal;
 pub use handle::shared::Shared;
+pub use pool::free::mb_pool_free;
+pub use pool::share::mb_pool_share;
 pub use raw::check::mb_raw_check;
 pub use raw::short::mb_raw_short;
 pub use told::{FaultReport, Step, mb_interface};
