@@ -6,3 +6,5 @@ pub mod Telling
 pub mod AsBox
 -- an option that is there
 pub mod Filled
+-- full names of types as texts
+pub mod TypeNames

@@ -2,3 +2,4 @@
 
 pub(crate) mod free;
 pub(crate) mod share;
+pub(crate) mod type_number;
