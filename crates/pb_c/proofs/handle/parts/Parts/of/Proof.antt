@@ -92,7 +92,7 @@ module _ (E : Bx) (dx : Dict) where
         -- what is promised: the allocator of the box, and a pointer with the right to its value
         let Pair : RattleType = Tuple (RawPtr ∷ P E ∷ []) in
         let Made : Ptr × E.al.row.Denot → Item 𝓤 = λ made. (tokens ⊛ ‵ (Pair.own_val made (given ∷ [])))
-                ⊛ some (λ (_ : (Unit {0} × (Unit {0} × Unit {0})) × Unit {0}). ‵ (fsep (fsep ftrue (fsep ftrue ftrue)) ftrue) ⊛ (raw (fact 𝓤 (made.1 ≡ box.alloc)) ⊛ right made.0)) in
+        ⊛ some (λ (_ : (Unit {0} × (Unit {0} × Unit {0})) × Unit {0}). ‵ (fsep (fsep ftrue (fsep ftrue ftrue)) ftrue) ⊛ (raw (fact 𝓤 (made.1 ≡ box.alloc)) ⊛ right made.0)) in
         use1 𝓛 (later (some Made)) (id⊢ 𝓤 _) $ await ! tt $ pick ! (λ made. split ! $ move ! (1 ∷ []) $
         pick ! (λ _. split3 ! $ drop ! $ heard ! (made.1 ≡ box.alloc) (λ same.
         in_a_block ! made.0 (λ p. box_owns (token E.al box.alloc) (R E) p box.value) (fst∗ 𝓤 (never 𝓤) (sem 𝓛 (token E.al box.alloc (bare (τ E)) null_ptr))) (λ block' offset' is_at'.
