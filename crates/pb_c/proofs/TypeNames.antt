@@ -1,5 +1,5 @@
 -- Full names of types are ASCII, so a name of one is UTF-8.
-use Rattle.std.proofs.Common.{◌≡◌, ℕ, List, [], get_or, sym, subst, Some}
+use Rattle.std.proofs.Common.{◌≡◌, ℕ, List, [], get_or, sym, subst}
 use Rattle.std.specs.Str.{IsUtf8, bytes_eq}
 use Rattle.std.proofs.lemmas.List.Quantifiers.{position-Some}
 use Rattle.std.proofs.lemmas.Option.{slice_get-get_or}
