@@ -12,3 +12,5 @@ pub mod Lengths
 pub mod AsBox
 -- an option that is there
 pub mod Filled
+-- full names of types as texts
+pub mod TypeNames

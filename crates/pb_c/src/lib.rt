@@ -2,6 +2,7 @@
 #![tactic(auto)]
 
 mod handle;
+mod pool;
 mod raw;
 mod told;
 mod typed;
@@ -9,6 +10,9 @@ mod typed;
 pub use handle::PoolHandle;
 pub use handle::seal::Seal;
 pub use handle::shared::Shared;
+pub use pool::free::mb_pool_free;
+pub use pool::share::mb_pool_share;
+pub use pool::type_number::mb_pool_type;
 pub use raw::check::mb_raw_check;
 pub use raw::short::mb_raw_short;
 pub use told::{FaultReport, Step, mb_interface};

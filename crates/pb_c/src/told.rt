@@ -12,6 +12,15 @@ pub const DONE: u32 = 0;
 /// A limit is above the greatest.
 pub const BAD_LIMITS: u32 = 1;
 
+/// The pool has no message type of that name or number.
+pub const NO_TYPE: u32 = 2;
+
+/// The handle holds nothing.
+pub const EMPTY: u32 = 3;
+
+/// The name of a source is not UTF-8, or there are not as many names as texts.
+pub const BAD_NAME: u32 = 4;
+
 /// The bytes have a fault, which is told.
 pub const FAULT: u32 = 13;
 

@@ -13,18 +13,12 @@ pub(crate) mod check;
 pub(crate) mod frames;
 pub(crate) mod show;
 
-use crate::told::{FAULT, FaultReport, MEMORY, Step, lay_over, tell_fault};
+use crate::told::{FAULT, FaultReport, MEMORY, NO_TYPE, Step, lay_over, tell_fault};
 use pb_decode::{DecodeError, decode};
 use pb_schema::{MessageId, Pool};
 use pb_value::DynamicMessage;
 use pb_wire::Limits;
 use std::alloc::Global;
-
-/// The pool has no message type of that number.
-pub const NO_TYPE: u32 = 2;
-
-/// The handle holds nothing.
-pub const EMPTY: u32 = 3;
 
 /// The bytes end before their frame does.
 pub const PART: u32 = 5;

@@ -11,8 +11,8 @@ ghost use Rattle.pb_c.specs.Told.{AreLimits, Tells, bounds};
 ghost use Rattle.pb_c.specs.Typed.{HasType, LacksType};
 
 use crate::handle::{PoolHandle, put, take};
-use crate::told::{BAD_LIMITS, DONE, FAULT, FaultReport, MEMORY, Step};
-use crate::typed::{EMPTY, NO_TYPE, read_message};
+use crate::told::{BAD_LIMITS, DONE, EMPTY, FAULT, FaultReport, MEMORY, NO_TYPE, Step};
+use crate::typed::read_message;
 use pb_schema::Pool;
 use pb_wire::Limits;
 use std::alloc::Global;
@@ -34,21 +34,22 @@ pub extern "C" fn mb_check(
     fault: &mut FaultReport,
     path: &mut [Step],
 ) -> u32
-    ensures text { result ≡ DONE → (p : Types) × HasType (types_held pool.old) message_type p
-        × ((v : Message) × Text p message_type (bounds max_bytes max_depth) bytes.now v) }
-    ensures fault { result ≡ FAULT → (p : Types) × HasType (types_held pool.old) message_type p
-        × ((f : Fault) × IsFaultOf p message_type (bounds max_bytes max_depth) bytes.now f × Tells f fault.new path.old path.new) }
+    ensures text { result ≡ DONE → (ts : Types) × HasType (types_held pool.old) message_type ts
+        × ((v : Message) × Text ts message_type (bounds max_bytes max_depth) bytes.now v) }
+    ensures fault { result ≡ FAULT → (ts : Types) × HasType (types_held pool.old) message_type ts
+        × ((f : Fault) × IsFaultOf ts message_type (bounds max_bytes max_depth) bytes.now f × Tells f fault.new path.old path.new) }
     ensures untold { result ≢ FAULT → (fault.new ≡ fault.old) × (path.new ≡ path.old) }
     ensures limits { result ≡ BAD_LIMITS ↔ ¬ AreLimits max_bytes max_depth }
     ensures empty { result ≡ EMPTY ↔ AreLimits max_bytes max_depth × (types_held pool.old ≡ None) }
     ensures no_type { result ≡ NO_TYPE ↔ AreLimits max_bytes max_depth × LacksType (types_held pool.old) message_type }
-    ensures kept { types_held pool.new ≡ types_held pool.old }
+    ensures answers { (result ≡ DONE) ⊎ (result ≡ BAD_LIMITS) ⊎ (result ≡ EMPTY) ⊎ (result ≡ NO_TYPE) ⊎ (result ≡ FAULT) ⊎ (result ≡ MEMORY) }
+    ensures same { pool.new.seal.pool ≡ pool.old.seal.pool }
 
     // Each text is accepted and each fault is told, unless memory runs out.
-    ensures accepted { AreLimits max_bytes max_depth → (p : Types) → HasType (types_held pool.old) message_type p → (v : Message)
-        → Text p message_type (bounds max_bytes max_depth) bytes.now v → (result ≡ DONE) ⊎ (result ≡ MEMORY) }
-    ensures refused { AreLimits max_bytes max_depth → (p : Types) → HasType (types_held pool.old) message_type p → (f : Fault)
-        → IsFaultOf p message_type (bounds max_bytes max_depth) bytes.now f → ((result ≡ FAULT) × Tells f fault.new path.old path.new) ⊎ (result ≡ MEMORY) }
+    ensures accepted { AreLimits max_bytes max_depth → (ts : Types) → HasType (types_held pool.old) message_type ts → (v : Message)
+        → Text ts message_type (bounds max_bytes max_depth) bytes.now v → (result ≡ DONE) ⊎ (result ≡ MEMORY) }
+    ensures refused { AreLimits max_bytes max_depth → (ts : Types) → HasType (types_held pool.old) message_type ts → (f : Fault)
+        → IsFaultOf ts message_type (bounds max_bytes max_depth) bytes.now f → ((result ≡ FAULT) × Tells f fault.new path.old path.new) ⊎ (result ≡ MEMORY) }
 {
     let Some(limits) = Limits::new(max_bytes, max_depth) else {
         return BAD_LIMITS;

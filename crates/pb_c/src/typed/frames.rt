@@ -10,8 +10,8 @@ ghost use Rattle.pb_c.specs.Typed.{ByFault, HasType, LacksType};
 ghost use Rattle.pb_c.specs.Typed.Frames.{AnswersFault, IsFramed, IsNoFrame, IsPart};
 
 use crate::handle::{PoolHandle, put, take};
-use crate::told::{BAD_LIMITS, DONE, FAULT, FaultReport, MEMORY, Step};
-use crate::typed::{EMPTY, NO_TYPE, PART, tell_error, type_numbered};
+use crate::told::{BAD_LIMITS, DONE, EMPTY, FAULT, FaultReport, MEMORY, NO_TYPE, Step};
+use crate::typed::{PART, tell_error, type_numbered};
 use pb_decode::DecodeError;
 use pb_schema::Pool;
 use pb_stream::read_delimited;
@@ -45,26 +45,28 @@ pub extern "C" fn mb_frames(
     fault: &mut FaultReport,
     path: &mut [Step],
 ) -> u32
-    ensures framed { result ≡ DONE → (p : Types) × HasType (types_held pool.old) message_type p
-        × IsFramed p message_type (bounds max_bytes max_depth) bytes.now frame.new }
-    ensures part { result ≡ PART → (p : Types) × HasType (types_held pool.old) message_type p
-        × IsPart p message_type (bounds max_bytes max_depth) bytes.now }
-    ensures fault { result ≡ FAULT → (p : Types) × HasType (types_held pool.old) message_type p
-        × ((f : Fault) × IsNoFrame p message_type (bounds max_bytes max_depth) bytes.now f × Tells f fault.new path.old path.new) }
+    ensures framed { result ≡ DONE → (ts : Types) × HasType (types_held pool.old) message_type ts
+        × IsFramed ts message_type (bounds max_bytes max_depth) bytes.now frame.new }
+    ensures part { result ≡ PART → (ts : Types) × HasType (types_held pool.old) message_type ts
+        × IsPart ts message_type (bounds max_bytes max_depth) bytes.now }
+    ensures fault { result ≡ FAULT → (ts : Types) × HasType (types_held pool.old) message_type ts
+        × ((f : Fault) × IsNoFrame ts message_type (bounds max_bytes max_depth) bytes.now f × Tells f fault.new path.old path.new) }
     ensures unframed { result ≢ DONE → frame.new ≡ frame.old }
     ensures untold { result ≢ FAULT → (fault.new ≡ fault.old) × (path.new ≡ path.old) }
     ensures limits { result ≡ BAD_LIMITS ↔ ¬ AreLimits max_bytes max_depth }
     ensures empty { result ≡ EMPTY ↔ AreLimits max_bytes max_depth × (types_held pool.old ≡ None) }
     ensures no_type { result ≡ NO_TYPE ↔ AreLimits max_bytes max_depth × LacksType (types_held pool.old) message_type }
-    ensures kept { types_held pool.new ≡ types_held pool.old }
+    ensures answers { (result ≡ DONE) ⊎ (result ≡ BAD_LIMITS) ⊎ (result ≡ EMPTY) ⊎ (result ≡ NO_TYPE) ⊎ (result ≡ PART)
+        ⊎ (result ≡ FAULT) ⊎ (result ≡ MEMORY) }
+    ensures same { pool.new.seal.pool ≡ pool.old.seal.pool }
 
     // Each frame is accepted, and of all other bytes it is told what they are, unless memory runs out.
-    ensures accepted { AreLimits max_bytes max_depth → (p : Types) → HasType (types_held pool.old) message_type p → (r : FrameReport)
-        → IsFramed p message_type (bounds max_bytes max_depth) bytes.now r → ((result ≡ DONE) × (frame.new ≡ r)) ⊎ (result ≡ MEMORY) }
-    ensures parted { AreLimits max_bytes max_depth → (p : Types) → HasType (types_held pool.old) message_type p
-        → IsPart p message_type (bounds max_bytes max_depth) bytes.now → (result ≡ PART) ⊎ (result ≡ MEMORY) }
-    ensures refused { AreLimits max_bytes max_depth → (p : Types) → HasType (types_held pool.old) message_type p → (f : Fault)
-        → IsNoFrame p message_type (bounds max_bytes max_depth) bytes.now f → ((result ≡ FAULT) × Tells f fault.new path.old path.new) ⊎ (result ≡ MEMORY) }
+    ensures accepted { AreLimits max_bytes max_depth → (ts : Types) → HasType (types_held pool.old) message_type ts → (r : FrameReport)
+        → IsFramed ts message_type (bounds max_bytes max_depth) bytes.now r → ((result ≡ DONE) × (frame.new ≡ r)) ⊎ (result ≡ MEMORY) }
+    ensures parted { AreLimits max_bytes max_depth → (ts : Types) → HasType (types_held pool.old) message_type ts
+        → IsPart ts message_type (bounds max_bytes max_depth) bytes.now → (result ≡ PART) ⊎ (result ≡ MEMORY) }
+    ensures refused { AreLimits max_bytes max_depth → (ts : Types) → HasType (types_held pool.old) message_type ts → (f : Fault)
+        → IsNoFrame ts message_type (bounds max_bytes max_depth) bytes.now f → ((result ≡ FAULT) × Tells f fault.new path.old path.new) ⊎ (result ≡ MEMORY) }
 {
     let Some(limits) = Limits::new(max_bytes, max_depth) else {
         return BAD_LIMITS;

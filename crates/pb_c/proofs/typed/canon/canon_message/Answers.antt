@@ -1,4 +1,4 @@
-use Rattle.std.proofs.Common.{inr, List, ℕ, ap}
+use Rattle.std.proofs.Common.{inr, ap}
 use Rattle.pb_value.specs.Canon.{canon_bytes}
 use Rattle.pb_encode.specs.Encoding.{bytes_of}
 use Rattle.pb_c.specs.Told.{IsLaid}

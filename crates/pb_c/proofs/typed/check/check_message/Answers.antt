@@ -1,4 +1,4 @@
-use Rattle.std.proofs.Common.{◌≡◌, inl, inr}
+use Rattle.std.proofs.Common.{inl, inr}
 use Rattle.pb_c.proofs.typed.check.check_message.Goals as goal
 use Rattle.pb_c.proofs.typed.check.check_message.Goals.{in-Ok, in-Err}
 

@@ -1,7 +1,7 @@
 -- The input holds the bytes, and what is told of them is told of it.
-use Rattle.std.proofs.Common.{◌≡◌, ◌⊎◌, [], Some, ap, inl, inr, refl, subst, sym}
+use Rattle.std.proofs.Common.{◌≡◌, [], Some, ap, inl, inr, refl, subst, sym}
 use Rattle.pb_decode.specs.FromDevice.{IsNoFault}
-use Rattle.pb_stream.specs.Frame.{Frame, FrameFault}
+use Rattle.pb_stream.specs.Frame.{FrameFault}
 use Rattle.pb_c.specs.Told.{Tells}
 use Rattle.pb_c.specs.Typed.Frames.{AnswersFault}
 use Rattle.pb_c.proofs.Lengths.{same_place}

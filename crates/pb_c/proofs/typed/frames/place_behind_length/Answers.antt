@@ -1,4 +1,4 @@
-use Rattle.std.proofs.Common.{◌≡◌, ◌+◌, ◌++◌, length, arith}
+use Rattle.std.proofs.Common.{length, arith}
 use Rattle.pb_c.proofs.Lengths.{begin_and_size, end_of, ends_within, length_read}
 use Rattle.pb_c.proofs.typed.frames.place_behind_length.Goals as goal
 
