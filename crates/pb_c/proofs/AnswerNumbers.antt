@@ -13,7 +13,10 @@ use Rattle.pb_rules.specs.declared.cause.LinkCause.TheVariants as link
 use Rattle.pb_tokens.specs.CauseName.{number_of as source_number}
 use Rattle.pb_tokens.specs.declared.fault.SourceCause.{SourceCause}
 use Rattle.pb_tokens.specs.declared.fault.SourceCause.TheVariants as source
+use Rattle.pb_c.specs.declared.pool.compile.Unparsed.{Unparsed}
+use Rattle.pb_c.specs.declared.pool.compile.Unparsed.TheVariants.{Source, Memory}
 use Rattle.pb_c.specs.PoolFault.{PoolFault, answer_of, set_fault}
+use Rattle.pb_c.specs.SourcePool.{IsUnparsed}
 
 decl_from : (c : DeclCause) → 50 ≤ decl_number c
 decl_from decl.MissingName = omega arith
@@ -80,3 +83,13 @@ module _ (answer : ℕ) (Same : Type 0) where
   set_kept (descr.Fault byte path c) Told number told memory = let w = PoolFault.in_bytes (fault byte path.items c) in fault_kept w (number w told)
   set_kept (descr.Decl i c) Told number told memory = let w = PoolFault.in_file i c in fault_kept w (number w told)
   set_kept descr.Memory Told number told memory = memory_kept (memory refl)
+
+  -- what is told of sources that are not parsed is no pool and no name, and for want of memory nothing is told
+  pub source_kept : (e : Unparsed) (Told : ℕ → ℕ → SourceCause → Type 0) → ((i byte : ℕ) (c : SourceCause) → Told i byte c → answer ≡ source_number c) → IsUnparsed Told e
+      → (e ≡ Memory → (answer ≡ 14) × Same) → (answer ≢ 0) × (answer ≢ 4) × (answer ≡ 14 → Same)
+  source_kept (Source i byte c) Told number told memory =
+      let is = number i byte c told in let from = source_from c in
+      (λ e. omega (arith, is, from, e), λ e. omega (arith, is, from, e), λ e. absurd (omega (arith, is, from, e)))
+  source_kept Memory Told number told memory =
+      let both = memory refl in
+      (λ e. omega (arith, both.0, e), λ e. omega (arith, both.0, e), λ e. both.1)

@@ -18,3 +18,5 @@ pub mod OneSetPool
 pub mod Exact
 -- sources that are parsed one after another
 pub mod SourceSteps
+-- sources make one pool, or have one fault
+pub mod OneSourcePool

@@ -11,8 +11,12 @@ use Rattle.pb_rules.specs.Faults.{LinkFault, IsUnlinked}
 use Rattle.pb_rules.specs.declared.cause.LinkCause.{LinkCause}
 use Rattle.pb_rules.specs.declared.error.LinkError.{LinkError}
 use Rattle.pb_rules.specs.declared.error.LinkError.TheVariants as link
+use Rattle.pb_tokens.specs.declared.fault.SourceCause.{SourceCause}
+use Rattle.pb_c.specs.declared.pool.compile.Unparsed.{Unparsed}
+use Rattle.pb_c.specs.declared.pool.compile.Unparsed.TheVariants.{Source, Memory}
 use Rattle.pb_c.specs.PoolFault.{PoolFault, link_fault, set_fault}
 use Rattle.pb_c.specs.SetPool.{SetFails}
+use Rattle.pb_c.specs.SourcePool.{Bytes, IsUnparsed, SourceFails, SourcesFail}
 
 -- of files that do not link the fault is told, where memory is there
 pub unlinked : (files : List DeclaredFile) (e : LinkError) (Told : PoolFault → Type 0) (answer : ℕ)
@@ -35,3 +39,10 @@ pub told_together : (e : DescrError) (First Second Both : PoolFault → Type 0) 
 told_together (descr.Fault byte path c) First Second Both to first second = to (PoolFault.in_bytes (fault byte path.items c)) first second
 told_together (descr.Decl i c) First Second Both to first second = to (PoolFault.in_file i c) first second
 told_together descr.Memory First Second Both to first second = tt
+
+-- of sources that are not parsed the fault is told, where memory is there
+pub unparsed : (names texts : List Bytes) (e : Unparsed) (First : ℕ → ℕ → SourceCause → Type 0) (Told : PoolFault → Type 0) (answer : ℕ)
+    → IsUnparsed (SourceFails names texts) e → IsUnparsed First e → ((i byte : ℕ) (c : SourceCause) → First i byte c → Told (PoolFault.in_source i byte c))
+    → (e ≡ Memory → answer ≡ 14) → answer ≢ 14 → (w : PoolFault) × SourcesFail names texts w × Told w
+unparsed names texts (Source i byte c) First Told answer is told to memory other = (PoolFault.in_source i byte c, is, to i byte c told)
+unparsed names texts Memory First Told answer is told to memory other = absurd (other (memory refl))
