@@ -1,7 +1,9 @@
-# What dist/program, dist/release and .ci/run share: what a program was made of. Whoever reads this in has set `top`, the repository's folder.
+# What dist/program, dist/release, .ci/library and .ci/run share: what was made of what. Whoever reads this in has set `top`, the repository's
+# folder.
 
-# A hash of all that the program is proved and built of: crates.txt, HANDLES, and each file in src, specs and proofs of a crate, by their
-# paths and bytes alone, in the order of the paths' bytes. So it is the same in each clone, whatever the locale, the modes and the times.
+# A hash of all that the program and the library are proved and built of: crates.txt, HANDLES, and each file in src, specs and proofs of a
+# crate, by their paths and bytes alone, in the order of the paths' bytes. So it is the same in each clone, whatever the locale, the modes and
+# the times.
 sources_hash() {
     (
         cd "$top"
@@ -10,15 +12,30 @@ sources_hash() {
     )
 }
 
-# What is recorded of a program in a file, by its first word: recorded sources|program|machine|kit FILE.
+# What is recorded in a file, by its first word: recorded sources|program|archive|shared|header|objcopy|machine|kit FILE.
 recorded() {
     sed -n "s/^$1 //p" "$2" 2>/dev/null
+}
+
+sum_of() {
+    sha256sum <"$1" | cut -d' ' -f1
 }
 
 # What is recorded of a program that was made here: the hashes of the tree's sources and of the program, the machine and the kit.
 record() {
     echo "sources $(sources_hash)"
-    echo "program $(sha256sum <"$1" | cut -d' ' -f1)"
+    echo "program $(sum_of "$1")"
+    echo "machine $(uname -sm)"
+    echo "kit $(rt version)"
+}
+
+# The same of a library in a folder, with its header and with the one tool that neither the kit nor this repository has.
+record_library() {
+    echo "sources $(sources_hash)"
+    echo "archive $(sum_of "$1/libmabristu.a")"
+    echo "shared $(sum_of "$1/libmabristu.so")"
+    echo "header $(sum_of "$top/include/mabristu.h")"
+    echo "objcopy $(objcopy --version | head -n 1)"
     echo "machine $(uname -sm)"
     echo "kit $(rt version)"
 }

@@ -1,0 +1,153 @@
+/* Refuses each growth of memory of each call in turn: growths SET TYPE MESSAGE SOURCE. The allocator is this program's own, over the archive of
+ * the crate alone. A call must answer MB_MEMORY, have written nothing and hold nothing more than before, up to the first number of growths with
+ * which it answers as with ample memory. */
+#include "mabristu.h"
+
+#include <stdio.h>
+#include <stdlib.h>
+#include <string.h>
+
+/* What the kit's compiled code asks of an allocator. */
+struct tried {
+    uint64_t is_given;
+    void *at;
+};
+
+static long granted, live, asked;
+static uint64_t nothing[2];
+
+struct tried rattle_alloc(size_t size, size_t align)
+{
+    asked++;
+    if (granted-- <= 0)
+        return (struct tried){0, nothing};
+    live++;
+    return (struct tried){1, malloc(size == 0 ? align : size)};
+}
+
+struct tried rattle_realloc(void *at, size_t kept, size_t size, size_t align)
+{
+    (void)kept;
+    asked++;
+    if (granted-- <= 0)
+        return (struct tried){0, nothing};
+    return (struct tried){1, realloc(at, size == 0 ? align : size)};
+}
+
+void rattle_dealloc(void *at)
+{
+    live--;
+    free(at);
+}
+
+/* All that a call may write but handles. */
+struct told {
+    struct mb_fault fault;
+    struct mb_step path[MB_MAX_STEPS];
+    struct mb_refusal refusal;
+    struct mb_frame frame;
+    uint8_t text[256], out[4096];
+    size_t size;
+    uint32_t type;
+};
+
+static struct mb_pool pool, other;
+static uint32_t type;
+static struct mb_bytes set, message, frame, name, source, source_name = {(const uint8_t *)"a.proto", 7};
+
+#define LIMITS MB_MAX_BYTES, MB_MAX_DEPTH
+#define FAULT &told->fault, told->path, MB_MAX_STEPS
+#define OUT told->out, sizeof told->out, &told->size
+#define REFUSAL &told->refusal, told->text, sizeof told->text
+
+static uint32_t raw_check(struct told *told) { return mb_raw_check(message.at, message.len, LIMITS, FAULT); }
+static uint32_t raw_check_cut(struct told *told) { return mb_raw_check(message.at, message.len - 1, LIMITS, FAULT); }
+static uint32_t raw_short(struct told *told) { return mb_raw_short(message.at, message.len, LIMITS, OUT, FAULT); }
+static uint32_t raw_short_cut(struct told *told) { return mb_raw_short(message.at, message.len - 1, LIMITS, OUT, FAULT); }
+static uint32_t link(struct told *told) { return mb_pool_link(set.at, set.len, &other, FAULT, REFUSAL); }
+static uint32_t link_cut(struct told *told) { return mb_pool_link(set.at, set.len - 1, &other, FAULT, REFUSAL); }
+static uint32_t compile(struct told *told) { return mb_pool_compile(&source_name, 1, &source, 1, &other, REFUSAL); }
+static uint32_t compile_cut(struct told *told)
+{
+    struct mb_bytes cut = {source.at, source.len - 3};
+    return mb_pool_compile(&source_name, 1, &cut, 1, &other, REFUSAL);
+}
+static uint32_t share(struct told *told) { (void)told; return mb_pool_share(&pool, &other); }
+static uint32_t find(struct told *told) { return mb_pool_type(&pool, name.at, name.len, &told->type); }
+static uint32_t check(struct told *told) { return mb_check(&pool, type, message.at, message.len, LIMITS, FAULT); }
+static uint32_t check_cut(struct told *told) { return mb_check(&pool, type, message.at, message.len - 1, LIMITS, FAULT); }
+static uint32_t canon(struct told *told) { return mb_canon(&pool, type, message.at, message.len, LIMITS, OUT, FAULT); }
+static uint32_t canon_cut(struct told *told) { return mb_canon(&pool, type, message.at, message.len - 1, LIMITS, OUT, FAULT); }
+static uint32_t show(struct told *told) { return mb_show(&pool, type, message.at, message.len, LIMITS, OUT, FAULT); }
+static uint32_t show_cut(struct told *told) { return mb_show(&pool, type, message.at, message.len - 1, LIMITS, OUT, FAULT); }
+static uint32_t frames(struct told *told) { return mb_frames(&pool, type, frame.at, frame.len, LIMITS, &told->frame, FAULT); }
+static uint32_t frames_cut(struct told *told) { return mb_frames(&pool, type, frame.at, frame.len - 1, LIMITS, &told->frame, FAULT); }
+
+static const struct { const char *name; uint32_t (*call)(struct told *told); uint32_t answer; } calls[] = {
+    {"mb_raw_check", raw_check, MB_DONE}, {"mb_raw_check of a cut message", raw_check_cut, MB_FAULT},
+    {"mb_raw_short", raw_short, MB_DONE}, {"mb_raw_short of a cut message", raw_short_cut, MB_FAULT},
+    {"mb_pool_link", link, MB_DONE}, {"mb_pool_link of a cut set", link_cut, MB_FAULT},
+    {"mb_pool_compile", compile, MB_DONE}, {"mb_pool_compile of a cut source", compile_cut, 65},
+    {"mb_pool_share", share, MB_DONE}, {"mb_pool_type", find, MB_DONE},
+    {"mb_check", check, MB_DONE}, {"mb_check of a cut message", check_cut, MB_FAULT},
+    {"mb_canon", canon, MB_DONE}, {"mb_canon of a cut message", canon_cut, MB_FAULT},
+    {"mb_show", show, MB_DONE}, {"mb_show of a cut message", show_cut, MB_FAULT},
+    {"mb_frames", frames, MB_DONE}, {"mb_frames of a cut frame", frames_cut, MB_PART},
+};
+
+static struct mb_bytes read_file(const char *path)
+{
+    static uint8_t bytes[4][65536];
+    static int count;
+    FILE *file = fopen(path, "rb");
+    if (file == NULL)
+        exit(2);
+    struct mb_bytes read = {bytes[count], fread(bytes[count], 1, sizeof bytes[count], file)};
+    count++;
+    fclose(file);
+    return read;
+}
+
+int main(int argc, char **argv)
+{
+    static struct told told, blank;
+    static uint8_t framed[65536];
+    int wrong = 0;
+
+    if (argc != 5)
+        return 2;
+    set = read_file(argv[1]);
+    name = (struct mb_bytes){(const uint8_t *)argv[2], strlen(argv[2])};
+    message = read_file(argv[3]);
+    source = read_file(argv[4]);
+    /* A message of less than 128 bytes, behind its length. */
+    framed[0] = (uint8_t)message.len;
+    memcpy(framed + 1, message.at, message.len);
+    frame = (struct mb_bytes){framed, message.len + 1};
+    memset(&blank, 0xee, sizeof blank);
+    granted = 1 << 30;
+    if (mb_pool_link(set.at, set.len, &pool, &told.fault, told.path, 0, &told.refusal, NULL, 0) != MB_DONE ||
+        mb_pool_type(&pool, name.at, name.len, &type) != MB_DONE)
+        return 2;
+    for (size_t i = 0; i < sizeof calls / sizeof *calls; i++) {
+        long before = live, number = -1;
+        uint32_t answer;
+        do {
+            told = blank;
+            asked = 0;
+            granted = ++number;
+            answer = calls[i].call(&told);
+            granted = 1 << 30;
+            mb_pool_free(&other);
+            if (live != before || (answer == MB_MEMORY && memcmp(&told, &blank, sizeof told) != 0)) {
+                printf("%s with %ld growths: WRONG: answer %u, %ld blocks more\n", calls[i].name, number, answer, live - before);
+                wrong++;
+            }
+        } while (answer == MB_MEMORY);
+        printf("%s: %ld growths refused, then answer %u by %ld\n", calls[i].name, number, answer, asked);
+        wrong += answer != calls[i].answer;
+    }
+    mb_pool_free(&pool);
+    printf("%d wrong, %ld blocks left\n", wrong, live);
+    return wrong != 0 || live != 0;
+}

@@ -1,0 +1,130 @@
+/* How much stack each call takes: stack SET. Each is made in a thread of its own, whose stack was painted before. The messages and groups nest 100
+ * deep, as deep as they may, and the sources 64 deep. */
+#define _GNU_SOURCE
+#include "mabristu.h"
+
+#include <pthread.h>
+#include <stdio.h>
+#include <stdlib.h>
+#include <string.h>
+#include <sys/mman.h>
+
+enum { DEPTH = 100, STACK = 4 << 20 };
+
+#define LIMITS MB_MAX_BYTES, MB_MAX_DEPTH
+
+static struct mb_pool pool;
+static uint32_t type;
+static uint8_t groups[2 * DEPTH], nested[8 * DEPTH], framed[8 * DEPTH + 2], set[1 << 20], out[1 << 16];
+static size_t nested_len, framed_len, set_len;
+static char source[1 << 14];
+static struct mb_bytes name = {(const uint8_t *)"a.proto", 7}, text;
+
+/* What calls write is not on their stack. */
+static struct mb_fault fault;
+static struct mb_step path[MB_MAX_STEPS];
+static struct mb_refusal refusal;
+static struct mb_frame frame;
+static size_t size;
+
+#define FAULT &fault, path, MB_MAX_STEPS
+#define OUT out, sizeof out, &size
+
+static uint32_t raw_check(void) { return mb_raw_check(groups, sizeof groups, LIMITS, FAULT); }
+static uint32_t raw_check_cut(void) { return mb_raw_check(groups, sizeof groups - 1, LIMITS, FAULT); }
+static uint32_t raw_short(void) { return mb_raw_short(groups, sizeof groups, LIMITS, OUT, FAULT); }
+static uint32_t check(void) { return mb_check(&pool, type, nested, nested_len, LIMITS, FAULT); }
+static uint32_t check_cut(void) { return mb_check(&pool, type, nested, nested_len - 1, LIMITS, FAULT); }
+static uint32_t check_groups(void) { return mb_check(&pool, type, groups, sizeof groups, LIMITS, FAULT); }
+static uint32_t canon(void) { return mb_canon(&pool, type, nested, nested_len, LIMITS, OUT, FAULT); }
+static uint32_t show(void) { return mb_show(&pool, type, nested, nested_len, LIMITS, OUT, FAULT); }
+static uint32_t frames(void) { return mb_frames(&pool, type, framed, framed_len, LIMITS, &frame, FAULT); }
+static uint32_t find(void) { return mb_pool_type(&pool, (const uint8_t *)"T", 1, &type); }
+static uint32_t share(void)
+{
+    struct mb_pool other = {0};
+    uint32_t answer = mb_pool_share(&pool, &other);
+    mb_pool_free(&other);
+    return answer;
+}
+static uint32_t link_set(void)
+{
+    struct mb_pool other = {0};
+    uint32_t answer = mb_pool_link(set, set_len, &other, FAULT, &refusal, out, sizeof out);
+    mb_pool_free(&other);
+    return answer;
+}
+static uint32_t compile(void)
+{
+    struct mb_pool other = {0};
+    uint32_t answer = mb_pool_compile(&name, 1, &text, 1, &other, &refusal, out, sizeof out);
+    mb_pool_free(&other);
+    return answer;
+}
+
+static const struct { const char *name; uint32_t (*call)(void); } calls[] = {
+    {"mb_raw_check of groups", raw_check}, {"mb_raw_check of groups that are cut off", raw_check_cut}, {"mb_raw_short of groups", raw_short},
+    {"mb_pool_link, and mb_pool_free", link_set}, {"mb_pool_compile, and mb_pool_free", compile}, {"mb_pool_share, and mb_pool_free", share},
+    {"mb_pool_type", find}, {"mb_check", check}, {"mb_check of a message that is cut off", check_cut}, {"mb_check of unknown groups", check_groups},
+    {"mb_canon", canon}, {"mb_show", show}, {"mb_frames", frames},
+};
+
+static void *work(void *call)
+{
+    return (void *)(uintptr_t)calls[(uintptr_t)call].call();
+}
+
+int main(int argc, char **argv)
+{
+    char *at = source;
+    FILE *file = argc == 2 ? fopen(argv[1], "rb") : NULL;
+    if (file == NULL)
+        return 2;
+    set_len = fread(set, 1, sizeof set, file);
+    fclose(file);
+
+    memset(groups, 0x0b, DEPTH);
+    memset(groups + DEPTH, 0x0c, DEPTH);
+    /* From the innermost message out: each is a record 1 of its length, of one byte or two. */
+    for (int i = 0; i < DEPTH; i++) {
+        size_t front = nested_len < 128 ? 2 : 3;
+        memmove(nested + front, nested, nested_len);
+        nested[0] = 0x0a;
+        nested[1] = (uint8_t)(nested_len < 128 ? nested_len : (nested_len & 127) | 128);
+        if (front == 3)
+            nested[2] = (uint8_t)(nested_len >> 7);
+        nested_len += front;
+    }
+    framed[0] = (uint8_t)((nested_len & 127) | 128);
+    framed[1] = (uint8_t)(nested_len >> 7);
+    memcpy(framed + 2, nested, nested_len);
+    framed_len = nested_len + 2;
+    at += sprintf(at, "syntax = \"proto3\"; message T { T a = 1; } ");
+    for (int i = 0; i < 64; i++)
+        at += sprintf(at, "message N%d { ", i);
+    for (int i = 0; i < 64; i++)
+        at += sprintf(at, "}");
+    text = (struct mb_bytes){(const uint8_t *)source, strlen(source)};
+    if (mb_pool_compile(&name, 1, &text, 1, &pool, &refusal, out, sizeof out) != MB_DONE || find() != MB_DONE)
+        return 2;
+
+    for (size_t i = 0; i < sizeof calls / sizeof *calls; i++) {
+        uint8_t *stack = mmap(NULL, STACK, PROT_READ | PROT_WRITE, MAP_PRIVATE | MAP_ANONYMOUS, -1, 0);
+        pthread_attr_t how;
+        pthread_t thread;
+        void *answer;
+        size_t untouched = 0;
+
+        memset(stack, 0xab, STACK);
+        pthread_attr_init(&how);
+        pthread_attr_setstack(&how, stack, STACK);
+        pthread_create(&thread, &how, work, (void *)i);
+        pthread_join(thread, &answer);
+        while (untouched < STACK && stack[untouched] == 0xab)
+            untouched++;
+        printf("%s: answer %u, %zu bytes of stack\n", calls[i].name, (unsigned)(uintptr_t)answer, STACK - untouched);
+        munmap(stack, STACK);
+    }
+    mb_pool_free(&pool);
+    return 0;
+}

@@ -1,0 +1,26 @@
+-- What a seal, its parts and a box of a pool own is one and the same: the types at which the walks below read it.
+use mir.Syntax.{impl, tnil, dnil}
+use mathlib.Core.List.{[]}
+use denote.Signature.{Slot, plain}
+use Rattle.std_alloc.proofs.BoxSteps.Form.{Bx}
+use Rattle.std_heap.specs.contracts.Global as Heap
+use Rattle.std_heap.specs.contracts.GlobalAllocator.TheImpl.{ghosts, dict}
+use Rattle.std_heap.proofs.Global.TheLaws as heap
+use Rattle.pb_c.specs.contracts.handle.shared.Shared as Shared
+use Rattle.pb_c.proofs.handle.shared.Shared.TheLaws as shared
+use Rattle.pb_c.specs.contracts.handle.parts.Parts as Parts
+use Rattle.pb_c.specs.contracts.handle.seal.Seal as Seal
+
+-- a box of what stands behind a handle, from the heap
+abbrev pub boxed : Bx
+boxed = record {
+  row = Shared.the_row;
+  laws = shared.the_row_laws;
+  al = record { row = Heap.the_row; laws = heap.the_row_laws; g = ghosts; d = dict; drops = impl [] tnil dnil };
+}
+
+abbrev pub parts_slot : Slot 0
+parts_slot = plain (λ _. Parts.the_row Shared.the_row Heap.the_row ghosts)
+
+abbrev pub seal_slot : Slot 0
+seal_slot = plain (λ _. Seal.the_row)

@@ -1,0 +1,28 @@
+-- buffers whose front is laid
+pub mod Laid
+-- what is told of an error
+pub mod Telling
+-- what is told of an error of decoding
+pub mod Refusals
+-- what is made of a message
+pub mod Making
+-- the length before a text
+pub mod Lengths
+-- a seal, its parts and a box of a pool as one type
+pub mod AsBox
+-- an option that is there
+pub mod Filled
+-- full names of types as texts
+pub mod TypeNames
+-- what is told of declarations that make no pool
+pub mod LinkTelling
+-- the numbers of faults are none of the other answers
+pub mod AnswerNumbers
+-- the bytes of a set make one pool, or have one fault
+pub mod OneSetPool
+-- from one meaning or one fault to what is answered
+pub mod Exact
+-- sources that are parsed one after another
+pub mod SourceSteps
+-- sources make one pool, or have one fault
+pub mod OneSourcePool

@@ -1,0 +1,13 @@
+-- A fault of the bytes is the one that was told, or memory ran out.
+use Rattle.std.proofs.Common.{◌≡◌, subst, sym}
+use Rattle.pb_wire.specs.Schema.{blank}
+use Rattle.pb_wire.specs.Grammar.{HasFault}
+use Rattle.pb_c.specs.Told.{Tells}
+use Rattle.pb_c.proofs.Telling.{one_told}
+use Rattle.pb_c.proofs.raw.check.mb_raw_check.Goals as goal
+
+pub returns-in-Err-clause-refused : goal.returns-in-Err-clause-refused
+returns-in-Err-clause-refused c limits f fault =
+    one_told c.in-Err.error f (λ g. (c.tell_raw.result ≡ 13) × Tells g c.tell_raw.new.fault c.args.path.now c.tell_raw.new.path) (c.tell_raw.result ≡ 14)
+    (c.in-Err.ensures.refused f (subst (λ l. HasFault blank tt l c.args.bytes.now f) (sym c.in-Some.ensures.1) fault))
+    c.tell_raw.ensures.fault (λ is. (c.tell_raw.ensures.memory is).0)

@@ -1,0 +1,53 @@
+//! What C holds of a pool.
+
+ghost use Rattle.std.specs.Prelude.{◌≡◌, is_some, Option, option_map};
+
+pub(crate) mod parts;
+pub(crate) mod seal;
+pub(crate) mod shared;
+
+use self::parts::Parts;
+use self::seal::Seal;
+use self::shared::Shared;
+use std::alloc::Global;
+use std::mem;
+use std::ptr::null_mut;
+
+/// A pool, or nothing: all zeros hold nothing.
+#[repr(C)]
+#[derive(Drop)]
+pub struct PoolHandle {
+    pub seal: Seal,
+    full: bool,
+    ghost agrees: { full ≡ is_some seal.pool },
+}
+
+/// Takes out what a handle holds. Nothing is left there.
+pub(crate) fn take(alloc: Global, handle: &mut PoolHandle) -> Option<Box<Shared, Global>>
+    ensures taken { option_map (λ b. b.value) result ≡ handle.old.seal.pool }
+    ensures left { handle.new.seal.pool ≡ None }
+{
+    // As an argument itself the null pointer gets no proof.
+    let at: *mut u8 = null_mut();
+    let nothing = PoolHandle {
+        seal: Seal::blank(alloc, at),
+        full: false,
+    };
+    let PoolHandle { seal, full } = mem::replace(handle, nothing);
+    if full {
+        Some(seal.into_parts().into_box())
+    } else {
+        None
+    }
+}
+
+/// Puts a pool into a handle that holds nothing.
+pub(crate) fn put(handle: &mut PoolHandle, shared: Box<Shared, Global>)
+    requires { handle.old.seal.pool ≡ None }
+    ensures { handle.new.seal.pool ≡ Some shared.value }
+{
+    *handle = PoolHandle {
+        seal: Seal::of_parts(Parts::of(shared)),
+        full: true,
+    };
+}

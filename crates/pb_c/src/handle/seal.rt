@@ -1,0 +1,58 @@
+//! A box, or none, whose type says nothing of it to C.
+
+ghost use Rattle.std.specs.Prelude.{◌≡◌, Option};
+ghost use Rattle.pb_c.specs.declared.handle.shared.Shared.{Shared};
+ghost use Rattle.pb_c.specs.Seal.{pool_coded, seal_owns};
+
+use super::parts::Parts;
+use super::shared::Shared;
+use std::alloc::Global;
+use std::marker::Model;
+
+/// Owns what a box of the pool owns, where it says that there is one.
+#[repr(C)]
+#[derive(Drop)]
+pub struct Seal {
+    at: *mut u8,
+    alloc: Global,
+    pub ghost pool: { Option Shared } by { pool_coded },
+}
+
+impl Model for Seal {
+    ghost also_owns = { λ s. seal_owns s.alloc s.at s.pool };
+}
+
+impl Seal {
+    /// Holds nothing.
+    pub(super) fn blank(alloc: Global, at: *mut u8) -> Seal
+        ensures { result.pool ≡ None }
+    {
+        Seal { at, alloc }
+    }
+
+    /// Holds what a box held.
+    pub(super) fn of_parts(parts: Parts<Shared, Global>) -> Seal
+        ensures { result.pool ≡ Some parts.value }
+    {
+        let Parts { at, alloc } = parts;
+        Seal {
+            at: at as *mut u8,
+            alloc,
+        }
+    }
+
+    /// What is held, as the parts of a box.
+    pub(super) fn into_parts(self) -> Parts<Shared, Global>
+        requires { (s : Shared) × (self.pool ≡ Some s) }
+        ensures { self.pool ≡ Some result.value }
+    {
+        let Seal { at, alloc } = self;
+        Parts {
+            at: at as *mut Shared,
+            alloc,
+        }
+    }
+}
+
+// A pool behind an `Arc` may be read by any thread, so what is sealed may go to one.
+unsafe impl Send for Seal {}

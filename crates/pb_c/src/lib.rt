@@ -1,0 +1,25 @@
+//! The calls of the library for C, as `include/mabristu.h` declares them. A call judges its arguments itself, and answers by a number.
+#![tactic(auto)]
+
+mod handle;
+mod pool;
+mod raw;
+mod told;
+mod typed;
+
+pub use handle::PoolHandle;
+pub use handle::seal::Seal;
+pub use handle::shared::Shared;
+pub use pool::compile::mb_pool_compile;
+pub use pool::free::mb_pool_free;
+pub use pool::link::mb_pool_link;
+pub use pool::refusal::Refusal;
+pub use pool::share::mb_pool_share;
+pub use pool::type_number::mb_pool_type;
+pub use raw::check::mb_raw_check;
+pub use raw::short::mb_raw_short;
+pub use told::{FaultReport, Step, mb_interface};
+pub use typed::canon::mb_canon;
+pub use typed::check::mb_check;
+pub use typed::frames::{FrameReport, mb_frames};
+pub use typed::show::mb_show;

@@ -1,0 +1,138 @@
+//! The canonical bytes of a message.
+
+ghost use Rattle.std.specs.Prelude.{◌≡◌, ◌≢◌, ◌<◌, ◌≤◌, ◌^◌, ◌↔◌, ◌⊎◌, None, length};
+ghost use Rattle.pb_wire.specs.Fault.{Fault};
+ghost use Rattle.pb_value.specs.Canon.{canon_bytes};
+ghost use Rattle.pb_schema.specs.Types.{Types};
+ghost use Rattle.pb_value.specs.Data.{Message};
+ghost use Rattle.pb_value.specs.Derives.{Text};
+ghost use Rattle.pb_encode.specs.Encoding.{bytes_of};
+ghost use Rattle.pb_decode.specs.Push.{IsFaultOf};
+ghost use Rattle.pb_c.specs.Held.{types_held};
+ghost use Rattle.pb_c.specs.Told.{AreLimits, IsLaid, Tells, bounds};
+ghost use Rattle.pb_c.specs.Typed.{HasType, LacksType};
+
+use crate::handle::{PoolHandle, put, take};
+use crate::told::{BAD_LIMITS, DONE, EMPTY, FAULT, FaultReport, MEMORY, NO_TYPE, Step};
+use crate::typed::{TOO_LARGE, read_message, write_out};
+use pb_encode::{EncodeError, encode};
+use pb_schema::Pool;
+use pb_value::DynamicMessage;
+use pb_wire::Limits;
+use std::alloc::Global;
+
+/// Writes the canonical bytes of the message that the bytes are, as many as the buffer holds, and tells how many there are.
+///
+/// Answers as `mb_check` does, and TOO_LARGE where the canonical bytes would be more than 2^31 - 1. They and their number are written
+/// at DONE alone, so where the number told is above the buffer's length, call again with that much room.
+#[unsafe(no_mangle)]
+pub extern "C" fn mb_canon(
+    alloc: Global,
+    pool: &mut PoolHandle,
+    message_type: u32,
+    bytes: &[u8],
+    max_bytes: u32,
+    max_depth: u8,
+    out: &mut [u8],
+    size: &mut usize,
+    fault: &mut FaultReport,
+    path: &mut [Step],
+) -> u32
+    ensures text { result ≡ DONE → (ts : Types) × HasType (types_held pool.old) message_type ts
+        × ((v : Message) × Text ts message_type (bounds max_bytes max_depth) bytes.now v × (length (canon_bytes ts message_type v) < 2 ^ 31)
+        × IsLaid (canon_bytes ts message_type v) out.old out.new size.new) }
+    ensures too_large { result ≡ TOO_LARGE → (ts : Types) × HasType (types_held pool.old) message_type ts
+        × ((v : Message) × Text ts message_type (bounds max_bytes max_depth) bytes.now v × (2 ^ 31 ≤ length (canon_bytes ts message_type v))) }
+    ensures fault { result ≡ FAULT → (ts : Types) × HasType (types_held pool.old) message_type ts
+        × ((f : Fault) × IsFaultOf ts message_type (bounds max_bytes max_depth) bytes.now f × Tells f fault.new path.old path.new) }
+    ensures unwritten { result ≢ DONE → (out.new ≡ out.old) × (size.new ≡ size.old) }
+    ensures untold { result ≢ FAULT → (fault.new ≡ fault.old) × (path.new ≡ path.old) }
+    ensures limits { result ≡ BAD_LIMITS ↔ ¬ AreLimits max_bytes max_depth }
+    ensures empty { result ≡ EMPTY ↔ AreLimits max_bytes max_depth × (types_held pool.old ≡ None) }
+    ensures no_type { result ≡ NO_TYPE ↔ AreLimits max_bytes max_depth × LacksType (types_held pool.old) message_type }
+    ensures answers { (result ≡ DONE) ⊎ (result ≡ BAD_LIMITS) ⊎ (result ≡ EMPTY) ⊎ (result ≡ NO_TYPE) ⊎ (result ≡ TOO_LARGE)
+        ⊎ (result ≡ FAULT) ⊎ (result ≡ MEMORY) }
+    ensures same { pool.new.seal.pool ≡ pool.old.seal.pool }
+
+    // Each text is accepted and each fault is told, unless memory runs out.
+    ensures accepted { AreLimits max_bytes max_depth → (ts : Types) → HasType (types_held pool.old) message_type ts → (v : Message)
+        → Text ts message_type (bounds max_bytes max_depth) bytes.now v → length (canon_bytes ts message_type v) < 2 ^ 31
+        → ((result ≡ DONE) × IsLaid (canon_bytes ts message_type v) out.old out.new size.new) ⊎ (result ≡ MEMORY) }
+    ensures oversized { AreLimits max_bytes max_depth → (ts : Types) → HasType (types_held pool.old) message_type ts → (v : Message)
+        → Text ts message_type (bounds max_bytes max_depth) bytes.now v → 2 ^ 31 ≤ length (canon_bytes ts message_type v)
+        → (result ≡ TOO_LARGE) ⊎ (result ≡ MEMORY) }
+    ensures refused { AreLimits max_bytes max_depth → (ts : Types) → HasType (types_held pool.old) message_type ts → (f : Fault)
+        → IsFaultOf ts message_type (bounds max_bytes max_depth) bytes.now f → ((result ≡ FAULT) × Tells f fault.new path.old path.new) ⊎ (result ≡ MEMORY) }
+{
+    let Some(limits) = Limits::new(max_bytes, max_depth) else {
+        return BAD_LIMITS;
+    };
+    let Some(shared) = take(alloc, pool) else {
+        return EMPTY;
+    };
+    let answer = canon_message(
+        alloc,
+        &shared.pool,
+        message_type,
+        bytes,
+        limits,
+        out,
+        size,
+        fault,
+        path,
+    );
+    put(pool, shared);
+    answer
+}
+
+/// Writes the canonical bytes of the message that the bytes are, by its type's number.
+fn canon_message(
+    alloc: Global,
+    pool: &Pool,
+    number: u32,
+    bytes: &[u8],
+    limits: Limits,
+    out: &mut [u8],
+    size: &mut usize,
+    fault: &mut FaultReport,
+    path: &mut [Step],
+) -> u32
+    ensures text { result ≡ DONE → (v : Message) × Text pool.now number limits bytes.now v
+        × (length (canon_bytes pool.now number v) < 2 ^ 31) × IsLaid (canon_bytes pool.now number v) out.old out.new size.new }
+    ensures too_large { result ≡ TOO_LARGE → (v : Message) × Text pool.now number limits bytes.now v
+        × (2 ^ 31 ≤ length (canon_bytes pool.now number v)) }
+    ensures fault { result ≡ FAULT → (f : Fault) × IsFaultOf pool.now number limits bytes.now f × Tells f fault.new path.old path.new }
+    ensures unwritten { result ≢ DONE → (out.new ≡ out.old) × (size.new ≡ size.old) }
+    ensures untold { result ≢ FAULT → (fault.new ≡ fault.old) × (path.new ≡ path.old) }
+    ensures no_type { result ≡ NO_TYPE ↔ length pool.now.messages ≤ number }
+    ensures answers { (result ≡ DONE) ⊎ (result ≡ TOO_LARGE) ⊎ (result ≡ NO_TYPE) ⊎ (result ≡ FAULT) ⊎ (result ≡ MEMORY) }
+    ensures accepted { number < length pool.now.messages → (v : Message) → Text pool.now number limits bytes.now v
+        → length (canon_bytes pool.now number v) < 2 ^ 31
+        → ((result ≡ DONE) × IsLaid (canon_bytes pool.now number v) out.old out.new size.new) ⊎ (result ≡ MEMORY) }
+    ensures oversized { number < length pool.now.messages → (v : Message) → Text pool.now number limits bytes.now v
+        → 2 ^ 31 ≤ length (canon_bytes pool.now number v) → (result ≡ TOO_LARGE) ⊎ (result ≡ MEMORY) }
+    ensures refused { number < length pool.now.messages → (f : Fault) → IsFaultOf pool.now number limits bytes.now f
+        → ((result ≡ FAULT) × Tells f fault.new path.old path.new) ⊎ (result ≡ MEMORY) }
+{
+    match read_message(alloc, pool, number, bytes, limits, fault, path) {
+        Ok(message) => write_canonical(&message, out, size),
+        Err(answer) => answer,
+    }
+}
+
+/// Writes the canonical bytes of a message.
+fn write_canonical(message: &DynamicMessage<'_>, out: &mut [u8], size: &mut usize) -> u32
+    ensures written { result ≡ DONE → (length (bytes_of message.now) < 2 ^ 31) × IsLaid (bytes_of message.now) out.old out.new size.new }
+    ensures too_large { result ≡ TOO_LARGE → 2 ^ 31 ≤ length (bytes_of message.now) }
+    ensures unwritten { result ≢ DONE → (out.new ≡ out.old) × (size.new ≡ size.old) }
+    ensures answers { (result ≡ DONE) ⊎ (result ≡ TOO_LARGE) ⊎ (result ≡ MEMORY) }
+{
+    match encode(message) {
+        Ok(canonical) => {
+            write_out(&canonical, out, size);
+            DONE
+        }
+        Err(EncodeError::TooLarge) => TOO_LARGE,
+        Err(EncodeError::Memory | EncodeError::Device { written: _ }) => MEMORY,
+    }
+}

@@ -1,0 +1,158 @@
+//! A message behind its length.
+
+ghost use Rattle.std.specs.Prelude.{◌≡◌, ◌≢◌, ◌<◌, ◌≤◌, ◌++◌, ◌↔◌, ◌⊎◌, ℕ, List, None, length};
+ghost use Rattle.pb_wire.specs.Fault.{Fault};
+ghost use Rattle.pb_wire.specs.Varint.{IsVarint};
+ghost use Rattle.pb_schema.specs.Types.{Types};
+ghost use Rattle.pb_c.specs.Held.{types_held};
+ghost use Rattle.pb_c.specs.Told.{AreLimits, Tells, bounds};
+ghost use Rattle.pb_c.specs.Typed.{ByFault, HasType, LacksType};
+ghost use Rattle.pb_c.specs.Typed.Frames.{AnswersFault, IsFramed, IsNoFrame, IsPart};
+
+use crate::handle::{PoolHandle, put, take};
+use crate::told::{BAD_LIMITS, DONE, EMPTY, FAULT, FaultReport, MEMORY, NO_TYPE, Step};
+use crate::typed::{PART, tell_error, type_numbered};
+use pb_decode::DecodeError;
+use pb_schema::Pool;
+use pb_stream::read_delimited;
+use pb_wire::{Cause, FailurePlan, Limits, MemInput, read_varint};
+use std::alloc::Global;
+
+/// Where the message of a frame stands.
+#[repr(C)]
+#[derive(Clone, Copy, Debug, PartialEq, Eq)]
+pub struct FrameReport {
+    /// Where it begins, behind its length.
+    pub begin: usize,
+    /// Where it ends, and the frame with it.
+    pub end: usize,
+}
+
+/// Checks the frame that the bytes begin with: a message of the type of this number in the pool, behind its length.
+///
+/// Answers DONE with where the message begins and ends, whatever follows it; PART where the bytes end before their frame does, so that
+/// more are needed; and else as `mb_check` does. A fault's byte counts from the first byte of the length. What is told of the frame
+/// is written at DONE alone.
+#[unsafe(no_mangle)]
+pub extern "C" fn mb_frames(
+    alloc: Global,
+    pool: &mut PoolHandle,
+    message_type: u32,
+    bytes: &[u8],
+    max_bytes: u32,
+    max_depth: u8,
+    frame: &mut FrameReport,
+    fault: &mut FaultReport,
+    path: &mut [Step],
+) -> u32
+    ensures framed { result ≡ DONE → (ts : Types) × HasType (types_held pool.old) message_type ts
+        × IsFramed ts message_type (bounds max_bytes max_depth) bytes.now frame.new }
+    ensures part { result ≡ PART → (ts : Types) × HasType (types_held pool.old) message_type ts
+        × IsPart ts message_type (bounds max_bytes max_depth) bytes.now }
+    ensures fault { result ≡ FAULT → (ts : Types) × HasType (types_held pool.old) message_type ts
+        × ((f : Fault) × IsNoFrame ts message_type (bounds max_bytes max_depth) bytes.now f × Tells f fault.new path.old path.new) }
+    ensures unframed { result ≢ DONE → frame.new ≡ frame.old }
+    ensures untold { result ≢ FAULT → (fault.new ≡ fault.old) × (path.new ≡ path.old) }
+    ensures limits { result ≡ BAD_LIMITS ↔ ¬ AreLimits max_bytes max_depth }
+    ensures empty { result ≡ EMPTY ↔ AreLimits max_bytes max_depth × (types_held pool.old ≡ None) }
+    ensures no_type { result ≡ NO_TYPE ↔ AreLimits max_bytes max_depth × LacksType (types_held pool.old) message_type }
+    ensures answers { (result ≡ DONE) ⊎ (result ≡ BAD_LIMITS) ⊎ (result ≡ EMPTY) ⊎ (result ≡ NO_TYPE) ⊎ (result ≡ PART)
+        ⊎ (result ≡ FAULT) ⊎ (result ≡ MEMORY) }
+    ensures same { pool.new.seal.pool ≡ pool.old.seal.pool }
+
+    // Each frame is accepted, and of all other bytes it is told what they are, unless memory runs out.
+    ensures accepted { AreLimits max_bytes max_depth → (ts : Types) → HasType (types_held pool.old) message_type ts → (r : FrameReport)
+        → IsFramed ts message_type (bounds max_bytes max_depth) bytes.now r → ((result ≡ DONE) × (frame.new ≡ r)) ⊎ (result ≡ MEMORY) }
+    ensures parted { AreLimits max_bytes max_depth → (ts : Types) → HasType (types_held pool.old) message_type ts
+        → IsPart ts message_type (bounds max_bytes max_depth) bytes.now → (result ≡ PART) ⊎ (result ≡ MEMORY) }
+    ensures refused { AreLimits max_bytes max_depth → (ts : Types) → HasType (types_held pool.old) message_type ts → (f : Fault)
+        → IsNoFrame ts message_type (bounds max_bytes max_depth) bytes.now f → ((result ≡ FAULT) × Tells f fault.new path.old path.new) ⊎ (result ≡ MEMORY) }
+{
+    let Some(limits) = Limits::new(max_bytes, max_depth) else {
+        return BAD_LIMITS;
+    };
+    let Some(shared) = take(alloc, pool) else {
+        return EMPTY;
+    };
+    let answer = check_frame(
+        alloc,
+        &shared.pool,
+        message_type,
+        bytes,
+        limits,
+        frame,
+        fault,
+        path,
+    );
+    put(pool, shared);
+    answer
+}
+
+/// Checks the frame that the bytes begin with, a message of the type of a number behind its length.
+fn check_frame(
+    alloc: Global,
+    pool: &Pool,
+    number: u32,
+    bytes: &[u8],
+    limits: Limits,
+    frame: &mut FrameReport,
+    fault: &mut FaultReport,
+    path: &mut [Step],
+) -> u32
+    ensures framed { result ≡ DONE → IsFramed pool.now number limits bytes.now frame.new }
+    ensures part { result ≡ PART → IsPart pool.now number limits bytes.now }
+    ensures fault { result ≡ FAULT → (f : Fault) × IsNoFrame pool.now number limits bytes.now f × Tells f fault.new path.old path.new }
+    ensures unframed { result ≢ DONE → frame.new ≡ frame.old }
+    ensures untold { result ≢ FAULT → (fault.new ≡ fault.old) × (path.new ≡ path.old) }
+    ensures no_type { result ≡ NO_TYPE ↔ length pool.now.messages ≤ number }
+    ensures answers { (result ≡ DONE) ⊎ (result ≡ PART) ⊎ (result ≡ NO_TYPE) ⊎ (result ≡ FAULT) ⊎ (result ≡ MEMORY) }
+    ensures accepted { number < length pool.now.messages → (r : FrameReport) → IsFramed pool.now number limits bytes.now r
+        → ((result ≡ DONE) × (frame.new ≡ r)) ⊎ (result ≡ MEMORY) }
+    ensures parted { number < length pool.now.messages → IsPart pool.now number limits bytes.now → (result ≡ PART) ⊎ (result ≡ MEMORY) }
+    ensures refused { number < length pool.now.messages → (f : Fault) → IsNoFrame pool.now number limits bytes.now f
+        → ((result ≡ FAULT) × Tells f fault.new path.old path.new) ⊎ (result ≡ MEMORY) }
+{
+    let Some(message_type) = type_numbered(pool, number) else {
+        return NO_TYPE;
+    };
+    let mut input = MemInput::new(bytes, usize::MAX, FailurePlan::NEVER);
+    match read_delimited(alloc, pool, message_type, &mut input, limits) {
+        Ok(Some(_)) => {
+            *frame = place_behind_length(bytes);
+            DONE
+        }
+        Ok(None) => PART,
+        Err(error) => tell_frame_error(&error, fault, path),
+    }
+}
+
+/// Where the message of the frame stands that the bytes begin with.
+fn place_behind_length(bytes: &[u8]) -> FrameReport
+    requires { (front : List ℕ) × (text : List ℕ) × (rest : List ℕ) × (bytes.now ≡ front ++ text ++ rest) × IsVarint (length text) front }
+    ensures { (front text rest : List ℕ) → bytes.now ≡ front ++ text ++ rest → IsVarint (length text) front
+        → result ≡ record { begin = length front; end = length (front ++ text) } }
+{
+    match read_varint(bytes) {
+        Ok((size, begin)) => FrameReport {
+            begin,
+            end: begin + size as usize,
+        },
+        Err(_) => unreachable!(),
+    }
+}
+
+/// Tells the fault of an error, if it has one that more bytes do not mend, and answers the error's number.
+fn tell_frame_error(error: &DecodeError, fault: &mut FaultReport, path: &mut [Step]) -> u32
+    ensures told { ByFault error.now (AnswersFault result (λ f. Tells f fault.new path.old path.new)) (result ≡ MEMORY) }
+    ensures untold { result ≢ FAULT → (fault.new ≡ fault.old) × (path.new ≡ path.old) }
+    ensures answers { (result ≡ PART) ⊎ (result ≡ FAULT) ⊎ (result ≡ MEMORY) }
+{
+    match error {
+        DecodeError::Fault {
+            byte: _,
+            path: _,
+            cause: Cause::Truncated,
+        } => PART,
+        _ => tell_error(error, fault, path),
+    }
+}

@@ -1,0 +1,43 @@
+/* What check.c, show.c and walk.c share: the line of each refusal, as pbtool tells it (told.c); files, and a type of a set (files.c). */
+#ifndef COMMON_H
+#define COMMON_H
+
+#include "mabristu.h"
+
+#include <stdio.h>
+
+/* A fault, with room for its whole path. */
+struct told {
+    struct mb_fault fault;
+    struct mb_step path[MB_MAX_STEPS];
+};
+
+/* Bytes in a buffer that grows, of which the first ones are done with. All zeros are no bytes. */
+struct buffer {
+    uint8_t *bytes;
+    size_t done, len, room;
+};
+
+/* Tells on standard error why a call on a message did not answer MB_DONE. Returns the status to exit with: 1 for a refusal, 3 for memory. */
+int tell(uint32_t answer, const struct told *told);
+
+/* The same of mb_pool_link. The names in the text are those that the refusal tells. */
+int tell_link(uint32_t answer, const struct told *told, const struct mb_refusal *refusal, const uint8_t *text);
+
+/* Gives a buffer more room. Where there is no memory it tells so and exits with status 3. */
+void grow(struct buffer *buffer, size_t room);
+
+/* A file to be read, and its end. Where it can't be opened, or a read failed, they tell so and exit with status 3. */
+FILE *open_file(const char *name);
+void close_file(FILE *file, const char *name);
+
+/* Forgets what is done with of the buffer, and reads on behind the rest, into twice the room where it is full. Returns whether anything was read. */
+bool read_more(FILE *file, struct buffer *buffer);
+
+/* The bytes of a file. */
+struct buffer read_file(const char *name);
+
+/* Links the types of the set that a file holds into the pool, and finds one of them. Where there is no such set or type it tells why and exits. */
+uint32_t find_type(const char *set_name, const char *type_name, struct mb_pool *pool);
+
+#endif

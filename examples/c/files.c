@@ -1,0 +1,81 @@
+#include "common.h"
+
+#include <stdlib.h>
+#include <string.h>
+
+void grow(struct buffer *buffer, size_t room)
+{
+    buffer->room = room;
+    buffer->bytes = realloc(buffer->bytes, room);
+    if (buffer->bytes == NULL) {
+        fprintf(stderr, "memory\n");
+        exit(3);
+    }
+}
+
+FILE *open_file(const char *name)
+{
+    FILE *file = fopen(name, "rb");
+    if (file == NULL) {
+        fprintf(stderr, "device %s\n", name);
+        exit(3);
+    }
+    return file;
+}
+
+void close_file(FILE *file, const char *name)
+{
+    if (ferror(file)) {
+        fprintf(stderr, "device %s\n", name);
+        exit(3);
+    }
+    fclose(file);
+}
+
+bool read_more(FILE *file, struct buffer *buffer)
+{
+    buffer->len -= buffer->done;
+    if (buffer->done > 0)
+        memmove(buffer->bytes, buffer->bytes + buffer->done, buffer->len);
+    buffer->done = 0;
+    if (buffer->len == buffer->room)
+        grow(buffer, buffer->room == 0 ? 4096 : 2 * buffer->room);
+    size_t count = fread(buffer->bytes + buffer->len, 1, buffer->room - buffer->len, file);
+    buffer->len += count;
+    return count > 0;
+}
+
+struct buffer read_file(const char *name)
+{
+    FILE *file = open_file(name);
+    struct buffer buffer = {0};
+
+    while (read_more(file, &buffer))
+        ;
+    close_file(file, name);
+    return buffer;
+}
+
+uint32_t find_type(const char *set_name, const char *type_name, struct mb_pool *pool)
+{
+    struct buffer set = read_file(set_name), text = {0};
+    struct mb_refusal refusal = {0};
+    struct told told;
+    uint32_t answer, type;
+
+    /* Where the names that are told are longer than the room, their lengths are told: link once more with that much. */
+    do {
+        grow(&text, refusal.file_len + refusal.name_len + 256);
+        answer = mb_pool_link(set.bytes, set.len, pool, &told.fault, told.path, MB_MAX_STEPS, &refusal, text.bytes, text.room);
+    } while (answer != MB_DONE && refusal.file_len + refusal.name_len > text.room);
+    if (answer != MB_DONE)
+        exit(tell_link(answer, &told, &refusal, text.bytes));
+    free(text.bytes);
+    free(set.bytes);
+    if (mb_pool_type(pool, (const uint8_t *)type_name, strlen(type_name), &type) != MB_DONE) {
+        fprintf(stderr, "type %s unknown\n", type_name);
+        mb_pool_free(pool);
+        exit(1);
+    }
+    return type;
+}

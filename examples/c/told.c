@@ -1,0 +1,49 @@
+#include "common.h"
+
+#include <inttypes.h>
+#include <stdio.h>
+
+/* The names of causes, by their numbers: 1 to 12 of bytes, 52 to 60 of a set, 71 to 89 of linking. */
+static const char *const cause_names[90] = {
+    [1] = "Truncated", "PastEnd", "VarintTooLong", "TagTooLarge", "NumberZero", "BadType", "StrayEnd", "WrongEnd", "LengthTooLarge", "BadText",
+    "TooDeep", "InputTooLarge", [52] = "MissingName", "BadLabel", "BadTypeNumber", "Extension", "NotProto3", "Required", "Group",
+    [60] = "DefaultValue", [71] = "TwoFiles", "MissingImport", "ImportCycle", "BadName", "NameTaken", "NotFound", "NotVisible", "NotAType",
+    "BadNumber", "NumberTaken", "Reserved", "BadOneof", "BadMap", "BadPacked", "BadEnum", "KindMismatch", "BadRange", [89] = "ClosedEnum",
+};
+
+int tell(uint32_t answer, const struct told *told)
+{
+    if (answer != MB_FAULT) {
+        fprintf(stderr, answer == MB_TOO_LARGE ? "output cause TooLarge\n" : "memory\n");
+        return answer == MB_TOO_LARGE ? 1 : 3;
+    }
+    fprintf(stderr, "byte %" PRIu64 " path %s", told->fault.byte, told->fault.steps == 0 ? "-" : "");
+    for (size_t i = 0; i < told->fault.steps; i++)
+        fprintf(stderr, "%s%" PRIu32 "[%" PRIu32 "]", i == 0 ? "" : ".", told->path[i].number, told->path[i].before);
+    fprintf(stderr, " cause %s\n", cause_names[told->fault.cause]);
+    return 1;
+}
+
+/* A name, or - where it is empty. */
+static void tell_name(const uint8_t *name, size_t len)
+{
+    fwrite(len == 0 ? (const uint8_t *)"-" : name, 1, len == 0 ? 1 : len, stderr);
+}
+
+int tell_link(uint32_t answer, const struct told *told, const struct mb_refusal *refusal, const uint8_t *text)
+{
+    if (answer == MB_MEMORY || answer == MB_FAULT) {
+        fprintf(stderr, answer == MB_FAULT ? "set " : "");
+        return tell(answer, told);
+    }
+    if (answer < 71) {
+        fprintf(stderr, "set file %zu", refusal->file);
+    } else {
+        fprintf(stderr, "link ");
+        tell_name(text, refusal->file_len);
+        fprintf(stderr, " at ");
+        tell_name(text + refusal->file_len, refusal->name_len);
+    }
+    fprintf(stderr, " cause %s\n", cause_names[answer]);
+    return 1;
+}

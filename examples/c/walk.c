@@ -1,0 +1,77 @@
+/* walk SET TYPE FILE: lists a stream of messages, each behind its length, as `pbtool frames` does. FILE is read piece by piece, so it may be a
+ * pipe, and not much more of it is held than one frame. */
+#include "common.h"
+
+#include <stdlib.h>
+
+/* Lists a message one level in. Returns what mb_show answers. */
+static uint32_t list(struct mb_pool *pool, uint32_t type, const uint8_t *bytes, size_t len, struct buffer *listing, struct told *told)
+{
+    uint32_t answer;
+
+    do {
+        grow(listing, listing->len + 256);
+        answer = mb_show(pool, type, bytes, len, MB_MAX_BYTES, MB_MAX_DEPTH, listing->bytes, listing->room, &listing->len, &told->fault,
+                         told->path, MB_MAX_STEPS);
+    } while (answer == MB_DONE && listing->len > listing->room);
+    for (size_t at = 0; answer == MB_DONE && at < listing->len; at++) {
+        if (at == 0 || listing->bytes[at - 1] == '\n')
+            printf("  ");
+        putchar(listing->bytes[at]);
+    }
+    return answer;
+}
+
+/* Tells why the bytes begin with no frame, and returns the status to exit with. For MB_PART the file ends in it: what there is of its message
+ * has a fault there, or it is whole records, and ends too early. */
+static int tell_frame(uint32_t answer, struct mb_pool *pool, uint32_t type, const uint8_t *bytes, size_t len, size_t number, struct told *told)
+{
+    size_t begin = 0;
+
+    if (answer == MB_PART) {
+        while (begin < len && bytes[begin++] >= 0x80)
+            ;
+        told->fault = (struct mb_fault){.byte = len - begin, .cause = MB_TRUNCATED};
+        mb_check(pool, type, bytes + begin, len - begin, MB_MAX_BYTES, MB_MAX_DEPTH, &told->fault, told->path, MB_MAX_STEPS);
+        told->fault.byte += begin;
+        answer = MB_FAULT;
+    }
+    if (answer == MB_FAULT)
+        fprintf(stderr, "frame %zu ", number);
+    return tell(answer, told);
+}
+
+int main(int argc, char **argv)
+{
+    struct mb_pool pool = {0};
+    struct buffer held = {0}, listing = {0};
+    struct mb_frame frame;
+    struct told told;
+    size_t number = 0, at = 0;
+    uint32_t answer = MB_PART;
+
+    if (argc != 4 || mb_interface() != MB_INTERFACE) {
+        fprintf(stderr, "usage: walk SET TYPE FILE, with a library of interface %d\n", MB_INTERFACE);
+        return 2;
+    }
+    uint32_t type = find_type(argv[1], argv[2], &pool);
+    FILE *file = open_file(argv[3]);
+    while (answer == MB_DONE || (answer == MB_PART && read_more(file, &held))) {
+        answer = mb_frames(&pool, type, held.bytes + held.done, held.len - held.done, MB_MAX_BYTES, MB_MAX_DEPTH, &frame, &told.fault, told.path,
+                           MB_MAX_STEPS);
+        if (answer == MB_DONE) {
+            printf("frame %zu at %zu size %zu\n", number++, at, frame.end);
+            answer = list(&pool, type, held.bytes + held.done + frame.begin, frame.end - frame.begin, &listing, &told);
+            held.done += frame.end;
+            at += frame.end;
+        }
+    }
+    close_file(file, argv[3]);
+    int status = 0;
+    if (answer != MB_PART || held.done < held.len)
+        status = tell_frame(answer, &pool, type, held.bytes + held.done, held.len - held.done, number, &told);
+    free(listing.bytes);
+    free(held.bytes);
+    mb_pool_free(&pool);
+    return status;
+}

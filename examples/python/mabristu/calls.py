@@ -1,0 +1,58 @@
+"""The structs and calls of mabristu.h, by ctypes. MABRISTU names the shared object where it is not found by its name."""
+import os
+from ctypes import CDLL, POINTER, Structure, c_bool, c_char_p, c_size_t, c_uint8, c_uint32, c_uint64, c_void_p
+
+INTERFACE = 1
+DONE, BAD_LIMITS, NO_TYPE, EMPTY, BAD_NAME, PART, FAULT, MEMORY, TOO_LARGE = 0, 1, 2, 3, 4, 5, 13, 14, 31
+MAX_BYTES, MAX_DEPTH, MAX_STEPS, TRUNCATED = 0x7FFFFFFF, 100, 101, 1
+
+
+class Fault(Structure):
+    _fields_ = [("byte", c_uint64), ("steps", c_size_t), ("cause", c_uint32)]
+
+
+class Step(Structure):
+    _fields_ = [("number", c_uint32), ("before", c_uint32)]
+
+
+class Handle(Structure):
+    _fields_ = [("at", c_void_p), ("full", c_bool)]
+
+
+class Refusal(Structure):
+    _fields_ = [("file", c_size_t), ("byte", c_uint64), ("file_len", c_size_t), ("name_len", c_size_t)]
+
+
+class Bytes(Structure):
+    _fields_ = [("at", c_char_p), ("len", c_size_t)]
+
+
+class Frame(Structure):
+    _fields_ = [("begin", c_size_t), ("end", c_size_t)]
+
+
+POOL, TYPE, TEXT, LIMITS = [POINTER(Handle)], [c_uint32], [c_char_p, c_size_t], [c_uint32, c_uint8]
+OUT, TOLD = [POINTER(c_uint8), c_size_t, POINTER(c_size_t)], [POINTER(Fault), POINTER(Step), c_size_t]
+REFUSED = [POINTER(Refusal), POINTER(c_uint8), c_size_t]
+MESSAGE = POOL + TYPE + TEXT + LIMITS
+CALLS = {
+    "mb_interface": [],
+    "mb_raw_check": TEXT + LIMITS + TOLD,
+    "mb_raw_short": TEXT + LIMITS + OUT + TOLD,
+    "mb_pool_link": TEXT + POOL + TOLD + REFUSED,
+    "mb_pool_compile": [POINTER(Bytes), c_size_t] * 2 + POOL + REFUSED,
+    "mb_pool_share": POOL * 2,
+    "mb_pool_free": POOL,
+    "mb_pool_type": POOL + TEXT + [POINTER(c_uint32)],
+    "mb_check": MESSAGE + TOLD,
+    "mb_canon": MESSAGE + OUT + TOLD,
+    "mb_show": MESSAGE + OUT + TOLD,
+    "mb_frames": MESSAGE + [POINTER(Frame)] + TOLD,
+}
+
+library = CDLL(os.environ.get("MABRISTU", "libmabristu.so.1"))
+for name, parameters in CALLS.items():
+    call = getattr(library, name)
+    call.argtypes, call.restype = parameters, None if name == "mb_pool_free" else c_uint32
+if library.mb_interface() != INTERFACE:
+    raise ImportError(f"the library has interface {library.mb_interface()}, and these calls are of {INTERFACE}")

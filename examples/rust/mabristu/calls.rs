@@ -1,0 +1,84 @@
+//! The structs and calls of mabristu.h.
+
+pub const INTERFACE: u32 = 1;
+// What a call answers. Numbers from 50 on are the causes why declarations are refused.
+pub const DONE: u32 = 0;
+pub const NO_TYPE: u32 = 2;
+pub const PART: u32 = 5;
+pub const FAULT: u32 = 13;
+pub const MEMORY: u32 = 14;
+pub const TOO_LARGE: u32 = 31;
+pub const TRUNCATED: u32 = 1;
+pub const MAX_BYTES: u32 = 0x7fff_ffff;
+pub const MAX_DEPTH: u8 = 100;
+pub const MAX_STEPS: usize = 101;
+
+#[repr(C)]
+#[derive(Default)]
+pub struct Fault {
+    pub byte: u64,
+    pub steps: usize,
+    pub cause: u32,
+}
+
+/// A record, by its number and by how many whole records of that number stand before it in what holds it.
+#[repr(C)]
+#[derive(Clone, Copy, Debug, Default, PartialEq, Eq)]
+pub struct Step {
+    pub number: u32,
+    pub before: u32,
+}
+
+#[repr(C)]
+pub struct Handle {
+    pub at: *mut u8,
+    pub full: bool,
+}
+
+#[repr(C)]
+#[derive(Default)]
+pub struct Refusal {
+    pub file: usize,
+    pub byte: u64,
+    pub file_len: usize,
+    pub name_len: usize,
+}
+
+#[repr(C)]
+pub struct Bytes {
+    pub at: *const u8,
+    pub len: usize,
+}
+
+#[repr(C)]
+#[derive(Default)]
+pub struct Frame {
+    pub begin: usize,
+    pub end: usize,
+}
+
+type At = *const u8;
+type Out = *mut u8;
+#[rustfmt::skip]
+#[link(name = "mabristu")]
+unsafe extern "C" {
+    pub fn mb_interface() -> u32;
+    pub fn mb_raw_check(bytes: At, len: usize, max_bytes: u32, max_depth: u8, fault: &mut Fault, path: *mut Step, path_len: usize) -> u32;
+    pub fn mb_raw_short(bytes: At, len: usize, max_bytes: u32, max_depth: u8, out: Out, out_len: usize, size: &mut usize,
+        fault: &mut Fault, path: *mut Step, path_len: usize) -> u32;
+    pub fn mb_pool_link(set: At, len: usize, pool: *mut Handle, fault: &mut Fault, path: *mut Step, path_len: usize,
+        refusal: &mut Refusal, text: Out, text_len: usize) -> u32;
+    pub fn mb_pool_compile(names: *const Bytes, names_len: usize, texts: *const Bytes, texts_len: usize, pool: *mut Handle,
+        refusal: &mut Refusal, text: Out, text_len: usize) -> u32;
+    pub fn mb_pool_share(pool: *mut Handle, other: *mut Handle) -> u32;
+    pub fn mb_pool_free(pool: *mut Handle);
+    pub fn mb_pool_type(pool: *mut Handle, name: At, name_len: usize, number: &mut u32) -> u32;
+    pub fn mb_check(pool: *mut Handle, number: u32, bytes: At, len: usize, max_bytes: u32, max_depth: u8,
+        fault: &mut Fault, path: *mut Step, path_len: usize) -> u32;
+    pub fn mb_canon(pool: *mut Handle, number: u32, bytes: At, len: usize, max_bytes: u32, max_depth: u8,
+        out: Out, out_len: usize, size: &mut usize, fault: &mut Fault, path: *mut Step, path_len: usize) -> u32;
+    pub fn mb_show(pool: *mut Handle, number: u32, bytes: At, len: usize, max_bytes: u32, max_depth: u8,
+        out: Out, out_len: usize, size: &mut usize, fault: &mut Fault, path: *mut Step, path_len: usize) -> u32;
+    pub fn mb_frames(pool: *mut Handle, number: u32, bytes: At, len: usize, max_bytes: u32, max_depth: u8,
+        frame: &mut Frame, fault: &mut Fault, path: *mut Step, path_len: usize) -> u32;
+}

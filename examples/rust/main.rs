@@ -1,0 +1,93 @@
+//! The words of pbtool, by the library: main check|show|canon|frames SET TYPE FILE, main short FILE, main compile ROOT FILE..
+mod mabristu;
+
+use mabristu::{Error, Limits, Pool};
+use std::io::Write;
+use std::process::ExitCode;
+
+const FULL: Limits = Limits::FULL;
+
+/// A line for standard error, and the status to exit with.
+type Failure = (String, u8);
+
+fn read(name: &str) -> Result<Vec<u8>, Failure> {
+    std::fs::read(name).map_err(|_| (format!("device {name}"), 3))
+}
+
+fn print(bytes: &[u8]) -> Result<(), Failure> {
+    std::io::stdout().write_all(bytes).map_err(|_| ("device -".to_owned(), 3))
+}
+
+fn failure(error: Error, before: &str) -> Failure {
+    match error {
+        Error::Fault { .. } => (format!("{before}{error}"), 1),
+        Error::Memory => (error.to_string(), 3),
+        _ => (error.to_string(), 1),
+    }
+}
+
+fn refused(error: Error) -> Failure {
+    failure(error, "")
+}
+
+fn hexadecimal(bytes: &[u8]) -> Vec<u8> {
+    (bytes.iter().map(|byte| format!("{byte:02x}")).collect::<String>() + "\n").into_bytes()
+}
+
+/// The messages of a stream, each behind its length.
+fn frames(pool: &Pool, number: u32, stream: &[u8]) -> Result<(), Failure> {
+    let (mut at, mut count) = (0, 0);
+    while at < stream.len() {
+        let rest = &stream[at..];
+        let before = format!("frame {count} ");
+        let Some(frame) = pool.frame(number, rest, FULL).map_err(|error| failure(error, &before))? else {
+            return Err(failure(pool.cut_frame(number, rest, FULL), &before));
+        };
+        print(format!("frame {count} at {at} size {}\n", frame.end).as_bytes())?;
+        for line in pool.show(number, &rest[frame.begin..frame.end], FULL).map_err(refused)?.split_inclusive(|&byte| byte == b'\n') {
+            print(&[b"  ", line].concat())?;
+        }
+        (at, count) = (at + frame.end, count + 1);
+    }
+    Ok(())
+}
+
+fn run(words: &[&str]) -> Result<(), Failure> {
+    if let ["short", name] = words {
+        let bytes = read(name)?;
+        mabristu::raw_check(&bytes, FULL).map_err(refused)?;
+        return print(&hexadecimal(&mabristu::raw_short(&bytes, FULL).map_err(refused)?));
+    }
+    if let ["compile", root, names @ ..] = words {
+        let texts = names.iter().map(|name| read(&format!("{root}/{name}"))).collect::<Result<Vec<_>, _>>()?;
+        let texts: Vec<&[u8]> = texts.iter().map(Vec::as_slice).collect();
+        return Pool::compile(names, &texts).map(drop).map_err(refused);
+    }
+    let [command, set, name, file] = words else {
+        return Err(("usage: see the head of main.rs".to_owned(), 2));
+    };
+    let pool = Pool::link(&read(set)?).map_err(|error| failure(error, "set "))?;
+    let number = pool.message_type(name).map_err(|error| match error {
+        Error::NoType => (format!("type {name} unknown"), 1),
+        _ => refused(error),
+    })?;
+    let bytes = read(file)?;
+    match *command {
+        "check" => pool.check(number, &bytes, FULL).map_err(refused).and_then(|()| print(b"ok\n")),
+        "show" => print(&pool.show(number, &bytes, FULL).map_err(refused)?),
+        "canon" => print(&hexadecimal(&pool.canon(number, &bytes, FULL).map_err(refused)?)),
+        _ => frames(&pool, number, &bytes),
+    }
+}
+
+fn main() -> ExitCode {
+    let words: Vec<String> = std::env::args().skip(1).collect();
+    let words: Vec<&str> = words.iter().map(String::as_str).collect();
+    match run(&words) {
+        Ok(()) => ExitCode::SUCCESS,
+        Err((line, status)) => {
+            eprintln!("{line}");
+            ExitCode::from(status)
+        }
+    }
+}

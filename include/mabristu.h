@@ -1,0 +1,153 @@
+/* Mabristu for C: Protocol Buffers bytes checked, rewritten and shown by proved code, by types that are known only at run time.
+ *
+ * What a caller owes, and nothing checks:
+ * - A pointer and the length behind it are those of one stretch of memory that may be read, and written where it is not const, for the whole
+ *   call. Where the length is 0 the pointer may be null. No other pointer may be null.
+ * - What one call may write overlaps nothing else that the call is given.
+ * - A handle is all zeros, or as a call left it; it is not copied while it holds something, and nothing but these calls writes it. One call at
+ *   a time uses a handle: for another thread share it (mb_pool_share).
+ * - malloc, realloc and free come from one allocator, which is ready (no call from a signal handler, nor in the child of a fork of a process
+ *   with threads).
+ * A call prints nothing, has no state but what its handles hold, and always returns: it never aborts. It needs stack, and says how much below.
+ * What a call does not answer by its number it does not write: out-parameters are as they were.
+ */
+#ifndef MABRISTU_H
+#define MABRISTU_H
+
+#include <stdbool.h>
+#include <stddef.h>
+#include <stdint.h>
+
+#ifdef __cplusplus
+extern "C" {
+#endif
+
+/* What this header says. A library that answers another number has other calls. */
+#define MB_INTERFACE 1
+uint32_t mb_interface(void);
+
+/* What a call answers. Numbers from 50 on are the causes why a set, a source or declarations are refused, as docs/ERRORS.md lists them. */
+enum {
+    MB_DONE = 0,        /* what was asked is done */
+    MB_BAD_LIMITS = 1,  /* a limit is above the greatest */
+    MB_NO_TYPE = 2,     /* the pool has no message type of that name or number */
+    MB_EMPTY = 3,       /* the handle holds nothing */
+    MB_BAD_NAME = 4,    /* the name of a source is not UTF-8, or there are not as many names as texts */
+    MB_PART = 5,        /* the bytes end before their frame does: come again with more */
+    MB_FAULT = 13,      /* the bytes have a fault, which is told */
+    MB_MEMORY = 14,     /* memory ran out: the same call may be made again */
+    MB_TOO_LARGE = 31   /* what would be written has more than MB_MAX_BYTES bytes */
+};
+
+/* Why bytes are refused. */
+enum {
+    MB_TRUNCATED = 1, MB_PAST_END = 2, MB_VARINT_TOO_LONG = 3, MB_TAG_TOO_LARGE = 4, MB_NUMBER_ZERO = 5, MB_BAD_TYPE = 6,
+    MB_STRAY_END = 7, MB_WRONG_END = 8, MB_LENGTH_TOO_LARGE = 9, MB_BAD_TEXT = 10, MB_TOO_DEEP = 11, MB_INPUT_TOO_LARGE = 12
+};
+
+#define MB_MAX_BYTES UINT32_C(0x7fffffff)
+#define MB_MAX_DEPTH UINT8_C(100)
+/* A path has at most this many steps, so a buffer of that many always holds it. */
+#define MB_MAX_STEPS 101
+
+/* A fault of bytes. */
+struct mb_fault {
+    uint64_t byte;   /* where */
+    size_t steps;    /* how many steps the path has, whether or not the buffer holds them */
+    uint32_t cause;  /* why */
+};
+
+/* A step of a path, outermost first: a record, by its number and by how many whole records of that number stand before it in what holds it. */
+struct mb_step {
+    uint32_t number;
+    uint32_t before;
+};
+
+/* ---- Without a schema ---- */
+
+/* Checks bytes as records. For MB_FAULT the fault is told, and as many steps of its path as the buffer holds. */
+uint32_t mb_raw_check(const uint8_t *bytes, size_t bytes_len, uint32_t max_bytes, uint8_t max_depth,
+                      struct mb_fault *fault, struct mb_step *path, size_t path_len);
+
+/* Writes the shortest spelling of the records that the bytes are. For MB_DONE its length is told, and as much of it is written as the buffer
+ * holds: where the length told is above out_len, call again with that much room. */
+uint32_t mb_raw_short(const uint8_t *bytes, size_t bytes_len, uint32_t max_bytes, uint8_t max_depth,
+                      uint8_t *out, size_t out_len, size_t *size,
+                      struct mb_fault *fault, struct mb_step *path, size_t path_len);
+
+/* ---- A pool of types ---- */
+
+/* A pool of types, or nothing: all zeros hold nothing. */
+struct mb_pool {
+    void *at;
+    bool full;
+};
+
+/* Where declarations are refused. What says nothing of this answer is 0. */
+struct mb_refusal {
+    size_t file;      /* the index of the file in the set, or of the source */
+    uint64_t byte;    /* of a source: where */
+    size_t file_len;  /* of linking: the length of the file's name, which begins what is told as text */
+    size_t name_len;  /* of linking: the length of the declaration's full name, which follows it there */
+};
+
+/* Links the types of a descriptor set, as `protoc --descriptor_set_out` or `pbtool compile` writes one, into a handle, in place of what it held.
+ * Where that is refused the handle holds nothing. For MB_FAULT (the bytes are no set) the fault is told, for 52 to 60 (a file of the set) and for
+ * 71 to 89 (linking) the refusal, with as much of its text as the buffer holds. */
+uint32_t mb_pool_link(const uint8_t *set, size_t set_len, struct mb_pool *pool,
+                      struct mb_fault *fault, struct mb_step *path, size_t path_len,
+                      struct mb_refusal *refusal, uint8_t *text, size_t text_len);
+
+/* A text of the caller's. */
+struct mb_bytes {
+    const uint8_t *at;
+    size_t len;
+};
+
+/* Links the types of sources of proto3, each given by its name (as imports name it) and its text. As mb_pool_link, but that for 50 and 61 to 69
+ * (a source) the refusal tells the source's index and the byte. */
+uint32_t mb_pool_compile(const struct mb_bytes *names, size_t names_len, const struct mb_bytes *texts, size_t texts_len, struct mb_pool *pool,
+                         struct mb_refusal *refusal, uint8_t *text, size_t text_len);
+
+/* Puts the pool that one handle holds into another one too, in place of what that held: both hold one pool, which is freed with the last of them.
+ * The other handle may go to another thread. */
+uint32_t mb_pool_share(struct mb_pool *pool, struct mb_pool *other);
+
+/* Frees what a handle holds. One that holds nothing stays as it is. */
+void mb_pool_free(struct mb_pool *pool);
+
+/* Tells the number of a message type by its full name, as in shop.Order. */
+uint32_t mb_pool_type(struct mb_pool *pool, const uint8_t *name, size_t name_len, uint32_t *type);
+
+/* ---- Messages of a type ---- */
+
+/* Checks the bytes as a message of the type. */
+uint32_t mb_check(struct mb_pool *pool, uint32_t type, const uint8_t *bytes, size_t bytes_len, uint32_t max_bytes, uint8_t max_depth,
+                  struct mb_fault *fault, struct mb_step *path, size_t path_len);
+
+/* Writes the canonical bytes of the message, as mb_raw_short writes its spelling. */
+uint32_t mb_canon(struct mb_pool *pool, uint32_t type, const uint8_t *bytes, size_t bytes_len, uint32_t max_bytes, uint8_t max_depth,
+                  uint8_t *out, size_t out_len, size_t *size,
+                  struct mb_fault *fault, struct mb_step *path, size_t path_len);
+
+/* Writes the listing of the message, as `pbtool show` prints it. */
+uint32_t mb_show(struct mb_pool *pool, uint32_t type, const uint8_t *bytes, size_t bytes_len, uint32_t max_bytes, uint8_t max_depth,
+                 uint8_t *out, size_t out_len, size_t *size,
+                 struct mb_fault *fault, struct mb_step *path, size_t path_len);
+
+/* A frame: a message behind its length. */
+struct mb_frame {
+    size_t begin;  /* where the message begins */
+    size_t end;    /* where it ends: so many bytes were taken */
+};
+
+/* Checks the frame that the bytes begin with, a message of the type behind its length. For MB_DONE it is told where the message stands. MB_PART:
+ * more bytes are needed. A fault's byte counts from the first byte of the length. */
+uint32_t mb_frames(struct mb_pool *pool, uint32_t type, const uint8_t *bytes, size_t bytes_len, uint32_t max_bytes, uint8_t max_depth,
+                   struct mb_frame *frame, struct mb_fault *fault, struct mb_step *path, size_t path_len);
+
+#ifdef __cplusplus
+}
+#endif
+
+#endif
