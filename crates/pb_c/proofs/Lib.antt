@@ -14,3 +14,15 @@ pub mod AsBox
 pub mod Filled
 -- full names of types as texts
 pub mod TypeNames
+-- what is told of declarations that make no pool
+pub mod LinkTelling
+-- the numbers of faults are none of the other answers
+pub mod AnswerNumbers
+-- the bytes of a set make one pool, or have one fault
+pub mod OneSetPool
+-- from one meaning or one fault to what is answered
+pub mod Exact
+-- sources that are parsed one after another
+pub mod SourceSteps
+-- sources make one pool, or have one fault
+pub mod OneSourcePool

@@ -1,5 +1,9 @@
 //! The calls over a pool and its handle.
 
+pub(crate) mod compile;
 pub(crate) mod free;
+pub(crate) mod link;
+mod linking;
+pub(crate) mod refusal;
 pub(crate) mod share;
 pub(crate) mod type_number;

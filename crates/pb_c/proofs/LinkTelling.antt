@@ -1,0 +1,48 @@
+-- What is told of declarations that make no pool.
+use Rattle.std.proofs.Common.{◌≡◌, ◌≢◌, ℕ, List, refl}
+use Rattle.std.specs.Prelude.{IfSome, string_bytes}
+use Rattle.pb_wire.specs.Limits.{full}
+use Rattle.pb_wire.specs.Fault.{fault}
+use Rattle.pb_decl.specs.Decls.{DeclaredFile}
+use Rattle.pb_descr.specs.Sets.{IsUnread}
+use Rattle.pb_descr.specs.declared.error.DescrError.{DescrError}
+use Rattle.pb_descr.specs.declared.error.DescrError.TheVariants as descr
+use Rattle.pb_rules.specs.Faults.{LinkFault, IsUnlinked}
+use Rattle.pb_rules.specs.declared.cause.LinkCause.{LinkCause}
+use Rattle.pb_rules.specs.declared.error.LinkError.{LinkError}
+use Rattle.pb_rules.specs.declared.error.LinkError.TheVariants as link
+use Rattle.pb_tokens.specs.declared.fault.SourceCause.{SourceCause}
+use Rattle.pb_c.specs.declared.pool.compile.Unparsed.{Unparsed}
+use Rattle.pb_c.specs.declared.pool.compile.Unparsed.TheVariants.{Source, Memory}
+use Rattle.pb_c.specs.PoolFault.{PoolFault, link_fault, set_fault}
+use Rattle.pb_c.specs.SetPool.{SetFails}
+use Rattle.pb_c.specs.SourcePool.{Bytes, IsUnparsed, SourceFails, SourcesFail}
+
+-- of files that do not link the fault is told, where memory is there
+pub unlinked : (files : List DeclaredFile) (e : LinkError) (Told : PoolFault → Type 0) (answer : ℕ)
+    → IsUnlinked files e → IfSome (link_fault e) Told → (e ≡ link.Memory → answer ≡ 14) → answer ≢ 14
+    → (file name : List ℕ) × (c : LinkCause) × LinkFault files file name c × Told (PoolFault.in_link file name c)
+unlinked files (link.Fault file name c) Told answer is told memory other = (string_bytes file, string_bytes name, c, is, told)
+unlinked files link.Memory Told answer is told memory other = absurd (other (memory refl))
+
+-- of bytes that are no set the fault is told, where memory is there
+pub unread : (set : List ℕ) (e : DescrError) (Told : PoolFault → Type 0) (answer : ℕ)
+    → IsUnread full set e → IfSome (set_fault e) Told → (e ≡ descr.Memory → answer ≡ 14) → answer ≢ 14
+    → (w : PoolFault) × SetFails set w × Told w
+unread set (descr.Fault byte path c) Told answer is told memory other = (PoolFault.in_bytes (fault byte path.items c), is, told)
+unread set (descr.Decl i c) Told answer is told memory other = (PoolFault.in_file i c, is, told)
+unread set descr.Memory Told answer is told memory other = absurd (other (memory refl))
+
+-- two facts of what is told of a set, as one
+pub told_together : (e : DescrError) (First Second Both : PoolFault → Type 0) → ((w : PoolFault) → First w → Second w → Both w)
+    → IfSome (set_fault e) First → IfSome (set_fault e) Second → IfSome (set_fault e) Both
+told_together (descr.Fault byte path c) First Second Both to first second = to (PoolFault.in_bytes (fault byte path.items c)) first second
+told_together (descr.Decl i c) First Second Both to first second = to (PoolFault.in_file i c) first second
+told_together descr.Memory First Second Both to first second = tt
+
+-- of sources that are not parsed the fault is told, where memory is there
+pub unparsed : (names texts : List Bytes) (e : Unparsed) (First : ℕ → ℕ → SourceCause → Type 0) (Told : PoolFault → Type 0) (answer : ℕ)
+    → IsUnparsed (SourceFails names texts) e → IsUnparsed First e → ((i byte : ℕ) (c : SourceCause) → First i byte c → Told (PoolFault.in_source i byte c))
+    → (e ≡ Memory → answer ≡ 14) → answer ≢ 14 → (w : PoolFault) × SourcesFail names texts w × Told w
+unparsed names texts (Source i byte c) First Told answer is told to memory other = (PoolFault.in_source i byte c, is, to i byte c told)
+unparsed names texts Memory First Told answer is told to memory other = absurd (other (memory refl))

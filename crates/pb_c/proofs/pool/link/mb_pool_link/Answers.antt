@@ -1,0 +1,26 @@
+-- A set makes one pool or has one fault, so what was answered is all that may be.
+use Rattle.std.proofs.Common.{All, rules}
+use Rattle.std.proofs.lemmas.List.Elements.{All-from_get_or}
+use Rattle.pb_wire.specs.Ranges.{IsByte}
+use Rattle.pb_c.specs.Held.{types_held}
+use Rattle.pb_c.specs.PoolFault.{TellsFault}
+use Rattle.pb_c.specs.SetPool.{SetFails, SetMakes}
+use Rattle.pb_c.proofs.Exact.{accepted, told}
+use Rattle.pb_c.proofs.OneSetPool.{never_both, one_fault, one_types}
+use Rattle.pb_c.proofs.pool.link.mb_pool_link.Goals as goal
+
+pub returns-clause-accepted : goal.returns-clause-accepted
+returns-clause-accepted c =
+    let set = c.args.set.now in
+    let bytes : All IsByte set = All-from_get_or IsByte set 0 (λ i h. let fits = c.type_inv.set i in search (rules, fits)) in
+    accepted (SetMakes set) (SetFails set) (never_both set bytes) c.link_set.result (types_held c.link_set.new.pool)
+    (λ w. TellsFault w c.link_set.result c.args.fault.now c.link_set.new.fault c.args.path.now c.link_set.new.path c.args.refusal.now c.link_set.new.refusal c.args.text.now c.link_set.new.text)
+    c.link_set.ensures.made c.link_set.ensures.refused (one_types set bytes)
+
+pub returns-clause-told : goal.returns-clause-told
+returns-clause-told c =
+    let set = c.args.set.now in
+    let bytes : All IsByte set = All-from_get_or IsByte set 0 (λ i h. let fits = c.type_inv.set i in search (rules, fits)) in
+    told (SetMakes set) (SetFails set) (never_both set bytes) c.link_set.result (types_held c.link_set.new.pool)
+    (λ w. TellsFault w c.link_set.result c.args.fault.now c.link_set.new.fault c.args.path.now c.link_set.new.path c.args.refusal.now c.link_set.new.refusal c.args.text.now c.link_set.new.text)
+    c.link_set.ensures.made c.link_set.ensures.refused (one_fault set bytes)

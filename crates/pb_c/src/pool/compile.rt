@@ -1,0 +1,164 @@
+//! A pool of sources.
+
+ghost use Rattle.std.specs.Prelude.{◌≡◌, ◌≢◌, ◌↔◌, ◌⊎◌, ℕ, List, IsUtf8, IfOk, IfErr, map};
+ghost use Rattle.std.specs.Bool.{Decides};
+ghost use Rattle.pb_decl.specs.View.{file_view};
+ghost use Rattle.pb_schema.specs.Types.{Types};
+ghost use Rattle.pb_source.specs.Source.{HasFault, IsSource};
+ghost use Rattle.pb_c.specs.Held.{types_held};
+ghost use Rattle.pb_c.specs.PoolFault.{PoolFault, TellsRefusal};
+ghost use Rattle.pb_c.specs.SourcePool.{AreNames, AreNamed, AreSources, IsUnparsed, SourceFails, SourcesFail, SourcesMake};
+
+use super::linking::link_files;
+use super::refusal::Refusal;
+use crate::handle::{PoolHandle, take};
+use crate::told::{BAD_NAME, DONE, MEMORY};
+use pb_decl::FileDecl;
+use pb_source::{SourceCause, SourceFault, parse};
+use std::alloc::{AllocFailed, Global};
+
+/// Why sources are not parsed: the first that is none, by its index, where, and why.
+#[derive(Debug, Drop)]
+pub(crate) enum Unparsed {
+    Source {
+        index: usize,
+        byte: u64,
+        cause: SourceCause,
+    },
+    Memory,
+}
+
+impl<T: Drop> From<AllocFailed<T>> for Unparsed {
+    ghost use Rattle.pb_c.specs.declared.pool.compile.Unparsed.TheVariants.{Memory};
+
+    ghost from_gives = { λ _ e. e ≡ Memory };
+
+    fn from(_: AllocFailed<T>) -> Unparsed {
+        Unparsed::Memory
+    }
+}
+
+/// Whether each name is UTF-8.
+fn are_names(names: &[&[u8]]) -> bool
+    ensures { Decides result (AreNames names.now) }
+{
+    for name in names {
+        if std::str::from_utf8(name).is_err() {
+            return false;
+        }
+    }
+    true
+}
+
+/// What the source of an index declares, as the file of its name.
+fn parse_at(alloc: Global, index: usize, name: &[u8], text: &[u8]) -> Result<FileDecl, Unparsed>
+    requires { IsUtf8 name.now }
+    ensures declared { IfOk result (λ f. IsSource name.now text.now (file_view f)) }
+    ensures refused { IfErr result (IsUnparsed (λ i byte c. (i ≡ index) × HasFault text.now byte c)) }
+{
+    let Ok(name) = std::str::from_utf8(name) else {
+        unreachable!()
+    };
+    match parse(alloc, name, text) {
+        Ok(file) => Ok(file),
+        Err(SourceFault {
+            byte: _,
+            cause: SourceCause::Memory,
+        }) => Err(Unparsed::Memory),
+        Err(SourceFault { byte, cause }) => Err(Unparsed::Source { index, byte, cause }),
+    }
+}
+
+/// What sources declare, as the files of their names.
+fn parse_all(
+    alloc: Global,
+    names: &[&[u8]],
+    texts: &[&[u8]],
+) -> Result<Vec<FileDecl>, Unparsed>
+    requires { AreNamed names.now texts.now }
+    ensures declared { IfOk result (λ v. AreSources names.now texts.now (map file_view v.items)) }
+    ensures refused { IfErr result (IsUnparsed (SourceFails names.now texts.now)) }
+{
+    let mut files = Vec::new(alloc);
+    for i in 0..names.len() {
+        let file = parse_at(alloc, i, names[i], texts[i])?;
+        files.push(file)?;
+    }
+    Ok(files)
+}
+
+/// Tells why sources are not parsed, and answers by its number.
+fn tell_source(error: &Unparsed, refusal: &mut Refusal) -> u32
+    ensures told { IsUnparsed (λ i byte c. (text : List ℕ) → TellsRefusal (PoolFault.in_source i byte c) result refusal.old refusal.new text text) error.now }
+    ensures memory { error.now ≡ Unparsed.Memory → (result ≡ MEMORY) × (refusal.new ≡ refusal.old) }
+{
+    match error {
+        Unparsed::Source { index, byte, cause } => {
+            *refusal = Refusal {
+                file: *index,
+                byte: *byte,
+                file_len: 0,
+                name_len: 0,
+            };
+            u32::from(cause.number())
+        }
+        Unparsed::Memory => MEMORY,
+    }
+}
+
+/// As `mb_pool_compile`, said of what was answered.
+fn compile_sources(
+    alloc: Global,
+    names: &[&[u8]],
+    texts: &[&[u8]],
+    pool: &mut PoolHandle,
+    refusal: &mut Refusal,
+    text: &mut [u8],
+) -> u32
+    ensures made { result ≡ DONE → (ts : Types) × SourcesMake names.now texts.now ts × (types_held pool.new ≡ Some ts) }
+    ensures left { result ≢ DONE → types_held pool.new ≡ None }
+    ensures bad_name { result ≡ BAD_NAME ↔ ¬ AreNamed names.now texts.now }
+    ensures refused { AreNamed names.now texts.now → result ≢ DONE → result ≢ MEMORY → (w : PoolFault) × SourcesFail names.now texts.now w
+        × TellsRefusal w result refusal.old refusal.new text.old text.new }
+    ensures untold { (result ≡ DONE) ⊎ (result ≡ BAD_NAME) ⊎ (result ≡ MEMORY) → (refusal.new ≡ refusal.old) × (text.new ≡ text.old) }
+{
+    let _ = take(alloc, pool);
+    if names.len() != texts.len() || !are_names(names) {
+        return BAD_NAME;
+    }
+    match parse_all(alloc, names, texts) {
+        Ok(files) => link_files(alloc, &files, pool, refusal, text),
+        Err(error) => tell_source(&error, refusal),
+    }
+}
+
+/// Links the types of sources of proto3 into a handle, in place of what it held: a name for each source, as imports name it, and its text.
+///
+/// Answers DONE; BAD_NAME where there are not as many names as texts, or a name is not UTF-8; the number of a cause, 50 or from 61 to 69,
+/// with the source's index and the byte in the refusal, for the first source that is none; the number of a cause, from 71 to 89, with the
+/// lengths of the file's name and of the declaration's full name in the refusal and both as text, as much as the buffer holds, where the
+/// files do not link; or MEMORY. At any answer but DONE the handle holds nothing. What is not told is not written.
+#[unsafe(no_mangle)]
+pub extern "C" fn mb_pool_compile(
+    alloc: Global,
+    names: &[&[u8]],
+    texts: &[&[u8]],
+    pool: &mut PoolHandle,
+    refusal: &mut Refusal,
+    text: &mut [u8],
+) -> u32
+    ensures made { result ≡ DONE → (ts : Types) × SourcesMake names.now texts.now ts × (types_held pool.new ≡ Some ts) }
+    ensures left { result ≢ DONE → types_held pool.new ≡ None }
+    ensures bad_name { result ≡ BAD_NAME ↔ ¬ AreNamed names.now texts.now }
+    ensures refused { AreNamed names.now texts.now → result ≢ DONE → result ≢ MEMORY → (w : PoolFault) × SourcesFail names.now texts.now w
+        × TellsRefusal w result refusal.old refusal.new text.old text.new }
+    ensures untold { (result ≡ DONE) ⊎ (result ≡ BAD_NAME) ⊎ (result ≡ MEMORY) → (refusal.new ≡ refusal.old) × (text.new ≡ text.old) }
+
+    // What makes a pool is linked, and the fault of what makes none is told, unless memory runs out.
+    ensures accepted { AreNamed names.now texts.now → (ts : Types) → SourcesMake names.now texts.now ts
+        → ((result ≡ DONE) × (types_held pool.new ≡ Some ts)) ⊎ (result ≡ MEMORY) }
+    ensures told { AreNamed names.now texts.now → (w : PoolFault) → SourcesFail names.now texts.now w
+        → TellsRefusal w result refusal.old refusal.new text.old text.new ⊎ (result ≡ MEMORY) }
+{
+    compile_sources(alloc, names, texts, pool, refusal, text)
+}
