@@ -1,5 +1,5 @@
 -- What is answered is exact, where there is one meaning or one fault, or memory ran out.
-use Rattle.std.proofs.Common.{◌≡◌, ◌≢◌, ◌⊎◌, inl, inr, ⊎_elim, ℕ, sym, ap, subst, Option, Some, ◌∙◌}
+use Rattle.std.proofs.Common.{◌≡◌, ◌≢◌, ◌⊎◌, inl, inr, ⊎_elim, ℕ, ap, subst, Option, Some, ◌∙◌}
 use Rattle.std.proofs.lemmas.Bool.{cases_eq}
 use Rattle.pb_schema.specs.Types.{Types}
 use Rattle.pb_c.specs.PoolFault.{PoolFault}

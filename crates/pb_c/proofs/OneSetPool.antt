@@ -1,5 +1,5 @@
 -- The bytes of a set make one pool, or have one fault.
-use Rattle.std.proofs.Common.{◌≡◌, ◌≢◌, ◌⊎◌, inl, inr, ⊎_elim, ℕ, List, All, sym, ap, subst, Option, Some, ◌∙◌}
+use Rattle.std.proofs.Common.{◌≡◌, ℕ, List, All, ap, subst}
 use Rattle.pb_wire.specs.Limits.{full}
 use Rattle.pb_wire.specs.Ranges.{IsByte}
 use Rattle.pb_schema.specs.Types.{Types}
@@ -9,8 +9,7 @@ use Rattle.pb_descr.specs.Sets.{IsSetOf, SetFault, HasSetFault}
 use Rattle.pb_descr.proofs.OneSet.{one_set}
 use Rattle.pb_link.specs.Linking.{Links}
 use Rattle.pb_link.proofs.OnePool.{one_pool}
-use Rattle.pb_rules.specs.Faults.{LinkFault, ToldFault, HasLinkFault}
-use Rattle.pb_rules.specs.declared.cause.LinkCause.{LinkCause}
+use Rattle.pb_rules.specs.Faults.{LinkFault, ToldFault}
 use Rattle.pb_c.specs.PoolFault.{PoolFault}
 use Rattle.pb_c.specs.SetPool.{SetFails, SetMakes}
 

@@ -1,5 +1,5 @@
 -- Sources make one pool, or have one fault.
-use Rattle.std.proofs.Common.{◌≡◌, ℕ, zero, suc, List, [], ◌∷◌, refl, sym, ap, subst, ◌∙◌}
+use Rattle.std.proofs.Common.{◌≡◌, ℕ, zero, suc, List, [], ◌∷◌, refl, ap, subst, ◌∙◌}
 use Rattle.pb_schema.specs.Types.{Types}
 use Rattle.pb_decl.specs.Decls.{DeclaredFile}
 use Rattle.pb_tokens.specs.Fault.{fault}
@@ -10,7 +10,6 @@ use Rattle.pb_source.proofs.OneSource.{one_file}
 use Rattle.pb_link.specs.Linking.{Links}
 use Rattle.pb_link.proofs.OnePool.{one_pool}
 use Rattle.pb_rules.specs.Faults.{LinkFault}
-use Rattle.pb_rules.specs.declared.cause.LinkCause.{LinkCause}
 use Rattle.pb_c.specs.PoolFault.{PoolFault}
 use Rattle.pb_c.specs.SourcePool.{Bytes, AreSources, SourceFails, SourcesFail, SourcesMake}
 use Rattle.pb_c.proofs.OneSetPool.{of_files}

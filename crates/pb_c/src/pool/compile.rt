@@ -61,20 +61,18 @@ fn parse_at(alloc: Global, index: usize, name: &[u8], text: &[u8]) -> Result<Fil
     };
     match parse(alloc, name, text) {
         Ok(file) => Ok(file),
-        Err(SourceFault {
-            byte: _,
-            cause: SourceCause::Memory,
-        }) => Err(Unparsed::Memory),
+        Err(
+            SourceFault {
+                byte: _,
+                cause: SourceCause::Memory,
+            },
+        ) => Err(Unparsed::Memory),
         Err(SourceFault { byte, cause }) => Err(Unparsed::Source { index, byte, cause }),
     }
 }
 
 /// What sources declare, as the files of their names.
-fn parse_all(
-    alloc: Global,
-    names: &[&[u8]],
-    texts: &[&[u8]],
-) -> Result<Vec<FileDecl>, Unparsed>
+fn parse_all(alloc: Global, names: &[&[u8]], texts: &[&[u8]]) -> Result<Vec<FileDecl>, Unparsed>
     requires { AreNamed names.now texts.now }
     ensures declared { IfOk result (λ v. AreSources names.now texts.now (map file_view v.items)) }
     ensures refused { IfErr result (IsUnparsed (SourceFails names.now texts.now)) }

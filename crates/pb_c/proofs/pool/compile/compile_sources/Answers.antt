@@ -2,7 +2,6 @@
 use Rattle.std.proofs.Common.{rules, ◌≡◌, ⊎_elim, List, [], ℕ, refl, length}
 use Rattle.pb_c.specs.PoolFault.{PoolFault, TellsRefusal}
 use Rattle.pb_c.specs.SourcePool.{AreNamed}
-use Rattle.pb_tokens.specs.declared.fault.SourceCause.{SourceCause}
 use Rattle.pb_c.proofs.AnswerNumbers.{source_kept}
 use Rattle.pb_c.proofs.LinkTelling.{unparsed}
 use Rattle.pb_c.proofs.pool.compile.compile_sources.Goals as goal
@@ -11,16 +10,16 @@ pub returns-in-Err-clause-made : goal.returns-in-Err-clause-made
 returns-in-Err-clause-made c done =
     let a = c.args in let t = c.tell_source in
     let kept = source_kept t.result (t.new.refusal ≡ a.refusal.now) c.in-Err.error
-            (λ i byte c. (text : List ℕ) → TellsRefusal (PoolFault.in_source i byte c) t.result a.refusal.now t.new.refusal text text) (λ i byte c told. (told []).answer_is)
-            t.ensures.told (λ is. t.ensures.memory is) in
+    (λ i byte c. (text : List ℕ) → TellsRefusal (PoolFault.in_source i byte c) t.result a.refusal.now t.new.refusal text text) (λ i byte c told. (told []).answer_is)
+    t.ensures.told (λ is. t.ensures.memory is) in
     absurd (kept.0 done)
 
 pub returns-in-Err-clause-bad_name : goal.returns-in-Err-clause-bad_name
 returns-in-Err-clause-bad_name c =
     let a = c.args in let t = c.tell_source in
     let kept = source_kept t.result (t.new.refusal ≡ a.refusal.now) c.in-Err.error
-            (λ i byte c. (text : List ℕ) → TellsRefusal (PoolFault.in_source i byte c) t.result a.refusal.now t.new.refusal text text) (λ i byte c told. (told []).answer_is)
-            t.ensures.told (λ is. t.ensures.memory is) in
+    (λ i byte c. (text : List ℕ) → TellsRefusal (PoolFault.in_source i byte c) t.result a.refusal.now t.new.refusal text text) (λ i byte c told. (told []).answer_is)
+    t.ensures.told (λ is. t.ensures.memory is) in
     let sizes : length a.names.now ≡ length a.texts.now = search (rules, c.if-names-texts.false) in
     let named : AreNamed a.names.now a.texts.now = (sizes, c.are_names.ensures.0 (search (rules, c.if-not-are_names.false))) in
     (λ bad. absurd (kept.1 bad), λ not. absurd (not named))
@@ -37,6 +36,6 @@ pub returns-in-Err-clause-untold : goal.returns-in-Err-clause-untold
 returns-in-Err-clause-untold c =
     let a = c.args in let t = c.tell_source in
     let kept = source_kept t.result (t.new.refusal ≡ a.refusal.now) c.in-Err.error
-            (λ i byte c. (text : List ℕ) → TellsRefusal (PoolFault.in_source i byte c) t.result a.refusal.now t.new.refusal text text) (λ i byte c told. (told []).answer_is)
-            t.ensures.told (λ is. t.ensures.memory is) in
+    (λ i byte c. (text : List ℕ) → TellsRefusal (PoolFault.in_source i byte c) t.result a.refusal.now t.new.refusal text text) (λ i byte c told. (told []).answer_is)
+    t.ensures.told (λ is. t.ensures.memory is) in
     ⊎_elim (λ done. absurd (kept.0 done)) (⊎_elim (λ bad. absurd (kept.1 bad)) (λ memory. (kept.2 memory, refl)))

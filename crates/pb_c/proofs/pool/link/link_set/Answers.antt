@@ -8,8 +8,8 @@ use Rattle.pb_c.proofs.pool.link.link_set.Goals as goal
 pub returns-in-Err-clause-made : goal.returns-in-Err-clause-made
 returns-in-Err-clause-made c done =
     let kept = set_kept c.tell_set.result (c.tell_set.new.fault ≡ c.args.fault.now) c.in-Err.error
-            (λ w. (text : List ℕ) → TellsRefusal w c.tell_set.result c.args.refusal.now c.tell_set.new.refusal text text) (λ w told. (told c.args.text.now).answer_is)
-            c.tell_set.ensures.refusal (λ is. ((c.tell_set.ensures.memory is).0, (c.tell_set.ensures.memory is).1)) in
+    (λ w. (text : List ℕ) → TellsRefusal w c.tell_set.result c.args.refusal.now c.tell_set.new.refusal text text) (λ w told. (told c.args.text.now).answer_is)
+    c.tell_set.ensures.refusal (λ is. ((c.tell_set.ensures.memory is).0, (c.tell_set.ensures.memory is).1)) in
     absurd (kept.0 done)
 
 pub returns-in-Err-clause-refused : goal.returns-in-Err-clause-refused
@@ -25,6 +25,6 @@ pub returns-in-Err-clause-untold : goal.returns-in-Err-clause-untold
 returns-in-Err-clause-untold c =
     let Same : Type 0 = (c.tell_set.new.fault ≡ c.args.fault.now) × (c.tell_set.new.path ≡ c.args.path.now) × (c.tell_set.new.refusal ≡ c.args.refusal.now) × (c.args.text.now ≡ c.args.text.now) in
     let kept = set_kept c.tell_set.result Same c.in-Err.error
-            (λ w. (text : List ℕ) → TellsRefusal w c.tell_set.result c.args.refusal.now c.tell_set.new.refusal text text) (λ w told. (told c.args.text.now).answer_is)
-            c.tell_set.ensures.refusal (λ is. let m = c.tell_set.ensures.memory is in (m.0, (m.1, m.2, m.3, refl))) in
+    (λ w. (text : List ℕ) → TellsRefusal w c.tell_set.result c.args.refusal.now c.tell_set.new.refusal text text) (λ w told. (told c.args.text.now).answer_is)
+    c.tell_set.ensures.refusal (λ is. let m = c.tell_set.ensures.memory is in (m.0, (m.1, m.2, m.3, refl))) in
     ⊎_elim (λ done. absurd (kept.0 done)) (λ memory. kept.1 memory)
