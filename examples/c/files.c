@@ -6,8 +6,7 @@
 void grow(struct buffer *buffer, size_t room)
 {
     buffer->room = room;
-    buffer->bytes = realloc(buffer->bytes, room);
-    if (buffer->bytes == NULL) {
+    if ((buffer->bytes = realloc(buffer->bytes, room)) == NULL) {
         fprintf(stderr, "memory\n");
         exit(3);
     }
@@ -49,7 +48,6 @@ struct buffer read_file(const char *name)
 {
     FILE *file = open_file(name);
     struct buffer buffer = {0};
-
     while (read_more(file, &buffer))
         ;
     close_file(file, name);
