@@ -3,6 +3,7 @@
 pub(crate) mod fault;
 pub(crate) mod origin;
 pub(crate) mod quick;
+pub(crate) mod quick_entry;
 pub(crate) mod quick_record;
 pub(crate) mod state;
 pub(crate) mod take_next;
