@@ -16,6 +16,7 @@ use crate::open::known_purpose::{KnownPurpose, purpose_by};
 use crate::open::pass_length::pass_length;
 use crate::open::purpose::{Purpose, purpose_of};
 use crate::reader::quick_entry::take_entry;
+use crate::reader::quick_message::take_message_record;
 use crate::reader::state::{Reader, left, number_at};
 use crate::reader::take_tag::{enter_group, innermost, leave_group};
 use crate::tokens::front::front_number;
@@ -176,14 +177,15 @@ fn take_opening(
     Ok(Some(start))
 }
 
-/// Takes an entry of numbers and bytes that stands whole behind its tag, or opens what the record opens, and how many bytes that
+/// Takes the message or the entry of a record that stands whole behind its tag and holds no group, and how many bytes the record
 /// takes.
-fn take_entry_or_open(
+fn take_inner(
     alloc: Global,
     pool: &Pool,
     reader: &mut Reader,
     tag: RecordTag,
     purpose: Purpose,
+    tried: &mut u32,
     bytes: &[u8],
 ) -> Result<Option<usize>, NoMemory>
     requires rules { IsPool pool.now }
@@ -197,8 +199,46 @@ fn take_entry_or_open(
     ensures none { IfOk result (λ o. IfNone o (reader.new ≡ reader.old)) }
     ensures taken { TakesWhole pool.now reader.old reader.new bytes.now result }
 {
-    if let Purpose::Entry(key_kind, value_kind) = purpose {
-        if let Some(size) = take_entry(alloc, pool, reader, tag, key_kind, value_kind, bytes)? {
+    match purpose {
+        Purpose::Message(kind, slot) => {
+            take_message_record(alloc, pool, reader, tag, kind, slot, tried, bytes)
+        }
+        Purpose::Entry(key_kind, value_kind) => take_entry(
+            alloc, pool, reader, tag, key_kind, value_kind, tried, bytes,
+        ),
+        Purpose::One(_, _)
+        | Purpose::Element(_)
+        | Purpose::Packed(_)
+        | Purpose::Key(_)
+        | Purpose::EntryValue(_)
+        | Purpose::Unknown => Ok(None),
+    }
+}
+
+/// Takes the message or the entry of a record at once, or opens what the record opens, and how many bytes that takes. What stands
+/// before the place that is tried is opened, so that no byte is tried twice.
+fn take_inner_or_open(
+    alloc: Global,
+    pool: &Pool,
+    reader: &mut Reader,
+    tag: RecordTag,
+    purpose: Purpose,
+    tried: &mut u32,
+    bytes: &[u8],
+) -> Result<Option<usize>, NoMemory>
+    requires rules { IsPool pool.now }
+    requires reading { IsReading pool.now (state_view reader.old) bytes.now }
+    requires step { reader.old.step ≡ Tag }
+    requires bytes { tag.wire_type ≡ 2 }
+    requires within { tag.size ≤ length bytes.now }
+    requires tag { HasTagHere (state_view reader.old) bytes.now tag.number tag.wire_type tag.size }
+    requires means { Means pool.now (part_context (part_view reader.old.part)) tag.number 2 purpose }
+    ensures passes { IfOk result (λ o. IfSome o (λ n. (tag.size ≤ n) × (n ≤ length bytes.now) × (reader.new.at ≡ reader.old.at + n))) }
+    ensures none { IfOk result (λ o. IfNone o (reader.new ≡ reader.old)) }
+    ensures taken { TakesWhole pool.now reader.old reader.new bytes.now result }
+{
+    if *tried <= reader.at {
+        if let Some(size) = take_inner(alloc, pool, reader, tag, purpose, tried, bytes)? {
             return Ok(Some(size));
         }
     }
@@ -213,6 +253,7 @@ fn take_length_record(
     reader: &mut Reader,
     tag: RecordTag,
     known: &mut Option<KnownPurpose>,
+    tried: &mut u32,
     bytes: &[u8],
 ) -> Result<Option<usize>, NoMemory>
     requires rules { IsPool pool.now }
@@ -231,7 +272,7 @@ fn take_length_record(
     if is_for_bytes(purpose) {
         take_bytes_record(alloc, pool, reader, tag, purpose, bytes)
     } else {
-        take_entry_or_open(alloc, pool, reader, tag, purpose, bytes)
+        take_inner_or_open(alloc, pool, reader, tag, purpose, tried, bytes)
     }
 }
 
@@ -295,6 +336,7 @@ pub(crate) fn take_record(
     pool: &Pool,
     reader: &mut Reader,
     known: &mut Option<KnownPurpose>,
+    tried: &mut u32,
     bytes: &[u8],
 ) -> Result<Option<usize>, NoMemory>
     requires rules { IsPool pool.now }
@@ -310,7 +352,7 @@ pub(crate) fn take_record(
         return Ok(None);
     };
     if tag.wire_type == 2 {
-        take_length_record(alloc, pool, reader, tag, known, bytes)
+        take_length_record(alloc, pool, reader, tag, known, tried, bytes)
     } else if tag.wire_type == 0 || tag.wire_type == 1 || tag.wire_type == 5 {
         take_number_record(alloc, pool, reader, tag, known, bytes)
     } else if tag.wire_type == 3 {
