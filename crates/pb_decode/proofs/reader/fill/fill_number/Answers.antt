@@ -8,8 +8,8 @@ use Rattle.pb_decode.specs.Open.Frames.{one_more_in}
 use Rattle.pb_decode.specs.Tokens.After.{tag}
 use Rattle.pb_decode.proofs.ReaderLemmas.{slice_from}
 use Rattle.pb_decode.proofs.QuickLemmas.{there_behind, number_next}
-use Rattle.pb_decode.proofs.EntryLemmas.{open_can}
-use Rattle.pb_decode.proofs.reader.quick_entry.fill_number.Goals as goal
+use Rattle.pb_decode.proofs.FillLemmas.{open_can}
+use Rattle.pb_decode.proofs.reader.fill.fill_number.Goals as goal
 
 pub purpose_of-purpose-requires : goal.purpose_of-purpose-requires
 purpose_of-purpose-requires c = open_can c.requires.rules c.requires.open
@@ -28,6 +28,7 @@ returns-in_ok-put_number-in-Whole-clause-filled c =
       one_more_in c.args.tag.number there.0,
       c.in_ok-put_number-in-Whole.ensures m depth levels base p0 (passed p c.args.tag.size) (passed p (c.args.tag.size + c.in-Whole.size)) frames there.0 next.0 next.2
           (next.1 ∙ ap (λ (z : ℕ). Some (tag c.args.tag.number z c.purpose_of-purpose.result)) (sym told.0)) follows,
+      there.2,
     )
 
 pub returns-in_ok-put_number-in-Whole-clause-passes : goal.returns-in_ok-put_number-in-Whole-clause-passes

@@ -5,11 +5,8 @@ use Rattle.pb_wire.specs.Fault.{HasTag}
 use Rattle.pb_wire.specs.Token.{given_at, passed}
 use Rattle.pb_decode.specs.Open.Frames.{one_more_in}
 use Rattle.pb_decode.proofs.QuickLemmas.{bytes_next, payload_leads}
-use Rattle.pb_decode.proofs.EntryLemmas.{open_can}
-use Rattle.pb_decode.proofs.reader.quick_entry.fill_bytes.Goals as goal
-
-pub purpose_of-purpose-requires : goal.purpose_of-purpose-requires
-purpose_of-purpose-requires c = open_can c.requires.rules c.requires.open
+use Rattle.pb_decode.proofs.FillLemmas.{open_can}
+use Rattle.pb_decode.proofs.reader.fill.fill_bytes.Goals as goal
 
 pub put_payload-requires-clause-can : goal.put_payload-requires-clause-can
 put_payload-requires-clause-can c = open_can c.requires.rules c.requires.open
@@ -23,11 +20,12 @@ returns-in-Ok-clause-filled c =
     let begins = c.in-Some.ensures.within.1 in
     let enough = c.if-bytes-start.false in
     let within : c.in-Some.start + c.in-Some.size ≤ length c.args.bytes.now = omega (arith, begins, enough) in
-    let next = bytes_next c.args.tag.number c.in-Some.size c.purpose_of-purpose.result there.1 has c.purpose_of-purpose.ensures (c.if-not-is_for_bytes.ensures refl) l in
+    let next = bytes_next c.args.tag.number c.in-Some.size c.args.purpose there.1 has c.requires.means c.requires.purpose l in
     let size : length (take ((c.in-Some.start + c.in-Some.size) - c.in-Some.start) (drop c.in-Some.start c.args.bytes.now)) ≡ c.in-Some.size =
     (let left = length-drop c.in-Some.start c.args.bytes.now in
     let fits = length-take-le ((c.in-Some.start + c.in-Some.size) - c.in-Some.start) (drop c.in-Some.start c.args.bytes.now) (omega (arith, left, within)) in omega (arith, fits)) in (
       one_more_in c.args.tag.number there.0,
       c.in-Ok.ensures.stands m depth levels c.in-Some.size base p0 (passed p c.in-Some.start) (passed p (c.in-Some.start + c.in-Some.size)) frames there.0 next size
           (payload_leads p c.in-Some.start c.in-Some.size (passed p c.args.tag.size) within l),
+      there.2,
     )
