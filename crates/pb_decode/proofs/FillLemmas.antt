@@ -53,8 +53,8 @@ drop_absent n (field k h fs) is = by_place (nat_cmp n k) is (drop_absent n fs)
     by_place Greater none later = ap (field k h) (later none)
 
 pub not_yes : (b : Bool) → not b ≡ true → b ≡ false
-not_yes true yes = absurd (cc)
-not_yes false yes = refl
+not_yes true h = absurd (cc)
+not_yes false h = refl
 
 pub without_absent : (n : ℕ) (v : Message) → get_field n (fields_of v) ≡ None → with_fields v (drop_field n (fields_of v)) ≡ v
 without_absent n v is = ap (with_fields v) (drop_absent n (fields_of v) is) ∙ same_message v

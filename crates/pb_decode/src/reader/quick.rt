@@ -98,8 +98,15 @@ pub(crate) fn quick(
     let mut tried = 0;
     loop {
         take_ended(alloc, pool, reader)?;
-        let behind = &bytes[here..];
-        let Some(size) = take_whole(alloc, pool, reader, &mut known, &mut tried, behind)? else {
+        let Some(size) = take_whole(
+            alloc,
+            pool,
+            reader,
+            &mut known,
+            &mut tried,
+            &bytes[here..],
+        )?
+        else {
             return Ok(here);
         };
         here += size;
