@@ -75,6 +75,8 @@ pub mod DecodeLemmas
 pub mod LengthTaken
 -- for whole records that are taken at once
 pub mod QuickLemmas
+-- for map entries that are taken at once
+pub mod FillLemmas
 -- for a payload of bytes
 pub mod PayloadTaken
 -- for parts that end where the reader stands

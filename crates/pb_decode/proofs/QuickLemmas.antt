@@ -16,7 +16,7 @@ use Rattle.pb_decode.specs.Values.PayloadValue.{IsBytesPurpose}
 use Rattle.pb_decode.specs.Open.Purposes.{Means, part_context}
 use Rattle.pb_decode.specs.Open.Frames.{Part, CanHold, Scope, Frame, EndsAt, Stands}
 use Rattle.pb_decode.specs.Tokens.After.{tag, awaited, goes_down, IsRoomFor, After}
-use Rattle.pb_decode.specs.Reader.{State, here, Reads}
+use Rattle.pb_decode.specs.Reader.{State, left_of, here, Reads}
 use Rattle.pb_decode.proofs.FrameLemmas.{ends_along}
 use Rattle.pb_decode.proofs.AfterLemmas.{after_tag, after_length}
 use Rattle.pb_decode.proofs.DeepLemmas.{reads_below}
@@ -115,9 +115,39 @@ pub opening_next :
 opening_next k meant s has means room = after_tag (step.Length k meant) (tag k 2 meant) s refl has means room
 
 -- A PAYLOAD of bytes behind its tag and its length
-pub payload_ends :
-    {pool : Types} {m depth levels : ℕ} {base : List Record} {p0 : Place} {u t : Place} {k w n : ℕ} (s : State) (rest : List ℕ) → Reads pool m depth levels base p0 s rest → HasTag (here s rest) k w u → ReadsNumber u n t → EndsAt t s.scope.end
-payload_ends s rest begun has h = ends_along h.0 s.scope.end h.2 (ends_along has.tag.0 s.scope.end has.tag.2 begun.ends)
+-- behind a tag and a length one stands before the known end
+before_end : (at e : ℕ) (rest : List ℕ) (used start : ℕ) {k w n : ℕ} → HasTag (given_at at (Some e) rest) k w (passed (given_at at (Some e) rest) used)
+    → ReadsNumber (passed (given_at at (Some e) rest) used) n (passed (given_at at (Some e) rest) start) → start ≤ e
+before_end at e rest used start has h =
+    let tag = has.tag.2.within in
+    let tag_at = has.tag.2.at in
+    let size = h.2.within in
+    let size_at = h.2.at in
+    omega (arith, tag, tag_at, size, size_at)
+
+-- a length that is none too many at a place counted from the tag is none anywhere
+pub length_there :
+    (at : ℕ) (left : Option ℕ) (rest : List ℕ) (used start : ℕ) {k w n size : ℕ} → HasTag (given_at at left rest) k w (passed (given_at at left rest) used)
+    → ((at : ℕ) → ReadsNumber (passed (given_at at left rest) used) n (passed (given_at at left rest) start)) → size ≡ n
+    → ((u t : Place) → ReadsNumber u n t → t.at ≡ start → EndsAt t left → HasLength u size t) → HasLength (passed (given_at at left rest) used) size (passed (given_at at left rest) start)
+length_there at left rest used start {n = n} has reads is fits =
+    let from_front : 0 + start ≡ start = omega arith in
+    let there = fits (passed (given_at 0 left rest) used) (passed (given_at 0 left rest) start) (reads 0) from_front (ends left has (reads at)) in
+    record { length_is = subst (λ (z : ℕ). ReadsNumber (passed (given_at at left rest) used) z (passed (given_at at left rest) start)) (sym is) (reads at); small = there.small; within = there.within }
+  where
+    ends : (e : Option ℕ) {k w : ℕ} → HasTag (given_at at e rest) k w (passed (given_at at e rest) used) → ReadsNumber (passed (given_at at e rest) used) n (passed (given_at at e rest) start)
+        → EndsAt (passed (given_at 0 e rest) start) e
+    ends None has h = refl
+    ends (Some e) has h = let before = before_end at e rest used start has h in (e - start, refl, omega (arith, before))
+
+-- and so where a reader stands
+pub length_here :
+    (s : State) (rest : List ℕ) (number type used start size : ℕ) {left : Option ℕ} → left ≡ left_of s
+    → ((at number type : ℕ) → HasTag (given_at at left rest) number type (passed (given_at at left rest) used) → HasLength (passed (given_at at left rest) used) size (passed (given_at at left rest) start))
+    → HasTag (here s rest) number type (passed (here s rest) used) → HasLength (passed (here s rest) used) size (passed (here s rest) start)
+length_here s rest number type used start size is told has =
+    subst (λ (z : Option ℕ). HasLength (passed (given_at s.at z rest) used) size (passed (given_at s.at z rest) start)) is
+    (told s.at number type (subst (λ (z : Option ℕ). HasTag (given_at s.at z rest) number type (passed (given_at s.at z rest) used)) (sym is) has))
 
 pub bytes_next :
     {pool : Types} {m depth levels : ℕ} {base : List Record} {p0 : Place} {frames : List Frame} {scope : Scope} {now : Part} {q u t : Place} (k n : ℕ) (meant : Purpose)

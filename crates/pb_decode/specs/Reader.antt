@@ -1,6 +1,7 @@
 -- What a reader of a part has, and what it has told of the bytes at hand.
 pub mod Waiting
 pub mod Origin
+pub mod Fills
 pub mod Steps
 pub mod Pieces
 use Rattle.std.specs.Prelude.{◌≡◌, ℕ, ◌+◌, ◌*◌, ◌-◌, ◌<◌, ◌≤◌, ◌^◌, List, [], ◌∷◌, ◌++◌, map, reverse, drop, length, Option, Some, None, option_map}

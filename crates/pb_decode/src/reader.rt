@@ -1,8 +1,11 @@
 //! The reader: where it stands, what it takes there, and what fault it tells.
 
 pub(crate) mod fault;
+pub(crate) mod fill;
 pub(crate) mod origin;
 pub(crate) mod quick;
+pub(crate) mod quick_entry;
+pub(crate) mod quick_message;
 pub(crate) mod quick_record;
 pub(crate) mod state;
 pub(crate) mod take_next;

@@ -3,7 +3,7 @@
 use Rattle.std.specs.Prelude.{◌≡◌, ℕ, List, drop, Option, Some, Result, IfOk, IfErr, IfSome, OnOk}
 use Rattle.pb_wire.specs.Record.{Record, wire_type}
 use Rattle.pb_wire.specs.Fault.{Place, Moves, HasTag, HasLength, Reads as HasNumber}
-use Rattle.pb_wire.specs.Token.{passed}
+use Rattle.pb_wire.specs.Token.{given_at, passed}
 use Rattle.pb_schema.specs.declared.types.Kind.{Kind}
 use Rattle.pb_schema.specs.Types.{Types}
 use Rattle.pb_schema.specs.Rules.{IsPool}
@@ -138,9 +138,8 @@ LeavesGroup pool old new size result =
     → Reads pool m depth levels base p0 (state_view old) rest → innermost_group (frames_view old.frames.items) ≡ Some number
     → HasTagHere (state_view old) rest number 4 size → OnOk result (Reads pool m depth levels base p0 (state_view new) (drop size rest))
 
--- behind a tag of so many bytes stands a length, and behind that the payload begins
-abbrev pub TellsLengthBehind : Reader → ℕ → List ℕ → Option (ℕ × ℕ) → Type 0
-TellsLengthBehind old tag_size rest result =
-    (pool : Types) (m depth levels number type : ℕ) (base : List Record) (p0 : Place)
-    → Reads pool m depth levels base p0 (state_view old) rest → HasTagHere (state_view old) rest number type tag_size
-    → IfSome result (λ t. HasLength (passed (here (state_view old) rest) tag_size) t.1 (passed (here (state_view old) rest) t.0))
+-- behind a tag of so many bytes stands a length, and behind that the payload begins, with so many bytes before the known end
+abbrev pub TellsLengthBehind : ℕ → List ℕ → Option ℕ → Option (ℕ × ℕ) → Type 0
+TellsLengthBehind tag_size rest left result =
+    (at number type : ℕ) → HasTag (given_at at left rest) number type (passed (given_at at left rest) tag_size)
+    → IfSome result (λ t. HasLength (passed (given_at at left rest) tag_size) t.1 (passed (given_at at left rest) t.0))

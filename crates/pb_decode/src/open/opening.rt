@@ -42,7 +42,7 @@ fn message_in(alloc: Global, content: Option<Content>) -> Body
 
 /// Takes out what a message that is opened for a slot goes on from.
 #[inline(always)]
-fn take_message(alloc: Global, slot: Slot, outer: &mut Part) -> Body
+pub(crate) fn take_message(alloc: Global, slot: Slot, outer: &mut Part) -> Body
     ensures taken { body_view result ≡ taken_message slot (part_view outer.old) }
     ensures left { part_view outer.new ≡ without_message slot (part_view outer.old) }
 {
@@ -66,7 +66,7 @@ fn take_message(alloc: Global, slot: Slot, outer: &mut Part) -> Body
 
 /// How many levels are left in a message that is opened for a slot.
 #[inline(always)]
-fn room_in(slot: Slot, room: u8) -> u8
+pub(crate) fn room_in(slot: Slot, room: u8) -> u8
     ensures { result ≡ levels_in slot room }
 {
     match slot {

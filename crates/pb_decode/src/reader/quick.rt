@@ -53,6 +53,7 @@ fn take_whole(
     pool: &Pool,
     reader: &mut Reader,
     known: &mut Option<KnownPurpose>,
+    tried: &mut u32,
     bytes: &[u8],
 ) -> Result<Option<usize>, NoMemory>
     requires rules { IsPool pool.now }
@@ -64,7 +65,7 @@ fn take_whole(
     ensures known { IsKnown pool.now known.new }
 {
     match reader.step {
-        Step::Tag => take_record(alloc, pool, reader, known, bytes),
+        Step::Tag => take_record(alloc, pool, reader, known, tried, bytes),
         Step::Elements(number, kind, outer) => {
             take_run(alloc, pool, reader, number, kind, outer, bytes)
         }
@@ -94,9 +95,18 @@ pub(crate) fn quick(
 {
     let mut here = 0;
     let mut known = None;
+    let mut tried = 0;
     loop {
         take_ended(alloc, pool, reader)?;
-        let Some(size) = take_whole(alloc, pool, reader, &mut known, &bytes[here..])? else {
+        let Some(size) = take_whole(
+            alloc,
+            pool,
+            reader,
+            &mut known,
+            &mut tried,
+            &bytes[here..],
+        )?
+        else {
             return Ok(here);
         };
         here += size;

@@ -15,6 +15,8 @@ use crate::error::NoMemory;
 use crate::open::known_purpose::{KnownPurpose, purpose_by};
 use crate::open::pass_length::pass_length;
 use crate::open::purpose::{Purpose, purpose_of};
+use crate::reader::quick_entry::take_entry;
+use crate::reader::quick_message::take_message_record;
 use crate::reader::state::{Reader, left, number_at};
 use crate::reader::take_tag::{enter_group, innermost, leave_group};
 use crate::tokens::front::front_number;
@@ -65,7 +67,7 @@ fn take_number_record(
 }
 
 /// Says that a record of a purpose has its payload's bytes for its value, or is unknown.
-fn is_for_bytes(purpose: Purpose) -> bool
+pub(crate) fn is_for_bytes(purpose: Purpose) -> bool
     ensures { result ≡ true → IsBytesPurpose purpose }
 {
     match purpose {
@@ -80,19 +82,23 @@ fn is_for_bytes(purpose: Purpose) -> bool
     }
 }
 
-/// Where the payload of a record begins whose tag takes so many bytes, and its size.
-fn length_behind(reader: &Reader, tag_size: usize, bytes: &[u8]) -> Option<(usize, u32)>
+/// Where the payload of a record begins whose tag takes so many bytes, and its size, with so many bytes before the known end.
+pub(crate) fn length_behind(
+    tag_size: usize,
+    bytes: &[u8],
+    left: Option<u32>,
+) -> Option<(usize, u32)>
     requires within { tag_size ≤ length bytes.now }
-    requires small { reader.now.at + length bytes.now < 2 ^ 31 }
+    requires small { length bytes.now < 2 ^ 31 }
     ensures within { IfSome result (λ t. (tag_size ≤ t.0) × (t.0 ≤ length bytes.now) × (t.1 < 2 ^ 31)) }
-    ensures whole { TellsLengthBehind reader.now tag_size bytes.now result }
+    ensures whole { TellsLengthBehind tag_size bytes.now left result }
 {
-    let behind = left_behind(left(reader), tag_size);
+    let behind = left_behind(left, tag_size);
     let Ok(Some((length, used))) = front_number(&bytes[tag_size..], behind) else {
         return None;
     };
     let start = tag_size + used;
-    match payload_size(length, reader.at + start as u32, reader.scope.end) {
+    match payload_size(length, start as u32, left) {
         Ok(size) => Some((start, size)),
         Err(_) => None,
     }
@@ -119,7 +125,7 @@ fn take_bytes_record(
     ensures none { IfOk result (λ o. IfNone o (reader.new ≡ reader.old)) }
     ensures taken { TakesWhole pool.now reader.old reader.new bytes.now result }
 {
-    let Some((start, size)) = length_behind(reader, tag.size, bytes) else {
+    let Some((start, size)) = length_behind(tag.size, bytes, left(reader)) else {
         return Ok(None);
     };
     let size = size as usize;
@@ -163,12 +169,80 @@ fn take_opening(
     if !has_room(reader.scope.room, purpose) {
         return Ok(None);
     }
-    let Some((start, size)) = length_behind(reader, tag.size, bytes) else {
+    let Some((start, size)) = length_behind(tag.size, bytes, left(reader)) else {
         return Ok(None);
     };
     let begin = reader.at + start as u32;
     pass_length(alloc, reader, tag.number, purpose, begin, size)?;
     Ok(Some(start))
+}
+
+/// Takes the message or the entry of a record that stands whole behind its tag and holds no group, and how many bytes the record
+/// takes.
+fn take_inner(
+    alloc: Global,
+    pool: &Pool,
+    reader: &mut Reader,
+    tag: RecordTag,
+    purpose: Purpose,
+    tried: &mut u32,
+    bytes: &[u8],
+) -> Result<Option<usize>, NoMemory>
+    requires rules { IsPool pool.now }
+    requires reading { IsReading pool.now (state_view reader.old) bytes.now }
+    requires step { reader.old.step ≡ Tag }
+    requires bytes { tag.wire_type ≡ 2 }
+    requires within { tag.size ≤ length bytes.now }
+    requires tag { HasTagHere (state_view reader.old) bytes.now tag.number tag.wire_type tag.size }
+    requires means { Means pool.now (part_context (part_view reader.old.part)) tag.number 2 purpose }
+    ensures passes { IfOk result (λ o. IfSome o (λ n. (tag.size ≤ n) × (n ≤ length bytes.now) × (reader.new.at ≡ reader.old.at + n))) }
+    ensures none { IfOk result (λ o. IfNone o (reader.new ≡ reader.old)) }
+    ensures taken { TakesWhole pool.now reader.old reader.new bytes.now result }
+{
+    match purpose {
+        Purpose::Message(kind, slot) => {
+            take_message_record(alloc, pool, reader, tag, kind, slot, tried, bytes)
+        }
+        Purpose::Entry(key_kind, value_kind) => take_entry(
+            alloc, pool, reader, tag, key_kind, value_kind, tried, bytes,
+        ),
+        Purpose::One(_, _)
+        | Purpose::Element(_)
+        | Purpose::Packed(_)
+        | Purpose::Key(_)
+        | Purpose::EntryValue(_)
+        | Purpose::Unknown => Ok(None),
+    }
+}
+
+/// Takes the message or the entry of a record at once, or opens what the record opens, and how many bytes that takes. What stands
+/// before the place that is tried is opened, so that no byte is tried twice.
+fn take_inner_or_open(
+    alloc: Global,
+    pool: &Pool,
+    reader: &mut Reader,
+    tag: RecordTag,
+    purpose: Purpose,
+    tried: &mut u32,
+    bytes: &[u8],
+) -> Result<Option<usize>, NoMemory>
+    requires rules { IsPool pool.now }
+    requires reading { IsReading pool.now (state_view reader.old) bytes.now }
+    requires step { reader.old.step ≡ Tag }
+    requires bytes { tag.wire_type ≡ 2 }
+    requires within { tag.size ≤ length bytes.now }
+    requires tag { HasTagHere (state_view reader.old) bytes.now tag.number tag.wire_type tag.size }
+    requires means { Means pool.now (part_context (part_view reader.old.part)) tag.number 2 purpose }
+    ensures passes { IfOk result (λ o. IfSome o (λ n. (tag.size ≤ n) × (n ≤ length bytes.now) × (reader.new.at ≡ reader.old.at + n))) }
+    ensures none { IfOk result (λ o. IfNone o (reader.new ≡ reader.old)) }
+    ensures taken { TakesWhole pool.now reader.old reader.new bytes.now result }
+{
+    if *tried <= reader.at {
+        if let Some(size) = take_inner(alloc, pool, reader, tag, purpose, tried, bytes)? {
+            return Ok(Some(size));
+        }
+    }
+    take_opening(alloc, pool, reader, tag, purpose, bytes)
 }
 
 /// Takes the record of a length if its bytes are its value and stand whole behind its tag, or opens what it opens, and how many
@@ -179,6 +253,7 @@ fn take_length_record(
     reader: &mut Reader,
     tag: RecordTag,
     known: &mut Option<KnownPurpose>,
+    tried: &mut u32,
     bytes: &[u8],
 ) -> Result<Option<usize>, NoMemory>
     requires rules { IsPool pool.now }
@@ -197,7 +272,7 @@ fn take_length_record(
     if is_for_bytes(purpose) {
         take_bytes_record(alloc, pool, reader, tag, purpose, bytes)
     } else {
-        take_opening(alloc, pool, reader, tag, purpose, bytes)
+        take_inner_or_open(alloc, pool, reader, tag, purpose, tried, bytes)
     }
 }
 
@@ -261,6 +336,7 @@ pub(crate) fn take_record(
     pool: &Pool,
     reader: &mut Reader,
     known: &mut Option<KnownPurpose>,
+    tried: &mut u32,
     bytes: &[u8],
 ) -> Result<Option<usize>, NoMemory>
     requires rules { IsPool pool.now }
@@ -276,7 +352,7 @@ pub(crate) fn take_record(
         return Ok(None);
     };
     if tag.wire_type == 2 {
-        take_length_record(alloc, pool, reader, tag, known, bytes)
+        take_length_record(alloc, pool, reader, tag, known, tried, bytes)
     } else if tag.wire_type == 0 || tag.wire_type == 1 || tag.wire_type == 5 {
         take_number_record(alloc, pool, reader, tag, known, bytes)
     } else if tag.wire_type == 3 {

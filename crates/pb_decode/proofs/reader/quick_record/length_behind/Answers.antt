@@ -1,10 +1,9 @@
 -- The length stands behind the tag, and the payload behind it.
-use Rattle.std.proofs.Common.{ℕ, ◌+◌, ◌-◌, ◌∙◌, Option, option_map, refl, ap, arith, take, drop, length, length-drop}
+use Rattle.std.proofs.Common.{ℕ, ◌+◌, ◌-◌, Option, option_map, refl, ap, ◌∙◌, arith, take, drop, length, length-drop}
 use Rattle.pb_wire.specs.Fault.{Place, Reads as ReadsNumber}
-use Rattle.pb_wire.specs.Token.{passed}
-use Rattle.pb_decode.specs.Reader.{state_view, left_of, here}
+use Rattle.pb_wire.specs.Token.{given_at, passed}
 use Rattle.pb_decode.proofs.ReaderLemmas.{slice_from}
-use Rattle.pb_decode.proofs.QuickLemmas.{front_there, there_behind, payload_ends}
+use Rattle.pb_decode.proofs.QuickLemmas.{front_there, there_behind, length_there}
 use Rattle.pb_decode.proofs.reader.quick_record.length_behind.Goals as goal
 
 pub overflow_add-start : goal.overflow_add-start
@@ -22,14 +21,6 @@ overflow_cast-start c =
     let within = c.requires.within in
     omega (arith, is, used, small, within)
 
-pub overflow_add-reader : goal.overflow_add-reader
-overflow_add-reader c =
-    let is = ap length (slice_from c.args.tag_size c.args.bytes.now) ∙ length-drop c.args.tag_size c.args.bytes.now in
-    let used = (front_there 0 c.left_behind-behind.result (take (length c.args.bytes.now - c.args.tag_size) (drop c.args.tag_size c.args.bytes.now)) c.in-Ok-Some.field-0 c.in-Ok-Some.length c.in-Ok-Some.used c.in-Ok-Some.field-0-is (c.in-Ok-Some.ensures.whole 0)).0 in
-    let small = c.requires.small in
-    let within = c.requires.within in
-    omega (arith, is, used, small, within)
-
 pub returns-in-Ok-clause-within : goal.returns-in-Ok-clause-within
 returns-in-Ok-clause-within c =
     let is = ap length (slice_from c.args.tag_size c.args.bytes.now) ∙ length-drop c.args.tag_size c.args.bytes.now in
@@ -39,11 +30,11 @@ returns-in-Ok-clause-within c =
 
 pub returns-in-Ok-clause-whole : goal.returns-in-Ok-clause-whole
 returns-in-Ok-clause-whole c =
-    λ pool m depth levels number wire_type base p0 begun has.
-    let s = state_view c.args.reader.now in
-    let first = front_there (c.args.reader.now.at + c.args.tag_size) c.left_behind-behind.result (take (length c.args.bytes.now - c.args.tag_size) (drop c.args.tag_size c.args.bytes.now)) c.in-Ok-Some.field-0 c.in-Ok-Some.length c.in-Ok-Some.used c.in-Ok-Some.field-0-is (c.in-Ok-Some.ensures.whole (c.args.reader.now.at + c.args.tag_size)) in
-    let behind = c.left_behind-behind.ensures ∙ ap (λ (z : Option ℕ). option_map (λ (e : ℕ). e - c.args.tag_size) z) c.left.ensures in
-    let reads =
-    there_behind (λ (p q : Place). ReadsNumber p c.in-Ok-Some.length q) c.args.reader.now.at (left_of (state_view c.args.reader.now)) c.left_behind-behind.result c.args.bytes.now c.args.tag_size c.in-Ok-Some.used behind first.1 in
-    c.in-Ok.ensures.whole (passed (here (state_view c.args.reader.now) c.args.bytes.now) c.args.tag_size) (passed (here (state_view c.args.reader.now) c.args.bytes.now) (c.args.tag_size + c.in-Ok-Some.used)) reads refl
-    (payload_ends (state_view c.args.reader.now) c.args.bytes.now begun has reads)
+    λ at number wire_type has.
+    let rest = take (length c.args.bytes.now - c.args.tag_size) (drop c.args.tag_size c.args.bytes.now) in
+    let reads : (at : ℕ) → ReadsNumber (passed (given_at at c.args.left c.args.bytes.now) c.args.tag_size) c.in-Ok-Some.length (passed (given_at at c.args.left c.args.bytes.now) (c.args.tag_size + c.in-Ok-Some.used)) =
+    (λ at.
+    let first = front_there (at + c.args.tag_size) c.left_behind-behind.result rest c.in-Ok-Some.field-0 c.in-Ok-Some.length c.in-Ok-Some.used c.in-Ok-Some.field-0-is (c.in-Ok-Some.ensures.whole (at + c.args.tag_size)) in
+    there_behind (λ (p q : Place). ReadsNumber p c.in-Ok-Some.length q) at c.args.left c.left_behind-behind.result c.args.bytes.now c.args.tag_size c.in-Ok-Some.used c.left_behind-behind.ensures first.1) in
+    length_there at c.args.left c.args.bytes.now c.args.tag_size (c.args.tag_size + c.in-Ok-Some.used) has reads c.in-Ok.ensures.size
+    (λ u t read is ends. c.in-Ok.ensures.whole u t read is ends)

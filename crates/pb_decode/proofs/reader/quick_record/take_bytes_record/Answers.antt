@@ -7,7 +7,7 @@ use Rattle.pb_decode.specs.Open.Frames.{Scope, Stands}
 use Rattle.pb_decode.specs.Open.PartView.{part_view, scope_view}
 use Rattle.pb_decode.specs.Reader.{state_view, frames_view, here}
 use Rattle.pb_decode.proofs.ReaderLemmas.{stands_reads}
-use Rattle.pb_decode.proofs.QuickLemmas.{tag_stands, tag_can, tag_few, bytes_next, payload_leads}
+use Rattle.pb_decode.proofs.QuickLemmas.{tag_stands, tag_can, tag_few, length_here, bytes_next, payload_leads}
 use Rattle.pb_decode.proofs.reader.quick_record.take_bytes_record.Goals as goal
 
 pub put_payload-requires-clause-can : goal.put_payload-requires-clause-can
@@ -24,7 +24,8 @@ returns-in_ok-count_one-in-Ok-clause-taken c =
     λ m depth levels base p0 begun.
     let p = here (state_view c.args.reader.now) c.args.bytes.now in
     let has = subst (λ (z : ℕ). HasTag (here (state_view c.args.reader.now) c.args.bytes.now) c.args.tag.number z (passed (here (state_view c.args.reader.now) c.args.bytes.now) c.args.tag.size)) c.requires.bytes c.requires.tag in
-    let l = c.in-Some.ensures.whole c.args.pool.now m depth levels c.args.tag.number c.args.tag.wire_type base p0 begun c.requires.tag in
+    let l =
+    length_here (state_view c.args.reader.now) c.args.bytes.now c.args.tag.number c.args.tag.wire_type c.args.tag.size c.in-Some.start c.in-Some.size c.left.ensures c.in-Some.ensures.whole c.requires.tag in
     let begins = c.in-Some.ensures.within.1 in
     let enough = c.if-bytes-start.false in
     let within : c.in-Some.start + c.in-Some.size ≤ length c.args.bytes.now = omega (arith, begins, enough) in

@@ -1,0 +1,31 @@
+-- The payload goes into the entry, and one stands behind its record.
+use Rattle.std.proofs.Common.{◌≡◌, ◌≤◌, ℕ, ◌+◌, ◌-◌, Some, refl, subst, arith, take, drop, length, length-drop}
+use Rattle.std.proofs.lemmas.List.{length-take-le}
+use Rattle.pb_wire.specs.Fault.{HasTag}
+use Rattle.pb_wire.specs.Token.{given_at, passed}
+use Rattle.pb_decode.specs.Open.Frames.{one_more_in}
+use Rattle.pb_decode.proofs.QuickLemmas.{bytes_next, payload_leads}
+use Rattle.pb_decode.proofs.FillLemmas.{open_can}
+use Rattle.pb_decode.proofs.reader.fill.fill_bytes.Goals as goal
+
+pub put_payload-requires-clause-can : goal.put_payload-requires-clause-can
+put_payload-requires-clause-can c = open_can c.requires.rules c.requires.open
+
+pub returns-in-Ok-clause-filled : goal.returns-in-Ok-clause-filled
+returns-in-Ok-clause-filled c =
+    λ m depth levels at base p0 frames there.
+    let p = given_at at (Some c.args.left) c.args.bytes.now in
+    let has = subst (λ (z : ℕ). HasTag p c.args.tag.number z (passed p c.args.tag.size)) c.requires.bytes (c.requires.tag at) in
+    let l = c.in-Some.ensures.whole at c.args.tag.number c.args.tag.wire_type (c.requires.tag at) in
+    let begins = c.in-Some.ensures.within.1 in
+    let enough = c.if-bytes-start.false in
+    let within : c.in-Some.start + c.in-Some.size ≤ length c.args.bytes.now = omega (arith, begins, enough) in
+    let next = bytes_next c.args.tag.number c.in-Some.size c.args.purpose there.1 has c.requires.means c.requires.purpose l in
+    let size : length (take ((c.in-Some.start + c.in-Some.size) - c.in-Some.start) (drop c.in-Some.start c.args.bytes.now)) ≡ c.in-Some.size =
+    (let left = length-drop c.in-Some.start c.args.bytes.now in
+    let fits = length-take-le ((c.in-Some.start + c.in-Some.size) - c.in-Some.start) (drop c.in-Some.start c.args.bytes.now) (omega (arith, left, within)) in omega (arith, fits)) in (
+      one_more_in c.args.tag.number there.0,
+      c.in-Ok.ensures.stands m depth levels c.in-Some.size base p0 (passed p c.in-Some.start) (passed p (c.in-Some.start + c.in-Some.size)) frames there.0 next size
+          (payload_leads p c.in-Some.start c.in-Some.size (passed p c.args.tag.size) within l),
+      there.2,
+    )

@@ -1,0 +1,45 @@
+-- What is read at once into a part, wherever it is open: of any type, any levels, any records before and any first place.
+use Rattle.std.specs.Prelude.{◌≡◌, ℕ, Bool, true, List, Option, Some, Result, IfOk, IfSome}
+use Rattle.pb_wire.specs.Record.{Record}
+use Rattle.pb_wire.specs.Fault.{Place, HasTag}
+use Rattle.pb_wire.specs.Token.{given_at, passed}
+use Rattle.pb_schema.specs.Types.{Types}
+use Rattle.pb_decode.specs.declared.open.part.Part.{Part as PartKept}
+use Rattle.pb_decode.specs.Open.Frames.{Part, Scope, Frame, Stands}
+use Rattle.pb_decode.specs.Open.PartView.{part_view}
+
+-- with some scope that has so many levels left, one stands behind whole records of a part
+abbrev pub StandsIn : Types → ℕ → ℕ → ℕ → List Record → Place → List Frame → ℕ → Part → Place → Type 0
+StandsIn pool m depth levels base p0 frames room now q =
+    (scope : Scope) × Stands pool m depth levels base p0 frames now scope q × (scope.room ≡ room)
+
+-- somewhere the part is open, and these bytes come next in it, with so many before its known end and so many levels left
+pub record IsOpen (pool : Types) (now : Part) (bytes : List ℕ) (left room : ℕ) : Type 0 where
+  pub m : ℕ
+  pub depth : ℕ
+  pub levels : ℕ
+  pub at : ℕ
+  pub base : List Record
+  pub p0 : Place
+  pub frames : List Frame
+  pub stands : StandsIn pool m depth levels base p0 frames room now (given_at at (Some left) bytes)
+
+-- a tag stands at the front of the bytes, and takes so many of them
+abbrev pub HasTagAt : List ℕ → ℕ → ℕ → ℕ → ℕ → Type 0
+HasTagAt bytes left number type size = (at : ℕ) → HasTag (given_at at (Some left) bytes) number type (passed (given_at at (Some left) bytes) size)
+
+-- one stands behind so many of the bytes, with what stood there in the part
+abbrev pub FillsTo : Types → Part → Part → List ℕ → ℕ → ℕ → ℕ → Type 0
+FillsTo pool old new bytes left room used =
+    (m depth levels at : ℕ) (base : List Record) (p0 : Place) (frames : List Frame)
+    → StandsIn pool m depth levels base p0 frames room old (given_at at (Some left) bytes)
+    → StandsIn pool m depth levels base p0 frames room new (passed (given_at at (Some left) bytes) used)
+
+-- where a record is taken
+abbrev pub FillsOne : {E : Type 0} → Types → PartKept → PartKept → List ℕ → ℕ → ℕ → Result (Option ℕ) E → Type 0
+FillsOne pool old new bytes left room result = IfOk result (λ o. IfSome o (FillsTo pool (part_view old) (part_view new) bytes left room))
+
+-- where all are
+abbrev pub FillsAll : {E : Type 0} → Types → PartKept → PartKept → List ℕ → ℕ → ℕ → Result Bool E → Type 0
+FillsAll pool old new bytes size room result =
+    IfOk result (λ all. all ≡ true → FillsTo pool (part_view old) (part_view new) bytes size room size)

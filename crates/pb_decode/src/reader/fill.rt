@@ -1,0 +1,343 @@
+//! What stands whole in the bytes is read into a part at once, with all that it holds, without a frame.
+
+ghost use Rattle.std.specs.Prelude.{◌≡◌, ◌⊎◌, ◌+◌, ◌≤◌, ◌<◌, ◌^◌, length, IfOk, IfSome};
+ghost use Rattle.pb_schema.specs.Rules.{IsPool};
+ghost use Rattle.pb_decode.specs.declared.open.purpose.Purpose.TheVariants as purposes;
+ghost use Rattle.pb_decode.specs.Open.PartView.{part_view};
+ghost use Rattle.pb_decode.specs.Open.Purposes.{Means, part_context};
+ghost use Rattle.pb_decode.specs.Values.PayloadValue.{IsBytesPurpose};
+ghost use Rattle.pb_decode.specs.Reader.Fills.{IsOpen, HasTagAt, FillsOne, FillsAll};
+
+use crate::close::closing::put_entry;
+use crate::close::put::put_message;
+use crate::error::NoMemory;
+use crate::open::opening::{room_in, take_message};
+use crate::open::part::{Part, Slot};
+use crate::open::purpose::{Purpose, purpose_of};
+use crate::reader::quick_record::length_behind;
+use crate::reader::state::number_at;
+use crate::tokens::number_token::NumberToken;
+use crate::tokens::record_tag::{RecordTag, left_behind, record_tag};
+use crate::tokens::tag_step::has_room;
+use crate::values::payload_value::PayloadError;
+use crate::values::put_elements::put_elements;
+use crate::values::put_number::put_number;
+use crate::values::put_payload::put_payload;
+use crate::values::run::read_run;
+use pb_schema::{Kind, MessageId, Pool};
+use std::alloc::Global;
+
+/// Puts the number behind a tag into a part, if it stands whole there, and how many bytes its record takes.
+#[inline(always)]
+fn fill_number(
+    alloc: Global,
+    pool: &Pool,
+    part: &mut Part,
+    tag: RecordTag,
+    bytes: &[u8],
+    left: u32,
+    room: u8,
+) -> Result<Option<usize>, NoMemory>
+    requires rules { IsPool pool.now }
+    requires open { IsOpen pool.now (part_view part.old) bytes.now left room }
+    requires small { length bytes.now < 2 ^ 31 }
+    requires number { (tag.wire_type ≡ 0) ⊎ (tag.wire_type ≡ 1) ⊎ (tag.wire_type ≡ 5) }
+    requires within { tag.size ≤ length bytes.now }
+    requires tag { HasTagAt bytes.now left tag.number tag.wire_type tag.size }
+    ensures passes { IfOk result (λ o. IfSome o (λ n. (tag.size ≤ n) × (n ≤ length bytes.now))) }
+    ensures filled { FillsOne pool.now part.old part.new bytes.now left room result }
+{
+    let purpose = purpose_of(pool, part, tag.number, tag.wire_type);
+    let behind = left_behind(Some(left), tag.size);
+    match number_at(tag.wire_type, &bytes[tag.size..], behind) {
+        NumberToken::Whole(value, size) => {
+            put_number(alloc, pool, part, tag.number, purpose, value)?;
+            Ok(Some(tag.size + size))
+        }
+        NumberToken::Short => Ok(None),
+        NumberToken::Fault(_) => Ok(None),
+    }
+}
+
+/// Puts the bytes behind a tag and a length into a part, if they stand whole there, and how many bytes their record takes.
+#[inline(always)]
+fn fill_bytes(
+    alloc: Global,
+    pool: &Pool,
+    part: &mut Part,
+    tag: RecordTag,
+    purpose: Purpose,
+    bytes: &[u8],
+    left: u32,
+    room: u8,
+) -> Result<Option<usize>, NoMemory>
+    requires rules { IsPool pool.now }
+    requires open { IsOpen pool.now (part_view part.old) bytes.now left room }
+    requires small { length bytes.now < 2 ^ 31 }
+    requires bytes { tag.wire_type ≡ 2 }
+    requires within { tag.size ≤ length bytes.now }
+    requires tag { HasTagAt bytes.now left tag.number tag.wire_type tag.size }
+    requires means { Means pool.now (part_context (part_view part.old)) tag.number 2 purpose }
+    requires purpose { IsBytesPurpose purpose }
+    ensures passes { IfOk result (λ o. IfSome o (λ n. (tag.size ≤ n) × (n ≤ length bytes.now))) }
+    ensures filled { FillsOne pool.now part.old part.new bytes.now left room result }
+{
+    let Some((start, size)) = length_behind(tag.size, bytes, Some(left)) else {
+        return Ok(None);
+    };
+    let size = size as usize;
+    if bytes.len() - start < size {
+        return Ok(None);
+    }
+    let end = start + size;
+    match put_payload(alloc, pool, part, tag.number, purpose, &bytes[start..end]) {
+        Ok(()) => Ok(Some(end)),
+        Err(PayloadError::BadText(_)) => Ok(None),
+        Err(PayloadError::Memory) => Err(NoMemory),
+    }
+}
+
+/// Puts the elements of a packed list behind a tag and a length into a part, if they stand whole there, and how many bytes their
+/// record takes.
+#[inline(always)]
+fn fill_list(
+    alloc: Global,
+    pool: &Pool,
+    part: &mut Part,
+    tag: RecordTag,
+    kind: Kind,
+    bytes: &[u8],
+    left: u32,
+    room: u8,
+) -> Result<Option<usize>, NoMemory>
+    requires rules { IsPool pool.now }
+    requires open { IsOpen pool.now (part_view part.old) bytes.now left room }
+    requires small { length bytes.now < 2 ^ 31 }
+    requires bytes { tag.wire_type ≡ 2 }
+    requires within { tag.size ≤ length bytes.now }
+    requires tag { HasTagAt bytes.now left tag.number tag.wire_type tag.size }
+    requires means { Means pool.now (part_context (part_view part.old)) tag.number 2 (purposes.Packed kind) }
+    ensures passes { IfOk result (λ o. IfSome o (λ n. (tag.size ≤ n) × (n ≤ length bytes.now))) }
+    ensures filled { FillsOne pool.now part.old part.new bytes.now left room result }
+{
+    let Some((start, size)) = length_behind(tag.size, bytes, Some(left)) else {
+        return Ok(None);
+    };
+    let (values, used) = read_run(alloc, pool, kind, &bytes[start..], Some(size))?;
+    if used != size as usize {
+        return Ok(None);
+    }
+    put_elements(alloc, part, tag.number, values)?;
+    Ok(Some(start + used))
+}
+
+/// Puts the entry behind a tag into the map of a message, if it stands whole there, and how many bytes its record takes.
+#[cycle(fill)]
+fn fill_entry(
+    alloc: Global,
+    pool: &Pool,
+    part: &mut Part,
+    tag: RecordTag,
+    key_kind: Kind,
+    value_kind: Kind,
+    bytes: &[u8],
+    left: u32,
+    room: u8,
+) -> Result<Option<usize>, NoMemory>
+    requires rules { IsPool pool.now }
+    requires open { IsOpen pool.now (part_view part.old) bytes.now left room }
+    requires small { length bytes.now < 2 ^ 31 }
+    requires bytes { tag.wire_type ≡ 2 }
+    requires some { 0 < tag.size }
+    requires within { tag.size ≤ length bytes.now }
+    requires tag { HasTagAt bytes.now left tag.number tag.wire_type tag.size }
+    requires means { Means pool.now (part_context (part_view part.old)) tag.number 2 (purposes.Entry key_kind value_kind) }
+    ensures passes { IfOk result (λ o. IfSome o (λ n. (tag.size ≤ n) × (n ≤ length bytes.now))) }
+    ensures filled { FillsOne pool.now part.old part.new bytes.now left room result }
+{
+    if room == 0 {
+        return Ok(None);
+    }
+    let Some((start, size)) = length_behind(tag.size, bytes, Some(left)) else {
+        return Ok(None);
+    };
+    let end = start + size as usize;
+    if bytes.len() < end {
+        return Ok(None);
+    }
+    let mut entry = Part::Entry {
+        key_kind,
+        value_kind,
+        key: None,
+        value: None,
+    };
+    if !fill(alloc, pool, &mut entry, &bytes[start..], size, room - 1)? {
+        return Ok(None);
+    }
+    match entry {
+        Part::Entry {
+            key_kind,
+            value_kind,
+            key,
+            value,
+        } => {
+            let slot = Slot::Map(tag.number);
+            put_entry(alloc, slot, part, key_kind, value_kind, key, value)?;
+            Ok(Some(end))
+        }
+        Part::Message(_kind, _body) => Ok(None),
+        Part::Group(_records) => Ok(None),
+    }
+}
+
+/// Puts the message behind a tag into its slot of a part, if it stands whole there, and how many bytes its record takes. It goes
+/// on from what the slot holds.
+#[cycle(fill)]
+fn fill_message(
+    alloc: Global,
+    pool: &Pool,
+    part: &mut Part,
+    tag: RecordTag,
+    kind: MessageId,
+    slot: Slot,
+    bytes: &[u8],
+    left: u32,
+    room: u8,
+) -> Result<Option<usize>, NoMemory>
+    requires rules { IsPool pool.now }
+    requires open { IsOpen pool.now (part_view part.old) bytes.now left room }
+    requires small { length bytes.now < 2 ^ 31 }
+    requires bytes { tag.wire_type ≡ 2 }
+    requires some { 0 < tag.size }
+    requires within { tag.size ≤ length bytes.now }
+    requires tag { HasTagAt bytes.now left tag.number tag.wire_type tag.size }
+    requires means { Means pool.now (part_context (part_view part.old)) tag.number 2 (purposes.Message kind slot) }
+    ensures passes { IfOk result (λ o. IfSome o (λ n. (tag.size ≤ n) × (n ≤ length bytes.now))) }
+    ensures filled { FillsOne pool.now part.old part.new bytes.now left room result }
+{
+    if !has_room(room, Purpose::Message(kind, slot)) {
+        return Ok(None);
+    }
+    let Some((start, size)) = length_behind(tag.size, bytes, Some(left)) else {
+        return Ok(None);
+    };
+    let end = start + size as usize;
+    if bytes.len() < end {
+        return Ok(None);
+    }
+    let mut inner = Part::Message(kind, take_message(alloc, slot, part));
+    let below = room_in(slot, room);
+    if !fill(alloc, pool, &mut inner, &bytes[start..], size, below)? {
+        return Ok(None);
+    }
+    match inner {
+        Part::Message(_kind, message) => {
+            put_message(alloc, pool, slot, part, message)?;
+            Ok(Some(end))
+        }
+        Part::Entry {
+            key_kind: _,
+            value_kind: _,
+            key: _key,
+            value: _value,
+        } => Ok(None),
+        Part::Group(_records) => Ok(None),
+    }
+}
+
+/// Puts the record of a length at the front of some bytes into a part, if it stands whole there, and how many bytes it takes.
+#[cycle(fill)]
+#[inline(always)]
+fn fill_length(
+    alloc: Global,
+    pool: &Pool,
+    part: &mut Part,
+    tag: RecordTag,
+    bytes: &[u8],
+    left: u32,
+    room: u8,
+) -> Result<Option<usize>, NoMemory>
+    requires rules { IsPool pool.now }
+    requires open { IsOpen pool.now (part_view part.old) bytes.now left room }
+    requires small { length bytes.now < 2 ^ 31 }
+    requires bytes { tag.wire_type ≡ 2 }
+    requires some { 0 < tag.size }
+    requires within { tag.size ≤ length bytes.now }
+    requires tag { HasTagAt bytes.now left tag.number tag.wire_type tag.size }
+    ensures passes { IfOk result (λ o. IfSome o (λ n. (tag.size ≤ n) × (n ≤ length bytes.now))) }
+    ensures filled { FillsOne pool.now part.old part.new bytes.now left room result }
+{
+    let purpose = purpose_of(pool, part, tag.number, 2);
+    match purpose {
+        Purpose::Message(kind, slot) => {
+            fill_message(alloc, pool, part, tag, kind, slot, bytes, left, room)
+        }
+        Purpose::Entry(key_kind, value_kind) => fill_entry(
+            alloc, pool, part, tag, key_kind, value_kind, bytes, left, room,
+        ),
+        Purpose::Packed(kind) => fill_list(alloc, pool, part, tag, kind, bytes, left, room),
+        Purpose::One(_, _)
+        | Purpose::Element(_)
+        | Purpose::Key(_)
+        | Purpose::EntryValue(_)
+        | Purpose::Unknown => fill_bytes(alloc, pool, part, tag, purpose, bytes, left, room),
+    }
+}
+
+/// Puts the record at the front of some bytes into a part, with so many bytes before its end and so many levels left, if it
+/// stands whole there and is no group, and how many bytes it takes.
+#[cycle(fill)]
+#[inline(always)]
+fn fill_record(
+    alloc: Global,
+    pool: &Pool,
+    part: &mut Part,
+    bytes: &[u8],
+    left: u32,
+    room: u8,
+) -> Result<Option<usize>, NoMemory>
+    requires rules { IsPool pool.now }
+    requires open { IsOpen pool.now (part_view part.old) bytes.now left room }
+    requires small { length bytes.now < 2 ^ 31 }
+    ensures passes { IfOk result (λ o. IfSome o (λ n. (0 < n) × (n ≤ length bytes.now))) }
+    ensures filled { FillsOne pool.now part.old part.new bytes.now left room result }
+{
+    let Some(tag) = record_tag(bytes, Some(left)) else {
+        return Ok(None);
+    };
+    if tag.wire_type == 2 {
+        fill_length(alloc, pool, part, tag, bytes, left, room)
+    } else if tag.wire_type == 0 || tag.wire_type == 1 || tag.wire_type == 5 {
+        fill_number(alloc, pool, part, tag, bytes, left, room)
+    } else {
+        Ok(None)
+    }
+}
+
+/// Puts the records of a payload of this size into its part, if each stands whole and is no group, and says whether that is so.
+/// If it is not, something may be in the part.
+#[cycle(fill)]
+pub(crate) fn fill(
+    alloc: Global,
+    pool: &Pool,
+    part: &mut Part,
+    bytes: &[u8],
+    size: u32,
+    room: u8,
+) -> Result<bool, NoMemory>
+    requires rules { IsPool pool.now }
+    requires open { IsOpen pool.now (part_view part.old) bytes.now size room }
+    requires small { length bytes.now < 2 ^ 31 }
+    requires whole { size ≤ length bytes.now }
+    ensures { FillsAll pool.now part.old part.new bytes.now size room result }
+{
+    let mut here = 0;
+    while here < size as usize {
+        let left = size - here as u32;
+        let Some(used) = fill_record(alloc, pool, part, &bytes[here..], left, room)? else {
+            return Ok(false);
+        };
+        here += used;
+    }
+    Ok(here == size as usize)
+}

@@ -1,0 +1,109 @@
+//! Messages that stand whole in the bytes: each goes into its slot at once, without a frame.
+
+ghost use Rattle.std.specs.Prelude.{◌≡◌, ◌+◌, ◌≤◌, true, length, IfOk, IfSome, IfNone};
+ghost use Rattle.pb_schema.specs.Rules.{IsPool};
+ghost use Rattle.pb_value.specs.Data.{empty};
+ghost use Rattle.pb_decode.specs.declared.open.purpose.Purpose.TheVariants as purposes;
+ghost use Rattle.pb_decode.specs.declared.tokens.step.Step.TheVariants.{Tag};
+ghost use Rattle.pb_decode.specs.Open.Openings.{taken_message, without_message};
+ghost use Rattle.pb_decode.specs.Open.PartView.{part_view};
+ghost use Rattle.pb_decode.specs.Open.Purposes.{Means, part_context};
+ghost use Rattle.pb_decode.specs.Reader.{state_view, IsReading};
+ghost use Rattle.pb_decode.specs.Reader.Steps.{HasTagHere, TakesWhole};
+
+use crate::close::put::close_message;
+use crate::error::NoMemory;
+use crate::open::opening::room_in;
+use crate::open::part::{Part, Slot};
+use crate::open::purpose::Purpose;
+use crate::reader::fill::fill;
+use crate::reader::quick_record::length_behind;
+use crate::reader::state::{Reader, left};
+use crate::tokens::record_tag::RecordTag;
+use crate::tokens::tag_step::has_room;
+use pb_schema::{MessageId, Pool};
+use pb_value::empty_body;
+use std::alloc::Global;
+
+/// Says that a slot of a part holds nothing that a message for it goes on from.
+fn is_free(part: &Part, slot: Slot) -> bool
+    ensures { result ≡ true → (taken_message slot (part_view part.now) ≡ empty) × (without_message slot (part_view part.now) ≡ part_view part.now) }
+{
+    match part {
+        Part::Message(_, body) => match slot {
+            Slot::One(_, number) => !body.fields.contains_key(&number),
+            Slot::List(_) => true,
+            Slot::Map(_) | Slot::Entry | Slot::Unknown(_) => false,
+        },
+        Part::Entry {
+            key_kind: _,
+            value_kind: _,
+            key: _,
+            value,
+        } => match slot {
+            Slot::Entry => value.is_none(),
+            Slot::One(_, _) | Slot::List(_) | Slot::Map(_) | Slot::Unknown(_) => false,
+        },
+        Part::Group(_) => false,
+    }
+}
+
+/// Takes the message behind whose tag its payload stands whole and holds no group, if its slot is free, and how many bytes it
+/// takes. Where the payload was read and can't be taken so, `tried` is where it ends.
+pub(crate) fn take_message_record(
+    alloc: Global,
+    pool: &Pool,
+    reader: &mut Reader,
+    tag: RecordTag,
+    kind: MessageId,
+    slot: Slot,
+    tried: &mut u32,
+    bytes: &[u8],
+) -> Result<Option<usize>, NoMemory>
+    requires rules { IsPool pool.now }
+    requires reading { IsReading pool.now (state_view reader.old) bytes.now }
+    requires step { reader.old.step ≡ Tag }
+    requires bytes { tag.wire_type ≡ 2 }
+    requires within { tag.size ≤ length bytes.now }
+    requires tag { HasTagHere (state_view reader.old) bytes.now tag.number tag.wire_type tag.size }
+    requires means { Means pool.now (part_context (part_view reader.old.part)) tag.number 2 (purposes.Message kind slot) }
+    ensures passes { IfOk result (λ o. IfSome o (λ n. (tag.size ≤ n) × (n ≤ length bytes.now) × (reader.new.at ≡ reader.old.at + n))) }
+    ensures none { IfOk result (λ o. IfNone o (reader.new ≡ reader.old)) }
+    ensures taken { TakesWhole pool.now reader.old reader.new bytes.now result }
+{
+    if !has_room(reader.scope.room, Purpose::Message(kind, slot)) {
+        return Ok(None);
+    }
+    if !is_free(&reader.part, slot) {
+        return Ok(None);
+    }
+    let Some((start, size)) = length_behind(tag.size, bytes, left(reader)) else {
+        return Ok(None);
+    };
+    let end = start + size as usize;
+    if bytes.len() < end {
+        return Ok(None);
+    }
+    let mut inner = Part::Message(kind, empty_body(alloc));
+    let room = room_in(slot, reader.scope.room);
+    if !fill(alloc, pool, &mut inner, &bytes[start..], size, room)? {
+        *tried = reader.at + end as u32;
+        return Ok(None);
+    }
+    match inner {
+        Part::Message(_kind, message) => {
+            let outer = &mut reader.part;
+            let around = &mut reader.scope;
+            close_message(alloc, pool, outer, around, tag.number, slot, message)?;
+            reader.at += end as u32;
+            Ok(Some(end))
+        }
+        Part::Entry {
+            key_kind: _,
+            value_kind: _,
+            key: _key,
+            value: _value,
+        } => Ok(None),
+        Part::Group(_records) => Ok(None),
+    }
+}
