@@ -198,7 +198,7 @@ fn fill_message(
     pool: &Pool,
     part: &mut Part,
     tag: RecordTag,
-    kind: MessageId,
+    message_type: MessageId,
     slot: Slot,
     bytes: &[u8],
     left: u32,
@@ -211,11 +211,11 @@ fn fill_message(
     requires some { 0 < tag.size }
     requires within { tag.size ≤ length bytes.now }
     requires tag { HasTagAt bytes.now left tag.number tag.wire_type tag.size }
-    requires means { Means pool.now (part_context (part_view part.old)) tag.number 2 (purposes.Message kind slot) }
+    requires means { Means pool.now (part_context (part_view part.old)) tag.number 2 (purposes.Message message_type slot) }
     ensures passes { IfOk result (λ o. IfSome o (λ n. (tag.size ≤ n) × (n ≤ length bytes.now))) }
     ensures filled { FillsOne pool.now part.old part.new bytes.now left room result }
 {
-    if !has_room(room, Purpose::Message(kind, slot)) {
+    if !has_room(room, Purpose::Message(message_type, slot)) {
         return Ok(None);
     }
     let Some((start, size)) = length_behind(tag.size, bytes, Some(left)) else {
@@ -225,7 +225,7 @@ fn fill_message(
     if bytes.len() < end {
         return Ok(None);
     }
-    let mut inner = Part::Message(kind, take_message(alloc, slot, part));
+    let mut inner = Part::Message(message_type, take_message(alloc, slot, part));
     let below = room_in(slot, room);
     if !fill(alloc, pool, &mut inner, &bytes[start..], size, below)? {
         return Ok(None);

@@ -98,14 +98,7 @@ pub(crate) fn quick(
     let mut tried = 0;
     loop {
         take_ended(alloc, pool, reader)?;
-        let Some(size) = take_whole(
-            alloc,
-            pool,
-            reader,
-            &mut known,
-            &mut tried,
-            &bytes[here..],
-        )?
+        let Some(size) = take_whole(alloc, pool, reader, &mut known, &mut tried, &bytes[here..])?
         else {
             return Ok(here);
         };

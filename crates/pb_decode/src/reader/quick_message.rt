@@ -55,7 +55,7 @@ pub(crate) fn take_message_record(
     pool: &Pool,
     reader: &mut Reader,
     tag: RecordTag,
-    kind: MessageId,
+    message_type: MessageId,
     slot: Slot,
     tried: &mut u32,
     bytes: &[u8],
@@ -66,12 +66,12 @@ pub(crate) fn take_message_record(
     requires bytes { tag.wire_type ≡ 2 }
     requires within { tag.size ≤ length bytes.now }
     requires tag { HasTagHere (state_view reader.old) bytes.now tag.number tag.wire_type tag.size }
-    requires means { Means pool.now (part_context (part_view reader.old.part)) tag.number 2 (purposes.Message kind slot) }
+    requires means { Means pool.now (part_context (part_view reader.old.part)) tag.number 2 (purposes.Message message_type slot) }
     ensures passes { IfOk result (λ o. IfSome o (λ n. (tag.size ≤ n) × (n ≤ length bytes.now) × (reader.new.at ≡ reader.old.at + n))) }
     ensures none { IfOk result (λ o. IfNone o (reader.new ≡ reader.old)) }
     ensures taken { TakesWhole pool.now reader.old reader.new bytes.now result }
 {
-    if !has_room(reader.scope.room, Purpose::Message(kind, slot)) {
+    if !has_room(reader.scope.room, Purpose::Message(message_type, slot)) {
         return Ok(None);
     }
     if !is_free(&reader.part, slot) {
@@ -84,7 +84,7 @@ pub(crate) fn take_message_record(
     if bytes.len() < end {
         return Ok(None);
     }
-    let mut inner = Part::Message(kind, empty_body(alloc));
+    let mut inner = Part::Message(message_type, empty_body(alloc));
     let room = room_in(slot, reader.scope.room);
     if !fill(alloc, pool, &mut inner, &bytes[start..], size, room)? {
         *tried = reader.at + end as u32;

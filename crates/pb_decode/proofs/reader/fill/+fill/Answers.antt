@@ -23,9 +23,13 @@ fill-fill_record-requires t c =
     let small = c.requires.small in
     let less : 4 * (c.args.size - c.loop-here.here) + 2 < 4 * c.args.size + 3 = omega arith in (
       search (rules, less),
-      (c.requires.rules, (
-      still_open (part_view c.args.part.now) (part_view c.loop-here.part) c.args.bytes.now c.args.size c.args.room c.loop-here.here c.requires.open c.loop-here.invariant.filled,
-      omega (arith, size, small))),
+      (
+        c.requires.rules,
+        (
+          still_open (part_view c.args.part.now) (part_view c.loop-here.part) c.args.bytes.now c.args.size c.args.room c.loop-here.here c.requires.open c.loop-here.invariant.filled,
+          omega (arith, size, small),
+        ),
+      ),
     )
 
 pub fill-loop-here-preserved : goal.fill-loop-here-preserved
@@ -54,10 +58,14 @@ fill_entry-fill-requires t c =
     let shorter = inner_shorter c.args.bytes.now c.args.left c.args.tag.number c.args.tag.size c.in-Some.start c.in-Some.size (has 0) (c.in-Some.ensures.whole 0 c.args.tag.number c.args.tag.wire_type (c.requires.tag 0)) c.requires.some c.in-Some.ensures.within.0 in
     let less : 4 * c.in-Some.size + 3 < 4 * c.args.left = omega (arith, shorter) in (
       search (rules, less),
-      (c.requires.rules, (
-      entry_in_part c.args.bytes.now c.args.left c.args.tag.number c.args.tag.size c.in-Some.start c.in-Some.size c.args.room c.args.key_kind c.args.value_kind c.requires.rules c.requires.open has
-            (λ at. c.in-Some.ensures.whole at c.args.tag.number c.args.tag.wire_type (c.requires.tag at)) c.requires.means (omega (arith, level)),
-      (omega (arith, is, small), search (rules, is)))),
+      (
+        c.requires.rules,
+        (
+          entry_in_part c.args.bytes.now c.args.left c.args.tag.number c.args.tag.size c.in-Some.start c.in-Some.size c.args.room c.args.key_kind c.args.value_kind c.requires.rules c.requires.open has
+              (λ at. c.in-Some.ensures.whole at c.args.tag.number c.args.tag.wire_type (c.requires.tag at)) c.requires.means (omega (arith, level)),
+          (omega (arith, is, small), search (rules, is)),
+        ),
+      ),
     )
 
 pub fill_entry-put_entry-requires-clause-key : goal.fill_entry-put_entry-requires-clause-key
@@ -94,23 +102,27 @@ fill_message-fill-requires t c =
     let shorter = inner_shorter c.args.bytes.now c.args.left c.args.tag.number c.args.tag.size c.in-Some.start c.in-Some.size (has 0) (c.in-Some.ensures.whole 0 c.args.tag.number c.args.tag.wire_type (c.requires.tag 0)) c.requires.some c.in-Some.ensures.within.0 in
     let less : 4 * c.in-Some.size + 3 < 4 * c.args.left = omega (arith, shorter) in (
       search (rules, less),
-      (c.requires.rules, (
-      message_in_part c.args.bytes.now c.args.left c.args.tag.number c.args.tag.size c.in-Some.start c.in-Some.size c.args.room c.room_in-below.result c.args.kind c.args.slot (part_view c.take_message.new.outer) (body_view c.take_message.result) c.requires.rules c.requires.open c.room_in-below.ensures has
-            (λ at. c.in-Some.ensures.whole at c.args.tag.number c.args.tag.wire_type (c.requires.tag at)) c.requires.means (c.if-not-has_room.ensures.room refl) c.take_message.ensures.left c.take_message.ensures.taken,
-      (omega (arith, is, small), search (rules, is)))),
+      (
+        c.requires.rules,
+        (
+          message_in_part c.args.bytes.now c.args.left c.args.tag.number c.args.tag.size c.in-Some.start c.in-Some.size c.args.room c.room_in-below.result c.args.message_type c.args.slot (part_view c.take_message.new.outer) (body_view c.take_message.result) c.requires.rules c.requires.open c.room_in-below.ensures has
+              (λ at. c.in-Some.ensures.whole at c.args.tag.number c.args.tag.wire_type (c.requires.tag at)) c.requires.means (c.if-not-has_room.ensures.room refl) c.take_message.ensures.left c.take_message.ensures.taken,
+          (omega (arith, is, small), search (rules, is)),
+        ),
+      ),
     )
 
 pub fill_message-put_message-requires : goal.fill_message-put_message-requires
 fill_message-put_message-requires t c =
     let from = c.requires.open in
     let has = bytes_tag c.args.bytes.now c.args.left c.args.tag.number c.args.tag.wire_type c.args.tag.size c.requires.bytes c.requires.tag in
-    let read = message_inside from.at (Some c.args.left) c.args.bytes.now c.args.tag.number c.args.tag.size c.in-Some.start c.in-Some.size c.args.room c.room_in-below.result c.args.kind c.args.slot (part_view c.take_message.new.outer) (body_view c.take_message.result) c.requires.rules from.stands c.room_in-below.ensures (has from.at) (c.in-Some.ensures.whole from.at c.args.tag.number c.args.tag.wire_type (c.requires.tag from.at)) c.requires.means (c.if-not-has_room.ensures.room refl) c.take_message.ensures.left c.take_message.ensures.taken (c.in_ok-fill.ensures c.if-not-branch.false) (ap part_view c.in-Message.is) in
+    let read = message_inside from.at (Some c.args.left) c.args.bytes.now c.args.tag.number c.args.tag.size c.in-Some.start c.in-Some.size c.args.room c.room_in-below.result c.args.message_type c.args.slot (part_view c.take_message.new.outer) (body_view c.take_message.result) c.requires.rules from.stands c.room_in-below.ensures (has from.at) (c.in-Some.ensures.whole from.at c.args.tag.number c.args.tag.wire_type (c.requires.tag from.at)) c.requires.means (c.if-not-has_room.ensures.room refl) c.take_message.ensures.left c.take_message.ensures.taken (c.in_ok-fill.ensures c.if-not-branch.false) (ap part_view c.in-Message.is) in
     frame_can_hold read.1
 
 pub fill_message-returns-in_ok-put_message-in-Message-clause-filled : goal.fill_message-returns-in_ok-put_message-in-Message-clause-filled
 fill_message-returns-in_ok-put_message-in-Message-clause-filled t c =
     λ m depth levels at base p0 frames there.
     let has = bytes_tag c.args.bytes.now c.args.left c.args.tag.number c.args.tag.wire_type c.args.tag.size c.requires.bytes c.requires.tag in
-    let read = message_inside at (Some c.args.left) c.args.bytes.now c.args.tag.number c.args.tag.size c.in-Some.start c.in-Some.size c.args.room c.room_in-below.result c.args.kind c.args.slot (part_view c.take_message.new.outer) (body_view c.take_message.result) c.requires.rules there c.room_in-below.ensures (has at) (c.in-Some.ensures.whole at c.args.tag.number c.args.tag.wire_type (c.requires.tag at)) c.requires.means (c.if-not-has_room.ensures.room refl) c.take_message.ensures.left c.take_message.ensures.taken (c.in_ok-fill.ensures c.if-not-branch.false) (ap part_view c.in-Message.is) in
+    let read = message_inside at (Some c.args.left) c.args.bytes.now c.args.tag.number c.args.tag.size c.in-Some.start c.in-Some.size c.args.room c.room_in-below.result c.args.message_type c.args.slot (part_view c.take_message.new.outer) (body_view c.take_message.result) c.requires.rules there c.room_in-below.ensures (has at) (c.in-Some.ensures.whole at c.args.tag.number c.args.tag.wire_type (c.requires.tag at)) c.requires.means (c.if-not-has_room.ensures.room refl) c.take_message.ensures.left c.take_message.ensures.taken (c.in_ok-fill.ensures c.if-not-branch.false) (ap part_view c.in-Message.is) in
     message_over at c.args.left c.args.bytes.now c.args.tag.number c.in-Some.start c.in-Some.size c.args.room c.room_in-below.result c.in-Message._kind.0 c.args.slot (body_view c.in-Message.message) (part_view c.put_message.new.outer) there.1 there.2 read
     c.in_ok-put_message-in-Message.ensures
