@@ -102,5 +102,5 @@ const ENUMS: &[EnumRow] = &[
 ];
 
 pub(crate) fn pool(alloc: Global) -> Result<Pool, Fail> {
-    pool_of(alloc, FILES, TYPES, ENUMS)
+    Ok(pool_of(alloc, FILES, TYPES, ENUMS)?)
 }

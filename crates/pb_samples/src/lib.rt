@@ -1,10 +1,17 @@
 //! What crates of tests share: types that stand in rows, and values that are read from words.
 #![tactic(auto)]
 
+mod bodies;
+mod contents;
+mod error;
+mod texts;
 mod types;
-mod words;
+mod values;
 
+pub use bodies::body_of;
+pub use contents::content_of;
+pub use error::WordError;
 pub use types::{
     EnumRow, FIELDS_OF_F, FIELDS_OF_T, FieldRow, FileRow, PACKED, TypeRow, UNPACKED, pool_of,
 };
-pub use words::{body_of, content_of, key_of, value_of};
+pub use values::{key_of, value_of};

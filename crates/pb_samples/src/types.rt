@@ -1,8 +1,15 @@
 //! Pools of types that stand in rows.
 
-use pb_schema::{EnumId, EnumType, Field, FileInfo, Kind, MessageId, MessageType, Pool, Shape};
+ghost use Rattle.std.specs.Prelude.{◌≡◌, map, string_bytes, IfOk, IfErr};
+ghost use Rattle.pb_schema.specs.Rules.{IsPool};
+ghost use Rattle.pb_schema.specs.View.{field_view, message_view, enum_view, file_view};
+ghost use Rattle.pb_schema.specs.declared.error.PoolError.TheVariants.{BadParts};
+ghost use Rattle.pb_samples.specs.Types.{field_in, message_in, enum_in, file_in, names_in, values_in, types_in};
+
+use pb_schema::{
+    EnumId, EnumType, Field, FileInfo, Kind, MessageId, MessageType, Pool, PoolError, Shape,
+};
 use std::alloc::{AllocError, Global};
-use std::test::Fail;
 
 /// A file by its name, its package, and whether it is of proto2.
 pub type FileRow<'a> = (&'a str, &'a str, bool);
@@ -62,45 +69,70 @@ pub const FIELDS_OF_F: &[FieldRow] = &[
     ("h", 18, Kind::Fixed32, PACKED),
 ];
 
-/// The pool of these files, types and enums.
+/// The pool of these files, types and enums, where they meet the rules of a pool.
 pub fn pool_of(
     alloc: Global,
     files: &[FileRow<'_>],
     types: &[TypeRow],
     enums: &[EnumRow],
-) -> Result<Pool, Fail> {
+) -> Result<Pool, PoolError>
+    ensures made { IfOk result (λ p. p ≡ types_in files.now types.now enums.now) }
+    ensures rules { IfOk result (λ p. IsPool p) }
+    ensures refused { IfErr result (λ e. e ≡ BadParts → ¬ IsPool (types_in files.now types.now enums.now)) }
+{
     let files = files_of(alloc, files)?;
     let types = types_of(alloc, types)?;
-    Ok(Pool::from_parts(alloc, files, types, enums_of(alloc, enums)?)?)
+    let enums = enums_of(alloc, enums)?;
+    Pool::from_parts(alloc, files, types, enums)
 }
 
-fn files_of(alloc: Global, rows: &[FileRow<'_>]) -> Result<Vec<FileInfo>, AllocError> {
+fn file_of(alloc: Global, row: &FileRow<'_>) -> Result<FileInfo, AllocError>
+    ensures { IfOk result (λ f. file_view f ≡ file_in row.now) }
+{
+    let (name, package, proto2) = *row;
+    Ok(FileInfo {
+        name: String::from_str(alloc, name)?,
+        package: String::from_str(alloc, package)?,
+        imports: Vec::new(alloc),
+        proto2,
+    })
+}
+
+fn files_of(alloc: Global, rows: &[FileRow<'_>]) -> Result<Vec<FileInfo>, AllocError>
+    ensures { IfOk result (λ fs. map file_view fs.items ≡ map file_in rows.now) }
+{
     let mut files = Vec::new(alloc);
-    for (name, package, proto2) in rows {
-        files.push(FileInfo {
-            name: String::from_str(alloc, name)?,
-            package: String::from_str(alloc, package)?,
-            imports: Vec::new(alloc),
-            proto2: *proto2,
-        })?;
+    for row in rows {
+        files.push(file_of(alloc, row)?)?;
     }
     Ok(files)
 }
 
-fn fields_of(alloc: Global, rows: &[FieldRow]) -> Result<Vec<Field>, AllocError> {
+fn field_of(alloc: Global, row: &FieldRow) -> Result<Field, AllocError>
+    ensures { IfOk result (λ f. field_view f ≡ field_in row.now) }
+{
+    let (name, number, kind, shape) = *row;
+    Ok(Field {
+        name: String::from_str(alloc, name)?,
+        number,
+        kind,
+        shape,
+    })
+}
+
+fn fields_of(alloc: Global, rows: &[FieldRow]) -> Result<Vec<Field>, AllocError>
+    ensures { IfOk result (λ fs. map field_view fs.items ≡ map field_in rows.now) }
+{
     let mut fields = Vec::new(alloc);
-    for (name, number, kind, shape) in rows {
-        fields.push(Field {
-            name: String::from_str(alloc, name)?,
-            number: *number,
-            kind: *kind,
-            shape: *shape,
-        })?;
+    for row in rows {
+        fields.push(field_of(alloc, row)?)?;
     }
     Ok(fields)
 }
 
-fn names_of(alloc: Global, rows: &[&str]) -> Result<Vec<String>, AllocError> {
+fn names_of(alloc: Global, rows: &[&str]) -> Result<Vec<String>, AllocError>
+    ensures { IfOk result (λ ns. map string_bytes ns.items ≡ names_in rows.now) }
+{
     let mut names = Vec::new(alloc);
     for name in rows {
         names.push(String::from_str(alloc, name)?)?;
@@ -108,21 +140,32 @@ fn names_of(alloc: Global, rows: &[&str]) -> Result<Vec<String>, AllocError> {
     Ok(names)
 }
 
-fn types_of(alloc: Global, rows: &[TypeRow]) -> Result<Vec<MessageType>, AllocError> {
+fn type_of(alloc: Global, row: &TypeRow) -> Result<MessageType, AllocError>
+    ensures { IfOk result (λ t. message_view t ≡ message_in row.now) }
+{
+    let (name, file, parent, fields, oneofs) = *row;
+    Ok(MessageType {
+        name: String::from_str(alloc, name)?,
+        file,
+        parent,
+        fields: fields_of(alloc, fields)?,
+        oneofs: names_of(alloc, oneofs)?,
+    })
+}
+
+fn types_of(alloc: Global, rows: &[TypeRow]) -> Result<Vec<MessageType>, AllocError>
+    ensures { IfOk result (λ ts. map message_view ts.items ≡ map message_in rows.now) }
+{
     let mut types = Vec::new(alloc);
-    for (name, file, parent, fields, oneofs) in rows {
-        types.push(MessageType {
-            name: String::from_str(alloc, name)?,
-            file: *file,
-            parent: *parent,
-            fields: fields_of(alloc, fields)?,
-            oneofs: names_of(alloc, oneofs)?,
-        })?;
+    for row in rows {
+        types.push(type_of(alloc, row)?)?;
     }
     Ok(types)
 }
 
-fn values_of(alloc: Global, rows: &[(&str, i32)]) -> Result<Vec<(String, i32)>, AllocError> {
+fn values_of(alloc: Global, rows: &[(&str, i32)]) -> Result<Vec<(String, i32)>, AllocError>
+    ensures { IfOk result (λ vs. map (λ v. (string_bytes v.0, v.1)) vs.items ≡ values_in rows.now) }
+{
     let mut values = Vec::new(alloc);
     for (name, number) in rows {
         values.push((String::from_str(alloc, name)?, *number))?;
@@ -130,15 +173,24 @@ fn values_of(alloc: Global, rows: &[(&str, i32)]) -> Result<Vec<(String, i32)>, 
     Ok(values)
 }
 
-fn enums_of(alloc: Global, rows: &[EnumRow]) -> Result<Vec<EnumType>, AllocError> {
+fn enum_of(alloc: Global, row: &EnumRow) -> Result<EnumType, AllocError>
+    ensures { IfOk result (λ t. enum_view t ≡ enum_in row.now) }
+{
+    let (name, file, values) = *row;
+    Ok(EnumType {
+        name: String::from_str(alloc, name)?,
+        file,
+        parent: None,
+        values: values_of(alloc, values)?,
+    })
+}
+
+fn enums_of(alloc: Global, rows: &[EnumRow]) -> Result<Vec<EnumType>, AllocError>
+    ensures { IfOk result (λ ts. map enum_view ts.items ≡ map enum_in rows.now) }
+{
     let mut enums = Vec::new(alloc);
-    for (name, file, values) in rows {
-        enums.push(EnumType {
-            name: String::from_str(alloc, name)?,
-            file: *file,
-            parent: None,
-            values: values_of(alloc, values)?,
-        })?;
+    for row in rows {
+        enums.push(enum_of(alloc, row)?)?;
     }
     Ok(enums)
 }

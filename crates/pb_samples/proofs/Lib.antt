@@ -1,0 +1,5 @@
+pub mod NumberLemmas
+pub mod TextLemmas
+pub mod EntryLemmas
+mod WordRows
+mod TypeRows
