@@ -92,6 +92,21 @@ def pbtool():
     return run(os.path.join(TOP, "dist", "program")).decode().strip()
 
 
+def library():
+    """The folder of a library for C of these sources: one that was made here, or the released one."""
+    return run(os.path.join(TOP, "dist", "library")).decode().strip()
+
+
+def texts(work, scale):
+    """The texts of bench/texts/make_texts.py in a folder, made where they are not there yet."""
+    folder = os.path.join(work, f"texts.{scale}")
+    if not os.path.exists(folder):
+        say("making the texts")
+        run(sys.executable, os.path.join(HERE, "texts", "make_texts.py"), folder + ".new", str(scale))
+        os.rename(folder + ".new", folder)
+    return folder
+
+
 class Process:
     """Runs commands by the program process.c."""
 
