@@ -51,13 +51,15 @@ def lines_of(crates, libraries):
 def build_ours(name, crates, work, libraries, sources):
     """A Rattle program over libraries of a folder of crates, proved and built in a copy of what they stand on: the path of the program.
 
-    The copy is WORK/NAME. What earlier checks kept in the crates' out folders serves there too."""
+    The copy is WORK/NAME. What `rt check` kept in the crates' out folders serves there too, and where that is not all, what `rt ci` keeps."""
     copy, lines = os.path.join(work, name), lines_of(crates, libraries)
     for crate in lines:
         folder = os.path.join(copy, "crates", crate)
         shutil.rmtree(folder, ignore_errors=True)
         os.makedirs(os.path.dirname(folder), exist_ok=True)
         run("cp", "-a", os.path.join(crates, crate), folder)
+        # Whose wrong bodies are refused is told by the gate.
+        shutil.rmtree(os.path.join(folder, "must-fail"), ignore_errors=True)
     program = os.path.join(copy, "crates", "timing")
     os.makedirs(os.path.join(program, "src"), exist_ok=True)
     # The sources end in .txt, since the gate refuses a .rt file that no crate of its own reads.
@@ -71,11 +73,13 @@ def build_ours(name, crates, work, libraries, sources):
     if os.path.exists(built):
         os.remove(built)
     say(f"proving and building the program of {name} in {copy}")
-    ran = subprocess.run(["rt", "run"], cwd=program, stdin=subprocess.DEVNULL, capture_output=True, text=True)
-    # `rt run` runs the program too, here without words, so what counts is whether it is there.
-    if not os.path.exists(built):
-        sys.exit(f"the program of {name} is not proved:\n{(ran.stdout + ran.stderr)[-3000:]}")
-    return built
+    is_checked = all(os.path.isfile(os.path.join(copy, "crates", it, "out", "rlib", "stamp")) for it in lines)
+    for words, folder in ([] if is_checked else [(("rt", "ci"), copy)]) + [(("rt", "run"), program)]:
+        ran = subprocess.run(words, cwd=folder, stdin=subprocess.DEVNULL, capture_output=True, text=True)
+        # The program is run too, here without words, so what counts is whether it is there.
+        if os.path.exists(built):
+            return built
+    sys.exit(f"the program of {name} is not proved:\n{(ran.stdout + ran.stderr)[-3000:]}")
 
 
 def build_peer(source, out):
@@ -90,6 +94,21 @@ def build_peer(source, out):
 def pbtool():
     """The released program, or the one that is built here."""
     return run(os.path.join(TOP, "dist", "program")).decode().strip()
+
+
+def library():
+    """The folder of a library for C of these sources: one that was made here, or the released one."""
+    return run(os.path.join(TOP, "dist", "library")).decode().strip()
+
+
+def texts(work, scale):
+    """The texts of bench/texts/make_texts.py in a folder, made where they are not there yet."""
+    folder = os.path.join(work, f"texts.{scale}")
+    if not os.path.exists(folder):
+        say("making the texts")
+        run(sys.executable, os.path.join(HERE, "texts", "make_texts.py"), folder + ".new", str(scale))
+        os.rename(folder + ".new", folder)
+    return folder
 
 
 class Process:

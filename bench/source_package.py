@@ -1,6 +1,7 @@
 """Debian's source package of protobuf, which holds protobuf's own test data and its conformance suite."""
 import os
 import subprocess
+import sys
 
 
 def run(*words, **how):
@@ -23,3 +24,12 @@ def fetch(folder):
     archive = next(it for it in os.listdir(folder) if ".orig.tar" in it)
     run("tar", "-xf", archive, cwd=folder)
     return fetch(folder)
+
+
+def fetched(folder, otherwise):
+    """As fetch; where the package can't be had, says what then is and returns None."""
+    try:
+        return fetch(folder)
+    except (OSError, subprocess.CalledProcessError) as fault:
+        print(f"protobuf's source is not fetched ({fault}), so {otherwise}; --source names a folder that has it", file=sys.stderr, flush=True)
+        return None

@@ -1,5 +1,5 @@
-# What dist/program, dist/release, .ci/library and .ci/run share: what was made of what. Whoever reads this in has set `top`, the repository's
-# folder.
+# What dist/program, dist/library, dist/release, .ci/library and .ci/run share: what was made of what. Whoever reads this in has set `top`, the
+# repository's folder.
 
 # A hash of all that the program and the library are proved and built of: crates.txt, HANDLES, and each file in src, specs and proofs of a
 # crate, by their paths and bytes alone, in the order of the paths' bytes. So it is the same in each clone, whatever the locale, the modes and
@@ -38,4 +38,27 @@ record_library() {
     echo "objcopy $(objcopy --version | head -n 1)"
     echo "machine $(uname -sm)"
     echo "kit $(rt version)"
+}
+
+# Whether a folder has a library that the record says was made of these sources, with this header.
+is_of_these() {
+    [ -f "$1/libmabristu.so" ] && [ "$(recorded sources "$2")" = "$(sources_hash)" ] && [ "$(recorded header "$2")" = "$(sum_of "$top/include/mabristu.h")" ]
+}
+
+# The crates of this repository that a crate stands on, lowest first, and the crate itself.
+stack() {
+    stacked "$1" | awk '!seen[$0]++'
+}
+
+stacked() {
+    local name
+    for name in $(sed -n "s/#.*//; s/^$1\( [^:]*\)\?://p" "$top/crates.txt"); do
+        if [ -d "$top/crates/$name" ]; then stacked "$name"; fi
+    done
+    echo "$1"
+}
+
+# Whether what .ci/library takes beside the kit is there.
+has_binutils() {
+    command -v objcopy >/dev/null && command -v nm >/dev/null
 }

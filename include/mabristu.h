@@ -1,5 +1,8 @@
 /* Mabristu for C: Protocol Buffers bytes checked, rewritten and shown by proved code, by types that are known only at run time.
  *
+ * Link a pool of types once, from a descriptor set or from sources, and find the number of a type by its name. Then check, rewrite or show as many
+ * messages of it as there are. Free the pool. Names and texts are bytes with a length, and no zero byte ends them. docs/C.md has it in examples.
+ *
  * What a caller owes, and nothing checks:
  * - A pointer and the length behind it are those of one stretch of memory that may be read, and written where it is not const, for the whole
  *   call. Where the length is 0 the pointer may be null. No other pointer may be null.
@@ -8,9 +11,9 @@
  *   a time uses a handle: for another thread share it (mb_pool_share).
  * - malloc, realloc and free come from one allocator, which is ready (no call from a signal handler, nor in the child of a fork of a process
  *   with threads).
- * A call prints nothing, has no state but what its handles hold, and always returns: it never aborts. It needs up to 200 KB of
- *   stack, for what nests 100 deep (docs/C.md).
- * What a call does not answer by its number it does not write: out-parameters are as they were.
+ *
+ * A call prints nothing, has no state but what its handles hold, and always returns: it never aborts. It needs up to 200 KB of stack, for what nests
+ * 100 deep (docs/C.md). What a call does not answer by its number it does not write: out-parameters are as they were.
  */
 #ifndef MABRISTU_H
 #define MABRISTU_H
@@ -32,7 +35,7 @@ enum {
     MB_DONE = 0,        /* what was asked is done */
     MB_BAD_LIMITS = 1,  /* a limit is above the greatest */
     MB_NO_TYPE = 2,     /* the pool has no message type of that name or number */
-    MB_EMPTY = 3,       /* the handle holds nothing */
+    MB_EMPTY = 3,       /* the handle holds nothing: nothing was linked into it, linking was refused, or it was freed */
     MB_BAD_NAME = 4,    /* the name of a source is not UTF-8, or there are not as many names as texts */
     MB_PART = 5,        /* the bytes end before their frame does: come again with more */
     MB_FAULT = 13,      /* the bytes have a fault, which is told */
@@ -46,6 +49,7 @@ enum {
     MB_STRAY_END = 7, MB_WRONG_END = 8, MB_LENGTH_TOO_LARGE = 9, MB_BAD_TEXT = 10, MB_TOO_DEEP = 11, MB_INPUT_TOO_LARGE = 12
 };
 
+/* The greatest limits. Each call on bytes is given its own: how many bytes it takes, and how deep messages and groups may nest. */
 #define MB_MAX_BYTES UINT32_C(0x7fffffff)
 #define MB_MAX_DEPTH UINT8_C(100)
 /* A path has at most this many steps, so a buffer of that many always holds it. */
@@ -92,9 +96,9 @@ struct mb_refusal {
     size_t name_len;  /* of linking: the length of the declaration's full name, which follows it there */
 };
 
-/* Links the types of a descriptor set, as `protoc --descriptor_set_out` or `pbtool compile` writes one, into a handle, in place of what it held.
- * Where that is refused the handle holds nothing. For MB_FAULT (the bytes are no set) the fault is told, for 52 to 60 (a file of the set) and for
- * 71 to 89 (linking) the refusal, with as much of its text as the buffer holds. */
+/* Links the types of a descriptor set, as `protoc --include_imports --descriptor_set_out` or `pbtool compile` writes one, into a handle, in place of
+ * what it held. Where the answer is another than MB_DONE the handle holds nothing. For MB_FAULT (the bytes are no set) the fault is told, for 52 to
+ * 60 (a file of the set) and for 71 to 89 (linking) the refusal, with as much of its text as the buffer holds. */
 uint32_t mb_pool_link(const uint8_t *set, size_t set_len, struct mb_pool *pool,
                       struct mb_fault *fault, struct mb_step *path, size_t path_len,
                       struct mb_refusal *refusal, uint8_t *text, size_t text_len);
@@ -105,19 +109,21 @@ struct mb_bytes {
     size_t len;
 };
 
-/* Links the types of sources of proto3, each given by its name (as imports name it) and its text. As mb_pool_link, but that for 50 and 61 to 69
- * (a source) the refusal tells the source's index and the byte. */
+/* Links the types of sources of proto3, each given by its name (as imports name it) and its text, the name first in one list where the text is first
+ * in the other. What a source imports has to be among them, google/protobuf/timestamp.proto too. As mb_pool_link, but that for 50 and 61 to 69 (a
+ * source) the refusal tells the source's index and the byte. */
 uint32_t mb_pool_compile(const struct mb_bytes *names, size_t names_len, const struct mb_bytes *texts, size_t texts_len, struct mb_pool *pool,
                          struct mb_refusal *refusal, uint8_t *text, size_t text_len);
 
 /* Puts the pool that one handle holds into another one too, in place of what that held: both hold one pool, which is freed with the last of them.
- * The other handle may go to another thread. */
+ * The other handle may go to another thread. Where the answer is another than MB_DONE the other handle is as it was. */
 uint32_t mb_pool_share(struct mb_pool *pool, struct mb_pool *other);
 
 /* Frees what a handle holds. One that holds nothing stays as it is. */
 void mb_pool_free(struct mb_pool *pool);
 
-/* Tells the number of a message type by its full name, as in shop.Order. */
+/* Tells the number of a message type by its full name, as in shop.Order. It is the number of that type in each handle that shares the pool, and says
+ * nothing of other pools. */
 uint32_t mb_pool_type(struct mb_pool *pool, const uint8_t *name, size_t name_len, uint32_t *type);
 
 /* ---- Messages of a type ---- */

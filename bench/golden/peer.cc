@@ -5,6 +5,8 @@
 // extensions and of these maps are unknown ones then. It prints what it dropped. `canon` writes the deterministic serialization of a
 // message to standard output. `payloads` writes each payload of a message of benchmarks.proto to a file in FOLDER, and prints the type
 // that the message names.
+#include "../texts/texts.h"
+
 #include <google/protobuf/descriptor.h>
 #include <google/protobuf/descriptor.pb.h>
 #include <google/protobuf/dynamic_message.h>
@@ -13,18 +15,12 @@
 
 #include <cstdio>
 #include <fstream>
-#include <iterator>
 #include <memory>
 #include <set>
 #include <string>
 #include <vector>
 
 using namespace google::protobuf;
-
-static std::string contents(const char* path) {
-    std::ifstream in(path, std::ios::binary);
-    return std::string(std::istreambuf_iterator<char>(in), std::istreambuf_iterator<char>());
-}
 
 static bool put(const std::string& path, const std::string& bytes) {
     std::ofstream out(path, std::ios::binary);

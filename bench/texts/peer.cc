@@ -1,44 +1,19 @@
 // Measures libprotobuf's dynamic messages on texts: peer SET TYPE CALLS ROUNDS FILE..
 //
 // SET is what protoc --include_imports --descriptor_set_out wrote. The other words and what is printed are those of main.rt.txt.
+#include "texts.h"
+
 #include <google/protobuf/descriptor.h>
 #include <google/protobuf/descriptor.pb.h>
 #include <google/protobuf/dynamic_message.h>
 
 #include <cstdio>
 #include <cstdlib>
-#include <ctime>
-#include <fstream>
-#include <iterator>
 #include <memory>
 #include <string>
 #include <vector>
 
 using namespace google::protobuf;
-
-static std::string contents(const char* path) {
-    std::ifstream in(path, std::ios::binary);
-    return std::string(std::istreambuf_iterator<char>(in), std::istreambuf_iterator<char>());
-}
-
-static std::vector<std::string> texts_of(const std::string& file) {
-    std::vector<std::string> texts;
-    size_t at = 0;
-    while (at + 4 <= file.size()) {
-        size_t size = 0;
-        for (int k = 3; k >= 0; k--) size = size << 8 | (unsigned char)file[at + k];
-        texts.push_back(file.substr(at + 4, size));
-        at += 4 + size;
-    }
-    return texts;
-}
-
-// Processor time of the process, in nanoseconds.
-static long long now() {
-    timespec time;
-    clock_gettime(CLOCK_PROCESS_CPUTIME_ID, &time);
-    return time.tv_sec * 1000000000LL + time.tv_nsec;
-}
 
 // A message is made, read and dropped.
 static void time_decode(const Message& prototype, const char* path, const std::vector<std::string>& texts) {

@@ -1,10 +1,11 @@
 // Times libprotobuf's dynamic messages on the messages of messages.rt, one line a call, as main.rt prints them.
+#include "../texts/texts.h"
+
 #include <google/protobuf/descriptor.h>
 #include <google/protobuf/descriptor.pb.h>
 #include <google/protobuf/dynamic_message.h>
 
 #include <cstdio>
-#include <ctime>
 #include <memory>
 #include <string>
 
@@ -44,13 +45,6 @@ static void set_small(Message* message) {
     reflection->SetString(message, type->FindFieldByNumber(2), "worker-17");
     reflection->SetDouble(message, type->FindFieldByNumber(3), 3.141592653589793);
     reflection->SetInt64(message, type->FindFieldByNumber(4), -123456);
-}
-
-// Processor time of the process, in nanoseconds.
-static long long now() {
-    timespec time;
-    clock_gettime(CLOCK_PROCESS_CPUTIME_ID, &time);
-    return time.tv_sec * 1000000000LL + time.tv_nsec;
 }
 
 static void time_all(const char* name, const Message& message, int rounds) {

@@ -1,4 +1,4 @@
-/* What check.c, show.c and walk.c share: the line of each refusal, as pbtool tells it (told.c); files, and a type of a set (files.c). */
+/* What check.c, show.c, walk.c and sources.c share: the line of each refusal, as pbtool tells it (told.c); files, and a type of a set (files.c). */
 #ifndef COMMON_H
 #define COMMON_H
 
@@ -23,6 +23,9 @@ int tell(uint32_t answer, const struct told *told);
 
 /* The same of mb_pool_link. The names in the text are those that the refusal tells. */
 int tell_link(uint32_t answer, const struct told *told, const struct mb_refusal *refusal, const uint8_t *text);
+
+/* The same of mb_pool_compile, of sources with these names. */
+int tell_compile(uint32_t answer, const struct mb_refusal *refusal, const uint8_t *text, char *const *names);
 
 /* Gives a buffer more room. Where there is no memory it tells so and exits with status 3. */
 void grow(struct buffer *buffer, size_t room);

@@ -3,11 +3,12 @@
 #include <inttypes.h>
 #include <stdio.h>
 
-/* The names of causes, by their numbers: 1 to 12 of bytes, 52 to 60 of a set, 71 to 89 of linking. */
+/* The names of causes, by their numbers: 1 to 12 of bytes, 50 and 61 to 69 of a source, 52 to 60 of a set, 71 to 89 of linking. */
 static const char *const cause_names[90] = {
     [1] = "Truncated", "PastEnd", "VarintTooLong", "TagTooLarge", "NumberZero", "BadType", "StrayEnd", "WrongEnd", "LengthTooLarge", "BadText",
-    "TooDeep", "InputTooLarge", [52] = "MissingName", "BadLabel", "BadTypeNumber", "Extension", "NotProto3", "Required", "Group",
-    [60] = "DefaultValue", [71] = "TwoFiles", "MissingImport", "ImportCycle", "BadName", "NameTaken", "NotFound", "NotVisible", "NotAType",
+    "TooDeep", "InputTooLarge", [50] = "SourceTooLarge", [52] = "MissingName", "BadLabel", "BadTypeNumber", "Extension", "NotProto3", "Required",
+    "Group", [60] = "DefaultValue", "BadUtf8", "BadToken", "OpenComment", "OpenText", "Unexpected", "NumberTooLarge", "CustomOption", "NotProto3",
+    "NestedTooDeep", [71] = "TwoFiles", "MissingImport", "ImportCycle", "BadName", "NameTaken", "NotFound", "NotVisible", "NotAType",
     "BadNumber", "NumberTaken", "Reserved", "BadOneof", "BadMap", "BadPacked", "BadEnum", "KindMismatch", "BadRange", [89] = "ClosedEnum",
 };
 
@@ -30,20 +31,41 @@ static void tell_name(const uint8_t *name, size_t len)
     fwrite(len == 0 ? (const uint8_t *)"-" : name, 1, len == 0 ? 1 : len, stderr);
 }
 
+/* Of declarations that do not link, the file and the declaration. */
+static void tell_names(const struct mb_refusal *refusal, const uint8_t *text)
+{
+    fprintf(stderr, "link ");
+    tell_name(text, refusal->file_len);
+    fprintf(stderr, " at ");
+    tell_name(text + refusal->file_len, refusal->name_len);
+}
+
 int tell_link(uint32_t answer, const struct told *told, const struct mb_refusal *refusal, const uint8_t *text)
 {
     if (answer == MB_MEMORY || answer == MB_FAULT) {
         fprintf(stderr, answer == MB_FAULT ? "set " : "");
         return tell(answer, told);
     }
-    if (answer < 71) {
+    if (answer < 71)
         fprintf(stderr, "set file %zu", refusal->file);
-    } else {
-        fprintf(stderr, "link ");
-        tell_name(text, refusal->file_len);
-        fprintf(stderr, " at ");
-        tell_name(text + refusal->file_len, refusal->name_len);
+    else
+        tell_names(refusal, text);
+    fprintf(stderr, " cause %s\n", cause_names[answer]);
+    return 1;
+}
+
+int tell_compile(uint32_t answer, const struct mb_refusal *refusal, const uint8_t *text, char *const *names)
+{
+    if (answer == MB_MEMORY)
+        return tell(answer, NULL);
+    if (answer == MB_BAD_NAME) {
+        fprintf(stderr, "a name is not UTF-8\n");
+        return 1;
     }
+    if (answer < 71)
+        fprintf(stderr, "source %s byte %" PRIu64, names[refusal->file], refusal->byte);
+    else
+        tell_names(refusal, text);
     fprintf(stderr, " cause %s\n", cause_names[answer]);
     return 1;
 }

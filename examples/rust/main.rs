@@ -1,38 +1,12 @@
 //! The words of pbtool, by the library: main check|show|canon|frames SET TYPE FILE, main short FILE, main compile ROOT FILE..
+mod files;
 mod mabristu;
 
+use files::{Failure, failure, hexadecimal, print, read, refused};
 use mabristu::{Error, Limits, Pool};
-use std::io::Write;
 use std::process::ExitCode;
 
 const FULL: Limits = Limits::FULL;
-
-/// A line for standard error, and the status to exit with.
-type Failure = (String, u8);
-
-fn read(name: &str) -> Result<Vec<u8>, Failure> {
-    std::fs::read(name).map_err(|_| (format!("device {name}"), 3))
-}
-
-fn print(bytes: &[u8]) -> Result<(), Failure> {
-    std::io::stdout().write_all(bytes).map_err(|_| ("device -".to_owned(), 3))
-}
-
-fn failure(error: Error, before: &str) -> Failure {
-    match error {
-        Error::Fault { .. } => (format!("{before}{error}"), 1),
-        Error::Memory => (error.to_string(), 3),
-        _ => (error.to_string(), 1),
-    }
-}
-
-fn refused(error: Error) -> Failure {
-    failure(error, "")
-}
-
-fn hexadecimal(bytes: &[u8]) -> Vec<u8> {
-    (bytes.iter().map(|byte| format!("{byte:02x}")).collect::<String>() + "\n").into_bytes()
-}
 
 /// The messages of a stream, each behind its length.
 fn frames(pool: &Pool, number: u32, stream: &[u8]) -> Result<(), Failure> {

@@ -1,4 +1,5 @@
-//! The structs and calls of mabristu.h.
+//! The numbers and calls of mabristu.h.
+use super::structs::{Bytes, Fault, Frame, Handle, Refusal, Step};
 
 pub const INTERFACE: u32 = 1;
 // What a call answers. Numbers from 50 on are the causes why declarations are refused.
@@ -12,50 +13,6 @@ pub const TRUNCATED: u32 = 1;
 pub const MAX_BYTES: u32 = 0x7fff_ffff;
 pub const MAX_DEPTH: u8 = 100;
 pub const MAX_STEPS: usize = 101;
-
-#[repr(C)]
-#[derive(Default)]
-pub struct Fault {
-    pub byte: u64,
-    pub steps: usize,
-    pub cause: u32,
-}
-
-/// A record, by its number and by how many whole records of that number stand before it in what holds it.
-#[repr(C)]
-#[derive(Clone, Copy, Debug, Default, PartialEq, Eq)]
-pub struct Step {
-    pub number: u32,
-    pub before: u32,
-}
-
-#[repr(C)]
-pub struct Handle {
-    pub at: *mut u8,
-    pub full: bool,
-}
-
-#[repr(C)]
-#[derive(Default)]
-pub struct Refusal {
-    pub file: usize,
-    pub byte: u64,
-    pub file_len: usize,
-    pub name_len: usize,
-}
-
-#[repr(C)]
-pub struct Bytes {
-    pub at: *const u8,
-    pub len: usize,
-}
-
-#[repr(C)]
-#[derive(Default)]
-pub struct Frame {
-    pub begin: usize,
-    pub end: usize,
-}
 
 type At = *const u8;
 type Out = *mut u8;

@@ -1,5 +1,5 @@
 //! Why a call did not do what was asked.
-use super::calls::Step;
+use super::structs::Step;
 use std::fmt;
 
 #[derive(Debug, PartialEq, Eq)]

@@ -1,7 +1,7 @@
 //! Messages of a pool's types, each type by its number.
-use super::calls::{self, Frame};
+use super::structs::Frame;
 use super::told::{judged, written};
-use super::{Error, Pool};
+use super::{Error, Pool, calls};
 
 /// How many bytes a message may have, and how deep it may nest.
 #[derive(Clone, Copy)]

@@ -2,12 +2,13 @@
 pub mod calls;
 mod error;
 mod messages;
+pub mod structs;
 mod told;
 
-use calls::{Bytes, Handle};
 pub use error::Error;
 pub use messages::{Limits, raw_check, raw_short};
 use std::{cell::UnsafeCell, ptr};
+use structs::{Bytes, Handle};
 use told::{Told, linked};
 
 /// Message types. A clone holds the same ones and may go to another thread; one thread at a time uses a pool.

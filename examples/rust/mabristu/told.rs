@@ -1,6 +1,7 @@
 //! From what a call answers to a result.
-use super::calls::{self, Fault, MAX_STEPS, Refusal, Step};
+use super::calls::{self, MAX_STEPS};
 use super::error::Error;
+use super::structs::{Fault, Refusal, Step};
 
 /// Room for a fault and its whole path.
 pub struct Told {

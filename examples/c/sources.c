@@ -1,0 +1,53 @@
+/* sources ROOT FILE..: tells whether sources of proto3 make types, as `pbtool compile` does. Each FILE is named as imports name it, from ROOT on. What a
+ * source imports has to be among them. */
+#include "common.h"
+
+#include <stdlib.h>
+#include <string.h>
+
+/* A source, by its name. */
+static struct buffer read_source(const char *root, const char *name)
+{
+    struct buffer path = {0};
+
+    grow(&path, strlen(root) + strlen(name) + 2);
+    sprintf((char *)path.bytes, "%s/%s", root, name);
+    struct buffer source = read_file((const char *)path.bytes);
+    free(path.bytes);
+    return source;
+}
+
+int main(int argc, char **argv)
+{
+    struct mb_pool pool = {0};
+    struct mb_refusal refusal = {0};
+    struct buffer text = {0};
+    uint32_t answer;
+
+    if (argc < 3 || mb_interface() != MB_INTERFACE) {
+        fprintf(stderr, "usage: sources ROOT FILE.., with a library of interface %d\n", MB_INTERFACE);
+        return 2;
+    }
+    size_t count = (size_t)argc - 2;
+    struct mb_bytes *names = calloc(2 * count, sizeof *names);
+    if (names == NULL)
+        return tell(MB_MEMORY, NULL);
+    struct mb_bytes *texts = names + count;
+    for (size_t i = 0; i < count; i++) {
+        struct buffer source = read_source(argv[1], argv[i + 2]);
+        names[i] = (struct mb_bytes){(const uint8_t *)argv[i + 2], strlen(argv[i + 2])};
+        texts[i] = (struct mb_bytes){source.bytes, source.len};
+    }
+    /* Where the names that are told are longer than the room, their lengths are told: once more with that much. */
+    do {
+        grow(&text, refusal.file_len + refusal.name_len + 256);
+        answer = mb_pool_compile(names, count, texts, count, &pool, &refusal, text.bytes, text.room);
+    } while (answer != MB_DONE && refusal.file_len + refusal.name_len > text.room);
+    int status = answer == MB_DONE ? 0 : tell_compile(answer, &refusal, text.bytes, argv + 2);
+    for (size_t i = 0; i < count; i++)
+        free((void *)texts[i].at);
+    free(names);
+    free(text.bytes);
+    mb_pool_free(&pool);
+    return status;
+}
