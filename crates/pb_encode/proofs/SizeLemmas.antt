@@ -1,13 +1,13 @@
 -- How long varints, records and their payloads are.
-use Rattle.std.proofs.Common.{◌≡◌, ℕ, zero, suc, ◌+◌, ◌-◌, ◌*◌, ◌/◌, ◌^◌, ◌<◌, ◌≤◌, min, List, ◌++◌, length, drop, get_or, arith, ap, ◌∙◌, length-append, drop_of_length-le, le_trans, lt_of_lt_of_le, ⊎_elim}
+use Rattle.std.proofs.Common.{◌≡◌, ℕ, zero, suc, ◌+◌, ◌-◌, ◌*◌, ◌/◌, ◌^◌, ◌<◌, ◌≤◌, min, max, List, ◌++◌, length, drop, get_or, arith, ap, sym, ◌∙◌, length-append, drop_of_length-le, le_trans, lt_of_lt_of_le, ⊎_elim}
 use Rattle.std.proofs.lemmas.Bool.{cases_lt}
 use Rattle.std.proofs.lemmas.Nat.{pow-add, pow_pos, leading_top}
 use Rattle.std.proofs.Math.Pow.{pow_mono}
 use Rattle.std.specs.Int.Count.{count_leading_zeros}
 use Rattle.std.proofs.lemmas.List.{drop_more}
 use Rattle.pb_wire.specs.Varint.{shortest}
-use Rattle.std.specs.Int.{w32, to_le_bytes}
-use Rattle.pb_wire.specs.Record.{group, fixed32, Record, group_of}
+use Rattle.std.specs.Int.{w32, w64, to_le_bytes}
+use Rattle.pb_wire.specs.Record.{varint, fixed64, group, fixed32, Record, group_of}
 use Rattle.pb_wire.specs.Spell.{shortest_record, shortest_records}
 use Rattle.pb_wire.specs.declared.unknown.Unknown.{Unknown}
 use Rattle.pb_wire.specs.Unknown.{payload_of, records_of}
@@ -43,6 +43,43 @@ varint_bits n z high fits e =
     let least = varint_least (j / 7) n (le_trans (pow_mono (omega arith)) top.2) in
     let most = length-shortest-le (j / 7) n (lt_of_lt_of_le top.3 (pow_mono (omega arith))) in omega (arith, bits, least, most)
 
+-- up to 64 bits nine sixty-fourths of them, and one, are the groups of seven that are begun
+groups_begun : (j : ℕ) → j < 64 → (suc j * 9 + 64) / 64 ≡ suc (j / 7)
+groups_begun j small = omega (arith, small)
+
+-- the length by the leading zeros among 64 bits, of which 0 has as many as 1
+pub number_bits : (n m z : ℕ) → n < 2 ^ 64 → m ≡ max n 1 → z ≡ count_leading_zeros 64 m → ((64 - z) * 9 + 64) / 64 ≡ length (shortest n)
+number_bits n m z fits same e =
+    let top = leading_top 64 m (omega (arith, same)) (omega (arith, same, fits)) in
+    let j = top.0 in
+    let bits : z + suc j ≡ 64 = ap (λ (i : ℕ). i + suc j) e ∙ top.1 in
+    let least = varint_least (j / 7) m (le_trans (pow_mono (omega arith)) top.2) in
+    let most = length-shortest-le (j / 7) m (lt_of_lt_of_le top.3 (pow_mono (omega arith))) in
+    let begun = groups_begun j (omega (arith, bits)) in
+    let counted : 64 - z ≡ suc j = omega (arith, bits) in
+    let long : ((64 - z) * 9 + 64) / 64 ≡ length (shortest m) = ap (λ (i : ℕ). (i * 9 + 64) / 64) counted ∙ omega (arith, begun, least, most) in
+    long
+    ∙ ⊎_elim
+    (λ (low : n < 128). varint_last m (omega (arith, same, low)) ∙ sym (varint_last n low))
+    (λ (high : 128 ≤ n). let kept : m ≡ n = omega (arith, same, high) in ap (λ (i : ℕ). length (shortest i)) kept)
+    (cases_lt n 128)
+
+-- the tags of a number are of one length
+same_tags : (k v w : ℕ) → v < 8 → w < 8 → length (shortest (8 * k + v)) ≡ length (shortest (8 * k + w))
+same_tags k v w hv hw =
+    ⊎_elim
+    (λ (low : k < 16). varint_last (8 * k + v) (omega (arith, low, hv)) ∙ sym (varint_last (8 * k + w) (omega (arith, low, hw))))
+    (λ (high : 16 ≤ k).
+    let first = ap length (shortest-more (8 * k + v) (omega (arith, high))) in
+    let second = ap length (shortest-more (8 * k + w) (omega (arith, high))) in
+    let same : (8 * k + v) / 128 ≡ (8 * k + w) / 128 = omega (arith, hv, hw) in
+    let rest = ap (λ (i : ℕ). length (shortest i)) same in omega (arith, first, second, rest))
+    (cases_lt k 16)
+
+pub tag_size : (k tag n w : ℕ) → tag ≡ k → n ≡ length (shortest (tag * 8 + 1)) → w < 8 → n ≡ length (shortest (8 * k + w))
+tag_size k tag n w e h small =
+    let begin : tag * 8 + 1 ≡ 8 * k + 1 = omega (arith, e) in h ∙ ap (λ (i : ℕ). length (shortest i)) begin ∙ same_tags k 1 w (omega arith) small
+
 -- a length that is told is the length, or it is the greatest that is told
 pub sealed_size : (a n size : ℕ) → size ≡ capped n → min ((a + length (shortest size)) + size) (2 ^ 128 - 1) ≡ capped ((a + length (shortest n)) + n)
 sealed_size a n size e =
@@ -60,19 +97,25 @@ unknowns_more xs i d h =
     ap (λ (ys : List (ℕ × Unknown)). length (shortest_records (records_of ys))) (drop_more xs i d h)
     ∙ length-append (shortest_record (get_or xs i d).0 (payload_of (get_or xs i d).1)) (shortest_records (records_of (drop (i + 1) xs)))
 
-pub fixed32_size : (k n tag w : ℕ) → w ≡ length (shortest (tag * 8 + 5)) → w ≤ 19 → tag ≡ k → w + 4 ≡ capped (length (shortest_record k (fixed32 n)))
-fixed32_size k n tag w e l f =
-    let same : shortest (tag * 8 + 5) ≡ shortest (8 * k + 5) = ap shortest (omega (arith, f)) in
+pub varint_size : (k n w v : ℕ) → w ≡ length (shortest (8 * k + 0)) → w ≤ 10 → v ≡ length (shortest n) → v ≤ 10 → w + v ≡ capped (length (shortest_record k (varint n)))
+varint_size k n w v e l f m =
+    let size : length (shortest_record k (varint n)) ≡ length (shortest (8 * k + 0)) + length (shortest n) = length-append (shortest (8 * k + 0)) (shortest n) in
+    omega (arith, size, e, l, f, m)
+
+pub fixed64_size : (k n w : ℕ) → w ≡ length (shortest (8 * k + 1)) → w ≤ 10 → w + 8 ≡ capped (length (shortest_record k (fixed64 n)))
+fixed64_size k n w e l =
+    let size : length (shortest_record k (fixed64 n)) ≡ length (shortest (8 * k + 1)) + 8 = length-append (shortest (8 * k + 1)) (to_le_bytes w64 n) in
+    omega (arith, size, e, l)
+
+pub fixed32_size : (k n w : ℕ) → w ≡ length (shortest (8 * k + 5)) → w ≤ 10 → w + 4 ≡ capped (length (shortest_record k (fixed32 n)))
+fixed32_size k n w e l =
     let size : length (shortest_record k (fixed32 n)) ≡ length (shortest (8 * k + 5)) + 4 = length-append (shortest (8 * k + 5)) (to_le_bytes w32 n) in
-    let len : w ≡ length (shortest (8 * k + 5)) = e ∙ ap length same in
-    omega (arith, len, size, l)
+    omega (arith, size, e, l)
 
 pub group_size :
-    (k tag a b inside sum : ℕ) (rs : List Record) → a ≡ length (shortest (tag * 8 + 3)) → b ≡ length (shortest (tag * 8 + 4)) → inside ≡ capped (length (shortest_records rs)) → tag ≡ k
-    → sum ≡ min ((a + b) + inside) (2 ^ 128 - 1) → sum ≡ capped (length (shortest_record k (group (group_of rs))))
-group_size k tag a b inside sum rs e f g h s =
-    let first : a ≡ length (shortest (8 * k + 3)) = e ∙ ap (λ (n : ℕ). length (shortest n)) (omega (arith, h)) in
-    let last : b ≡ length (shortest (8 * k + 4)) = f ∙ ap (λ (n : ℕ). length (shortest n)) (omega (arith, h)) in
+    (k tag inside sum : ℕ) (rs : List Record) → tag ≡ length (shortest (8 * k + 3)) → tag ≡ length (shortest (8 * k + 4)) → inside ≡ capped (length (shortest_records rs))
+    → sum ≡ min (tag * 2 + inside) (2 ^ 128 - 1) → sum ≡ capped (length (shortest_record k (group (group_of rs))))
+group_size k tag inside sum rs first last g s =
     let size : length (shortest_record k (group (group_of rs))) ≡ (length (shortest (8 * k + 3)) + length (shortest_records rs)) + length (shortest (8 * k + 4)) =
     length-append (shortest (8 * k + 3) ++ shortest_records rs) (shortest (8 * k + 4)) ∙ ap (λ (n : ℕ). n + length (shortest (8 * k + 4))) (length-append (shortest (8 * k + 3)) (shortest_records rs)) in
     omega (arith, first, last, size, g, s)

@@ -4,5 +4,5 @@ pub mod SinkLemmas
 pub mod HexParts
 -- for short numbers, digit by digit
 pub mod Digits
--- for varints of one byte and of two
+-- for varints of two bytes and of three
 pub mod Varints

@@ -166,6 +166,17 @@ impl Sink {
         self.held.push_varint(second);
     }
 
+    /// Puts a number as a varint, and a few bytes behind it.
+    #[inline(always)]
+    pub fn put_varint_before<O: Output>(&mut self, out: &mut O, number: u64, bytes: &[u8])
+        requires { length bytes.now ≤ MAX_VARINT }
+        ensures { Puts O.written O.failures out.old out.new self.old self.new (shortest number ++ bytes.now) }
+    {
+        self.make_room(out, 2 * MAX_VARINT);
+        self.held.push_varint(number);
+        self.held.push(bytes);
+    }
+
     /// Puts bytes in hexadecimal, in lower case.
     pub fn put_hex<O: Output>(&mut self, out: &mut O, bytes: &[u8])
         ensures { Puts O.written O.failures out.old out.new self.old self.new (encode_lower bytes.now) }
