@@ -3,7 +3,6 @@ use Rattle.std.proofs.Common.{◌≡◌, List, [], ◌∷◌, Ordering, Less, Eq
 use Rattle.std.specs.Prelude.{string_bytes}
 use Rattle.std.specs.Ordering.{match_ordering}
 use Rattle.std.specs.BTreeMap.{insert_entry}
-use Rattle.pb_schema.specs.Scalar.{key_cmp}
 use Rattle.pb_value.specs.Data.{entry}
 use Rattle.pb_value.specs.View.{key_view, value_view, entries_view}
 use Rattle.pb_value.specs.KeyOrder.{map_key_cmp}

@@ -1,9 +1,9 @@
 -- What std's `parse` answers is the number that a text writes.
-use Rattle.std.proofs.Common.{◌≡◌, ℕ, ◌<◌, ◌^◌, List, length, refl, arith}
-use Rattle.std.specs.Prelude.{ℤ, pos, negsuc, ◌-◌, ◌&&◌, nat_lt, Bool, true, false, if◌then◌else◌, Option, Some, None, Result, Ok, Err, IfErr}
+use Rattle.std.proofs.Common.{◌≡◌, ℕ, ◌<◌, ◌^◌, List, length, refl}
+use Rattle.std.specs.Prelude.{ℤ, pos, negsuc, ◌-◌, ◌&&◌, nat_lt, Bool, true, false, if◌then◌else◌, Some, None, Result, Ok, Err, IfErr}
 use Rattle.std.specs.Bool.{Decides}
 use Rattle.std.specs.Str.{all_ascii_digits}
-use Rattle.std.specs.Str.Parse.{AllDigits, IsNumeral, digits_value, signed_digits_value, without_leading_plus, without_leading_sign}
+use Rattle.std.specs.Str.Parse.{IsNumeral, digits_value, signed_digits_value, without_leading_plus, without_leading_sign}
 use Rattle.std.proofs.lemmas.Bool.Decides.{Decides-ltb, Decides-and}
 use Rattle.std.proofs.lemmas.Str.Parse.{IsNumeralModel, numerals_by_value, tells_all_ascii_digits}
 use mir.Syntax.{Width}

@@ -1,12 +1,12 @@
 -- Rows of types with what they stand for.
-use Rattle.std.proofs.Common.{◌≡◌, List, [], ◌∷◌, refl}
-use Rattle.std.specs.Prelude.{pos, negsuc, true, false, codes, Option, Some, None}
+use Rattle.std.proofs.Common.{◌≡◌, [], ◌∷◌, refl}
+use Rattle.std.specs.Prelude.{pos, negsuc, true, codes, Some, None}
 use denote.Ref.{Bor}
-use Rattle.pb_schema.specs.Types.{FieldView, MessageView, EnumView, FileView, Types}
+use Rattle.pb_schema.specs.Types.{Types}
 use Rattle.pb_schema.specs.declared.types.Kind.TheVariants as kind
 use Rattle.pb_schema.specs.declared.types.Shape.TheVariants as shape
 use Rattle.pb_schema.specs.declared.types.MessageId.{MessageId}
-use Rattle.pb_samples.specs.Types.{FieldRow, MessageRow, EnumRow, FileRow, types_in}
+use Rattle.pb_samples.specs.Types.{MessageRow, EnumRow, FileRow, types_in}
 
 abbrev at : {X : Type 0} → X → Bor X
 at x = record { ref_ptr = (0, 0); now = x }

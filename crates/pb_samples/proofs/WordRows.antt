@@ -1,10 +1,10 @@
 -- Words with what they stand for, each worked out by the definitions.
-use Rattle.std.proofs.Common.{◌≡◌, ℕ, List, [], ◌∷◌, refl}
-use Rattle.std.specs.Prelude.{pos, negsuc, true, false, codes, Option, Some, None}
+use Rattle.std.proofs.Common.{◌≡◌, ℕ, [], ◌∷◌, refl}
+use Rattle.std.specs.Prelude.{pos, negsuc, true, false, codes, Some, None}
 use Rattle.hex.proofs.OnLiterals.{hex_on_literals}
 use Rattle.pb_wire.specs.Record.{varint, fixed64, len, group, fixed32, no_more, more}
 use Rattle.pb_schema.specs.Scalar.{int32, int64, uint32, uint64, boolean, float, double, enum, text, bytes}
-use Rattle.pb_value.specs.Data.{Datum, scalar, message, no_datums, datum, no_entries, entry, one, list, map, Fields, no_fields, field, Message, body, empty}
+use Rattle.pb_value.specs.Data.{Datum, scalar, message, no_datums, datum, no_entries, entry, one, list, map, no_fields, field, Message, body, empty}
 use Rattle.pb_samples.specs.Words.{value_word, key_word, content_word, payload_word, body_words}
 
 -- ---- scalars, each letter, and the bounds of numbers

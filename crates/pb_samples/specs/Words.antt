@@ -7,7 +7,7 @@ use Rattle.std.specs.Ordering.{nat_cmp, match_ordering}
 use Rattle.std.specs.List.{before_first, after_first}
 use Rattle.std.specs.Str.{bytes_eq}
 use Rattle.hex.specs.Hex.{decode_of}
-use Rattle.pb_wire.specs.Record.{Payload, varint, fixed64, len, group, fixed32, no_more, more, Record}
+use Rattle.pb_wire.specs.Record.{Payload, varint, fixed64, len, group, fixed32, no_more, more}
 use Rattle.pb_schema.specs.Scalar.{Scalar, int32, int64, uint32, uint64, boolean, float, double, enum, text, bytes, key_cmp}
 use Rattle.pb_value.specs.Data.{Datum, scalar, message, Datums, no_datums, datum, joined_datums, Entries, no_entries, entry}
 use Rattle.pb_value.specs.Data.{Holding, one, list, map, no_fields, field, put_field, Message, body, empty, fields_of, unknown_of}
