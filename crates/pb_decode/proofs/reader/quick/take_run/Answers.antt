@@ -20,7 +20,7 @@ returns-clause-taken c =
     let there = subst (λ (z : Step). After c.args.pool.now m depth levels base p0 (frames_view c.args.reader.now.frames.items) z (part_view c.args.reader.now.part) (scope_view c.args.reader.now.scope) (here (state_view c.args.reader.now) c.args.bytes.now)) c.requires.step begun in
     let given = subst (λ (z : Option ℕ). After c.args.pool.now m depth levels base p0 (frames_view c.args.reader.now.frames.items) (Elements c.args.number c.args.kind c.args.outer) (part_view c.args.reader.now.part) (scope_view c.args.reader.now.scope) (given_at c.args.reader.now.at z c.args.bytes.now)) (sym c.left.ensures) there in
     let put = c.in_ok-run.ensures.put m depth levels c.args.reader.now.at c.args.outer base p0 (frames_view c.args.reader.now.frames.items) (scope_view c.args.reader.now.scope) (part_view c.args.reader.now.part) given in
-    let back = subst (λ (z : Option ℕ). After c.args.pool.now m depth levels base p0 (frames_view c.args.reader.now.frames.items) (Elements c.args.number c.args.kind c.args.outer) (put_run c.args.number c.in_ok-run.run (part_view c.args.reader.now.part)) (scope_view c.args.reader.now.scope) (passed (given_at c.args.reader.now.at z c.args.bytes.now) c.in_ok-run.size)) c.left.ensures put in
+    let back = subst (λ (z : Option ℕ). After c.args.pool.now m depth levels base p0 (frames_view c.args.reader.now.frames.items) (Elements c.args.number c.args.kind c.args.outer) (put_run c.args.number c.in_ok-run.run' (part_view c.args.reader.now.part)) (scope_view c.args.reader.now.scope) (passed (given_at c.args.reader.now.at z c.args.bytes.now) c.in_ok-run.size)) c.left.ensures put in
     after_reads (state_view c.args.reader.now)
     (record { at = c.args.reader.now.at + c.in_ok-run.size; now = part_view c.put_run.new.part; scope = scope_view c.args.reader.now.scope; frames = frames_view c.args.reader.now.frames.items; next = c.args.reader.now.step })
     c.in_ok-run.size c.args.bytes.now refl refl
