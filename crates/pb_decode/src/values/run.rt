@@ -63,12 +63,8 @@ fn varint_ends(bytes: &[u8]) -> usize {
     ends
 }
 
-/// How many elements of a kind end within some bytes and before the known end, where they are sound: room for all of them. A run
-/// of a closed enum may end before any of them, and others follow it, so it grows as it goes.
+/// How many elements of a kind end within some bytes and before the known end, where they are sound: room for all of them.
 fn room_wanted(kind: Kind, bytes: &[u8], left: Option<u32>) -> usize {
-    if let Kind::ClosedEnum(_) = kind {
-        return 0;
-    }
     let within = match left {
         Some(left) => bytes.len().min(left as usize),
         None => bytes.len(),
@@ -125,5 +121,7 @@ pub(crate) fn read_run(
         add_element(&mut run, number, element)?;
         here += size;
     }
+    // Undeclared numbers took none of the room.
+    run.values.shrink_to_fit();
     Ok((run, here))
 }

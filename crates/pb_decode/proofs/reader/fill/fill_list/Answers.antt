@@ -1,5 +1,5 @@
 -- The elements go into the part of their list, which then is whole.
-use Rattle.std.proofs.Common.{◌≡◌, ◌+◌, Some, sym, subst, arith}
+use Rattle.std.proofs.Common.{◌≡◌, ◌+◌, sym, subst, arith}
 use Rattle.pb_wire.specs.Token.{passed}
 use Rattle.pb_decode.specs.declared.tokens.step.Step.TheVariants.{Elements}
 use Rattle.pb_decode.specs.Open.Frames.{Part}

@@ -1,10 +1,13 @@
 -- Element by element they go into the part of their list.
-use Rattle.std.proofs.Common.{◌+◌, length, sym, ap, ◌∙◌, subst, arith, length-drop}
+use Rattle.std.proofs.Common.{◌+◌, List, length, map, sym, ap, ◌∙◌, subst, arith, length-drop}
 use Rattle.pb_wire.specs.Fault.{Place}
 use Rattle.pb_wire.specs.Token.{given_at, passed}
+use Rattle.pb_wire.specs.Unknown.{records_of}
+use Rattle.pb_value.specs.declared.body.Value.{Value}
+use Rattle.pb_value.specs.View.{value_view}
 use Rattle.pb_decode.specs.declared.tokens.step.Step.TheVariants.{Elements}
 use Rattle.pb_decode.specs.Open.Frames.{Part}
-use Rattle.pb_decode.specs.Values.Run.{put_one, put_run}
+use Rattle.pb_decode.specs.Values.Run.{put_each, put_records, put_one, put_run}
 use Rattle.pb_decode.specs.Tokens.After.{After}
 use Rattle.pb_decode.proofs.ReaderLemmas.{slice_from}
 use Rattle.pb_decode.proofs.QuickLemmas.{passed_twice}
@@ -30,3 +33,9 @@ loop-element-preserved c =
           (ap (λ (z : Place). passed z c.in-Some.size) (sym behind) ∙ passed_twice p c.loop-element.here c.in-Some.size) more in
           subst (λ (z : Part). After c.args.pool.now m depth levels base p0 frames (Elements c.args.number c.args.kind outer) z scope (passed p (c.loop-element.here + c.in-Some.size))) (sym (c.in_ok-add_element.ensures now)) there;
     }
+
+pub returns-clause-put : goal.returns-clause-put
+returns-clause-put c =
+    λ m depth levels at outer base p0 frames scope now begun.
+    subst (λ (z : List Value). After c.args.pool.now m depth levels base p0 frames (Elements c.args.number c.args.kind outer) (put_each c.args.number (map value_view z) (put_records (records_of c.loop-element.run.undeclared.items) now)) scope (passed (given_at at c.args.left c.args.bytes.now) c.loop-element.here))
+    (sym c.shrink_to_fit.ensures.items) (c.loop-element.invariant.put m depth levels at outer base p0 frames scope now begun)
