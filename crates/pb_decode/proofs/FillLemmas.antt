@@ -22,7 +22,6 @@ use Rattle.pb_decode.specs.Open.Openings.{taken_message, without_message, room_i
 use Rattle.pb_decode.specs.Open.Purposes.{Means, part_context}
 use Rattle.pb_decode.specs.Tokens.After.{IsRoomFor, After}
 use Rattle.pb_decode.specs.Reader.{State, left_of, here, Reads, StandsAt, IsReading}
-use Rattle.pb_decode.specs.Values.Run.{put_each}
 use Rattle.pb_decode.specs.Reader.Fills.{StandsIn, IsOpen, HasTagAt, FillsTo}
 use Rattle.pb_decode.proofs.WellLemmas.{can_hold}
 use Rattle.pb_decode.proofs.AfterLemmas.{after_record}
@@ -264,16 +263,15 @@ message_over {pool} {m} {depth} {levels} {base} {p0} {frames} {scope} {now} {out
 
 -- A PACKED LIST whose elements take its whole payload
 pub list_filled :
-    {pool : Types} {m depth levels : ℕ} {base : List Record} {p0 : Place} {frames : List Frame} {now : Part} (at left : ℕ) (bytes : List ℕ) (number tag_size start size used room : ℕ) (kd : Kind) (ds : List Datum) (next : Part) → IsPool pool
+    {pool : Types} {m depth levels : ℕ} {base : List Record} {p0 : Place} {frames : List Frame} {now : Part} (at left : ℕ) (bytes : List ℕ) (number tag_size start size used room : ℕ) (kd : Kind) (next : Part) → IsPool pool
     → StandsIn pool m depth levels base p0 frames room now (given_at at (Some left) bytes)
     → HasTag (given_at at (Some left) bytes) number 2 (passed (given_at at (Some left) bytes) tag_size) → HasLength (passed (given_at at (Some left) bytes) tag_size) size (passed (given_at at (Some left) bytes) start)
     → Means pool (part_context now) number 2 (purpose.Packed kd)
     → ((outer : Option ℕ) (scope : Scope) → After pool m depth levels base p0 frames (step.Elements number kd outer) now scope (payload_place at bytes start size)
-    → After pool m depth levels base p0 frames (step.Elements number kd outer) (put_each number ds now) scope (passed (payload_place at bytes start size) used))
-    → used ≡ size → next ≡ put_each number ds now → StandsIn pool m depth levels base p0 frames room next (passed (given_at at (Some left) bytes) (start + used))
-list_filled {pool} {m} {depth} {levels} {base} {p0} {frames} {now} at left bytes number tag_size start size used room kd ds next ok there has l means reads all is =
-    subst (λ (z : Part). StandsIn pool m depth levels base p0 frames room z (passed (given_at at (Some left) bytes) (start + used))) (sym is)
-    (one_more_in number scope, subst (Stands pool m depth levels base p0 frames (put_each number ds now) (one_more_in number scope)) place over, there.2)
+    → After pool m depth levels base p0 frames (step.Elements number kd outer) next scope (passed (payload_place at bytes start size) used))
+    → used ≡ size → StandsIn pool m depth levels base p0 frames room next (passed (given_at at (Some left) bytes) (start + used))
+list_filled {pool} {m} {depth} {levels} {base} {p0} {frames} {now} at left bytes number tag_size start size used room kd next ok there has l means reads all =
+    (one_more_in number scope, subst (Stands pool m depth levels base p0 frames next (one_more_in number scope)) place over, there.2)
   where
     scope : Scope
     scope = there.0
@@ -286,13 +284,13 @@ list_filled {pool} {m} {depth} {levels} {base} {p0} {frames} {now} at left bytes
         subst (λ (z : List ℕ). After pool m depth levels base p0 frames (step.Elements number kd scope.end) now within (given_at (at + start) (Some size) z)) (sym (slice_from start bytes))
         (list_begins number kd size (tag_next (step.Length number (purpose.Packed kd)) number 2 (purpose.Packed kd) there.1 refl has means (λ deep. false≢true deep)) refl l)
 
-    read : After pool m depth levels base p0 frames (step.Elements number kd scope.end) (put_each number ds now) within (passed (payload_place at bytes start size) used)
+    read : After pool m depth levels base p0 frames (step.Elements number kd scope.end) next within (passed (payload_place at bytes start size) used)
     read = reads scope.end within begun
 
     none : Some (size - used) ≡ Some 0
     none = let same : size - used ≡ 0 = omega (arith, all) in ap (λ (z : ℕ). Some z) same
 
-    over : Stands pool m depth levels base p0 frames (put_each number ds now) (one_more_in number scope) (up_to scope.end (passed (payload_place at bytes start size) used))
+    over : Stands pool m depth levels base p0 frames next (one_more_in number scope) (up_to scope.end (passed (payload_place at bytes start size) used))
     over = list_over number kd scope.end ok (list_can_hold number kd scope.end ok read) read none
 
     place : up_to scope.end (passed (payload_place at bytes start size) used) ≡ passed (given_at at (Some left) bytes) (start + used)

@@ -1,12 +1,15 @@
 -- Runs of elements of a packed list.
-use Rattle.std.proofs.Common.{◌≡◌, ℕ, zero, suc, ◌+◌, ◌-◌, ◌<◌, List, [], ◌∷◌, ◌++◌, map, take, drop, length, refl, sym, ap, ◌∙◌, arith, Option, Some, None, option_map, nat_cmp}
+use Rattle.std.proofs.Common.{◌≡◌, ℕ, zero, suc, ◌+◌, ◌-◌, ◌<◌, List, [], ◌∷◌, ◌++◌, map, take, drop, length, refl, sym, ap, ◌∙◌, arith, append_assoc, Option, Some, None, option_map, nat_cmp}
 use Rattle.std.specs.Prelude.{◌==◌, false, is_some}
-use Rattle.std.proofs.lemmas.List.{length-map}
+use Rattle.std.proofs.lemmas.List.{length-map, map-append, append-nil}
 use Rattle.std.proofs.lemmas.Bool.{false≢true}
 use Rattle.std.specs.Map.{lookup}
 use Rattle.std.specs.BTreeMap.{is_at}
-use Rattle.pb_wire.specs.Record.{Record}
+use Rattle.pb_wire.specs.Record.{Payload, Record}
+use Rattle.pb_wire.specs.declared.unknown.Unknown.{Unknown}
+use Rattle.pb_wire.specs.Unknown.{payload_of, records_of}
 use Rattle.pb_wire.specs.Token.{given_at, passed}
+use Rattle.pb_wire.proofs.UnknownLemmas.{records_of-push}
 use Rattle.pb_schema.specs.declared.types.Kind.{Kind}
 use Rattle.pb_schema.specs.Types.{Types}
 use Rattle.pb_schema.specs.Scalar.{Scalar}
@@ -22,8 +25,9 @@ use Rattle.pb_value.proofs.ShapeSteps.{put_twice}
 use Rattle.pb_value.proofs.Views.{body_view-out}
 use Rattle.pb_decode.specs.declared.open.purpose.Purpose.TheVariants as purpose
 use Rattle.pb_decode.specs.Open.Frames.{Part, message_part, entry_part, group_part}
-use Rattle.pb_decode.specs.Values.Put.{put_datum}
-use Rattle.pb_decode.specs.Values.Run.{put_listed, put_each}
+use Rattle.pb_decode.specs.declared.values.run.Run.{Run}
+use Rattle.pb_decode.specs.Values.Put.{put_datum, put_record}
+use Rattle.pb_decode.specs.Values.Run.{put_listed, put_each, put_records, put_run}
 use Rattle.pb_decode.proofs.ReaderLemmas.{slice_from}
 
 -- an element of a list is put at its end
@@ -103,3 +107,47 @@ some_held (suc n) h = omega arith
 
 pub some_values : (vs : List Value) (n : ℕ) → n ≡ length vs → false ≡ (n == 0) → 0 < length (map value_view vs)
 some_values vs n same h = let some = some_held n h in let size = length-map vs value_view in omega (arith, some, size, same)
+
+-- BESIDE UNKNOWN RECORDS: no record changes nothing, and one more is the last
+no_records : (p : Part) → put_records [] p ≡ p
+no_records (message_part m (body fs us)) = ap (λ (z : List Record). message_part m (body fs z)) (append-nil us)
+no_records (entry_part key kd x e) = refl
+no_records (group_part us) = ap group_part (append-nil us)
+
+records_next : (rs : List Record) (n : ℕ) (x : Payload) (p : Part) → put_records (rs ++ record { number = n; payload = x } ∷ []) p ≡ put_record n x (put_records rs p)
+records_next rs n x (message_part m (body fs us)) = ap (λ (z : List Record). message_part m (body fs z)) (sym (append_assoc us rs (record { number = n; payload = x } ∷ [])))
+records_next rs n x (entry_part key kd x2 e) = refl
+records_next rs n x (group_part us) = ap group_part (sym (append_assoc us rs (record { number = n; payload = x } ∷ [])))
+
+-- a value and a record change different parts of a message
+listed_behind : (n k : ℕ) (x : Payload) (d : Datum) (p : Part) → put_listed n d (put_record k x p) ≡ put_record k x (put_listed n d p)
+listed_behind n k x d (message_part m (body fs us)) = refl
+listed_behind n k x d (entry_part key kd x2 e) = refl
+listed_behind n k x d (group_part us) = refl
+
+each_behind : (n k : ℕ) (x : Payload) (ds : List Datum) (p : Part) → put_each n ds (put_record k x p) ≡ put_record k x (put_each n ds p)
+each_behind n k x [] p = refl
+each_behind n k x (d ∷ ds) p = ap (put_each n ds) (listed_behind n k x d p) ∙ each_behind n k x ds (put_listed n d p)
+
+-- a run without elements
+pub run_begins : (n : ℕ) (run : Run) (p : Part) → run.values.items ≡ [] → run.undeclared.items ≡ [] → put_run n run p ≡ p
+run_begins n run p no_value none =
+    ap (λ (z : List Value). put_each n (map value_view z) (put_records (records_of run.undeclared.items) p)) no_value ∙ ap (λ (z : List (ℕ × Unknown)). put_records (records_of z) p) none
+    ∙ no_records p
+
+-- and one more of each sort
+pub value_added : (n : ℕ) (old new : List Value) (v : Value) (p : Part) → new ≡ old ++ v ∷ [] → put_each n (map value_view new) p ≡ put_listed n (value_view v) (put_each n (map value_view old) p)
+value_added n old new v p is =
+    ap (λ (z : List Value). put_each n (map value_view z) p) is ∙ ap (λ (z : List Datum). put_each n z p) (map-append value_view old (v ∷ [])) ∙ each_next n (map value_view old) (value_view v) p
+
+pub record_added :
+    (n : ℕ) (ds : List Datum) (old new : List (ℕ × Unknown)) (u : Unknown) (p : Part) → new ≡ old ++ (n, u) ∷ []
+    → put_each n ds (put_records (records_of new) p) ≡ put_record n (payload_of u) (put_each n ds (put_records (records_of old) p))
+record_added n ds old new u p is =
+    ap (λ (z : List (ℕ × Unknown)). put_each n ds (put_records (records_of z) p)) is ∙ ap (λ (z : List Record). put_each n ds (put_records z p)) (records_of-push old (n, u))
+    ∙ ap (put_each n ds) (records_next (records_of old) n (payload_of u) p) ∙ each_behind n n (payload_of u) ds (put_records (records_of old) p)
+
+-- where there are no records, others are them
+pub only_others : (rs us : List (ℕ × Unknown)) → length rs ≡ 0 → us ≡ rs ++ us
+only_others [] us none = refl
+only_others (r ∷ rs) us none = absurd (omega (arith, none))

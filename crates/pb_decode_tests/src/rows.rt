@@ -139,6 +139,20 @@ decode declared_elements - - 280228012a0101 = 2a03020101
 decode list_cut - - 2a040107 ! 4 5[0] Truncated
 decode third_list_cut - - 2a0107280a2a0196 ! 7 5[2] PastEnd
 decode empty_list - - 2a00 = -
+decode undeclared_first - - 2a03070102 = 2a0201022807
+decode undeclared_last - - 2a03010207 = 2a0201022807
+decode undeclared_run - - 2a050107090702 = 2a020102280728092807
+decode undeclared_negative - - 2a0cffffffffffffffffff010102 = 2a02010228ffffffffffffffffff01
+decode undeclared_negative_last - - 2a0b01ffffffffffffffffff01 = 2a010128ffffffffffffffffff01
+decode undeclared_spelled_long - - 2a03018700 = 2a01012807
+decode undeclared_beyond_32_bits - - 2a06018780808010 = 2a0101288780808010
+decode declared_beyond_32_bits - - 2a06078180808010 = 2a01012807
+decode undeclared_in_two_lists - - 2a0201072a020902 = 2a02010228072809
+decode undeclared_behind_others - - 580128072a03010907 = 2a01015801280728092807
+decode undeclared_cut - - 2a04010709 ! 5 5[0] Truncated
+decode undeclared_negative_cut - - 2a0c07ffff ! 5 5[0] Truncated
+decode undeclared_past_end - - 2a020796 ! 3 5[0] PastEnd
+decode undeclared_too_long - - 2a0b07ffffffffffffffffffff ! 3 5[0] VarintTooLong
 decode unknown_group_in_group - - 1b5b08015c1c = 1b5b08015c1c
 decode group_cut - - 1b ! 1 3[0] Truncated
 decode second_group_cut - - 1b1c1b0896 ! 5 3[1].1[0] Truncated
@@ -146,6 +160,7 @@ decode wrong_type_in_group - - 1b0a01411c = 1b0a01411c
 onto group_goes_on - - 1b08051c 1b1c = 1b08051c
 onto closed_list_goes_on - - 2a03010702 2a020901 = 2a0301020128072809
 onto undeclared_number_leaves_it - - 2002 2007 = 20022007
+onto undeclared_numbers_are_added - - 2a03010702 2a0407090102 = 2a0401020102280728072809
 onto list_cut - - 2a0107 2a0107280a2a0196 ! 7 5[2] PastEnd
 merge closed_enums - - 2002200728012809 20082a0102 = 20022a020102200728092008
 merge groups - - 1b08051c 1b08061c = 1b08061c
@@ -154,6 +169,8 @@ push number_in_group - - 1 2 1b,0896 ok;ok
 push group_ends - - 0 1 1b0805,1c ok;ok
 push closed_list - - 0 2 2a04,01,07 ok;ok;ok
 push closed_list_ends - - 0 1 2a0401,0702,09 ok;ok;ok
+push undeclared_number_cut - - 3 2 2a0c07ff,ffff ok;ok
+push undeclared_list_ends - - 0 1 2a0407,0901,07 ok;ok;ok
 push wrong_end - - 0 0 1b,24 ok;! 1 3[0] WrongEnd
 push finished_in_a_group - - 0 0 1b08,05,finish ok;ok;! 3 3[0] Truncated
 frame group_past_its_end - - 1 3 1b08051c ? ! 4 3[0] PastEnd
@@ -180,6 +197,12 @@ decode deep_enough - 1 0b0c = 0b0c
 decode message_too_deep - 1 0b0a000c ! 1 1[0].1[0] TooDeep
 decode closed_list - - 28012807 = 28012807
 decode packed_spelling - - 2a020107 = 28012807
+decode undeclared_in_message - - 0b0a052a030701020c = 0b0a062801280228070c
+decode undeclared_run_in_message - - 0b0a042a0207090c = 0b0a04280728090c
+decode undeclared_negative_in_message - - 0b0a0d2a0b01ffffffffffffffffff010c = 0b0a0d280128ffffffffffffffffff010c
+decode undeclared_in_entry - - 3209080112052a03070102 = 320a08011206280128022807
+decode undeclared_cut_in_message - - 0b0a042a0207 ! 6 1[0].1[0].5[0] Truncated
+decode undeclared_past_end_in_message - - 0b0a042a0207960c ! 6 1[0].1[0].5[0] PastEnd
 decode group_again - - 1b08011c1b08021c = 1b08021c
 decode group_by_length - - 0a001a00 = 0a001a00
 decode group_for_a_message - - 0b0b0c0c = 0b0b0c0c
@@ -385,6 +408,7 @@ grow proto2-3 - - 1b08051c1b08061c = 1b08061c
 grow proto2-5 - - 20072002 = 20022007
 grow proto2-8 - - 2a0401070209 = 2a02010228072809
 grow undeclared_run - - 2a06010702090801 = 2a03010201280728092808
+grow undeclared_in_two_lists - - 2a0207012a020209 = 2a02010228072809
 grow unknown_group_in_group - - 1b5b08015c1c = 1b5b08015c1c
 grow second_group_cut - - 1b1c1b0896 ! 5 3[1].1[0] Truncated
 grow wrong_end - - 1b24 ! 1 3[0] WrongEnd

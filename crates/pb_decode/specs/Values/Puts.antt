@@ -1,7 +1,6 @@
 -- What a value that comes next does, wherever one stands: it goes into the part that its record stands in, and one stands behind it. Each holds of any type,
 -- any levels, any records before and any first place.
-use Rattle.std.specs.Prelude.{◌≡◌, ℕ, ◌+◌, List, [], ◌∷◌, map, length, Option, Some, Vec, Result, IfOk, IfErr, IfSome, OnOk}
-use Rattle.std.specs.declared.alloc.Global.{Global}
+use Rattle.std.specs.Prelude.{◌≡◌, ℕ, ◌+◌, List, [], ◌∷◌, length, Option, Some, Result, IfOk, IfErr, IfSome, OnOk}
 use Rattle.pb_wire.specs.Record.{Record, wire_type}
 use Rattle.pb_wire.specs.declared.fault.Cause.TheVariants.{BadText}
 use Rattle.pb_wire.specs.Fault.{fault, Place, Moves}
@@ -12,14 +11,14 @@ use Rattle.pb_schema.specs.declared.types.Kind.{Kind}
 use Rattle.pb_schema.specs.Types.{Types}
 use Rattle.pb_schema.specs.Kinds.{wire_type_of}
 use Rattle.pb_schema.specs.Context.{a_message, schema_of}
-use Rattle.pb_value.specs.declared.body.Value.{Value}
-use Rattle.pb_value.specs.View.{value_view}
 use Rattle.pb_decode.specs.declared.open.part.Part.{Part}
 use Rattle.pb_decode.specs.declared.open.purpose.Purpose.{Purpose}
 use Rattle.pb_decode.specs.declared.tokens.number.Number.{Number}
 use Rattle.pb_decode.specs.declared.tokens.step.Step.{Step}
 use Rattle.pb_decode.specs.declared.tokens.step.Step.TheVariants.{Payload, Elements}
 use Rattle.pb_decode.specs.declared.values.payload_value.PayloadError.{PayloadError}
+use Rattle.pb_decode.specs.declared.values.run.Element.{Element}
+use Rattle.pb_decode.specs.declared.values.run.Run.{Run}
 use Rattle.pb_decode.specs.Open.Frames.{Part as PartView, Scope, Frame, path_of, next_step, one_more_in, Stands}
 use Rattle.pb_decode.specs.Open.Opened.{below}
 use Rattle.pb_decode.specs.Open.PartView.{part_view}
@@ -27,7 +26,7 @@ use Rattle.pb_decode.specs.Tokens.Number.{number_view}
 use Rattle.pb_decode.specs.Tokens.Numbers.{Follows}
 use Rattle.pb_decode.specs.Tokens.After.{tag, awaited, After}
 use Rattle.pb_decode.specs.Values.PayloadValue.{IfBadText}
-use Rattle.pb_decode.specs.Values.Run.{put_each}
+use Rattle.pb_decode.specs.Values.Run.{put_one, put_run}
 
 -- a number of a record with this purpose
 abbrev pub PutsNumber : {A E : Type 0} → Types → ℕ → Purpose → Number → Part → Part → Result A E → Type 0
@@ -58,20 +57,18 @@ RefusesPayload pool number meant bytes old result =
     → IfErr result (λ e. IfBadText e (λ valid.
     Bad (schema_of pool) (records (a_message m)) depth p0 (below (path_of frames) (fault (u.at + valid) (next_step number scope ∷ []) BadText))))
 
--- the value at the front of these bytes, with so many before the known end: with it at the end of the list the list goes on behind it
-abbrev pub TellsElement : Types → Kind → List ℕ → Option ℕ → Option (Value × ℕ) → Type 0
+-- the element at the front of these bytes, with so many before the known end: with it in the part the list goes on behind it
+abbrev pub TellsElement : Types → Kind → List ℕ → Option ℕ → Option (Element × ℕ) → Type 0
 TellsElement pool kind bytes left result =
     (m depth levels at number : ℕ) (outer : Option ℕ) (base : List Record) (p0 : Place) (frames : List Frame) (scope : Scope) (now : PartView)
     → After pool m depth levels base p0 frames (Elements number kind outer) now scope (given_at at left bytes)
     → IfSome result (λ r.
-    After pool m depth levels base p0 frames (Elements number kind outer) (put_each number (value_view r.0 ∷ []) now) scope
-    (passed (given_at at left bytes) r.1))
+    After pool m depth levels base p0 frames (Elements number kind outer) (put_one number r.0 now) scope (passed (given_at at left bytes) r.1))
 
--- the same of the values of a run
-abbrev pub TellsRun : {E : Type 0} → Types → Kind → List ℕ → Option ℕ → Result (Vec Value Global × ℕ) E → Type 0
-TellsRun pool kind bytes left result =
-    (m depth levels at number : ℕ) (outer : Option ℕ) (base : List Record) (p0 : Place) (frames : List Frame) (scope : Scope) (now : PartView)
+-- the same of the elements of a run, in a list of this number
+abbrev pub TellsRun : {E : Type 0} → Types → ℕ → Kind → List ℕ → Option ℕ → Result (Run × ℕ) E → Type 0
+TellsRun pool number kind bytes left result =
+    (m depth levels at : ℕ) (outer : Option ℕ) (base : List Record) (p0 : Place) (frames : List Frame) (scope : Scope) (now : PartView)
     → After pool m depth levels base p0 frames (Elements number kind outer) now scope (given_at at left bytes)
     → IfOk result (λ r.
-    After pool m depth levels base p0 frames (Elements number kind outer) (put_each number (map value_view r.0.items) now) scope
-    (passed (given_at at left bytes) r.1))
+    After pool m depth levels base p0 frames (Elements number kind outer) (put_run number r.0 now) scope (passed (given_at at left bytes) r.1))

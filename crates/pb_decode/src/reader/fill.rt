@@ -20,9 +20,9 @@ use crate::tokens::number_token::NumberToken;
 use crate::tokens::record_tag::{RecordTag, left_behind, record_tag};
 use crate::tokens::tag_step::has_room;
 use crate::values::payload_value::PayloadError;
-use crate::values::put_elements::put_elements;
 use crate::values::put_number::put_number;
 use crate::values::put_payload::put_payload;
+use crate::values::put_run::put_run;
 use crate::values::run::read_run;
 use pb_schema::{Kind, MessageId, Pool};
 use std::alloc::Global;
@@ -123,11 +123,11 @@ fn fill_list(
     let Some((start, size)) = length_behind(tag.size, bytes, Some(left)) else {
         return Ok(None);
     };
-    let (values, used) = read_run(alloc, pool, kind, &bytes[start..], Some(size))?;
+    let (run, used) = read_run(alloc, pool, tag.number, kind, &bytes[start..], Some(size))?;
     if used != size as usize {
         return Ok(None);
     }
-    put_elements(alloc, part, tag.number, values)?;
+    put_run(alloc, part, tag.number, run)?;
     Ok(Some(start + used))
 }
 

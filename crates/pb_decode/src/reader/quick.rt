@@ -15,7 +15,7 @@ use crate::open::known_purpose::KnownPurpose;
 use crate::reader::quick_record::take_record;
 use crate::reader::state::{Reader, left};
 use crate::tokens::step::Step;
-use crate::values::put_elements::put_elements;
+use crate::values::put_run::put_run;
 use crate::values::run::read_run;
 use pb_schema::{Kind, Pool};
 use std::alloc::Global;
@@ -37,11 +37,11 @@ fn take_run(
     ensures none { IfOk result (λ o. IfNone o (reader.new ≡ reader.old)) }
     ensures taken { TakesWhole pool.now reader.old reader.new bytes.now result }
 {
-    let (values, size) = read_run(alloc, pool, kind, bytes, left(reader))?;
+    let (run, size) = read_run(alloc, pool, number, kind, bytes, left(reader))?;
     if size == 0 {
         return Ok(None);
     }
-    put_elements(alloc, &mut reader.part, number, values)?;
+    put_run(alloc, &mut reader.part, number, run)?;
     reader.at += size as u32;
     Ok(Some(size))
 }

@@ -1,7 +1,9 @@
-//! Runs of elements of a packed list, as values.
+//! Runs of elements of a packed list.
 
-ghost use Rattle.std.specs.Prelude.{◌≡◌, ◌⊎◌, ◌≤◌, ◌<◌, length, IfOk, IfSome};
+ghost use Rattle.std.specs.Prelude.{◌≡◌, ◌⊎◌, ◌≤◌, ◌<◌, length, IfOk, IfSome, OnOk};
 ghost use Rattle.pb_schema.specs.Kinds.{wire_type_of};
+ghost use Rattle.pb_decode.specs.Open.Frames.{Part};
+ghost use Rattle.pb_decode.specs.Values.Run.{put_one, put_run};
 ghost use Rattle.pb_decode.specs.Values.Puts.{TellsElement, TellsRun};
 
 use crate::error::NoMemory;
@@ -10,13 +12,29 @@ use crate::tokens::number::number_value;
 use crate::tokens::number_token::NumberToken;
 use crate::tokens::record_tag::left_behind;
 use crate::values::put_number::is_undeclared;
+use crate::values::put_unknown::unknown_number;
 use pb_schema::{Kind, Pool};
 use pb_value::Value;
+use pb_wire::Unknown;
 use std::alloc::Global;
 
-/// The value of the element at the front of some bytes, with so many bytes before the known end, and how many bytes it takes,
-/// if it stands whole there. An element that its closed enum doesn't declare is no value.
-fn element_at(pool: &Pool, kind: Kind, bytes: &[u8], left: Option<u32>) -> Option<(Value, usize)>
+/// What an element is: a value of its list, or a number that its closed enum doesn't declare, which is an unknown record.
+#[derive(Drop)]
+pub(crate) enum Element {
+    Value(Value),
+    Undeclared(Unknown),
+}
+
+/// What the elements of a run are, each sort in its order. The unknown records have the number of the list.
+#[derive(Drop)]
+pub(crate) struct Run {
+    pub(crate) values: Vec<Value>,
+    pub(crate) undeclared: Vec<(u32, Unknown)>,
+}
+
+/// The element at the front of some bytes, with so many bytes before the known end, and how many bytes it takes, if it stands
+/// whole there.
+fn element_at(pool: &Pool, kind: Kind, bytes: &[u8], left: Option<u32>) -> Option<(Element, usize)>
     requires { (wire_type_of kind ≡ 0) ⊎ (wire_type_of kind ≡ 1) ⊎ (wire_type_of kind ≡ 5) }
     ensures within { IfSome result (λ r. (0 < r.1) × (r.1 ≤ length bytes.now)) }
     ensures put { TellsElement pool.now kind bytes.now left result }
@@ -24,10 +42,10 @@ fn element_at(pool: &Pool, kind: Kind, bytes: &[u8], left: Option<u32>) -> Optio
     match number_at(kind.wire_type(), bytes, left) {
         NumberToken::Whole(number, size) => {
             if is_undeclared(pool, kind, number) {
-                return None;
+                return Some((Element::Undeclared(unknown_number(number)), size));
             }
             match number_value(kind, number) {
-                Some(value) => Some((value, size)),
+                Some(value) => Some((Element::Value(value), size)),
                 None => None,
             }
         }
@@ -45,12 +63,8 @@ fn varint_ends(bytes: &[u8]) -> usize {
     ends
 }
 
-/// How many elements of a kind end within some bytes and before the known end, where they are sound: room for all of them. A run
-/// of a closed enum may end before any of them, and others follow it, so it grows as it goes.
+/// How many elements of a kind end within some bytes and before the known end, where they are sound: room for all of them.
 fn room_wanted(kind: Kind, bytes: &[u8], left: Option<u32>) -> usize {
-    if let Kind::ClosedEnum(_) = kind {
-        return 0;
-    }
     let within = match left {
         Some(left) => bytes.len().min(left as usize),
         None => bytes.len(),
@@ -62,29 +76,52 @@ fn room_wanted(kind: Kind, bytes: &[u8], left: Option<u32>) -> usize {
     }
 }
 
-/// The values of the elements that stand whole at the front of some bytes, one behind another, with so many bytes before the
-/// known end, and how many bytes they take.
+/// Puts an element behind those of its sort.
+#[inline(always)]
+fn add_element(run: &mut Run, number: u32, element: Element) -> Result<(), NoMemory>
+    ensures { (p : Part) → OnOk result (put_run number run.new p ≡ put_one number element (put_run number run.old p)) }
+{
+    match element {
+        Element::Value(value) => {
+            run.values.push(value)?;
+            Ok(())
+        }
+        Element::Undeclared(unknown) => {
+            run.undeclared.push((number, unknown))?;
+            Ok(())
+        }
+    }
+}
+
+/// The elements that stand whole at the front of some bytes, one behind another, with so many bytes before the known end, and how
+/// many bytes they take. Their list has this number.
 pub(crate) fn read_run(
     alloc: Global,
     pool: &Pool,
+    number: u32,
     kind: Kind,
     bytes: &[u8],
     left: Option<u32>,
-) -> Result<(Vec<Value>, usize), NoMemory>
+) -> Result<(Run, usize), NoMemory>
     requires { (wire_type_of kind ≡ 0) ⊎ (wire_type_of kind ≡ 1) ⊎ (wire_type_of kind ≡ 5) }
     ensures within { IfOk result (λ r. r.1 ≤ length bytes.now) }
-    ensures put { TellsRun pool.now kind bytes.now left result }
+    ensures put { TellsRun pool.now number kind bytes.now left result }
 {
-    let mut values = Vec::with_capacity(alloc, room_wanted(kind, bytes, left))?;
+    let mut run = Run {
+        values: Vec::with_capacity(alloc, room_wanted(kind, bytes, left))?,
+        undeclared: Vec::new(alloc),
+    };
     let mut here = 0;
-    while let Some((value, size)) = element_at(
+    while let Some((element, size)) = element_at(
         pool,
         kind,
         &bytes[here..],
         left_behind(left, here),
     ) {
-        values.push(value)?;
+        add_element(&mut run, number, element)?;
         here += size;
     }
-    Ok((values, here))
+    // Undeclared numbers took none of the room.
+    run.values.shrink_to_fit();
+    Ok((run, here))
 }
