@@ -6,8 +6,8 @@ use Rattle.std.proofs.Math.Pow.{pow_mono}
 use Rattle.std.specs.Int.Count.{count_leading_zeros}
 use Rattle.std.proofs.lemmas.List.{drop_more}
 use Rattle.pb_wire.specs.Varint.{shortest}
-use Rattle.std.specs.Int.{w32, w64, to_le_bytes}
-use Rattle.pb_wire.specs.Record.{varint, fixed64, group, fixed32, Record, group_of}
+use Rattle.std.specs.Int.{w32, to_le_bytes}
+use Rattle.pb_wire.specs.Record.{group, fixed32, Record, group_of}
 use Rattle.pb_wire.specs.Spell.{shortest_record, shortest_records}
 use Rattle.pb_wire.specs.declared.unknown.Unknown.{Unknown}
 use Rattle.pb_wire.specs.Unknown.{payload_of, records_of}
@@ -96,16 +96,6 @@ pub unknowns_more :
 unknowns_more xs i d h =
     ap (λ (ys : List (ℕ × Unknown)). length (shortest_records (records_of ys))) (drop_more xs i d h)
     ∙ length-append (shortest_record (get_or xs i d).0 (payload_of (get_or xs i d).1)) (shortest_records (records_of (drop (i + 1) xs)))
-
-pub varint_size : (k n w v : ℕ) → w ≡ length (shortest (8 * k + 0)) → w ≤ 10 → v ≡ length (shortest n) → v ≤ 10 → w + v ≡ capped (length (shortest_record k (varint n)))
-varint_size k n w v e l f m =
-    let size : length (shortest_record k (varint n)) ≡ length (shortest (8 * k + 0)) + length (shortest n) = length-append (shortest (8 * k + 0)) (shortest n) in
-    omega (arith, size, e, l, f, m)
-
-pub fixed64_size : (k n w : ℕ) → w ≡ length (shortest (8 * k + 1)) → w ≤ 10 → w + 8 ≡ capped (length (shortest_record k (fixed64 n)))
-fixed64_size k n w e l =
-    let size : length (shortest_record k (fixed64 n)) ≡ length (shortest (8 * k + 1)) + 8 = length-append (shortest (8 * k + 1)) (to_le_bytes w64 n) in
-    omega (arith, size, e, l)
 
 pub fixed32_size : (k n w : ℕ) → w ≡ length (shortest (8 * k + 5)) → w ≤ 10 → w + 4 ≡ capped (length (shortest_record k (fixed32 n)))
 fixed32_size k n w e l =
