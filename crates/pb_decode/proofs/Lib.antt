@@ -87,6 +87,10 @@ pub mod LengthSteps
 pub mod TagTaken
 -- for runs of packed elements that are taken at once
 pub mod RunLemmas
+-- for a map that takes entries at once: it has those that it has where it takes them in turn
+mod MapLemmas
+-- for runs of map entries that are taken at once
+pub mod MapRuns
 -- for a reader that stops: it waits for the rest of what comes next
 pub mod WaitLemmas
 -- ---- pieces, and what is held between them

@@ -2,3 +2,4 @@
 pub mod Closing
 pub mod Ended
 pub mod Closes
+pub mod Mapped

@@ -2,4 +2,5 @@
 
 pub(crate) mod closing;
 pub(crate) mod put;
+pub(crate) mod put_entries;
 pub(crate) mod take_ended;

@@ -4,6 +4,7 @@ pub(crate) mod fault;
 pub(crate) mod fill;
 pub(crate) mod origin;
 pub(crate) mod quick;
+pub(crate) mod quick_entries;
 pub(crate) mod quick_entry;
 pub(crate) mod quick_message;
 pub(crate) mod quick_record;

@@ -70,7 +70,7 @@ fn missing_value(alloc: Global, kind: Kind) -> Value
 }
 
 /// The key of an entry, which has this one or none.
-fn key_or_default(alloc: Global, kind: Kind, key: Option<MapKey>) -> MapKey
+pub(crate) fn key_or_default(alloc: Global, kind: Kind, key: Option<MapKey>) -> MapKey
     requires { IsTrue (is_key_kind kind) }
     ensures { key_view result ≡ unwrap_or (option_map key_view key) (default_of kind) }
 {
@@ -81,7 +81,7 @@ fn key_or_default(alloc: Global, kind: Kind, key: Option<MapKey>) -> MapKey
 }
 
 /// The value of an entry, which has this one or none.
-fn value_or_missing(alloc: Global, kind: Kind, value: Option<Value>) -> Value
+pub(crate) fn value_or_missing(alloc: Global, kind: Kind, value: Option<Value>) -> Value
     ensures { value_view result ≡ unwrap_or (option_map value_view value) (missing (λ _ _. empty) kind) }
 {
     match value {

@@ -15,7 +15,7 @@ use crate::error::NoMemory;
 use crate::open::known_purpose::{KnownPurpose, purpose_by};
 use crate::open::pass_length::pass_length;
 use crate::open::purpose::{Purpose, purpose_of};
-use crate::reader::quick_entry::take_entry;
+use crate::reader::quick_entries::take_entries;
 use crate::reader::quick_message::take_message_record;
 use crate::reader::state::{Reader, left, number_at};
 use crate::reader::take_tag::{enter_group, innermost, leave_group};
@@ -203,7 +203,7 @@ fn take_inner(
         Purpose::Message(kind, slot) => {
             take_message_record(alloc, pool, reader, tag, kind, slot, tried, bytes)
         }
-        Purpose::Entry(key_kind, value_kind) => take_entry(
+        Purpose::Entry(key_kind, value_kind) => take_entries(
             alloc, pool, reader, tag, key_kind, value_kind, tried, bytes,
         ),
         Purpose::One(_, _)

@@ -1,0 +1,59 @@
+-- Map entries that are read one behind another, wherever the part is open that holds their map.
+use Rattle.std.specs.Prelude.{◌≡◌, ℕ, zero, suc, List, length, Option, Vec, Result, IfOk, IfSome}
+use Rattle.std.specs.declared.alloc.Global.{Global}
+use Rattle.pb_wire.specs.Record.{Record}
+use Rattle.pb_wire.specs.Fault.{Place, HasTag}
+use Rattle.pb_wire.specs.Token.{given_at, passed}
+use Rattle.pb_schema.specs.declared.types.Kind.{Kind}
+use Rattle.pb_schema.specs.Types.{Types}
+use Rattle.pb_value.specs.declared.body.MapKey.{MapKey}
+use Rattle.pb_value.specs.declared.body.Value.{Value}
+use Rattle.pb_value.specs.View.{key_view, value_view}
+use Rattle.pb_decode.specs.declared.open.purpose.Purpose.TheVariants.{Entry}
+use Rattle.pb_decode.specs.Open.Frames.{Part, Scope, Frame, one_more_in, Stands}
+use Rattle.pb_decode.specs.Open.Purposes.{Means, part_context}
+use Rattle.pb_decode.specs.Close.Mapped.{pairs_view, put_mapped, put_all_mapped, FitsMapped, FitMapped}
+
+-- so many more records of a number
+abbrev pub more_in : ℕ → ℕ → Scope → Scope
+more_in k zero scope = scope
+more_in k (suc n) scope = one_more_in k (more_in k n scope)
+
+-- a tag stands at the front of the bytes, and takes so many of them
+abbrev pub IsTagOf : List ℕ → Option ℕ → ℕ → ℕ → ℕ → Type 0
+IsTagOf bytes left number type size = (at : ℕ) → HasTag (given_at at left bytes) number type (passed (given_at at left bytes) size)
+
+-- somewhere a part is open in which the records of a number are entries, and these bytes come next in it
+pub record IsMapOpen (pool : Types) (number : ℕ) (key kd : Kind) (bytes : List ℕ) (left : Option ℕ) (room : ℕ) : Type 0 where
+  pub m : ℕ
+  pub depth : ℕ
+  pub levels : ℕ
+  pub at : ℕ
+  pub base : List Record
+  pub p0 : Place
+  pub frames : List Frame
+  pub scope : Scope
+  pub now : Part
+  pub stands : Stands pool m depth levels base p0 frames now scope (given_at at left bytes)
+  pub level : scope.room ≡ room
+  pub means : Means pool (part_context now) number 2 (Entry key kd)
+
+-- the entry at the front of the bytes: its map takes it, and with it there one stands behind so many of them
+abbrev pub TellsEntry : {E : Type 0} → Types → ℕ → Kind → Kind → List ℕ → Option ℕ → ℕ → Result (Option ((MapKey × Value) × ℕ)) E → Type 0
+TellsEntry pool number key kd bytes left room result =
+    (m depth levels at : ℕ) (base : List Record) (p0 : Place) (frames : List Frame) (scope : Scope) (now : Part)
+    → Stands pool m depth levels base p0 frames now scope (given_at at left bytes) → scope.room ≡ room → Means pool (part_context now) number 2 (Entry key kd)
+    → IfOk result (λ o. IfSome o (λ r.
+    FitsMapped number (key_view r.0.0) now
+    × Stands pool m depth levels base p0 frames (put_mapped number (key_view r.0.0, value_view r.0.1) now) (one_more_in number scope)
+    (passed (given_at at left bytes) r.1)))
+
+-- the same of the entries of a run
+abbrev pub TellsEntries : {E : Type 0} → Types → ℕ → Kind → Kind → List ℕ → Option ℕ → ℕ → Result (Vec (MapKey × Value) Global × ℕ) E → Type 0
+TellsEntries pool number key kd bytes left room result =
+    (m depth levels at : ℕ) (base : List Record) (p0 : Place) (frames : List Frame) (scope : Scope) (now : Part)
+    → Stands pool m depth levels base p0 frames now scope (given_at at left bytes) → scope.room ≡ room → Means pool (part_context now) number 2 (Entry key kd)
+    → IfOk result (λ r.
+    FitMapped number (pairs_view r.0.items) now
+    × Stands pool m depth levels base p0 frames (put_all_mapped number (pairs_view r.0.items) now) (more_in number (length r.0.items) scope)
+    (passed (given_at at left bytes) r.1))
