@@ -22,6 +22,8 @@ pub mod HeldLemmas
 pub mod JudgeLemmas
 -- for `read_set`: why the message of a set is refused
 pub mod ReadLemmas
+-- for `read_set` part by part: sets that are joined
+pub mod JoinedSets
 -- for the law that bytes are one set, or have one fault or first cause
 pub mod OneSet
 -- for files that are written as a set without a cause, as the declarations of a pool are

@@ -1,6 +1,6 @@
 -- Which bytes are a set of declared files, and why sets are not read or written.
-use Rattle.std.specs.Prelude.{◌≡◌, ◌≤◌, ◌<◌, ◌^◌, ⊤, ℕ, List, [], length, slice_get, Some}
-use Rattle.pb_wire.specs.Limits.{Bounds}
+use Rattle.std.specs.Prelude.{◌≡◌, ◌≤◌, ◌<◌, ◌^◌, ⊤, ℕ, List, [], ◌++◌, length, slice_get, Some}
+use Rattle.pb_wire.specs.Limits.{Bounds, full}
 use Rattle.pb_wire.specs.Fault.{Fault, fault}
 use Rattle.pb_wire.specs.Grammar.{HasFault}
 use Rattle.pb_schema.specs.Context.{a_message, schema_of}
@@ -37,6 +37,10 @@ pub record IsSetOf (limits : Bounds) (b : List ℕ) (files : List DeclaredFile) 
   pub text : IsSetText limits b set
   pub silent : set_causes set ≡ []
   pub declared : files ≡ files_in set
+
+-- the files of a set come behind those before
+abbrev pub AddsSet : List ℕ → List DeclaredFile → List DeclaredFile → Type 0
+AddsSet b old new = (files : List DeclaredFile) × IsSetOf full b files × (new ≡ old ++ files)
 
 -- what is told of bytes that are no set of declared files: their fault, or the index of a file and its first cause
 pub data SetFault : Type 0 where
