@@ -77,6 +77,8 @@ pub mod LengthTaken
 pub mod QuickLemmas
 -- for map entries that are taken at once
 pub mod FillLemmas
+-- for groups that are read at once
+pub mod GroupFills
 -- for a payload of bytes
 pub mod PayloadTaken
 -- for parts that end where the reader stands

@@ -54,13 +54,13 @@ begun_bytes (opened.a_value levels tag re l is_open is_place) h =
 begun_bytes (opened.a_group levels tag is_open is_place) h = subst (λ (z : Place). AreBytes z.rest) (sym is_place) (moved_bytes tag.tag.0 tag.tag.2 h).1
 
 -- the bytes of what is open
-held_bytes :
+pub held_bytes :
     {pool : Types} {m depth levels : ℕ} {base : List Record} {p0 : Place} {frames : List Frame} {now : Part} {o : Open Context} {room inner : ℕ} {path : List PathStep} {p : Place} {earlier : List Record}
     → Held pool m depth levels base p0 frames now o room inner path p earlier → AreBytes p0.rest → AreBytes p.rest
 held_bytes (at_top v form is_open is_room is_inner is_path is_place is_base goes_on) h = subst (λ (z : Place). AreBytes z.rest) (sym is_place) h
 held_bytes (inside up b begun form can deep completes is_path counts ends goes_on takes) h = begun_bytes begun (moved_bytes b.front b.moves (held_bytes up h)).1
 
-goes_on_held :
+pub goes_on_held :
     {pool : Types} {m depth levels : ℕ} {base : List Record} {p0 : Place} {frames : List Frame} {now : Part} {o : Open Context} {room inner : ℕ} {path : List PathStep} {p : Place} {earlier : List Record}
     → Held pool m depth levels base p0 frames now o room inner path p earlier → GoesOnFrom pool inner now earlier
 goes_on_held (at_top v form is_open is_room is_inner is_path is_place is_base goes_on) = goes_on

@@ -6,6 +6,7 @@ pub(crate) mod origin;
 pub(crate) mod quick;
 pub(crate) mod quick_entries;
 pub(crate) mod quick_entry;
+pub(crate) mod quick_group;
 pub(crate) mod quick_message;
 pub(crate) mod quick_record;
 pub(crate) mod state;

@@ -222,6 +222,21 @@ decode undeclared_beside_group - - 1b08011c3807 = 1b08011c3807
 decode undeclared_ends_no_run - - 1b08011c38071b1c = 1b08011c3807
 decode declared_ends_a_run - - 1b08011c38011b1c = 1b1c
 decode undeclared_beside_number - - 20053807 = 20053807
+decode group_in_message_in_group - - 0b0a060b1b08051c0c0c = 0b0a060b1b08051c0c0c
+decode group_in_message_too_deep - 3 0b0a060b1b08051c0c0c ! 4 1[0].1[0].1[0].3[0] TooDeep
+decode group_in_message_deep_enough - 4 0b0a060b1b08051c0c0c = 0b0a060b1b08051c0c0c
+decode wrong_end_in_message_in_group - - 0b0a040b1b0c0c0c ! 5 1[0].1[0].1[0].3[0] WrongEnd
+decode group_goes_on_in_message - - 0b0a081b08011c1b08021c0c = 0b0a041b08021c0c
+decode groups_of_a_list_in_message - - 0b0a080b10010c0b10020c0c0b0c = 0b0a080b10010c0b10020c0c0b0c
+decode group_past_end_of_message - - 0b0a030b1b1c0c0c ! 6 1[0].1[0].1[0] PastEnd
+decode unknown_group_in_message - - 0b0a065b080513145c0c = 0b0a065b080513145c0c
+decode unknown_group_before_group - - 0b0a085b08055c1b08011c0c = 0b0a081b08011c5b08055c0c
+decode wrong_end_of_unknown_group - - 0b0a045b0805640c ! 6 1[0].1[0].11[0] WrongEnd
+decode unknown_group_too_deep - 2 0b0a025b5c0c ! 3 1[0].1[0].11[0] TooDeep
+decode unknown_group_deep_enough - 3 0b0a025b5c0c = 0b0a025b5c0c
+decode undeclared_in_message_in_group - - 0b0a042a0201070c0b10050c = 0b0a04280128070c0b10050c
+decode bad_text_behind_groups - - 0b1b08011c0c0b0a070b1b2a01ff1c0c0c ! 13 1[1].1[0].1[0].3[0].5[0] BadText
+fronts groups_and_messages - - 0b0a0a0b1b08051c0c5b08015c100a0c1b08011c
 push group_in_oneof - - 0 2 3801,1b ok;ok
 onto undeclared_member - - 1b08011c 38071b1c = 1b08011c3807
 ";

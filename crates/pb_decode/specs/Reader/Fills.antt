@@ -1,4 +1,5 @@
 -- What is read at once into a part, wherever it is open: of any type, any levels, any records before and any first place.
+pub mod Groups
 use Rattle.std.specs.Prelude.{◌≡◌, ℕ, Bool, true, List, Option, Some, Result, IfOk, IfSome}
 use Rattle.pb_wire.specs.Record.{Record}
 use Rattle.pb_wire.specs.Fault.{Place, HasTag}

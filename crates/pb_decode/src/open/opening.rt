@@ -195,7 +195,7 @@ fn open_unknown_group(alloc: Global, part: &mut Part, scope: &mut Scope, number:
 
 /// The message that a record opens, and the slot that it goes into, if it opens one.
 #[inline(always)]
-fn message_slot(meant: Purpose) -> Option<(MessageId, Slot)>
+pub(crate) fn message_slot(meant: Purpose) -> Option<(MessageId, Slot)>
     ensures some { IfSome result (λ r. meant ≡ purpose.Message r.0 r.1) }
     ensures none { IfNone result (IsNoMessage meant) }
 {

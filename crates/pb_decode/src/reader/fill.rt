@@ -8,12 +8,15 @@ ghost use Rattle.pb_decode.specs.Open.Purposes.{Means, part_context};
 ghost use Rattle.pb_decode.specs.Values.PayloadValue.{IsBytesPurpose};
 ghost use Rattle.pb_decode.specs.Reader.Fills.{IsOpen, HasTagAt, FillsOne, FillsAll};
 
+pub(crate) mod group;
+
 use crate::close::closing::put_entry;
 use crate::close::put::put_message;
 use crate::error::NoMemory;
 use crate::open::opening::{room_in, take_message};
 use crate::open::part::{Part, Slot};
 use crate::open::purpose::{Purpose, purpose_of};
+use crate::reader::fill::group::{Extent, fill_group};
 use crate::reader::quick_record::length_behind;
 use crate::reader::state::number_at;
 use crate::tokens::number_token::NumberToken;
@@ -285,7 +288,7 @@ fn fill_length(
 }
 
 /// Puts the record at the front of some bytes into a part, with so many bytes before its end and so many levels left, if it
-/// stands whole there and is no group, and how many bytes it takes.
+/// stands whole there, and how many bytes it takes.
 #[cycle(fill)]
 #[inline(always)]
 fn fill_record(
@@ -309,13 +312,18 @@ fn fill_record(
         fill_length(alloc, pool, part, tag, bytes, left, room)
     } else if tag.wire_type == 0 || tag.wire_type == 1 || tag.wire_type == 5 {
         fill_number(alloc, pool, part, tag, bytes, left, room)
+    } else if tag.wire_type == 3 {
+        match fill_group(alloc, pool, part, tag, bytes, left, room)? {
+            Extent::Whole(size) => Ok(Some(size)),
+            Extent::Cut(_) => Ok(None),
+        }
     } else {
         Ok(None)
     }
 }
 
-/// Puts the records of a payload of this size into its part, if each stands whole and is no group, and says whether that is so.
-/// If it is not, something may be in the part.
+/// Puts the records of a payload of this size into its part, if each stands whole, and says whether that is so. If it is not,
+/// something may be in the part.
 #[cycle(fill)]
 pub(crate) fn fill(
     alloc: Global,

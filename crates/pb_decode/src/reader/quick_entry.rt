@@ -19,8 +19,8 @@ use crate::tokens::record_tag::RecordTag;
 use pb_schema::{Kind, Pool};
 use std::alloc::Global;
 
-/// Takes the entry behind whose tag its payload stands whole and holds no group, and how many bytes it takes. Where the payload
-/// was read and can't be taken so, `tried` is where it ends.
+/// Takes the entry behind whose tag its payload stands whole, and how many bytes it takes. Where the payload was read and can't be
+/// taken so, `tried` is where it ends.
 pub(crate) fn take_entry(
     alloc: Global,
     pool: &Pool,

@@ -26,7 +26,7 @@ use pb_value::empty_body;
 use std::alloc::Global;
 
 /// Says that a slot of a part holds nothing that a message for it goes on from.
-fn is_free(part: &Part, slot: Slot) -> bool
+pub(crate) fn is_free(part: &Part, slot: Slot) -> bool
     ensures { result ≡ true → (taken_message slot (part_view part.now) ≡ empty) × (without_message slot (part_view part.now) ≡ part_view part.now) }
 {
     match part {
@@ -48,8 +48,8 @@ fn is_free(part: &Part, slot: Slot) -> bool
     }
 }
 
-/// Takes the message behind whose tag its payload stands whole and holds no group, if its slot is free, and how many bytes it
-/// takes. Where the payload was read and can't be taken so, `tried` is where it ends.
+/// Takes the message behind whose tag its payload stands whole, if its slot is free, and how many bytes it takes. Where the payload
+/// was read and can't be taken so, `tried` is where it ends.
 pub(crate) fn take_message_record(
     alloc: Global,
     pool: &Pool,

@@ -16,6 +16,7 @@ use crate::open::known_purpose::{KnownPurpose, purpose_by};
 use crate::open::pass_length::pass_length;
 use crate::open::purpose::{Purpose, purpose_of};
 use crate::reader::quick_entries::take_entries;
+use crate::reader::quick_group::take_group;
 use crate::reader::quick_message::take_message_record;
 use crate::reader::state::{Reader, left, number_at};
 use crate::reader::take_tag::{enter_group, innermost, leave_group};
@@ -177,8 +178,7 @@ fn take_opening(
     Ok(Some(start))
 }
 
-/// Takes the message or the entry of a record that stands whole behind its tag and holds no group, and how many bytes the record
-/// takes.
+/// Takes the message or the entry of a record that stands whole behind its tag, and how many bytes the record takes.
 fn take_inner(
     alloc: Global,
     pool: &Pool,
@@ -277,7 +277,7 @@ fn take_length_record(
 }
 
 /// Opens the group whose first tag is there, where a level is left for it.
-fn take_group_start(
+pub(crate) fn take_group_start(
     alloc: Global,
     pool: &Pool,
     reader: &mut Reader,
@@ -356,7 +356,7 @@ pub(crate) fn take_record(
     } else if tag.wire_type == 0 || tag.wire_type == 1 || tag.wire_type == 5 {
         take_number_record(alloc, pool, reader, tag, known, bytes)
     } else if tag.wire_type == 3 {
-        take_group_start(alloc, pool, reader, tag, bytes)
+        take_group(alloc, pool, reader, tag, tried, bytes)
     } else if tag.wire_type == 4 {
         take_group_end(alloc, pool, reader, tag, bytes)
     } else {

@@ -1,14 +1,18 @@
 -- Record by record a part is filled, and what it holds with it.
-use Rattle.std.proofs.Common.{rules, ◌≡◌, ◌+◌, ◌-◌, ◌*◌, ◌<◌, ℕ, ◌∷◌, Some, ap, ◌∙◌, sym, refl, subst, arith, length, length-drop, option_map}
+use Rattle.std.proofs.Common.{rules, ◌≡◌, ◌+◌, ◌-◌, ◌*◌, ◌<◌, ℕ, ◌∷◌, Some, ap, ◌∙◌, sym, refl, subst, arith, take, drop, length, length-drop, option_map}
+use Rattle.pb_wire.specs.Unknown.{records_of}
 use Rattle.pb_value.specs.View.{body_view, key_view, value_view}
 use Rattle.pb_decode.specs.Open.Frames.{entry_part}
 use Rattle.pb_decode.specs.Open.PartView.{part_view}
-use Rattle.pb_decode.specs.Reader.Fills.{FillsTo}
+use Rattle.pb_decode.specs.Reader.Fills.{IsOpen, FillsTo}
+use Rattle.pb_decode.specs.Reader.Fills.Groups.{FillsToEnd}
 use Rattle.pb_decode.proofs.ReaderLemmas.{slice_from}
 use Rattle.pb_decode.proofs.NumberSteps.{number_is}
 use Rattle.pb_decode.proofs.WellLemmas.{can_hold}
 use Rattle.pb_decode.proofs.EndedLemmas.{entry_has_room, frame_can_hold}
 use Rattle.pb_decode.proofs.FillLemmas.{some_told, open_can, nothing_filled, still_open, filled_further, bytes_tag, entry_in_part, message_in_part, entry_inside, message_inside, entry_over, message_over, inner_shorter}
+use Rattle.pb_decode.proofs.GroupSteps.{unknown_group_means}
+use Rattle.pb_decode.proofs.GroupFills.{whole_told, whole_within, typed_tag, tag_within, field_group_in_part, field_group_inside, field_group_over, unknown_group_in_part, unknown_group_inside, unknown_group_over, end_reached}
 use Rattle.pb_decode.proofs.reader.fill.+fill.Goals as goal
 
 pub fill-loop-here-init : goal.fill-loop-here-init
@@ -126,3 +130,145 @@ fill_message-returns-in_ok-put_message-in-Message-clause-filled t c =
     let read = message_inside at (Some c.args.left) c.args.bytes.now c.args.tag.number c.args.tag.size c.in-Some.start c.in-Some.size c.args.room c.room_in-below.result c.args.message_type c.args.slot (part_view c.take_message.new.outer) (body_view c.take_message.result) c.requires.rules there c.room_in-below.ensures (has at) (c.in-Some.ensures.whole at c.args.tag.number c.args.tag.wire_type (c.requires.tag at)) c.requires.means (c.if-not-has_room.ensures.room refl) c.take_message.ensures.left c.take_message.ensures.taken (c.in_ok-fill.ensures c.if-not-branch.false) (ap part_view c.in-Message.is) in
     message_over at c.args.left c.args.bytes.now c.args.tag.number c.in-Some.start c.in-Some.size c.args.room c.room_in-below.result c.in-Message._kind.0 c.args.slot (body_view c.in-Message.message) (part_view c.put_message.new.outer) there.1 there.2 read
     c.in_ok-put_message-in-Message.ensures
+
+-- THE GROUP OF A FIELD
+pub group::fill_field_group-fill_to_tag-requires : goal.group::fill_field_group-fill_to_tag-requires
+group::fill_field_group-fill_to_tag-requires t c =
+    let is = ap length (slice_from c.args.tag.size c.args.bytes.now) ∙ length-drop c.args.tag.size c.args.bytes.now in
+    let small = c.requires.small in
+    let some = c.requires.some in
+    let start = typed_tag c.args.bytes.now c.args.left c.args.tag.number c.args.tag.wire_type 3 c.args.tag.size c.requires.start c.requires.tag in
+    let within = tag_within c.args.bytes.now c.args.left c.args.tag.number 3 c.args.tag.size start in
+    let before = c.saturating_sub-before.ensures in
+    let less : 4 * c.saturating_sub-before.result + 3 < 4 * c.args.left = omega (arith, within, some, before) in (
+      search (rules, less),
+      (
+        c.requires.rules,
+        (
+          field_group_in_part c.args.bytes.now c.args.left c.args.tag.number c.args.tag.size c.saturating_sub-before.result c.args.room c.args.message_type c.args.slot (part_view c.take_message.new.outer) (body_view c.take_message.result) c.requires.rules c.requires.open start c.requires.means c.requires.room c.take_message.ensures.left c.take_message.ensures.taken before,
+          omega (arith, is, small),
+        ),
+      ),
+    )
+
+pub group::fill_field_group-put_message-requires : goal.group::fill_field_group-put_message-requires
+group::fill_field_group-put_message-requires t c =
+    let from = c.requires.open in
+    let start = typed_tag c.args.bytes.now c.args.left c.args.tag.number c.args.tag.wire_type 3 c.args.tag.size c.requires.start c.requires.tag in
+    let fills = whole_told _ c.in_ok-size.field-0 c.in-Whole.size c.in-Whole.is c.in_ok-size.ensures.filled in
+    let read = field_group_inside from.at c.args.left c.args.bytes.now c.args.tag.number c.args.tag.size c.saturating_sub-before.result c.in-Whole.size c.args.room c.args.message_type c.args.slot (part_view c.take_message.new.outer) (body_view c.take_message.result) c.requires.rules from.stands start c.requires.means c.requires.room c.take_message.ensures.left c.take_message.ensures.taken c.saturating_sub-before.ensures fills (ap part_view c.in-Message.is) in
+    frame_can_hold read.1.1
+
+pub group::fill_field_group-returns-in_ok-put_message-in-Message-clause-filled : goal.group::fill_field_group-returns-in_ok-put_message-in-Message-clause-filled
+group::fill_field_group-returns-in_ok-put_message-in-Message-clause-filled t c =
+    λ m depth levels at base p0 frames there.
+    let start = typed_tag c.args.bytes.now c.args.left c.args.tag.number c.args.tag.wire_type 3 c.args.tag.size c.requires.start c.requires.tag in
+    let fills = whole_told _ c.in_ok-size.field-0 c.in-Whole.size c.in-Whole.is c.in_ok-size.ensures.filled in
+    let read = field_group_inside at c.args.left c.args.bytes.now c.args.tag.number c.args.tag.size c.saturating_sub-before.result c.in-Whole.size c.args.room c.args.message_type c.args.slot (part_view c.take_message.new.outer) (body_view c.take_message.result) c.requires.rules there start c.requires.means c.requires.room c.take_message.ensures.left c.take_message.ensures.taken c.saturating_sub-before.ensures fills (ap part_view c.in-Message.is) in
+    field_group_over (part_view c.put_message.new.outer) there.2 read.1 read.2 c.in_ok-put_message-in-Message.ensures
+
+-- AN UNKNOWN GROUP
+pub group::fill_unknown_group-fill_to_tag-requires : goal.group::fill_unknown_group-fill_to_tag-requires
+group::fill_unknown_group-fill_to_tag-requires t c =
+    let is = ap length (slice_from c.args.tag.size c.args.bytes.now) ∙ length-drop c.args.tag.size c.args.bytes.now in
+    let small = c.requires.small in
+    let some = c.requires.some in
+    let start = typed_tag c.args.bytes.now c.args.left c.args.tag.number c.args.tag.wire_type 3 c.args.tag.size c.requires.start c.requires.tag in
+    let within = tag_within c.args.bytes.now c.args.left c.args.tag.number 3 c.args.tag.size start in
+    let before = c.saturating_sub-before.ensures in
+    let less : 4 * c.saturating_sub-before.result + 3 < 4 * c.args.left = omega (arith, within, some, before) in (
+      search (rules, less),
+      (
+        c.requires.rules,
+        (
+          unknown_group_in_part c.args.bytes.now c.args.left c.args.tag.number c.args.tag.size c.saturating_sub-before.result c.args.room (records_of c.new.result.items) c.requires.rules c.requires.open start c.requires.means c.requires.room (ap records_of c.new.ensures.items) before,
+          omega (arith, is, small),
+        ),
+      ),
+    )
+
+pub group::fill_unknown_group-returns-in_ok-put_group-in-Group-clause-filled : goal.group::fill_unknown_group-returns-in_ok-put_group-in-Group-clause-filled
+group::fill_unknown_group-returns-in_ok-put_group-in-Group-clause-filled t c =
+    λ m depth levels at base p0 frames there.
+    let start = typed_tag c.args.bytes.now c.args.left c.args.tag.number c.args.tag.wire_type 3 c.args.tag.size c.requires.start c.requires.tag in
+    let fills = whole_told _ c.in_ok-size.field-0 c.in-Whole.size c.in-Whole.is c.in_ok-size.ensures.filled in
+    let read = unknown_group_inside at c.args.left c.args.bytes.now c.args.tag.number c.args.tag.size c.saturating_sub-before.result c.in-Whole.size c.args.room (records_of c.new.result.items) c.requires.rules there start c.requires.means c.requires.room (ap records_of c.new.ensures.items) c.saturating_sub-before.ensures fills (ap part_view c.in-Group.is) in
+    unknown_group_over (part_view c.put_group.new.outer) there.2 read.1 read.2 c.in_ok-put_group-in-Group.ensures
+
+-- ITS PURPOSE
+pub group::fill_group-purpose_of-meant-requires : goal.group::fill_group-purpose_of-meant-requires
+group::fill_group-purpose_of-meant-requires t c = open_can c.requires.rules c.requires.open
+
+pub group::fill_group-fill_unknown_group-requires : goal.group::fill_group-fill_unknown_group-requires
+group::fill_group-fill_unknown_group-requires t c =
+    let level = c.if-room-eq0.false in
+    let less : 4 * c.args.left < 4 * c.args.left + 1 = omega arith in (
+      search (rules, less),
+      (
+        c.requires.rules,
+        (
+          c.requires.open,
+          (
+            c.requires.small,
+            (
+              c.requires.start,
+              (
+                c.requires.some,
+                (
+                  c.requires.within,
+                  (
+                    c.requires.tag,
+                    (
+                      omega (arith, level),
+                      unknown_group_means c.args.pool.now (part_view c.args.part.now) c.args.tag.number c.purpose_of-meant.result (open_can c.requires.rules c.requires.open) c.purpose_of-meant.ensures c.in-None.ensures.none,
+                    ),
+                  ),
+                ),
+              ),
+            ),
+          ),
+        ),
+      ),
+    )
+
+-- UP TO ITS END TAG
+pub group::fill_to_tag-fill_inside-requires : goal.group::fill_to_tag-fill_inside-requires
+group::fill_to_tag-fill_inside-requires t c =
+    let here = c.loop-tag.here in
+    let size = ap length (slice_from here c.args.bytes.now) ∙ length-drop here c.args.bytes.now in
+    let small = c.requires.small in
+    let before = c.saturating_sub-before.ensures in
+    let less : 4 * c.saturating_sub-before.result + 2 < 4 * c.args.left + 3 = omega (arith, before) in (
+      search (rules, less),
+      (
+        c.requires.rules,
+        (
+          subst (λ (z : ℕ). IsOpen c.args.pool.now (part_view c.loop-tag.part) (take (length c.args.bytes.now - here) (drop here c.args.bytes.now)) z c.args.room) (sym before)
+              (still_open (part_view c.args.part.now) (part_view c.loop-tag.part) c.args.bytes.now c.args.left c.args.room here c.requires.open c.loop-tag.invariant.filled),
+          (omega (arith, size, small), (c.in-Some.ensures.within.0, (c.in-Some.ensures.within.1, c.in-Some.ensures.whole))),
+        ),
+      ),
+    )
+
+pub group::fill_to_tag-loop-tag-preserved : goal.group::fill_to_tag-loop-tag-preserved
+group::fill_to_tag-loop-tag-preserved t c =
+    let here = c.loop-tag.here in
+    let size = ap length (slice_from here c.args.bytes.now) ∙ length-drop here c.args.bytes.now in
+    let passes = c.in_ok-size.ensures.passes in
+    let used = whole_within c.in_ok-size.field-0 c.in-Whole.size (length (take (length c.args.bytes.now - here) (drop here c.args.bytes.now))) c.in-Whole.is passes.0 in
+    let within = c.loop-tag.invariant.within in
+    let fills = whole_told _ c.in_ok-size.field-0 c.in-Whole.size c.in-Whole.is c.in_ok-size.ensures.filled in
+    record {
+      within = omega (arith, size, used, within);
+      filled = filled_further (part_view c.args.part.now) (part_view c.loop-tag.part) (part_view c.fill_inside.new.part) c.args.bytes.now c.args.left c.args.room here c.in-Whole.size c.loop-tag.invariant.filled
+          (subst (λ (z : ℕ). FillsTo c.args.pool.now (part_view c.loop-tag.part) (part_view c.fill_inside.new.part) (take (length c.args.bytes.now - here) (drop here c.args.bytes.now)) z c.args.room c.in-Whole.size) c.saturating_sub-before.ensures fills);
+    }
+
+pub group::fill_to_tag-returns-then-tag-number-clause-filled : goal.group::fill_to_tag-returns-then-tag-number-clause-filled
+group::fill_to_tag-returns-then-tag-number-clause-filled t c =
+    let four = c.if-tag-eq4.true in
+    let own = c.if-tag-number.true in
+    let ends : c.in-Some.tag.wire_type ≡ 4 = omega (arith, four) in
+    let same : c.in-Some.tag.number ≡ c.args.number = omega (arith, own) in
+    subst (λ (z : ℕ). FillsToEnd c.args.pool.now z (part_view c.args.part.now) (part_view c.loop-tag.part) c.args.bytes.now c.args.left c.args.room (c.loop-tag.here + c.in-Some.tag.size)) same
+    (end_reached (part_view c.args.part.now) (part_view c.loop-tag.part) c.args.bytes.now c.args.left c.args.room c.in-Some.tag.number c.in-Some.tag.wire_type c.loop-tag.here c.saturating_sub-before.result c.in-Some.tag.size c.loop-tag.invariant.filled ends c.saturating_sub-before.ensures c.in-Some.ensures.whole)

@@ -27,3 +27,28 @@ invariant-fill-loop-here l = record {
 
 abbrev pub decreases-fill-loop-here : goal.decreases-fill-loop-here
 decreases-fill-loop-here l = l.size - l.here
+
+-- and so is a group
+abbrev pub decreases-group::fill_to_tag : goal.decreases-group::fill_to_tag
+decreases-group::fill_to_tag l = 4 * l.left + 3
+
+abbrev pub decreases-group::fill_inside : goal.decreases-group::fill_inside
+decreases-group::fill_inside l = 4 * l.left + 2
+
+abbrev pub decreases-group::fill_group : goal.decreases-group::fill_group
+decreases-group::fill_group l = 4 * l.left + 1
+
+abbrev pub decreases-group::fill_field_group : goal.decreases-group::fill_field_group
+decreases-group::fill_field_group l = 4 * l.left
+
+abbrev pub decreases-group::fill_unknown_group : goal.decreases-group::fill_unknown_group
+decreases-group::fill_unknown_group l = 4 * l.left
+
+abbrev pub invariant-group::fill_to_tag-loop-tag : goal.invariant-group::fill_to_tag-loop-tag
+invariant-group::fill_to_tag-loop-tag l = record {
+  within : l.here ≤ length l.bytes;
+  filled : FillsTo l.pool (part_view l.initial.part) (part_view l.part) l.bytes l.left l.room l.here;
+}
+
+abbrev pub decreases-group::fill_to_tag-loop-tag : goal.decreases-group::fill_to_tag-loop-tag
+decreases-group::fill_to_tag-loop-tag l = length l.bytes - l.here

@@ -14,8 +14,8 @@ take_number_record-requires-clause-tag c =
     subst (λ (z : Option ℕ). HasTag (given_at c.args.reader.now.at z c.args.bytes.now) c.in-Some.tag.number c.in-Some.tag.wire_type (passed (given_at c.args.reader.now.at z c.args.bytes.now) c.in-Some.tag.size)) c.left.ensures
     (c.in-Some.ensures.whole c.args.reader.now.at)
 
-pub take_group_start-requires-clause-tag : goal.take_group_start-requires-clause-tag
-take_group_start-requires-clause-tag c =
+pub take_group-requires-clause-tag : goal.take_group-requires-clause-tag
+take_group-requires-clause-tag c =
     subst (λ (z : Option ℕ). HasTag (given_at c.args.reader.now.at z c.args.bytes.now) c.in-Some.tag.number c.in-Some.tag.wire_type (passed (given_at c.args.reader.now.at z c.args.bytes.now) c.in-Some.tag.size)) c.left.ensures
     (c.in-Some.ensures.whole c.args.reader.now.at)
 

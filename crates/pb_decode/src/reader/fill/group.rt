@@ -1,0 +1,260 @@
+//! Groups that stand whole in the bytes, read into a part at once. The end of one is where its end tag is, so only reading tells it.
+
+ghost use Rattle.std.specs.Prelude.{◌≡◌, ◌≤◌, ◌<◌, ◌^◌, Some, length, IfOk, IfSome};
+ghost use Rattle.pb_schema.specs.Rules.{IsPool};
+ghost use Rattle.pb_decode.specs.declared.open.purpose.Purpose.TheVariants as purposes;
+ghost use Rattle.pb_decode.specs.Open.PartView.{part_view};
+ghost use Rattle.pb_decode.specs.Open.Purposes.{Means, part_context};
+ghost use Rattle.pb_decode.specs.Reader.Fills.{IsOpen, HasTagAt};
+ghost use Rattle.pb_decode.specs.Reader.Fills.Groups.{IfWhole, IsWithin, Passes, FillsGroup, FillsUpToEnd};
+
+use super::{fill_length, fill_number};
+use crate::close::closing::put_group;
+use crate::close::put::put_message;
+use crate::error::NoMemory;
+use crate::open::opening::{message_slot, take_message};
+use crate::open::part::{Part, Slot};
+use crate::open::purpose::purpose_of;
+use crate::reader::quick_record::length_behind;
+use crate::tokens::record_tag::{RecordTag, record_tag};
+use pb_schema::{MessageId, Pool};
+use std::alloc::Global;
+
+/// How many bytes were read of what takes as many as it has.
+#[derive(Clone, Copy)]
+pub(crate) enum Extent {
+    /// All that it has.
+    Whole(usize),
+    /// So many, and one token more at most: it can't be taken.
+    Cut(usize),
+}
+
+/// How many bytes may have been read of a record behind whose tag something can't be taken.
+fn read_of(tag: RecordTag, bytes: &[u8], left: u32) -> usize
+    requires within { tag.size ≤ length bytes.now }
+    requires small { length bytes.now < 2 ^ 31 }
+    ensures { result ≤ length bytes.now }
+{
+    if tag.wire_type != 2 {
+        return 0;
+    }
+    let Some((start, size)) = length_behind(tag.size, bytes, Some(left)) else {
+        return 0;
+    };
+    let size = size as usize;
+    if bytes.len() - start < size {
+        return 0;
+    }
+    start + size
+}
+
+/// How many bytes were read of a record: those that it takes, if it is taken.
+fn extent_of(taken: Option<usize>, tag: RecordTag, bytes: &[u8], left: u32) -> Extent
+    requires within { tag.size ≤ length bytes.now }
+    requires small { length bytes.now < 2 ^ 31 }
+    requires taken { IfSome taken (λ n. n ≤ length bytes.now) }
+    ensures within { IsWithin result (length bytes.now) }
+    ensures whole { IfWhole result (λ n. taken ≡ Some n) }
+{
+    match taken {
+        Some(size) => Extent::Whole(size),
+        None => Extent::Cut(read_of(tag, bytes, left)),
+    }
+}
+
+/// Puts the record behind a tag that ends no group into a part, if it stands whole there.
+#[cycle(fill)]
+#[inline(always)]
+fn fill_inside(
+    alloc: Global,
+    pool: &Pool,
+    part: &mut Part,
+    tag: RecordTag,
+    bytes: &[u8],
+    left: u32,
+    room: u8,
+) -> Result<Extent, NoMemory>
+    requires rules { IsPool pool.now }
+    requires open { IsOpen pool.now (part_view part.old) bytes.now left room }
+    requires small { length bytes.now < 2 ^ 31 }
+    requires some { 0 < tag.size }
+    requires within { tag.size ≤ length bytes.now }
+    requires tag { HasTagAt bytes.now left tag.number tag.wire_type tag.size }
+    ensures passes { IfOk result (λ e. Passes tag.size e (length bytes.now)) }
+    ensures filled { FillsGroup pool.now part.old part.new bytes.now left room result }
+{
+    if tag.wire_type == 2 {
+        let taken = fill_length(alloc, pool, part, tag, bytes, left, room)?;
+        Ok(extent_of(taken, tag, bytes, left))
+    } else if tag.wire_type == 0 || tag.wire_type == 1 || tag.wire_type == 5 {
+        let taken = fill_number(alloc, pool, part, tag, bytes, left, room)?;
+        Ok(extent_of(taken, tag, bytes, left))
+    } else if tag.wire_type == 3 {
+        fill_group(alloc, pool, part, tag, bytes, left, room)
+    } else {
+        Ok(Extent::Cut(0))
+    }
+}
+
+/// Puts the records of a group of a number into its part, if each stands whole before the end tag, and how many bytes they take
+/// with that. If they can't be taken, something may be in the part.
+#[cycle(fill)]
+pub(crate) fn fill_to_tag(
+    alloc: Global,
+    pool: &Pool,
+    part: &mut Part,
+    number: u32,
+    bytes: &[u8],
+    left: u32,
+    room: u8,
+) -> Result<Extent, NoMemory>
+    requires rules { IsPool pool.now }
+    requires open { IsOpen pool.now (part_view part.old) bytes.now left room }
+    requires small { length bytes.now < 2 ^ 31 }
+    ensures passes { IfOk result (λ e. IsWithin e (length bytes.now)) }
+    ensures filled { FillsUpToEnd pool.now number part.old part.new bytes.now left room result }
+{
+    let mut here = 0;
+    loop {
+        let rest = &bytes[here..];
+        let before = left.saturating_sub(here as u32);
+        let Some(tag) = record_tag(rest, Some(before)) else {
+            return Ok(Extent::Cut(here));
+        };
+        if tag.wire_type == 4 {
+            if tag.number == number {
+                return Ok(Extent::Whole(here + tag.size));
+            }
+            return Ok(Extent::Cut(here));
+        }
+        match fill_inside(alloc, pool, part, tag, rest, before, room)? {
+            Extent::Whole(size) => here += size,
+            Extent::Cut(read) => return Ok(Extent::Cut(here + read)),
+        }
+    }
+}
+
+/// Puts the message of a group behind its first tag into its slot of a part, if its records and its end tag stand whole there. It
+/// goes on from what the slot holds.
+#[cycle(fill)]
+fn fill_field_group(
+    alloc: Global,
+    pool: &Pool,
+    part: &mut Part,
+    tag: RecordTag,
+    message_type: MessageId,
+    slot: Slot,
+    bytes: &[u8],
+    left: u32,
+    room: u8,
+) -> Result<Extent, NoMemory>
+    requires rules { IsPool pool.now }
+    requires open { IsOpen pool.now (part_view part.old) bytes.now left room }
+    requires small { length bytes.now < 2 ^ 31 }
+    requires start { tag.wire_type ≡ 3 }
+    requires some { 0 < tag.size }
+    requires within { tag.size ≤ length bytes.now }
+    requires tag { HasTagAt bytes.now left tag.number tag.wire_type tag.size }
+    requires room { 0 < room }
+    requires means { Means pool.now (part_context (part_view part.old)) tag.number 3 (purposes.Message message_type slot) }
+    ensures passes { IfOk result (λ e. Passes tag.size e (length bytes.now)) }
+    ensures filled { FillsGroup pool.now part.old part.new bytes.now left room result }
+{
+    let mut inner = Part::Message(message_type, take_message(alloc, slot, part));
+    let rest = &bytes[tag.size..];
+    let before = left.saturating_sub(tag.size as u32);
+    match fill_to_tag(alloc, pool, &mut inner, tag.number, rest, before, room - 1)? {
+        Extent::Whole(size) => match inner {
+            Part::Message(_kind, message) => {
+                put_message(alloc, pool, slot, part, message)?;
+                Ok(Extent::Whole(tag.size + size))
+            }
+            Part::Entry {
+                key_kind: _,
+                value_kind: _,
+                key: _key,
+                value: _value,
+            } => Ok(Extent::Cut(0)),
+            Part::Group(_records) => Ok(Extent::Cut(0)),
+        },
+        Extent::Cut(read) => Ok(Extent::Cut(tag.size + read)),
+    }
+}
+
+/// Puts a group that is no field behind its first tag among the unknown records of a part, if its records and its end tag stand
+/// whole there.
+#[cycle(fill)]
+fn fill_unknown_group(
+    alloc: Global,
+    pool: &Pool,
+    part: &mut Part,
+    tag: RecordTag,
+    bytes: &[u8],
+    left: u32,
+    room: u8,
+) -> Result<Extent, NoMemory>
+    requires rules { IsPool pool.now }
+    requires open { IsOpen pool.now (part_view part.old) bytes.now left room }
+    requires small { length bytes.now < 2 ^ 31 }
+    requires start { tag.wire_type ≡ 3 }
+    requires some { 0 < tag.size }
+    requires within { tag.size ≤ length bytes.now }
+    requires tag { HasTagAt bytes.now left tag.number tag.wire_type tag.size }
+    requires room { 0 < room }
+    requires means { Means pool.now (part_context (part_view part.old)) tag.number 3 purposes.Unknown }
+    ensures passes { IfOk result (λ e. Passes tag.size e (length bytes.now)) }
+    ensures filled { FillsGroup pool.now part.old part.new bytes.now left room result }
+{
+    let mut inner = Part::Group(Vec::new(alloc));
+    let rest = &bytes[tag.size..];
+    let before = left.saturating_sub(tag.size as u32);
+    match fill_to_tag(alloc, pool, &mut inner, tag.number, rest, before, room - 1)? {
+        Extent::Whole(size) => match inner {
+            Part::Group(records) => {
+                put_group(Slot::Unknown(tag.number), part, records)?;
+                Ok(Extent::Whole(tag.size + size))
+            }
+            Part::Message(_kind, _body) => Ok(Extent::Cut(0)),
+            Part::Entry {
+                key_kind: _,
+                value_kind: _,
+                key: _key,
+                value: _value,
+            } => Ok(Extent::Cut(0)),
+        },
+        Extent::Cut(read) => Ok(Extent::Cut(tag.size + read)),
+    }
+}
+
+/// Puts the group behind its first tag into a part, where a level is left for it and it stands whole.
+#[cycle(fill)]
+pub(super) fn fill_group(
+    alloc: Global,
+    pool: &Pool,
+    part: &mut Part,
+    tag: RecordTag,
+    bytes: &[u8],
+    left: u32,
+    room: u8,
+) -> Result<Extent, NoMemory>
+    requires rules { IsPool pool.now }
+    requires open { IsOpen pool.now (part_view part.old) bytes.now left room }
+    requires small { length bytes.now < 2 ^ 31 }
+    requires start { tag.wire_type ≡ 3 }
+    requires some { 0 < tag.size }
+    requires within { tag.size ≤ length bytes.now }
+    requires tag { HasTagAt bytes.now left tag.number tag.wire_type tag.size }
+    ensures passes { IfOk result (λ e. Passes tag.size e (length bytes.now)) }
+    ensures filled { FillsGroup pool.now part.old part.new bytes.now left room result }
+{
+    if room == 0 {
+        return Ok(Extent::Cut(0));
+    }
+    let meant = purpose_of(pool, part, tag.number, 3);
+    match message_slot(meant) {
+        Some((kind, slot)) => {
+            fill_field_group(alloc, pool, part, tag, kind, slot, bytes, left, room)
+        }
+        None => fill_unknown_group(alloc, pool, part, tag, bytes, left, room),
+    }
+}
