@@ -77,6 +77,8 @@ pub mod LengthTaken
 pub mod QuickLemmas
 -- for map entries that are taken at once
 pub mod FillLemmas
+-- for the elements of a list that are read at once
+pub mod ListedLemmas
 -- for a payload of bytes
 pub mod PayloadTaken
 -- for parts that end where the reader stands
