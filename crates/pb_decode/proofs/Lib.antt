@@ -79,6 +79,8 @@ pub mod QuickLemmas
 pub mod FillLemmas
 -- for groups that are read at once
 pub mod GroupFills
+-- for the elements of a list that are read at once
+pub mod ListedLemmas
 -- for a payload of bytes
 pub mod PayloadTaken
 -- for parts that end where the reader stands

@@ -3,6 +3,7 @@ pub mod Waiting
 pub mod Origin
 pub mod Fills
 pub mod Entries
+pub mod Listed
 pub mod Steps
 pub mod Pieces
 use Rattle.std.specs.Prelude.{◌≡◌, ℕ, ◌+◌, ◌*◌, ◌-◌, ◌<◌, ◌≤◌, ◌^◌, List, [], ◌∷◌, ◌++◌, map, reverse, drop, length, Option, Some, None, option_map}

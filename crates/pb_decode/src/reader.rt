@@ -2,6 +2,7 @@
 
 pub(crate) mod fault;
 pub(crate) mod fill;
+pub(crate) mod fill_run;
 pub(crate) mod origin;
 pub(crate) mod quick;
 pub(crate) mod quick_entries;

@@ -464,3 +464,51 @@ pub(crate) const FALLING: &str = "falling unknown_numbers - - 100000";
 
 /// The front of a text, how many decoders it is fed to, which live at once, and the answer of each.
 pub(crate) const ALIVE: &str = "alive long_texts - - 12ffffffff07 100000 ! 6 2[0] Truncated";
+
+/// Records of one list that follow on each other in a message that stands whole, of the type `T`.
+pub(crate) const RUNS: &str = "
+decode run - - 1a06300130023003 = 1a053203010203
+decode run_of_one - - 1a0430010805 = 1a050805320101
+decode run_broken_by_another_field - - 1a0a30013002080530033004 = 1a080805320401020304
+decode run_broken_by_a_packed_record - - 1a0c300130023202030430053006 = 1a083206010203040506
+decode run_behind_a_packed_record - - 1a083202010230033004 = 1a06320401020304
+decode run_broken_by_an_unknown_record - - 1a0a30013002780530033004 = 1a083204010203047805
+decode run_broken_by_bytes - - 1a0a30013002320030033004 = 1a06320401020304
+decode run_with_a_longer_tag - - 1a073001b000023003 = 1a053203010203
+decode run_with_longer_numbers - - 1a083081003082003003 = 1a053203010203
+decode run_goes_on - - 1a04300130021a0430033004 = 1a06320401020304
+decode run_of_negative_numbers - - 1a1630ffffffffffffffffff0130ffffffffffffffffff01 = 1a163214ffffffffffffffffff01ffffffffffffffffff01
+decode run_cut_at_a_number - - 1a063001300230 ! 7 3[0].6[2] Truncated
+decode run_cut_in_a_number - - 1a073001300230 ! 7 3[0].6[2] Truncated
+decode run_cut_at_a_tag - - 1a0630013002 ! 6 3[0] Truncated
+decode run_ends_at_a_number - - 1a053001300230 ! 7 3[0].6[2] PastEnd
+decode run_ends_in_a_number - - 1a0630013002309601 ! 7 3[0].6[2] PastEnd
+decode run_ends_in_a_long_number - - 1a0f3001300230ffffffffffffffffffff ! 7 3[0].6[2] VarintTooLong
+";
+
+/// The same of a closed enum, in a map of the type `R`.
+pub(crate) const CLOSED_RUNS: &str = "
+decode declared_run - - 320a08011206280128022801 = 320a08011206280128022801
+decode undeclared_in_run - - 320a08011206280128092802 = 320a08011206280128022809
+decode undeclared_before_run - - 320a08011206280928012802 = 320a08011206280128022809
+decode undeclared_behind_run - - 320a08011206280128022809 = 320a08011206280128022809
+decode undeclared_between_runs - - 320e0801120a28012802280928022801 = 320e0801120a28012802280228012809
+decode undeclared_alone - - 320a08011206280728082809 = 320a08011206280728082809
+";
+
+/// Messages in a list and runs of numbers of known sizes, of the type `S`.
+pub(crate) const LISTS: &str = "
+decode messages_in_a_list - - 0a020a000a00 = 0a020a000a00
+decode messages_with_lists - - 0a0e0a0515010000000a051502000000 = 0a0e0a0515010000000a051502000000
+decode messages_broken_by_numbers - - 0a000a0515010000000a0015020000000a00 = 0a000a0515010000000a000a001502000000
+decode fault_in_the_second_message - - 0a000a020f00 ! 4 1[1] BadType
+decode fault_in_a_message_of_the_second - - 0a000a040a020f00 ! 6 1[1].1[0] BadType
+decode second_message_cut - - 0a000a051501 ! 6 1[1].2[0] Truncated
+decode message_too_deep - 1 0a000a020a00 ! 4 1[1].1[0] TooDeep
+decode run_of_four_bytes - - 0a0f150100000015020000001503000000 = 0a0f150100000015020000001503000000
+decode run_of_eight_bytes - - 0a1219000000000000000019000000000000f03f = 0a1219000000000000000019000000000000f03f
+decode run_of_four_bytes_broken - - 0a13150100000019000000000000f03f1502000000 = 0a131501000000150200000019000000000000f03f
+decode run_of_four_bytes_and_packed - - 0a1015010000001204020000001503000000 = 0a0f150100000015020000001503000000
+decode run_of_four_bytes_cut - - 0a0a150100000015020000 ! 11 1[0].2[1] Truncated
+decode run_of_four_bytes_ends_early - - 0a0915010000001502000000 ! 8 1[0].2[1] PastEnd
+";

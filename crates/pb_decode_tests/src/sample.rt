@@ -16,6 +16,7 @@
 //! repeated group Y = 3 { optional int32 x = 1; } optional string t = 5; } } oneof o { group V = 3 { optional int32 x = 1; } int32 y = 4; C z = 7; }
 //! repeated C l = 5; map<int32, R> m = 6; }
 //! message N { }
+//! message S { repeated S s = 1; repeated fixed32 h = 2; repeated double d = 3; }
 
 ghost use Rattle.std.specs.Prelude.{◌<◌, length};
 
@@ -75,6 +76,14 @@ const FIELDS_OF_W: &[FieldRow] = &[
     ("t", 5, Kind::Text, Shape::Explicit),
 ];
 
+const S: Kind = Kind::Message(MessageId(10));
+
+const FIELDS_OF_S: &[FieldRow] = &[
+    ("s", 1, S, UNPACKED),
+    ("h", 2, Kind::Fixed32, UNPACKED),
+    ("d", 3, Kind::Double, UNPACKED),
+];
+
 const TYPES: &[TypeRow] = &[
     ("T", 0, None, FIELDS_OF_T, &["o"]),
     ("F", 0, None, FIELDS_OF_F, &[]),
@@ -86,6 +95,7 @@ const TYPES: &[TypeRow] = &[
     ("Y", 1, Some(MessageId(6)), FIELDS_OF_G, &[]),
     ("V", 1, Some(R), FIELDS_OF_G, &[]),
     ("N", 1, None, &[], &[]),
+    ("S", 1, None, FIELDS_OF_S, &[]),
 ];
 
 const FILES: &[FileRow<'static>] = &[("t.proto", "", false), ("q.proto", "", true)];

@@ -5,8 +5,9 @@ use super::hostile::{are_alive, are_falling, are_fronts, is_repeated};
 use super::messages::{is_merged, is_put_onto};
 use super::pieces::is_pushed;
 use super::rows::{
-    ALIVE, CLOSED, CLOSED_GROWTHS, DEEP, FALLING, FLAT, FRAMES, FRONTS, GROUP_GROWTHS, GROUPS,
-    GROWTHS, MANY_RECORDS, MERGES, NESTED, ONE_RECORD, ONTO, PIECES, RECORDS, WORKED,
+    ALIVE, CLOSED, CLOSED_GROWTHS, CLOSED_RUNS, DEEP, FALLING, FLAT, FRAMES, FRONTS, GROUP_GROWTHS,
+    GROUPS, GROWTHS, LISTS, MANY_RECORDS, MERGES, NESTED, ONE_RECORD, ONTO, PIECES, RECORDS, RUNS,
+    WORKED,
 };
 use super::sample::{Schema, sample};
 use super::words::{limits_of, word};
@@ -89,6 +90,27 @@ fn groups_in_groups(rt: HostRuntime) -> Result<(), Fail> {
 #[test]
 fn records_and_groups(rt: HostRuntime) -> Result<(), Fail> {
     let wrong = wrong_row(rt.alloc(), "N", RECORDS)?;
+    assert!(rt; wrong.is_none(), "{wrong:?}");
+    Ok(())
+}
+
+#[test]
+fn runs(rt: HostRuntime) -> Result<(), Fail> {
+    let wrong = wrong_row(rt.alloc(), "T", RUNS)?;
+    assert!(rt; wrong.is_none(), "{wrong:?}");
+    Ok(())
+}
+
+#[test]
+fn runs_of_closed_enums(rt: HostRuntime) -> Result<(), Fail> {
+    let wrong = wrong_row(rt.alloc(), "R", CLOSED_RUNS)?;
+    assert!(rt; wrong.is_none(), "{wrong:?}");
+    Ok(())
+}
+
+#[test]
+fn messages_in_lists(rt: HostRuntime) -> Result<(), Fail> {
+    let wrong = wrong_row(rt.alloc(), "S", LISTS)?;
     assert!(rt; wrong.is_none(), "{wrong:?}");
     Ok(())
 }

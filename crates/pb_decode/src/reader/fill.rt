@@ -17,6 +17,7 @@ use crate::open::opening::{room_in, take_message};
 use crate::open::part::{Part, Slot};
 use crate::open::purpose::{Purpose, purpose_of};
 use crate::reader::fill::group::{Extent, fill_group};
+use crate::reader::fill_run::fill_run;
 use crate::reader::quick_record::length_behind;
 use crate::reader::state::number_at;
 use crate::tokens::number_token::NumberToken;
@@ -31,6 +32,40 @@ use pb_schema::{Kind, MessageId, Pool};
 use std::alloc::Global;
 
 /// Puts the number behind a tag into a part, if it stands whole there, and how many bytes its record takes.
+#[inline(always)]
+fn fill_one(
+    alloc: Global,
+    pool: &Pool,
+    part: &mut Part,
+    tag: RecordTag,
+    purpose: Purpose,
+    bytes: &[u8],
+    left: u32,
+    room: u8,
+) -> Result<Option<usize>, NoMemory>
+    requires rules { IsPool pool.now }
+    requires open { IsOpen pool.now (part_view part.old) bytes.now left room }
+    requires small { length bytes.now < 2 ^ 31 }
+    requires number { (tag.wire_type ≡ 0) ⊎ (tag.wire_type ≡ 1) ⊎ (tag.wire_type ≡ 5) }
+    requires within { tag.size ≤ length bytes.now }
+    requires tag { HasTagAt bytes.now left tag.number tag.wire_type tag.size }
+    requires means { Means pool.now (part_context (part_view part.old)) tag.number tag.wire_type purpose }
+    ensures passes { IfOk result (λ o. IfSome o (λ n. (tag.size ≤ n) × (n ≤ length bytes.now))) }
+    ensures filled { FillsOne pool.now part.old part.new bytes.now left room result }
+{
+    let behind = left_behind(Some(left), tag.size);
+    match number_at(tag.wire_type, &bytes[tag.size..], behind) {
+        NumberToken::Whole(value, size) => {
+            put_number(alloc, pool, part, tag.number, purpose, value)?;
+            Ok(Some(tag.size + size))
+        }
+        NumberToken::Short => Ok(None),
+        NumberToken::Fault(_) => Ok(None),
+    }
+}
+
+/// Puts the number behind a tag into a part, if it stands whole there, and how many bytes its record takes. An element takes
+/// those of its list with it that follow on it.
 #[inline(always)]
 fn fill_number(
     alloc: Global,
@@ -51,14 +86,12 @@ fn fill_number(
     ensures filled { FillsOne pool.now part.old part.new bytes.now left room result }
 {
     let purpose = purpose_of(pool, part, tag.number, tag.wire_type);
-    let behind = left_behind(Some(left), tag.size);
-    match number_at(tag.wire_type, &bytes[tag.size..], behind) {
-        NumberToken::Whole(value, size) => {
-            put_number(alloc, pool, part, tag.number, purpose, value)?;
-            Ok(Some(tag.size + size))
-        }
-        NumberToken::Short => Ok(None),
-        NumberToken::Fault(_) => Ok(None),
+    let Purpose::Element(kind) = purpose else {
+        return fill_one(alloc, pool, part, tag, purpose, bytes, left, room);
+    };
+    match fill_run(alloc, pool, part, tag, kind, bytes, left, room)? {
+        Some(used) => Ok(Some(used)),
+        None => fill_one(alloc, pool, part, tag, purpose, bytes, left, room),
     }
 }
 

@@ -1,0 +1,29 @@
+-- Records of one list that are read at once, wherever the message is open that holds it.
+use Rattle.std.specs.Prelude.{ℕ, List, [], ◌∷◌, map, Option, Vec, Result, IfOk, IfSome}
+use Rattle.std.specs.declared.alloc.Global.{Global}
+use Rattle.pb_schema.specs.declared.types.Kind.{Kind}
+use Rattle.pb_schema.specs.Types.{Types}
+use Rattle.pb_schema.specs.Kinds.{wire_type_of}
+use Rattle.pb_value.specs.declared.body.Value.{Value}
+use Rattle.pb_value.specs.Data.{Datum}
+use Rattle.pb_value.specs.View.{value_view}
+use Rattle.pb_decode.specs.declared.open.purpose.Purpose.TheVariants.{Element}
+use Rattle.pb_decode.specs.Open.Frames.{Part}
+use Rattle.pb_decode.specs.Open.Purposes.{Means, part_context}
+use Rattle.pb_decode.specs.Values.Run.{put_each}
+use Rattle.pb_decode.specs.Reader.Fills.{FillsTo}
+
+-- where records of a number are for elements of this kind, one stands behind so many bytes with these values at the end of the list
+abbrev pub FillsList : Types → Kind → ℕ → List Datum → List ℕ → ℕ → ℕ → Type 0
+FillsList pool kind number values bytes left used =
+    (room : ℕ) (now : Part) → Means pool (part_context now) number (wire_type_of kind) (Element kind)
+    → FillsTo pool now (put_each number values now) bytes left room used
+
+-- where the value of a record is told
+abbrev pub FillsElement : Types → Kind → ℕ → List ℕ → ℕ → Option (Value × ℕ) → Type 0
+FillsElement pool kind number bytes left result = IfSome result (λ r. FillsList pool kind number (value_view r.0 ∷ []) bytes left r.1)
+
+-- where those of a run are
+abbrev pub FillsElements : {E : Type 0} → Types → Kind → ℕ → List ℕ → ℕ → Result (Vec Value Global × ℕ) E → Type 0
+FillsElements pool kind number bytes left result =
+    IfOk result (λ r. FillsList pool kind number (map value_view r.0.items) bytes left r.1)
