@@ -10,7 +10,7 @@ use Rattle.pb_schema.specs.declared.types.MessageId.{MessageId}
 use Rattle.pb_schema.specs.Types.{Types}
 use Rattle.pb_schema.specs.Rules.{IsPool}
 use Rattle.pb_schema.specs.Scalar.{Scalar}
-use Rattle.pb_value.specs.Data.{Datum, Message, Holding, Fields, no_fields, field, get_field, drop_field, fields_of}
+use Rattle.pb_value.specs.Data.{Datum, Message, Fields, no_fields, field, get_field, drop_field, fields_of}
 use Rattle.pb_value.specs.Change.{with_fields}
 use Rattle.pb_decode.specs.declared.open.part.Slot.{Slot}
 use Rattle.pb_decode.specs.declared.open.part.Slot.TheVariants as slot

@@ -2,7 +2,6 @@
 use Rattle.std.proofs.Common.{◌≡◌, ℕ, suc, ◌+◌, ◌-◌, ◌<◌, ◌≤◌, List, [], ◌∷◌, ◌++◌, take, drop, length, refl, sym, ap, ◌∙◌, subst, arith, Option, Some, None, IfSome, option_map}
 use Rattle.std.specs.Prelude.{true, MatchOption}
 use Rattle.pb_wire.specs.Record.{Record}
-use Rattle.pb_wire.specs.Ranges.{AreBytes}
 use Rattle.pb_wire.specs.declared.fault.PathStep.{PathStep}
 use Rattle.pb_wire.specs.Fault.{Place, Moves, HasTag}
 use Rattle.pb_wire.specs.Token.{given_at, passed}
@@ -19,7 +18,6 @@ use Rattle.pb_decode.specs.declared.open.purpose.Purpose.TheVariants as purpose
 use Rattle.pb_decode.specs.declared.reader.fill.group.Extent.{Extent}
 use Rattle.pb_decode.specs.declared.reader.fill.group.Extent.TheVariants as extent
 use Rattle.pb_decode.specs.declared.tokens.step.Step.TheVariants as step
-use Rattle.pb_decode.specs.Open.Opened.{Behind}
 use Rattle.pb_decode.specs.Open.Frames.{Part, message_part, group_part, put_message, put_group, IsWorth, IsSameForm, Scope, Frame, frame_of, one_more_in, EndsAt, Held, at_top, Stands}
 use Rattle.pb_decode.specs.Open.Openings.{taken_message, without_message}
 use Rattle.pb_decode.specs.Open.Purposes.{Means, part_context}

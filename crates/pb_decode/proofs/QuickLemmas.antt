@@ -17,7 +17,6 @@ use Rattle.pb_decode.specs.Open.Purposes.{Means, part_context}
 use Rattle.pb_decode.specs.Open.Frames.{Part, CanHold, Scope, Frame, EndsAt, Stands}
 use Rattle.pb_decode.specs.Tokens.After.{tag, awaited, goes_down, IsRoomFor, After}
 use Rattle.pb_decode.specs.Reader.{State, left_of, here, Reads}
-use Rattle.pb_decode.proofs.FrameLemmas.{ends_along}
 use Rattle.pb_decode.proofs.AfterLemmas.{after_tag, after_length}
 use Rattle.pb_decode.proofs.DeepLemmas.{reads_below}
 use Rattle.pb_decode.proofs.EndedLemmas.{standing}

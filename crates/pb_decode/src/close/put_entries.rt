@@ -3,7 +3,7 @@
 ghost use Rattle.std.specs.Prelude.{◌≡◌, Some, option_map, OnOk, IfOk};
 ghost use Rattle.std.specs.BTreeMap.{InsertsAll, IsFromIterResult};
 ghost use Rattle.pb_value.specs.KeyOrder.{map_key_cmp};
-ghost use Rattle.pb_value.specs.Data.{fields_of, get_field};
+ghost use Rattle.pb_value.specs.Data.{fields_of};
 ghost use Rattle.pb_value.specs.Change.{with_fields, entries_of};
 ghost use Rattle.pb_value.specs.View.{body_view, content_view, entries_view};
 ghost use Rattle.pb_value.specs.WellFormed.{RisesFrom};

@@ -26,7 +26,6 @@ use crate::tokens::number_token::{
 use crate::tokens::step::Step;
 use crate::values::put_number::put_number;
 use pb_schema::Pool;
-use pb_wire::Cause;
 use std::alloc::Global;
 
 /// What a decoder keeps between the bytes that it takes.

@@ -1,5 +1,5 @@
 -- Groups that are read at once into a part. Their end is told by their end tag.
-use Rattle.std.specs.Prelude.{◌≡◌, ℕ, ◌≤◌, List, Some, Result, IfOk}
+use Rattle.std.specs.Prelude.{ℕ, ◌≤◌, List, Some, Result, IfOk}
 use Rattle.pb_wire.specs.Fault.{HasTag}
 use Rattle.pb_wire.specs.Token.{given_at, passed}
 use Rattle.pb_schema.specs.Types.{Types}

@@ -1,6 +1,6 @@
 -- The map that stood there, with the entries in it, is put back.
-use Rattle.std.proofs.Common.{◌≡◌, ap, sym, ◌∙◌, subst, arith, length, vec_len, option_map}
-use Rattle.pb_value.specs.Data.{Holding, Entries, map, fields_of, get_field}
+use Rattle.std.proofs.Common.{◌≡◌, ap, sym, ◌∙◌, subst, arith, length, vec_len}
+use Rattle.pb_value.specs.Data.{map}
 use Rattle.pb_value.specs.Change.{entries_of}
 use Rattle.pb_value.specs.View.{body_view, content_view, entries_view}
 use Rattle.pb_value.proofs.Views.{content_view-Map}

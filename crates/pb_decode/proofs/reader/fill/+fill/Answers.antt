@@ -1,5 +1,5 @@
 -- Record by record a part is filled, and what it holds with it.
-use Rattle.std.proofs.Common.{rules, ◌≡◌, ◌+◌, ◌-◌, ◌*◌, ◌<◌, ℕ, ◌∷◌, Some, ap, ◌∙◌, sym, refl, subst, arith, take, drop, length, length-drop, option_map}
+use Rattle.std.proofs.Common.{rules, ◌≡◌, ◌+◌, ◌-◌, ◌*◌, ◌<◌, ℕ, Some, ap, ◌∙◌, sym, refl, subst, arith, take, drop, length, length-drop, option_map}
 use Rattle.pb_wire.specs.Unknown.{records_of}
 use Rattle.pb_value.specs.View.{body_view, key_view, value_view}
 use Rattle.pb_decode.specs.Open.Frames.{entry_part}

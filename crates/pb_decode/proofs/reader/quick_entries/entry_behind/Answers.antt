@@ -1,5 +1,5 @@
 -- The entry is filled as where it is open, and what it closes to is its key and its value.
-use Rattle.std.proofs.Common.{ℕ, ◌+◌, ap, subst, arith, option_map, length, length-drop, ◌∙◌}
+use Rattle.std.proofs.Common.{ap, option_map}
 use Rattle.pb_value.specs.View.{key_view, value_view}
 use Rattle.pb_decode.specs.Open.Frames.{entry_part}
 use Rattle.pb_decode.specs.Open.PartView.{part_view}

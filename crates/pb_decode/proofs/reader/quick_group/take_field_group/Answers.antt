@@ -1,11 +1,11 @@
 -- The message that is read goes into its slot, and its record is counted.
-use Rattle.std.proofs.Common.{◌≡◌, ℕ, ◌+◌, ◌-◌, ◌<◌, ◌∙◌, Option, IfSome, option_map, refl, sym, ap, subst, arith, length, length-drop}
+use Rattle.std.proofs.Common.{◌≡◌, ℕ, ◌+◌, ◌-◌, ◌∙◌, Option, IfSome, option_map, refl, sym, ap, subst, arith}
 use Rattle.pb_wire.specs.Fault.{HasTag}
 use Rattle.pb_wire.specs.Token.{passed}
 use Rattle.pb_value.specs.View.{body_view}
 use Rattle.pb_decode.specs.Open.PartView.{part_view, scope_view}
 use Rattle.pb_decode.specs.Reader.{state_view, frames_view, here}
-use Rattle.pb_decode.proofs.ReaderLemmas.{slice_from, stands_reads}
+use Rattle.pb_decode.proofs.ReaderLemmas.{stands_reads}
 use Rattle.pb_decode.proofs.QuickLemmas.{tag_few, tag_can}
 use Rattle.pb_decode.proofs.GroupFills.{whole_told, field_group_in_reader, field_group_read}
 use Rattle.pb_decode.proofs.reader.quick_group.take_field_group.Goals as goal

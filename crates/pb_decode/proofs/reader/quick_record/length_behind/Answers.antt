@@ -1,5 +1,5 @@
 -- The length stands behind the tag, and the payload behind it.
-use Rattle.std.proofs.Common.{ℕ, ◌+◌, ◌-◌, Option, option_map, refl, ap, ◌∙◌, arith, take, drop, length, length-drop}
+use Rattle.std.proofs.Common.{ℕ, ◌+◌, ◌-◌, ap, ◌∙◌, arith, take, drop, length, length-drop}
 use Rattle.pb_wire.specs.Fault.{Place, Reads as ReadsNumber}
 use Rattle.pb_wire.specs.Token.{given_at, passed}
 use Rattle.pb_decode.proofs.ReaderLemmas.{slice_from}
