@@ -32,8 +32,7 @@ const LEAST: usize = 8;
 const MANY: usize = 16;
 
 /// The entry behind a tag at the front of some bytes, with so many bytes before the known end and so many levels left, and how
-/// many bytes its record takes, if it stands whole there and holds no group. Where its payload was read and is none, `tried` is
-/// where it ends.
+/// many bytes its record takes, if it stands whole there. Where its payload was read and is none, `tried` is where it ends.
 fn entry_behind(
     alloc: Global,
     pool: &Pool,
@@ -241,8 +240,8 @@ fn is_run(tag_size: usize, bytes: &[u8], left: Option<u32>) -> bool
     bytes[end..].starts_with(&bytes[..tag_size])
 }
 
-/// Takes the entry behind whose tag its payload stands whole and holds no group, and those behind it, and how many bytes they
-/// take. Where a payload was read and can't be taken so, `tried` is where it ends.
+/// Takes the entry behind whose tag its payload stands whole, and those behind it, and how many bytes they take. Where a payload
+/// was read and can't be taken so, `tried` is where it ends.
 pub(crate) fn take_entries(
     alloc: Global,
     pool: &Pool,
