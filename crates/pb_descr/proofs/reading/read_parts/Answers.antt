@@ -1,16 +1,10 @@
-use Rattle.std.proofs.Common.{◌≡◌, ◌≤◌, ◌+◌, Bool, true, false, not, List, [], length, map, refl, sym, subst, arith, rules}
-use Rattle.std.specs.Prelude.{IsTrue}
-use Rattle.std.proofs.lemmas.Bool.{false≢true}
+use Rattle.std.proofs.Common.{◌≤◌, ◌+◌, List, [], length, map, sym, subst, arith, rules}
 use Rattle.pb_wire.specs.Limits.{full}
 use Rattle.pb_decl.specs.View.{file_view}
 use Rattle.pb_decl.specs.declared.decl.FileDecl.{FileDecl}
 use Rattle.pb_descr.specs.Sets.{IsSetOf}
 use Rattle.pb_descr.proofs.JoinedSets.{no_set, part_added}
 use Rattle.pb_descr.proofs.reading.read_parts.Goals as goal
-
-holds : (b : Bool) → not b ≡ false → IsTrue b
-holds true h = refl
-holds false h = absurd (false≢true (sym h))
 
 pub loop-at-init : goal.loop-at-init
 loop-at-init c = (omega arith, subst (λ (l : List FileDecl). IsSetOf full [] (map file_view l)) (sym c.new-files.ensures.items) no_set)
@@ -21,5 +15,5 @@ loop-at-preserved c =
     let short : length c.args.bytes.now ≤ full.bytes = search rules in (
       fits,
       part_added c.args.bytes.now c.loop-at.at c.part_end-end.result (map file_view c.loop-at.files.items) (map file_view c.add_part.new.files.items) short c.loop-at.invariant.1
-          (c.in_ok-add_part.ensures (holds c.in_ok-add_part.field-0 c.if-not-branch.false)),
+          (c.in_ok-add_part.ensures c.if-not-branch.false),
     )
