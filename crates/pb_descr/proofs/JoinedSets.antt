@@ -1,7 +1,7 @@
 -- Sets whose bytes are joined are the set of the files of both.
-use Rattle.std.proofs.Common.{◌≡◌, ℕ, zero, suc, ◌+◌, ◌<◌, ◌≤◌, List, [], ◌∷◌, ◌++◌, map, take, drop, length, get_or, Some, refl, sym, ap, ◌∙◌, subst, arith}
+use Rattle.std.proofs.Common.{◌≡◌, ℕ, zero, suc, ◌+◌, ◌-◌, ◌<◌, ◌≤◌, List, [], ◌∷◌, ◌++◌, map, take, drop, length, get_or, Some, refl, sym, ap, ◌∙◌, subst, arith}
 use Rattle.std.specs.Prelude.{codes, slice_get}
-use Rattle.std.proofs.lemmas.List.{append_assoc, take_more, map-append}
+use Rattle.std.proofs.lemmas.List.{append_assoc, take_all, take_more, map-append}
 use Rattle.std.proofs.lemmas.List.Elements.{filter-append}
 use Rattle.pb_wire.specs.Record.{Record}
 use Rattle.pb_wire.specs.Fault.{Fault}
@@ -131,10 +131,20 @@ taken_less zero xs = omega arith
 taken_less (suc n) [] = omega arith
 taken_less (suc n) (x ∷ xs) = omega (arith, taken_less n xs)
 
+dropped_less : (n : ℕ) (xs : List ℕ) → length (drop n xs) ≤ length xs - n
+dropped_less zero xs = omega arith
+dropped_less (suc n) [] = omega arith
+dropped_less (suc n) (x ∷ xs) = omega (arith, dropped_less n xs)
+
+-- what stands behind an index is all the rest
+rest_whole : (n : ℕ) (xs : List ℕ) → take (length xs - n) (drop n xs) ≡ drop n xs
+rest_whole n xs = take_all (length xs - n) (drop n xs) (dropped_less n xs)
+
 -- one part more of a set
-pub part_added : (b : List ℕ) (at end : ℕ) (old new : List DeclaredFile) → length b ≤ full.bytes → IsSetOf full (take at b) old → AddsSet (take end (drop at b)) old new → IsSetOf full (take (at + end) b) new
-part_added b at end old new short h added =
+pub part_added : (b : List ℕ) (at end : ℕ) (old new : List DeclaredFile) → length b ≤ full.bytes → IsSetOf full (take at b) old → AddsSet (take end (take (length b - at) (drop at b))) old new → IsSetOf full (take (at + end) b) new
+part_added b at end old new short h adds =
     let both = take-add at end b in
+    let added : AddsSet (take end (drop at b)) old new = subst (λ (l : List ℕ). AddsSet (take end l) old new) (rest_whole at b) adds in
     let size : length (take at b ++ take end (drop at b)) ≤ full.bytes = subst (λ (l : List ℕ). length l ≤ full.bytes) both (omega (arith, taken_less (at + end) b, short)) in
     subst (IsSetOf full (take (at + end) b)) (sym added.2)
     (subst (λ (l : List ℕ). IsSetOf full l (old ++ added.0)) (sym both) (set_joined (take at b) (take end (drop at b)) old added.0 size h added.1))
