@@ -1,5 +1,5 @@
 -- Where files stand in a row of declarations: no message, enum or service names one, so a row names those whose declarations it is.
-use Rattle.std.proofs.Common.{◌≡◌, ℕ, zero, suc, ◌+◌, List, [], ◌∷◌, ◌++◌, Bool, true, false, ◌||◌, map, take, length, refl, sym, ap, ◌∙◌, arith, Some, ◌⊎◌, ⊎_elim}
+use Rattle.std.proofs.Common.{◌≡◌, ℕ, zero, suc, ◌+◌, List, [], ◌∷◌, ◌++◌, Bool, true, false, ◌||◌, map, take, length, refl, sym, ap, ◌∙◌, arith, Option, Some, ◌⊎◌, ⊎_elim}
 use Rattle.std.specs.Prelude.{slice_get}
 use Rattle.std.specs.List.{list_any, enumerate_from}
 use Rattle.std.specs.Option.{option_map_or}
@@ -11,19 +11,12 @@ use Rattle.pb_decl.specs.Decls.{DeclaredEnum, MessageHead, DeclaredMessage, mess
 use Rattle.pb_names.specs.Declarations.{Item, a_file, a_message, a_field, a_oneof, an_enum, a_value, a_service, a_method, Declaration, fields_of, oneofs_of, enum_declared, enums_declared, head_row, message_declared, messages_declared, service_declared, services_declared, file_declared, files_declared}
 use Rattle.pb_names.specs.TypeRefs.{file_in}
 use Rattle.pb_rules.specs.Rules.{is_file_named}
+use Rattle.pb_names.proofs.NameSetsLemmas.{any_append}
 use Rattle.pb_names.proofs.BehindLemmas.{some_same, get_split}
 use Rattle.pb_rules.proofs.PlacedLemmas.{same_name, any_at, take_past}
 
 abbrev pub NamesFile : List ℕ → Declaration → Bool
 NamesFile name d = is_file_named name d.item
-
-pub any_append : {X : Type 0} (t : X → Bool) (xs ys : List X) → list_any t (xs ++ ys) ≡ (list_any t xs || list_any t ys)
-any_append t [] ys = refl
-any_append t (x ∷ xs) ys = ap (λ b. t x || b) (any_append t xs ys) ∙ or_assoc (t x) (list_any t xs) (list_any t ys)
-  where
-    or_assoc : (a b c : Bool) → (a || (b || c)) ≡ ((a || b) || c)
-    or_assoc true b c = refl
-    or_assoc false b c = refl
 
 pub none_append : {X : Type 0} (t : X → Bool) (xs ys : List X) → list_any t xs ≡ false → list_any t ys ≡ false → list_any t (xs ++ ys) ≡ false
 none_append t xs ys first second = any_append t xs ys ∙ ap (λ b. b || list_any t ys) first ∙ second
@@ -112,34 +105,43 @@ named_as_file name (a_value g i v) f e = absurd (none-some f e)
 named_as_file name (a_service g) f e = absurd (none-some f e)
 named_as_file name (a_method g) f e = absurd (none-some f e)
 
--- the file with so many before it stands at this place, behind what those declare
-abbrev pub StandsAt : ℕ → ℕ → List DeclaredFile → ℕ → Declaration → DeclaredFile → ℕ → Type 0
-StandsAt file place fs p d f k =
-    (d.file ≡ file + k) × (slice_get fs k ≡ Some f) × ((n : List ℕ) → list_any (NamesFile n) (take p (files_declared file place fs)) ≡ list_any (λ g. bytes_eq n g.name) (take k fs))
+-- a file stands at this place, behind what those before it declare
+pub record StandsAt (file place : ℕ) (fs : List DeclaredFile) (p : ℕ) (d : Declaration) (f : DeclaredFile) : Type 0 where
+  pub before : ℕ
+  pub number : d.file ≡ file + before
+  pub there : slice_get fs before ≡ Some f
+  pub names : (n : List ℕ) → list_any (NamesFile n) (take p (files_declared file place fs)) ≡ list_any (λ g. bytes_eq n g.name) (take before fs)
 
-pub file_stands : (file place : ℕ) (fs : List DeclaredFile) (p : ℕ) (d : Declaration) (f : DeclaredFile) → slice_get (files_declared file place fs) p ≡ Some d → file_in d.item ≡ Some f → (k : ℕ) × StandsAt file place fs p d f k
+pub file_stands : (file place : ℕ) (fs : List DeclaredFile) (p : ℕ) (d : Declaration) (f : DeclaredFile) → slice_get (files_declared file place fs) p ≡ Some d → file_in d.item ≡ Some f → StandsAt file place fs p d f
 file_stands file place [] p d f there is = absurd (none-some d there)
 file_stands file place (g ∷ gs) p d f there is =
-    ⊎_elim (own p) (later p) (get_split (file_declared file place g) (files_declared (file + 1) (place + length (file_declared file place g)) gs) p d there)
+    ⊎_elim (own p) (later p (λ i at. file_stands (file + 1) (place + length (file_declared file place g)) gs i d f at is))
+    (get_split (file_declared file place g) (files_declared (file + 1) (place + length (file_declared file place g)) gs) p d there)
   where
-    own : (q : ℕ) → slice_get (file_declared file place g) q ≡ Some d → (k : ℕ) × StandsAt file place (g ∷ gs) q d f k
+    own : (q : ℕ) → slice_get (file_declared file place g) q ≡ Some d → StandsAt file place (g ∷ gs) q d f
     own zero at =
         let same = some_same (record { file = file; parent = place; scope = []; item = a_file g }) d at in
-        (0, omega (arith, ap (λ (x : Declaration). x.file) same), ap (λ (x : Declaration). file_in x.item) same ∙ is, λ n. refl)
+        record {
+          before = 0;
+          number = omega (arith, ap (λ (x : Declaration). x.file) same);
+          there = ap (λ (x : Declaration). file_in x.item) same ∙ is;
+          names = λ n. refl;
+        }
     own (suc q) at =
         absurd (false≢true (sym (no_file_behind f.name file place g) ∙ any_at (NamesFile f.name) (Behind file place g) q d at (named_as_file f.name d.item f is ∙ same_name f.name)))
 
-    later : (q : ℕ) → (i : ℕ) × (q ≡ length (file_declared file place g) + i) × (slice_get (files_declared (file + 1) (place + length (file_declared file place g)) gs) i ≡ Some d) → (k : ℕ) × StandsAt file place (g ∷ gs) q d f k
-    later q h =
+    later : (q : ℕ) → ((i : ℕ) → slice_get (files_declared (file + 1) (place + length (file_declared file place g)) gs) i ≡ Some d → StandsAt (file + 1) (place + length (file_declared file place g)) gs i d f) → (i : ℕ) × (q ≡ length (file_declared file place g) + i) × (slice_get (files_declared (file + 1) (place + length (file_declared file place g)) gs) i ≡ Some d) → StandsAt file place (g ∷ gs) q d f
+    later q stands h =
         let front = file_declared file place g in
         let rest = files_declared (file + 1) (place + length front) gs in
-        let s = file_stands (file + 1) (place + length front) gs h.0 d f h.2 is in (
-          suc s.0,
-          omega (arith, s.1),
-          s.2,
-          λ n. ap (λ r. list_any (NamesFile n) (take r (front ++ rest))) h.1
+        let s = stands h.0 h.2 in
+        record {
+          before = suc s.before;
+          number = omega (arith, s.number);
+          there = s.there;
+          names = λ n. ap (λ r. list_any (NamesFile n) (take r (front ++ rest))) h.1
               ∙ ap (list_any (NamesFile n)) (take_past front rest h.0)
               ∙ any_append (NamesFile n) front (take h.0 rest)
               ∙ ap (λ b. b || list_any (NamesFile n) (take h.0 rest)) (own_file n file place g)
-              ∙ ap (λ b. bytes_eq n g.name || b) (s.3 n),
-        )
+              ∙ ap (λ b. bytes_eq n g.name || b) (s.names n);
+        }

@@ -1,13 +1,11 @@
 -- What the tables of names come to.
 use Rattle.std.proofs.Common.{◌≡◌, ℕ, zero, suc, ◌+◌, ◌<◌, ◌≤◌, List, [], ◌∷◌, ◌++◌, map, take, drop, length, get_or, Bool, true, false, not, ◌||◌, ◌&&◌, refl, sym, ap, ◌∙◌, arith, Option, Some, None, cond, IsTrue, ◌↔◌}
-use Rattle.std.specs.Prelude.{option_to_list, filter_map, is_some, slice_get, nat_le, nat_lt, ◌==◌, ◌^◌}
+use Rattle.std.specs.Prelude.{option_to_list, filter_map, is_some, slice_get, nat_le, nat_lt, ◌^◌}
 use Rattle.std.specs.List.{list_any, list_all, enumerate_from, position_from, slice_index_or}
 use Rattle.std.specs.Option.{option_map_or}
 use Rattle.std.specs.Str.{bytes_eq}
-use Rattle.std.proofs.Math.Bool.{or-false}
-use Rattle.std.proofs.lemmas.Option.{none-some}
 use Rattle.std.proofs.lemmas.Bool.Decides.{nat_tests}
-use Rattle.std.proofs.lemmas.List.{drop_more, take-map, map-append}
+use Rattle.std.proofs.lemmas.List.{drop_more, map-append}
 use Rattle.pb_schema.specs.Imports.{Reaches}
 use Rattle.pb_decl.specs.Decls.{DeclaredFile}
 use Rattle.pb_rules.specs.declared.cause.LinkCause.TheVariants as cause
@@ -20,16 +18,14 @@ use Rattle.pb_names.specs.Sees.{file_named, file_of, files_of}
 use Rattle.pb_sets.specs.Reach.{graph_of, next_of, Reached}
 use Rattle.pb_schema.specs.Types.{FileView}
 use Rattle.pb_names.specs.Graphs.{is_file, first_marks, AreImports, AreFirst, sees_by}
-use Rattle.pb_names.specs.NameSets.{is_in_set, AddsNames}
+use Rattle.pb_names.specs.NameSets.{is_in_set}
 use Rattle.pb_names.specs.Scene.{IsScene}
 use Rattle.pb_rules.specs.Tables.{holds_table}
 use Rattle.pb_names.specs.TypeRefs.{names_in, file_in}
 use Rattle.pb_rules.specs.Flags.{IsReady, is_marked_first, are_right_imports, are_imports_there, is_free_name, is_not_before}
 use Rattle.pb_names.specs.declared.imports.Imports.{Imports}
-use Rattle.pb_sets.specs.declared.name_set.NameSet.{NameSet}
 use Rattle.pb_names.specs.declared.scene.Scene.{Scene}
 use Rattle.pb_names.proofs.AnyLemmas.{same_test}
-use Rattle.pb_names.proofs.NameSetsLemmas.{any_append}
 use Rattle.pb_names.proofs.GraphLemmas.{sees_same, cyclic_reaches, map_more}
 use Rattle.pb_names.proofs.RowLemmas.{grown}
 use Rattle.pb_names.proofs.FirstsLemmas.{position_from-first}
@@ -118,12 +114,12 @@ first_table files w m ds is first e =
     marked k d f there file =
         let at = file_stands 0 0 files k d f (ap (λ l. slice_get l k) (sym is.declared) ∙ there) file in
         ap (λ l. slice_index_or l d.file false) first
-        ∙ ap (λ n. slice_index_or (first_marks (file_named files) files) n false) at.1
-        ∙ index_got (first_marks (file_named files) files) (0 + at.0) false (is_file (file_named files f.name) (0 + at.0))
-        (ap (slice_get (first_marks (file_named files) files)) (zero_plus at.0) ∙ get_mapped (λ (e : ℕ × DeclaredFile). is_file (file_named files e.1.name) e.0) 0 files at.0 f at.2)
-        ∙ ap (λ o. is_file o (0 + at.0)) (sym (position_from-first (λ (g : DeclaredFile). bytes_eq f.name g.name) files))
-        ∙ first_of_all (λ (g : DeclaredFile). bytes_eq f.name g.name) 0 files at.0 f at.2 (same_name f.name)
-        ∙ ap not (sym (at.3 f.name) ∙ ap (λ l. list_any (λ (e : Declaration). is_file_named f.name e.item) (take k l)) (sym is.declared))
+        ∙ ap (λ n. slice_index_or (first_marks (file_named files) files) n false) at.number
+        ∙ index_got (first_marks (file_named files) files) (0 + at.before) false (is_file (file_named files f.name) (0 + at.before))
+        (ap (slice_get (first_marks (file_named files) files)) (zero_plus at.before) ∙ get_mapped (λ (e : ℕ × DeclaredFile). is_file (file_named files e.1.name) e.0) 0 files at.before f at.there)
+        ∙ ap (λ o. is_file o (0 + at.before)) (sym (position_from-first (λ (g : DeclaredFile). bytes_eq f.name g.name) files))
+        ∙ first_of_all (λ (g : DeclaredFile). bytes_eq f.name g.name) 0 files at.before f at.there (same_name f.name)
+        ∙ ap not (sym (at.names f.name) ∙ ap (λ l. list_any (λ (e : Declaration). is_file_named f.name e.item) (take k l)) (sym is.declared))
 
     each : (j k : ℕ) (d : Declaration) → k ≡ 0 + j → slice_get w.declared j ≡ Some d → is_marked_first m d ≡ holds w k d cause.TwoFiles
     each j k d at there =
@@ -145,7 +141,7 @@ imports_table files w m ds is exact e =
     near : (k : ℕ) (d : Declaration) (f : DeclaredFile) → slice_get w.declared k ≡ Some d → file_in d.item ≡ Some f → next_of (graph_of m.all.items) d.file ≡ filter_map (file_named files) f.imports
     near k d f there file =
         let at = file_stands 0 0 files k d f (ap (λ l. slice_get l k) (sym is.declared) ∙ there) file in
-        ap (λ g. next_of g d.file) exact.all ∙ ap (next_of (map (λ (g : FileView). g.imports) (files_of files))) (at.1 ∙ zero_plus at.0) ∙ next_there (file_of files) files at.0 f at.2
+        ap (λ g. next_of g d.file) exact.all ∙ ap (next_of (map (λ (g : FileView). g.imports) (files_of files))) (at.number ∙ zero_plus at.before) ∙ next_there (file_of files) files at.before f at.there
 
     right : (k : ℕ) (d : Declaration) (f : DeclaredFile) → slice_get w.declared k ≡ Some d → file_in d.item ≡ Some f → are_right_imports (length (next_of (graph_of m.all.items) d.file)) f ≡ imports_are_there w f
     right k d f there file =

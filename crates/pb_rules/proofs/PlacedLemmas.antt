@@ -1,5 +1,5 @@
 -- What stands at a place of a list, and the first place of what passes a test.
-use Rattle.std.proofs.Common.{◌≡◌, ℕ, zero, suc, ◌+◌, ◌≤◌, List, [], ◌∷◌, ◌++◌, Bool, true, false, not, ◌||◌, ◌&&◌, map, take, length, refl, sym, ap, ◌∙◌, arith, cond, Option, Some, None}
+use Rattle.std.proofs.Common.{◌≡◌, ℕ, zero, suc, ◌+◌, ◌≤◌, List, [], ◌∷◌, ◌++◌, Bool, true, false, not, ◌||◌, ◌&&◌, map, take, length, refl, ap, ◌∙◌, arith, cond, Option, Some, None}
 use Rattle.std.specs.Prelude.{slice_get, filter_map, is_some, ◌==◌}
 use Rattle.std.specs.List.{list_any, list_all, position_from, slice_index_or, cons_option}
 use Rattle.std.specs.Cmp.{unsigned_Decides}
@@ -56,41 +56,41 @@ pub first_of_all : {X : Type 0} (t : X → Bool) (n : ℕ) (xs : List X) (j : �
 first_of_all t n [] j x there passes = absurd (none-some x there)
 first_of_all t n (y ∷ ys) zero x there passes =
     ap (λ b. is_file (cond b (Some n) (position_from t (n + 1) ys)) (n + 0)) (ap t (some_same y x there) ∙ passes) ∙ (unsigned_Decides n (n + 0)).1 (omega arith)
-first_of_all t n (y ∷ ys) (suc j) x there passes = step (t y)
+first_of_all t n (y ∷ ys) (suc j) x there passes = step (t y) (first_of_all t (n + 1) ys j x there passes)
   where
-    step : (b : Bool) → is_file (cond b (Some n) (position_from t (n + 1) ys)) (n + suc j) ≡ not (b || list_any t (take j ys))
-    step true = is_false (n == (n + suc j)) (λ h. omega (arith, (unsigned_Decides n (n + suc j)).0 h))
-    step false =
+    step : (b : Bool) → is_file (position_from t (n + 1) ys) (n + 1 + j) ≡ not (list_any t (take j ys)) → is_file (cond b (Some n) (position_from t (n + 1) ys)) (n + suc j) ≡ not (b || list_any t (take j ys))
+    step true later = is_false (n == (n + suc j)) (λ h. omega (arith, (unsigned_Decides n (n + suc j)).0 h))
+    step false later =
         let move : n + suc j ≡ n + 1 + j = omega arith in
-        ap (is_file (position_from t (n + 1) ys)) move ∙ first_of_all t (n + 1) ys j x there passes
+        ap (is_file (position_from t (n + 1) ys)) move ∙ later
 
 pub some_position : {X : Type 0} (t : X → Bool) (n : ℕ) (xs : List X) → is_some (position_from t n xs) ≡ list_any t xs
 some_position t n [] = refl
-some_position t n (x ∷ xs) = step (t x)
+some_position t n (x ∷ xs) = step (t x) (some_position t (n + 1) xs)
   where
-    step : (b : Bool) → is_some (cond b (Some n) (position_from t (n + 1) xs)) ≡ (b || list_any t xs)
-    step true = refl
-    step false = some_position t (n + 1) xs
+    step : (b : Bool) → is_some (position_from t (n + 1) xs) ≡ list_any t xs → is_some (cond b (Some n) (position_from t (n + 1) xs)) ≡ (b || list_any t xs)
+    step true later = refl
+    step false later = later
 
 -- WHAT IS FOUND OF EACH
 
 fewer : {X Y : Type 0} (h : X → Option Y) (xs : List X) → length (filter_map h xs) ≤ length xs
 fewer h [] = omega arith
-fewer {X} {Y} h (x ∷ xs) = step (h x)
+fewer {X} {Y} h (x ∷ xs) = step (h x) (fewer h xs)
   where
-    step : (o : Option Y) → length (cons_option o (filter_map h xs)) ≤ suc (length xs)
-    step None = omega (arith, fewer h xs)
-    step (Some y) = omega (arith, fewer h xs)
+    step : (o : Option Y) → length (filter_map h xs) ≤ length xs → length (cons_option o (filter_map h xs)) ≤ suc (length xs)
+    step None later = omega (arith, later)
+    step (Some y) later = omega (arith, later)
 
 -- something is found of each exactly where as much is found
 pub all_found : {X Y : Type 0} (h : X → Option Y) (xs : List X) → (length (filter_map h xs) == length xs) ≡ list_all (λ x. is_some (h x)) xs
 all_found h [] = refl
-all_found {X} {Y} h (x ∷ xs) = step (h x)
+all_found {X} {Y} h (x ∷ xs) = step (h x) (all_found h xs)
   where
     same_suc : (a b : ℕ) → (suc a == suc b) ≡ (a == b)
     same_suc a b =
         same_test (suc a == suc b) (a == b) (λ h. (unsigned_Decides a b).1 (omega (arith, (unsigned_Decides (suc a) (suc b)).0 h))) (λ h. (unsigned_Decides (suc a) (suc b)).1 (ap suc ((unsigned_Decides a b).0 h)))
 
-    step : (o : Option Y) → (length (cons_option o (filter_map h xs)) == suc (length xs)) ≡ (is_some o && list_all (λ x. is_some (h x)) xs)
-    step None = is_false (length (filter_map h xs) == suc (length xs)) (λ e. omega (arith, fewer h xs, (unsigned_Decides (length (filter_map h xs)) (suc (length xs))).0 e))
-    step (Some y) = same_suc (length (filter_map h xs)) (length xs) ∙ all_found h xs
+    step : (o : Option Y) → (length (filter_map h xs) == length xs) ≡ list_all (λ x. is_some (h x)) xs → (length (cons_option o (filter_map h xs)) == suc (length xs)) ≡ (is_some o && list_all (λ x. is_some (h x)) xs)
+    step None later = is_false (length (filter_map h xs) == suc (length xs)) (λ e. omega (arith, fewer h xs, (unsigned_Decides (length (filter_map h xs)) (suc (length xs))).0 e))
+    step (Some y) later = same_suc (length (filter_map h xs)) (length xs) ∙ later
