@@ -2,11 +2,11 @@
 use Rattle.std.proofs.Common.{◌≡◌, ℕ, ◌+◌, List, [], ◌∷◌, ◌++◌, Bool, true, false, ◌||◌, map, length, refl, ap, ◌∙◌}
 use Rattle.std.specs.List.{list_any, enumerate_from}
 use Rattle.std.specs.Str.{bytes_eq}
-use Rattle.pb_schema.specs.Names.{in_scope}
 use Rattle.pb_schema.specs.Types.{FileView, Types}
-use Rattle.pb_decl.specs.Decls.{DeclaredEnum, MessageHead, DeclaredMessage, message, DeclaredMessages, no_messages, more_messages, messages_of}
-use Rattle.pb_names.specs.Declarations.{a_field, a_oneof, a_value, Declaration, fields_of, oneofs_of, enum_declared, enums_declared, head_row, message_declared, messages_declared, file_declared, files_declared}
-use Rattle.pb_rules.proofs.FileRowLemmas.{NamesFile, any_append, none_append, no_file_enums, no_file_messages}
+use Rattle.pb_decl.specs.Decls.{message, messages_of}
+use Rattle.pb_names.specs.Declarations.{Declaration, enums_declared, messages_declared, file_declared, files_declared}
+use Rattle.pb_names.proofs.NameSetsLemmas.{any_append}
+use Rattle.pb_rules.proofs.FileRowLemmas.{NamesFile, none_append, no_file_enums, no_file_messages}
 use Rattle.pb_link.specs.ToDecls.{outermost_messages, outermost_enums, declared_enum, declared_message, declared_file}
 
 module _ (ts : Types) where
