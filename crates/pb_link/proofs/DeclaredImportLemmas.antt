@@ -19,8 +19,10 @@ use Rattle.pb_rules.specs.Rules.{World, is_import_index, imports_are_there}
 use Rattle.pb_rules.specs.Link.{holds, IsWorldOf}
 use Rattle.pb_link.specs.ToDecls.{file_name, declared_file, decls_of}
 use Rattle.pb_names.proofs.AnyLemmas.{any_there, there_any, and_both}
+use Rattle.pb_names.proofs.NameSetsLemmas.{any_append}
 use Rattle.pb_names.proofs.BehindLemmas.{get_split}
-use Rattle.pb_link.proofs.FileRowLemmas.{NamesFile, any_append, Behind, no_file_behind, one_file, all_files}
+use Rattle.pb_rules.proofs.FileRowLemmas.{NamesFile}
+use Rattle.pb_link.proofs.FileRowLemmas.{Behind, no_file_behind, one_file, all_files}
 use Rattle.pb_link.proofs.ScopeLemmas.{file_is}
 use Rattle.pb_link.proofs.WholeLemmas.{all_at}
 use Rattle.pb_link.proofs.DeclaredSightLemmas.{none_cyclic}

@@ -22,7 +22,6 @@ use crate::parts::types::{enums_of, messages_of};
 use pb_decl::FileDecl;
 use pb_names::declaration::Declaration;
 use pb_names::found::TypeNames;
-use pb_names::imports::Imports;
 use pb_rules::judged::Judged;
 use pb_schema::{Pool, PoolError};
 use std::alloc::Global;
@@ -67,8 +66,7 @@ pub(crate) fn pool_of_names(
     ensures made { IfOk result (Links (map file_view files.now)) }
     ensures refused { IfErr result (λ e. e ≡ Memory) }
 {
-    let imports = Imports::new(alloc, files)?;
-    let all = imports.all.as_slice();
+    let all = judged.imports.all.as_slice();
     let row = judged.row.as_slice();
     let found = judged.names.found.as_slice();
     match linked_pool(alloc, files, all, row, found) {

@@ -1,7 +1,7 @@
 -- Imports as graphs: what they lead to are files, and what is reached along them is seen.
 use Rattle.std.proofs.Common.{◌≡◌, ℕ, zero, suc, ◌+◌, ◌<◌, ◌≤◌, ◌↔◌, ◌⊎◌, inl, inr, ⊎_elim, List, [], ◌∷◌, ◌++◌, map, take, length, get_or, Bool, true, false, ◌==◌, refl, sym, ap, ◌∙◌, subst, arith, IsTrue, Contains, Option, Some, None, cond, Vec, Global}
 use Rattle.std.specs.Prelude.{ℤ, pos, negsuc, filter_map, option_and_then, option_to_list, slice_get}
-use Rattle.std.specs.List.{AllByRecursion, cons_option, position_from}
+use Rattle.std.specs.List.{AllByRecursion, cons_option, enumerate_from, position_from}
 use Rattle.std.specs.Cmp.{unsigned_Decides}
 use Rattle.std.specs.Str.{bytes_eq}
 use Rattle.std.proofs.lemmas.Option.{none-some}
@@ -78,6 +78,13 @@ public_targets t u same f zs = filter_alike (target_at (map t f.imports)) (λ z.
     each : (z : ℤ) → target_at (map t f.imports) z ≡ option_and_then u (import_at f z)
     each (pos i) = at_import t u same f.imports i
     each (negsuc i) = refl
+
+-- whether each file stands where its name leads
+pub marks_alike : (t u : List ℕ → Option ℕ) → ((name : List ℕ) → t name ≡ u name) → (n : ℕ) (files : List DeclaredFile) → map (λ e. is_file (t e.1.name) e.0) (enumerate_from n files) ≡ map (λ e. is_file (u e.1.name) e.0) (enumerate_from n files)
+marks_alike t u same n [] = refl
+marks_alike t u same n (f ∷ fs) =
+    ap (λ o. is_file o n ∷ map (λ (e : ℕ × DeclaredFile). is_file (t e.1.name) e.0) (enumerate_from (n + 1) fs)) (same f.name)
+    ∙ ap (λ l. is_file (u f.name) n ∷ l) (marks_alike t u same (n + 1) fs)
 
 -- WHAT IS IMPORTED ARE FILES
 less_step : (n i j : ℕ) (b : Bool) (rest : Option ℕ) → (rest ≡ Some j → j < n + 1 + i) → cond b (Some n) rest ≡ Some j → j < n + suc i

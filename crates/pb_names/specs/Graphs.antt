@@ -1,7 +1,8 @@
 -- Imports of files as graphs over their indexes.
 use Rattle.std.specs.Prelude.{◌≡◌, ◌↔◌, ℕ, ℤ, pos, negsuc, List, map, Bool, false, ◌==◌, ◌||◌, Option, Some, None, IsTrue, option_and_then, slice_get, vec_len}
 use Rattle.pb_decl.specs.Decls.{DeclaredFile}
-use Rattle.pb_names.specs.Sees.{files_of, public_files_of}
+use Rattle.std.specs.List.{enumerate_from}
+use Rattle.pb_names.specs.Sees.{file_named, files_of, public_files_of}
 use Rattle.pb_sets.specs.Reach.{graph_of, next_of, Reached, IsGraph, is_marked, IsListed}
 use Rattle.pb_names.specs.declared.imports.Imports.{Imports}
 use Rattle.pb_names.specs.declared.sight.Sight.{Sight}
@@ -10,6 +11,18 @@ use Rattle.pb_names.specs.declared.sight.Sight.{Sight}
 abbrev pub target_at : List (Option ℕ) → ℤ → Option ℕ
 target_at targets (pos i) = option_and_then (λ o. o) (slice_get targets i)
 target_at targets (negsuc i) = None
+
+abbrev pub is_file : Option ℕ → ℕ → Bool
+is_file None j = false
+is_file (Some i) j = i == j
+
+-- whether each file stands where its name leads
+abbrev pub first_marks : (List ℕ → Option ℕ) → List DeclaredFile → List Bool
+first_marks named files = map (λ e. is_file (named e.1.name) e.0) (enumerate_from 0 files)
+
+-- whether each file is the first of its name
+abbrev pub AreFirst : List DeclaredFile → Imports → Type 0
+AreFirst files m = m.are_first.items ≡ first_marks (file_named files) files
 
 -- the imports of these files, and which of them are public
 pub record AreImports (files : List DeclaredFile) (m : Imports) : Type 0 where
@@ -21,10 +34,6 @@ pub record LeadToFiles (m : Imports) : Type 0 where
   pub size : vec_len m.public ≡ vec_len m.all
   pub all : IsGraph (graph_of m.all.items)
   pub public : IsGraph (graph_of m.public.items)
-
-abbrev pub is_file : Option ℕ → ℕ → Bool
-is_file None j = false
-is_file (Some i) j = i == j
 
 -- the file that was looked at last sees this one
 abbrev pub sees_by : Sight → ℕ → Bool

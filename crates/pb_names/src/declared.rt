@@ -361,7 +361,7 @@ fn add_file<'a>(
 pub fn row<'a>(alloc: Global, files: &'a [FileDecl]) -> Result<Vec<Declaration<'a>>, AllocError>
     ensures { IfOk result (λ row. map declaration_view row.items ≡ declarations (map file_view files.now)) }
 {
-    let mut row: Vec<Declaration<'a>> = Vec::new(alloc);
+    let mut row: Vec<Declaration<'a>> = Vec::with_capacity(alloc, files.len())?;
     for (index, file) in files.iter().enumerate() {
         add_file(alloc, index, file, &mut row)?;
     }

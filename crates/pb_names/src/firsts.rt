@@ -22,6 +22,15 @@ impl Firsts {
         }
     }
 
+    /// The same with room for so many names.
+    pub(crate) fn with_room(alloc: Global, size: usize) -> Result<Firsts, AllocError>
+        ensures { IfOk result (λ t. (name : List ℕ) → first_at t name ≡ None) }
+    {
+        Ok(Firsts {
+            places: IndexMap::with_capacity(alloc, size)?,
+        })
+    }
+
     /// Puts a place for a name, before the one that is there. Answers that one.
     pub(crate) fn put(
         &mut self,

@@ -5,7 +5,7 @@ ghost use Rattle.pb_decl.specs.Decls.{DeclaredFile};
 ghost use Rattle.pb_decl.specs.View.{file_view};
 ghost use Rattle.pb_names.specs.Sees.{file_named, file_of, public_file_of};
 ghost use Rattle.pb_names.specs.Firsts.{first_at};
-ghost use Rattle.pb_names.specs.Graphs.{target_at, AreImports, LeadToFiles};
+ghost use Rattle.pb_names.specs.Graphs.{target_at, is_file, first_marks, AreImports, AreFirst, LeadToFiles};
 
 use crate::firsts::Firsts;
 use pb_decl::FileDecl;
@@ -16,13 +16,15 @@ use std::alloc::{AllocError, Global};
 pub struct Imports {
     pub all: Vec<Vec<usize>>,
     pub public: Vec<Vec<usize>>,
+    /// Whether each file is the first of its name.
+    pub are_first: Vec<bool>,
 }
 
 /// The first file of each name.
 pub(crate) fn files_by_name(alloc: Global, files: &[FileDecl]) -> Result<Firsts, AllocError>
     ensures { IfOk result (λ t. (name : List ℕ) → first_at t name ≡ file_named (map file_view files.now) name) }
 {
-    let mut firsts = Firsts::new(alloc);
+    let mut firsts = Firsts::with_room(alloc, files.len())?;
     let mut index = files.len();
     while index > 0 {
         index -= 1;
@@ -39,7 +41,7 @@ fn targets(
 ) -> Result<Vec<Option<usize>>, AllocError>
     ensures { IfOk result (λ v. v.items ≡ map (first_at firsts.now) (map string_bytes names.now)) }
 {
-    let mut targets: Vec<Option<usize>> = Vec::new(alloc);
+    let mut targets: Vec<Option<usize>> = Vec::with_capacity(alloc, names.len())?;
     for name in names {
         targets.push(firsts.get(name.as_str().as_bytes()))?;
     }
@@ -68,7 +70,7 @@ fn target_of(targets: &[Option<usize>], index: usize) -> Option<usize>
 fn all_of(alloc: Global, targets: &[Option<usize>]) -> Result<Vec<usize>, AllocError>
     ensures { IfOk result (λ v. v.items ≡ filter_map (λ o. o) targets.now) }
 {
-    let mut indexes: Vec<usize> = Vec::new(alloc);
+    let mut indexes: Vec<usize> = Vec::with_capacity(alloc, targets.len())?;
     for index in 0..targets.len() {
         push_target(&mut indexes, target_of(targets, index))?;
     }
@@ -91,7 +93,7 @@ fn public_of(
 ) -> Result<Vec<usize>, AllocError>
     ensures { IfOk result (λ v. v.items ≡ filter_map (target_at targets.now) public.now) }
 {
-    let mut indexes: Vec<usize> = Vec::new(alloc);
+    let mut indexes: Vec<usize> = Vec::with_capacity(alloc, public.len())?;
     for at in public {
         push_target(&mut indexes, target_at(targets, *at))?;
     }
@@ -113,20 +115,46 @@ fn imports_of(
     Ok((all, public))
 }
 
+fn is_first(firsts: &Firsts, file: &FileDecl, index: usize) -> bool
+    ensures { result ≡ is_file (first_at firsts.now (file_view file.now).name) index }
+{
+    match firsts.get(file.name.as_str().as_bytes()) {
+        Some(first) => first == index,
+        None => false,
+    }
+}
+
+/// Whether each file is the first of its name.
+fn first_marks(alloc: Global, firsts: &Firsts, files: &[FileDecl]) -> Result<Vec<bool>, AllocError>
+    ensures { IfOk result (λ v. v.items ≡ first_marks (first_at firsts.now) (map file_view files.now)) }
+{
+    let mut marks: Vec<bool> = Vec::with_capacity(alloc, files.len())?;
+    for (index, file) in files.iter().enumerate() {
+        marks.push(is_first(firsts, file, index))?;
+    }
+    Ok(marks)
+}
+
 impl Imports {
     /// The imports of these files, all and those that are public.
     pub fn new(alloc: Global, files: &[FileDecl]) -> Result<Imports, AllocError>
         ensures exact { IfOk result (AreImports (map file_view files.now)) }
         ensures lead { IfOk result LeadToFiles }
+        ensures first { IfOk result (AreFirst (map file_view files.now)) }
     {
         let firsts = files_by_name(alloc, files)?;
-        let mut all = Vec::new(alloc);
-        let mut public = Vec::new(alloc);
+        let are_first = first_marks(alloc, &firsts, files)?;
+        let mut all = Vec::with_capacity(alloc, files.len())?;
+        let mut public = Vec::with_capacity(alloc, files.len())?;
         for file in files {
             let (near, onward) = imports_of(alloc, &firsts, file)?;
             all.push(near)?;
             public.push(onward)?;
         }
-        Ok(Imports { all, public })
+        Ok(Imports {
+            all,
+            public,
+            are_first,
+        })
     }
 }

@@ -16,6 +16,10 @@ pub mod ThereLemmas
 -- ---- tables: what the rules look up, place by place
 -- for what is reached by imports, which can be tested: so there is a world for each list of files
 pub mod WorldLemmas
+-- for what stands at a place of a list, and the first that passes a test
+pub mod PlacedLemmas
+-- for where files stand in the row
+pub mod FileRowLemmas
 -- for what names come to, by place
 pub mod NamesLemmas
 -- for the fields that use a type

@@ -1,13 +1,11 @@
 -- What the tables of names come to.
 use Rattle.std.proofs.Common.{◌≡◌, ℕ, zero, suc, ◌+◌, ◌<◌, ◌≤◌, List, [], ◌∷◌, ◌++◌, map, take, drop, length, get_or, Bool, true, false, not, ◌||◌, ◌&&◌, refl, sym, ap, ◌∙◌, arith, Option, Some, None, cond, IsTrue, ◌↔◌}
-use Rattle.std.specs.Prelude.{option_to_list, nat_le, nat_lt, ◌^◌}
-use Rattle.std.specs.List.{list_any, list_all, enumerate_from, position_from}
+use Rattle.std.specs.Prelude.{option_to_list, filter_map, is_some, slice_get, nat_le, nat_lt, ◌^◌}
+use Rattle.std.specs.List.{list_any, list_all, enumerate_from, position_from, slice_index_or}
 use Rattle.std.specs.Option.{option_map_or}
 use Rattle.std.specs.Str.{bytes_eq}
-use Rattle.std.proofs.Math.Bool.{or-false}
-use Rattle.std.proofs.lemmas.Option.{none-some}
 use Rattle.std.proofs.lemmas.Bool.Decides.{nat_tests}
-use Rattle.std.proofs.lemmas.List.{drop_more, take-map, map-append}
+use Rattle.std.proofs.lemmas.List.{drop_more, map-append}
 use Rattle.pb_schema.specs.Imports.{Reaches}
 use Rattle.pb_decl.specs.Decls.{DeclaredFile}
 use Rattle.pb_rules.specs.declared.cause.LinkCause.TheVariants as cause
@@ -16,21 +14,24 @@ use Rattle.pb_names.specs.Lookup.{Found, looked_up, every_file, is_package_name}
 use Rattle.pb_rules.specs.Rules.{World, lookups, lookups_if, is_file_named, is_import_index, imports_are_there}
 use Rattle.pb_rules.specs.Link.{holds, IsWorldOf}
 use Rattle.pb_names.specs.Firsts.{first_at}
-use Rattle.pb_names.specs.Sees.{files_of}
+use Rattle.pb_names.specs.Sees.{file_named, file_of, files_of}
 use Rattle.pb_sets.specs.Reach.{graph_of, next_of, Reached}
-use Rattle.pb_names.specs.Graphs.{AreImports, sees_by}
-use Rattle.pb_names.specs.NameSets.{is_in_set, AddsNames}
+use Rattle.pb_schema.specs.Types.{FileView}
+use Rattle.pb_names.specs.Graphs.{is_file, first_marks, AreImports, AreFirst, sees_by}
+use Rattle.pb_names.specs.NameSets.{is_in_set}
 use Rattle.pb_names.specs.Scene.{IsScene}
 use Rattle.pb_rules.specs.Tables.{holds_table}
 use Rattle.pb_names.specs.TypeRefs.{names_in, file_in}
-use Rattle.pb_rules.specs.Flags.{IsReady, is_first_file, are_right_imports, are_imports_there, is_free_name, is_not_before, AddsFileName}
+use Rattle.pb_rules.specs.Flags.{IsReady, is_marked_first, are_right_imports, are_imports_there, is_free_name, is_not_before}
 use Rattle.pb_names.specs.declared.imports.Imports.{Imports}
-use Rattle.pb_sets.specs.declared.name_set.NameSet.{NameSet}
 use Rattle.pb_names.specs.declared.scene.Scene.{Scene}
 use Rattle.pb_names.proofs.AnyLemmas.{same_test}
-use Rattle.pb_names.proofs.NameSetsLemmas.{any_append}
 use Rattle.pb_names.proofs.GraphLemmas.{sees_same, cyclic_reaches, map_more}
 use Rattle.pb_names.proofs.RowLemmas.{grown}
+use Rattle.pb_names.proofs.FirstsLemmas.{position_from-first}
+use Rattle.pb_rules.proofs.ThereLemmas.{get_mapped}
+use Rattle.pb_rules.proofs.FileRowLemmas.{file_stands, files_named}
+use Rattle.pb_rules.proofs.PlacedLemmas.{zero_plus, index_got, first_of_all, same_name, some_position, next_there, all_found}
 
 -- TYPE NAMES
 if_named : (w : World) (d : Declaration) (o : Option (List ℕ)) → lookups_if w d o ≡ map (looked_up w.declared (w.sight.sees d.file) d.scope) (option_to_list o)
@@ -60,10 +61,6 @@ right_names files m s w ds d names scope r ready at world row same around is =
     ∙ sym (lookups_names w d.file d.parent d.scope d.item)
 
 -- FILES
-option_alike : {X : Type 0} (f g : X → Bool) (o : Option X) (b : Bool) → ((x : X) → f x ≡ g x) → option_map_or f o b ≡ option_map_or g o b
-option_alike f g None b same = refl
-option_alike f g (Some x) b same = same x
-
 first_holds : (w : World) (place file parent : ℕ) (scope : List ℕ) (i : Item) → holds w place (record { file = file; parent = parent; scope = scope; item = i }) cause.TwoFiles ≡ option_map_or (λ f. not (list_any (λ d. is_file_named f.name d.item) (take place w.declared))) (file_in i) true
 first_holds w place file parent scope (a_file f) = refl
 first_holds w place file parent scope (a_message head inner) = refl
@@ -94,34 +91,69 @@ cycle_holds w place file parent scope (a_value e i v) = refl
 cycle_holds w place file parent scope (a_service s) = refl
 cycle_holds w place file parent scope (a_method m) = refl
 
-map_alike : {X Y : Type 0} (f g : X → Y) → ((x : X) → f x ≡ g x) → (xs : List X) → map f xs ≡ map g xs
-map_alike f g same [] = refl
-map_alike f g same (x ∷ xs) = ap (λ y. y ∷ map f xs) (same x) ∙ ap (λ l. g x ∷ l) (map_alike f g same xs)
-
-map_enumerated : (f : ℕ × Declaration → Bool) (g : Declaration → Bool) → ((n : ℕ) (d : Declaration) → g d ≡ f (n, d)) → (n : ℕ) (ds : List Declaration) → map g ds ≡ map f (enumerate_from n ds)
-map_enumerated f g same n [] = refl
-map_enumerated f g same n (d ∷ ds) = ap (λ y. y ∷ map g ds) (same n d) ∙ ap (λ l. f (n, d) ∷ l) (map_enumerated f g same (n + 1) ds)
+-- tests place by place
+map_placed : (f : ℕ × Declaration → Bool) (g : Declaration → Bool) (n : ℕ) (ds : List Declaration) → ((j k : ℕ) (d : Declaration) → k ≡ n + j → slice_get ds j ≡ Some d → g d ≡ f (k, d)) → map g ds ≡ map f (enumerate_from n ds)
+map_placed f g n [] same = refl
+map_placed f g n (d ∷ ds) same =
+    ap (λ y. y ∷ map g ds) (same 0 n d (omega arith) refl)
+    ∙ ap (λ l. f (n, d) ∷ l) (map_placed f g (n + 1) ds (λ j k e at there. same (suc j) k e (omega (arith, at)) there))
 
 all_alike : {X : Type 0} (f g : X → Bool) → ((x : X) → f x ≡ g x) → (xs : List X) → list_all f xs ≡ list_all g xs
 all_alike f g same [] = refl
 all_alike f g same (x ∷ xs) = ap (λ b. b && list_all f xs) (same x) ∙ ap (λ b. g x && b) (all_alike f g same xs)
 
-pub first_table : (w : World) (ds : List Declaration) → w.declared ≡ ds → map (is_first_file ds) (enumerate_from 0 ds) ≡ holds_table w cause.TwoFiles
-first_table w ds e =
-    ap (λ x. map (is_first_file x) (enumerate_from 0 x)) (sym e) ∙ map_alike (is_first_file w.declared) (λ p. holds w p.0 p.1 cause.TwoFiles) (λ p. sym (first_holds w p.0 p.1.file p.1.parent p.1.scope p.1.item)) (enumerate_from 0 w.declared)
+option_placed : {X : Type 0} (f g : X → Bool) (o : Option X) (b : Bool) → ((x : X) → o ≡ Some x → f x ≡ g x) → option_map_or f o b ≡ option_map_or g o b
+option_placed f g None b same = refl
+option_placed f g (Some x) b same = same x refl
 
-pub imports_table : (w : World) (ds : List Declaration) (names : NameSet) → w.declared ≡ ds → ((name : List ℕ) → is_in_set names name ≡ list_any (λ d. is_file_named name d.item) ds) → map (are_imports_there names) ds ≡ holds_table w cause.MissingImport
-imports_table w ds names e has =
-    ap (map (are_imports_there names)) (sym e) ∙ map_enumerated (λ p. holds w p.0 p.1 cause.MissingImport) (are_imports_there names) each 0 w.declared
+pub first_table : (files : List DeclaredFile) (w : World) (m : Imports) (ds : List Declaration) → IsWorldOf files w → AreFirst files m → w.declared ≡ ds → map (is_marked_first m) ds ≡ holds_table w cause.TwoFiles
+first_table files w m ds is first e =
+    ap (map (is_marked_first m)) (sym e) ∙ map_placed (λ p. holds w p.0 p.1 cause.TwoFiles) (is_marked_first m) 0 w.declared each
   where
-    known : (name : List ℕ) → is_in_set names name ≡ list_any (λ d. is_file_named name d.item) w.declared
-    known name = has name ∙ ap (list_any (λ (d : Declaration). is_file_named name d.item)) (sym e)
+    marked : (k : ℕ) (d : Declaration) (f : DeclaredFile) → slice_get w.declared k ≡ Some d → file_in d.item ≡ Some f → slice_index_or m.are_first.items d.file false ≡ not (list_any (λ e. is_file_named f.name e.item) (take k w.declared))
+    marked k d f there file =
+        let at = file_stands 0 0 files k d f (ap (λ l. slice_get l k) (sym is.declared) ∙ there) file in
+        ap (λ l. slice_index_or l d.file false) first
+        ∙ ap (λ n. slice_index_or (first_marks (file_named files) files) n false) at.number
+        ∙ index_got (first_marks (file_named files) files) (0 + at.before) false (is_file (file_named files f.name) (0 + at.before))
+        (ap (slice_get (first_marks (file_named files) files)) (zero_plus at.before) ∙ get_mapped (λ (e : ℕ × DeclaredFile). is_file (file_named files e.1.name) e.0) 0 files at.before f at.there)
+        ∙ ap (λ o. is_file o (0 + at.before)) (sym (position_from-first (λ (g : DeclaredFile). bytes_eq f.name g.name) files))
+        ∙ first_of_all (λ (g : DeclaredFile). bytes_eq f.name g.name) 0 files at.before f at.there (same_name f.name)
+        ∙ ap not (sym (at.names f.name) ∙ ap (λ l. list_any (λ (e : Declaration). is_file_named f.name e.item) (take k l)) (sym is.declared))
 
-    right : (f : DeclaredFile) → are_right_imports names f ≡ imports_are_there w f
-    right f = ap (λ b. nat_lt (length f.imports) (2 ^ 31) && b && list_all (is_import_index f) f.public_indexes) (all_alike (is_in_set names) (λ name. list_any (λ d. is_file_named name d.item) w.declared) known f.imports)
+    each : (j k : ℕ) (d : Declaration) → k ≡ 0 + j → slice_get w.declared j ≡ Some d → is_marked_first m d ≡ holds w k d cause.TwoFiles
+    each j k d at there =
+        let here : slice_get w.declared k ≡ Some d = ap (slice_get w.declared) (at ∙ zero_plus j) ∙ there in
+        option_placed (λ f. slice_index_or m.are_first.items d.file false) (λ f. not (list_any (λ e. is_file_named f.name e.item) (take k w.declared))) (file_in d.item) true (λ f file. marked k d f here file)
+        ∙ sym (first_holds w k d.file d.parent d.scope d.item)
 
-    each : (n : ℕ) (d : Declaration) → are_imports_there names d ≡ holds w n d cause.MissingImport
-    each n d = option_alike (are_right_imports names) (imports_are_there w) (file_in d.item) true right ∙ sym (imports_hold w n d.file d.parent d.scope d.item)
+pub imports_table : (files : List DeclaredFile) (w : World) (m : Imports) (ds : List Declaration) → IsWorldOf files w → AreImports files m → w.declared ≡ ds → map (are_imports_there m) ds ≡ holds_table w cause.MissingImport
+imports_table files w m ds is exact e =
+    ap (map (are_imports_there m)) (sym e) ∙ map_placed (λ p. holds w p.0 p.1 cause.MissingImport) (are_imports_there m) 0 w.declared each
+  where
+    known : (name : List ℕ) → is_some (file_named files name) ≡ list_any (λ d. is_file_named name d.item) w.declared
+    known name =
+        ap is_some (sym (position_from-first (λ (g : DeclaredFile). bytes_eq name g.name) files))
+        ∙ some_position (λ (g : DeclaredFile). bytes_eq name g.name) 0 files
+        ∙ sym (files_named name 0 0 files)
+        ∙ ap (list_any (λ (d : Declaration). is_file_named name d.item)) (sym is.declared)
+
+    near : (k : ℕ) (d : Declaration) (f : DeclaredFile) → slice_get w.declared k ≡ Some d → file_in d.item ≡ Some f → next_of (graph_of m.all.items) d.file ≡ filter_map (file_named files) f.imports
+    near k d f there file =
+        let at = file_stands 0 0 files k d f (ap (λ l. slice_get l k) (sym is.declared) ∙ there) file in
+        ap (λ g. next_of g d.file) exact.all ∙ ap (next_of (map (λ (g : FileView). g.imports) (files_of files))) (at.number ∙ zero_plus at.before) ∙ next_there (file_of files) files at.before f at.there
+
+    right : (k : ℕ) (d : Declaration) (f : DeclaredFile) → slice_get w.declared k ≡ Some d → file_in d.item ≡ Some f → are_right_imports (length (next_of (graph_of m.all.items) d.file)) f ≡ imports_are_there w f
+    right k d f there file =
+        ap (λ l. are_right_imports (length l) f) (near k d f there file)
+        ∙ ap (λ b. nat_lt (length f.imports) (2 ^ 31) && b && list_all (is_import_index f) f.public_indexes)
+        (all_found (file_named files) f.imports ∙ all_alike (λ name. is_some (file_named files name)) (λ name. list_any (λ d. is_file_named name d.item) w.declared) known f.imports)
+
+    each : (j k : ℕ) (d : Declaration) → k ≡ 0 + j → slice_get w.declared j ≡ Some d → are_imports_there m d ≡ holds w k d cause.MissingImport
+    each j k d at there =
+        let here : slice_get w.declared k ≡ Some d = ap (slice_get w.declared) (at ∙ zero_plus j) ∙ there in
+        option_placed (are_right_imports (length (next_of (graph_of m.all.items) d.file))) (imports_are_there w) (file_in d.item) true (λ f file. right k d f here file)
+        ∙ sym (imports_hold w k d.file d.parent d.scope d.item)
 
 -- a file reaches itself where the rule of cycles fails
 pub cycle_told : (files : List DeclaredFile) (w : World) (m : Imports) (place : ℕ) (d : Declaration) (f : DeclaredFile) (b : Bool) → AreImports files m → IsWorldOf files w → file_in d.item ≡ Some f → (IsTrue b ↔ Reached (graph_of m.all.items) (next_of (graph_of m.all.items) d.file) d.file) → b ≡ not (holds w place d cause.ImportCycle)
@@ -144,42 +176,6 @@ cycle_apart w place d is =
 
 pub free_table : (w : World) (ds : List Declaration) → w.declared ≡ ds → map (is_free_name ds) (enumerate_from 0 ds) ≡ holds_table w cause.NameTaken
 free_table w ds e = ap (λ x. map (is_free_name x) (enumerate_from 0 x)) (sym e)
-
--- ONE FILE AFTER ANOTHER
-named_as_file : (name : List ℕ) (i : Item) (f : DeclaredFile) → file_in i ≡ Some f → is_file_named name i ≡ bytes_eq name f.name
-named_as_file name (a_file g) f e = ap (λ (o : Option DeclaredFile). option_map_or (λ h. bytes_eq name h.name) o false) e
-named_as_file name (a_message head inner) f e = absurd (none-some f e)
-named_as_file name (a_field head i g) f e = absurd (none-some f e)
-named_as_file name (a_oneof head i g) f e = absurd (none-some f e)
-named_as_file name (an_enum g) f e = absurd (none-some f e)
-named_as_file name (a_value g i v) f e = absurd (none-some f e)
-named_as_file name (a_service g) f e = absurd (none-some f e)
-named_as_file name (a_method g) f e = absurd (none-some f e)
-
-pub file_name_added : (d : Declaration) (f : DeclaredFile) (old new : NameSet) (name : List ℕ) (is_new : Bool) → file_in d.item ≡ Some f → name ≡ f.name → is_new ≡ not (is_in_set old name) → AddsNames (name ∷ []) old new → AddsFileName d old new is_new
-file_name_added d f old new name is_new file same was adds = record {
-  added = λ other. adds other ∙ ap (λ b. b || is_in_set old other) (or-false (bytes_eq other name) ∙ ap (bytes_eq other) same ∙ sym (named_as_file other d.item f file));
-  was_new = was ∙ ap (λ n. not (is_in_set old n)) same ∙ sym (ap (λ o. option_map_or (λ (g : DeclaredFile). not (is_in_set old g.name)) o true) file);
-}
-
-pub record FilesSoFar (ds so_far : List Declaration) (names : NameSet) (flags : List Bool) : Type 0 where
-  pub flags_of : flags ≡ map (is_first_file ds) (enumerate_from 0 so_far)
-  pub names_of : (name : List ℕ) → is_in_set names name ≡ list_any (λ d. is_file_named name d.item) so_far
-
-or_turned : (a b : Bool) → (a || b) ≡ (b || (a || false))
-or_turned true true = refl
-or_turned true false = refl
-or_turned false true = refl
-or_turned false false = refl
-
-pub files_more : {X : Type 0} (view : X → Declaration) (row : List X) (i : ℕ) (x : X) (old new : NameSet) (held now : List Bool) (b : Bool) → i < length row → x ≡ get_or row i x → FilesSoFar (map view row) (map view (take i row)) old held → AddsFileName (view x) old new b → now ≡ held ++ b ∷ [] → FilesSoFar (map view row) (map view (take (i + 1) row)) new now
-files_more view row i x old new held now b less is so adds pushed = record {
-  flags_of = grown (is_first_file (map view row)) view row i x [] held now less is so.flags_of (pushed ∙ ap (λ c. held ++ c ∷ []) flag);
-  names_of = λ name. adds.added name ∙ ap (λ r. is_file_named name (view x).item || r) (so.names_of name) ∙ or_turned (is_file_named name (view x).item) (list_any (λ d. is_file_named name d.item) (map view (take i row))) ∙ sym (any_append (λ (d : Declaration). is_file_named name d.item) (map view (take i row)) (view x ∷ [])) ∙ ap (list_any (λ (d : Declaration). is_file_named name d.item)) (sym (map_more view row i x less is));
-}
-  where
-    flag : b ≡ is_first_file (map view row) (i, view x)
-    flag = adds.was_new ∙ option_alike (λ (f : DeclaredFile). not (is_in_set old f.name)) (λ (f : DeclaredFile). not (list_any (λ d. is_file_named f.name d.item) (take i (map view row)))) (file_in (view x).item) true (λ f. ap not (so.names_of f.name ∙ ap (list_any (λ (d : Declaration). is_file_named f.name d.item)) (sym (take-map view i row))))
 
 -- a test of all, one after another
 pub all_more : {X Y : Type 0} (t : Y → Bool) (view : X → Y) (xs : List X) (i : ℕ) (x : X) → i < length xs → x ≡ get_or xs i x → list_all t (map view (drop i xs)) ≡ (t (view x) && list_all t (map view (drop (i + 1) xs)))

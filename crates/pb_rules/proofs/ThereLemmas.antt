@@ -80,7 +80,7 @@ any_before t (y ∷ xs) (suc i) (suc j) x less there passes = or_right (t y) (li
 pub none_before : {X : Type 0} (t : X → Bool) (xs : List X) (i j : ℕ) (x : X) → not (list_any t (take j xs)) ≡ true → i < j → slice_get xs i ≡ Some x → t x ≡ true → ⊥
 none_before t xs i j x none less there passes = not_both (list_any t (take j xs)) none (any_before t xs i j x less there passes)
 
-get_mapped : {X Y : Type 0} (g : ℕ × X → Y) (n : ℕ) (xs : List X) (j : ℕ) (x : X) → slice_get xs j ≡ Some x → slice_get (map g (enumerate_from n xs)) j ≡ Some (g (n + j, x))
+pub get_mapped : {X Y : Type 0} (g : ℕ × X → Y) (n : ℕ) (xs : List X) (j : ℕ) (x : X) → slice_get xs j ≡ Some x → slice_get (map g (enumerate_from n xs)) j ≡ Some (g (n + j, x))
 get_mapped g n [] j x h = absurd (none-some x h)
 get_mapped g n (y ∷ xs) zero x h = ap (λ z. Some (g (n, z))) (some_same y x h) ∙ ap (λ k. Some (g (k, x))) (sym (add-zero n))
 get_mapped g n (y ∷ xs) (suc j) x h = get_mapped g (n + 1) xs j x h ∙ ap (λ k. Some (g (k, x))) (omega arith)

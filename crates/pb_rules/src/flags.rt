@@ -1,66 +1,51 @@
 //! Whether the rules of files and names hold, by place.
 
-ghost use Rattle.std.specs.Prelude.{◌≡◌, ℕ, List, map, string_bytes, IfOk};
-ghost use Rattle.std.specs.List.{list_any, list_all, enumerate_from};
+ghost use Rattle.std.specs.Prelude.{◌≡◌, List, map, IfOk};
+ghost use Rattle.std.specs.List.{list_all, enumerate_from};
 ghost use Rattle.pb_decl.specs.View.{file_view};
 ghost use Rattle.pb_names.specs.Declarations.{Declaration as DeclarationView};
-ghost use Rattle.pb_rules.specs.Rules.{is_file_named, is_import_index};
+ghost use Rattle.pb_rules.specs.Rules.{is_import_index};
 ghost use Rattle.pb_names.specs.View.{declaration_view};
-ghost use Rattle.pb_names.specs.NameSets.{is_in_set};
 ghost use Rattle.pb_names.specs.Scene.{IsScene};
-ghost use Rattle.pb_rules.specs.Flags.{is_first_file, are_right_imports, are_imports_there, is_free_name, is_not_before, AddsFileName};
+ghost use Rattle.pb_rules.specs.Flags.{is_marked_first, are_right_imports, are_imports_there, is_free_name, is_not_before};
 
 use pb_decl::FileDecl;
 use pb_names::declaration::Declaration;
+use pb_names::imports::Imports;
 use pb_names::scene::Scene;
 use pb_names::type_refs::file_in;
-use pb_sets::name_set::NameSet;
+use pb_sets::reach::next_of;
 use std::alloc::{AllocError, Global};
 
 /// A file has fewer imports.
 const MANY_IMPORTS: usize = 2_147_483_648;
 
-/// Adds the name of a file. Answers whether it is new; true at what is no file.
-fn add_file_name(
-    names: &mut NameSet,
-    alloc: Global,
-    declaration: &Declaration,
-) -> Result<bool, AllocError>
-    ensures { IfOk result (AddsFileName (declaration_view declaration.now) names.old names.new) }
+/// Whether a file is the first of its name; true at what is no file.
+fn is_marked_first(imports: &Imports, declaration: &Declaration) -> bool
+    ensures { result ≡ is_marked_first imports.now (declaration_view declaration.now) }
 {
-    let Some(file) = file_in(declaration.item) else {
-        return Ok(true);
+    let Some(_) = file_in(declaration.item) else {
+        return true;
     };
-    let is_new = names.add_copy(alloc, file.name.as_str().as_bytes())?;
-    Ok(is_new)
+    match imports.are_first.get(declaration.file) {
+        Some(is_first) => *is_first,
+        None => false,
+    }
 }
 
-/// Whether each file is the first of its name, and the names of all files.
+/// Whether each file is the first of its name.
 pub(crate) fn first_files(
     alloc: Global,
     row: &[Declaration],
-) -> Result<(Vec<bool>, NameSet), AllocError>
-    ensures flags { IfOk result (λ r. r.0.items ≡ map (is_first_file (map declaration_view row.now)) (enumerate_from 0 (map declaration_view row.now))) }
-    ensures names { IfOk result (λ r. (name : List ℕ) → is_in_set r.1 name ≡ list_any (λ d. is_file_named name d.item) (map declaration_view row.now)) }
+    imports: &Imports,
+) -> Result<Vec<bool>, AllocError>
+    ensures { IfOk result (λ v. v.items ≡ map (is_marked_first imports.now) (map declaration_view row.now)) }
 {
-    let mut names = NameSet::new(alloc);
-    let mut flags: Vec<bool> = Vec::new(alloc);
+    let mut flags: Vec<bool> = Vec::with_capacity(alloc, row.len())?;
     for declaration in row {
-        let is_first = add_file_name(&mut names, alloc, declaration)?;
-        flags.push(is_first)?;
+        flags.push(is_marked_first(imports, declaration))?;
     }
-    Ok((flags, names))
-}
-
-fn are_names_there(names: &NameSet, imports: &[String]) -> bool
-    ensures { result ≡ list_all (is_in_set names.now) (map string_bytes imports.now) }
-{
-    for name in imports {
-        if !names.contains(name.as_str().as_bytes()) {
-            return false;
-        }
-    }
-    true
+    Ok(flags)
 }
 
 fn is_import_index(file: &FileDecl, index: i32) -> bool
@@ -83,34 +68,36 @@ fn are_indexes_there(file: &FileDecl, indexes: &[i32]) -> bool
     true
 }
 
-fn are_right_imports(names: &NameSet, file: &FileDecl) -> bool
-    ensures { result ≡ are_right_imports names.now (file_view file.now) }
+/// Whether the imports of a file are right, where so many of them name files.
+fn are_right_imports(found: usize, file: &FileDecl) -> bool
+    ensures { result ≡ are_right_imports found (file_view file.now) }
 {
     file.imports.len() < MANY_IMPORTS
-        && are_names_there(names, &file.imports)
+        && found == file.imports.len()
         && are_indexes_there(file, &file.public)
 }
 
-fn has_right_imports(names: &NameSet, declaration: &Declaration) -> bool
-    ensures { result ≡ are_imports_there names.now (declaration_view declaration.now) }
+fn has_right_imports(imports: &Imports, declaration: &Declaration) -> bool
+    ensures { result ≡ are_imports_there imports.now (declaration_view declaration.now) }
 {
+    let found = next_of(&imports.all, declaration.file).len();
     match file_in(declaration.item) {
-        Some(file) => are_right_imports(names, file),
+        Some(file) => are_right_imports(found, file),
         None => true,
     }
 }
 
-/// Whether the imports of each file are right, by the names of all files.
+/// Whether the imports of each file are right.
 pub(crate) fn right_imports(
     alloc: Global,
     row: &[Declaration],
-    names: &NameSet,
+    imports: &Imports,
 ) -> Result<Vec<bool>, AllocError>
-    ensures { IfOk result (λ v. v.items ≡ map (are_imports_there names.now) (map declaration_view row.now)) }
+    ensures { IfOk result (λ v. v.items ≡ map (are_imports_there imports.now) (map declaration_view row.now)) }
 {
-    let mut flags: Vec<bool> = Vec::new(alloc);
+    let mut flags: Vec<bool> = Vec::with_capacity(alloc, row.len())?;
     for declaration in row {
-        flags.push(has_right_imports(names, declaration))?;
+        flags.push(has_right_imports(imports, declaration))?;
     }
     Ok(flags)
 }
@@ -146,7 +133,7 @@ pub(crate) fn free_names(
     requires { IsScene (map declaration_view row.now) scene.now }
     ensures { IfOk result (λ v. v.items ≡ map (is_free_name (map declaration_view row.now)) (enumerate_from 0 (map declaration_view row.now))) }
 {
-    let mut flags: Vec<bool> = Vec::new(alloc);
+    let mut flags: Vec<bool> = Vec::with_capacity(alloc, row.len())?;
     for (place, declaration) in row.iter().enumerate() {
         flags.push(is_free(scene, place, declaration))?;
     }

@@ -17,6 +17,7 @@ use crate::verdict::verdict;
 use pb_decl::FileDecl;
 use pb_names::declaration::Declaration;
 use pb_names::declared::row;
+use pb_names::imports::Imports;
 use std::alloc::Global;
 
 /// Files of which every rule holds.
@@ -24,6 +25,8 @@ use std::alloc::Global;
 pub struct Judged<'a> {
     /// All that they declare, in declaration order.
     pub row: Vec<Declaration<'a>>,
+    /// Which files each file imports.
+    pub imports: Imports,
     /// What the rules of files, names and type names come to, by place.
     pub names: Names,
 }
@@ -36,10 +39,15 @@ pub fn judge_files<'a>(alloc: Global, files: &'a [FileDecl]) -> Result<Judged<'a
     ensures fault { (file name : List ℕ) (c : CauseValue) → LinkFault (map file_view files.now) file name c → IsErrAnd result (TellsLinkFault file name c) }
 {
     let row = row(alloc, files)?;
-    let names = names_of(alloc, files, &row)?;
+    let imports = Imports::new(alloc, files)?;
+    let names = names_of(alloc, files, &row, &imports)?;
     let marks = map_marks(alloc, &row, &names.found)?;
     match verdict(files, &row, &names, &marks) {
-        Ok(()) => Ok(Judged { row, names }),
+        Ok(()) => Ok(Judged {
+            row,
+            imports,
+            names,
+        }),
         Err(error) => Err(error),
     }
 }

@@ -8,7 +8,7 @@ ghost use Rattle.pb_names.specs.Lookup.{looked_up};
 ghost use Rattle.pb_rules.specs.Rules.{World, lookups};
 ghost use Rattle.pb_rules.specs.Link.{IsWorldOf};
 ghost use Rattle.pb_names.specs.View.{declaration_view, type_names_view};
-ghost use Rattle.pb_names.specs.Graphs.{AreImports, LeadToFiles, sees_by};
+ghost use Rattle.pb_names.specs.Graphs.{AreImports, AreFirst, LeadToFiles, sees_by};
 ghost use Rattle.pb_names.specs.Scene.{IsScene};
 ghost use Rattle.pb_rules.specs.Tables.{AreFileTables, AreNameTables, AreNamesOf};
 ghost use Rattle.pb_names.specs.TypeRefs.{refs_view};
@@ -120,7 +120,7 @@ fn type_names(
     ensures { IfOk result (λ v. (w : World) → IsWorldOf (map file_view files.now) w
         → map type_names_view v.items ≡ map (lookups w) (map declaration_view row.now)) }
 {
-    let mut found: Vec<TypeNames> = Vec::new(alloc);
+    let mut found: Vec<TypeNames> = Vec::with_capacity(alloc, row.len())?;
     for declaration in row {
         let names = type_names_at(scene, alloc, files, row, imports, declaration)?;
         found.push(names)?;
@@ -158,11 +158,11 @@ fn file_tables(
     imports: &Imports,
 ) -> Result<(Vec<bool>, Vec<bool>, Option<usize>), AllocError>
     requires { LeadToFiles imports.now }
-    ensures { IfOk result (λ t. (files : List DeclaredFile) (w : World) → AreImports files imports.now → IsWorldOf files w
+    ensures { IfOk result (λ t. (files : List DeclaredFile) (w : World) → AreImports files imports.now → AreFirst files imports.now → IsWorldOf files w
         → w.declared ≡ map declaration_view row.now → AreFileTables w t.0.items t.1.items t.2) }
 {
-    let (file_is_first, names) = first_files(alloc, row)?;
-    let imports_are_there = right_imports(alloc, row, &names)?;
+    let file_is_first = first_files(alloc, row, imports)?;
+    let imports_are_there = right_imports(alloc, row, imports)?;
     let first_cycle = first_cycle(alloc, row, imports)?;
     Ok((file_is_first, imports_are_there, first_cycle))
 }
@@ -190,13 +190,16 @@ pub(crate) fn names_of(
     alloc: Global,
     files: &[FileDecl],
     row: &[Declaration],
+    imports: &Imports,
 ) -> Result<Names, AllocError>
-    requires { map declaration_view row.now ≡ declarations (map file_view files.now) }
+    requires row { map declaration_view row.now ≡ declarations (map file_view files.now) }
+    requires exact { AreImports (map file_view files.now) imports.now }
+    requires lead { LeadToFiles imports.now }
+    requires first { AreFirst (map file_view files.now) imports.now }
     ensures { IfOk result (λ n. (w : World) × IsWorldOf (map file_view files.now) w × AreNamesOf w n) }
 {
-    let imports = Imports::new(alloc, files)?;
-    let (file_is_first, imports_are_there, first_cycle) = file_tables(alloc, row, &imports)?;
-    let (is_free, found) = name_tables(alloc, files, row, &imports)?;
+    let (file_is_first, imports_are_there, first_cycle) = file_tables(alloc, row, imports)?;
+    let (is_free, found) = name_tables(alloc, files, row, imports)?;
     Ok(Names {
         file_is_first,
         imports_are_there,

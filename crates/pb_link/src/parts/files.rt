@@ -37,7 +37,7 @@ pub(crate) fn files_of(
     requires { map (λ v. v.items) imports.now ≡ map (λ f. f.imports) (files_of (map declared_view files.now)) }
     ensures { IfOk result (λ v. map file_view v.items ≡ files_of (map declared_view files.now)) }
 {
-    let mut infos: Vec<FileInfo> = Vec::new(alloc);
+    let mut infos: Vec<FileInfo> = Vec::with_capacity(alloc, files.len())?;
     for (index, file) in files.iter().enumerate() {
         let info = file_of(alloc, file, &imports[index])?;
         infos.push(info)?;

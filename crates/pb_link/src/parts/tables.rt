@@ -125,7 +125,7 @@ pub(crate) fn kinds(
 ) -> Result<Vec<Kind>, AllocError>
     ensures { IfOk result (λ v. v.items ≡ kinds_from (map file_view files.now) 0 0 (map declaration_view row.now)) }
 {
-    let mut kinds: Vec<Kind> = Vec::new(alloc);
+    let mut kinds: Vec<Kind> = Vec::with_capacity(alloc, row.len())?;
     let mut messages: usize = 0;
     let mut enums: usize = 0;
     for place in 0..row.len() {

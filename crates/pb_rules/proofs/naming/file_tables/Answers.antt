@@ -4,10 +4,10 @@ use Rattle.pb_rules.proofs.NamesLemmas.{first_table, imports_table}
 use Rattle.pb_rules.proofs.naming.file_tables.Goals as goal
 
 pub returns : goal.returns
-returns c files w exact is e =
+returns c files w exact first is e =
     let ds = map declaration_view c.args.row.now in
     record {
-      file_is_first = c.in_ok-file_is_first.ensures.flags ∙ first_table w ds e;
-      imports_are_there = c.in_ok-imports_are_there.ensures ∙ imports_table w ds c.in_ok-file_is_first.names e c.in_ok-file_is_first.ensures.names;
+      file_is_first = c.in_ok-file_is_first.ensures ∙ first_table files w c.args.imports.now ds is first e;
+      imports_are_there = c.in_ok-imports_are_there.ensures ∙ imports_table files w c.args.imports.now ds is exact e;
       first_cycle = c.in_ok-first_cycle.ensures files w exact is e;
     }

@@ -9,5 +9,5 @@ returns c =
     let F = map file_view c.args.files.now in
     let w = (a_world F).0 in
     let is = (a_world F).1 in
-    let e : w.declared ≡ map declaration_view c.args.row.now = is.declared ∙ sym c.requires in
-    (w, is, record { of_files = c.in_ok-file_is_first.ensures F w c.in_ok-imports.ensures.exact is e; of_names = c.in_ok-is_free.ensures w is })
+    let e : w.declared ≡ map declaration_view c.args.row.now = is.declared ∙ sym c.requires.row in
+    (w, is, record { of_files = c.in_ok-file_is_first.ensures F w c.requires.exact c.requires.first is e; of_names = c.in_ok-is_free.ensures w is })

@@ -1,7 +1,9 @@
 use Rattle.std.proofs.Common.{◌∙◌, map, ap}
 use Rattle.pb_decl.specs.View.{file_view}
 use Rattle.pb_sets.specs.Reach.{graph_of}
-use Rattle.pb_names.proofs.GraphLemmas.{lists_more, imports_in, public_in, imports_whole, lead_to_files}
+use Rattle.pb_names.specs.Firsts.{first_at}
+use Rattle.pb_names.specs.Sees.{file_named}
+use Rattle.pb_names.proofs.GraphLemmas.{lists_more, marks_alike, imports_in, public_in, imports_whole, lead_to_files}
 use Rattle.pb_names.proofs.imports.Imports.new.Goals as goal
 
 pub loop-file-preserved : goal.loop-file-preserved
@@ -19,3 +21,8 @@ returns-clause-exact c =
 pub returns-clause-lead : goal.returns-clause-lead
 returns-clause-lead c =
     lead_to_files (map file_view c.args.files.now) _ (imports_whole c.args.files.now c.loop-file.file-index _ c.loop-file-test.false c.loop-file.invariant.0 c.loop-file.invariant.1)
+
+pub returns-clause-first : goal.returns-clause-first
+returns-clause-first c =
+    let files = map file_view c.args.files.now in
+    c.in_ok-are_first.ensures ∙ marks_alike (first_at c.in_ok-firsts.firsts) (file_named files) c.in_ok-firsts.ensures 0 files
