@@ -28,8 +28,8 @@ returns-in-Ok-clause-made c =
       made = c.in-Ok.ensures.made j.world j.is_world j.holds (sym j.row ∙ ap (map declaration_view) (sym row)) (ap (map type_names_view) found ∙ j.names.of_names.found);
     }
 
-pub returns-clause-refused : goal.returns-clause-refused
-returns-clause-refused c =
+pub returns-in-Err-clause-refused : goal.returns-in-Err-clause-refused
+returns-in-Err-clause-refused c =
     let j = c.requires in
     let row : c.as_slice-row.result.now ≡ c.args.judged.now.row.items = search rules in
     let found : c.as_slice-found.result.now ≡ c.args.judged.now.names.found.items = search rules in
