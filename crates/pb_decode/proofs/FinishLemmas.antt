@@ -4,7 +4,7 @@ use Rattle.std.proofs.lemmas.List.{append-nil}
 use Rattle.pb_wire.specs.Record.{Record}
 use Rattle.pb_wire.specs.Spell.{AreRecords}
 use Rattle.pb_wire.specs.declared.fault.PathStep.{PathStep}
-use Rattle.pb_wire.specs.Fault.{fault, Place, text_at, input_end}
+use Rattle.pb_wire.specs.Fault.{fault, Place, input_end}
 use Rattle.pb_wire.specs.Schema.{Open, records, context_of}
 use Rattle.pb_wire.specs.Sound.{AllSound}
 use Rattle.pb_wire.specs.Grammar.{Bad, Begins}
@@ -20,18 +20,18 @@ use Rattle.pb_decode.specs.Open.Frames.{Part, message_part, Frame, path_of, Held
 use Rattle.pb_decode.proofs.OpenedLemmas.{cut_at_end}
 use Rattle.pb_decode.proofs.AfterLemmas.{told_here}
 
--- A WHOLE MESSAGE: nothing is open but the top, and no byte is left
+-- A WHOLE MESSAGE: nothing is open but the top, and no byte is left of those that stand from its place on
 pub text_read :
-    (pool : Types) (m : ℕ) (limits : Bounds) (b : List ℕ) (k : ℕ) (v : Message) (scope : Scope) (q : Place) → length b ≤ limits.bytes
-    → Stands pool m limits.depth 101 [] (text_at b) [] (message_part k v) scope q → q.rest ≡ [] → Text pool m limits b v
+    (pool : Types) (m : ℕ) (limits : Bounds) (b : List ℕ) (p0 : Place) (k : ℕ) (v : Message) (scope : Scope) (q : Place) → p0.rest ≡ b → length b ≤ limits.bytes
+    → Stands pool m limits.depth 101 [] p0 [] (message_part k v) scope q → q.rest ≡ [] → Text pool m limits b v
 unfolding value
-text_read pool m limits b k v scope q size s none = from_held s.held s.behind s.worth
+text_read pool m limits b p0 k v scope q from size s none = from_held s.held s.behind s.worth
   where
     from_held :
-        {o : Open Context} {room inner : ℕ} {path : List PathStep} {p : Place} {earlier rs : List Record} → Held pool m limits.depth 101 [] (text_at b) [] (message_part k v) o room inner path p earlier
+        {o : Open Context} {room inner : ℕ} {path : List PathStep} {p : Place} {earlier rs : List Record} → Held pool m limits.depth 101 [] p0 [] (message_part k v) o room inner path p earlier
         → Behind (schema_of pool) o room p rs q → v ≡ value_within pool inner k (earlier ++ rs) → Text pool m limits b v
     from_held {o} {room} {inner} {path} {p} {earlier} {rs} (at_top v0 form is_open is_room is_inner is_path is_place is_base goes_on) h worth =
-        let whole : b ≡ h.front = sym (ap (λ (z : Place). z.rest) is_place) ∙ h.moves.given ∙ ap (λ (z : List ℕ). h.front ++ z) none ∙ append-nil h.front in
+        let whole : b ≡ h.front = sym from ∙ sym (ap (λ (z : Place). z.rest) is_place) ∙ h.moves.given ∙ ap (λ (z : List ℕ). h.front ++ z) none ∙ append-nil h.front in
         record {
           size = size;
           derives = record {

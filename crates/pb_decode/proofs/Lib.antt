@@ -117,6 +117,8 @@ pub mod Outcomes
 pub mod OriginLemmas
 -- for `decode` and `decode_onto`: a text onto what the reader began with, or its fault
 pub mod OntoText
+-- for texts that are read at once
+pub mod QuickTexts
 -- for an input: its bytes, read piece by piece
 pub mod DeviceLemmas
 -- for frames: a fault at a later position stands as much later

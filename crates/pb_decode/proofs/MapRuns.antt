@@ -1,5 +1,5 @@
 -- Runs of map entries.
-use Rattle.std.proofs.Common.{◌≡◌, ◌≢◌, ◌⊎◌, inl, inr, ℕ, zero, suc, ◌+◌, ◌-◌, ◌<◌, List, [], ◌∷◌, ◌++◌, map, take, drop, length, refl, sym, ap, ◌∙◌, subst, arith, Option, Some, None, option_map, IfSome, Equal, BTreeMap}
+use Rattle.std.proofs.Common.{◌≡◌, ◌≢◌, ◌⊎◌, inl, inr, ℕ, zero, suc, ◌+◌, ◌-◌, ◌<◌, List, [], ◌∷◌, ◌++◌, take, drop, length, refl, sym, ap, ◌∙◌, subst, arith, Option, Some, None, option_map, IfSome, Equal, BTreeMap}
 use Rattle.std.specs.Prelude.{◌==◌, string_bytes, Bool, true, false, unwrap_or}
 use Rattle.std.specs.BTreeMap.{insert_entry, IsOrdered, InsertsAll, IsFromIterResult}
 use Rattle.std.proofs.lemmas.Map.Lookups.{map_keys, exact_signed, exact_unsigned, exact_bytes}

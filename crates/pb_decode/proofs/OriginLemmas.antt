@@ -97,16 +97,20 @@ whole_there {pool} o s held k w ended is h =
     whole_read pool o k w s.scope (here s held) ended.over
     (subst (λ (z : Part). Stands pool o.kind o.depth 101 o.base o.place [] z s.scope (here s held)) is (stands_over o s held ended h))
 
-pub well_formed_over : {pool : Types} (o : Origin) (s : State) (held : List ℕ) (k : ℕ) (w : Message) → IsPool pool → IsOverAt s held → s.now ≡ message_part k w → TookFrom pool o s held → IsWellFormed pool o.kind w
-well_formed_over {pool} o s held k w ok ended is h =
-    let stands : Stands pool o.kind o.depth 101 o.base o.place [] (message_part k w) s.scope (here s held) =
-    subst (λ (z : Part). Stands pool o.kind o.depth 101 o.base o.place [] z s.scope (here s held)) is (stands_over o s held ended h) in
+-- what there is of the top is well formed
+pub top_well_formed :
+    {pool : Types} {m depth : ℕ} {base : List Record} {p0 : Place} {scope : Scope} {q : Place} (k : ℕ) (w : Message) → IsPool pool → Stands pool m depth 101 base p0 [] (message_part k w) scope q → IsWellFormed pool m w
+top_well_formed {pool} {m} k w ok stands =
     let good = message_good ok k w stands in
     let (v, form) = is_top refl stands.held in
-    let same : k ≡ o.kind = (let e : message_part k w ≡ message_part o.kind v = form in cc) in
+    let same : k ≡ m = (let e : message_part k w ≡ message_part m v = form in cc) in
     let inner = top_inner stands.held in
     let low = good.1 in
     record { parts = subst (λ (z : ℕ). IsBody pool z w) same good.0; depth = omega (arith, low, inner) }
+
+pub well_formed_over : {pool : Types} (o : Origin) (s : State) (held : List ℕ) (k : ℕ) (w : Message) → IsPool pool → IsOverAt s held → s.now ≡ message_part k w → TookFrom pool o s held → IsWellFormed pool o.kind w
+well_formed_over {pool} o s held k w ok ended is h =
+    top_well_formed k w ok (subst (λ (z : Part). Stands pool o.kind o.depth 101 o.base o.place [] z s.scope (here s held)) is (stands_over o s held ended h))
 
 -- what is begun is cut short
 pub cut_over : {pool : Types} (o : Origin) (s : State) (held : List ℕ) → (IsOverAt s held → ⊥) → TookFrom pool o s held → BadFrom pool o (fault (s.at + length held) (path_here s) Truncated)

@@ -116,7 +116,7 @@ text_there {pool} {m} {limits} b s held size none tag empty h = from_top (is_top
     stands = stands_top s held none tag h
 
     from_top : (v : Message) × (s.now ≡ message_part m v) → (v : Message) × (s.now ≡ message_part m v) × Text pool m limits b v
-    from_top (v, is) = (v, is, text_read pool m limits b m v s.scope (here s held) size (subst (λ (z : Part). Stands pool m limits.depth 101 [] (text_at b) [] z s.scope (here s held)) is stands) empty)
+    from_top (v, is) = (v, is, text_read pool m limits b (text_at b) m v s.scope (here s held) refl size (subst (λ (z : Part). Stands pool m limits.depth 101 [] (text_at b) [] z s.scope (here s held)) is stands) empty)
 
 -- TOO MANY BYTES: those within the limit are read first
 pub front_bad :

@@ -50,13 +50,14 @@ fn take_within(
     take_onward(alloc, pool, reading, bytes)
 }
 
-/// Decodes the bytes of a text onto the body of a message.
+/// Decodes the bytes of a text onto the body of a message. Before the place that is tried nothing is read at once.
 pub(crate) fn read_onto<'p>(
     alloc: Global,
     pool: &'p Pool,
     message_type: MessageId,
     body: Body,
     bytes: &[u8],
+    tried: u32,
     limits: Limits,
 ) -> Result<DynamicMessage<'p>, DecodeError>
     requires rules { IsPool pool.now }
@@ -68,7 +69,7 @@ pub(crate) fn read_onto<'p>(
     ensures fault { IfErr result (λ e. IfFault e (IsFaultOf pool.now message_type.0 limits bytes.now)) }
 {
     let room = limits.max_depth();
-    let mut reading = begin_at(alloc, message_type, body, room, None);
+    let mut reading = begin_at(alloc, message_type, body, room, None, tried);
     take_within(alloc, pool, message_type, limits, &mut reading, bytes)?;
     finish_message(alloc, pool, message_type, reading)
 }
@@ -102,5 +103,5 @@ pub fn decode_onto<'p>(
     let kind = message.message_type();
     let _types = pool.messages();
     let _well_formed = message.body();
-    read_onto(alloc, pool, kind, message.into_body(), bytes, limits)
+    read_onto(alloc, pool, kind, message.into_body(), bytes, 0, limits)
 }

@@ -17,6 +17,7 @@ use crate::error::{DecodeError, NoMemory};
 use crate::onto::read_onto;
 use crate::reader::fault::{fault_at, too_large};
 use crate::reader::origin::{begin_empty, finish_message};
+use crate::reader::quick_text::read_text;
 use crate::reader::state::{Reader, take_all};
 use crate::tokens::step::Step;
 use pb_schema::{MessageId, Pool};
@@ -235,6 +236,30 @@ pub(crate) fn end<'p>(
     finish_message(alloc, pool, message_type, reading)
 }
 
+/// The message of a text, or its fault. What can't be read at once is read once more in pieces, of which none is tried again, so
+/// that hostile bytes are read twice.
+fn read_whole<'p>(
+    alloc: Global,
+    pool: &'p Pool,
+    message_type: MessageId,
+    bytes: &[u8],
+    limits: Limits,
+) -> Result<DynamicMessage<'p>, DecodeError>
+    requires rules { IsPool pool.now }
+    requires within { message_type.0 < length pool.now.messages }
+    ensures of_type { IfOk result (λ m. (m.pool ≡ pool.now) × (m.kind ≡ message_type.0)) }
+    ensures value { IfOk result (λ m. Text pool.now message_type.0 limits bytes.now m.body) }
+    ensures fault { IfErr result (λ e. IfFault e (IsFaultOf pool.now message_type.0 limits bytes.now)) }
+{
+    match read_text(alloc, pool, message_type, bytes, limits)? {
+        Some(body) => Ok(DynamicMessage::from_well_formed(alloc, pool, message_type, body)),
+        None => {
+            let none = empty_body(alloc);
+            read_onto(alloc, pool, message_type, none, bytes, u32::MAX, limits)
+        }
+    }
+}
+
 /// Decodes a message of a type from the bytes of its text (encoding guide, "Message Structure").
 ///
 /// The answer is the message's value, or [`DecodeError::Fault`] with the first byte that no text of the type can have there.
@@ -255,5 +280,5 @@ pub fn decode<'p>(
     ensures one { Exactly ((v : Message) × Text pool.now message_type.0 limits bytes.now v) (IsFaultOf pool.now message_type.0 limits bytes.now) }
 {
     let _types = pool.messages();
-    read_onto(alloc, pool, message_type, empty_body(alloc), bytes, limits)
+    read_whole(alloc, pool, message_type, bytes, limits)
 }

@@ -27,13 +27,14 @@ use pb_wire::Limits;
 use std::alloc::Global;
 
 /// Where no byte is taken yet: what comes goes onto a message that has this body, with so many levels left, up to the known
-/// end if there is one.
+/// end if there is one. Before the place that is tried nothing is read at once.
 pub(crate) fn begin_at(
     alloc: Global,
     message_type: MessageId,
     body: Body,
     room: u8,
     end: Option<u32>,
+    tried: u32,
 ) -> Reading
     requires { room ≤ 100 }
     ensures at { (result.reader.at ≡ 0) × (length result.held.items ≡ 0) }
@@ -55,6 +56,7 @@ pub(crate) fn begin_at(
             },
             frames,
             step: Step::Tag,
+            tried,
         },
         held,
     }
@@ -74,7 +76,7 @@ pub(crate) fn begin_empty(
     ensures took { ReadFrom pool.now (origin message_type.0 limits.depth [] end) result }
 {
     let room = limits.max_depth();
-    begin_at(alloc, message_type, empty_body(alloc), room, end)
+    begin_at(alloc, message_type, empty_body(alloc), room, end, 0)
 }
 
 /// Takes a piece behind the bytes that are held.

@@ -95,7 +95,7 @@ pub(crate) fn quick(
 {
     let mut here = 0;
     let mut known = None;
-    let mut tried = 0;
+    let mut tried = reader.tried;
     loop {
         take_ended(alloc, pool, reader)?;
         let Some(size) = take_whole(alloc, pool, reader, &mut known, &mut tried, &bytes[here..])?

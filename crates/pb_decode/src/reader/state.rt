@@ -39,6 +39,8 @@ pub(crate) struct Reader {
     /// The parts around it, outermost first.
     pub frames: Vec<Frame>,
     pub step: Step,
+    /// Before this place nothing is tried to be read at once, since that was tried.
+    pub tried: u32,
 }
 
 /// How many bytes stand before the known end of the innermost part.

@@ -2,7 +2,7 @@
 use Rattle.std.proofs.Common.{◌≡◌, ap, sym, ◌∙◌, subst, arith, length, vec_len}
 use Rattle.pb_value.specs.Data.{map}
 use Rattle.pb_value.specs.Change.{entries_of}
-use Rattle.pb_value.specs.View.{body_view, content_view, entries_view}
+use Rattle.pb_value.specs.View.{body_view, entries_view}
 use Rattle.pb_value.proofs.Views.{content_view-Map}
 use Rattle.pb_decode.specs.Close.Mapped.{pairs_view, FitInTurn}
 use Rattle.pb_decode.proofs.MapRuns.{fit_entries, stored_in, some_pairs}

@@ -56,7 +56,7 @@ pub returns-in_ok-close_message-in-Message-clause-taken : goal.returns-in_ok-clo
 returns-in_ok-close_message-in-Message-clause-taken c =
     λ m depth levels base p0 rest begun.
     closed_reads (state_view c.args.reader.now)
-    (state_view (record { at = c.args.reader.now.at; part = c.close_message.new.outer; scope = c.close_message.new.scope; frames = c.pop.new.self; step = c.args.reader.now.step })) c.in-Some.frame.scope.end rest refl c.requires.tag
+    (state_view (record { at = c.args.reader.now.at; part = c.close_message.new.outer; scope = c.close_message.new.scope; frames = c.pop.new.self; step = c.args.reader.now.step; tried = c.args.reader.now.tried })) c.in-Some.frame.scope.end rest refl c.requires.tag
     c.in_ok-close_message-in-Message.ensures.same_end
     (c.in_ok-close_message-in-Message.ensures.stands m depth levels c.in-Message.field-0.0 base p0 (here (state_view c.args.reader.now) rest) (frames_view c.pop.new.self.items) (scope_view c.args.reader.now.scope)
     (standing (state_view c.args.reader.now) rest (frame_of (part_view c.replace-inner.new.dest) c.in-Some.frame.number c.in-Some.frame.slot false (scope_view c.in-Some.frame.scope) ∷ frames_view c.pop.new.self.items)
@@ -67,7 +67,7 @@ pub returns-in_ok-close_entry-in-Entry-clause-taken : goal.returns-in_ok-close_e
 returns-in_ok-close_entry-in-Entry-clause-taken c =
     λ m depth levels base p0 rest begun.
     closed_reads (state_view c.args.reader.now)
-    (state_view (record { at = c.args.reader.now.at; part = c.close_entry.new.outer; scope = c.close_entry.new.scope; frames = c.pop.new.self; step = c.args.reader.now.step })) c.in-Some.frame.scope.end rest refl c.requires.tag
+    (state_view (record { at = c.args.reader.now.at; part = c.close_entry.new.outer; scope = c.close_entry.new.scope; frames = c.pop.new.self; step = c.args.reader.now.step; tried = c.args.reader.now.tried })) c.in-Some.frame.scope.end rest refl c.requires.tag
     c.in_ok-close_entry-in-Entry.ensures.same_end
     (c.in_ok-close_entry-in-Entry.ensures.stands c.args.pool.now m depth levels base p0 (here (state_view c.args.reader.now) rest) (frames_view c.pop.new.self.items) (scope_view c.args.reader.now.scope)
     (standing (state_view c.args.reader.now) rest (frame_of (part_view c.replace-inner.new.dest) c.in-Some.frame.number c.in-Some.frame.slot false (scope_view c.in-Some.frame.scope) ∷ frames_view c.pop.new.self.items)

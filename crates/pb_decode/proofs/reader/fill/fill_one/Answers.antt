@@ -1,5 +1,5 @@
 -- The number goes into the entry, and one stands behind its record.
-use Rattle.std.proofs.Common.{ℕ, ◌+◌, ◌-◌, ◌∙◌, Some, sym, ap, arith, length, length-drop}
+use Rattle.std.proofs.Common.{ℕ, ◌+◌, ◌∙◌, Some, sym, ap, arith, length, length-drop}
 use Rattle.pb_wire.specs.Fault.{Place}
 use Rattle.pb_wire.specs.Token.{given_at, passed}
 use Rattle.pb_decode.specs.Tokens.Number.{number_view}

@@ -1,5 +1,5 @@
 -- Record by record the values go to the end of the list.
-use Rattle.std.proofs.Common.{◌+◌, ◌-◌, ℕ, List, ◌∷◌, [], ◌++◌, map, take, drop, length, sym, ap, ◌∙◌, subst, arith, length-drop}
+use Rattle.std.proofs.Common.{◌-◌, ℕ, List, ◌∷◌, [], ◌++◌, map, take, drop, length, sym, ap, ◌∙◌, subst, arith, length-drop}
 use Rattle.pb_value.specs.View.{value_view}
 use Rattle.pb_value.specs.declared.body.Value.{Value}
 use Rattle.pb_decode.specs.Reader.Listed.{FillsList}

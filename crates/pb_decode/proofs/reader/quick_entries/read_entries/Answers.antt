@@ -1,5 +1,5 @@
 -- Entry by entry the run goes on, and one stands behind it.
-use Rattle.std.proofs.Common.{◌+◌, ◌-◌, Some, ap, sym, ◌∙◌, subst, arith, length, length-drop}
+use Rattle.std.proofs.Common.{◌+◌, ap, sym, ◌∙◌, subst, arith, length, length-drop}
 use Rattle.pb_wire.specs.Fault.{Place}
 use Rattle.pb_wire.specs.Token.{given_at, passed}
 use Rattle.pb_value.specs.View.{key_view, value_view}
