@@ -178,6 +178,9 @@ hex_payload = refl
 text_payload : payload_word (codes "lab") ≡ Some (len (97 ∷ 98 ∷ []))
 text_payload = refl
 
+no_group : payload_word (codes "g0") ≡ Some (group no_more)
+no_group = refl
+
 one_group : payload_word (codes "g1") ≡ Some (group no_more)
 one_group = refl
 
@@ -199,6 +202,10 @@ whole = refl
 
 whole_empty : body_words [] ≡ Some empty
 whole_empty = refl
+
+-- a colon before any wave
+both_signs : body_words (codes "1:ta~b") ≡ Some (body (field 1 (one (scalar (text (97 ∷ 126 ∷ 98 ∷ [])))) no_fields) [])
+both_signs = refl
 
 no_content : body_words (codes "1:i5 2") ≡ None
 no_content = refl

@@ -42,19 +42,30 @@ scalar_onto m w =
     if length w == 0 then Some m
     else halves (letter "=") w >>= (λ h. natural 32 h.0 >>= (λ n. scalar_word h.1 >>= (λ d. Some (with_field n (one d) m))))
 
--- a message of scalars, as 1=i5;11=i-2
+-- a message with each scalar of a row more, as 1=i5;11=i-2
+abbrev pub scalars_onto : Message → List ℕ → Option Message
+scalars_onto m t = in_turn scalar_onto m (parts (letter ";") t)
+
+-- a message of scalars
 abbrev pub flat_word : List ℕ → Option Message
-flat_word w = in_turn scalar_onto empty (parts (letter ";") w)
+flat_word w = scalars_onto empty w
 
 -- a message inside so many others, each the field 3 of the one around it
 abbrev pub nested : ℕ → Message → Message
 nested zero m = m
 nested (suc n) m = body (field 3 (one (message (nested n m))) no_fields) []
 
+-- what stands before the first dot, or all
+abbrev pub before_dot : List ℕ → List ℕ
+before_dot w = before_first (λ b. b == letter ".") w
+
+-- what stands behind it, or nothing
+abbrev pub behind_dot : List ℕ → List ℕ
+behind_dot w = after_first (λ b. b == letter ".") w
+
 -- so many messages around one of scalars, as 2.1=i5, or around the empty one
 abbrev pub nest_word : List ℕ → Option Message
-nest_word w =
-    natural 32 (before_first (λ b. b == letter ".") w) >>= (λ n. flat_word (after_first (λ b. b == letter ".") w) >>= (λ m. Some (nested n m)))
+nest_word w = natural 32 (before_dot w) >>= (λ n. flat_word (behind_dot w) >>= (λ m. Some (nested n m)))
 
 -- the field 12 with the empty message under 0
 abbrev pub entry_message : Message
@@ -92,6 +103,11 @@ key_word w = value_word w >>= key_in
 abbrev pub element_onto : Datums → List ℕ → Option Datums
 element_onto ds w = if length w == 0 then Some ds else value_word w >>= (λ d. Some (joined_datums ds (datum d no_datums)))
 
+-- a list with each element of a row more, as i1,i2
+abbrev pub elements_onto : Datums → List ℕ → Option Datums
+elements_onto ds t = in_turn element_onto ds (parts (letter ",") t)
+
+-- the place of a key's form among the others; no key has one of the last
 abbrev pub form_rank : Scalar → ℕ
 form_rank (int32 z) = 0
 form_rank (int64 z) = 1
@@ -99,16 +115,13 @@ form_rank (uint32 n) = 2
 form_rank (uint64 n) = 3
 form_rank (boolean b) = 4
 form_rank (text t) = 5
-form_rank (float n) = 6
-form_rank (double n) = 7
-form_rank (enum z) = 8
-form_rank (bytes t) = 9
+form_rank _ = 6
 
 -- keys of one form by pb_schema's order, and others by their forms
 abbrev pub keys_cmp : Scalar → Scalar → Ordering
 keys_cmp k l = match_ordering (nat_cmp (form_rank k) (form_rank l)) Less (key_cmp k l) Greater
 
--- the entries with d under k, in place of what was there
+-- the entries with d under k, in place of what was there; by the put_entry of pb_value keys of different forms would stand in each other's place
 abbrev pub put_under : Scalar → Datum → Entries → Entries
 put_under k d no_entries = entry k d no_entries
 put_under k d (entry l e es) = match_ordering (keys_cmp k l) (entry k d (entry l e es)) (entry l d es) (entry l e (put_under k d es))
@@ -119,6 +132,10 @@ entry_onto es w =
     if length w == 0 then Some es
     else halves (letter "=") w >>= (λ h. key_word h.0 >>= (λ k. value_word h.1 >>= (λ d. Some (put_under k d es))))
 
+-- a map with each entry of a row more, as tk=i1,tl=i2
+abbrev pub entries_onto : Entries → List ℕ → Option Entries
+entries_onto es t = in_turn entry_onto es (parts (letter ",") t)
+
 -- what stands before a closing bracket that ends the word
 abbrev pub inside : ℕ → List ℕ → Option (List ℕ)
 inside close w = halves close w >>= (λ h. if length h.1 == 0 then Some h.0 else None)
@@ -126,8 +143,8 @@ inside close w = halves close w >>= (λ h. if length h.1 == 0 then Some h.0 else
 -- a list as [i1,i2], a map as {tk=i1,tl=i2}, else one value
 abbrev pub content_by : ℕ → List ℕ → Option Holding
 content_by form rest =
-    if form == letter "[" then option_map list (inside (letter "]") rest >>= (λ t. in_turn element_onto no_datums (parts (letter ",") t)))
-    else if form == letter "{" then option_map map (inside (letter "}") rest >>= (λ t. in_turn entry_onto no_entries (parts (letter ",") t)))
+    if form == letter "[" then option_map list (inside (letter "]") rest >>= elements_onto no_datums)
+    else if form == letter "{" then option_map map (inside (letter "}") rest >>= entries_onto no_entries)
     else option_map one (value_by form rest)
 
 abbrev pub content_word : List ℕ → Option Holding
@@ -176,6 +193,10 @@ part_onto m None r = r >>= record_onto m
 abbrev pub word_onto : Message → List ℕ → Option Message
 word_onto m w = if length w == 0 then Some m else part_onto m (halves (letter ":") w) (halves (letter "~") w)
 
--- a message by words between spaces
+-- a message with what each word between spaces has more
+abbrev pub words_onto : Message → List ℕ → Option Message
+words_onto m t = in_turn word_onto m (parts (letter " ") t)
+
+-- a message of such words
 abbrev pub body_words : List ℕ → Option Message
-body_words t = in_turn word_onto empty (parts (letter " ") t)
+body_words t = words_onto empty t

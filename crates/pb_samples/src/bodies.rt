@@ -3,8 +3,7 @@
 ghost use Rattle.std.specs.Prelude.{◌≡◌, ◌-◌, Some, None, IfOk, IfErr};
 ghost use Rattle.pb_wire.specs.Unknown.{payload_of};
 ghost use Rattle.pb_value.specs.View.{body_view};
-ghost use Rattle.pb_samples.specs.Texts.{in_turn, parts};
-ghost use Rattle.pb_samples.specs.Words.{group_with, groups, payload_by, payload_word, with_record, field_onto, record_onto, word_onto, body_words};
+ghost use Rattle.pb_samples.specs.Words.{group_with, groups, payload_by, payload_word, with_record, field_onto, record_onto, word_onto, words_onto, body_words};
 ghost use Rattle.pb_samples.specs.declared.error.WordError.TheVariants.{Memory, NoMeaning};
 
 use crate::contents::content_of;
@@ -102,8 +101,8 @@ fn with_word(alloc: Global, body: Body, word: &str) -> Result<Body, WordError>
 }
 
 fn with_words(alloc: Global, body: Body, words: &str) -> Result<Body, WordError>
-    ensures value { IfOk result (λ b. in_turn word_onto (body_view body) (parts 32 words.now) ≡ Some (body_view b)) }
-    ensures refused { IfErr result (λ e. e ≡ NoMeaning → in_turn word_onto (body_view body) (parts 32 words.now) ≡ None) }
+    ensures value { IfOk result (λ b. words_onto (body_view body) words.now ≡ Some (body_view b)) }
+    ensures refused { IfErr result (λ e. e ≡ NoMeaning → words_onto (body_view body) words.now ≡ None) }
 {
     let (word, more) = head_of(words, ' ');
     let body = with_word(alloc, body, word)?;

@@ -2,8 +2,7 @@
 
 ghost use Rattle.std.specs.Prelude.{◌≡◌, ◌<◌, Some, None, IfOk, IfErr};
 ghost use Rattle.pb_value.specs.View.{content_view, values_view, entries_view};
-ghost use Rattle.pb_samples.specs.Texts.{in_turn, parts};
-ghost use Rattle.pb_samples.specs.Words.{element_onto, entry_onto, inside, content_by, content_word};
+ghost use Rattle.pb_samples.specs.Words.{element_onto, elements_onto, entry_onto, entries_onto, inside, content_by, content_word};
 ghost use Rattle.pb_samples.specs.declared.error.WordError.TheVariants.{NoMeaning};
 
 use crate::error::WordError;
@@ -26,8 +25,8 @@ fn with_element(alloc: Global, values: Vec<Value>, word: &str) -> Result<Vec<Val
 }
 
 fn with_elements(alloc: Global, values: Vec<Value>, words: &str) -> Result<Vec<Value>, WordError>
-    ensures value { IfOk result (λ vs. in_turn element_onto (values_view values.items) (parts 44 words.now) ≡ Some (values_view vs.items)) }
-    ensures refused { IfErr result (λ e. e ≡ NoMeaning → in_turn element_onto (values_view values.items) (parts 44 words.now) ≡ None) }
+    ensures value { IfOk result (λ vs. elements_onto (values_view values.items) words.now ≡ Some (values_view vs.items)) }
+    ensures refused { IfErr result (λ e. e ≡ NoMeaning → elements_onto (values_view values.items) words.now ≡ None) }
 {
     let (word, more) = head_of(words, ',');
     let values = with_element(alloc, values, word)?;
@@ -54,8 +53,8 @@ fn with_entry(alloc: Global, entries: Entries, word: &str) -> Result<Entries, Wo
 }
 
 fn with_entries(alloc: Global, entries: Entries, words: &str) -> Result<Entries, WordError>
-    ensures value { IfOk result (λ es. in_turn entry_onto (entries_view entries.entries) (parts 44 words.now) ≡ Some (entries_view es.entries)) }
-    ensures refused { IfErr result (λ e. e ≡ NoMeaning → in_turn entry_onto (entries_view entries.entries) (parts 44 words.now) ≡ None) }
+    ensures value { IfOk result (λ es. entries_onto (entries_view entries.entries) words.now ≡ Some (entries_view es.entries)) }
+    ensures refused { IfErr result (λ e. e ≡ NoMeaning → entries_onto (entries_view entries.entries) words.now ≡ None) }
 {
     let (word, more) = head_of(words, ',');
     let entries = with_entry(alloc, entries, word)?;

@@ -1,10 +1,9 @@
 //! Values and keys, read from words.
 
-ghost use Rattle.std.specs.Prelude.{◌≡◌, ◌==◌, Some, None, option_map, IfOk, IfErr};
-ghost use Rattle.std.specs.List.{before_first, after_first};
+ghost use Rattle.std.specs.Prelude.{◌≡◌, Some, None, option_map, IfOk, IfErr};
 ghost use Rattle.pb_value.specs.View.{body_view, content_view, key_view, value_view};
-ghost use Rattle.pb_samples.specs.Texts.{in_turn, parts};
-ghost use Rattle.pb_samples.specs.Words.{scalar_by, scalar_word, with_field, scalar_onto, flat_word, nested, nest_word, entry_message, value_by, value_word, key_in, key_word};
+ghost use Rattle.pb_samples.specs.Words.{scalar_by, scalar_word, with_field, scalar_onto, scalars_onto, flat_word};
+ghost use Rattle.pb_samples.specs.Words.{nested, before_dot, behind_dot, nest_word, entry_message, value_by, value_word, key_in, key_word};
 ghost use Rattle.pb_samples.specs.declared.error.WordError.TheVariants.{Memory, NoMeaning};
 
 use crate::error::WordError;
@@ -70,8 +69,8 @@ fn with_scalar(alloc: Global, body: Body, word: &str) -> Result<Body, WordError>
 }
 
 fn with_scalars(alloc: Global, body: Body, words: &str) -> Result<Body, WordError>
-    ensures value { IfOk result (λ b. in_turn scalar_onto (body_view body) (parts 59 words.now) ≡ Some (body_view b)) }
-    ensures refused { IfErr result (λ e. e ≡ NoMeaning → in_turn scalar_onto (body_view body) (parts 59 words.now) ≡ None) }
+    ensures value { IfOk result (λ b. scalars_onto (body_view body) words.now ≡ Some (body_view b)) }
+    ensures refused { IfErr result (λ e. e ≡ NoMeaning → scalars_onto (body_view body) words.now ≡ None) }
 {
     let (word, more) = head_of(words, ';');
     let body = with_scalar(alloc, body, word)?;
@@ -113,8 +112,8 @@ fn nest_of(alloc: Global, words: &str) -> Result<Body, WordError>
 
 /// What stands before a dot, or all, and what stands behind it, or nothing.
 fn around_dot(words: &str) -> (&str, &str)
-    ensures before { result.0.now ≡ before_first (λ b. b == 46) words.now }
-    ensures behind { result.1.now ≡ after_first (λ b. b == 46) words.now }
+    ensures before { result.0.now ≡ before_dot words.now }
+    ensures behind { result.1.now ≡ behind_dot words.now }
 {
     match words.split_once('.') {
         Some(cut) => cut,

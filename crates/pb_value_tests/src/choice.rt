@@ -16,7 +16,8 @@ pub(crate) fn choose(
     content: Content,
 ) -> Result<Option<u32>, ValueError>
     ensures chosen { IfOk result (λ m. m ≡ Some number) }
-    ensures alone { let all = message_fields message.old.pool message.old.kind in OnOk result ((o k : ℕ) → oneof_at all number ≡ Some o → oneof_at all k ≡ Some o → k ≢ number → get_field k (fields_of message.new.body) ≡ None) }
+    ensures alone { let all = message_fields message.old.pool message.old.kind in OnOk result ((o k : ℕ) → oneof_at all number ≡ Some o
+        → oneof_at all k ≡ Some o → k ≢ number → get_field k (fields_of message.new.body) ≡ None) }
     ensures refused { OnErr result (message.new ≡ message.old) }
 {
     let kind = message.message_type();
