@@ -107,7 +107,7 @@ element_onto ds w = if length w == 0 then Some ds else value_word w >>= (λ d. S
 abbrev pub elements_onto : Datums → List ℕ → Option Datums
 elements_onto ds t = in_turn element_onto ds (parts (letter ",") t)
 
--- the place of a key's form among the others; no key has one of the last
+-- the place of a key's form among the others; no key has one of the last four
 abbrev pub form_rank : Scalar → ℕ
 form_rank (int32 z) = 0
 form_rank (int64 z) = 1
@@ -115,7 +115,10 @@ form_rank (uint32 n) = 2
 form_rank (uint64 n) = 3
 form_rank (boolean b) = 4
 form_rank (text t) = 5
-form_rank _ = 6
+form_rank (float n) = 6
+form_rank (double n) = 7
+form_rank (enum z) = 8
+form_rank (bytes t) = 9
 
 -- keys of one form by pb_schema's order, and others by their forms
 abbrev pub keys_cmp : Scalar → Scalar → Ordering
