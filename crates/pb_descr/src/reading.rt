@@ -31,8 +31,8 @@ use std::alloc::{AllocError, Global};
 /// The tag of a file's record in a set.
 const FILE: u8 = 0x0a;
 
-/// A part of a set ends behind the record that reaches so many bytes.
-const PART: usize = 1024;
+/// A part of a set ends behind the record that reaches so many bytes. So the messages of a part are few, and the memory of one part serves the next.
+const PART: usize = 128;
 
 /// The message of a set, from its bytes by the fixed pool.
 fn decode_by(alloc: Global, pool: &Pool, bytes: &[u8]) -> Result<Body, DescrError>

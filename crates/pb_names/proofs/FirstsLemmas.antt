@@ -1,5 +1,6 @@
 -- Tables of first places.
-use Rattle.std.proofs.Common.{◌≡◌, ℕ, zero, suc, ◌+◌, ◌≤◌, List, [], ◌∷◌, Bool, true, false, not, refl, sym, ◌∙◌, ap, arith, cond, drop, length, Option, Some, None, Vec, Global, option_map, nat_lt}
+use Rattle.std.proofs.Common.{◌≡◌, ℕ, zero, suc, ◌+◌, ◌≤◌, List, [], ◌∷◌, Bool, true, false, not, refl, sym, ◌∙◌, ap, arith, cond, drop, length, Option, Some, None, option_map, nat_lt}
+use Rattle.std.specs.Borrow.{Bor}
 use Rattle.std.specs.Prelude.{slice_get, position}
 use Rattle.std.specs.List.{position_from, position_or_len}
 use Rattle.std.specs.Map.{lookup}
@@ -13,7 +14,7 @@ use Rattle.indexmap.specs.IndexMap.{insert_entry}
 some_same : {A : Type 0} (a b : A) → Some a ≡ Some b → a ≡ b
 some_same a b h = cc
 
-same_bytes : (a b : List ℕ) → bytes_eq a b ≡ true → a ≡ b
+pub same_bytes : (a b : List ℕ) → bytes_eq a b ≡ true → a ≡ b
 same_bytes a b h = (bytes_eq-Decides a b).0 h
 
 -- PUTTING
@@ -27,17 +28,17 @@ put_apart true true v w rest never = absurd (never refl refl)
 put_apart true false v w rest never = refl
 put_apart false b v w rest never = refl
 
-put_step : (name : List ℕ) (e : Vec ℕ Global × ℕ) (es rest : List (Vec ℕ Global × ℕ)) (key : Vec ℕ Global) (v : ℕ) (c : Bool) → bytes_eq key.items e.0.items ≡ c → lookup (λ k. bytes_eq name k.items) rest ≡ cond (bytes_eq name key.items) (Some v) (lookup (λ k. bytes_eq name k.items) es) → lookup (λ k. bytes_eq name k.items) (cond c ((e.0, v) ∷ es) (e ∷ rest)) ≡ cond (bytes_eq name key.items) (Some v) (lookup (λ k. bytes_eq name k.items) (e ∷ es))
+put_step : (name : List ℕ) (e : Bor (List ℕ) × ℕ) (es rest : List (Bor (List ℕ) × ℕ)) (key : Bor (List ℕ)) (v : ℕ) (c : Bool) → bytes_eq key.now e.0.now ≡ c → lookup (λ k. bytes_eq name k.now) rest ≡ cond (bytes_eq name key.now) (Some v) (lookup (λ k. bytes_eq name k.now) es) → lookup (λ k. bytes_eq name k.now) (cond c ((e.0, v) ∷ es) (e ∷ rest)) ≡ cond (bytes_eq name key.now) (Some v) (lookup (λ k. bytes_eq name k.now) (e ∷ es))
 put_step name e es rest key v true same onward =
-    let alike : bytes_eq name e.0.items ≡ bytes_eq name key.items = ap (bytes_eq name) (sym (same_bytes key.items e.0.items same)) in
-    put_twice (bytes_eq name e.0.items) v e.1 (lookup (λ k. bytes_eq name k.items) es) ∙ ap (λ b. cond b (Some v) (lookup (λ (k : Vec ℕ Global). bytes_eq name k.items) (e ∷ es))) alike
+    let alike : bytes_eq name e.0.now ≡ bytes_eq name key.now = ap (bytes_eq name) (sym (same_bytes key.now e.0.now same)) in
+    put_twice (bytes_eq name e.0.now) v e.1 (lookup (λ k. bytes_eq name k.now) es) ∙ ap (λ b. cond b (Some v) (lookup (λ (k : Bor (List ℕ)). bytes_eq name k.now) (e ∷ es))) alike
 put_step name e es rest key v false other onward =
-    ap (cond (bytes_eq name e.0.items) (Some e.1)) onward
-    ∙ put_apart (bytes_eq name e.0.items) (bytes_eq name key.items) v e.1 (lookup (λ k. bytes_eq name k.items) es) (λ one two. false≢true (sym other ∙ ap (bytes_eq key.items) (sym (same_bytes name e.0.items one)) ∙ ap (λ n. bytes_eq n name) (sym (same_bytes name key.items two)) ∙ (bytes_eq-Decides name name).1 refl))
+    ap (cond (bytes_eq name e.0.now) (Some e.1)) onward
+    ∙ put_apart (bytes_eq name e.0.now) (bytes_eq name key.now) v e.1 (lookup (λ k. bytes_eq name k.now) es) (λ one two. false≢true (sym other ∙ ap (bytes_eq key.now) (sym (same_bytes name e.0.now one)) ∙ ap (λ n. bytes_eq n name) (sym (same_bytes name key.now two)) ∙ (bytes_eq-Decides name name).1 refl))
 
-pub put_found : (name : List ℕ) (es : List (Vec ℕ Global × ℕ)) (key : Vec ℕ Global) (v : ℕ) → lookup (λ k. bytes_eq name k.items) (insert_entry (λ a b. bytes_eq a.items b.items) es key v) ≡ cond (bytes_eq name key.items) (Some v) (lookup (λ k. bytes_eq name k.items) es)
+pub put_found : (name : List ℕ) (es : List (Bor (List ℕ) × ℕ)) (key : Bor (List ℕ)) (v : ℕ) → lookup (λ k. bytes_eq name k.now) (insert_entry (λ a b. bytes_eq a.now b.now) es key v) ≡ cond (bytes_eq name key.now) (Some v) (lookup (λ k. bytes_eq name k.now) es)
 put_found name [] key v = refl
-put_found name (e ∷ es) key v = put_step name e es (insert_entry (λ a b. bytes_eq a.items b.items) es key v) key v (bytes_eq key.items e.0.items) refl (put_found name es key v)
+put_found name (e ∷ es) key v = put_step name e es (insert_entry (λ a b. bytes_eq a.now b.now) es key v) key v (bytes_eq key.now e.0.now) refl (put_found name es key v)
 
 -- FIRST PLACES
 past : {X : Type 0} (xs : List X) (i : ℕ) → length xs ≤ i → drop i xs ≡ []
@@ -45,6 +46,11 @@ past [] zero h = refl
 past [] (suc i) h = refl
 past (x ∷ xs) zero h = absurd (omega (arith, h))
 past (x ∷ xs) (suc i) h = past xs i (omega (arith, h))
+
+pub none_past : {X : Type 0} (xs : List X) (i : ℕ) (x : X) → length xs ≤ i → slice_get xs i ≡ Some x → ⊥
+none_past [] i x h there = none-some x there
+none_past (y ∷ ys) zero x h there = omega (arith, h)
+none_past (y ∷ ys) (suc i) x h there = none_past ys i x (omega (arith, h)) there
 
 pub position_past : {X : Type 0} (t : X → Bool) (xs : List X) (i : ℕ) → length xs ≤ i → position_from t i (drop i xs) ≡ None
 position_past t xs i h = ap (position_from t i) (past xs i h)

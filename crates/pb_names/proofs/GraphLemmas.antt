@@ -1,12 +1,14 @@
 -- Imports as graphs: what they lead to are files, and what is reached along them is seen.
-use Rattle.std.proofs.Common.{◌≡◌, ℕ, zero, suc, ◌+◌, ◌<◌, ◌≤◌, ◌↔◌, ◌⊎◌, inl, inr, ⊎_elim, List, [], ◌∷◌, ◌++◌, map, take, length, get_or, Bool, true, false, ◌==◌, refl, sym, ap, ◌∙◌, subst, arith, IsTrue, Contains, Option, Some, None, cond, Vec, Global}
+use Rattle.std.proofs.Common.{◌≡◌, ℕ, zero, suc, ◌+◌, ◌<◌, ◌≤◌, ◌≢◌, ◌↔◌, ◌⊎◌, inl, inr, ⊎_elim, List, [], ◌∷◌, ◌++◌, map, take, length, get_or, Bool, true, false, ◌==◌, ◌&&◌, not, refl, sym, ap, ◌∙◌, subst, arith, IsTrue, Contains, Option, Some, None, cond, Vec, Global}
 use Rattle.std.specs.Prelude.{ℤ, pos, negsuc, filter_map, option_and_then, option_to_list, slice_get}
 use Rattle.std.specs.List.{AllByRecursion, cons_option, enumerate_from, position_from}
 use Rattle.std.specs.Cmp.{unsigned_Decides}
 use Rattle.std.specs.Str.{bytes_eq}
+use Rattle.std.proofs.lemmas.Bool.{cases_eq, false≢true}
 use Rattle.std.proofs.lemmas.Option.{none-some}
 use Rattle.std.proofs.lemmas.List.{length-map, take_more, take_all, map-append}
 use Rattle.std.proofs.lemmas.List.Elements.{filter_map-append}
+use Rattle.std.proofs.lemmas.Slice.Eq.{bytes_eq-Decides}
 use Rattle.pb_schema.specs.Types.{FileView}
 use Rattle.pb_schema.specs.Imports.{imports_of, Reaches, directly, further}
 use Rattle.pb_schema.proofs.ImportLemmas.{next_files, reaches_from, reached_by}
@@ -19,7 +21,7 @@ use Rattle.pb_names.specs.Graphs.{target_at, AreImports, LeadToFiles, KnowsSight
 use Rattle.pb_names.specs.declared.imports.Imports.{Imports}
 use Rattle.pb_names.specs.declared.sight.Sight.{Sight}
 use Rattle.pb_names.proofs.AnyLemmas.{or_cases, or_first, or_second, same_test}
-use Rattle.pb_names.proofs.FirstsLemmas.{position_from-first}
+use Rattle.pb_names.proofs.FirstsLemmas.{same_bytes, none_past, position_from-first}
 
 some_same : {A : Type 0} (a b : A) → Some a ≡ Some b → a ≡ b
 some_same a b h = cc
@@ -85,6 +87,83 @@ marks_alike t u same n [] = refl
 marks_alike t u same n (f ∷ fs) =
     ap (λ o. is_file o n ∷ map (λ (e : ℕ × DeclaredFile). is_file (t e.1.name) e.0) (enumerate_from (n + 1) fs)) (same f.name)
     ∙ ap (λ l. is_file (u f.name) n ∷ l) (marks_alike t u same (n + 1) fs)
+
+-- THE FIRST FILE OF EACH NAME
+is_at : (o : Option ℕ) (i : ℕ) → is_file o i ≡ true → o ≡ Some i
+is_at None i h = absurd (false≢true h)
+is_at (Some j) i h = ap Some ((unsigned_Decides j i).0 h)
+
+here : (i : ℕ) → is_file (Some i) i ≡ true
+here i = (unsigned_Decides i i).1 refl
+
+elsewhere : (j i : ℕ) (b : Bool) → i ≢ j → is_file (Some j) i ≡ b → b ≡ false
+elsewhere j i true ne is = absurd (ne (sym (some_same j i (is_at (Some j) i is))))
+elsewhere j i false ne is = refl
+
+swapped : (a b : List ℕ) → bytes_eq a b ≡ true → bytes_eq b a ≡ true
+swapped a b h = (bytes_eq-Decides b a).1 (sym (same_bytes a b h))
+
+-- from an index on, each file is marked where its name leads to it, and names lead to files of that name
+pub record Marked (fs : List DeclaredFile) (named : List ℕ → Option ℕ) (marks : List Bool) (k : ℕ) : Type 0 where
+  pub leads : (name : List ℕ) (i : ℕ) (f : DeclaredFile) → named name ≡ Some i → slice_get fs i ≡ Some f → bytes_eq name f.name ≡ true
+  pub each : (i : ℕ) (f : DeclaredFile) → k ≤ i → slice_get fs i ≡ Some f → get_or marks i false ≡ is_file (named f.name) i
+
+pub marked_none : (fs : List DeclaredFile) (named : List ℕ → Option ℕ) (marks : List Bool) (k : ℕ) → length fs ≤ k → ((name : List ℕ) → named name ≡ None) → Marked fs named marks k
+marked_none fs named marks k h none = record {
+  leads = λ name i f is there. absurd (none-some i (sym (none name) ∙ is));
+  each = λ i f from there. absurd (none_past fs i f (omega (arith, h, from)) there);
+}
+
+never_both : (x : Bool) → (x && not x) ≡ false
+never_both true = refl
+never_both false = refl
+
+alone : (x y : Bool) → (x ≡ true → y ≡ true → ⊥) → (x && not y) ≡ x
+alone true true apart = absurd (apart refl refl)
+alone true false apart = refl
+alone false y apart = refl
+
+pub marked_more : (fs : List DeclaredFile) (old new : List ℕ → Option ℕ) (before after : List Bool) (k : ℕ) (g : DeclaredFile) → slice_get fs k ≡ Some g → ((name : List ℕ) → new name ≡ cond (bytes_eq name g.name) (Some k) (old name)) → get_or after k false ≡ true → ((i : ℕ) → i ≢ k → get_or after i false ≡ (get_or before i false && not (is_file (old g.name) i))) → Marked fs old before (k + 1) → Marked fs new after k
+marked_more fs old new before after k g at put marked others was = record {
+  leads = λ name i f is there. leads_by name i f there (bytes_eq name g.name) refl (sym (put name) ∙ is);
+  each = λ i f from there. ⊎_elim (λ same. first_here i f same there) (λ ne. behind i f ne (omega (arith, from, ne)) there (bytes_eq f.name g.name) refl) (cases_eq i k);
+}
+  where
+    leads_by : (name : List ℕ) (i : ℕ) (f : DeclaredFile) → slice_get fs i ≡ Some f → (b : Bool) → bytes_eq name g.name ≡ b → cond b (Some k) (old name) ≡ Some i → bytes_eq name f.name ≡ true
+    leads_by name i f there true same is = subst (λ (h : DeclaredFile). bytes_eq name h.name ≡ true) (some_same g f (sym at ∙ ap (slice_get fs) (some_same k i is) ∙ there)) same
+    leads_by name i f there false other is = was.leads name i f is there
+
+    new_at : (f : DeclaredFile) (b : Bool) → bytes_eq f.name g.name ≡ b → new f.name ≡ cond b (Some k) (old f.name)
+    new_at f b is = put f.name ∙ ap (λ x. cond x (Some k) (old f.name)) is
+
+    first_here : (i : ℕ) (f : DeclaredFile) → i ≡ k → slice_get fs i ≡ Some f → get_or after i false ≡ is_file (new f.name) i
+    first_here i f same there =
+        let this : g ≡ f = some_same g f (sym at ∙ ap (slice_get fs) (sym same) ∙ there) in
+        let own : bytes_eq f.name g.name ≡ true = subst (λ (h : DeclaredFile). bytes_eq h.name g.name ≡ true) this ((bytes_eq-Decides g.name g.name).1 refl) in
+        ap (λ j. get_or after j false) same ∙ marked ∙ sym (ap (λ o. is_file o i) (new_at f true own) ∙ ap (is_file (Some k)) same ∙ here k)
+
+    behind : (i : ℕ) (f : DeclaredFile) → i ≢ k → k + 1 ≤ i → slice_get fs i ≡ Some f → (b : Bool) → bytes_eq f.name g.name ≡ b → get_or after i false ≡ is_file (new f.name) i
+    behind i f ne from there true same =
+        others i ne ∙ ap (λ x. x && not (is_file (old g.name) i)) (was.each i f from there ∙ ap (λ n. is_file (old n) i) (same_bytes f.name g.name same)) ∙ never_both (is_file (old g.name) i)
+        ∙ sym (ap (λ o. is_file o i) (new_at f true same) ∙ elsewhere k i (is_file (Some k) i) ne refl)
+    behind i f ne from there false other =
+        others i ne ∙ ap (λ x. x && not (is_file (old g.name) i)) (was.each i f from there)
+        ∙ alone (is_file (old f.name) i) (is_file (old g.name) i) (λ one two. false≢true (sym other ∙ swapped g.name f.name (was.leads g.name i f (is_at (old g.name) i two) there)))
+        ∙ sym (ap (λ o. is_file o i) (new_at f false other))
+
+pub all_marked : (named : List ℕ → Option ℕ) (n : ℕ) (fs : List DeclaredFile) (marks : List Bool) → length marks ≡ length fs → ((i : ℕ) (f : DeclaredFile) → slice_get fs i ≡ Some f → get_or marks i false ≡ is_file (named f.name) (n + i)) → marks ≡ map (λ e. is_file (named e.1.name) e.0) (enumerate_from n fs)
+all_marked named n [] [] size each = refl
+all_marked named n [] (m ∷ ms) size each = absurd (omega (arith, size))
+all_marked named n (f ∷ fs) [] size each = absurd (omega (arith, size))
+all_marked named n (f ∷ fs) (m ∷ ms) size each =
+    ap (λ x. x ∷ ms) (each 0 f refl ∙ ap (is_file (named f.name)) (plus_zero n))
+    ∙ ap (λ l. is_file (named f.name) n ∷ l) (all_marked named (n + 1) fs ms (omega (arith, size)) (λ i g there. each (suc i) g there ∙ ap (is_file (named g.name)) (one_on n i)))
+  where
+    plus_zero : (n : ℕ) → n + 0 ≡ n
+    plus_zero n = omega arith
+
+    one_on : (n i : ℕ) → n + suc i ≡ n + 1 + i
+    one_on n i = omega arith
 
 -- WHAT IS IMPORTED ARE FILES
 less_step : (n i j : ℕ) (b : Bool) (rest : Option ℕ) → (rest ≡ Some j → j < n + 1 + i) → cond b (Some n) rest ≡ Some j → j < n + suc i

@@ -13,7 +13,7 @@ use Rattle.pb_names.specs.Places.{ArePlaces, PutsPlace, next_place, counts, is_s
 use Rattle.pb_names.specs.declared.places.Places.{Places}
 use Rattle.pb_names.specs.declared.places.Want.{Want}
 use Rattle.pb_names.proofs.AnyLemmas.{and_cases, and_both}
-use Rattle.pb_names.proofs.FirstsLemmas.{position_from-first, step_at}
+use Rattle.pb_names.proofs.FirstsLemmas.{none_past, position_from-first, step_at}
 
 some_same : {A : Type 0} (a b : A) → Some a ≡ Some b → a ≡ b
 some_same a b h = cc
@@ -29,11 +29,6 @@ places_more ds n d old new there are puts = record {
       (λ other. puts.others i other ∙ are.next i e (omega (arith, from, other)) at named)
       (cases_eq i n);
 }
-
-none_past : {X : Type 0} (xs : List X) (i : ℕ) (x : X) → length xs ≤ i → slice_get xs i ≡ Some x → ⊥
-none_past [] i x h there = none-some x there
-none_past (y ∷ ys) zero x h there = omega (arith, h)
-none_past (y ∷ ys) (suc i) x h there = none_past ys i x (omega (arith, h)) there
 
 past : {X : Type 0} (xs : List X) (i : ℕ) → length xs ≤ i → drop i xs ≡ []
 past [] zero h = refl

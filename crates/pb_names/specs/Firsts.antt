@@ -6,4 +6,4 @@ use Rattle.pb_names.specs.declared.firsts.Firsts.{Firsts}
 
 -- the place that a table has for a name
 abbrev pub first_at : Firsts → List ℕ → Option ℕ
-first_at t name = get_by (λ k. bytes_eq name k.items) t.places
+first_at t name = get_by (λ k. bytes_eq name k.now) t.places

@@ -7,14 +7,14 @@ ghost use Rattle.pb_names.specs.Firsts.{first_at};
 use indexmap::IndexMap;
 use std::alloc::{AllocError, Global};
 
-/// The first place of each name.
+/// The first place of each name. Names stay where they stand, and none is copied.
 #[derive(Drop)]
-pub struct Firsts {
-    pub places: IndexMap<Vec<u8>, usize>,
+pub struct Firsts<'a> {
+    pub places: IndexMap<&'a [u8], usize>,
 }
 
-impl Firsts {
-    pub(crate) fn new(alloc: Global) -> Firsts
+impl<'a> Firsts<'a> {
+    pub(crate) fn new(alloc: Global) -> Firsts<'a>
         ensures { (name : List ℕ) → first_at result name ≡ None }
     {
         Firsts {
@@ -23,7 +23,7 @@ impl Firsts {
     }
 
     /// The same with room for so many names.
-    pub(crate) fn with_room(alloc: Global, size: usize) -> Result<Firsts, AllocError>
+    pub(crate) fn with_room(alloc: Global, size: usize) -> Result<Firsts<'a>, AllocError>
         ensures { IfOk result (λ t. (name : List ℕ) → first_at t name ≡ None) }
     {
         Ok(Firsts {
@@ -32,16 +32,11 @@ impl Firsts {
     }
 
     /// Puts a place for a name, before the one that is there. Answers that one.
-    pub(crate) fn put(
-        &mut self,
-        alloc: Global,
-        name: &[u8],
-        place: usize,
-    ) -> Result<Option<usize>, AllocError>
+    pub(crate) fn put(&mut self, name: &'a [u8], place: usize) -> Result<Option<usize>, AllocError>
         ensures later { IfOk result (λ old. old ≡ first_at self.old name.now) }
         ensures put { OnOk result ((other : List ℕ) → first_at self.new other ≡ (if bytes_eq other name.now then Some place else first_at self.old other)) }
     {
-        let later = self.places.insert(name.to_vec(alloc)?, place)?;
+        let later = self.places.insert(name, place)?;
         Ok(later)
     }
 

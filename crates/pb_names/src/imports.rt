@@ -1,6 +1,8 @@
 //! Which files each file imports, by their indexes.
 
-ghost use Rattle.std.specs.Prelude.{◌≡◌, ◌++◌, ℕ, List, map, string_bytes, filter_map, option_and_then, option_to_list, slice_get, IfOk, OnOk};
+ghost use Rattle.std.specs.Prelude.{◌≡◌, ◌&&◌, ◌++◌, ℕ, List, length, false, not, map, string_bytes};
+ghost use Rattle.std.specs.Prelude.{filter_map, option_and_then, option_to_list, slice_get, IfOk, OnOk};
+ghost use Rattle.std.specs.List.{slice_index_or};
 ghost use Rattle.pb_decl.specs.Decls.{DeclaredFile};
 ghost use Rattle.pb_decl.specs.View.{file_view};
 ghost use Rattle.pb_names.specs.Sees.{file_named, file_of, public_file_of};
@@ -20,17 +22,38 @@ pub struct Imports {
     pub are_first: Vec<bool>,
 }
 
-/// The first file of each name.
-pub(crate) fn files_by_name(alloc: Global, files: &[FileDecl]) -> Result<Firsts, AllocError>
-    ensures { IfOk result (λ t. (name : List ℕ) → first_at t name ≡ file_named (map file_view files.now) name) }
+/// Takes the mark of a file that is not the first of its name.
+fn unmark(marks: &mut Vec<bool>, file: Option<usize>)
+    ensures size { length marks.new.items ≡ length marks.old.items }
+    ensures unmarked { (i : ℕ) → slice_index_or marks.new.items i false ≡ (slice_index_or marks.old.items i false && not (is_file file i)) }
+{
+    let Some(file) = file else {
+        return;
+    };
+    if file >= marks.len() {
+        return;
+    }
+    marks[file] = false;
+}
+
+/// The first file of each name, and of each file whether it is that one.
+fn files_by_name<'a>(
+    alloc: Global,
+    files: &'a [FileDecl],
+) -> Result<(Firsts<'a>, Vec<bool>), AllocError>
+    ensures named { IfOk result (λ r. (name : List ℕ) → first_at r.0 name ≡ file_named (map file_view files.now) name) }
+    ensures marked { IfOk result (λ r. r.1.items ≡ first_marks (file_named (map file_view files.now)) (map file_view files.now)) }
 {
     let mut firsts = Firsts::with_room(alloc, files.len())?;
+    let mut marks: Vec<bool> = vec![in alloc; false; files.len()]?;
     let mut index = files.len();
     while index > 0 {
         index -= 1;
-        firsts.put(alloc, files[index].name.as_str().as_bytes(), index)?;
+        let later = firsts.put(files[index].name.as_str().as_bytes(), index)?;
+        unmark(&mut marks, later);
+        marks[index] = true;
     }
-    Ok(firsts)
+    Ok((firsts, marks))
 }
 
 /// The file that each import names.
@@ -115,26 +138,6 @@ fn imports_of(
     Ok((all, public))
 }
 
-fn is_first(firsts: &Firsts, file: &FileDecl, index: usize) -> bool
-    ensures { result ≡ is_file (first_at firsts.now (file_view file.now).name) index }
-{
-    match firsts.get(file.name.as_str().as_bytes()) {
-        Some(first) => first == index,
-        None => false,
-    }
-}
-
-/// Whether each file is the first of its name.
-fn first_marks(alloc: Global, firsts: &Firsts, files: &[FileDecl]) -> Result<Vec<bool>, AllocError>
-    ensures { IfOk result (λ v. v.items ≡ first_marks (first_at firsts.now) (map file_view files.now)) }
-{
-    let mut marks: Vec<bool> = Vec::with_capacity(alloc, files.len())?;
-    for (index, file) in files.iter().enumerate() {
-        marks.push(is_first(firsts, file, index))?;
-    }
-    Ok(marks)
-}
-
 impl Imports {
     /// The imports of these files, all and those that are public.
     pub fn new(alloc: Global, files: &[FileDecl]) -> Result<Imports, AllocError>
@@ -142,8 +145,7 @@ impl Imports {
         ensures lead { IfOk result LeadToFiles }
         ensures first { IfOk result (AreFirst (map file_view files.now)) }
     {
-        let firsts = files_by_name(alloc, files)?;
-        let are_first = first_marks(alloc, &firsts, files)?;
+        let (firsts, are_first) = files_by_name(alloc, files)?;
         let mut all = Vec::with_capacity(alloc, files.len())?;
         let mut public = Vec::with_capacity(alloc, files.len())?;
         for file in files {

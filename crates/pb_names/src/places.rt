@@ -22,9 +22,9 @@ pub(crate) enum Want {
 
 /// The places of each full name in the row.
 #[derive(Drop)]
-pub struct Places {
+pub struct Places<'a> {
     /// Of each full name the first one.
-    pub firsts: Firsts,
+    pub firsts: Firsts<'a>,
     /// Of each place the next one of the same full name.
     pub next: Vec<Option<usize>>,
 }
@@ -46,14 +46,9 @@ fn counts(want: Want, sight: &Sight, everywhere: bool, declaration: &Declaration
     is_wanted(want, declaration.item) && (everywhere || sight.sees(declaration.file))
 }
 
-impl Places {
+impl<'a> Places<'a> {
     /// Puts a declaration before those behind it.
-    fn put(
-        &mut self,
-        alloc: Global,
-        place: usize,
-        declaration: &Declaration,
-    ) -> Result<(), AllocError>
+    fn put(&mut self, place: usize, declaration: &'a Declaration) -> Result<(), AllocError>
         requires { place < vec_len self.old.next }
         ensures { OnOk result (PutsPlace place (declaration_view declaration.now) self.old self.new) }
     {
@@ -61,13 +56,13 @@ impl Places {
             return Ok(());
         }
         let name = declaration.full_name.as_str().as_bytes();
-        let later = self.firsts.put(alloc, name, place)?;
+        let later = self.firsts.put(name, place)?;
         self.next[place] = later;
         Ok(())
     }
 
     /// The places of the names in a row.
-    pub fn new(alloc: Global, row: &[Declaration]) -> Result<Places, AllocError>
+    pub fn new(alloc: Global, row: &'a [Declaration]) -> Result<Places<'a>, AllocError>
         ensures { IfOk result (ArePlaces (map declaration_view row.now) 0) }
     {
         let mut places = Places {
@@ -77,7 +72,7 @@ impl Places {
         let mut place = row.len();
         while place > 0 {
             place -= 1;
-            places.put(alloc, place, &row[place])?;
+            places.put(place, &row[place])?;
         }
         Ok(places)
     }

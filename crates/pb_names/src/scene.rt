@@ -21,8 +21,8 @@ use std::alloc::{AllocError, Global};
 
 /// The declarations by name, and what the file that was looked at last sees.
 #[derive(Drop)]
-pub struct Scene {
-    pub places: Places,
+pub struct Scene<'a> {
+    pub places: Places<'a>,
     /// The packages of all files.
     pub packages: NameSet,
     pub sight: Sight,
@@ -30,7 +30,7 @@ pub struct Scene {
     pub seen: NameSet,
 }
 
-impl Scene {
+impl Scene<'_> {
     /// The first type of a full name, among those of all files or those that are seen.
     fn type_named(&self, row: &[Declaration], everywhere: bool, name: &[u8]) -> Option<usize>
         requires { IsScene (map declaration_view row.now) self.now }

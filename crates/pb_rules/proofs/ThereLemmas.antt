@@ -10,6 +10,7 @@ use Rattle.pb_rules.specs.declared.cause.LinkCause.{LinkCause}
 use Rattle.pb_names.specs.Declarations.{a_message, a_field, a_oneof, an_enum, a_value, Declaration, fields_of, oneofs_of}
 use Rattle.pb_rules.specs.Rules.{World}
 use Rattle.pb_rules.specs.Link.{holds, NothingFails, IsWorldOf}
+use Rattle.pb_rules.proofs.PlacedLemmas.{zero_plus}
 use Rattle.pb_names.proofs.BehindLemmas.{AreBuilt, IsFileOf, declarations_built}
 use Rattle.std.proofs.lemmas.List.{length-map}
 use Rattle.pb_names.specs.Sees.{file_of, files_of}
@@ -92,16 +93,10 @@ get_front (y ∷ xs) ys (suc i) x h = get_front xs ys i x h
 
 get_back : {X Y : Type 0} (g : Y → X) (zs : List Y) (ys : List X) (i : ℕ) → slice_get (map g zs ++ ys) (length zs + i) ≡ slice_get ys i
 get_back g [] ys i = ap (slice_get ys) (zero_plus i)
-  where
-    zero_plus : (n : ℕ) → 0 + n ≡ n
-    zero_plus n = omega arith
 get_back g (z ∷ zs) ys i = ap (slice_get (map g (z ∷ zs) ++ ys)) (move (length zs) i) ∙ get_back g zs ys i
   where
     move : (n i : ℕ) → suc n + i ≡ suc (n + i)
     move n i = omega arith
-
-zero_plus : (n : ℕ) → 0 + n ≡ n
-zero_plus n = omega arith
 
 -- WHAT STANDS BEHIND A MESSAGE AND AN ENUM
 

@@ -128,12 +128,12 @@ fn type_names(
     Ok(found)
 }
 
-fn scene_of(
+fn scene_of<'a>(
     alloc: Global,
     files: &[FileDecl],
-    row: &[Declaration],
+    row: &'a [Declaration],
     imports: &Imports,
-) -> Result<Scene, AllocError>
+) -> Result<Scene<'a>, AllocError>
     requires row { map declaration_view row.now ≡ declarations (map file_view files.now) }
     requires exact { AreImports (map file_view files.now) imports.now }
     requires lead { LeadToFiles imports.now }

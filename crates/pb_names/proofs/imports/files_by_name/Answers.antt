@@ -1,27 +1,51 @@
-use Rattle.std.proofs.Common.{◌≡◌, ◌-◌, ◌∙◌, Some, sym, List, ℕ, map, drop, ap, cond, arith}
+use Rattle.std.proofs.Common.{◌≡◌, ◌-◌, ◌+◌, ◌<◌, ◌∙◌, Some, sym, List, ℕ, map, drop, length, get_or, false, true, ◌&&◌, not, ap, cond, subst, arith}
 use Rattle.std.specs.Prelude.{string_bytes}
 use Rattle.std.specs.List.{position_from}
 use Rattle.std.specs.Str.{bytes_eq}
+use Rattle.std.proofs.lemmas.List.{length-map, length-set, get_or-set_same, get_or-set_other}
 use Rattle.pb_schema.proofs.LookupLemmas.{get_viewed}
 use Rattle.pb_decl.specs.Decls.{DeclaredFile}
 use Rattle.pb_decl.specs.declared.decl.FileDecl.{FileDecl}
 use Rattle.pb_decl.specs.View.{file_view}
 use Rattle.pb_names.specs.Firsts.{first_at}
+use Rattle.pb_names.specs.Sees.{file_named}
+use Rattle.pb_names.specs.Graphs.{is_file}
 use Rattle.pb_names.proofs.FirstsLemmas.{firsts_more, position_from-first}
+use Rattle.pb_names.proofs.GraphLemmas.{Marked, marked_more, all_marked, marks_alike}
 use Rattle.pb_names.proofs.imports.files_by_name.Goals as goal
 
 pub loop-index-preserved : goal.loop-index-preserved
-loop-index-preserved c = (
-  omega arith,
-  λ name. firsts_more (λ (f : DeclaredFile). bytes_eq name f.name) (map file_view c.args.files.now) _ c.loop-index.index (file_view c.index-files-index.result) _ _ (omega arith)
-      (get_viewed file_view c.args.files.now _ c.index-files-index.result (omega arith) c.index-files-index.is)
-      (c.loop-index.invariant.1 name)
-      (c.in_ok-put.ensures.put name ∙ ap (λ (n : List ℕ). cond (bytes_eq name n) (Some (c.loop-index.index - 1)) (first_at c.loop-index.firsts name)) (c.as_bytes.ensures.value ∙ c.as_str.ensures.value ∙ ap (λ (f : FileDecl). string_bytes f.name) (sym c.index-files-index.is))),
-)
+loop-index-preserved c =
+    let F = map file_view c.args.files.now in
+    let k = c.loop-index.index - 1 in
+    let g = file_view c.index-files-index.result in
+    let t = first_at c.loop-index.firsts in
+    let held = c.unmark.new.marks.items in
+    let at = get_viewed file_view c.args.files.now k c.index-files-index.result (omega arith) c.index-files-index.is in
+    let named : c.as_bytes.result.now ≡ g.name = c.as_bytes.ensures.value ∙ c.as_str.ensures.value ∙ ap (λ (f : FileDecl). string_bytes f.name) (sym c.index-files-index.is) in
+    let inside : k < length held = omega (arith, c.unmark.ensures.size, c.loop-index.invariant.2) in
+    let up : c.loop-index.index ≡ k + 1 = omega arith in (
+      omega arith,
+      λ name. firsts_more (λ (f : DeclaredFile). bytes_eq name f.name) F k c.loop-index.index g _ _ up at (c.loop-index.invariant.1 name) (c.in_ok-later.ensures.put name ∙ ap (λ (n : List ℕ). cond (bytes_eq name n) (Some k) (t name)) named),
+      length-set held k true ∙ c.unmark.ensures.size ∙ c.loop-index.invariant.2,
+      marked_more F t (first_at c.put.new.self) c.loop-index.marks.items _ k g at (λ name. c.in_ok-later.ensures.put name ∙ ap (λ (n : List ℕ). cond (bytes_eq name n) (Some k) (t name)) named)
+          (get_or-set_same held k true false inside)
+          (λ i ne. get_or-set_other held k i true false ne ∙ c.unmark.ensures.unmarked i ∙ ap (λ o. get_or c.loop-index.marks.items i false && not (is_file o i)) (c.in_ok-later.ensures.later ∙ ap t named))
+          (subst (Marked F t c.loop-index.marks.items) up c.loop-index.invariant.3),
+    )
 
-pub returns : goal.returns
-returns c name =
+pub returns-clause-named : goal.returns-clause-named
+returns-clause-named c name =
     let t = λ (f : DeclaredFile). bytes_eq name f.name in
     let F = map file_view c.args.files.now in
     let done : c.loop-index.index ≡ 0 = omega arith in
     c.loop-index.invariant.1 name ∙ ap (λ n. position_from t n (drop n F)) done ∙ position_from-first t F
+
+pub returns-clause-marked : goal.returns-clause-marked
+returns-clause-marked c =
+    let F = map file_view c.args.files.now in
+    let t = first_at c.loop-index.firsts in
+    let done : c.loop-index.index ≡ 0 = omega arith in
+    all_marked t 0 F c.loop-index.marks.items (c.loop-index.invariant.2 ∙ sym (length-map c.args.files.now file_view))
+    (λ i f there. let at : i ≡ 0 + i = omega arith in c.loop-index.invariant.3.each i f (omega arith) there ∙ ap (is_file (t f.name)) at)
+    ∙ marks_alike t (file_named F) (λ name. c.loop-index.invariant.1 name ∙ ap (λ n. position_from (λ (f : DeclaredFile). bytes_eq name f.name) n (drop n F)) done ∙ position_from-first (λ (f : DeclaredFile). bytes_eq name f.name) F) 0 F

@@ -1,15 +1,13 @@
 use Rattle.std.proofs.Common.{◌∙◌, map, ap}
 use Rattle.pb_decl.specs.View.{file_view}
 use Rattle.pb_sets.specs.Reach.{graph_of}
-use Rattle.pb_names.specs.Firsts.{first_at}
-use Rattle.pb_names.specs.Sees.{file_named}
-use Rattle.pb_names.proofs.GraphLemmas.{lists_more, marks_alike, imports_in, public_in, imports_whole, lead_to_files}
+use Rattle.pb_names.proofs.GraphLemmas.{lists_more, imports_in, public_in, imports_whole, lead_to_files}
 use Rattle.pb_names.proofs.imports.Imports.new.Goals as goal
 
 pub loop-file-preserved : goal.loop-file-preserved
 loop-file-preserved c =
     let files = c.args.files.now in
-    let both = c.in_ok-near.ensures (map file_view files) c.in_ok-firsts.ensures in (
+    let both = c.in_ok-near.ensures (map file_view files) c.in_ok-firsts.ensures.named in (
       ap graph_of c.in_ok-push.ensures.items ∙ lists_more (imports_in files) files c.loop-file.file-index c.file-item.result c.loop-file.all.items c.in_ok-near.near c.loop-file-test.true c.file-item.is c.loop-file.invariant.0 both.0,
       ap graph_of c.in_ok-push-2.ensures.items ∙ lists_more (public_in files) files c.loop-file.file-index c.file-item.result c.loop-file.public.items c.in_ok-near.onward c.loop-file-test.true c.file-item.is c.loop-file.invariant.1 both.1,
     )
@@ -24,5 +22,4 @@ returns-clause-lead c =
 
 pub returns-clause-first : goal.returns-clause-first
 returns-clause-first c =
-    let files = map file_view c.args.files.now in
-    c.in_ok-are_first.ensures ∙ marks_alike (first_at c.in_ok-firsts.firsts) (file_named files) c.in_ok-firsts.ensures 0 files
+    c.in_ok-firsts.ensures.marked
