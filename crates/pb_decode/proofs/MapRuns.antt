@@ -273,6 +273,29 @@ map_open_here {pool} s rest number key kd left is from tag means = record {
   means = means;
 }
 
+-- IN WHAT IS READ WHOLE
+pub map_open_in : {pool : Types} {now : Part} (bytes : List ℕ) (left room number : ℕ) (key kd : Kind) → IsOpen pool now bytes left room → Means pool (part_context now) number 2 (purpose.Entry key kd) → IsMapOpen pool number key kd bytes (Some left) room
+map_open_in {pool} {now} bytes left room number key kd from means = record {
+  m = from.m;
+  depth = from.depth;
+  levels = from.levels;
+  at = from.at;
+  base = from.base;
+  p0 = from.p0;
+  frames = from.frames;
+  scope = from.stands.0;
+  now = now;
+  stands = from.stands.1;
+  level = from.stands.2;
+  means = means;
+}
+
+pub run_filled :
+    {pool : Types} {m depth levels : ℕ} {base : List Record} {p0 : Place} {frames : List Frame} {new : Part} {q : Place} (scope : Scope) (now : Part) (number room : ℕ) (items : List (MapKey × Value)) → scope.room ≡ room → new ≡ put_all_mapped number (pairs_view items) now
+    → Stands pool m depth levels base p0 frames (put_all_mapped number (pairs_view items) now) (more_in number (length items) scope) q → StandsIn pool m depth levels base p0 frames room new q
+run_filled {pool} {m} {depth} {levels} {base} {p0} {frames} {new} {q} scope now number room items level is there =
+    (more_in number (length items) scope, subst (λ (z : Part). Stands pool m depth levels base p0 frames z (more_in number (length items) scope) q) (sym is) there, more_room number (length items) scope ∙ level)
+
 -- A RUN GOES ON
 pub told_of : {A : Type 0} (P : A → Type 0) (o : Option A) (x : A) → o ≡ Some x → IfSome o P → P x
 told_of {A} P o x is told = subst (λ (z : Option A). IfSome z P) is told

@@ -3,7 +3,7 @@
 use super::answers::{answer_text, is_answered, is_refused};
 use super::sample::Schema;
 use super::words::{bytes_of, word};
-use super::worked::is_finished;
+use super::worked::{is_fed, is_finished};
 use pb_decode::{DecodeError, PushDecoder};
 use pb_wire::{Limits, put_varint};
 use std::alloc::Global;
@@ -143,4 +143,47 @@ pub(crate) fn are_alive(schema: &Schema, limits: Limits, words: &str) -> Result<
     let piece = bytes_of(schema.alloc, piece)?;
     let mut decoders = fed(schema, limits, &piece, count)?;
     are_told(schema.alloc, &mut decoders, told)
+}
+
+/// Entries of a map of messages, of which the last, under the key 20, has a message of these bytes.
+fn map_around(alloc: Global, before: &[u8], inner: &[u8]) -> Result<Vec<u8>, Fail> {
+    let mut last = Vec::new(alloc);
+    last.extend_from_slice(b"\x08\x14\x12")?;
+    last.extend_from_slice(put_varint(inner.len() as u64).as_slice())?;
+    last.extend_from_slice(inner)?;
+    let mut entries = Vec::new(alloc);
+    entries.extend_from_slice(before)?;
+    entries.push(0x62)?;
+    entries.extend_from_slice(put_varint(last.len() as u64).as_slice())?;
+    entries.extend_from_slice(&last)?;
+    Ok(entries)
+}
+
+fn maps_around(
+    alloc: Global,
+    before: &[u8],
+    innermost: Vec<u8>,
+    levels: u32,
+) -> Result<Vec<u8>, Fail> {
+    let mut bytes = innermost;
+    for _ in 0..levels {
+        bytes = map_around(alloc, before, &bytes)?;
+    }
+    Ok(bytes)
+}
+
+/// Whether maps in maps are answered as told, at once and byte by byte.
+pub(crate) fn are_nested(schema: &Schema, limits: Limits, words: &str) -> Result<bool, Fail> {
+    let (levels, words) = word(words);
+    let (before, words) = word(words);
+    let (innermost, told) = word(words);
+    let levels = levels.parse::<u32>()?;
+    let before = bytes_of(schema.alloc, before)?;
+    let innermost = bytes_of(schema.alloc, innermost)?;
+    let bytes = maps_around(schema.alloc, &before, innermost, levels)?;
+    let at_once = schema.decode(&bytes, limits);
+    Ok(
+        is_answered(schema.alloc, at_once, told)?
+            && is_fed(schema, limits, b"", &bytes, 1, told)?,
+    )
 }

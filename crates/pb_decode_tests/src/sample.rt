@@ -13,7 +13,8 @@
 //! message Q { optional int32 a = 1; repeated int32 e = 2; optional group G = 3 { optional int32 x = 1; } optional C k = 4;
 //! repeated C l = 5 [packed = true]; }
 //! message R { repeated group H = 1 { optional R r = 1; optional int32 x = 2; optional group W = 3 { optional int32 x = 1; optional C k = 2;
-//! repeated group Y = 3 { optional int32 x = 1; } optional string t = 5; } } oneof o { group V = 3 { optional int32 x = 1; } int32 y = 4; C z = 7; }
+//! repeated group Y = 3 { optional int32 x = 1; } optional string t = 5; map<int32, int32> m = 6; } }
+//! oneof o { group V = 3 { optional int32 x = 1; } int32 y = 4; C z = 7; }
 //! repeated C l = 5; map<int32, R> m = 6; }
 //! message N { }
 //! message S { repeated S s = 1; repeated fixed32 h = 2; repeated double d = 3; }
@@ -74,6 +75,7 @@ const FIELDS_OF_W: &[FieldRow] = &[
     ("k", 2, C, Shape::Explicit),
     ("y", 3, Y, UNPACKED),
     ("t", 5, Kind::Text, Shape::Explicit),
+    ("m", 6, Kind::Int32, Shape::Map { key: Kind::Int32 }),
 ];
 
 const S: Kind = Kind::Message(MessageId(10));

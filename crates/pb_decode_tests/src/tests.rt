@@ -1,12 +1,12 @@
 //! The tests: each reads its rows, in a pool of the sample's types.
 
 use super::devices::{is_framed, is_read};
-use super::hostile::{are_alive, are_falling, are_fronts, is_repeated};
+use super::hostile::{are_alive, are_falling, are_fronts, are_nested, is_repeated};
 use super::messages::{is_merged, is_put_onto};
 use super::pieces::is_pushed;
 use super::rows::{
     ALIVE, CLOSED, CLOSED_GROWTHS, CLOSED_RUNS, DEEP, FALLING, FLAT, FRAMES, FRONTS, GROUP_GROWTHS,
-    GROUPS, GROWTHS, LISTS, MANY_RECORDS, MERGES, NESTED, ONE_RECORD, ONTO, PIECES, RECORDS, RUNS,
+    GROUPS, GROWTHS, LISTS, MANY_RECORDS, MAPS, MAPS_IN_GROUPS, MAPS_IN_MAPS, MERGES, NESTED, ONE_RECORD, ONTO, PIECES, RECORDS, RUNS,
     WORKED,
 };
 use super::sample::{Schema, sample};
@@ -33,6 +33,7 @@ fn is_told(schema: &Schema, row: &str) -> Result<bool, Fail> {
         "fronts" => are_fronts(schema, limits, words),
         "falling" => are_falling(schema, limits, words),
         "alive" => are_alive(schema, limits, words),
+        "nest" => are_nested(schema, limits, words),
         _ => Err(Fail::new("no verb")),
     }
 }
@@ -111,6 +112,27 @@ fn runs_of_closed_enums(rt: HostRuntime) -> Result<(), Fail> {
 #[test]
 fn messages_in_lists(rt: HostRuntime) -> Result<(), Fail> {
     let wrong = wrong_row(rt.alloc(), "S", LISTS)?;
+    assert!(rt; wrong.is_none(), "{wrong:?}");
+    Ok(())
+}
+
+#[test]
+fn runs_of_entries(rt: HostRuntime) -> Result<(), Fail> {
+    let wrong = wrong_row(rt.alloc(), "T", MAPS)?;
+    assert!(rt; wrong.is_none(), "{wrong:?}");
+    Ok(())
+}
+
+#[test]
+fn runs_of_entries_in_groups(rt: HostRuntime) -> Result<(), Fail> {
+    let wrong = wrong_row(rt.alloc(), "R", MAPS_IN_GROUPS)?;
+    assert!(rt; wrong.is_none(), "{wrong:?}");
+    Ok(())
+}
+
+#[test]
+fn maps_in_maps(rt: HostRuntime) -> Result<(), Fail> {
+    let wrong = wrong_row(rt.alloc(), "T", MAPS_IN_MAPS)?;
     assert!(rt; wrong.is_none(), "{wrong:?}");
     Ok(())
 }

@@ -35,7 +35,7 @@ fn in_pieces<'p>(
 }
 
 /// Whether the answer to a piece, and to the rest in pieces of so many bytes, is as told, and the last.
-fn is_fed(
+pub(crate) fn is_fed(
     schema: &Schema,
     limits: Limits,
     first: &[u8],

@@ -8,6 +8,7 @@ ghost use Rattle.pb_decode.specs.Open.Purposes.{Means, part_context};
 ghost use Rattle.pb_decode.specs.Values.PayloadValue.{IsBytesPurpose};
 ghost use Rattle.pb_decode.specs.Reader.Fills.{IsOpen, HasTagAt, FillsOne, FillsAll};
 
+pub(crate) mod entries;
 pub(crate) mod group;
 
 use crate::close::closing::put_entry;
@@ -16,6 +17,7 @@ use crate::error::NoMemory;
 use crate::open::opening::{room_in, take_message};
 use crate::open::part::{Part, Slot};
 use crate::open::purpose::{Purpose, purpose_of};
+use crate::reader::fill::entries::fill_entries;
 use crate::reader::fill::group::{Extent, fill_group};
 use crate::reader::fill_run::fill_run;
 use crate::reader::quick_record::length_behind;
@@ -308,7 +310,7 @@ fn fill_length(
         Purpose::Message(kind, slot) => {
             fill_message(alloc, pool, part, tag, kind, slot, bytes, left, room)
         }
-        Purpose::Entry(key_kind, value_kind) => fill_entry(
+        Purpose::Entry(key_kind, value_kind) => fill_entries(
             alloc, pool, part, tag, key_kind, value_kind, bytes, left, room,
         ),
         Purpose::Packed(kind) => fill_list(alloc, pool, part, tag, kind, bytes, left, room),

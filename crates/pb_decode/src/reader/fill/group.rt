@@ -25,11 +25,12 @@ use std::alloc::Global;
 pub(crate) enum Extent {
     /// All that it has.
     Whole(usize),
-    /// So many, and one token more at most: it can't be taken.
+    /// So many, and one token or a run of map entries more at most: it can't be taken.
     Cut(usize),
 }
 
-/// How many bytes may have been read of a record behind whose tag something can't be taken.
+/// How many bytes may have been read of a record behind whose tag something can't be taken. Of a run of map entries the first alone
+/// counts: the others are tried once more where the reader stands, and the one that is refused ends that.
 fn read_of(tag: RecordTag, bytes: &[u8], left: u32) -> usize
     requires within { tag.size ≤ length bytes.now }
     requires small { length bytes.now < 2 ^ 31 }

@@ -1,18 +1,24 @@
 -- Record by record a part is filled, and what it holds with it.
 use Rattle.std.proofs.Common.{rules, ◌≡◌, ◌+◌, ◌-◌, ◌*◌, ◌<◌, ℕ, Some, ap, ◌∙◌, sym, refl, subst, arith, take, drop, length, length-drop, option_map}
 use Rattle.pb_wire.specs.Unknown.{records_of}
+use Rattle.pb_wire.specs.Fault.{Place}
+use Rattle.pb_wire.specs.Token.{given_at, passed}
 use Rattle.pb_value.specs.View.{body_view, key_view, value_view}
-use Rattle.pb_decode.specs.Open.Frames.{entry_part}
+use Rattle.pb_decode.specs.Open.Frames.{entry_part, one_more_in, Stands}
 use Rattle.pb_decode.specs.Open.PartView.{part_view}
+use Rattle.pb_decode.specs.Close.Mapped.{pairs_view, put_mapped, put_all_mapped}
+use Rattle.pb_decode.specs.Reader.Entries.{more_in}
 use Rattle.pb_decode.specs.Reader.Fills.{IsOpen, FillsTo}
 use Rattle.pb_decode.specs.Reader.Fills.Groups.{FillsToEnd}
 use Rattle.pb_decode.proofs.ReaderLemmas.{slice_from}
 use Rattle.pb_decode.proofs.NumberSteps.{number_is}
 use Rattle.pb_decode.proofs.WellLemmas.{can_hold}
 use Rattle.pb_decode.proofs.EndedLemmas.{entry_has_room, frame_can_hold}
-use Rattle.pb_decode.proofs.FillLemmas.{some_told, open_can, nothing_filled, still_open, filled_further, bytes_tag, entry_in_part, message_in_part, entry_inside, message_inside, entry_over, message_over, inner_shorter}
+use Rattle.pb_decode.proofs.FillLemmas.{some_told, open_can, nothing_filled, still_open, filled_further, bytes_tag, entry_in_part, message_in_part, entry_inside, message_inside, entry_over, message_over}
 use Rattle.pb_decode.proofs.GroupSteps.{unknown_group_means}
-use Rattle.pb_decode.proofs.GroupFills.{whole_told, whole_within, typed_tag, tag_within, field_group_in_part, field_group_inside, field_group_over, unknown_group_in_part, unknown_group_inside, unknown_group_over, end_reached}
+use Rattle.pb_decode.proofs.GroupFills.{whole_told, whole_within, typed_tag, field_group_in_part, field_group_inside, field_group_over, unknown_group_in_part, unknown_group_inside, unknown_group_over, end_reached}
+use Rattle.pb_decode.proofs.RunLemmas.{place_behind}
+use Rattle.pb_decode.proofs.MapRuns.{tag_of, entry_in_map, entry_taken, rises_in, map_open_in, run_filled, told_of, size_next, more_room, means_along, run_further, open_further, none_read}
 use Rattle.pb_decode.proofs.reader.fill.+fill.Goals as goal
 
 pub fill-loop-here-init : goal.fill-loop-here-init
@@ -25,7 +31,7 @@ pub fill-fill_record-requires : goal.fill-fill_record-requires
 fill-fill_record-requires t c =
     let size = ap length (slice_from c.loop-here.here c.args.bytes.now) ∙ length-drop c.loop-here.here c.args.bytes.now in
     let small = c.requires.small in
-    let less : 4 * (c.args.size - c.loop-here.here) + 2 < 4 * c.args.size + 3 = omega arith in (
+    let less : 8 * length (take (length c.args.bytes.now - c.loop-here.here) (drop c.loop-here.here c.args.bytes.now)) + 6 < 8 * length c.args.bytes.now + 7 = omega (arith, size) in (
       search (rules, less),
       (
         c.requires.rules,
@@ -59,8 +65,10 @@ fill_entry-fill-requires t c =
     let is = ap length (slice_from c.in-Some.start c.args.bytes.now) ∙ length-drop c.in-Some.start c.args.bytes.now in
     let small = c.requires.small in
     let has = bytes_tag c.args.bytes.now c.args.left c.args.tag.number c.args.tag.wire_type c.args.tag.size c.requires.bytes c.requires.tag in
-    let shorter = inner_shorter c.args.bytes.now c.args.left c.args.tag.number c.args.tag.size c.in-Some.start c.in-Some.size (has 0) (c.in-Some.ensures.whole 0 c.args.tag.number c.args.tag.wire_type (c.requires.tag 0)) c.requires.some c.in-Some.ensures.within.0 in
-    let less : 4 * c.in-Some.size + 3 < 4 * c.args.left = omega (arith, shorter) in (
+    let some = c.requires.some in
+    let later = c.in-Some.ensures.within.0 in
+    let within = c.in-Some.ensures.within.1 in
+    let less : 8 * length (take (length c.args.bytes.now - c.in-Some.start) (drop c.in-Some.start c.args.bytes.now)) + 7 < 8 * length c.args.bytes.now + 3 = omega (arith, is, some, later, within) in (
       search (rules, less),
       (
         c.requires.rules,
@@ -103,8 +111,10 @@ fill_message-fill-requires t c =
     let is = ap length (slice_from c.in-Some.start c.args.bytes.now) ∙ length-drop c.in-Some.start c.args.bytes.now in
     let small = c.requires.small in
     let has = bytes_tag c.args.bytes.now c.args.left c.args.tag.number c.args.tag.wire_type c.args.tag.size c.requires.bytes c.requires.tag in
-    let shorter = inner_shorter c.args.bytes.now c.args.left c.args.tag.number c.args.tag.size c.in-Some.start c.in-Some.size (has 0) (c.in-Some.ensures.whole 0 c.args.tag.number c.args.tag.wire_type (c.requires.tag 0)) c.requires.some c.in-Some.ensures.within.0 in
-    let less : 4 * c.in-Some.size + 3 < 4 * c.args.left = omega (arith, shorter) in (
+    let some = c.requires.some in
+    let later = c.in-Some.ensures.within.0 in
+    let within = c.in-Some.ensures.within.1 in
+    let less : 8 * length (take (length c.args.bytes.now - c.in-Some.start) (drop c.in-Some.start c.args.bytes.now)) + 7 < 8 * length c.args.bytes.now + 4 = omega (arith, is, some, later, within) in (
       search (rules, less),
       (
         c.requires.rules,
@@ -138,9 +148,9 @@ group::fill_field_group-fill_to_tag-requires t c =
     let small = c.requires.small in
     let some = c.requires.some in
     let start = typed_tag c.args.bytes.now c.args.left c.args.tag.number c.args.tag.wire_type 3 c.args.tag.size c.requires.start c.requires.tag in
-    let within = tag_within c.args.bytes.now c.args.left c.args.tag.number 3 c.args.tag.size start in
+    let within = c.requires.within in
     let before = c.saturating_sub-before.ensures in
-    let less : 4 * c.saturating_sub-before.result + 3 < 4 * c.args.left = omega (arith, within, some, before) in (
+    let less : 8 * length (take (length c.args.bytes.now - c.args.tag.size) (drop c.args.tag.size c.args.bytes.now)) + 7 < 8 * length c.args.bytes.now + 4 = omega (arith, is, some, within) in (
       search (rules, less),
       (
         c.requires.rules,
@@ -174,9 +184,9 @@ group::fill_unknown_group-fill_to_tag-requires t c =
     let small = c.requires.small in
     let some = c.requires.some in
     let start = typed_tag c.args.bytes.now c.args.left c.args.tag.number c.args.tag.wire_type 3 c.args.tag.size c.requires.start c.requires.tag in
-    let within = tag_within c.args.bytes.now c.args.left c.args.tag.number 3 c.args.tag.size start in
+    let within = c.requires.within in
     let before = c.saturating_sub-before.ensures in
-    let less : 4 * c.saturating_sub-before.result + 3 < 4 * c.args.left = omega (arith, within, some, before) in (
+    let less : 8 * length (take (length c.args.bytes.now - c.args.tag.size) (drop c.args.tag.size c.args.bytes.now)) + 7 < 8 * length c.args.bytes.now + 4 = omega (arith, is, some, within) in (
       search (rules, less),
       (
         c.requires.rules,
@@ -202,7 +212,7 @@ group::fill_group-purpose_of-meant-requires t c = open_can c.requires.rules c.re
 pub group::fill_group-fill_unknown_group-requires : goal.group::fill_group-fill_unknown_group-requires
 group::fill_group-fill_unknown_group-requires t c =
     let level = c.if-room-eq0.false in
-    let less : 4 * c.args.left < 4 * c.args.left + 1 = omega arith in (
+    let less : 8 * length c.args.bytes.now + 4 < 8 * length c.args.bytes.now + 5 = omega arith in (
       search (rules, less),
       (
         c.requires.rules,
@@ -238,7 +248,7 @@ group::fill_to_tag-fill_inside-requires t c =
     let size = ap length (slice_from here c.args.bytes.now) ∙ length-drop here c.args.bytes.now in
     let small = c.requires.small in
     let before = c.saturating_sub-before.ensures in
-    let less : 4 * c.saturating_sub-before.result + 2 < 4 * c.args.left + 3 = omega (arith, before) in (
+    let less : 8 * length (take (length c.args.bytes.now - here) (drop here c.args.bytes.now)) + 6 < 8 * length c.args.bytes.now + 7 = omega (arith, size) in (
       search (rules, less),
       (
         c.requires.rules,
@@ -272,3 +282,124 @@ group::fill_to_tag-returns-then-tag-number-clause-filled t c =
     let same : c.in-Some.tag.number ≡ c.args.number = omega (arith, own) in
     subst (λ (z : ℕ). FillsToEnd c.args.pool.now z (part_view c.args.part.now) (part_view c.loop-tag.part) c.args.bytes.now c.args.left c.args.room (c.loop-tag.here + c.in-Some.tag.size)) same
     (end_reached (part_view c.args.part.now) (part_view c.loop-tag.part) c.args.bytes.now c.args.left c.args.room c.in-Some.tag.number c.in-Some.tag.wire_type c.loop-tag.here c.saturating_sub-before.result c.in-Some.tag.size c.loop-tag.invariant.filled ends c.saturating_sub-before.ensures c.in-Some.ensures.whole)
+
+-- AN ENTRY OF A RUN is filled as where it is open, and what it closes to is its key and its value
+pub entries::entry_behind-fill-requires : goal.entries::entry_behind-fill-requires
+entries::entry_behind-fill-requires t c =
+    let is = ap length (slice_from c.in-Some.start c.args.bytes.now) ∙ length-drop c.in-Some.start c.args.bytes.now in
+    let small = c.requires.small in
+    let some = c.requires.within.0 in
+    let later = c.in-Some.ensures.within.0 in
+    let within = c.in-Some.ensures.within.1 in
+    let less : 8 * length (take (length c.args.bytes.now - c.in-Some.start) (drop c.in-Some.start c.args.bytes.now)) + 7 < 8 * length c.args.bytes.now + 1 = omega (arith, is, some, later, within) in (
+      search (rules, less),
+      (
+        c.requires.rules,
+        (
+          entry_in_map c.args.bytes.now c.args.left c.args.number c.args.tag.size c.in-Some.start c.in-Some.size c.args.room c.args.key_kind c.args.value_kind c.requires.rules c.requires.open
+              (tag_of c.args.bytes.now c.args.left c.args.tag.number c.args.tag.wire_type c.args.tag.size c.args.number c.requires.bytes c.requires.own c.requires.tag)
+              (λ at. c.in-Some.ensures.whole at c.args.tag.number c.args.tag.wire_type (c.requires.tag at)) c.requires.some,
+          (omega (arith, is, small), search (rules, is)),
+        ),
+      ),
+    )
+
+pub entries::entry_behind-key_or_default-key-requires : goal.entries::entry_behind-key_or_default-key-requires
+entries::entry_behind-key_or_default-key-requires t c =
+    let from = c.requires.open in
+    let has = tag_of c.args.bytes.now c.args.left c.args.tag.number c.args.tag.wire_type c.args.tag.size c.args.number c.requires.bytes c.requires.own c.requires.tag in
+    let read = entry_inside from.at c.args.left c.args.bytes.now c.args.number c.args.tag.size c.in-Some.start c.in-Some.size c.args.room c.args.key_kind c.args.value_kind c.requires.rules (from.scope, from.stands, from.level) (has from.at) (c.in-Some.ensures.whole from.at c.args.tag.number c.args.tag.wire_type (c.requires.tag from.at)) from.means c.requires.some (c.in_ok-fill.ensures c.if-not-branch.false) (ap part_view c.in-Entry.is) in
+    can_hold c.requires.rules (entry_part c.in-Entry.key_kind c.in-Entry.value_kind (option_map key_view c.in-Entry.key) (option_map value_view c.in-Entry.value)) read.1
+
+pub entries::entry_behind-returns-in-Entry-clause-put : goal.entries::entry_behind-returns-in-Entry-clause-put
+entries::entry_behind-returns-in-Entry-clause-put t c =
+    λ m depth levels at base p0 frames scope now stands level means.
+    let has = tag_of c.args.bytes.now c.args.left c.args.tag.number c.args.tag.wire_type c.args.tag.size c.args.number c.requires.bytes c.requires.own c.requires.tag in
+    let read = entry_inside at c.args.left c.args.bytes.now c.args.number c.args.tag.size c.in-Some.start c.in-Some.size c.args.room c.args.key_kind c.args.value_kind c.requires.rules (scope, stands, level) (has at) (c.in-Some.ensures.whole at c.args.tag.number c.args.tag.wire_type (c.requires.tag at)) means c.requires.some (c.in_ok-fill.ensures c.if-not-branch.false) (ap part_view c.in-Entry.is) in
+    entry_taken at c.args.left c.args.bytes.now c.args.number c.in-Some.start c.in-Some.size _ c.in-Entry.key_kind c.in-Entry.value_kind (option_map key_view c.in-Entry.key) (option_map value_view c.in-Entry.value) (key_view c.key_or_default-key.result) (value_view c.value_or_missing-value.result) c.requires.rules stands read
+    c.key_or_default-key.ensures c.value_or_missing-value.ensures
+
+-- ENTRY BY ENTRY the run goes on, and one stands behind it
+pub entries::read_entries-loop-here-init : goal.entries::read_entries-loop-here-init
+entries::read_entries-loop-here-init t c =
+    let none = ap length c.new-entries.ensures.items in
+    record {
+      within = omega arith;
+      few = omega (arith, none);
+      put = λ m depth levels at base p0 frames scope now stands level means. none_read at c.args.left c.args.bytes.now c.args.number c.new-entries.result.items c.new-entries.ensures.items stands;
+    }
+
+pub entries::read_entries-entry_at-requires : goal.entries::read_entries-entry_at-requires
+entries::read_entries-entry_at-requires t c =
+    let from = c.requires.open in
+    let here = c.loop-here.here in
+    let size = ap length (slice_from here c.args.bytes.now) ∙ length-drop here c.args.bytes.now in
+    let small = c.requires.small in
+    let within = c.loop-here.invariant.within in
+    let less : 8 * length (take (length c.args.bytes.now - here) (drop here c.args.bytes.now)) + 2 < 8 * length c.args.bytes.now + 3 = omega (arith, size) in (
+      search (rules, less),
+      (
+        c.requires.rules,
+        (
+          open_further from here c.left_behind.result c.loop-here.entries.items c.left_behind.ensures
+              (c.loop-here.invariant.put from.m from.depth from.levels from.at from.base from.p0 from.frames from.scope from.now from.stands from.level from.means).1,
+          (c.requires.some, omega (arith, size, small, within)),
+        ),
+      ),
+    )
+
+pub entries::read_entries-loop-here-preserved : goal.entries::read_entries-loop-here-preserved
+entries::read_entries-loop-here-preserved t c =
+    let size = ap length (slice_from c.loop-here.here c.args.bytes.now) ∙ length-drop c.loop-here.here c.args.bytes.now in
+    let used = told_of _ c.in_ok-entry.field-0 (c.in-Some.entry, c.in-Some.size) c.in-Some.is c.in_ok-entry.ensures.within in
+    let some = used.0 in
+    let enough = used.1 in
+    let within = c.loop-here.invariant.within in
+    let few = c.loop-here.invariant.few in
+    let more = ap length c.in_ok-push.ensures.items ∙ size_next c.loop-here.entries.items c.in-Some.entry in
+    record {
+      within = omega (arith, size, enough, within);
+      few = omega (arith, few, more, some);
+      put = λ m depth levels at base p0 frames scope now stands level means.
+          let p : Place = given_at at c.args.left c.args.bytes.now in
+          let items = c.loop-here.entries.items in
+          let was = c.loop-here.invariant.put m depth levels at base p0 frames scope now stands level means in
+          let behind = place_behind at c.args.left c.left_behind.result c.args.bytes.now c.loop-here.here c.left_behind.ensures in
+          let here = subst (Stands c.args.pool.now m depth levels base p0 frames (put_all_mapped c.args.number (pairs_view items) now) (more_in c.args.number (length items) scope)) behind was.1 in
+          let told = told_of _ c.in_ok-entry.field-0 (c.in-Some.entry, c.in-Some.size) c.in-Some.is
+          (c.in_ok-entry.ensures.put m depth levels (at + c.loop-here.here) base p0 frames (more_in c.args.number (length items) scope) (put_all_mapped c.args.number (pairs_view items) now) here
+          (more_room c.args.number (length items) scope ∙ level) (means_along c.args.pool.now c.args.number c.args.number (pairs_view items) now c.args.key_kind c.args.value_kind means)) in
+          run_further scope now p c.loop-here.here c.in-Some.size c.args.number items c.push.new.self.items c.in-Some.entry c.in_ok-push.ensures.items was.0 told.0
+          (subst (Stands c.args.pool.now m depth levels base p0 frames (put_mapped c.args.number (key_view c.in-Some.entry.0, value_view c.in-Some.entry.1) (put_all_mapped c.args.number (pairs_view items) now)) (one_more_in c.args.number (more_in c.args.number (length items) scope)))
+          (ap (λ (z : Place). passed z c.in-Some.size) (sym behind)) told.1);
+    }
+
+-- THE RUN goes into its map
+pub entries::fill_entries-read_entries-requires : goal.entries::fill_entries-read_entries-requires
+entries::fill_entries-read_entries-requires t c =
+    let level = c.if-room-eq0.false in
+    let small = c.requires.small in
+    let less : 8 * length c.args.bytes.now + 3 < 8 * length c.args.bytes.now + 4 = omega arith in (
+      search (rules, less),
+      (
+        c.requires.rules,
+        (
+          map_open_in c.args.bytes.now c.args.left c.args.room c.args.tag.number c.args.key_kind c.args.value_kind c.requires.open c.requires.means,
+          (omega (arith, level), omega (arith, small)),
+        ),
+      ),
+    )
+
+pub entries::fill_entries-put_entries-requires-clause-fits : goal.entries::fill_entries-put_entries-requires-clause-fits
+entries::fill_entries-put_entries-requires-clause-fits t c =
+    let from = c.requires.open in
+    (c.in_ok-entries.ensures.put from.m from.depth from.levels from.at from.base from.p0 from.frames from.stands.0 (part_view c.args.part.now) from.stands.1 from.stands.2 c.requires.means).0
+
+pub entries::fill_entries-put_entries-requires-clause-rises : goal.entries::fill_entries-put_entries-requires-clause-rises
+entries::fill_entries-put_entries-requires-clause-rises t c = rises_in c.requires.rules (part_view c.args.part.now) c.requires.open.stands.1
+
+pub entries::fill_entries-returns-clause-filled : goal.entries::fill_entries-returns-clause-filled
+entries::fill_entries-returns-clause-filled t c =
+    λ m depth levels at base p0 frames there.
+    run_filled there.0 (part_view c.args.part.now) c.args.tag.number c.args.room c.in_ok-entries.entries.items there.2 c.in_ok-put_entries.ensures
+    (c.in_ok-entries.ensures.put m depth levels at base p0 frames there.0 (part_view c.args.part.now) there.1 there.2 c.requires.means).1

@@ -1,23 +1,31 @@
-use Rattle.std.proofs.Common.{◌+◌, ◌*◌, ◌≤◌, ◌-◌, length}
+use Rattle.std.proofs.Common.{◌≡◌, ◌+◌, ◌*◌, ◌≤◌, ◌-◌, ℕ, List, length}
+use Rattle.pb_wire.specs.Record.{Record}
+use Rattle.pb_wire.specs.Fault.{Place}
+use Rattle.pb_wire.specs.Token.{given_at, passed}
+use Rattle.pb_decode.specs.declared.open.purpose.Purpose.TheVariants.{Entry}
+use Rattle.pb_decode.specs.Open.Frames.{Part, Frame, Scope, Stands}
 use Rattle.pb_decode.specs.Open.PartView.{part_view}
+use Rattle.pb_decode.specs.Open.Purposes.{Means, part_context}
+use Rattle.pb_decode.specs.Close.Mapped.{pairs_view, put_all_mapped, FitMapped}
+use Rattle.pb_decode.specs.Reader.Entries.{more_in}
 use Rattle.pb_decode.specs.Reader.Fills.{FillsTo}
 use Rattle.pb_decode.proofs.reader.fill.+fill.Given as goal
 
--- a payload is shorter than what holds its record
+-- fewer bytes are at hand where a payload begins than where its record does
 abbrev pub decreases-fill : goal.decreases-fill
-decreases-fill l = 4 * l.size + 3
+decreases-fill l = 8 * length l.bytes.now + 7
 
 abbrev pub decreases-fill_record : goal.decreases-fill_record
-decreases-fill_record l = 4 * l.left + 2
+decreases-fill_record l = 8 * length l.bytes.now + 6
 
 abbrev pub decreases-fill_length : goal.decreases-fill_length
-decreases-fill_length l = 4 * l.left + 1
+decreases-fill_length l = 8 * length l.bytes.now + 5
 
 abbrev pub decreases-fill_entry : goal.decreases-fill_entry
-decreases-fill_entry l = 4 * l.left
+decreases-fill_entry l = 8 * length l.bytes.now + 3
 
 abbrev pub decreases-fill_message : goal.decreases-fill_message
-decreases-fill_message l = 4 * l.left
+decreases-fill_message l = 8 * length l.bytes.now + 4
 
 abbrev pub invariant-fill-loop-here : goal.invariant-fill-loop-here
 invariant-fill-loop-here l = record {
@@ -28,21 +36,21 @@ invariant-fill-loop-here l = record {
 abbrev pub decreases-fill-loop-here : goal.decreases-fill-loop-here
 decreases-fill-loop-here l = l.size - l.here
 
--- and so is a group
+-- and where the first record of a group does
 abbrev pub decreases-group::fill_to_tag : goal.decreases-group::fill_to_tag
-decreases-group::fill_to_tag l = 4 * l.left + 3
+decreases-group::fill_to_tag l = 8 * length l.bytes.now + 7
 
 abbrev pub decreases-group::fill_inside : goal.decreases-group::fill_inside
-decreases-group::fill_inside l = 4 * l.left + 2
+decreases-group::fill_inside l = 8 * length l.bytes.now + 6
 
 abbrev pub decreases-group::fill_group : goal.decreases-group::fill_group
-decreases-group::fill_group l = 4 * l.left + 1
+decreases-group::fill_group l = 8 * length l.bytes.now + 5
 
 abbrev pub decreases-group::fill_field_group : goal.decreases-group::fill_field_group
-decreases-group::fill_field_group l = 4 * l.left
+decreases-group::fill_field_group l = 8 * length l.bytes.now + 4
 
 abbrev pub decreases-group::fill_unknown_group : goal.decreases-group::fill_unknown_group
-decreases-group::fill_unknown_group l = 4 * l.left
+decreases-group::fill_unknown_group l = 8 * length l.bytes.now + 4
 
 abbrev pub invariant-group::fill_to_tag-loop-tag : goal.invariant-group::fill_to_tag-loop-tag
 invariant-group::fill_to_tag-loop-tag l = record {
@@ -52,3 +60,30 @@ invariant-group::fill_to_tag-loop-tag l = record {
 
 abbrev pub decreases-group::fill_to_tag-loop-tag : goal.decreases-group::fill_to_tag-loop-tag
 decreases-group::fill_to_tag-loop-tag l = length l.bytes - l.here
+
+-- a run of entries
+abbrev pub decreases-entries::fill_entries : goal.decreases-entries::fill_entries
+decreases-entries::fill_entries l = 8 * length l.bytes.now + 4
+
+abbrev pub decreases-entries::read_entries : goal.decreases-entries::read_entries
+decreases-entries::read_entries l = 8 * length l.bytes.now + 3
+
+abbrev pub decreases-entries::entry_at : goal.decreases-entries::entry_at
+decreases-entries::entry_at l = 8 * length l.bytes.now + 2
+
+abbrev pub decreases-entries::entry_behind : goal.decreases-entries::entry_behind
+decreases-entries::entry_behind l = 8 * length l.bytes.now + 1
+
+abbrev pub invariant-entries::read_entries-loop-here : goal.invariant-entries::read_entries-loop-here
+invariant-entries::read_entries-loop-here l = record {
+  within : l.here ≤ length l.bytes;
+  few : length l.entries.items ≤ l.here;
+  put :
+      (m depth levels at : ℕ) (base : List Record) (p0 : Place) (frames : List Frame) (scope : Scope) (now : Part)
+      → Stands l.pool m depth levels base p0 frames now scope (given_at at l.left l.bytes) → scope.room ≡ l.room → Means l.pool (part_context now) l.number 2 (Entry l.key_kind l.value_kind)
+      → FitMapped l.number (pairs_view l.entries.items) now
+      × Stands l.pool m depth levels base p0 frames (put_all_mapped l.number (pairs_view l.entries.items) now) (more_in l.number (length l.entries.items) scope) (passed (given_at at l.left l.bytes) l.here);
+}
+
+abbrev pub decreases-entries::read_entries-loop-here : goal.decreases-entries::read_entries-loop-here
+decreases-entries::read_entries-loop-here l = length l.bytes - l.here
