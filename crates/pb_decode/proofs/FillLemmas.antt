@@ -59,7 +59,7 @@ pub without_absent : (n : ℕ) (v : Message) → get_field n (fields_of v) ≡ N
 without_absent n v is = ap (with_fields v) (drop_absent n (fields_of v) is) ∙ same_message v
 
 -- RECORD BY RECORD: none is read yet
-place_before : (p : Place) → p ≡ passed p 0
+pub place_before : (p : Place) → p ≡ passed p 0
 place_before p = sym (by_known p.at p.known p.rest)
   where
     known_before : (e : Option ℕ) → option_map (λ (z : ℕ). z - 0) e ≡ e
@@ -135,7 +135,7 @@ message_begun {pool} {m} {depth} {levels} {base} {p0} {frames} {scope} {now} at 
 -- so it is open, in a part that is
 pub entry_in_part :
     {pool : Types} {now : Part} (bytes : List ℕ) (left number tag_size start size room : ℕ) (key kd : Kind) → IsPool pool → IsOpen pool now bytes left room
-    → ((at : ℕ) → HasTag (given_at at (Some left) bytes) number 2 (passed (given_at at (Some left) bytes) tag_size)) → ((at : ℕ) → HasLength (passed (given_at at (Some left) bytes) tag_size) size (passed (given_at at (Some left) bytes) start))
+    → HasTagAt bytes (Some left) number 2 tag_size → ((at : ℕ) → HasLength (passed (given_at at (Some left) bytes) tag_size) size (passed (given_at at (Some left) bytes) start))
     → Means pool (part_context now) number 2 (purpose.Entry key kd) → 0 < room → IsOpen pool (entry_part key kd None None) (take (length bytes - start) (drop start bytes)) size (room - 1)
 entry_in_part {pool} {now} bytes left number tag_size start size room key kd ok from has l means some = record {
   m = from.m;
@@ -150,7 +150,7 @@ entry_in_part {pool} {now} bytes left number tag_size start size room key kd ok 
 
 pub message_in_part :
     {pool : Types} {now : Part} (bytes : List ℕ) (left number tag_size start size room below : ℕ) (j : MessageId) (s : Slot) (outer : Part) (w : Message) → IsPool pool → IsOpen pool now bytes left room → below ≡ room_in s room
-    → ((at : ℕ) → HasTag (given_at at (Some left) bytes) number 2 (passed (given_at at (Some left) bytes) tag_size)) → ((at : ℕ) → HasLength (passed (given_at at (Some left) bytes) tag_size) size (passed (given_at at (Some left) bytes) start))
+    → HasTagAt bytes (Some left) number 2 tag_size → ((at : ℕ) → HasLength (passed (given_at at (Some left) bytes) tag_size) size (passed (given_at at (Some left) bytes) start))
     → Means pool (part_context now) number 2 (purpose.Message j s) → IsRoomFor room (purpose.Message j s) → outer ≡ without_message s now → w ≡ taken_message s now
     → IsOpen pool (message_part j.0 w) (take (length bytes - start) (drop start bytes)) size below
 message_in_part {pool} {now} bytes left number tag_size start size room below j s outer w ok from is_below has l means some is_outer is_taken = record {
@@ -222,9 +222,9 @@ pub message_inside :
 message_inside {pool} {m} {depth} {levels} {base} {p0} {frames} {now} at left bytes number tag_size start size room below j s outer w {k} {v} {filled} ok there is_below has l means some is_outer is_taken fills is =
     filled_inside at bytes start size below (message_part j.0 w) filled (message_part k v) (message_begun at left bytes number tag_size start size room below j s outer w ok there.1 there.2 is_below has l means some is_outer is_taken) fills is
 
--- the tag of a record of bytes
-pub bytes_tag : (bytes : List ℕ) (left number type size : ℕ) → type ≡ 2 → HasTagAt bytes left number type size → (at : ℕ) → HasTag (given_at at (Some left) bytes) number 2 (passed (given_at at (Some left) bytes) size)
-bytes_tag bytes left number type size two has at = subst (λ (z : ℕ). HasTag (given_at at (Some left) bytes) number z (passed (given_at at (Some left) bytes) size)) two (has at)
+-- a tag of this wire type
+pub typed_tag : (bytes : List ℕ) (left : Option ℕ) (number type wanted size : ℕ) → type ≡ wanted → HasTagAt bytes left number type size → HasTagAt bytes left number wanted size
+typed_tag bytes left number type wanted size is has = subst (λ (z : ℕ). HasTagAt bytes left number z size) is has
 
 -- nothing is left before its end
 pub none_left : (size : ℕ) → Some (size - size) ≡ Some 0
@@ -298,17 +298,7 @@ list_filled {pool} {m} {depth} {levels} {base} {p0} {frames} {now} at left bytes
         ap (λ (z : ℕ). up_to scope.end (passed (payload_place at bytes start size) z)) all ∙ behind_inner at left bytes start size scope.end there.1.ends
         ∙ ap (λ (z : ℕ). passed (given_at at (Some left) bytes) (start + z)) (sym all)
 
--- a payload is shorter than what holds its record
-pub inner_shorter :
-    (bytes : List ℕ) (left number tag_size start size : ℕ) → HasTag (given_at 0 (Some left) bytes) number 2 (passed (given_at 0 (Some left) bytes) tag_size)
-    → HasLength (passed (given_at 0 (Some left) bytes) tag_size) size (passed (given_at 0 (Some left) bytes) start) → 0 < tag_size → tag_size ≤ start → size < left
-inner_shorter bytes left number tag_size start size has l some later =
-    let tag = has.tag.2.within in
-    let tag_at = has.tag.2.at in
-    let within : size ≤ left - start = l.within in
-    omega (arith, tag, tag_at, within, some, later)
-
--- and where a reader stands
+-- WHERE A READER STANDS it has read that record
 pub inner_passed :
     {pool : Types} {m depth levels : ℕ} {base : List Record} {p0 : Place} (s t : State) (rest : List ℕ) (start size : ℕ) → t.at ≡ s.at + (start + size) → t.next ≡ step.Tag → t.scope.end ≡ s.scope.end
     → StandsAt pool m depth levels base p0 t (up_to s.scope.end (passed (given_at (s.at + start) (Some size) (take (length rest - start) (drop start rest))) size)) → Reads pool m depth levels base p0 t (drop (start + size) rest)

@@ -1,5 +1,5 @@
 -- Groups that are read at once.
-use Rattle.std.proofs.Common.{◌≡◌, ℕ, suc, ◌+◌, ◌-◌, ◌<◌, ◌≤◌, List, [], ◌∷◌, ◌++◌, take, drop, length, refl, sym, ap, ◌∙◌, subst, arith, Option, Some, None, IfSome, option_map}
+use Rattle.std.proofs.Common.{◌≡◌, ℕ, ◌+◌, ◌-◌, ◌<◌, ◌≤◌, List, [], ◌∷◌, ◌++◌, take, drop, length, refl, sym, ap, ◌∙◌, subst, arith, Option, Some, None, IfSome, option_map}
 use Rattle.std.specs.Prelude.{true, MatchOption}
 use Rattle.pb_wire.specs.Record.{Record}
 use Rattle.pb_wire.specs.declared.fault.PathStep.{PathStep}
@@ -32,7 +32,7 @@ use Rattle.pb_decode.proofs.QuickLemmas.{passed_twice, there_behind, tag_stands}
 use Rattle.pb_decode.proofs.OpenSteps.{message_group_opened}
 use Rattle.pb_decode.proofs.GroupSteps.{group_opened}
 use Rattle.pb_decode.proofs.GroupLemmas.{group_closes, message_group_closes}
-use Rattle.pb_decode.proofs.FillLemmas.{filled_so_far}
+use Rattle.pb_decode.proofs.FillLemmas.{filled_so_far, typed_tag}
 
 -- what is told of how many bytes are read, where all are, and where not
 pub whole_told : (P : ℕ → Type 0) (e : Extent) (n : ℕ) → e ≡ extent.Whole n → IfWhole e P → P n
@@ -48,18 +48,6 @@ whole_within e n most is told = subst (λ (z : Extent). IsWithin z most) is told
 pub cut_within : (e : Extent) (n most : ℕ) → e ≡ extent.Cut n → IsWithin e most → n ≤ most
 cut_within e n most is told = subst (λ (z : Extent). IsWithin z most) is told
 
--- a tag of this wire type
-pub typed_tag : (bytes : List ℕ) (left number type wanted size : ℕ) → type ≡ wanted → HasTagAt bytes left number type size → HasTagAt bytes left number wanted size
-typed_tag bytes left number type wanted size is has = subst (λ (z : ℕ). HasTagAt bytes left number z size) is has
-
--- a tag takes some of what is left
-pub tag_within : (bytes : List ℕ) (left number type size : ℕ) → HasTagAt bytes left number type size → size < suc left
-tag_within bytes left number type size has =
-    let tag = has 0 in
-    let within = tag.tag.2.within in
-    let at = tag.tag.2.at in
-    omega (arith, within, at)
-
 -- THE GROUP OF A FIELD behind its first tag, as in a frame
 pub field_group_begun :
     {pool : Types} {m depth levels : ℕ} {base : List Record} {p0 : Place} {frames : List Frame} {scope : Scope} {now : Part} {q u : Place} (number room : ℕ) (j : MessageId) (s : Slot) (outer : Part) (w : Message)
@@ -74,7 +62,7 @@ field_group_begun {scope = scope} {now = now} number room j s outer w ok there l
 
 -- so it is open, in a part that is
 pub field_group_in_part :
-    {pool : Types} {now : Part} (bytes : List ℕ) (left number tag_size before room : ℕ) (j : MessageId) (s : Slot) (outer : Part) (w : Message) → IsPool pool → IsOpen pool now bytes left room → HasTagAt bytes left number 3 tag_size
+    {pool : Types} {now : Part} (bytes : List ℕ) (left number tag_size before room : ℕ) (j : MessageId) (s : Slot) (outer : Part) (w : Message) → IsPool pool → IsOpen pool now bytes left room → HasTagAt bytes (Some left) number 3 tag_size
     → Means pool (part_context now) number 3 (purpose.Message j s) → 0 < room → outer ≡ without_message s now → w ≡ taken_message s now → before ≡ left - tag_size
     → IsOpen pool (message_part j.0 w) (take (length bytes - tag_size) (drop tag_size bytes)) before (room - 1)
 field_group_in_part {pool} bytes left number tag_size before room j s outer w ok from has means some is_outer is_taken is_before =
@@ -109,7 +97,7 @@ group_inside {pool} {m} {depth} {levels} {base} {p0} {frames} at left bytes numb
 
 pub field_group_inside :
     {pool : Types} {m depth levels : ℕ} {base : List Record} {p0 : Place} {frames : List Frame} {now : Part} (at left : ℕ) (bytes : List ℕ) (number tag_size before size room : ℕ) (j : MessageId) (s : Slot) (outer : Part) (w : Message) {filled is_now : Part}
-    → IsPool pool → (there : StandsIn pool m depth levels base p0 frames room now (given_at at (Some left) bytes)) → HasTagAt bytes left number 3 tag_size → Means pool (part_context now) number 3 (purpose.Message j s) → 0 < room
+    → IsPool pool → (there : StandsIn pool m depth levels base p0 frames room now (given_at at (Some left) bytes)) → HasTagAt bytes (Some left) number 3 tag_size → Means pool (part_context now) number 3 (purpose.Message j s) → 0 < room
     → outer ≡ without_message s now → w ≡ taken_message s now → before ≡ left - tag_size
     → FillsToEnd pool number (message_part j.0 w) filled (take (length bytes - tag_size) (drop tag_size bytes)) before (room - 1) size → filled ≡ is_now
     → (q : Place) × StandsIn pool m depth levels base p0 (frame_of outer number s true there.0 ∷ frames) (room - 1) is_now q × HasTag q number 4 (passed (given_at at (Some left) bytes) (tag_size + size))
@@ -129,7 +117,7 @@ unknown_group_begun {scope = scope} {now = now} number room content ok there lev
     )
 
 pub unknown_group_in_part :
-    {pool : Types} {now : Part} (bytes : List ℕ) (left number tag_size before room : ℕ) (content : List Record) → IsPool pool → IsOpen pool now bytes left room → HasTagAt bytes left number 3 tag_size
+    {pool : Types} {now : Part} (bytes : List ℕ) (left number tag_size before room : ℕ) (content : List Record) → IsPool pool → IsOpen pool now bytes left room → HasTagAt bytes (Some left) number 3 tag_size
     → Means pool (part_context now) number 3 purpose.Unknown → 0 < room → content ≡ [] → before ≡ left - tag_size
     → IsOpen pool (group_part content) (take (length bytes - tag_size) (drop tag_size bytes)) before (room - 1)
 unknown_group_in_part {pool} {now} bytes left number tag_size before room content ok from has means some nothing is_before =
@@ -146,7 +134,7 @@ unknown_group_in_part {pool} {now} bytes left number tag_size before room conten
 
 pub unknown_group_inside :
     {pool : Types} {m depth levels : ℕ} {base : List Record} {p0 : Place} {frames : List Frame} {now : Part} (at left : ℕ) (bytes : List ℕ) (number tag_size before size room : ℕ) (content : List Record) {filled is_now : Part}
-    → IsPool pool → (there : StandsIn pool m depth levels base p0 frames room now (given_at at (Some left) bytes)) → HasTagAt bytes left number 3 tag_size → Means pool (part_context now) number 3 purpose.Unknown → 0 < room
+    → IsPool pool → (there : StandsIn pool m depth levels base p0 frames room now (given_at at (Some left) bytes)) → HasTagAt bytes (Some left) number 3 tag_size → Means pool (part_context now) number 3 purpose.Unknown → 0 < room
     → content ≡ [] → before ≡ left - tag_size → FillsToEnd pool number (group_part content) filled (take (length bytes - tag_size) (drop tag_size bytes)) before (room - 1) size → filled ≡ is_now
     → (q : Place) × StandsIn pool m depth levels base p0 (frame_of now number (slot.Unknown number) true there.0 ∷ frames) (room - 1) is_now q × HasTag q number 4 (passed (given_at at (Some left) bytes) (tag_size + size))
 unknown_group_inside at left bytes number tag_size before size room content {filled} {is_now} ok there has means some nothing is_before fills is =
@@ -166,13 +154,13 @@ field_group_over {number = number} {scope = scope} next level there end is = (on
 -- THE LAST TAG behind the records that are read
 pub end_reached :
     {pool : Types} (old new : Part) (bytes : List ℕ) (left room number type used before size : ℕ) → FillsTo pool old new bytes left room used → type ≡ 4 → before ≡ left - used
-    → HasTagAt (take (length bytes - used) (drop used bytes)) before number type size → FillsToEnd pool number old new bytes left room (used + size)
+    → HasTagAt (take (length bytes - used) (drop used bytes)) (Some before) number type size → FillsToEnd pool number old new bytes left room (used + size)
 end_reached old new bytes left room number type used before size filled is_end is_before has = (
   used,
   filled,
   λ at.
       there_behind (λ (q r : Place). HasTag q number 4 r) at (Some left) (Some before) bytes used size (ap (λ (z : ℕ). Some z) is_before)
-      (typed_tag (take (length bytes - used) (drop used bytes)) before number type 4 size is_end has (at + used)),
+      (typed_tag (take (length bytes - used) (drop used bytes)) (Some before) number type 4 size is_end has (at + used)),
 )
 
 -- ---- WHERE NO END IS KNOWN one is put somewhere behind: what stands whole before it stands so anyway

@@ -5,7 +5,7 @@ use Rattle.std.specs.BTreeMap.{insert_entry, IsOrdered, InsertsAll, IsFromIterRe
 use Rattle.std.proofs.lemmas.Map.Lookups.{map_keys, exact_signed, exact_unsigned, exact_bytes}
 use Rattle.std.proofs.lemmas.Bool.{false≢true}
 use Rattle.pb_wire.specs.Record.{Record}
-use Rattle.pb_wire.specs.Fault.{Place, HasTag, HasLength}
+use Rattle.pb_wire.specs.Fault.{Place, HasLength}
 use Rattle.pb_wire.specs.Token.{given_at, passed}
 use Rattle.pb_schema.specs.declared.types.Kind.{Kind}
 use Rattle.pb_schema.specs.Types.{Types}
@@ -31,9 +31,9 @@ use Rattle.pb_decode.specs.Close.Mapped.{pairs_view, put_pairs, FitInTurn, inser
 use Rattle.pb_decode.specs.Open.Frames.{Part, message_part, entry_part, group_part, put_entry, Scope, Frame, frame_of, one_more_in, EndsAt, up_to, Stands}
 use Rattle.pb_decode.specs.Open.Purposes.{Means, part_context}
 use Rattle.pb_decode.specs.Close.Closing.{HasRoomFor}
-use Rattle.pb_decode.specs.Reader.Fills.{StandsIn, IsOpen}
+use Rattle.pb_decode.specs.Reader.Fills.{StandsIn, IsOpen, HasTagAt}
 use Rattle.pb_decode.specs.Reader.{State, left_of, Reads, IsReading}
-use Rattle.pb_decode.specs.Reader.Entries.{more_in, IsMapOpen, IsTagOf}
+use Rattle.pb_decode.specs.Reader.Entries.{more_in, IsMapOpen}
 use Rattle.pb_decode.specs.declared.open.purpose.Purpose.TheVariants as purpose
 use Rattle.pb_decode.specs.declared.tokens.step.Step.TheVariants as step
 use Rattle.pb_decode.proofs.QuickLemmas.{tag_stands, passed_twice}
@@ -42,7 +42,7 @@ use Rattle.pb_decode.proofs.MapLemmas.{at_once, by_way}
 use Rattle.pb_decode.proofs.WellLemmas.{message_good}
 use Rattle.pb_decode.proofs.EndedLemmas.{entry_has_room}
 use Rattle.pb_decode.proofs.FrameLemmas.{entry_closes}
-use Rattle.pb_decode.proofs.FillLemmas.{payload_place, behind_inner, entry_begun, none_left}
+use Rattle.pb_decode.proofs.FillLemmas.{payload_place, place_before, behind_inner, entry_begun, none_left, typed_tag}
 use Rattle.pb_decode.proofs.ReaderLemmas.{slice_from, drop_more}
 
 -- KEYS THAT COMPARE EQUAL are one key
@@ -207,7 +207,7 @@ rises_in ok (group_part us) s = tt
 
 pub entry_in_map :
     {pool : Types} (bytes : List ℕ) (left : Option ℕ) (number tag_size start size room : ℕ) (key kd : Kind) → IsPool pool → IsMapOpen pool number key kd bytes left room
-    → ((at : ℕ) → HasTag (given_at at left bytes) number 2 (passed (given_at at left bytes) tag_size)) → ((at : ℕ) → HasLength (passed (given_at at left bytes) tag_size) size (passed (given_at at left bytes) start))
+    → HasTagAt bytes left number 2 tag_size → ((at : ℕ) → HasLength (passed (given_at at left bytes) tag_size) size (passed (given_at at left bytes) start))
     → 0 < room → IsOpen pool (entry_part key kd None None) (take (length bytes - start) (drop start bytes)) size (room - 1)
 entry_in_map bytes left number tag_size start size room key kd ok from has l some = record {
   m = from.m;
@@ -245,9 +245,8 @@ entry_taken {pool} {m} {depth} {levels} {base} {p0} {frames} {scope} {now} at le
 )
 
 -- the tag of a record of bytes of this number
-pub tag_of : (bytes : List ℕ) (left : Option ℕ) (number type size k : ℕ) → type ≡ 2 → number ≡ k → IsTagOf bytes left number type size → IsTagOf bytes left k 2 size
-tag_of bytes left number type size k two own has at =
-    subst (λ (z : ℕ). HasTag (given_at at left bytes) z 2 (passed (given_at at left bytes) size)) own (subst (λ (z : ℕ). HasTag (given_at at left bytes) number z (passed (given_at at left bytes) size)) two (has at))
+pub tag_of : (bytes : List ℕ) (left : Option ℕ) (number type size k : ℕ) → type ≡ 2 → number ≡ k → HasTagAt bytes left number type size → HasTagAt bytes left k 2 size
+tag_of bytes left number type size k two own has = subst (λ (z : ℕ). HasTagAt bytes left z 2 size) own (typed_tag bytes left number type 2 size two has)
 
 -- WHERE A READER STANDS
 pub stands_here : {pool : Types} {m depth levels : ℕ} {base : List Record} {p0 : Place} (s : State) (rest : List ℕ) (left : Option ℕ) → left ≡ left_of s → Reads pool m depth levels base p0 s rest → s.next ≡ step.Tag
@@ -338,20 +337,10 @@ open_further {pool} {number} {key} {kd} {bytes} {left} from here behind items is
   means = means_along pool number number (pairs_view items) from.now key kd from.means;
 }
 
-passed_none : (p : Place) → p ≡ passed p 0
-passed_none p = sym (by_known p.at p.known p.rest)
-  where
-    known_before : (e : Option ℕ) → option_map (λ (z : ℕ). z - 0) e ≡ e
-    known_before None = refl
-    known_before (Some e) = let same : e - 0 ≡ e = omega arith in ap (λ (z : ℕ). Some z) same
-
-    by_known : (at : ℕ) (e : Option ℕ) (rest : List ℕ) → given_at (at + 0) (option_map (λ (z : ℕ). z - 0) e) rest ≡ given_at at e rest
-    by_known at e rest = let same : at + 0 ≡ at = omega arith in ap (λ (z : ℕ). given_at z (option_map (λ (y : ℕ). y - 0) e) rest) same ∙ ap (λ (z : Option ℕ). given_at at z rest) (known_before e)
-
 pub none_read :
     {pool : Types} {m depth levels : ℕ} {base : List Record} {p0 : Place} {frames : List Frame} {scope : Scope} {now : Part} (at : ℕ) (left : Option ℕ) (bytes : List ℕ) (number : ℕ) (items : List (MapKey × Value)) → items ≡ []
     → Stands pool m depth levels base p0 frames now scope (given_at at left bytes)
     → FitMapped number (pairs_view items) now × Stands pool m depth levels base p0 frames (put_all_mapped number (pairs_view items) now) (more_in number (length items) scope) (passed (given_at at left bytes) 0)
 none_read {pool} {m} {depth} {levels} {base} {p0} {frames} {scope} {now} at left bytes number items none there =
     subst (λ (l : List (MapKey × Value)). FitMapped number (pairs_view l) now × Stands pool m depth levels base p0 frames (put_all_mapped number (pairs_view l) now) (more_in number (length l) scope) (passed (given_at at left bytes) 0)) (sym none)
-    (tt, subst (Stands pool m depth levels base p0 frames now scope) (passed_none (given_at at left bytes)) there)
+    (tt, subst (Stands pool m depth levels base p0 frames now scope) (place_before (given_at at left bytes)) there)

@@ -2,7 +2,7 @@
 use Rattle.std.specs.Prelude.{◌≡◌, ℕ, zero, suc, List, length, Option, Vec, Result, IfOk, IfSome}
 use Rattle.std.specs.declared.alloc.Global.{Global}
 use Rattle.pb_wire.specs.Record.{Record}
-use Rattle.pb_wire.specs.Fault.{Place, HasTag}
+use Rattle.pb_wire.specs.Fault.{Place}
 use Rattle.pb_wire.specs.Token.{given_at, passed}
 use Rattle.pb_schema.specs.declared.types.Kind.{Kind}
 use Rattle.pb_schema.specs.Types.{Types}
@@ -18,10 +18,6 @@ use Rattle.pb_decode.specs.Close.Mapped.{pairs_view, put_mapped, put_all_mapped,
 abbrev pub more_in : ℕ → ℕ → Scope → Scope
 more_in k zero scope = scope
 more_in k (suc n) scope = one_more_in k (more_in k n scope)
-
--- a tag stands at the front of the bytes, and takes so many of them
-abbrev pub IsTagOf : List ℕ → Option ℕ → ℕ → ℕ → ℕ → Type 0
-IsTagOf bytes left number type size = (at : ℕ) → HasTag (given_at at left bytes) number type (passed (given_at at left bytes) size)
 
 -- somewhere a part is open in which the records of a number are entries, and these bytes come next in it
 pub record IsMapOpen (pool : Types) (number : ℕ) (key kd : Kind) (bytes : List ℕ) (left : Option ℕ) (room : ℕ) : Type 0 where

@@ -25,9 +25,9 @@ pub record IsOpen (pool : Types) (now : Part) (bytes : List ℕ) (left room : �
   pub frames : List Frame
   pub stands : StandsIn pool m depth levels base p0 frames room now (given_at at (Some left) bytes)
 
--- a tag stands at the front of the bytes, and takes so many of them
-abbrev pub HasTagAt : List ℕ → ℕ → ℕ → ℕ → ℕ → Type 0
-HasTagAt bytes left number type size = (at : ℕ) → HasTag (given_at at (Some left) bytes) number type (passed (given_at at (Some left) bytes) size)
+-- a tag stands at the front of the bytes, with so many before the known end, and takes so many of them
+abbrev pub HasTagAt : List ℕ → Option ℕ → ℕ → ℕ → ℕ → Type 0
+HasTagAt bytes left number type size = (at : ℕ) → HasTag (given_at at left bytes) number type (passed (given_at at left bytes) size)
 
 -- one stands behind so many of the bytes, with what stood there in the part
 abbrev pub FillsTo : Types → Part → Part → List ℕ → ℕ → ℕ → ℕ → Type 0

@@ -1,6 +1,6 @@
 //! What stands whole in the bytes is read into a part at once, with all that it holds, without a frame.
 
-ghost use Rattle.std.specs.Prelude.{◌≡◌, ◌⊎◌, ◌+◌, ◌≤◌, ◌<◌, ◌^◌, length, IfOk, IfSome};
+ghost use Rattle.std.specs.Prelude.{◌≡◌, ◌⊎◌, ◌+◌, ◌≤◌, ◌<◌, ◌^◌, Some, length, IfOk, IfSome};
 ghost use Rattle.pb_schema.specs.Rules.{IsPool};
 ghost use Rattle.pb_decode.specs.declared.open.purpose.Purpose.TheVariants as purposes;
 ghost use Rattle.pb_decode.specs.Open.PartView.{part_view};
@@ -50,7 +50,7 @@ fn fill_one(
     requires small { length bytes.now < 2 ^ 31 }
     requires number { (tag.wire_type ≡ 0) ⊎ (tag.wire_type ≡ 1) ⊎ (tag.wire_type ≡ 5) }
     requires within { tag.size ≤ length bytes.now }
-    requires tag { HasTagAt bytes.now left tag.number tag.wire_type tag.size }
+    requires tag { HasTagAt bytes.now (Some left) tag.number tag.wire_type tag.size }
     requires means { Means pool.now (part_context (part_view part.old)) tag.number tag.wire_type purpose }
     ensures passes { IfOk result (λ o. IfSome o (λ n. (tag.size ≤ n) × (n ≤ length bytes.now))) }
     ensures filled { FillsOne pool.now part.old part.new bytes.now left room result }
@@ -83,7 +83,7 @@ fn fill_number(
     requires small { length bytes.now < 2 ^ 31 }
     requires number { (tag.wire_type ≡ 0) ⊎ (tag.wire_type ≡ 1) ⊎ (tag.wire_type ≡ 5) }
     requires within { tag.size ≤ length bytes.now }
-    requires tag { HasTagAt bytes.now left tag.number tag.wire_type tag.size }
+    requires tag { HasTagAt bytes.now (Some left) tag.number tag.wire_type tag.size }
     ensures passes { IfOk result (λ o. IfSome o (λ n. (tag.size ≤ n) × (n ≤ length bytes.now))) }
     ensures filled { FillsOne pool.now part.old part.new bytes.now left room result }
 {
@@ -114,7 +114,7 @@ fn fill_bytes(
     requires small { length bytes.now < 2 ^ 31 }
     requires bytes { tag.wire_type ≡ 2 }
     requires within { tag.size ≤ length bytes.now }
-    requires tag { HasTagAt bytes.now left tag.number tag.wire_type tag.size }
+    requires tag { HasTagAt bytes.now (Some left) tag.number tag.wire_type tag.size }
     requires means { Means pool.now (part_context (part_view part.old)) tag.number 2 purpose }
     requires purpose { IsBytesPurpose purpose }
     ensures passes { IfOk result (λ o. IfSome o (λ n. (tag.size ≤ n) × (n ≤ length bytes.now))) }
@@ -153,7 +153,7 @@ fn fill_list(
     requires small { length bytes.now < 2 ^ 31 }
     requires bytes { tag.wire_type ≡ 2 }
     requires within { tag.size ≤ length bytes.now }
-    requires tag { HasTagAt bytes.now left tag.number tag.wire_type tag.size }
+    requires tag { HasTagAt bytes.now (Some left) tag.number tag.wire_type tag.size }
     requires means { Means pool.now (part_context (part_view part.old)) tag.number 2 (purposes.Packed kind) }
     ensures passes { IfOk result (λ o. IfSome o (λ n. (tag.size ≤ n) × (n ≤ length bytes.now))) }
     ensures filled { FillsOne pool.now part.old part.new bytes.now left room result }
@@ -188,7 +188,7 @@ fn fill_entry(
     requires bytes { tag.wire_type ≡ 2 }
     requires some { 0 < tag.size }
     requires within { tag.size ≤ length bytes.now }
-    requires tag { HasTagAt bytes.now left tag.number tag.wire_type tag.size }
+    requires tag { HasTagAt bytes.now (Some left) tag.number tag.wire_type tag.size }
     requires means { Means pool.now (part_context (part_view part.old)) tag.number 2 (purposes.Entry key_kind value_kind) }
     ensures passes { IfOk result (λ o. IfSome o (λ n. (tag.size ≤ n) × (n ≤ length bytes.now))) }
     ensures filled { FillsOne pool.now part.old part.new bytes.now left room result }
@@ -248,7 +248,7 @@ fn fill_message(
     requires bytes { tag.wire_type ≡ 2 }
     requires some { 0 < tag.size }
     requires within { tag.size ≤ length bytes.now }
-    requires tag { HasTagAt bytes.now left tag.number tag.wire_type tag.size }
+    requires tag { HasTagAt bytes.now (Some left) tag.number tag.wire_type tag.size }
     requires means { Means pool.now (part_context (part_view part.old)) tag.number 2 (purposes.Message message_type slot) }
     ensures passes { IfOk result (λ o. IfSome o (λ n. (tag.size ≤ n) × (n ≤ length bytes.now))) }
     ensures filled { FillsOne pool.now part.old part.new bytes.now left room result }
@@ -301,7 +301,7 @@ fn fill_length(
     requires bytes { tag.wire_type ≡ 2 }
     requires some { 0 < tag.size }
     requires within { tag.size ≤ length bytes.now }
-    requires tag { HasTagAt bytes.now left tag.number tag.wire_type tag.size }
+    requires tag { HasTagAt bytes.now (Some left) tag.number tag.wire_type tag.size }
     ensures passes { IfOk result (λ o. IfSome o (λ n. (tag.size ≤ n) × (n ≤ length bytes.now))) }
     ensures filled { FillsOne pool.now part.old part.new bytes.now left room result }
 {

@@ -1,6 +1,6 @@
 //! Records of one list that follow on each other: their values go to its end at once.
 
-ghost use Rattle.std.specs.Prelude.{◌≡◌, ◌⊎◌, ◌≤◌, ◌<◌, ◌^◌, ◌∷◌, [], length, IfOk, IfSome, IfNone};
+ghost use Rattle.std.specs.Prelude.{◌≡◌, ◌⊎◌, ◌≤◌, ◌<◌, ◌^◌, ◌∷◌, [], Some, length, IfOk, IfSome, IfNone};
 ghost use Rattle.pb_schema.specs.Kinds.{wire_type_of};
 ghost use Rattle.pb_schema.specs.Rules.{IsPool};
 ghost use Rattle.pb_value.specs.View.{value_view};
@@ -40,7 +40,7 @@ fn element_behind(
     requires within { tag.size ≤ length bytes.now }
     requires small { length bytes.now < 2 ^ 31 }
     requires same { tag.wire_type ≡ wire_type_of kind }
-    requires tag { HasTagAt bytes.now left tag.number tag.wire_type tag.size }
+    requires tag { HasTagAt bytes.now (Some left) tag.number tag.wire_type tag.size }
     ensures within { IfSome result (λ r. (tag.size ≤ r.1) × (r.1 ≤ length bytes.now)) }
     ensures put { FillsElement pool.now kind tag.number bytes.now left result }
 {
@@ -145,7 +145,7 @@ pub(crate) fn fill_run(
     requires within { tag.size ≤ length bytes.now }
     requires small { length bytes.now < 2 ^ 31 }
     requires same { tag.wire_type ≡ wire_type_of kind }
-    requires tag { HasTagAt bytes.now left tag.number tag.wire_type tag.size }
+    requires tag { HasTagAt bytes.now (Some left) tag.number tag.wire_type tag.size }
     requires means { Means pool.now (part_context (part_view part.old)) tag.number (wire_type_of kind) (Element kind) }
     ensures passes { IfOk result (λ o. IfSome o (λ n. (tag.size ≤ n) × (n ≤ length bytes.now))) }
     ensures none { IfOk result (λ o. IfNone o (part.new ≡ part.old)) }

@@ -5,12 +5,12 @@ ghost use Rattle.pb_schema.specs.Rules.{IsPool};
 ghost use Rattle.pb_decode.specs.declared.open.purpose.Purpose.TheVariants.{Entry};
 ghost use Rattle.pb_decode.specs.Open.PartView.{part_view};
 ghost use Rattle.pb_decode.specs.Open.Purposes.{Means, part_context};
-ghost use Rattle.pb_decode.specs.Reader.Entries.{IsMapOpen, IsTagOf, TellsEntry, TellsEntries};
+ghost use Rattle.pb_decode.specs.Reader.Entries.{IsMapOpen, TellsEntry, TellsEntries};
 ghost use Rattle.pb_decode.specs.Reader.Fills.{IsOpen, HasTagAt, FillsOne};
 
 use super::{fill, fill_entry};
 use crate::close::closing::{key_or_default, value_or_missing};
-use crate::close::put_entries::put_entries;
+use crate::close::put_entries::{MANY, put_entries};
 use crate::error::NoMemory;
 use crate::open::part::Part;
 use crate::reader::quick_record::length_behind;
@@ -21,9 +21,6 @@ use std::alloc::Global;
 
 /// An entry of less bytes goes into its map by itself, so that what a run holds follows its bytes, also where keys repeat.
 const LEAST: usize = 8;
-
-/// A run is looked for where there may be as many entries.
-const MANY: usize = 16;
 
 /// The entry behind a tag at the front of some bytes, with so many bytes before the known end and so many levels left, and how
 /// many bytes its record takes, if it stands whole there. Where its payload was read and is none, `tried` is where it ends.
@@ -48,7 +45,7 @@ fn entry_behind(
     requires bytes { tag.wire_type ≡ 2 }
     requires own { tag.number ≡ number }
     requires within { (0 < tag.size) × (tag.size ≤ length bytes.now) }
-    requires tag { IsTagOf bytes.now left tag.number tag.wire_type tag.size }
+    requires tag { HasTagAt bytes.now left tag.number tag.wire_type tag.size }
     ensures within { IfOk result (λ o. IfSome o (λ r. (0 < r.1) × (r.1 ≤ length bytes.now))) }
     ensures put { TellsEntry pool.now number key_kind value_kind bytes.now left room result }
 {
@@ -208,7 +205,7 @@ pub(super) fn fill_entries(
     requires bytes { tag.wire_type ≡ 2 }
     requires some { 0 < tag.size }
     requires within { tag.size ≤ length bytes.now }
-    requires tag { HasTagAt bytes.now left tag.number tag.wire_type tag.size }
+    requires tag { HasTagAt bytes.now (Some left) tag.number tag.wire_type tag.size }
     requires means { Means pool.now (part_context (part_view part.old)) tag.number 2 (Entry key_kind value_kind) }
     ensures passes { IfOk result (λ o. IfSome o (λ n. (tag.size ≤ n) × (n ≤ length bytes.now))) }
     ensures filled { FillsOne pool.now part.old part.new bytes.now left room result }

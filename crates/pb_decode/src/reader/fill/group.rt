@@ -80,7 +80,7 @@ fn fill_inside(
     requires small { length bytes.now < 2 ^ 31 }
     requires some { 0 < tag.size }
     requires within { tag.size ≤ length bytes.now }
-    requires tag { HasTagAt bytes.now left tag.number tag.wire_type tag.size }
+    requires tag { HasTagAt bytes.now (Some left) tag.number tag.wire_type tag.size }
     ensures passes { IfOk result (λ e. Passes tag.size e (length bytes.now)) }
     ensures filled { FillsGroup pool.now part.old part.new bytes.now left room result }
 {
@@ -155,7 +155,7 @@ fn fill_field_group(
     requires start { tag.wire_type ≡ 3 }
     requires some { 0 < tag.size }
     requires within { tag.size ≤ length bytes.now }
-    requires tag { HasTagAt bytes.now left tag.number tag.wire_type tag.size }
+    requires tag { HasTagAt bytes.now (Some left) tag.number tag.wire_type tag.size }
     requires room { 0 < room }
     requires means { Means pool.now (part_context (part_view part.old)) tag.number 3 (purposes.Message message_type slot) }
     ensures passes { IfOk result (λ e. Passes tag.size e (length bytes.now)) }
@@ -200,7 +200,7 @@ fn fill_unknown_group(
     requires start { tag.wire_type ≡ 3 }
     requires some { 0 < tag.size }
     requires within { tag.size ≤ length bytes.now }
-    requires tag { HasTagAt bytes.now left tag.number tag.wire_type tag.size }
+    requires tag { HasTagAt bytes.now (Some left) tag.number tag.wire_type tag.size }
     requires room { 0 < room }
     requires means { Means pool.now (part_context (part_view part.old)) tag.number 3 purposes.Unknown }
     ensures passes { IfOk result (λ e. Passes tag.size e (length bytes.now)) }
@@ -244,7 +244,7 @@ pub(super) fn fill_group(
     requires start { tag.wire_type ≡ 3 }
     requires some { 0 < tag.size }
     requires within { tag.size ≤ length bytes.now }
-    requires tag { HasTagAt bytes.now left tag.number tag.wire_type tag.size }
+    requires tag { HasTagAt bytes.now (Some left) tag.number tag.wire_type tag.size }
     ensures passes { IfOk result (λ e. Passes tag.size e (length bytes.now)) }
     ensures filled { FillsGroup pool.now part.old part.new bytes.now left room result }
 {

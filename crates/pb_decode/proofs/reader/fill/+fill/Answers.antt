@@ -14,9 +14,9 @@ use Rattle.pb_decode.proofs.ReaderLemmas.{slice_from}
 use Rattle.pb_decode.proofs.NumberSteps.{number_is}
 use Rattle.pb_decode.proofs.WellLemmas.{can_hold}
 use Rattle.pb_decode.proofs.EndedLemmas.{entry_has_room, frame_can_hold}
-use Rattle.pb_decode.proofs.FillLemmas.{some_told, open_can, nothing_filled, still_open, filled_further, bytes_tag, entry_in_part, message_in_part, entry_inside, message_inside, entry_over, message_over}
+use Rattle.pb_decode.proofs.FillLemmas.{some_told, open_can, nothing_filled, still_open, filled_further, typed_tag, entry_in_part, message_in_part, entry_inside, message_inside, entry_over, message_over}
 use Rattle.pb_decode.proofs.GroupSteps.{unknown_group_means}
-use Rattle.pb_decode.proofs.GroupFills.{whole_told, whole_within, typed_tag, field_group_in_part, field_group_inside, field_group_over, unknown_group_in_part, unknown_group_inside, unknown_group_over, end_reached}
+use Rattle.pb_decode.proofs.GroupFills.{whole_told, whole_within, field_group_in_part, field_group_inside, field_group_over, unknown_group_in_part, unknown_group_inside, unknown_group_over, end_reached}
 use Rattle.pb_decode.proofs.RunLemmas.{place_behind}
 use Rattle.pb_decode.proofs.MapRuns.{tag_of, entry_in_map, entry_taken, rises_in, map_open_in, run_filled, told_of, size_next, more_room, means_along, run_further, open_further, none_read}
 use Rattle.pb_decode.proofs.reader.fill.+fill.Goals as goal
@@ -64,7 +64,7 @@ fill_entry-fill-requires t c =
     let level = c.if-room-eq0.false in
     let is = ap length (slice_from c.in-Some.start c.args.bytes.now) ∙ length-drop c.in-Some.start c.args.bytes.now in
     let small = c.requires.small in
-    let has = bytes_tag c.args.bytes.now c.args.left c.args.tag.number c.args.tag.wire_type c.args.tag.size c.requires.bytes c.requires.tag in
+    let has = typed_tag c.args.bytes.now (Some c.args.left) c.args.tag.number c.args.tag.wire_type 2 c.args.tag.size c.requires.bytes c.requires.tag in
     let some = c.requires.some in
     let later = c.in-Some.ensures.within.0 in
     let within = c.in-Some.ensures.within.1 in
@@ -84,7 +84,7 @@ pub fill_entry-put_entry-requires-clause-key : goal.fill_entry-put_entry-require
 fill_entry-put_entry-requires-clause-key t c =
     let level = c.if-room-eq0.false in
     let from = c.requires.open in
-    let has = bytes_tag c.args.bytes.now c.args.left c.args.tag.number c.args.tag.wire_type c.args.tag.size c.requires.bytes c.requires.tag in
+    let has = typed_tag c.args.bytes.now (Some c.args.left) c.args.tag.number c.args.tag.wire_type 2 c.args.tag.size c.requires.bytes c.requires.tag in
     let read = entry_inside from.at (Some c.args.left) c.args.bytes.now c.args.tag.number c.args.tag.size c.in-Some.start c.in-Some.size c.args.room c.args.key_kind c.args.value_kind c.requires.rules from.stands (has from.at) (c.in-Some.ensures.whole from.at c.args.tag.number c.args.tag.wire_type (c.requires.tag from.at)) c.requires.means (omega (arith, level)) (c.in_ok-fill.ensures c.if-not-branch.false) (ap part_view c.in-Entry.is) in
     can_hold c.requires.rules (entry_part c.in-Entry.key_kind c.in-Entry.value_kind (option_map key_view c.in-Entry.key) (option_map value_view c.in-Entry.value)) read.1
 
@@ -92,7 +92,7 @@ pub fill_entry-put_entry-requires-clause-fits : goal.fill_entry-put_entry-requir
 fill_entry-put_entry-requires-clause-fits t c =
     let level = c.if-room-eq0.false in
     let from = c.requires.open in
-    let has = bytes_tag c.args.bytes.now c.args.left c.args.tag.number c.args.tag.wire_type c.args.tag.size c.requires.bytes c.requires.tag in
+    let has = typed_tag c.args.bytes.now (Some c.args.left) c.args.tag.number c.args.tag.wire_type 2 c.args.tag.size c.requires.bytes c.requires.tag in
     let read = entry_inside from.at (Some c.args.left) c.args.bytes.now c.args.tag.number c.args.tag.size c.in-Some.start c.in-Some.size c.args.room c.args.key_kind c.args.value_kind c.requires.rules from.stands (has from.at) (c.in-Some.ensures.whole from.at c.args.tag.number c.args.tag.wire_type (c.requires.tag from.at)) c.requires.means (omega (arith, level)) (c.in_ok-fill.ensures c.if-not-branch.false) (ap part_view c.in-Entry.is) in
     entry_has_room c.requires.rules c.in-Entry.key_kind c.in-Entry.value_kind (option_map key_view c.in-Entry.key) (option_map value_view c.in-Entry.value) read.1
 
@@ -100,7 +100,7 @@ pub fill_entry-returns-in_ok-put_entry-in-Entry-clause-filled : goal.fill_entry-
 fill_entry-returns-in_ok-put_entry-in-Entry-clause-filled t c =
     λ m depth levels at base p0 frames there.
     let level = c.if-room-eq0.false in
-    let has = bytes_tag c.args.bytes.now c.args.left c.args.tag.number c.args.tag.wire_type c.args.tag.size c.requires.bytes c.requires.tag in
+    let has = typed_tag c.args.bytes.now (Some c.args.left) c.args.tag.number c.args.tag.wire_type 2 c.args.tag.size c.requires.bytes c.requires.tag in
     let read = entry_inside at (Some c.args.left) c.args.bytes.now c.args.tag.number c.args.tag.size c.in-Some.start c.in-Some.size c.args.room c.args.key_kind c.args.value_kind c.requires.rules there (has at) (c.in-Some.ensures.whole at c.args.tag.number c.args.tag.wire_type (c.requires.tag at)) c.requires.means (omega (arith, level)) (c.in_ok-fill.ensures c.if-not-branch.false) (ap part_view c.in-Entry.is) in
     entry_over at c.args.left c.args.bytes.now c.args.tag.number c.in-Some.start c.in-Some.size c.args.room (c.args.room - 1) c.in-Entry.key_kind c.in-Entry.value_kind (option_map key_view c.in-Entry.key) (option_map value_view c.in-Entry.value) (part_view c.put_entry.new.outer) there.1 there.2 read
     c.in_ok-put_entry-in-Entry.ensures
@@ -110,7 +110,7 @@ pub fill_message-fill-requires : goal.fill_message-fill-requires
 fill_message-fill-requires t c =
     let is = ap length (slice_from c.in-Some.start c.args.bytes.now) ∙ length-drop c.in-Some.start c.args.bytes.now in
     let small = c.requires.small in
-    let has = bytes_tag c.args.bytes.now c.args.left c.args.tag.number c.args.tag.wire_type c.args.tag.size c.requires.bytes c.requires.tag in
+    let has = typed_tag c.args.bytes.now (Some c.args.left) c.args.tag.number c.args.tag.wire_type 2 c.args.tag.size c.requires.bytes c.requires.tag in
     let some = c.requires.some in
     let later = c.in-Some.ensures.within.0 in
     let within = c.in-Some.ensures.within.1 in
@@ -129,14 +129,14 @@ fill_message-fill-requires t c =
 pub fill_message-put_message-requires : goal.fill_message-put_message-requires
 fill_message-put_message-requires t c =
     let from = c.requires.open in
-    let has = bytes_tag c.args.bytes.now c.args.left c.args.tag.number c.args.tag.wire_type c.args.tag.size c.requires.bytes c.requires.tag in
+    let has = typed_tag c.args.bytes.now (Some c.args.left) c.args.tag.number c.args.tag.wire_type 2 c.args.tag.size c.requires.bytes c.requires.tag in
     let read = message_inside from.at (Some c.args.left) c.args.bytes.now c.args.tag.number c.args.tag.size c.in-Some.start c.in-Some.size c.args.room c.room_in-below.result c.args.message_type c.args.slot (part_view c.take_message.new.outer) (body_view c.take_message.result) c.requires.rules from.stands c.room_in-below.ensures (has from.at) (c.in-Some.ensures.whole from.at c.args.tag.number c.args.tag.wire_type (c.requires.tag from.at)) c.requires.means (c.if-not-has_room.ensures.room refl) c.take_message.ensures.left c.take_message.ensures.taken (c.in_ok-fill.ensures c.if-not-branch.false) (ap part_view c.in-Message.is) in
     frame_can_hold read.1
 
 pub fill_message-returns-in_ok-put_message-in-Message-clause-filled : goal.fill_message-returns-in_ok-put_message-in-Message-clause-filled
 fill_message-returns-in_ok-put_message-in-Message-clause-filled t c =
     λ m depth levels at base p0 frames there.
-    let has = bytes_tag c.args.bytes.now c.args.left c.args.tag.number c.args.tag.wire_type c.args.tag.size c.requires.bytes c.requires.tag in
+    let has = typed_tag c.args.bytes.now (Some c.args.left) c.args.tag.number c.args.tag.wire_type 2 c.args.tag.size c.requires.bytes c.requires.tag in
     let read = message_inside at (Some c.args.left) c.args.bytes.now c.args.tag.number c.args.tag.size c.in-Some.start c.in-Some.size c.args.room c.room_in-below.result c.args.message_type c.args.slot (part_view c.take_message.new.outer) (body_view c.take_message.result) c.requires.rules there c.room_in-below.ensures (has at) (c.in-Some.ensures.whole at c.args.tag.number c.args.tag.wire_type (c.requires.tag at)) c.requires.means (c.if-not-has_room.ensures.room refl) c.take_message.ensures.left c.take_message.ensures.taken (c.in_ok-fill.ensures c.if-not-branch.false) (ap part_view c.in-Message.is) in
     message_over at c.args.left c.args.bytes.now c.args.tag.number c.in-Some.start c.in-Some.size c.args.room c.room_in-below.result c.in-Message._kind.0 c.args.slot (body_view c.in-Message.message) (part_view c.put_message.new.outer) there.1 there.2 read
     c.in_ok-put_message-in-Message.ensures
@@ -147,7 +147,7 @@ group::fill_field_group-fill_to_tag-requires t c =
     let is = ap length (slice_from c.args.tag.size c.args.bytes.now) ∙ length-drop c.args.tag.size c.args.bytes.now in
     let small = c.requires.small in
     let some = c.requires.some in
-    let start = typed_tag c.args.bytes.now c.args.left c.args.tag.number c.args.tag.wire_type 3 c.args.tag.size c.requires.start c.requires.tag in
+    let start = typed_tag c.args.bytes.now (Some c.args.left) c.args.tag.number c.args.tag.wire_type 3 c.args.tag.size c.requires.start c.requires.tag in
     let within = c.requires.within in
     let before = c.saturating_sub-before.ensures in
     let less : 8 * length (take (length c.args.bytes.now - c.args.tag.size) (drop c.args.tag.size c.args.bytes.now)) + 7 < 8 * length c.args.bytes.now + 4 = omega (arith, is, some, within) in (
@@ -164,7 +164,7 @@ group::fill_field_group-fill_to_tag-requires t c =
 pub group::fill_field_group-put_message-requires : goal.group::fill_field_group-put_message-requires
 group::fill_field_group-put_message-requires t c =
     let from = c.requires.open in
-    let start = typed_tag c.args.bytes.now c.args.left c.args.tag.number c.args.tag.wire_type 3 c.args.tag.size c.requires.start c.requires.tag in
+    let start = typed_tag c.args.bytes.now (Some c.args.left) c.args.tag.number c.args.tag.wire_type 3 c.args.tag.size c.requires.start c.requires.tag in
     let fills = whole_told _ c.in_ok-size.field-0 c.in-Whole.size c.in-Whole.is c.in_ok-size.ensures.filled in
     let read = field_group_inside from.at c.args.left c.args.bytes.now c.args.tag.number c.args.tag.size c.saturating_sub-before.result c.in-Whole.size c.args.room c.args.message_type c.args.slot (part_view c.take_message.new.outer) (body_view c.take_message.result) c.requires.rules from.stands start c.requires.means c.requires.room c.take_message.ensures.left c.take_message.ensures.taken c.saturating_sub-before.ensures fills (ap part_view c.in-Message.is) in
     frame_can_hold read.1.1
@@ -172,7 +172,7 @@ group::fill_field_group-put_message-requires t c =
 pub group::fill_field_group-returns-in_ok-put_message-in-Message-clause-filled : goal.group::fill_field_group-returns-in_ok-put_message-in-Message-clause-filled
 group::fill_field_group-returns-in_ok-put_message-in-Message-clause-filled t c =
     λ m depth levels at base p0 frames there.
-    let start = typed_tag c.args.bytes.now c.args.left c.args.tag.number c.args.tag.wire_type 3 c.args.tag.size c.requires.start c.requires.tag in
+    let start = typed_tag c.args.bytes.now (Some c.args.left) c.args.tag.number c.args.tag.wire_type 3 c.args.tag.size c.requires.start c.requires.tag in
     let fills = whole_told _ c.in_ok-size.field-0 c.in-Whole.size c.in-Whole.is c.in_ok-size.ensures.filled in
     let read = field_group_inside at c.args.left c.args.bytes.now c.args.tag.number c.args.tag.size c.saturating_sub-before.result c.in-Whole.size c.args.room c.args.message_type c.args.slot (part_view c.take_message.new.outer) (body_view c.take_message.result) c.requires.rules there start c.requires.means c.requires.room c.take_message.ensures.left c.take_message.ensures.taken c.saturating_sub-before.ensures fills (ap part_view c.in-Message.is) in
     field_group_over (part_view c.put_message.new.outer) there.2 read.1 read.2 c.in_ok-put_message-in-Message.ensures
@@ -183,7 +183,7 @@ group::fill_unknown_group-fill_to_tag-requires t c =
     let is = ap length (slice_from c.args.tag.size c.args.bytes.now) ∙ length-drop c.args.tag.size c.args.bytes.now in
     let small = c.requires.small in
     let some = c.requires.some in
-    let start = typed_tag c.args.bytes.now c.args.left c.args.tag.number c.args.tag.wire_type 3 c.args.tag.size c.requires.start c.requires.tag in
+    let start = typed_tag c.args.bytes.now (Some c.args.left) c.args.tag.number c.args.tag.wire_type 3 c.args.tag.size c.requires.start c.requires.tag in
     let within = c.requires.within in
     let before = c.saturating_sub-before.ensures in
     let less : 8 * length (take (length c.args.bytes.now - c.args.tag.size) (drop c.args.tag.size c.args.bytes.now)) + 7 < 8 * length c.args.bytes.now + 4 = omega (arith, is, some, within) in (
@@ -200,7 +200,7 @@ group::fill_unknown_group-fill_to_tag-requires t c =
 pub group::fill_unknown_group-returns-in_ok-put_group-in-Group-clause-filled : goal.group::fill_unknown_group-returns-in_ok-put_group-in-Group-clause-filled
 group::fill_unknown_group-returns-in_ok-put_group-in-Group-clause-filled t c =
     λ m depth levels at base p0 frames there.
-    let start = typed_tag c.args.bytes.now c.args.left c.args.tag.number c.args.tag.wire_type 3 c.args.tag.size c.requires.start c.requires.tag in
+    let start = typed_tag c.args.bytes.now (Some c.args.left) c.args.tag.number c.args.tag.wire_type 3 c.args.tag.size c.requires.start c.requires.tag in
     let fills = whole_told _ c.in_ok-size.field-0 c.in-Whole.size c.in-Whole.is c.in_ok-size.ensures.filled in
     let read = unknown_group_inside at c.args.left c.args.bytes.now c.args.tag.number c.args.tag.size c.saturating_sub-before.result c.in-Whole.size c.args.room (records_of c.new.result.items) c.requires.rules there start c.requires.means c.requires.room (ap records_of c.new.ensures.items) c.saturating_sub-before.ensures fills (ap part_view c.in-Group.is) in
     unknown_group_over (part_view c.put_group.new.outer) there.2 read.1 read.2 c.in_ok-put_group-in-Group.ensures
