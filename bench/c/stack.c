@@ -1,5 +1,5 @@
 /* How much stack each call takes: stack SET. Each is made in a thread of its own, whose stack was painted before. The messages and groups nest 100
- * deep, as deep as they may, and the sources 64 deep. */
+ * deep, as deep as they may, and the sources 64 deep. In the maps each map has seventeen entries, the last with the next map in its value. */
 #define _GNU_SOURCE
 #include "mabristu.h"
 
@@ -15,8 +15,8 @@ enum { DEPTH = 100, STACK = 4 << 20 };
 
 static struct mb_pool pool;
 static uint32_t type;
-static uint8_t groups[2 * DEPTH], nested[8 * DEPTH], framed[8 * DEPTH + 2], set[1 << 20], out[1 << 16];
-static size_t nested_len, framed_len, set_len;
+static uint8_t groups[2 * DEPTH], nested[8 * DEPTH], framed[8 * DEPTH + 2], maps[1 << 15], set[1 << 20], out[1 << 16];
+static size_t nested_len, framed_len, maps_len, set_len;
 static char source[1 << 14];
 static struct mb_bytes name = {(const uint8_t *)"a.proto", 7}, text;
 
@@ -35,6 +35,8 @@ static uint32_t raw_check_cut(void) { return mb_raw_check(groups, sizeof groups 
 static uint32_t raw_short(void) { return mb_raw_short(groups, sizeof groups, LIMITS, OUT, FAULT); }
 static uint32_t check(void) { return mb_check(&pool, type, nested, nested_len, LIMITS, FAULT); }
 static uint32_t check_cut(void) { return mb_check(&pool, type, nested, nested_len - 1, LIMITS, FAULT); }
+static uint32_t check_maps(void) { return mb_check(&pool, type, maps, maps_len, LIMITS, FAULT); }
+static uint32_t show_maps(void) { return mb_show(&pool, type, maps, maps_len, LIMITS, OUT, FAULT); }
 static uint32_t check_groups(void) { return mb_check(&pool, type, groups, sizeof groups, LIMITS, FAULT); }
 static uint32_t canon(void) { return mb_canon(&pool, type, nested, nested_len, LIMITS, OUT, FAULT); }
 static uint32_t show(void) { return mb_show(&pool, type, nested, nested_len, LIMITS, OUT, FAULT); }
@@ -66,8 +68,27 @@ static const struct { const char *name; uint32_t (*call)(void); } calls[] = {
     {"mb_raw_check of groups", raw_check}, {"mb_raw_check of groups that are cut off", raw_check_cut}, {"mb_raw_short of groups", raw_short},
     {"mb_pool_link, and mb_pool_free", link_set}, {"mb_pool_compile, and mb_pool_free", compile}, {"mb_pool_share, and mb_pool_free", share},
     {"mb_pool_type", find}, {"mb_check", check}, {"mb_check of a message that is cut off", check_cut}, {"mb_check of unknown groups", check_groups},
-    {"mb_canon", canon}, {"mb_show", show}, {"mb_frames", frames},
+    {"mb_check of maps", check_maps}, {"mb_show of maps", show_maps}, {"mb_canon", canon}, {"mb_show", show}, {"mb_frames", frames},
 };
+
+/* Puts bytes before others. */
+static size_t put(uint8_t *at, size_t len, const void *bytes, size_t size)
+{
+    memmove(at + size, at, len);
+    memcpy(at, bytes, size);
+    return len + size;
+}
+
+/* Puts a tag and a length before the bytes that it counts. */
+static size_t wrap(uint8_t *at, size_t len, uint8_t tag)
+{
+    uint8_t front[6] = {tag};
+    size_t size = 1, left = len;
+    for (; left > 127; left >>= 7)
+        front[size++] = (uint8_t)(left | 128);
+    front[size++] = (uint8_t)left;
+    return put(at, len, front, size);
+}
 
 static void *work(void *call)
 {
@@ -85,21 +106,24 @@ int main(int argc, char **argv)
 
     memset(groups, 0x0b, DEPTH);
     memset(groups + DEPTH, 0x0c, DEPTH);
-    /* From the innermost message out: each is a record 1 of its length, of one byte or two. */
-    for (int i = 0; i < DEPTH; i++) {
-        size_t front = nested_len < 128 ? 2 : 3;
-        memmove(nested + front, nested, nested_len);
-        nested[0] = 0x0a;
-        nested[1] = (uint8_t)(nested_len < 128 ? nested_len : (nested_len & 127) | 128);
-        if (front == 3)
-            nested[2] = (uint8_t)(nested_len >> 7);
-        nested_len += front;
-    }
+    /* From the innermost out. */
+    for (int i = 0; i < DEPTH; i++)
+        nested_len = wrap(nested, nested_len, 0x0a);
     framed[0] = (uint8_t)((nested_len & 127) | 128);
     framed[1] = (uint8_t)(nested_len >> 7);
     memcpy(framed + 2, nested, nested_len);
     framed_len = nested_len + 2;
-    at += sprintf(at, "syntax = \"proto3\"; message T { T a = 1; } ");
+    for (int i = 0; i < DEPTH / 2; i++) {
+        maps_len = wrap(maps, maps_len, 0x12);
+        maps_len = put(maps, maps_len, "\x0a\x01z", 3);
+        maps_len = wrap(maps, maps_len, 0x12);
+        for (int k = 0; k < 16; k++) {
+            char entry[] = "\x12\x0a\x0a\x08key-0000";
+            entry[10] = (char)('a' + k);
+            maps_len = put(maps, maps_len, entry, 12);
+        }
+    }
+    at += sprintf(at, "syntax = \"proto3\"; message T { T a = 1; map<string, T> m = 2; } ");
     for (int i = 0; i < 64; i++)
         at += sprintf(at, "message N%d { ", i);
     for (int i = 0; i < 64; i++)

@@ -17,7 +17,6 @@ use Rattle.pb_decode.proofs.FrameLemmas.{stands_at_start}
 use Rattle.pb_decode.proofs.OntoText.{nothing_good}
 use Rattle.pb_decode.proofs.OriginLemmas.{top_well_formed}
 
-
 top_scope : ℕ → ℕ → Scope
 top_scope depth size = record { room = depth; end = Some size; counts = λ _. 0 }
 
@@ -27,8 +26,7 @@ at_start :
     → StandsIn pool k depth 101 [] (given_at 0 (Some (length b)) b) [] depth (message_part k v) (given_at 0 (Some (length b)) b)
 unfolding top_scope
 at_start pool k depth b v none deep within bytes =
-    let good = nothing_good pool k v none in
-    (
+    let good = nothing_good pool k v none in (
       top_scope depth (length b),
       stands_at_start pool k depth 101 [] (given_at 0 (Some (length b)) b) (top_scope depth (length b)) v (omega (arith, deep)) (none ∙ sym (value_of_nothing pool 101 k)) within good.parts
           (let low = good.depth in omega (arith, low)) bytes refl (λ n. refl) (length b, refl, omega arith),
