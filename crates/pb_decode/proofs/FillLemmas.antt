@@ -1,5 +1,5 @@
 -- What is read at once.
-use Rattle.std.proofs.Common.{◌≡◌, ℕ, ◌+◌, ◌-◌, ◌<◌, ◌≤◌, List, ◌∷◌, take, drop, length, refl, sym, ap, ◌∙◌, subst, arith, Bool, true, false, not, Option, Some, None, IfSome, option_map, Ordering, Less, Equal, Greater, nat_cmp}
+use Rattle.std.proofs.Common.{◌≡◌, ℕ, ◌+◌, ◌-◌, ◌<◌, List, ◌∷◌, take, drop, length, refl, sym, ap, ◌∙◌, subst, arith, Bool, true, false, not, Option, Some, None, IfSome, option_map, Ordering, Less, Equal, Greater, nat_cmp}
 use Rattle.std.specs.Ordering.{match_ordering}
 use Rattle.std.proofs.lemmas.Bool.{false≢true}
 use Rattle.pb_wire.specs.Record.{Record}
