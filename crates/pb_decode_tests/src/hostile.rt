@@ -182,8 +182,5 @@ pub(crate) fn are_nested(schema: &Schema, limits: Limits, words: &str) -> Result
     let innermost = bytes_of(schema.alloc, innermost)?;
     let bytes = maps_around(schema.alloc, &before, innermost, levels)?;
     let at_once = schema.decode(&bytes, limits);
-    Ok(
-        is_answered(schema.alloc, at_once, told)?
-            && is_fed(schema, limits, b"", &bytes, 1, told)?,
-    )
+    Ok(is_answered(schema.alloc, at_once, told)? && is_fed(schema, limits, b"", &bytes, 1, told)?)
 }

@@ -6,8 +6,8 @@ use super::messages::{is_merged, is_put_onto};
 use super::pieces::is_pushed;
 use super::rows::{
     ALIVE, CLOSED, CLOSED_GROWTHS, CLOSED_RUNS, DEEP, FALLING, FLAT, FRAMES, FRONTS, GROUP_GROWTHS,
-    GROUPS, GROWTHS, LISTS, MANY_RECORDS, MAPS, MAPS_IN_GROUPS, MAPS_IN_MAPS, MERGES, NESTED, ONE_RECORD, ONTO, PIECES, RECORDS, RUNS,
-    WORKED,
+    GROUPS, GROWTHS, LISTS, MANY_RECORDS, MAPS, MAPS_IN_GROUPS, MAPS_IN_MAPS, MERGES, NESTED,
+    ONE_RECORD, ONTO, PIECES, RECORDS, RUNS, WORKED,
 };
 use super::sample::{Schema, sample};
 use super::words::{limits_of, word};
