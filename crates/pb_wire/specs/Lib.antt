@@ -16,6 +16,7 @@ pub mod Limits
 pub mod Writable
 pub mod CauseName
 pub mod PathText
+pub mod ErrorText
 pub mod Zigzag
 pub mod Rest
 pub mod RecordIter

@@ -7,7 +7,6 @@ ghost use Rattle.pb_wire.specs.declared.fault.ReadError.TheVariants.{Fault, Memo
 use std::alloc::{AllocError, AllocFailed};
 use std::error::Error as StdError;
 use std::fmt;
-use thiserror::Error;
 
 /// Why bytes are refused. A cause shows as its name.
 #[derive(Clone, Copy, Debug, PartialEq, Eq)]
@@ -79,13 +78,25 @@ impl fmt::Display for Cause {
 
 impl StdError for Cause {}
 
-/// A fault without the path that leads to it.
-#[derive(Clone, Copy, Debug, PartialEq, Eq, Error)]
-#[error("{cause} at byte {byte}")]
+/// A fault without the path that leads to it. It shows as its cause and byte.
+#[derive(Clone, Copy, Debug, PartialEq, Eq)]
 pub struct WireFault {
     pub byte: u64,
     pub cause: Cause,
 }
+
+impl fmt::Display for WireFault {
+    ghost use Rattle.std.specs.Prelude.{Some};
+    ghost use Rattle.pb_wire.specs.ErrorText.{fault_text};
+
+    ghost output = { λ fault. Some (fault_text fault.byte fault.cause) };
+
+    fn fmt<W: fmt::Write>(&self, f: &mut fmt::Formatter<W>) -> fmt::Result {
+        write!(f, "{} at byte {}", self.cause, self.byte)
+    }
+}
+
+impl StdError for WireFault {}
 
 /// A step of a path: a record, by its number and by how many whole records of that number stand before it in the payload
 /// that holds it, whatever their wire types.
@@ -111,6 +122,11 @@ impl fmt::Display for PathStep {
 struct Steps<'a>(&'a [PathStep]);
 
 impl fmt::Display for Steps<'_> {
+    ghost use Rattle.std.specs.Prelude.{Some};
+    ghost use Rattle.pb_wire.specs.PathText.{path_text};
+
+    ghost output = { λ steps. Some (path_text steps.0.now) };
+
     fn fmt<W: fmt::Write>(&self, f: &mut fmt::Formatter<W>) -> fmt::Result {
         let Some((first, others)) = self.0.split_first() else {
             return f.write_str("-");
@@ -123,19 +139,36 @@ impl fmt::Display for Steps<'_> {
     }
 }
 
-/// Why records were not read or written.
-#[derive(Debug, Drop, Error)]
+/// Why records were not read or written. A fault shows as its cause, byte and path.
+#[derive(Debug, Drop)]
 pub enum RawError {
     /// The bytes are no records: where they fail, the steps to the open records outermost first, and why.
-    #[error("{cause} at byte {byte}, path {steps}", steps = Steps(.path))]
     Fault {
         byte: u64,
         path: Vec<PathStep>,
         cause: Cause,
     },
-    #[error("out of memory")]
     Memory,
 }
+
+impl fmt::Display for RawError {
+    ghost use Rattle.std.specs.Prelude.{Some};
+    ghost use Rattle.pb_wire.specs.ErrorText.{error_text};
+
+    ghost output = { λ error. Some (error_text error) };
+
+    fn fmt<W: fmt::Write>(&self, f: &mut fmt::Formatter<W>) -> fmt::Result {
+        match self {
+            RawError::Fault { byte, path, cause } => {
+                let steps = Steps(path);
+                write!(f, "{cause} at byte {byte}, path {steps}")
+            }
+            RawError::Memory => f.write_str("out of memory"),
+        }
+    }
+}
+
+impl StdError for RawError {}
 
 impl RawError {
     /// The error's number: 13 for a fault and 14 for want of memory.
