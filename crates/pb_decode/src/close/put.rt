@@ -15,6 +15,7 @@ use pb_value::{Body, Content, Value};
 use std::alloc::Global;
 
 /// Puts a message into a slot of the message that holds it: into the field of one value, or at the end of a list.
+#[inline(always)]
 fn put_in_message(
     alloc: Global,
     pool: &Pool,
@@ -40,6 +41,7 @@ fn put_in_message(
 }
 
 /// Puts a message into a slot of the part that holds it: of an entry, as its value.
+#[inline(always)]
 pub(crate) fn put_message(
     alloc: Global,
     pool: &Pool,

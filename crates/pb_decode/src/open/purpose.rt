@@ -67,6 +67,7 @@ fn of_single(kind: Kind, shape: Shape, number: u32) -> Purpose
 }
 
 /// What a record of an entry is for.
+#[inline(always)]
 fn of_entry(key_kind: Kind, value_kind: Kind, number: u32, wire_type: u8) -> Purpose
     ensures { OfEntry key_kind value_kind number wire_type result }
 {
@@ -83,6 +84,7 @@ fn of_entry(key_kind: Kind, value_kind: Kind, number: u32, wire_type: u8) -> Pur
 }
 
 /// What a record of a number and a wire type is for.
+#[inline(always)]
 pub(crate) fn purpose_of(pool: &Pool, part: &Part, number: u32, wire_type: u8) -> Purpose
     requires { CanHold pool.now (part_view part.now) }
     ensures { Means pool.now (part_context (part_view part.now)) number wire_type result }

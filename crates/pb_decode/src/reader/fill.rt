@@ -9,6 +9,7 @@ ghost use Rattle.pb_decode.specs.Values.PayloadValue.{IsBytesPurpose};
 ghost use Rattle.pb_decode.specs.Reader.Fills.{IsOpen, HasTagAt, FillsOne, FillsAll};
 
 pub(crate) mod entries;
+mod entries_ahead;
 pub(crate) mod group;
 
 use crate::close::closing::put_entry;
@@ -66,6 +67,37 @@ fn fill_one(
     }
 }
 
+/// Puts the element behind a tag into its list, if it stands whole there, with those of the same list that follow on it, and how
+/// many bytes their records take.
+fn fill_element(
+    alloc: Global,
+    pool: &Pool,
+    part: &mut Part,
+    tag: RecordTag,
+    kind: Kind,
+    bytes: &[u8],
+    left: u32,
+    room: u8,
+) -> Result<Option<usize>, NoMemory>
+    requires rules { IsPool pool.now }
+    requires open { IsOpen pool.now (part_view part.old) bytes.now left room }
+    requires small { length bytes.now < 2 ^ 31 }
+    requires number { (tag.wire_type ≡ 0) ⊎ (tag.wire_type ≡ 1) ⊎ (tag.wire_type ≡ 5) }
+    requires within { tag.size ≤ length bytes.now }
+    requires tag { HasTagAt bytes.now (Some left) tag.number tag.wire_type tag.size }
+    requires means { Means pool.now (part_context (part_view part.old)) tag.number tag.wire_type (purposes.Element kind) }
+    ensures passes { IfOk result (λ o. IfSome o (λ n. (tag.size ≤ n) × (n ≤ length bytes.now))) }
+    ensures filled { FillsOne pool.now part.old part.new bytes.now left room result }
+{
+    match fill_run(alloc, pool, part, tag, kind, bytes, left, room)? {
+        Some(used) => Ok(Some(used)),
+        None => {
+            let purpose = Purpose::Element(kind);
+            fill_one(alloc, pool, part, tag, purpose, bytes, left, room)
+        }
+    }
+}
+
 /// Puts the number behind a tag into a part, if it stands whole there, and how many bytes its record takes. An element takes
 /// those of its list with it that follow on it.
 #[inline(always)]
@@ -88,12 +120,15 @@ fn fill_number(
     ensures filled { FillsOne pool.now part.old part.new bytes.now left room result }
 {
     let purpose = purpose_of(pool, part, tag.number, tag.wire_type);
-    let Purpose::Element(kind) = purpose else {
-        return fill_one(alloc, pool, part, tag, purpose, bytes, left, room);
-    };
-    match fill_run(alloc, pool, part, tag, kind, bytes, left, room)? {
-        Some(used) => Ok(Some(used)),
-        None => fill_one(alloc, pool, part, tag, purpose, bytes, left, room),
+    match purpose {
+        Purpose::Element(kind) => fill_element(alloc, pool, part, tag, kind, bytes, left, room),
+        Purpose::One(_, _)
+        | Purpose::Packed(_)
+        | Purpose::Message(_, _)
+        | Purpose::Entry(_, _)
+        | Purpose::Key(_)
+        | Purpose::EntryValue(_)
+        | Purpose::Unknown => fill_one(alloc, pool, part, tag, purpose, bytes, left, room),
     }
 }
 

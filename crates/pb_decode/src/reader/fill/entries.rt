@@ -8,6 +8,7 @@ ghost use Rattle.pb_decode.specs.Open.Purposes.{Means, part_context};
 ghost use Rattle.pb_decode.specs.Reader.Entries.{IsMapOpen, TellsEntry, TellsEntries};
 ghost use Rattle.pb_decode.specs.Reader.Fills.{IsOpen, HasTagAt, FillsOne};
 
+use super::entries_ahead::entries_ahead;
 use super::{fill, fill_entry};
 use crate::close::closing::{key_or_default, value_or_missing};
 use crate::close::put_entries::{MANY, put_entries};
@@ -20,7 +21,7 @@ use pb_value::{MapKey, Value};
 use std::alloc::Global;
 
 /// An entry of less bytes goes into its map by itself, so that what a run holds follows its bytes, also where keys repeat.
-const LEAST: usize = 8;
+pub(super) const LEAST: usize = 8;
 
 /// The entry behind a tag at the front of some bytes, with so many bytes before the known end and so many levels left, and how
 /// many bytes its record takes, if it stands whole there. Where its payload was read and is none, `tried` is where it ends.
@@ -137,7 +138,7 @@ pub(crate) fn read_entries(
     ensures few { IfOk result (λ r. length r.0.items ≤ r.1) }
     ensures put { TellsEntries pool.now number key_kind value_kind bytes.now left room result }
 {
-    let mut entries = Vec::new(alloc);
+    let mut entries = Vec::with_capacity(alloc, entries_ahead(bytes, left))?;
     let mut here = 0;
     while here < bytes.len() {
         let Some((entry, size)) = entry_at(

@@ -322,11 +322,11 @@ entries::entry_behind-returns-in-Entry-clause-put t c =
 -- ENTRY BY ENTRY the run goes on, and one stands behind it
 pub entries::read_entries-loop-here-init : goal.entries::read_entries-loop-here-init
 entries::read_entries-loop-here-init t c =
-    let none = ap length c.new-entries.ensures.items in
+    let none = ap length c.in_ok-entries.ensures.items in
     record {
       within = omega arith;
       few = omega (arith, none);
-      put = λ m depth levels at base p0 frames scope now stands level means. none_read at c.args.left c.args.bytes.now c.args.number c.new-entries.result.items c.new-entries.ensures.items stands;
+      put = λ m depth levels at base p0 frames scope now stands level means. none_read at c.args.left c.args.bytes.now c.args.number c.in_ok-entries.entries.items c.in_ok-entries.ensures.items stands;
     }
 
 pub entries::read_entries-entry_at-requires : goal.entries::read_entries-entry_at-requires
