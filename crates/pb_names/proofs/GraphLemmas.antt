@@ -59,6 +59,11 @@ pub lists_more : {X : Type 0} (g : X → List ℕ) (xs : List X) (i : ℕ) (x : 
 lists_more g xs i x vs v less is was new =
     map-append (λ (u : Vec ℕ Global). u.items) vs (v ∷ []) ∙ ap (λ l. l ++ v.items ∷ []) was ∙ ap (λ l. map g (take i xs) ++ l ∷ []) new ∙ sym (map_more g xs i x less is)
 
+pub named_more : {X : Type 0} (t : List ℕ → Option ℕ) (text : X → List ℕ) (xs : List X) (i : ℕ) (x : X) (old new : List ℕ) (r : Option ℕ) → i < length xs → x ≡ get_or xs i x → r ≡ t (text x) → old ≡ filter_map t (map text (take i xs)) → new ≡ old ++ option_to_list r → new ≡ filter_map t (map text (take (i + 1) xs))
+named_more t text xs i x old new r less is at was now =
+    now ∙ ap (λ l. l ++ option_to_list r) was ∙ ap (λ o. filter_map t (map text (take i xs)) ++ option_to_list o) at
+    ∙ sym (ap (filter_map t) (map_more text xs i x less is) ∙ filter_map-append t (map text (take i xs)) (text x ∷ []) ∙ ap (λ l. filter_map t (map text (take i xs)) ++ l) (as_list (t (text x))))
+
 pub map_twice : {X Y Z : Type 0} (f : Y → Z) (g : X → Y) (xs : List X) → map f (map g xs) ≡ map (λ x. f (g x)) xs
 map_twice f g [] = refl
 map_twice f g (x ∷ xs) = ap (λ l. f (g x) ∷ l) (map_twice f g xs)
@@ -115,7 +120,7 @@ name_stands files index f end size some within is at sized =
     up = omega (arith, some)
 
 -- TARGETS: what each import names
-filter_alike : {X Y : Type 0} (g h : X → Option Y) → ((x : X) → g x ≡ h x) → (xs : List X) → filter_map g xs ≡ filter_map h xs
+pub filter_alike : {X Y : Type 0} (g h : X → Option Y) → ((x : X) → g x ≡ h x) → (xs : List X) → filter_map g xs ≡ filter_map h xs
 filter_alike g h same [] = refl
 filter_alike g h same (x ∷ xs) = ap (λ o. cons_option o (filter_map g xs)) (same x) ∙ ap (cons_option (h x)) (filter_alike g h same xs)
 

@@ -139,7 +139,18 @@ fn public_of(
     Ok(indexes)
 }
 
-/// The imports of a file, and the public ones.
+/// The files that imports name. A name that no file has is left out.
+fn files_named(alloc: Global, firsts: &Firsts, names: &[String]) -> Result<Vec<usize>, AllocError>
+    ensures { IfOk result (λ v. v.items ≡ filter_map (first_at firsts.now) (map string_bytes names.now)) }
+{
+    let mut indexes: Vec<usize> = Vec::with_capacity(alloc, names.len())?;
+    for name in names {
+        push_target(&mut indexes, firsts.get(name.as_str().as_bytes()))?;
+    }
+    Ok(indexes)
+}
+
+/// The imports of a file, and the public ones. What each import names is kept where there are public ones.
 fn imports_of(
     alloc: Global,
     firsts: &Firsts,
@@ -148,6 +159,10 @@ fn imports_of(
     ensures { (files : List DeclaredFile) → ((name : List ℕ) → first_at firsts.now name ≡ file_named files name)
         → IfOk result (λ r. (r.0.items ≡ (file_of files (file_view file.now)).imports) × (r.1.items ≡ (public_file_of files (file_view file.now)).imports)) }
 {
+    if file.public.is_empty() {
+        let all = files_named(alloc, firsts, &file.imports)?;
+        return Ok((all, Vec::new(alloc)));
+    }
     let targets = targets(alloc, firsts, &file.imports)?;
     let all = all_of(alloc, &targets)?;
     let public = public_of(alloc, &targets, &file.public)?;
