@@ -1,23 +1,26 @@
 -- Imports as graphs: what they lead to are files, and what is reached along them is seen.
-use Rattle.std.proofs.Common.{◌≡◌, ℕ, zero, suc, ◌+◌, ◌<◌, ◌≤◌, ◌≢◌, ◌↔◌, ◌⊎◌, inl, inr, ⊎_elim, List, [], ◌∷◌, ◌++◌, map, take, length, get_or, Bool, true, false, ◌==◌, ◌&&◌, not, refl, sym, ap, ◌∙◌, subst, arith, IsTrue, Contains, Option, Some, None, cond, Vec, Global}
+use Rattle.std.proofs.Common.{◌≡◌, ℕ, zero, suc, ◌+◌, ◌-◌, ◌<◌, ◌≤◌, ◌≢◌, ◌↔◌, ◌⊎◌, inl, inr, ⊎_elim, List, [], ◌∷◌, ◌++◌, map, take, length, drop, get_or, Bool, true, false, ◌==◌, ◌&&◌, not, refl, sym, ap, ◌∙◌, subst, arith, append_assoc, length-append, IsTrue, Contains, Option, Some, None, cond, Vec, Global}
 use Rattle.std.specs.Prelude.{ℤ, pos, negsuc, filter_map, option_and_then, option_to_list, slice_get}
 use Rattle.std.specs.List.{AllByRecursion, cons_option, enumerate_from, position_from}
 use Rattle.std.specs.Cmp.{unsigned_Decides}
 use Rattle.std.specs.Str.{bytes_eq}
 use Rattle.std.proofs.lemmas.Bool.{cases_eq, false≢true}
 use Rattle.std.proofs.lemmas.Option.{none-some}
-use Rattle.std.proofs.lemmas.List.{length-map, take_more, take_all, map-append}
+use Rattle.std.proofs.lemmas.List.{length-map, take_more, take_all, map-append, append-nil}
+use Rattle.std.proofs.lemmas.Grind.{flat_map-append}
 use Rattle.std.proofs.lemmas.List.Elements.{filter_map-append}
 use Rattle.std.proofs.lemmas.Slice.Eq.{bytes_eq-Decides}
+use Rattle.std.proofs.Math.Seq.{take-append_seam, drop-append_seam}
 use Rattle.pb_schema.specs.Types.{FileView}
 use Rattle.pb_schema.specs.Imports.{imports_of, Reaches, directly, further}
+use Rattle.pb_schema.proofs.LookupLemmas.{get_viewed}
 use Rattle.pb_schema.proofs.ImportLemmas.{next_files, reaches_from, reached_by}
 use Rattle.pb_decl.specs.Decls.{DeclaredFile}
 use Rattle.pb_decl.specs.View.{file_view}
 use Rattle.pb_decl.specs.declared.decl.FileDecl.{FileDecl}
 use Rattle.pb_names.specs.Sees.{file_named, import_at, file_of, files_of, public_file_of, public_files_of, Sees, itself, imported, onward}
 use Rattle.pb_sets.specs.Reach.{graph_of, next_of, Reached, begun, further as led, IsGraph, is_marked}
-use Rattle.pb_names.specs.Graphs.{target_at, AreImports, LeadToFiles, KnowsSight, sees_by, is_file}
+use Rattle.pb_names.specs.Graphs.{target_at, joined_names, AreImports, LeadToFiles, KnowsSight, sees_by, is_file}
 use Rattle.pb_names.specs.declared.imports.Imports.{Imports}
 use Rattle.pb_names.specs.declared.sight.Sight.{Sight}
 use Rattle.pb_names.proofs.AnyLemmas.{or_cases, or_first, or_second, same_test}
@@ -56,12 +59,68 @@ pub lists_more : {X : Type 0} (g : X → List ℕ) (xs : List X) (i : ℕ) (x : 
 lists_more g xs i x vs v less is was new =
     map-append (λ (u : Vec ℕ Global). u.items) vs (v ∷ []) ∙ ap (λ l. l ++ v.items ∷ []) was ∙ ap (λ l. map g (take i xs) ++ l ∷ []) new ∙ sym (map_more g xs i x less is)
 
+pub named_more : {X : Type 0} (t : List ℕ → Option ℕ) (text : X → List ℕ) (xs : List X) (i : ℕ) (x : X) (old new : List ℕ) (r : Option ℕ) → i < length xs → x ≡ get_or xs i x → r ≡ t (text x) → old ≡ filter_map t (map text (take i xs)) → new ≡ old ++ option_to_list r → new ≡ filter_map t (map text (take (i + 1) xs))
+named_more t text xs i x old new r less is at was now =
+    now ∙ ap (λ l. l ++ option_to_list r) was ∙ ap (λ o. filter_map t (map text (take i xs)) ++ option_to_list o) at
+    ∙ sym (ap (filter_map t) (map_more text xs i x less is) ∙ filter_map-append t (map text (take i xs)) (text x ∷ []) ∙ ap (λ l. filter_map t (map text (take i xs)) ++ l) (as_list (t (text x))))
+
 pub map_twice : {X Y Z : Type 0} (f : Y → Z) (g : X → Y) (xs : List X) → map f (map g xs) ≡ map (λ x. f (g x)) xs
 map_twice f g [] = refl
 map_twice f g (x ∷ xs) = ap (λ l. f (g x) ∷ l) (map_twice f g xs)
 
+-- JOINED NAMES
+pub joined_push : (files : List FileDecl) (i : ℕ) (f : FileDecl) → i < length files → f ≡ get_or files i f → joined_names (map file_view (take (i + 1) files)) ≡ joined_names (map file_view (take i files)) ++ (file_view f).name
+joined_push files i f less is =
+    ap joined_names (map_more file_view files i f less is) ∙ flat_map-append (λ (g : DeclaredFile). g.name) (map file_view (take i files)) (file_view f ∷ []) ∙ ap (λ l. joined_names (map file_view (take i files)) ++ l) (append-nil (file_view f).name)
+
+joined_split : (fs : List DeclaredFile) (k : ℕ) (f : DeclaredFile) → slice_get fs k ≡ Some f → joined_names fs ≡ joined_names (take k fs) ++ (f.name ++ joined_names (drop (suc k) fs))
+joined_split [] k f there = absurd (none-some f there)
+joined_split (g ∷ fs) zero f there = ap (λ (h : DeclaredFile). h.name ++ joined_names fs) (some_same g f there)
+joined_split (g ∷ fs) (suc k) f there =
+    ap (λ l. g.name ++ l) (joined_split fs k f there) ∙ sym (append_assoc g.name (joined_names (take k fs)) (f.name ++ joined_names (drop (suc k) fs)))
+
+size_first : (a b n : ℕ) → n ≡ a + 0 → a ≡ b → n ≡ 0 + b
+size_first a b n h e = omega (arith, h, e)
+
+size_more : (g a b n m f : ℕ) → n ≡ g + a → m ≡ g + b → a ≡ b + f → n ≡ m + f
+size_more g a b n m f x y z = omega (arith, x, y, z)
+
+pub joined_size : (fs : List DeclaredFile) (k : ℕ) (f : DeclaredFile) → slice_get fs k ≡ Some f → length (joined_names (take (suc k) fs)) ≡ length (joined_names (take k fs)) + length f.name
+joined_size [] k f there = absurd (none-some f there)
+joined_size (g ∷ fs) zero f there = size_first (length g.name) (length f.name) _ (length-append g.name []) (ap (λ (h : DeclaredFile). length h.name) (some_same g f there))
+joined_size (g ∷ fs) (suc k) f there = size_more (length g.name) _ _ _ _ (length f.name) (length-append g.name (joined_names (take (suc k) fs))) (length-append g.name (joined_names (take k fs))) (joined_size fs k f there)
+
+middle : (xs ys zs : List ℕ) (n : ℕ) → n ≡ length ys → take n (drop (length xs) (xs ++ (ys ++ zs))) ≡ ys
+middle xs ys zs n is = ap (take n) (drop-append_seam xs (ys ++ zs)) ∙ ap (λ m. take m (ys ++ zs)) is ∙ take-append_seam ys zs
+
+-- the name of the file at an index, of so many bytes, stands behind those before
+pub record NameStands (fs : List DeclaredFile) (k : ℕ) (f : DeclaredFile) (end size : ℕ) : Type 0 where
+  pub begins : size ≤ end
+  pub before : end - size ≡ length (joined_names (take k fs))
+  pub is : take (end - (end - size)) (drop (end - size) (joined_names fs)) ≡ f.name
+
+stands_at : (fs : List DeclaredFile) (k : ℕ) (f : DeclaredFile) (end size : ℕ) → slice_get fs k ≡ Some f → end ≡ length (joined_names (take (suc k) fs)) → size ≡ length f.name → NameStands fs k f end size
+stands_at fs k f end size there at is = record {
+  begins = omega (arith, at, is, joined_size fs k f there);
+  before = starts;
+  is =
+      ap (λ n. take (end - (end - size)) (drop n (joined_names fs))) starts
+      ∙ ap (λ l. take (end - (end - size)) (drop (length (joined_names (take k fs))) l)) (joined_split fs k f there)
+      ∙ middle (joined_names (take k fs)) f.name (joined_names (drop (suc k) fs)) (end - (end - size)) (omega (arith, at, is, joined_size fs k f there));
+}
+  where
+    starts : end - size ≡ length (joined_names (take k fs))
+    starts = omega (arith, at, is, joined_size fs k f there)
+
+pub name_stands : (files : List FileDecl) (index : ℕ) (f : FileDecl) (end size : ℕ) → 0 < index → index ≤ length files → f ≡ get_or files (index - 1) f → end ≡ length (joined_names (take index (map file_view files))) → size ≡ length (file_view f).name → NameStands (map file_view files) (index - 1) (file_view f) end size
+name_stands files index f end size some within is at sized =
+    stands_at (map file_view files) (index - 1) (file_view f) end size (get_viewed file_view files (index - 1) f (omega (arith, some, within)) is) (at ∙ ap (λ n. length (joined_names (take n (map file_view files)))) up) sized
+  where
+    up : index ≡ suc (index - 1)
+    up = omega (arith, some)
+
 -- TARGETS: what each import names
-filter_alike : {X Y : Type 0} (g h : X → Option Y) → ((x : X) → g x ≡ h x) → (xs : List X) → filter_map g xs ≡ filter_map h xs
+pub filter_alike : {X Y : Type 0} (g h : X → Option Y) → ((x : X) → g x ≡ h x) → (xs : List X) → filter_map g xs ≡ filter_map h xs
 filter_alike g h same [] = refl
 filter_alike g h same (x ∷ xs) = ap (λ o. cons_option o (filter_map g xs)) (same x) ∙ ap (cons_option (h x)) (filter_alike g h same xs)
 

@@ -1,7 +1,7 @@
 -- Imports of files as graphs over their indexes.
 use Rattle.std.specs.Prelude.{◌≡◌, ◌↔◌, ℕ, ℤ, pos, negsuc, List, map, Bool, false, ◌==◌, ◌||◌, Option, Some, None, IsTrue, option_and_then, slice_get, vec_len}
 use Rattle.pb_decl.specs.Decls.{DeclaredFile}
-use Rattle.std.specs.List.{enumerate_from}
+use Rattle.std.specs.List.{enumerate_from, flat_map}
 use Rattle.pb_names.specs.Sees.{file_named, files_of, public_files_of}
 use Rattle.pb_sets.specs.Reach.{graph_of, next_of, Reached, IsGraph, is_marked, IsListed}
 use Rattle.pb_names.specs.declared.imports.Imports.{Imports}
@@ -19,6 +19,10 @@ is_file (Some i) j = i == j
 -- whether each file stands where its name leads
 abbrev pub first_marks : (List ℕ → Option ℕ) → List DeclaredFile → List Bool
 first_marks named files = map (λ e. is_file (named e.1.name) e.0) (enumerate_from 0 files)
+
+-- the names of files, each behind the one before
+abbrev pub joined_names : List DeclaredFile → List ℕ
+joined_names files = flat_map (λ f. f.name) files
 
 -- whether each file is the first of its name
 abbrev pub AreFirst : List DeclaredFile → Imports → Type 0

@@ -18,7 +18,9 @@ next_place p i = slice_index_or p.next.items i None
 pub record ArePlaces (ds : List Declaration) (from : ℕ) (p : Places) : Type 0 where
   pub size : length p.next.items ≡ length ds
   pub firsts : (name : List ℕ) → first_at p.firsts name ≡ position_from (has_name name) from (drop from ds)
-  pub next : (i : ℕ) (d : Declaration) → from ≤ i → slice_get ds i ≡ Some d → IsTrue (is_named d.item) → next_place p i ≡ position_from (has_name (full_name d)) (i + 1) (drop (i + 1) ds)
+  pub next :
+      (i : ℕ) (d : Declaration) → from ≤ i → slice_get ds i ≡ Some d → IsTrue (is_named d.item)
+      → next_place p i ≡ position_from (has_name (full_name d)) (i + 1) (drop (i + 1) ds)
 
 -- a declaration is put before those behind it
 pub record PutsPlace (place : ℕ) (d : Declaration) (old new : Places) : Type 0 where

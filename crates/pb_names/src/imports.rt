@@ -7,7 +7,7 @@ ghost use Rattle.pb_decl.specs.Decls.{DeclaredFile};
 ghost use Rattle.pb_decl.specs.View.{file_view};
 ghost use Rattle.pb_names.specs.Sees.{file_named, file_of, public_file_of};
 ghost use Rattle.pb_names.specs.Firsts.{first_at};
-ghost use Rattle.pb_names.specs.Graphs.{target_at, is_file, first_marks, AreImports, AreFirst, LeadToFiles};
+ghost use Rattle.pb_names.specs.Graphs.{target_at, is_file, first_marks, joined_names, AreImports, AreFirst, LeadToFiles};
 
 use crate::firsts::Firsts;
 use pb_decl::FileDecl;
@@ -36,22 +36,38 @@ fn unmark(marks: &mut Vec<bool>, file: Option<usize>)
     marks[file] = false;
 }
 
-/// The first file of each name, and of each file whether it is that one.
+/// The names of files, each behind the one before. What is looked up there touches little memory, wherever the names themselves stand.
+fn joined_names(alloc: Global, files: &[FileDecl]) -> Result<Vec<u8>, AllocError>
+    ensures { IfOk result (λ v. v.items ≡ joined_names (map file_view files.now)) }
+{
+    let mut names: Vec<u8> = Vec::new(alloc);
+    for file in files {
+        names.extend_from_slice(file.name.as_str().as_bytes())?;
+    }
+    Ok(names)
+}
+
+/// The first file of each name, and of each file whether it is that one. The names are those of the files, joined.
 fn files_by_name<'a>(
     alloc: Global,
-    files: &'a [FileDecl],
+    files: &[FileDecl],
+    names: &'a [u8],
 ) -> Result<(Firsts<'a>, Vec<bool>), AllocError>
+    requires { names.now ≡ joined_names (map file_view files.now) }
     ensures named { IfOk result (λ r. (name : List ℕ) → first_at r.0 name ≡ file_named (map file_view files.now) name) }
     ensures marked { IfOk result (λ r. r.1.items ≡ first_marks (file_named (map file_view files.now)) (map file_view files.now)) }
 {
     let mut firsts = Firsts::with_room(alloc, files.len())?;
     let mut marks: Vec<bool> = vec![in alloc; false; files.len()]?;
     let mut index = files.len();
+    let mut end = names.len();
     while index > 0 {
         index -= 1;
-        let later = firsts.put(files[index].name.as_str().as_bytes(), index)?;
+        let start = end - files[index].name.len();
+        let later = firsts.put(&names[start..end], index)?;
         unmark(&mut marks, later);
         marks[index] = true;
+        end = start;
     }
     Ok((firsts, marks))
 }
@@ -123,7 +139,18 @@ fn public_of(
     Ok(indexes)
 }
 
-/// The imports of a file, and the public ones.
+/// The files that imports name. A name that no file has is left out.
+fn files_named(alloc: Global, firsts: &Firsts, names: &[String]) -> Result<Vec<usize>, AllocError>
+    ensures { IfOk result (λ v. v.items ≡ filter_map (first_at firsts.now) (map string_bytes names.now)) }
+{
+    let mut indexes: Vec<usize> = Vec::with_capacity(alloc, names.len())?;
+    for name in names {
+        push_target(&mut indexes, firsts.get(name.as_str().as_bytes()))?;
+    }
+    Ok(indexes)
+}
+
+/// The imports of a file, and the public ones. What each import names is kept where there are public ones.
 fn imports_of(
     alloc: Global,
     firsts: &Firsts,
@@ -132,6 +159,10 @@ fn imports_of(
     ensures { (files : List DeclaredFile) → ((name : List ℕ) → first_at firsts.now name ≡ file_named files name)
         → IfOk result (λ r. (r.0.items ≡ (file_of files (file_view file.now)).imports) × (r.1.items ≡ (public_file_of files (file_view file.now)).imports)) }
 {
+    if file.public.is_empty() {
+        let all = files_named(alloc, firsts, &file.imports)?;
+        return Ok((all, Vec::new(alloc)));
+    }
     let targets = targets(alloc, firsts, &file.imports)?;
     let all = all_of(alloc, &targets)?;
     let public = public_of(alloc, &targets, &file.public)?;
@@ -145,7 +176,8 @@ impl Imports {
         ensures lead { IfOk result LeadToFiles }
         ensures first { IfOk result (AreFirst (map file_view files.now)) }
     {
-        let (firsts, are_first) = files_by_name(alloc, files)?;
+        let names = joined_names(alloc, files)?;
+        let (firsts, are_first) = files_by_name(alloc, files, &names)?;
         let mut all = Vec::with_capacity(alloc, files.len())?;
         let mut public = Vec::with_capacity(alloc, files.len())?;
         for file in files {

@@ -1,5 +1,6 @@
-use Rattle.std.proofs.Common.{◌≡◌, ◌-◌, ◌+◌, ◌<◌, ◌∙◌, Some, sym, List, ℕ, map, drop, length, get_or, false, true, ◌&&◌, not, ap, cond, subst, arith}
+use Rattle.std.proofs.Common.{◌≡◌, ◌-◌, ◌+◌, ◌<◌, ◌∙◌, Some, sym, List, ℕ, map, take, drop, length, get_or, false, true, ◌&&◌, not, ap, cond, subst, arith}
 use Rattle.std.specs.Prelude.{string_bytes}
+use Rattle.std.specs.String.{string_len}
 use Rattle.std.specs.List.{position_from}
 use Rattle.std.specs.Str.{bytes_eq}
 use Rattle.std.proofs.lemmas.List.{length-map, length-set, get_or-set_same, get_or-set_other}
@@ -11,8 +12,13 @@ use Rattle.pb_names.specs.Firsts.{first_at}
 use Rattle.pb_names.specs.Sees.{file_named}
 use Rattle.pb_names.specs.Graphs.{is_file}
 use Rattle.pb_names.proofs.FirstsLemmas.{firsts_more, position_from-first}
-use Rattle.pb_names.proofs.GraphLemmas.{Marked, marked_more, all_marked, marks_alike}
+use Rattle.pb_names.proofs.GraphLemmas.{Marked, marked_more, all_marked, marks_alike, name_stands}
 use Rattle.pb_names.proofs.imports.files_by_name.Goals as goal
+
+pub overflow_sub-start : goal.overflow_sub-start
+overflow_sub-start c =
+    let size : c.len.result ≡ length (string_bytes c.index-files-index.result.name) = omega (arith, c.len.ensures ∙ ap (λ (f : FileDecl). string_len f.name) (sym c.index-files-index.is), c.index-files-index.result.name.bytes.ok.0) in
+    (name_stands c.args.files.now c.loop-index.index c.index-files-index.result c.loop-index.end c.len.result (omega arith) c.loop-index.invariant.0 c.index-files-index.is c.loop-index.invariant.4 size).begins
 
 pub loop-index-preserved : goal.loop-index-preserved
 loop-index-preserved c =
@@ -22,7 +28,11 @@ loop-index-preserved c =
     let t = first_at c.loop-index.firsts in
     let held = c.unmark.new.marks.items in
     let at = get_viewed file_view c.args.files.now k c.index-files-index.result (omega arith) c.index-files-index.is in
-    let named : c.as_bytes.result.now ≡ g.name = c.as_bytes.ensures.value ∙ c.as_str.ensures.value ∙ ap (λ (f : FileDecl). string_bytes f.name) (sym c.index-files-index.is) in
+    let end = c.loop-index.end in
+    let start = end - c.len.result in
+    let size : c.len.result ≡ length (string_bytes c.index-files-index.result.name) = omega (arith, c.len.ensures ∙ ap (λ (f : FileDecl). string_len f.name) (sym c.index-files-index.is), c.index-files-index.result.name.bytes.ok.0) in
+    let stands = name_stands c.args.files.now c.loop-index.index c.index-files-index.result end c.len.result (omega arith) c.loop-index.invariant.0 c.index-files-index.is c.loop-index.invariant.4 size in
+    let named : take (end - start) (drop start c.args.names.now) ≡ g.name = ap (λ (l : List ℕ). take (end - start) (drop start l)) c.requires ∙ stands.is in
     let inside : k < length held = omega (arith, c.unmark.ensures.size, c.loop-index.invariant.2) in
     let up : c.loop-index.index ≡ k + 1 = omega arith in (
       omega arith,
@@ -32,6 +42,8 @@ loop-index-preserved c =
           (get_or-set_same held k true false inside)
           (λ i ne. get_or-set_other held k i true false ne ∙ c.unmark.ensures.unmarked i ∙ ap (λ o. get_or c.loop-index.marks.items i false && not (is_file o i)) (c.in_ok-later.ensures.later ∙ ap t named))
           (subst (Marked F t c.loop-index.marks.items) up c.loop-index.invariant.3),
+      stands.before,
+      omega (arith, c.loop-index.invariant.5),
     )
 
 pub returns-clause-named : goal.returns-clause-named
