@@ -175,6 +175,7 @@ pub(crate) fn has_shape(shape: Shape, content: &Content) -> bool
 }
 
 /// Whether a scalar is the default of its kind; of a float or double +0 alone.
+#[inline(always)]
 fn is_default(value: &Value) -> bool
     ensures { result ≡ is_default_datum (value_view value.now) }
 {
