@@ -31,6 +31,8 @@ pub mod RuleLemmas
 -- ---- the rule that full names differ
 -- for names that are added one after another, and wherever it counts whether the elements of a list differ
 pub mod NameSetLemmas
+-- for names of files, each of which differs from those before
+pub mod FileNameLemmas
 -- for `NameTree`: names as words in scopes
 pub mod NameTreeLemmas
 -- for `message_names`: full names, level by level

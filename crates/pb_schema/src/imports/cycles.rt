@@ -1,6 +1,6 @@
 //! No file reaches itself by imports: one pass over files and imports.
 
-ghost use Rattle.std.specs.Prelude.{◌≡◌, ◌↔◌, ◌<◌, IsTrue, IfOk, Some, map, length, slice_get};
+ghost use Rattle.std.specs.Prelude.{◌≡◌, ◌↔◌, ◌<◌, [], IsTrue, IfOk, Some, map, length, slice_get};
 ghost use Rattle.std.specs.List.{slice_index_or};
 ghost use Rattle.pb_schema.specs.View.{file_view};
 ghost use Rattle.pb_schema.specs.Imports.{imports_of};
@@ -30,20 +30,22 @@ fn import_at(files: &[FileInfo], file: usize, index: usize) -> Option<usize>
 }
 
 /// Walks from a file that was not seen, depth first. False where a file of the path imports one of the path. The path has, with each
-/// file, how many of its imports are done.
+/// file, how many of its imports are done. It is empty between walks, and its memory serves the next one.
 fn walk_from(
-    alloc: Global,
     files: &[FileInfo],
     start: usize,
     progress: &mut Vec<Progress>,
+    path: &mut Vec<(usize, usize)>,
 ) -> Result<bool, AllocError>
     requires imports { ImportsNameFiles (map file_view files.now) }
+    requires empty { path.old.items ≡ [] }
     requires within { start < length files.now }
     requires unseen { slice_index_or progress.old.items start Unseen ≡ Unseen }
     requires settled { AreSettled (map file_view files.now) progress.old.items }
-    ensures { IfOk result (AnswersWalk (map file_view files.now) start progress.old.items progress.new.items) }
+    ensures walked { IfOk result (AnswersWalk (map file_view files.now) start progress.old.items progress.new.items) }
+    ensures empty { IfOk result (λ goes_on. IsTrue goes_on → path.new.items ≡ []) }
 {
-    let mut path = vec![in alloc; (start, 0)]?;
+    path.push((start, 0))?;
     progress[start] = Progress::Open;
     while let Some((file, next)) = path.pop() {
         match import_at(files, file, next) {
@@ -69,9 +71,10 @@ pub(crate) fn no_file_reaches_itself(alloc: Global, files: &[FileInfo]) -> Resul
     ensures { IfOk result (λ holds. IsTrue holds ↔ NoFileReachesItself (map file_view files.now)) }
 {
     let mut progress = vec![in alloc; Progress::Unseen; files.len()]?;
+    let mut path = Vec::new(alloc);
     for index in 0..files.len() {
         if progress[index] == Progress::Unseen {
-            let free = walk_from(alloc, files, index, &mut progress)?;
+            let free = walk_from(files, index, &mut progress, &mut path)?;
             if !free {
                 return Ok(false);
             }

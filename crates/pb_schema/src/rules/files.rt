@@ -5,9 +5,9 @@ ghost use Rattle.std.specs.List.{AllByRecursion};
 ghost use Rattle.pb_schema.specs.View.{file_view};
 ghost use Rattle.pb_schema.specs.Rules.{FilesAreNamed, FileNamesDiffer, PackagesAreWords, ImportsAreFew, ImportsNameFiles};
 
-use crate::names::set::AddedNames;
 use crate::names::words::is_package;
 use crate::types::FileInfo;
+use indexmap::IndexSet;
 use std::alloc::{AllocError, Global};
 
 /// The most imports that a file has.
@@ -27,11 +27,15 @@ pub(crate) fn files_are_named(files: &[FileInfo]) -> bool
 pub(crate) fn file_names_differ(alloc: Global, files: &[FileInfo]) -> Result<bool, AllocError>
     ensures { IfOk result (λ holds. IsTrue holds ↔ FileNamesDiffer (map file_view files.now)) }
 {
-    let mut names = AddedNames::new(alloc);
+    // The names stay where they stand: no name is copied.
+    let mut names: IndexSet<&[u8]> = IndexSet::with_capacity(alloc, files.len())?;
     for file in files {
-        names.add(file.name.as_str().as_bytes().to_vec(alloc)?)?;
+        let is_new = names.insert(file.name.as_str().as_bytes())?;
+        if !is_new {
+            return Ok(false);
+        }
     }
-    Ok(names.differ)
+    Ok(true)
 }
 
 pub(crate) fn packages_are_words(files: &[FileInfo]) -> bool

@@ -14,7 +14,7 @@ loop-file-init c =
     let P = c.args.progress.now.items in
     let within : c.args.start < length F = omega (arith, length-map c.args.files.now file_view, c.requires.within) in
     let in_list : c.args.start < length P = omega (arith, within, c.requires.settled.done.size) in
-    rw c.in_ok-path.ensures.items (walk-start F P c.args.start c.requires.settled within c.requires.unseen, onward-start c.args.start P in_list c.requires.unseen)
+    rw (c.in_ok-push.ensures.items, c.requires.empty) (walk-start F P c.args.start c.requires.settled within c.requires.unseen, onward-start c.args.start P in_list c.requires.unseen)
 
 pub import_at-requires : goal.import_at-requires
 import_at-requires c =
@@ -73,8 +73,8 @@ loop-file-preserved-in-Continue-branch-2 c =
     let is : progress_of P j ≡ Done = sym (get_or_read P j c.index.result.now (omega (arith, there, w.done.size)) c.index.ensures Unseen) ∙ c.in-Done.is in
     rw c.in_ok-push-in-Done.ensures.items (walk-advance F P c.pop.new.self.items c.in-Some.file c.in-Some.next j w at is, c.loop-file.invariant.1)
 
-pub returns-in-Open : goal.returns-in-Open
-returns-in-Open c =
+pub returns-in-Open-clause-walked : goal.returns-in-Open-clause-walked
+returns-in-Open-clause-walked c =
     let F = map file_view c.args.files.now in
     let P = c.loop-file.progress.items in
     let j = c.in-Some-import_at.import in
@@ -121,6 +121,6 @@ loop-file-preserved c =
       onward-push c.args.start j c.args.progress.now.items P c.loop-file.invariant.1 in_list is,
     )
 
-pub returns : goal.returns
-returns c =
+pub returns-clause-walked : goal.returns-clause-walked
+returns-clause-walked c =
     walk-answers (map file_view c.args.files.now) c.args.start c.args.progress.now.items c.loop-file.progress.items c.loop-file.path.items (omega (arith, c.loop-file.path.ok.0, c.in_default.ensures.cases)) c.loop-file.invariant.0 c.loop-file.invariant.1
