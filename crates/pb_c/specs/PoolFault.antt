@@ -60,7 +60,8 @@ TellsBytes (PoolFault.in_link file name c) old new old_path new_path = (new ≡ 
 
 -- The fault is answered, and told in both ways.
 pub record TellsFault
-    (w : PoolFault) (answer : ℕ) (old new : FaultReport) (old_path new_path : List Step) (old_refusal new_refusal : Refusal) (old_text new_text : List ℕ) : Type 0 where
+    (w : PoolFault) (answer : ℕ) (old new : FaultReport) (old_path new_path : List Step)
+    (old_refusal new_refusal : Refusal) (old_text new_text : List ℕ) : Type 0 where
   pub bytes : TellsBytes w old new old_path new_path
   pub refusal : TellsRefusal w answer old_refusal new_refusal old_text new_text
 

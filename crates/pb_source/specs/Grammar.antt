@@ -74,7 +74,8 @@ unlabelled rules f ts =
 -- field     = [ "repeated" | "optional" ] type word "=" integer [ opts ] ";"
 abbrev pub message_statement : Rules → (DeclaredMessage → Language) → MessageStatement → Language
 message_statement rules Message MessageStatement.nothing_said = option rules or mark ";"
-message_statement rules Message (MessageStatement.a_field f) = (keyword "repeated" ▸ field rules Repeated f) or (keyword "optional" ▸ field rules Optional f) or unlabelled rules f
+message_statement rules Message (MessageStatement.a_field f) =
+    (keyword "repeated" ▸ field rules Repeated f) or (keyword "optional" ▸ field rules Optional f) or unlabelled rules f
 message_statement rules Message (MessageStatement.a_map m) = map_line rules m
 message_statement rules Message (MessageStatement.a_oneof n fs) = oneof rules n fs
 message_statement rules Message (MessageStatement.a_message m) = Message m
@@ -125,7 +126,8 @@ service_statement rules (Some m) = method rules m
 -- service   = "service" word "{" { option | rpc | ";" } "}"
 abbrev pub service : Rules → DeclaredService → Language
 service rules s ts =
-    (ss : List (Option DeclaredMethod)) × (s.methods ≡ those_said ss) × (keyword "service" ▸ name s.name ▸ mark "{" ▸ Until (service_statement rules) (mark "}") ss) ts
+    (ss : List (Option DeclaredMethod)) × (s.methods ≡ those_said ss)
+    × (keyword "service" ▸ name s.name ▸ mark "{" ▸ Until (service_statement rules) (mark "}") ss) ts
 
 -- ---- files
 

@@ -34,5 +34,6 @@ pub data HasFault (bytes : List ℕ) : ℕ → SourceCause → Type 0 where
   bad_utf8 : length bytes ≤ 2 ^ 31 - 1 → ¬ IsUtf8 bytes → HasFault bytes (utf8_valid_len bytes) BadUtf8
   in_token : {place : ℕ} {c : SourceCause} → length bytes ≤ 2 ^ 31 - 1 → IsUtf8 bytes → LexFault bytes place c → HasFault bytes place c
   in_syntax :
-      {ts : List PlacedToken} {ss : List PlacedSymbol} {k : ℕ} {c : SourceCause} → length bytes ≤ 2 ^ 31 - 1 → IsUtf8 bytes → AreTokens bytes ts → AreSymbols ts ss
+      {ts : List PlacedToken} {ss : List PlacedSymbol} {k : ℕ} {c : SourceCause}
+      → length bytes ≤ 2 ^ 31 - 1 → IsUtf8 bytes → AreTokens bytes ts → AreSymbols ts ss
       → SyntaxFault (symbols_alone ss) k c → HasFault bytes (place_in ss (length bytes) k) c

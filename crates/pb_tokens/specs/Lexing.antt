@@ -7,7 +7,9 @@ use Rattle.pb_tokens.specs.declared.lexing.Piece.TheVariants as piece
 
 -- the first n bytes are a blank or a comment
 abbrev pub IsGap : ℕ → List ℕ → Type 0
-IsGap n bs = ((n ≡ 1) × (c : ℕ) × (rest : List ℕ) × (bs ≡ c ∷ rest) × (is_blank c ≡ true)) ⊎ ((c : List ℕ) × (rest : List ℕ) × (bs ≡ c ++ rest) × (length c ≡ n) × Comment c rest)
+IsGap n bs =
+    ((n ≡ 1) × (c : ℕ) × (rest : List ℕ) × (bs ≡ c ∷ rest) × (is_blank c ≡ true))
+    ⊎ ((c : List ℕ) × (rest : List ℕ) × (bs ≡ c ++ rest) × (length c ≡ n) × Comment c rest)
 
 -- the first n bytes are a token
 abbrev pub IsTokenAt : TokenKind → ℕ → List ℕ → Type 0

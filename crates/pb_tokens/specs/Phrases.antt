@@ -136,9 +136,11 @@ value_end rules ts = mark ";" ts ⊎ ((us : List (Unit {0})) × options (λ _. a
 
 abbrev pub scalar_words : List (List ℕ × TypeCode)
 scalar_words =
-    (codes "double", code.Double) ∷ (codes "float", code.Float) ∷ (codes "int32", code.Int32) ∷ (codes "int64", code.Int64) ∷ (codes "uint32", code.Uint32)
-    ∷ (codes "uint64", code.Uint64) ∷ (codes "sint32", code.Sint32) ∷ (codes "sint64", code.Sint64) ∷ (codes "fixed32", code.Fixed32) ∷ (codes "fixed64", code.Fixed64)
-    ∷ (codes "sfixed32", code.Sfixed32) ∷ (codes "sfixed64", code.Sfixed64) ∷ (codes "bool", code.Bool) ∷ (codes "string", code.Text) ∷ (codes "bytes", code.Bytes) ∷ []
+    (codes "double", code.Double) ∷ (codes "float", code.Float)
+    ∷ (codes "int32", code.Int32) ∷ (codes "int64", code.Int64) ∷ (codes "uint32", code.Uint32) ∷ (codes "uint64", code.Uint64)
+    ∷ (codes "sint32", code.Sint32) ∷ (codes "sint64", code.Sint64) ∷ (codes "fixed32", code.Fixed32) ∷ (codes "fixed64", code.Fixed64)
+    ∷ (codes "sfixed32", code.Sfixed32) ∷ (codes "sfixed64", code.Sfixed64)
+    ∷ (codes "bool", code.Bool) ∷ (codes "string", code.Text) ∷ (codes "bytes", code.Bytes) ∷ []
 
 abbrev pub found_in : {X : Type 0} → List (List ℕ × X) → List ℕ → Option X
 found_in [] w = None

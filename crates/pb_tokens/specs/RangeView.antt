@@ -20,7 +20,10 @@ greatest_within Enum = pos 2147483647
 
 -- what follows `to`
 abbrev pub last_reader : Within → Reader ℤ
-last_reader within = choice (is_keyword (codes "max")) (mapped (λ _. greatest_within within) (keyword_reader (codes "max"))) (mapped (end_within within) (bound_within within))
+last_reader within =
+    choice (is_keyword (codes "max"))
+    (mapped (λ _. greatest_within within) (keyword_reader (codes "max")))
+    (mapped (end_within within) (bound_within within))
 
 abbrev pub range_within : Within → Reader (ℤ × ℤ)
 range_within within = range_reader (bound_within within) (end_within within) (greatest_within within)

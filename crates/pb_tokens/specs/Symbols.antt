@@ -35,10 +35,15 @@ BeginsNoText (t ∷ ts) = t.kind ≢ Text
 -- the symbols of tokens: as many texts as follow one another are one
 pub data AreSymbols : List PlacedToken → List PlacedSymbol → Type 0 where
   none : AreSymbols [] []
-  a_word : {t : PlacedToken} {ts : List PlacedToken} {ss : List PlacedSymbol} → t.kind ≡ Word → AreSymbols ts ss → AreSymbols (t ∷ ts) (record { at = t.at; symbol = word t.text } ∷ ss)
+  a_word :
+      {t : PlacedToken} {ts : List PlacedToken} {ss : List PlacedSymbol}
+      → t.kind ≡ Word → AreSymbols ts ss → AreSymbols (t ∷ ts) (record { at = t.at; symbol = word t.text } ∷ ss)
   a_number :
-      {t : PlacedToken} {ts : List PlacedToken} {ss : List PlacedSymbol} → t.kind ≡ Number → AreSymbols ts ss → AreSymbols (t ∷ ts) (record { at = t.at; symbol = number t.text } ∷ ss)
-  a_sign : {t : PlacedToken} {ts : List PlacedToken} {ss : List PlacedSymbol} → t.kind ≡ Sign → AreSymbols ts ss → AreSymbols (t ∷ ts) (record { at = t.at; symbol = sign t.text } ∷ ss)
+      {t : PlacedToken} {ts : List PlacedToken} {ss : List PlacedSymbol}
+      → t.kind ≡ Number → AreSymbols ts ss → AreSymbols (t ∷ ts) (record { at = t.at; symbol = number t.text } ∷ ss)
+  a_sign :
+      {t : PlacedToken} {ts : List PlacedToken} {ss : List PlacedSymbol}
+      → t.kind ≡ Sign → AreSymbols ts ss → AreSymbols (t ∷ ts) (record { at = t.at; symbol = sign t.text } ∷ ss)
   texts :
       {t : PlacedToken} (run ts : List PlacedToken) {all : List PlacedToken} {ss : List PlacedSymbol} {vs : List ℕ}
       → Joined (t ∷ run) vs → BeginsNoText ts → AreSymbols ts ss → all ≡ t ∷ run ++ ts → AreSymbols all (record { at = t.at; symbol = text vs } ∷ ss)

@@ -67,7 +67,9 @@ abbrev pub meant_from : ℕ → ℕ → List ℕ → List ℕ
 meant_from quote k [] = []
 meant_from quote (suc k) (c ∷ cs) = meant_from quote k cs
 meant_from quote zero (c ∷ cs) =
-    if is_plain quote c then c ∷ meant_from quote 0 cs else (if c == 92 && not (escape_len cs == 0) then escape_meaning cs ++ meant_from quote (escape_len cs) cs else [])
+    if is_plain quote c then c ∷ meant_from quote 0 cs
+    else if c == 92 && not (escape_len cs == 0) then escape_meaning cs ++ meant_from quote (escape_len cs) cs
+    else []
 
 -- the bytes that a text means, by those that it has
 abbrev pub text_meaning : List ℕ → List ℕ

@@ -64,7 +64,12 @@ abbrev mutual
 
 abbrev mutual
   pub from_payload : Gv → Payload
-  from_payload (gcons t (gcons x0 _)) = if from_num t == 0 then varint (from_num x0) else (if from_num t == 1 then fixed64 (from_num x0) else (if from_num t == 2 then len (from_list x0) else (if from_num t == 3 then group (from_group x0) else (fixed32 (from_num x0)))))
+  from_payload (gcons t (gcons x0 _)) =
+      if from_num t == 0 then varint (from_num x0)
+      else if from_num t == 1 then fixed64 (from_num x0)
+      else if from_num t == 2 then len (from_list x0)
+      else if from_num t == 3 then group (from_group x0)
+      else fixed32 (from_num x0)
   from_payload _ = varint 0
 
   pub from_group : Gv → Group
@@ -108,7 +113,17 @@ to_scalar (text x0) = gcons (gnum 8) (gcons (to_list x0) gnil)
 to_scalar (bytes x0) = gcons (gnum 9) (gcons (to_list x0) gnil)
 
 abbrev pub from_scalar : Gv → Scalar
-from_scalar (gcons t (gcons x0 _)) = if from_num t == 0 then int32 (from_int x0) else (if from_num t == 1 then int64 (from_int x0) else (if from_num t == 2 then uint32 (from_num x0) else (if from_num t == 3 then uint64 (from_num x0) else (if from_num t == 4 then boolean (from_bool x0) else (if from_num t == 5 then float (from_num x0) else (if from_num t == 6 then double (from_num x0) else (if from_num t == 7 then enum (from_int x0) else (if from_num t == 8 then text (from_list x0) else (bytes (from_list x0))))))))))
+from_scalar (gcons t (gcons x0 _)) =
+    if from_num t == 0 then int32 (from_int x0)
+    else if from_num t == 1 then int64 (from_int x0)
+    else if from_num t == 2 then uint32 (from_num x0)
+    else if from_num t == 3 then uint64 (from_num x0)
+    else if from_num t == 4 then boolean (from_bool x0)
+    else if from_num t == 5 then float (from_num x0)
+    else if from_num t == 6 then double (from_num x0)
+    else if from_num t == 7 then enum (from_int x0)
+    else if from_num t == 8 then text (from_list x0)
+    else bytes (from_list x0)
 from_scalar _ = int32 (pos 0)
 
 pub from_scalar-to_scalar : (x : Scalar) → from_scalar (to_scalar x) ≡ x
@@ -162,7 +177,10 @@ abbrev mutual
   from_entries _ = no_entries
 
   pub from_holding : Gv → Holding
-  from_holding (gcons t (gcons x0 _)) = if from_num t == 0 then one (from_datum x0) else (if from_num t == 1 then list (from_datums x0) else (map (from_entries x0)))
+  from_holding (gcons t (gcons x0 _)) =
+      if from_num t == 0 then one (from_datum x0)
+      else if from_num t == 1 then list (from_datums x0)
+      else map (from_entries x0)
   from_holding _ = list no_datums
 
   pub from_fields : Gv → Fields

@@ -3,7 +3,9 @@ use Rattle.std.specs.Prelude.{ℕ, zero, suc, ℤ, List, [], ◌∷◌, codes, B
 use Rattle.std.specs.Str.{bytes_eq}
 use Rattle.pb_decl.specs.Decls.{DeclaredField, DeclaredEnum, DeclaredMessage, DeclaredMethod, DeclaredService}
 use Rattle.pb_decl.specs.declared.decl.TypeCode.{TypeCode}
-use Rattle.pb_tokens.specs.Readers.Phrases.{is_dot, listed, name_reader, fullname_reader, typename_reader, counted_reader, signed_reader, is_text, option_reader, setting_reader, field_end_reader, value_end_reader, type_of, type_reader, key_reader, message_range_reader, enum_range_reader, utf8_reader}
+use Rattle.pb_tokens.specs.Readers.Phrases.{is_dot, listed, name_reader, fullname_reader, typename_reader, counted_reader, signed_reader}
+use Rattle.pb_tokens.specs.Readers.Phrases.{is_text, utf8_reader, option_reader, setting_reader, field_end_reader, value_end_reader}
+use Rattle.pb_tokens.specs.Readers.Phrases.{type_of, type_reader, key_reader, message_range_reader, enum_range_reader}
 use Rattle.pb_tokens.specs.declared.rule.Rule.TheVariants.{SyntaxFirst as syntax_first, NestsBounded as nests_bounded}
 use Rattle.pb_tokens.specs.Symbols.{Symbol, word, number, text, sign}
 use Rattle.pb_tokens.specs.Said.{TypeSaid, joined}
@@ -85,7 +87,10 @@ kind_of words other signs (text b) = None
 
 abbrev pub oneof_kind : Symbol → Option OneofKind
 oneof_kind =
-    kind_of ((codes "option", Some in_a_oneof.Option) ∷ []) (Some in_a_oneof.Field) ((codes ";", Some in_a_oneof.Empty) ∷ (codes ".", Some in_a_oneof.Field) ∷ [])
+    kind_of
+    ((codes "option", Some in_a_oneof.Option) ∷ [])
+    (Some in_a_oneof.Field)
+    ((codes ";", Some in_a_oneof.Empty) ∷ (codes ".", Some in_a_oneof.Field) ∷ [])
 
 abbrev pub oneof_line : ℕ → OneofKind → Option (Reader (Option DeclaredField))
 oneof_line n in_a_oneof.Empty = Some (mapped (λ _. None) (mark_reader (codes ";")))
@@ -105,7 +110,9 @@ oneof_reader n = behind (keyword_reader (codes "oneof")) (both name_reader (mapp
 unfoldable pub reserved_reader : {A : Type 0} → ℕ → Reader (ℤ × ℤ) → (List (ℤ × ℤ) → A) → (List (List ℕ) → A) → Reader A
 reserved_reader n range of_ranges of_names =
     behind (keyword_reader (codes "reserved"))
-    (choice is_text (mapped of_names (before (listed n utf8_reader) (mark_reader (codes ";")))) (mapped of_ranges (before (listed n range) (mark_reader (codes ";")))))
+    (choice is_text
+    (mapped of_names (before (listed n utf8_reader) (mark_reader (codes ";"))))
+    (mapped of_ranges (before (listed n range) (mark_reader (codes ";")))))
 
 -- ---- enums
 
@@ -140,8 +147,9 @@ enum_reader n = mapped (λ x. enum_of x.0 x.1) (behind (keyword_reader (codes "e
 abbrev pub message_kind : Symbol → Option MessageKind
 message_kind =
     kind_of
-    ((codes "message", Some in_message.Message) ∷ (codes "enum", Some in_message.Enum) ∷ (codes "option", Some in_message.Option) ∷ (codes "oneof", Some in_message.Oneof)
-    ∷ (codes "reserved", Some in_message.Reserved) ∷ (codes "optional", Some in_message.Optional) ∷ (codes "repeated", Some in_message.Repeated)
+    ((codes "message", Some in_message.Message) ∷ (codes "enum", Some in_message.Enum)
+    ∷ (codes "option", Some in_message.Option) ∷ (codes "oneof", Some in_message.Oneof) ∷ (codes "reserved", Some in_message.Reserved)
+    ∷ (codes "optional", Some in_message.Optional) ∷ (codes "repeated", Some in_message.Repeated)
     ∷ (codes "required", None) ∷ (codes "extend", None) ∷ (codes "extensions", None) ∷ (codes "map", Some in_message.Map) ∷ [])
     (Some in_message.Field)
     ((codes ";", Some in_message.Empty) ∷ (codes ".", Some in_message.Field) ∷ [])
@@ -153,9 +161,12 @@ message_statement_line n inner in_message.Option = Some (mapped (λ _. MessageSt
 message_statement_line n inner in_message.Message = option_map (mapped MessageStatement.a_message) inner
 message_statement_line n inner in_message.Enum = Some (mapped MessageStatement.an_enum (enum_reader n))
 message_statement_line n inner in_message.Oneof = Some (mapped (λ x. MessageStatement.a_oneof x.0 x.1) (oneof_reader n))
-message_statement_line n inner in_message.Reserved = Some (reserved_reader n message_range_reader MessageStatement.reserved_ranges MessageStatement.reserved_names)
-message_statement_line n inner in_message.Repeated = Some (mapped MessageStatement.a_field (behind (keyword_reader (codes "repeated")) (field_reader n Repeated)))
-message_statement_line n inner in_message.Optional = Some (mapped MessageStatement.a_field (behind (keyword_reader (codes "optional")) (field_reader n Optional)))
+message_statement_line n inner in_message.Reserved =
+    Some (reserved_reader n message_range_reader MessageStatement.reserved_ranges MessageStatement.reserved_names)
+message_statement_line n inner in_message.Repeated =
+    Some (mapped MessageStatement.a_field (behind (keyword_reader (codes "repeated")) (field_reader n Repeated)))
+message_statement_line n inner in_message.Optional =
+    Some (mapped MessageStatement.a_field (behind (keyword_reader (codes "optional")) (field_reader n Optional)))
 message_statement_line n inner in_message.Map = Some (map_reader n)
 message_statement_line n inner in_message.Field = Some (mapped MessageStatement.a_field (field_reader n Unlabelled))
 
@@ -254,8 +265,8 @@ package_reader n = mapped joined (behind (keyword_reader (codes "package")) (bef
 abbrev pub file_kind : Symbol → Option FileKind
 file_kind =
     kind_of
-    ((codes "import", Some in_file.Import) ∷ (codes "package", Some in_file.Package) ∷ (codes "option", Some in_file.Option) ∷ (codes "message", Some in_file.Message)
-    ∷ (codes "enum", Some in_file.Enum) ∷ (codes "service", Some in_file.Service) ∷ [])
+    ((codes "import", Some in_file.Import) ∷ (codes "package", Some in_file.Package) ∷ (codes "option", Some in_file.Option)
+    ∷ (codes "message", Some in_file.Message) ∷ (codes "enum", Some in_file.Enum) ∷ (codes "service", Some in_file.Service) ∷ [])
     None
     ((codes ";", Some in_file.Empty) ∷ [])
 
@@ -285,7 +296,8 @@ syntax_text_in (sign c) = None
 -- syntax    = "syntax" "=" text ";"
 unfoldable pub syntax_reader : Reader (Unit {0})
 syntax_reader =
-    behind (symbol (judged syntax_first syntax_word_in)) (behind (mark_reader (codes "=")) (behind (symbol (judged syntax_first syntax_text_in)) (mark_reader (codes ";"))))
+    behind (symbol (judged syntax_first syntax_word_in)) (behind (mark_reader (codes "="))
+    (behind (symbol (judged syntax_first syntax_text_in)) (mark_reader (codes ";"))))
 
 abbrev pub is_package : FileStatement → Bool
 is_package FileStatement.nothing_said = false

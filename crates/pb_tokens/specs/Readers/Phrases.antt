@@ -92,7 +92,8 @@ plus_or_minus_reader =
 -- constant  = [ "-" | "+" ] integer | [ "-" | "+" ] fullname | text
 unfoldable pub constant_reader : ℕ → Reader (Unit {0})
 constant_reader n =
-    choice is_text (tested is_text) (behind plus_or_minus_reader (choice is_number (mapped (λ _. tt) (symbol (plain integer_in))) (mapped (λ _. tt) (fullname_reader n))))
+    choice is_text (tested is_text)
+    (behind plus_or_minus_reader (choice is_number (mapped (λ _. tt) (symbol (plain integer_in))) (mapped (λ _. tt) (fullname_reader n))))
 
 abbrev pub part_in : Symbol → Option (List ℕ × Bool)
 part_in (word w) = Some (w, true)
@@ -179,7 +180,8 @@ key_reader = symbol (plain key_in)
 unfoldable pub range_reader : Reader ℤ → (ℤ → ℤ) → ℤ → Reader (ℤ × ℤ)
 range_reader bound end greatest =
     chain bound (λ a. choice (is_keyword (codes "to"))
-    (behind (keyword_reader (codes "to")) (choice (is_keyword (codes "max")) (mapped (λ _. (a, greatest)) (keyword_reader (codes "max"))) (mapped (λ z. (a, end z)) bound)))
+    (behind (keyword_reader (codes "to")) (choice (is_keyword (codes "max"))
+    (mapped (λ _. (a, greatest)) (keyword_reader (codes "max"))) (mapped (λ z. (a, end z)) bound)))
     (answer (a, end a)))
 
 abbrev pub message_range_reader : Reader (ℤ × ℤ)
