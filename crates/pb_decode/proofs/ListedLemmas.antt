@@ -2,20 +2,28 @@
 use Rattle.std.proofs.Common.{◌≡◌, ℕ, ◌+◌, ◌-◌, List, [], ◌∷◌, ◌++◌, map, take, drop, length, refl, sym, ap, ◌∙◌, subst, Option, Some, None, IfSome}
 use Rattle.std.proofs.lemmas.List.{map-append}
 use Rattle.pb_schema.specs.declared.types.Kind.{Kind}
-use Rattle.pb_schema.specs.Types.{Types}
+use Rattle.pb_schema.specs.declared.types.MessageId.{MessageId}
+use Rattle.pb_schema.specs.declared.types.Shape.{Shape}
+use Rattle.pb_schema.specs.declared.types.Shape.TheVariants as shape
+use Rattle.pb_schema.specs.Types.{FieldView, Types, message_fields, field_numbered}
 use Rattle.pb_schema.specs.Kinds.{wire_type_of}
 use Rattle.pb_schema.specs.Context.{Context}
-use Rattle.pb_value.specs.Data.{Datum}
-use Rattle.pb_value.specs.View.{value_view}
+use Rattle.pb_value.specs.Data.{Datum, message, Message as MessageOf}
+use Rattle.pb_value.specs.View.{body_view, value_view}
+use Rattle.pb_value.specs.declared.body.Body.{Body}
 use Rattle.pb_value.specs.declared.body.Value.{Value}
-use Rattle.pb_decode.specs.declared.open.purpose.Purpose.TheVariants.{Element}
-use Rattle.pb_decode.specs.Open.Frames.{Part, message_part, entry_part, group_part}
-use Rattle.pb_decode.specs.Open.Purposes.{Means, part_context}
+use Rattle.pb_value.specs.declared.body.Value.TheVariants as value
+use Rattle.pb_value.proofs.Views.{value_view-Message}
+use Rattle.pb_decode.specs.declared.open.part.Slot.TheVariants.{List as ListSlot}
+use Rattle.pb_decode.specs.declared.open.purpose.Purpose.{Purpose}
+use Rattle.pb_decode.specs.declared.open.purpose.Purpose.TheVariants.{Element, Message}
+use Rattle.pb_decode.specs.Open.Frames.{Part, message_part, entry_part, group_part, put_message}
+use Rattle.pb_decode.specs.Open.Purposes.{OfShape, AtField, Means, part_context}
 use Rattle.pb_decode.specs.Values.Run.{put_listed, put_each}
 use Rattle.pb_decode.specs.Reader.Fills.{FillsTo}
-use Rattle.pb_decode.specs.Reader.Listed.{FillsList}
+use Rattle.pb_decode.specs.Reader.Listed.{FillsRun, FillsList, IsListOpen}
 use Rattle.pb_decode.proofs.RunLemmas.{each_next}
-use Rattle.pb_decode.proofs.FillLemmas.{filled_further}
+use Rattle.pb_decode.proofs.FillLemmas.{nothing_filled, still_open, filled_further}
 
 -- what is told of each is told of the one that is there
 pub told_of_some : {A : Type 0} (P Q : A → Type 0) (o : Option A) → ((a : A) → P a → Q a) → IfSome o P → IfSome o Q
@@ -33,15 +41,63 @@ each_context n [] p = refl
 each_context n (d ∷ ds) p = each_context n ds (put_listed n d p) ∙ listed_context n d p
 
 -- ONE MORE RECORD of the list behind those that are read
-pub listed_further :
-    {pool : Types} (kind : Kind) (number : ℕ) (vs ws : List Value) (v : Value) (bytes : List ℕ) (left used more : ℕ) → ws ≡ vs ++ v ∷ [] → FillsList pool kind number (map value_view vs) bytes left used
-    → FillsList pool kind number (value_view v ∷ []) (take (length bytes - used) (drop used bytes)) (left - used) more → FillsList pool kind number (map value_view ws) bytes left (used + more)
-listed_further {pool} kind number vs ws v bytes left used more is so_far next room now means =
+pub values_further :
+    {pool : Types} (type number : ℕ) (meant : Purpose) (vs ws : List Value) (v : Value) (bytes : List ℕ) (left room used more : ℕ) → ws ≡ vs ++ v ∷ [] → FillsRun pool number type meant (map value_view vs) bytes left room used
+    → FillsRun pool number type meant (value_view v ∷ []) (take (length bytes - used) (drop used bytes)) (left - used) room more → FillsRun pool number type meant (map value_view ws) bytes left room (used + more)
+values_further {pool} type number meant vs ws v bytes left room used more is so_far next now means =
     let then : Part = put_each number (map value_view vs) now in
-    let still = subst (λ (z : Context). Means pool z number (wire_type_of kind) (Element kind)) (sym (each_context number (map value_view vs) now)) means in
+    let still = subst (λ (z : Context). Means pool z number type meant) (sym (each_context number (map value_view vs) now)) means in
     let same : put_each number (value_view v ∷ []) then ≡ put_each number (map value_view ws) now =
     sym
     (ap (λ (z : List Value). put_each number (map value_view z) now) is ∙ ap (λ (z : List Datum). put_each number z now) (map-append value_view vs (v ∷ []))
     ∙ each_next number (map value_view vs) (value_view v) now) in
     subst (λ (z : Part). FillsTo pool now z bytes left room (used + more)) same
-    (filled_further now then (put_each number (value_view v ∷ []) then) bytes left room used more (so_far room now means) (next room then still))
+    (filled_further now then (put_each number (value_view v ∷ []) then) bytes left room used more (so_far now means) (next then still))
+
+pub listed_further :
+    {pool : Types} (kind : Kind) (number : ℕ) (vs ws : List Value) (v : Value) (bytes : List ℕ) (left used more : ℕ) → ws ≡ vs ++ v ∷ [] → FillsList pool kind number (map value_view vs) bytes left used
+    → FillsList pool kind number (value_view v ∷ []) (take (length bytes - used) (drop used bytes)) (left - used) more → FillsList pool kind number (map value_view ws) bytes left (used + more)
+listed_further kind number vs ws v bytes left used more is so_far next room =
+    values_further (wire_type_of kind) number (Element kind) vs ws v bytes left room used more is (so_far room) (next room)
+
+-- A LIST OF MESSAGES: its records have its number
+list_shaped : (k : Kind) (s : Shape) (n w m : ℕ) (j : MessageId) → OfShape k s n w (Message j (ListSlot m)) → m ≡ n
+list_shaped k (shape.List packed) n w m j h = h.1
+list_shaped k (shape.Map key) n w m j h = absurd h
+list_shaped k shape.Implicit n w m j h = absurd h
+list_shaped k shape.Explicit n w m j h = absurd h
+list_shaped k (shape.OneofMember o) n w m j h = absurd h
+
+list_at : (f : Option FieldView) (n w m : ℕ) (j : MessageId) → AtField f n w (Message j (ListSlot m)) → m ≡ n
+list_at None n w m j h = absurd (cc)
+list_at (Some f) n w m j h = list_shaped f.kind f.shape n w m j h.1
+
+pub list_number : (pool : Types) (p : Part) (n w m : ℕ) (j : MessageId) → Means pool (part_context p) n w (Message j (ListSlot m)) → m ≡ n
+list_number pool (message_part k v) n w m j h = list_at (field_numbered n (message_fields pool k)) n w m j h
+list_number pool (entry_part key k x d) n w m j h = absurd h
+list_number pool (group_part us) n w m j h = absurd (cc)
+
+-- and a message goes to its end
+message_listed_view : (pool : Types) (n : ℕ) (p : Part) (w : MessageOf) → put_listed n (message w) p ≡ put_message pool (ListSlot n) p w
+message_listed_view pool n (message_part m v) w = refl
+message_listed_view pool n (entry_part key k x d) w = refl
+message_listed_view pool n (group_part us) w = refl
+
+pub message_listed : (pool : Types) (n : ℕ) (p : Part) (b : Body) → put_listed n (value_view (value.Message b)) p ≡ put_message pool (ListSlot n) p (body_view b)
+message_listed pool n p b = ap (λ (d : Datum). put_listed n d p) (value_view-Message b) ∙ message_listed_view pool n p (body_view b)
+
+-- no message is read yet
+pub none_listed :
+    {pool : Types} (type number : ℕ) (meant : Purpose) (vs : List Value) (bytes : List ℕ) (left room : ℕ) → vs ≡ [] → FillsRun pool number type meant (map value_view vs) bytes left room 0
+none_listed {pool} type number meant vs bytes left room none now means =
+    subst (λ (z : List Value). FillsTo pool now (put_each number (map value_view z) now) bytes left room 0) (sym none) (nothing_filled now bytes left room)
+
+-- so many bytes on the list goes on
+pub list_further :
+    {pool : Types} {number : ℕ} {of_type : MessageId} (vs : List Value) (bytes : List ℕ) (left room used : ℕ) → IsListOpen pool number of_type bytes left room
+    → FillsRun pool number 2 (Message of_type (ListSlot number)) (map value_view vs) bytes left room used → IsListOpen pool number of_type (take (length bytes - used) (drop used bytes)) (left - used) room
+list_further {pool} {number} {of_type} vs bytes left room used from so_far = record {
+  now = put_each number (map value_view vs) from.now;
+  there = still_open from.now (put_each number (map value_view vs) from.now) bytes left room used from.there (so_far from.now from.means);
+  means = subst (λ (z : Context). Means pool z number 2 (Message of_type (ListSlot number))) (sym (each_context number (map value_view vs) from.now)) from.means;
+}

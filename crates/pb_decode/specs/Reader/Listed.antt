@@ -2,22 +2,28 @@
 use Rattle.std.specs.Prelude.{ℕ, List, [], ◌∷◌, map, Option, Vec, Result, IfOk, IfSome}
 use Rattle.std.specs.declared.alloc.Global.{Global}
 use Rattle.pb_schema.specs.declared.types.Kind.{Kind}
+use Rattle.pb_schema.specs.declared.types.MessageId.{MessageId}
 use Rattle.pb_schema.specs.Types.{Types}
 use Rattle.pb_schema.specs.Kinds.{wire_type_of}
 use Rattle.pb_value.specs.declared.body.Value.{Value}
 use Rattle.pb_value.specs.Data.{Datum}
 use Rattle.pb_value.specs.View.{value_view}
-use Rattle.pb_decode.specs.declared.open.purpose.Purpose.TheVariants.{Element}
+use Rattle.pb_decode.specs.declared.open.part.Slot.TheVariants.{List as ListSlot}
+use Rattle.pb_decode.specs.declared.open.purpose.Purpose.{Purpose}
+use Rattle.pb_decode.specs.declared.open.purpose.Purpose.TheVariants.{Element, Message}
 use Rattle.pb_decode.specs.Open.Frames.{Part}
 use Rattle.pb_decode.specs.Open.Purposes.{Means, part_context}
 use Rattle.pb_decode.specs.Values.Run.{put_each}
-use Rattle.pb_decode.specs.Reader.Fills.{FillsTo}
+use Rattle.pb_decode.specs.Reader.Fills.{IsOpen, FillsTo}
 
--- where records of a number are for elements of this kind, one stands behind so many bytes with these values at the end of the list
+-- where the records of a number are for a list's values, one stands behind so many bytes with these values at the end of the list
+abbrev pub FillsRun : Types → ℕ → ℕ → Purpose → List Datum → List ℕ → ℕ → ℕ → ℕ → Type 0
+FillsRun pool number type purpose values bytes left room used =
+    (now : Part) → Means pool (part_context now) number type purpose → FillsTo pool now (put_each number values now) bytes left room used
+
+-- where they are for elements of this kind, at any level
 abbrev pub FillsList : Types → Kind → ℕ → List Datum → List ℕ → ℕ → ℕ → Type 0
-FillsList pool kind number values bytes left used =
-    (room : ℕ) (now : Part) → Means pool (part_context now) number (wire_type_of kind) (Element kind)
-    → FillsTo pool now (put_each number values now) bytes left room used
+FillsList pool kind number values bytes left used = (room : ℕ) → FillsRun pool number (wire_type_of kind) (Element kind) values bytes left room used
 
 -- where the value of a record is told
 abbrev pub FillsElement : Types → Kind → ℕ → List ℕ → ℕ → Option (Value × ℕ) → Type 0
@@ -27,3 +33,19 @@ FillsElement pool kind number bytes left result = IfSome result (λ r. FillsList
 abbrev pub FillsElements : {E : Type 0} → Types → Kind → ℕ → List ℕ → ℕ → Result (Vec Value Global × ℕ) E → Type 0
 FillsElements pool kind number bytes left result =
     IfOk result (λ r. FillsList pool kind number (map value_view r.0.items) bytes left r.1)
+
+-- somewhere a part is open in which the records of a number are messages of a list, and these bytes come next in it
+pub record IsListOpen (pool : Types) (number : ℕ) (of_type : MessageId) (bytes : List ℕ) (left room : ℕ) : Type 0 where
+  pub now : Part
+  pub there : IsOpen pool now bytes left room
+  pub means : Means pool (part_context now) number 2 (Message of_type (ListSlot number))
+
+-- where a message is told
+abbrev pub TellsMessage : {E : Type 0} → Types → ℕ → MessageId → List ℕ → ℕ → ℕ → Result (Option (Value × ℕ)) E → Type 0
+TellsMessage pool number of_type bytes left room result =
+    IfOk result (λ o. IfSome o (λ r. FillsRun pool number 2 (Message of_type (ListSlot number)) (value_view r.0 ∷ []) bytes left room r.1))
+
+-- where those of a run are
+abbrev pub TellsMessages : {E : Type 0} → Types → ℕ → MessageId → List ℕ → ℕ → ℕ → Result (Option (Vec Value Global × ℕ)) E → Type 0
+TellsMessages pool number of_type bytes left room result =
+    IfOk result (λ o. IfSome o (λ r. FillsRun pool number 2 (Message of_type (ListSlot number)) (map value_view r.0.items) bytes left room r.1))

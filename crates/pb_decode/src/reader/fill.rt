@@ -11,6 +11,7 @@ ghost use Rattle.pb_decode.specs.Reader.Fills.{IsOpen, HasTagAt, FillsOne, Fills
 pub(crate) mod entries;
 mod entries_ahead;
 pub(crate) mod group;
+mod messages;
 
 use crate::close::closing::put_entry;
 use crate::close::put::put_message;
@@ -20,6 +21,7 @@ use crate::open::part::{Part, Slot};
 use crate::open::purpose::{Purpose, purpose_of};
 use crate::reader::fill::entries::fill_entries;
 use crate::reader::fill::group::{Extent, fill_group};
+use crate::reader::fill::messages::fill_messages;
 use crate::reader::fill_run::fill_run;
 use crate::reader::quick_record::length_behind;
 use crate::reader::state::number_at;
@@ -121,9 +123,12 @@ fn fill_number(
 {
     let purpose = purpose_of(pool, part, tag.number, tag.wire_type);
     match purpose {
+        Purpose::One(kind, shape) => {
+            let purpose = Purpose::One(kind, shape);
+            fill_one(alloc, pool, part, tag, purpose, bytes, left, room)
+        }
         Purpose::Element(kind) => fill_element(alloc, pool, part, tag, kind, bytes, left, room),
-        Purpose::One(_, _)
-        | Purpose::Packed(_)
+        Purpose::Packed(_)
         | Purpose::Message(_, _)
         | Purpose::Entry(_, _)
         | Purpose::Key(_)
@@ -342,15 +347,21 @@ fn fill_length(
 {
     let purpose = purpose_of(pool, part, tag.number, 2);
     match purpose {
+        Purpose::Message(kind, Slot::List(_)) => {
+            fill_messages(alloc, pool, part, tag, kind, bytes, left, room)
+        }
         Purpose::Message(kind, slot) => {
             fill_message(alloc, pool, part, tag, kind, slot, bytes, left, room)
+        }
+        Purpose::One(kind, shape) => {
+            let purpose = Purpose::One(kind, shape);
+            fill_bytes(alloc, pool, part, tag, purpose, bytes, left, room)
         }
         Purpose::Entry(key_kind, value_kind) => fill_entries(
             alloc, pool, part, tag, key_kind, value_kind, bytes, left, room,
         ),
         Purpose::Packed(kind) => fill_list(alloc, pool, part, tag, kind, bytes, left, room),
-        Purpose::One(_, _)
-        | Purpose::Element(_)
+        Purpose::Element(_)
         | Purpose::Key(_)
         | Purpose::EntryValue(_)
         | Purpose::Unknown => fill_bytes(alloc, pool, part, tag, purpose, bytes, left, room),

@@ -42,6 +42,7 @@ impl From<NoMemory> for PayloadError {
 }
 
 /// The value of a kind that a payload stands for, which it is copied into. There is none of a kind of another wire type.
+#[inline(always)]
 pub(crate) fn payload_value(
     alloc: Global,
     kind: Kind,

@@ -26,6 +26,7 @@ use pb_wire::Unknown;
 use std::alloc::Global;
 
 /// Puts the value of a payload, where it has one, into the part that its record stands in.
+#[inline(always)]
 fn put_value(
     alloc: Global,
     pool: &Pool,
@@ -47,6 +48,7 @@ fn put_value(
 
 /// A payload that comes next, all of whose bytes are here, goes into the part that its record stands in, and one stands
 /// behind it. It is copied once.
+#[inline(always)]
 pub(crate) fn put_payload(
     alloc: Global,
     pool: &Pool,

@@ -1,15 +1,20 @@
 -- Record by record a part is filled, and what it holds with it.
-use Rattle.std.proofs.Common.{rules, ◌≡◌, ◌+◌, ◌-◌, ◌*◌, ◌<◌, ℕ, Some, ap, ◌∙◌, sym, refl, subst, arith, take, drop, length, length-drop, option_map}
+use Rattle.std.proofs.Common.{rules, ◌≡◌, ◌+◌, ◌-◌, ◌*◌, ◌<◌, ℕ, ◌∷◌, [], Some, ap, ◌∙◌, sym, refl, subst, arith, take, drop, length, length-drop, option_map}
 use Rattle.pb_wire.specs.Unknown.{records_of}
 use Rattle.pb_wire.specs.Fault.{Place}
 use Rattle.pb_wire.specs.Token.{given_at, passed}
 use Rattle.pb_value.specs.View.{body_view, key_view, value_view}
-use Rattle.pb_decode.specs.Open.Frames.{entry_part, one_more_in, Stands}
+use Rattle.pb_value.specs.declared.body.Value.TheVariants as value
+use Rattle.pb_decode.specs.declared.open.part.Slot.TheVariants as slot
+use Rattle.pb_decode.specs.declared.open.purpose.Purpose.TheVariants.{Message}
+use Rattle.pb_decode.specs.Open.Frames.{Part, entry_part, one_more_in, Stands}
 use Rattle.pb_decode.specs.Open.PartView.{part_view}
 use Rattle.pb_decode.specs.Close.Mapped.{pairs_view, put_mapped, put_all_mapped}
 use Rattle.pb_decode.specs.Reader.Entries.{more_in}
-use Rattle.pb_decode.specs.Reader.Fills.{IsOpen, FillsTo}
+use Rattle.pb_decode.specs.Reader.Fills.{IsOpen, HasTagAt, FillsTo}
 use Rattle.pb_decode.specs.Reader.Fills.Groups.{FillsToEnd}
+use Rattle.pb_decode.specs.Reader.Listed.{FillsRun, IsListOpen}
+use Rattle.pb_decode.specs.Values.Run.{put_listed}
 use Rattle.pb_decode.proofs.ReaderLemmas.{slice_from}
 use Rattle.pb_decode.proofs.NumberSteps.{number_is}
 use Rattle.pb_decode.proofs.WellLemmas.{can_hold}
@@ -17,6 +22,7 @@ use Rattle.pb_decode.proofs.EndedLemmas.{entry_has_room, frame_can_hold}
 use Rattle.pb_decode.proofs.FillLemmas.{some_told, open_can, nothing_filled, still_open, filled_further, typed_tag, entry_in_part, message_in_part, entry_inside, message_inside, entry_over, message_over}
 use Rattle.pb_decode.proofs.GroupSteps.{unknown_group_means}
 use Rattle.pb_decode.proofs.GroupFills.{whole_told, whole_within, field_group_in_part, field_group_inside, field_group_over, unknown_group_in_part, unknown_group_inside, unknown_group_over, end_reached}
+use Rattle.pb_decode.proofs.ListedLemmas.{values_further, none_listed, list_further, list_number, message_listed}
 use Rattle.pb_decode.proofs.RunLemmas.{place_behind}
 use Rattle.pb_decode.proofs.MapRuns.{tag_of, entry_in_map, entry_taken, rises_in, map_open_in, run_filled, told_of, size_next, more_room, means_along, run_further, open_further, none_read}
 use Rattle.pb_decode.proofs.reader.fill.+fill.Goals as goal
@@ -403,3 +409,104 @@ entries::fill_entries-returns-clause-filled t c =
     λ m depth levels at base p0 frames there.
     run_filled there.0 (part_view c.args.part.now) c.args.tag.number c.args.room c.in_ok-entries.entries.items there.2 c.in_ok-put_entries.ensures
     (c.in_ok-entries.ensures.put m depth levels at base p0 frames there.0 (part_view c.args.part.now) there.1 there.2 c.requires.means).1
+
+-- A MESSAGE OF A RUN is filled from the empty one on, and goes to the end of its list
+pub messages::message_behind-fill-requires : goal.messages::message_behind-fill-requires
+messages::message_behind-fill-requires t c =
+    let from = c.requires.open in
+    let is = ap length (slice_from c.in-Some.start c.args.bytes.now) ∙ length-drop c.in-Some.start c.args.bytes.now in
+    let small = c.requires.small in
+    let has = typed_tag c.args.bytes.now (Some c.args.left) c.args.tag.number c.args.tag.wire_type 2 c.args.tag.size c.requires.bytes c.requires.tag in
+    let some = c.requires.within.0 in
+    let later = c.in-Some.ensures.within.0 in
+    let within = c.in-Some.ensures.within.1 in
+    let less : 8 * length (take (length c.args.bytes.now - c.in-Some.start) (drop c.in-Some.start c.args.bytes.now)) + 7 < 8 * length c.args.bytes.now + 2 = omega (arith, is, some, later, within) in (
+      search (rules, less),
+      (
+        c.requires.rules,
+        (
+          message_in_part c.args.bytes.now c.args.left c.args.tag.number c.args.tag.size c.in-Some.start c.in-Some.size c.args.room (c.args.room - 1) c.args.message_type (slot.List c.args.tag.number) from.now (body_view c.empty_body.result) c.requires.rules from.there refl has
+              (λ at. c.in-Some.ensures.whole at c.args.tag.number c.args.tag.wire_type (c.requires.tag at)) from.means (λ _. c.requires.some) refl c.empty_body.ensures,
+          (omega (arith, is, small), search (rules, is)),
+        ),
+      ),
+    )
+
+pub messages::message_behind-returns-in-Message-clause-put : goal.messages::message_behind-returns-in-Message-clause-put
+messages::message_behind-returns-in-Message-clause-put t c =
+    λ now means m depth levels at base p0 frames there.
+    let number = c.args.tag.number in
+    let has = typed_tag c.args.bytes.now (Some c.args.left) number c.args.tag.wire_type 2 c.args.tag.size c.requires.bytes c.requires.tag in
+    let read = message_inside at (Some c.args.left) c.args.bytes.now number c.args.tag.size c.in-Some.start c.in-Some.size c.args.room (c.args.room - 1) c.args.message_type (slot.List number) now (body_view c.empty_body.result) c.requires.rules there refl (has at) (c.in-Some.ensures.whole at number c.args.tag.wire_type (c.requires.tag at)) means (λ _. c.requires.some) refl c.empty_body.ensures (c.in_ok-fill.ensures c.if-not-branch.false) (ap part_view c.in-Message.is) in
+    message_over at c.args.left c.args.bytes.now number c.in-Some.start c.in-Some.size c.args.room (c.args.room - 1) c.in-Message._kind.0 (slot.List number) (body_view c.in-Message.body) (put_listed number (value_view (value.Message c.in-Message.body)) now) there.1 there.2 read
+    (message_listed c.args.pool.now number now c.in-Message.body)
+
+-- MESSAGE BY MESSAGE the run goes on
+pub messages::read_messages-loop-tag-init : goal.messages::read_messages-loop-tag-init
+messages::read_messages-loop-tag-init t c = record {
+  within = omega arith;
+  put = none_listed 2 c.args.number (Message c.args.message_type (slot.List c.args.number)) c.new-messages.result.items c.args.bytes.now c.args.left c.args.room c.new-messages.ensures.items;
+}
+
+pub messages::read_messages-message_behind-requires : goal.messages::read_messages-message_behind-requires
+messages::read_messages-message_behind-requires t c =
+    let here = c.loop-tag.here in
+    let size = ap length (slice_from here c.args.bytes.now) ∙ length-drop here c.args.bytes.now in
+    let small = c.requires.small in
+    let behind = take (length c.args.bytes.now - here) (drop here c.args.bytes.now) in
+    let less : 8 * length (take (length c.args.bytes.now - here) (drop here c.args.bytes.now)) + 2 < 8 * length c.args.bytes.now + 3 = omega (arith, size) in (
+      search (rules, less),
+      (
+        c.requires.rules,
+        (
+          subst (λ (z : ℕ). IsListOpen c.args.pool.now z c.args.message_type behind c.saturating_sub-in-Some.result c.args.room) (sym c.in-Some.ensures.own.0)
+          (subst (λ (z : ℕ). IsListOpen c.args.pool.now c.args.number c.args.message_type behind z c.args.room) (sym c.saturating_sub-in-Some.ensures)
+          (list_further c.loop-tag.messages.items c.args.bytes.now c.args.left c.args.room here c.requires.open c.loop-tag.invariant.put)),
+          (
+            c.requires.some,
+            (
+              omega (arith, size, small),
+              (
+                c.in-Some.ensures.own.1,
+                (
+                  c.in-Some.ensures.within,
+                  subst (λ (z : ℕ). HasTagAt behind (Some z) c.in-Some.tag.number c.in-Some.tag.wire_type c.in-Some.tag.size) (c.saturating_sub.ensures ∙ sym c.saturating_sub-in-Some.ensures) c.in-Some.ensures.whole,
+                ),
+              ),
+            ),
+          ),
+        ),
+      ),
+    )
+
+pub messages::read_messages-loop-tag-preserved : goal.messages::read_messages-loop-tag-preserved
+messages::read_messages-loop-tag-preserved t c =
+    let here = c.loop-tag.here in
+    let number = c.args.number in
+    let size = ap length (slice_from here c.args.bytes.now) ∙ length-drop here c.args.bytes.now in
+    let used = told_of _ c.in_ok-message.field-0 (c.in-Some-2.message, c.in-Some-2.size) c.in-Some-2.is c.in_ok-message.ensures.within in
+    let some = used.0 in
+    let enough = used.1 in
+    let within = c.loop-tag.invariant.within in
+    let behind = take (length c.args.bytes.now - here) (drop here c.args.bytes.now) in
+    let run = λ (n left : ℕ). FillsRun c.args.pool.now n 2 (Message c.args.message_type (slot.List n)) (value_view c.in-Some-2.message ∷ []) behind left c.args.room c.in-Some-2.size in
+    record {
+      within = omega (arith, size, enough, within);
+      put = values_further 2 number (Message c.args.message_type (slot.List number)) c.loop-tag.messages.items c.push.new.self.items c.in-Some-2.message c.args.bytes.now c.args.left c.args.room here c.in-Some-2.size c.in_ok-push.ensures.items c.loop-tag.invariant.put
+          (subst (run number) c.saturating_sub-in-Some.ensures
+          (subst (λ (n : ℕ). run n c.saturating_sub-in-Some.result) c.in-Some.ensures.own.0 (told_of _ c.in_ok-message.field-0 (c.in-Some-2.message, c.in-Some-2.size) c.in-Some-2.is c.in_ok-message.ensures.put)));
+    }
+
+-- THE RUN goes to the end of its list
+pub messages::fill_messages-read_messages-requires : goal.messages::fill_messages-read_messages-requires
+messages::fill_messages-read_messages-requires t c =
+    let level = c.if-room-eq0.false in
+    let less : 8 * length c.args.bytes.now + 3 < 8 * length c.args.bytes.now + 4 = omega arith in (
+      search (rules, less),
+      (c.requires.rules, (record { now = part_view c.args.part.now; there = c.requires.open; means = c.requires.means }, (omega (arith, level), c.requires.small))),
+    )
+
+pub messages::fill_messages-returns-clause-filled : goal.messages::fill_messages-returns-clause-filled
+messages::fill_messages-returns-clause-filled t c =
+    subst (λ (z : Part). FillsTo c.args.pool.now (part_view c.args.part.now) z c.args.bytes.now c.args.left c.args.room c.in-Some.used) (sym c.in_ok-put_elements.ensures)
+    (told_of _ c.in_ok-messages.field-0 (c.in-Some.messages, c.in-Some.used) c.in-Some.is c.in_ok-messages.ensures.put (part_view c.args.part.now) c.requires.means)

@@ -1,14 +1,17 @@
-use Rattle.std.proofs.Common.{◌≡◌, ◌+◌, ◌*◌, ◌≤◌, ◌-◌, ℕ, List, length}
+use Rattle.std.proofs.Common.{◌≡◌, ◌+◌, ◌*◌, ◌≤◌, ◌-◌, ℕ, List, map, length}
 use Rattle.pb_wire.specs.Record.{Record}
 use Rattle.pb_wire.specs.Fault.{Place}
 use Rattle.pb_wire.specs.Token.{given_at, passed}
-use Rattle.pb_decode.specs.declared.open.purpose.Purpose.TheVariants.{Entry}
+use Rattle.pb_value.specs.View.{value_view}
+use Rattle.pb_decode.specs.declared.open.part.Slot.TheVariants.{List as ListSlot}
+use Rattle.pb_decode.specs.declared.open.purpose.Purpose.TheVariants.{Message, Entry}
 use Rattle.pb_decode.specs.Open.Frames.{Part, Frame, Scope, Stands}
 use Rattle.pb_decode.specs.Open.PartView.{part_view}
 use Rattle.pb_decode.specs.Open.Purposes.{Means, part_context}
 use Rattle.pb_decode.specs.Close.Mapped.{pairs_view, put_all_mapped, FitMapped}
 use Rattle.pb_decode.specs.Reader.Entries.{more_in}
 use Rattle.pb_decode.specs.Reader.Fills.{FillsTo}
+use Rattle.pb_decode.specs.Reader.Listed.{FillsRun}
 use Rattle.pb_decode.proofs.reader.fill.+fill.Given as goal
 
 -- fewer bytes are at hand where a payload begins than where its record does
@@ -87,3 +90,22 @@ invariant-entries::read_entries-loop-here l = record {
 
 abbrev pub decreases-entries::read_entries-loop-here : goal.decreases-entries::read_entries-loop-here
 decreases-entries::read_entries-loop-here l = length l.bytes - l.here
+
+-- a run of messages
+abbrev pub decreases-messages::fill_messages : goal.decreases-messages::fill_messages
+decreases-messages::fill_messages l = 8 * length l.bytes.now + 4
+
+abbrev pub decreases-messages::read_messages : goal.decreases-messages::read_messages
+decreases-messages::read_messages l = 8 * length l.bytes.now + 3
+
+abbrev pub decreases-messages::message_behind : goal.decreases-messages::message_behind
+decreases-messages::message_behind l = 8 * length l.bytes.now + 2
+
+abbrev pub invariant-messages::read_messages-loop-tag : goal.invariant-messages::read_messages-loop-tag
+invariant-messages::read_messages-loop-tag l = record {
+  within : l.here ≤ length l.bytes;
+  put : FillsRun l.pool l.number 2 (Message l.message_type (ListSlot l.number)) (map value_view l.messages.items) l.bytes l.left l.room l.here;
+}
+
+abbrev pub decreases-messages::read_messages-loop-tag : goal.decreases-messages::read_messages-loop-tag
+decreases-messages::read_messages-loop-tag l = length l.bytes - l.here
