@@ -12,6 +12,7 @@ pub(crate) mod entries;
 mod entries_ahead;
 pub(crate) mod group;
 mod messages;
+mod pairs;
 
 use crate::close::closing::put_entry;
 use crate::close::put::put_message;
@@ -22,6 +23,7 @@ use crate::open::purpose::{Purpose, purpose_of};
 use crate::reader::fill::entries::fill_entries;
 use crate::reader::fill::group::{Extent, fill_group};
 use crate::reader::fill::messages::fill_messages;
+use crate::reader::fill::pairs::fill_pair;
 use crate::reader::fill_run::fill_run;
 use crate::reader::quick_record::length_behind;
 use crate::reader::state::number_at;
@@ -249,7 +251,7 @@ fn fill_entry(
         key: None,
         value: None,
     };
-    if !fill(alloc, pool, &mut entry, &bytes[start..], size, room - 1)? {
+    if !fill_pair(alloc, pool, &mut entry, &bytes[start..], size, room - 1)? {
         return Ok(None);
     }
     match entry {
@@ -361,10 +363,8 @@ fn fill_length(
             alloc, pool, part, tag, key_kind, value_kind, bytes, left, room,
         ),
         Purpose::Packed(kind) => fill_list(alloc, pool, part, tag, kind, bytes, left, room),
-        Purpose::Element(_)
-        | Purpose::Key(_)
-        | Purpose::EntryValue(_)
-        | Purpose::Unknown => fill_bytes(alloc, pool, part, tag, purpose, bytes, left, room),
+        Purpose::Element(_) | Purpose::Key(_) | Purpose::EntryValue(_) | Purpose::Unknown =>
+            fill_bytes(alloc, pool, part, tag, purpose, bytes, left, room),
     }
 }
 

@@ -9,7 +9,8 @@ ghost use Rattle.pb_decode.specs.Reader.Entries.{IsMapOpen, TellsEntry, TellsEnt
 ghost use Rattle.pb_decode.specs.Reader.Fills.{IsOpen, HasTagAt, FillsOne};
 
 use super::entries_ahead::entries_ahead;
-use super::{fill, fill_entry};
+use super::fill_entry;
+use super::pairs::fill_pair;
 use crate::close::closing::{key_or_default, value_or_missing};
 use crate::close::put_entries::{MANY, put_entries};
 use crate::error::NoMemory;
@@ -63,7 +64,7 @@ fn entry_behind(
         key: None,
         value: None,
     };
-    if !fill(alloc, pool, &mut entry, &bytes[start..], size, room - 1)? {
+    if !fill_pair(alloc, pool, &mut entry, &bytes[start..], size, room - 1)? {
         *tried = at + end as u32;
         return Ok(None);
     }

@@ -144,8 +144,15 @@ pub(super) fn fill_messages(
     if room == 0 {
         return Ok(None);
     }
-    let Some((messages, used)) =
-        read_messages(alloc, pool, tag.number, message_type, bytes, left, room)?
+    let Some((messages, used)) = read_messages(
+        alloc,
+        pool,
+        tag.number,
+        message_type,
+        bytes,
+        left,
+        room,
+    )?
     else {
         return Ok(None);
     };
