@@ -45,6 +45,12 @@ reads_more {pool} {r} {s} {t} {x} {y} {z} sum h g = record {
   onward = λ o took. subst (λ (p : Origin). TookFrom pool p (state_view t.reader) t.held.items) (further_more o h.bytes g.bytes) (g.onward (further o h.bytes) (h.onward o took));
 }
 
+-- the bytes were given before, and are taken now
+pub reads_front :
+    {pool : Types} {r s : Reading} (x y : Option (List ℕ)) (bytes : List ℕ) {n : ℕ} → length bytes ≡ n → Consumes x y bytes
+    → ((o : Origin) → TookFrom pool o (state_view r.reader) r.held.items → TookFrom pool (further o bytes) (state_view s.reader) s.held.items) → ReadsOn pool r s x y n
+reads_front x y bytes size given onward = record { bytes = bytes; size = size; given = given; onward = onward }
+
 -- the input gave nothing more
 pub reads_nothing : {pool : Types} {r s : Reading} {x y : Option (List ℕ)} {n : ℕ} (z : Option (List ℕ)) → ReadsOn pool r s x y n → Consumes y z [] → ReadsOn pool r s x z n
 reads_nothing {x = x} {y = y} z h none = record {
@@ -66,21 +72,28 @@ reads_at o h took =
 pub reads_on : {pool : Types} {r s : Reading} {x y : Option (List ℕ)} {n : ℕ} (o : Origin) → ReadsOn pool r s x y n → TookFrom pool o (state_view r.reader) r.held.items → (p : Origin) × TookFrom pool p (state_view s.reader) s.held.items
 reads_on o h took = (further o h.bytes, h.onward o took)
 
-pub told_more :
-    {pool : Types} {r s : Reading} {x y z : Option (List ℕ)} {n room most : ℕ} (o : Origin) (f : Fault) → n + room ≤ most → (h : ReadsOn pool r s x y n) → ToldOf pool (further o h.bytes) y z room f → ToldOf pool o x z most f
-told_more {pool} {x = x} {y = y} {z = z} o f fits h g = record {
-  bytes = h.bytes ++ g.bytes;
-  few = let a = h.size in let b = g.few in let joined = length-append h.bytes g.bytes in omega (arith, fits, a, b, joined);
-  given = Consumes-trans x y z h.bytes g.bytes h.given g.given;
-  told = subst (λ (p : Origin). ToldFrom pool p f) (further_more o h.bytes g.bytes) g.told;
+pub told_behind :
+    {pool : Types} (o : Origin) (f : Fault) (x y z : Option (List ℕ)) (front : List ℕ) {room most : ℕ} → length front + room ≤ most → Consumes x y front → ToldOf pool (further o front) y z room f → ToldOf pool o x z most f
+told_behind {pool} o f x y z front fits given g = record {
+  bytes = front ++ g.bytes;
+  few = let b = g.few in let joined = length-append front g.bytes in omega (arith, fits, b, joined);
+  given = Consumes-trans x y z front g.bytes given g.given;
+  told = subst (λ (p : Origin). ToldFrom pool p f) (further_more o front g.bytes) g.told;
 }
 
-pub takes_more : {pool : Types} {r s : Reading} {x y : Option (List ℕ)} (z : Option (List ℕ)) {n room most : ℕ} → n + room ≤ most → ReadsOn pool r s x y n → TakesAtMost room y z → TakesAtMost most x z
-takes_more {x = x} {y = y} z fits h (bytes, few, given) = (
-  h.bytes ++ bytes,
-  let a = h.size in let joined = length-append h.bytes bytes in omega (arith, fits, a, few, joined),
-  Consumes-trans x y z h.bytes bytes h.given given,
+pub told_more :
+    {pool : Types} {r s : Reading} {x y z : Option (List ℕ)} {n room most : ℕ} (o : Origin) (f : Fault) → n + room ≤ most → (h : ReadsOn pool r s x y n) → ToldOf pool (further o h.bytes) y z room f → ToldOf pool o x z most f
+told_more {x = x} {y = y} {z = z} o f fits h g = told_behind o f x y z h.bytes (let a = h.size in omega (arith, fits, a)) h.given g
+
+pub takes_behind : (x y z : Option (List ℕ)) (front : List ℕ) {room most : ℕ} → length front + room ≤ most → Consumes x y front → TakesAtMost room y z → TakesAtMost most x z
+takes_behind x y z front fits given (bytes, few, more) = (
+  front ++ bytes,
+  let joined = length-append front bytes in omega (arith, fits, few, joined),
+  Consumes-trans x y z front bytes given more,
 )
+
+pub takes_more : {pool : Types} {r s : Reading} {x y : Option (List ℕ)} (z : Option (List ℕ)) {n room most : ℕ} → n + room ≤ most → ReadsOn pool r s x y n → TakesAtMost room y z → TakesAtMost most x z
+takes_more {x = x} {y = y} z fits h more = takes_behind x y z h.bytes (let a = h.size in omega (arith, fits, a)) h.given more
 
 pub takes_read : {pool : Types} {r s : Reading} {x y : Option (List ℕ)} {n most : ℕ} → n ≤ most → ReadsOn pool r s x y n → TakesAtMost most x y
 takes_read fits h = (h.bytes, let a = h.size in omega (arith, fits, a), h.given)

@@ -70,6 +70,23 @@ rest_left None y size bytes v few given w = tt
 rest_left (Some left) None size bytes v few given w = absurd given
 rest_left (Some left) (Some rest) size bytes v few given w = ap (λ (z : List ℕ). Some z) (sym (ap (drop size) given ∙ drop_at bytes rest size (all_there size few w).size_is))
 
+-- and where all bytes of the frame are given as a text
+pub text_frame :
+    {pool : Types} {k : ℕ} {limits : Bounds} (x y : Option (List ℕ)) (size : ℕ) (bytes : List ℕ) (v : Message) → length bytes ≡ size → Consumes x y bytes → Text pool k limits bytes v → IfSome x (λ left. IsFrameOf pool k limits size left v)
+text_frame None y size bytes v all given t = tt
+text_frame (Some left) None size bytes v all given t = absurd given
+text_frame {pool} {k} {limits} (Some left) (Some rest) size bytes v all given t =
+    let whole = ap length given ∙ length-append bytes rest in
+    record {
+      given = omega (arith, whole, all);
+      text = subst (λ (z : List ℕ). Text pool k limits z v) (sym (ap (take size) given ∙ take_at bytes rest size all)) t;
+    }
+
+pub rest_text : (x y : Option (List ℕ)) (size : ℕ) (bytes : List ℕ) → length bytes ≡ size → Consumes x y bytes → IfSome x (λ left. y ≡ Some (drop size left))
+rest_text None y size bytes all given = tt
+rest_text (Some left) None size bytes all given = absurd given
+rest_text (Some left) (Some rest) size bytes all given = ap (λ (z : List ℕ). Some z) (sym (ap (drop size) given ∙ drop_at bytes rest size all))
+
 -- THE FAULT
 pub told_frame : {pool : Types} {k depth : ℕ} (x y : Option (List ℕ)) (size most : ℕ) (f : Fault) → ToldOf pool (origin k depth [] (Some size)) x y most f → IfSome x (λ left. BadFrame pool k depth 0 size left f)
 told_frame None y size most f h = tt

@@ -1,21 +1,161 @@
 //! Messages in frames: so many bytes of an input.
 
-ghost use Rattle.std.specs.Prelude.{◌≡◌, ◌≢◌, true, ◌<◌, ◌≤◌, ◌^◌, length, drop, Some, Err, IfOk, IfErr, OnOk, IfSome};
+ghost use Rattle.std.specs.Prelude.{◌≡◌, ◌≢◌, ◌⊎◌, true, ◌+◌, ◌<◌, ◌≤◌, ◌^◌, ℕ, List, length, take, drop, Option, Some, Err, IfOk, IfErr, OnOk, IfSome};
+ghost use Rattle.std.specs.Io.KnownBytes.{Consumes, IsAtEnd};
 ghost use Rattle.pb_wire.specs.Fault.{Fault};
+ghost use Rattle.pb_schema.specs.Rules.{IsPool};
 ghost use Rattle.pb_value.specs.Data.{Message};
+ghost use Rattle.pb_value.specs.Derives.{Text};
 ghost use Rattle.pb_decode.specs.declared.error.DecodeError.TheVariants.{Device};
 ghost use Rattle.pb_decode.specs.FromDevice.{IfRefused, TellsFailures, TakesAtMost, GivesOrFails, TellsOrFails};
+ghost use Rattle.pb_decode.specs.Loops.{ReadsOn, ToldOf};
+ghost use Rattle.pb_decode.specs.Reader.Origin.{Origin};
+ghost use Rattle.pb_decode.specs.Reader.Pieces.{received, ReadFrom};
 ghost use Rattle.pb_decode.specs.Frame.{IsFrameOf, BadFrame, error_later};
 
-use crate::error::DecodeError;
-use crate::from_device::read_pieces;
-use crate::reader::origin::{begin_empty, finish_message};
+use crate::error::{DecodeError, NoMemory};
+use crate::from_device::{PIECE, read_pieces};
+use crate::push::Reading;
+use crate::reader::origin::{begin_empty, finish_message, take_onward};
+use crate::reader::quick_text::read_text;
 use pb_schema::{MessageId, Pool};
 use pb_value::DynamicMessage;
 use pb_wire::{Input, Limits};
 use std::alloc::Global;
 
-/// The message of a frame. Places count from its first byte.
+/// Takes what the input gives first of so many bytes into the buffer, and tells how many they are. Where none are wanted, none
+/// are asked for.
+fn read_first<I: Input>(
+    input: &mut I,
+    buffer: &mut [u8; PIECE],
+    size: usize,
+) -> Result<usize, DecodeError>
+    ensures fits { IfOk result (λ n. n ≤ 4096) }
+    ensures count { IfOk result (λ n. n ≤ size) }
+    ensures given { IfOk result (λ n. Consumes (I.left input.old) (I.left input.new) (take n buffer.new)) }
+    ensures ends { IfOk result (λ n. n ≡ 0 → 0 < size → IsAtEnd (I.left input.new)) }
+    ensures error { IfErr result (λ e. e ≡ Device) }
+    ensures most { TakesAtMost size (I.left input.old) (I.left input.new) }
+    ensures failures { TellsFailures result (I.failures input.old) (I.failures input.new) }
+    ensures steady { I.is_steady input.old ≡ true → result ≢ Err Device }
+    ensures stays { I.is_steady input.old ≡ true → I.is_steady input.new ≡ true }
+{
+    if size == 0 {
+        return Ok(0);
+    }
+    let room = buffer.len().min(size);
+    let Ok(count) = input.read(&mut buffer[..room]) else {
+        return Err(DecodeError::Device);
+    };
+    Ok(count)
+}
+
+/// The message of a frame of which these are the first bytes, where they are all and stand as a text.
+fn read_at_once<'p>(
+    alloc: Global,
+    pool: &'p Pool,
+    message_type: MessageId,
+    bytes: &[u8],
+    size: u32,
+    limits: Limits,
+) -> Result<Option<DynamicMessage<'p>>, NoMemory>
+    requires rules { IsPool pool.now }
+    requires within { message_type.0 < length pool.now.messages }
+    ensures of_type { IfOk result (λ o. IfSome o (λ m. (m.pool ≡ pool.now) × (m.kind ≡ message_type.0))) }
+    ensures all { IfOk result (λ o. IfSome o (λ m. length bytes.now ≡ size)) }
+    ensures text { IfOk result (λ o. IfSome o (λ m. Text pool.now message_type.0 limits bytes.now m.body)) }
+{
+    if bytes.len() != size as usize {
+        return Ok(None);
+    }
+    match read_text(alloc, pool, message_type, bytes, limits)? {
+        Some(body) => Ok(Some(DynamicMessage::from_well_formed(alloc, pool, message_type, body))),
+        None => Ok(None),
+    }
+}
+
+/// Takes the first bytes of a frame, which stand in the buffer, and what the input gives of those behind them. Tells how many
+/// they are together.
+fn take_frame<I: Input>(
+    alloc: Global,
+    pool: &Pool,
+    reading: &mut Reading,
+    input: &mut I,
+    buffer: &mut [u8; PIECE],
+    count: usize,
+    size: usize,
+) -> Result<usize, DecodeError>
+    requires rules { IsPool pool.now }
+    requires took { (o : Origin) × ReadFrom pool.now o reading.old }
+    requires small { received reading.old + size < 2 ^ 31 }
+    requires fits { count ≤ 4096 }
+    requires count { count ≤ size }
+    requires ends { count ≡ 0 → 0 < size → IsAtEnd (I.left input.old) }
+    ensures count { IfOk result (λ n. n ≤ size) }
+    ensures read { (x : Option (List ℕ)) → Consumes x (I.left input.old) (take count buffer.old)
+        → IfOk result (λ n. ReadsOn pool.now reading.old reading.new x (I.left input.new) n) }
+    ensures ends { IfOk result (λ n. (n ≡ size) ⊎ IsAtEnd (I.left input.new)) }
+    ensures fault { (x : Option (List ℕ)) (o : Origin) → Consumes x (I.left input.old) (take count buffer.old) → ReadFrom pool.now o reading.old
+        → IfErr result (λ e. IfRefused e (ToldOf pool.now o x (I.left input.new) size)) }
+    ensures taken { (x : Option (List ℕ)) → Consumes x (I.left input.old) (take count buffer.old) → TakesAtMost size x (I.left input.new) }
+    ensures failures { TellsFailures result (I.failures input.old) (I.failures input.new) }
+    ensures steady { I.is_steady input.old ≡ true → result ≢ Err Device }
+    ensures stays { I.is_steady input.old ≡ true → I.is_steady input.new ≡ true }
+{
+    take_onward(alloc, pool, reading, &buffer[..count])?;
+    if count == 0 {
+        return Ok(0);
+    }
+    let more = read_pieces(alloc, pool, reading, input, buffer, size - count)?;
+    Ok(count + more)
+}
+
+/// The message of a frame whose first bytes stand in the buffer, read in pieces. Where they are all, none is tried again.
+fn read_in_pieces<'p, I: Input>(
+    alloc: Global,
+    pool: &'p Pool,
+    message_type: MessageId,
+    input: &mut I,
+    buffer: &mut [u8; PIECE],
+    count: usize,
+    size: u32,
+    limits: Limits,
+) -> Result<DynamicMessage<'p>, DecodeError>
+    requires rules { IsPool pool.now }
+    requires within { message_type.0 < length pool.now.messages }
+    requires size { size ≤ limits.bytes }
+    requires fits { count ≤ 4096 }
+    requires count { count ≤ size }
+    requires ends { count ≡ 0 → 0 < size → IsAtEnd (I.left input.old) }
+    ensures of_type { IfOk result (λ m. (m.pool ≡ pool.now) × (m.kind ≡ message_type.0)) }
+    ensures value { (x : Option (List ℕ)) → Consumes x (I.left input.old) (take count buffer.old)
+        → IfSome x (λ left. IfOk result (λ m. IsFrameOf pool.now message_type.0 limits size left m.body)) }
+    ensures rest { (x : Option (List ℕ)) → Consumes x (I.left input.old) (take count buffer.old)
+        → OnOk result (IfSome x (λ left. I.left input.new ≡ Some (drop size left))) }
+    ensures fault { (x : Option (List ℕ)) → Consumes x (I.left input.old) (take count buffer.old)
+        → IfErr result (λ e. IfRefused e (λ f. IfSome x (λ left. BadFrame pool.now message_type.0 limits.depth 0 size left f))) }
+    ensures low { IfErr result (λ e. IfRefused e (λ f. f.byte < 2 ^ 31)) }
+    ensures most { (x : Option (List ℕ)) → Consumes x (I.left input.old) (take count buffer.old) → TakesAtMost size x (I.left input.new) }
+    ensures failures { TellsFailures result (I.failures input.old) (I.failures input.new) }
+    ensures steady { I.is_steady input.old ≡ true → result ≢ Err Device }
+    ensures stays { I.is_steady input.old ≡ true → I.is_steady input.new ≡ true }
+{
+    let tried = if count == size as usize { size } else { 0 };
+    let mut reading = begin_empty(alloc, pool, message_type, limits, Some(size), tried);
+    let _small = limits.max_bytes();
+    take_frame(
+        alloc,
+        pool,
+        &mut reading,
+        input,
+        buffer,
+        count,
+        size as usize,
+    )?;
+    finish_message(alloc, pool, message_type, reading)
+}
+
+/// The message of a frame, at once where all of it comes with the first read, else in pieces. Places count from its first byte.
 fn read_frame<'p, I: Input>(
     alloc: Global,
     pool: &'p Pool,
@@ -37,10 +177,22 @@ fn read_frame<'p, I: Input>(
     ensures stays { I.is_steady input.old ≡ true → I.is_steady input.new ≡ true }
 {
     let _types = pool.messages();
-    let mut reading = begin_empty(alloc, pool, message_type, limits, Some(size));
     let _small = limits.max_bytes();
-    read_pieces(alloc, pool, &mut reading, input, size as usize)?;
-    finish_message(alloc, pool, message_type, reading)
+    let mut buffer = [0u8; PIECE];
+    let count = read_first(input, &mut buffer, size as usize)?;
+    match read_at_once(alloc, pool, message_type, &buffer[..count], size, limits)? {
+        Some(message) => Ok(message),
+        None => read_in_pieces(
+            alloc,
+            pool,
+            message_type,
+            input,
+            &mut buffer,
+            count,
+            size,
+            limits,
+        ),
+    }
 }
 
 /// The error with its byte counted from so far before.

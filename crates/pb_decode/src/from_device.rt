@@ -24,7 +24,7 @@ use pb_wire::{Input, Limits};
 use std::alloc::Global;
 
 /// How many bytes are asked of an input at once.
-const PIECE: usize = 4096;
+pub(crate) const PIECE: usize = 4096;
 
 /// Takes a piece that the input gives into the buffer, and tells how many bytes it gave.
 fn read_piece<I: Input>(
@@ -54,12 +54,14 @@ fn read_piece<I: Input>(
     Ok(count)
 }
 
-/// Takes what the input gives up to its end, but at most `most` bytes, and tells how many bytes it gave.
+/// Takes what the input gives up to its end, but at most `most` bytes, and tells how many bytes it gave. They come into the
+/// buffer, piece by piece.
 pub(crate) fn read_pieces<I: Input>(
     alloc: Global,
     pool: &Pool,
     reading: &mut Reading,
     input: &mut I,
+    buffer: &mut [u8; PIECE],
     most: usize,
 ) -> Result<usize, DecodeError>
     requires rules { IsPool pool.now }
@@ -75,7 +77,6 @@ pub(crate) fn read_pieces<I: Input>(
     ensures steady { I.is_steady input.old ≡ true → result ≢ Err Device }
     ensures stays { I.is_steady input.old ≡ true → I.is_steady input.new ≡ true }
 {
-    let mut buffer = [0u8; PIECE];
     let mut taken = 0;
     'reading: while taken < most {
         let room = buffer.len().min(most - taken);
@@ -130,7 +131,8 @@ fn read_within<I: Input>(
     ensures stays { I.is_steady input.old ≡ true → I.is_steady input.new ≡ true }
 {
     let most = limits.max_bytes();
-    let count = read_pieces(alloc, pool, reading, input, most as usize)?;
+    let mut buffer = [0u8; PIECE];
+    let count = read_pieces(alloc, pool, reading, input, &mut buffer, most as usize)?;
     if count < most as usize {
         return Ok(());
     }
@@ -160,7 +162,7 @@ fn read_message<'p, I: Input>(
     ensures stays { I.is_steady input.old ≡ true → I.is_steady input.new ≡ true }
 {
     let _types = pool.messages();
-    let mut reading = begin_empty(alloc, pool, message_type, limits, None);
+    let mut reading = begin_empty(alloc, pool, message_type, limits, None, 0);
     read_within(alloc, pool, message_type, limits, &mut reading, input)?;
     finish_message(alloc, pool, message_type, reading)
 }

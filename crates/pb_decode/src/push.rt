@@ -182,7 +182,7 @@ pub(crate) fn start(alloc: Global, pool: &Pool, message_type: MessageId, limits:
     ensures took { ReadText pool.now message_type.0 limits [] result }
     ensures waits { Waits (state_view result.reader) result.held.items }
 {
-    begin_empty(alloc, pool, message_type, limits, None)
+    begin_empty(alloc, pool, message_type, limits, None, 0)
 }
 
 /// How many packed lists are open.

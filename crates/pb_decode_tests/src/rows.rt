@@ -403,6 +403,11 @@ frame longer_length - - 2 3 12017affff 2 = 12017a
 frame starts_at_0 - - 0 2 080500 1 = 0805
 frame starts_at_10 - - 10 2 0c08 ? ! 10 - StrayEnd
 frame second_of_a_number - - 1 4 08050896 ? ! 4 1[1] PastEnd
+frame nothing_left - - 1 2 - ? ! 1 - Truncated
+frame longer_than_a_read - - 1 20 12127a7a7a7a7a7a7a7a7a7a7a7a7a7a7a7a7a7aff 1 = 12127a7a7a7a7a7a7a7a7a7a7a7a7a7a7a7a7a7a
+frame read_ends_between_records - - 1 18 080108010801080108010801080108010802ff 1 = 0802
+frame refused_behind_a_read - - 1 19 12117a7a7a7a7a7a7a7a7a7a7a7a7a7a7a7affff ? ! 19 2[0] BadText
+frame cut_behind_a_read - - 1 20 12127a7a7a7a7a7a7a7a7a7a7a7a7a7a7a7a ? ! 19 2[0] Truncated
 ";
 
 /// The bytes, and the answer where no growth of memory is refused.

@@ -62,13 +62,15 @@ pub(crate) fn begin_at(
     }
 }
 
-/// Where no byte is taken yet of a message that is empty so far, up to the known end if there is one.
+/// Where no byte is taken yet of a message that is empty so far, up to the known end if there is one. Before the place that is
+/// tried nothing is read at once.
 pub(crate) fn begin_empty(
     alloc: Global,
     pool: &Pool,
     message_type: MessageId,
     limits: Limits,
     end: Option<u32>,
+    tried: u32,
 ) -> Reading
     requires { message_type.0 < length pool.now.messages }
     ensures at { (result.reader.at ≡ 0) × (length result.held.items ≡ 0) }
@@ -76,7 +78,7 @@ pub(crate) fn begin_empty(
     ensures took { ReadFrom pool.now (origin message_type.0 limits.depth [] end) result }
 {
     let room = limits.max_depth();
-    begin_at(alloc, message_type, empty_body(alloc), room, end, 0)
+    begin_at(alloc, message_type, empty_body(alloc), room, end, tried)
 }
 
 /// Takes a piece behind the bytes that are held.

@@ -1,101 +1,31 @@
--- The bytes of the frame are a message, or have the fault of the frame.
-use Rattle.std.proofs.Common.{◌≡◌, ◌<◌, ◌^◌, [], Some, refl, ◌∙◌, arith, inl, inr, ⊎_elim}
-use Rattle.std.specs.Prelude.{IfSome, drop}
-use Rattle.std.proofs.lemmas.Result.{err_from_is_err_and}
-use Rattle.pb_value.specs.Dynamic.{Dynamic}
-use Rattle.pb_decode.specs.Reader.Origin.{Origin, origin, further, IsWhole, BadFrom}
-use Rattle.pb_decode.specs.Loops.{ToldOf}
-use Rattle.pb_decode.specs.Frame.{IsFrameOf, BadFrame}
-use Rattle.pb_decode.proofs.Outcomes.{ok_weaker, on_ok, ok_left, tells_kept, never_device}
-use Rattle.pb_decode.proofs.DeviceLemmas.{reads_at, err_refused, if_refused_weaker}
-use Rattle.pb_decode.proofs.InFrame.{frame_left, rest_left, told_frame, bad_frame, low_byte}
+-- All bytes of the frame come with the first read, or the others are read behind them.
+use Rattle.std.proofs.Common.{◌≡◌, ℕ, take, length, subst}
+use Rattle.pb_decode.specs.FromDevice.{TellsFailures}
+use Rattle.pb_decode.proofs.InFrame.{text_frame, rest_text}
 use Rattle.pb_decode.proofs.frame.read_frame.Goals as goal
 
-pub returns-in_err-read_pieces-clause-fault : goal.returns-in_err-read_pieces-clause-fault
-returns-in_err-read_pieces-clause-fault g c =
-    let p = err_from_is_err_and c.from_residual.result c.from_residual.ensures.1 in
-    rw (p.1, p.2)
-    (if_refused_weaker c.in_err-read_pieces.field-0.0 (ToldOf c.args.pool.now (origin c.args.message_type.0 c.args.limits.depth [] (Some c.args.size)) (g.I.Input.left c.args.input.now) (g.I.Input.left c.read_pieces.new.input) c.args.size) (λ f. IfSome (g.I.Input.left c.args.input.now) (λ left. BadFrame c.args.pool.now c.args.message_type.0 c.args.limits.depth 0 c.args.size left f))
-    (λ f told. told_frame (g.I.Input.left c.args.input.now) (g.I.Input.left c.read_pieces.new.input) c.args.size c.args.size f told) (c.in_err-read_pieces.ensures.fault (origin c.args.message_type.0 c.args.limits.depth [] (Some c.args.size)) c.begin_empty-reading.ensures.took))
+pub returns-in-Some-clause-value : goal.returns-in-Some-clause-value
+returns-in-Some-clause-value g c =
+    let all : length (take c.in_ok-count.count c.read_first.new.buffer) ≡ c.args.size = rw c.in-Some.is at c.in_ok-message.ensures.all in
+    text_frame (g.I.Input.left c.args.input.now) (g.I.Input.left c.read_first.new.input) c.args.size (take c.in_ok-count.count c.read_first.new.buffer) c.in-Some.message.body all c.in_ok-count.ensures.given
+    (rw c.in-Some.is at c.in_ok-message.ensures.text)
 
-pub returns-in_err-read_pieces-clause-low : goal.returns-in_err-read_pieces-clause-low
-returns-in_err-read_pieces-clause-low g c =
-    let p = err_from_is_err_and c.from_residual.result c.from_residual.ensures.1 in
-    let small = c.max_bytes-small.ensures.small in
-    let same = c.max_bytes-small.ensures.same in
-    let fits = c.requires.size in
-    rw (p.1, p.2)
-    (if_refused_weaker c.in_err-read_pieces.field-0.0 (ToldOf c.args.pool.now (origin c.args.message_type.0 c.args.limits.depth [] (Some c.args.size)) (g.I.Input.left c.args.input.now) (g.I.Input.left c.read_pieces.new.input) c.args.size) (λ f. f.byte < 2 ^ 31)
-    (λ f told. let few = told.few in let low = low_byte c.args.pool.now f told.told.bad in omega (arith, few, low, small, same, fits)) (c.in_err-read_pieces.ensures.fault (origin c.args.message_type.0 c.args.limits.depth [] (Some c.args.size)) c.begin_empty-reading.ensures.took))
+pub returns-in-Some-clause-rest : goal.returns-in-Some-clause-rest
+returns-in-Some-clause-rest g c =
+    let all : length (take c.in_ok-count.count c.read_first.new.buffer) ≡ c.args.size = rw c.in-Some.is at c.in_ok-message.ensures.all in
+    rest_text (g.I.Input.left c.args.input.now) (g.I.Input.left c.read_first.new.input) c.args.size (take c.in_ok-count.count c.read_first.new.buffer) all c.in_ok-count.ensures.given
 
-pub finish_message-requires-clause-took : goal.finish_message-requires-clause-took
-finish_message-requires-clause-took g c = (
-  further (origin c.args.message_type.0 c.args.limits.depth [] (Some c.args.size)) c.in_ok-read_pieces.ensures.read.bytes,
-  refl,
-  c.in_ok-read_pieces.ensures.read.onward (origin c.args.message_type.0 c.args.limits.depth [] (Some c.args.size)) c.begin_empty-reading.ensures.took,
-)
+pub returns-in-None-clause-value : goal.returns-in-None-clause-value
+returns-in-None-clause-value g c = c.read_in_pieces.ensures.value (g.I.Input.left c.args.input.now) c.in_ok-count.ensures.given
 
-pub finish_message-requires-clause-small : goal.finish_message-requires-clause-small
-finish_message-requires-clause-small g c =
-    let at = reads_at (origin c.args.message_type.0 c.args.limits.depth [] (Some c.args.size)) c.in_ok-read_pieces.ensures.read c.begin_empty-reading.ensures.took in
-    let begun = c.begin_empty-reading.ensures.at in
-    let few = c.in_ok-read_pieces.ensures.count in
-    let small = c.max_bytes-small.ensures.small in
-    let same = c.max_bytes-small.ensures.same in
-    let fits = c.requires.size in
-    omega (arith, at, begun.0, begun.1, few, small, same, fits)
+pub returns-in-None-clause-rest : goal.returns-in-None-clause-rest
+returns-in-None-clause-rest g c = c.read_in_pieces.ensures.rest (g.I.Input.left c.args.input.now) c.in_ok-count.ensures.given
 
-pub returns-clause-value : goal.returns-clause-value
-returns-clause-value g c =
-    let read = c.in_ok-read_pieces.ensures.read in
-    let few = c.in_ok-read_pieces.ensures.count in
-    let size = read.size in
-    let o : Origin = further (origin c.args.message_type.0 c.args.limits.depth [] (Some c.args.size)) read.bytes in
-    ok_left c.finish_message.result (g.I.Input.left c.args.input.now) (λ left (m : Dynamic). IsFrameOf c.args.pool.now c.args.message_type.0 c.args.limits c.args.size left m.body)
-    (ok_weaker c.finish_message.result (λ (m : Dynamic). IsWhole c.args.pool.now o m.body) (λ (m : Dynamic). IfSome (g.I.Input.left c.args.input.now) (λ left. IsFrameOf c.args.pool.now c.args.message_type.0 c.args.limits c.args.size left m.body))
-    (λ m whole. frame_left (g.I.Input.left c.args.input.now) (g.I.Input.left c.read_pieces.new.input) c.args.size read.bytes m.body c.requires.size (omega (arith, few, size)) read.given whole)
-    (c.finish_message.ensures.whole o (read.onward (origin c.args.message_type.0 c.args.limits.depth [] (Some c.args.size)) c.begin_empty-reading.ensures.took)))
+pub returns-in-None-clause-fault : goal.returns-in-None-clause-fault
+returns-in-None-clause-fault g c = c.read_in_pieces.ensures.fault (g.I.Input.left c.args.input.now) c.in_ok-count.ensures.given
 
-pub returns-clause-rest : goal.returns-clause-rest
-returns-clause-rest g c =
-    let read = c.in_ok-read_pieces.ensures.read in
-    let few = c.in_ok-read_pieces.ensures.count in
-    let size = read.size in
-    let o : Origin = further (origin c.args.message_type.0 c.args.limits.depth [] (Some c.args.size)) read.bytes in
-    on_ok c.finish_message.result (λ (m : Dynamic). IsWhole c.args.pool.now o m.body) (IfSome (g.I.Input.left c.args.input.now) (λ left. g.I.Input.left c.read_pieces.new.input ≡ Some (drop c.args.size left)))
-    (λ m whole. rest_left (g.I.Input.left c.args.input.now) (g.I.Input.left c.read_pieces.new.input) c.args.size read.bytes m.body (omega (arith, few, size)) read.given whole)
-    (c.finish_message.ensures.whole o (read.onward (origin c.args.message_type.0 c.args.limits.depth [] (Some c.args.size)) c.begin_empty-reading.ensures.took))
+pub returns-in-None-clause-most : goal.returns-in-None-clause-most
+returns-in-None-clause-most g c = c.read_in_pieces.ensures.most (g.I.Input.left c.args.input.now) c.in_ok-count.ensures.given
 
-pub returns-clause-fault : goal.returns-clause-fault
-returns-clause-fault g c =
-    let read = c.in_ok-read_pieces.ensures.read in
-    let size = read.size in
-    let o : Origin = further (origin c.args.message_type.0 c.args.limits.depth [] (Some c.args.size)) read.bytes in
-    err_refused c.finish_message.result (BadFrom c.args.pool.now o) (λ f. IfSome (g.I.Input.left c.args.input.now) (λ left. BadFrame c.args.pool.now c.args.message_type.0 c.args.limits.depth 0 c.args.size left f))
-    (λ f bad. bad_frame c.args.pool.now (g.I.Input.left c.args.input.now) (g.I.Input.left c.read_pieces.new.input) c.args.size read.bytes f (⊎_elim (λ all. inl (size ∙ all)) (λ ended. inr ended) c.in_ok-read_pieces.ensures.ends) read.given bad)
-    (c.finish_message.ensures.fault o (read.onward (origin c.args.message_type.0 c.args.limits.depth [] (Some c.args.size)) c.begin_empty-reading.ensures.took))
-
-pub returns-clause-low : goal.returns-clause-low
-returns-clause-low g c =
-    let read = c.in_ok-read_pieces.ensures.read in
-    let few = c.in_ok-read_pieces.ensures.count in
-    let size = read.size in
-    let small = c.max_bytes-small.ensures.small in
-    let same = c.max_bytes-small.ensures.same in
-    let fits = c.requires.size in
-    let o : Origin = further (origin c.args.message_type.0 c.args.limits.depth [] (Some c.args.size)) read.bytes in
-    err_refused c.finish_message.result (BadFrom c.args.pool.now o) (λ f. f.byte < 2 ^ 31) (λ f bad. let low = low_byte c.args.pool.now f bad in omega (arith, few, size, low, small, same, fits))
-    (c.finish_message.ensures.fault o (read.onward (origin c.args.message_type.0 c.args.limits.depth [] (Some c.args.size)) c.begin_empty-reading.ensures.took))
-
-pub returns-clause-failures : goal.returns-clause-failures
-returns-clause-failures g c =
-    let read = c.in_ok-read_pieces.ensures.read in
-    let o : Origin = further (origin c.args.message_type.0 c.args.limits.depth [] (Some c.args.size)) read.bytes in
-    tells_kept c.finish_message.result (BadFrom c.args.pool.now o) _ _ c.in_ok-read_pieces.ensures.failures
-    (c.finish_message.ensures.fault o (read.onward (origin c.args.message_type.0 c.args.limits.depth [] (Some c.args.size)) c.begin_empty-reading.ensures.took))
-
-pub returns-clause-steady : goal.returns-clause-steady
-returns-clause-steady g c =
-    let read = c.in_ok-read_pieces.ensures.read in
-    let o : Origin = further (origin c.args.message_type.0 c.args.limits.depth [] (Some c.args.size)) read.bytes in
-    λ h. never_device c.finish_message.result (BadFrom c.args.pool.now o) (c.finish_message.ensures.fault o (read.onward (origin c.args.message_type.0 c.args.limits.depth [] (Some c.args.size)) c.begin_empty-reading.ensures.took))
+pub returns-in-None-clause-failures : goal.returns-in-None-clause-failures
+returns-in-None-clause-failures g c = subst (λ (z : ℕ). TellsFailures c.read_in_pieces.result z (g.I.Input.failures c.read_in_pieces.new.input)) c.in_ok-count.ensures.failures c.read_in_pieces.ensures.failures

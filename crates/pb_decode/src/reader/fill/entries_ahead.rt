@@ -22,7 +22,11 @@ fn size_ahead(tag: &[u8], bytes: &[u8]) -> Option<usize>
     Some(end)
 }
 
-/// How many records of the tag at the front follow on each other: room for the entries of a run. None is looked into, so it is a hint.
+/// For so many entries there is room at first, so that what is asked for before one is read has a bound. A longer run asks for more.
+const MOST_AHEAD: usize = 4096;
+
+/// How many records of the tag at the front follow on each other, but no more than are counted: room for the entries of a run. None
+/// is looked into, so it is a hint.
 pub(super) fn entries_ahead(bytes: &[u8], left: Option<u32>) -> usize
     requires small { length bytes.now < 2 ^ 31 }
 {
@@ -35,7 +39,7 @@ pub(super) fn entries_ahead(bytes: &[u8], left: Option<u32>) -> usize
     };
     let mut rest = &bytes[..within];
     let mut count = 0usize;
-    for _ in 0..within {
+    for _ in 0..MOST_AHEAD.min(within) {
         let Some(size) = size_ahead(&bytes[..tag.size], rest) else {
             return count;
         };
