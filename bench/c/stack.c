@@ -1,5 +1,6 @@
 /* How much stack each call takes: stack SET. Each is made in a thread of its own, whose stack was painted before. The messages and groups nest 100
- * deep, as deep as they may, and the sources 64 deep. In the maps each map has seventeen entries, the last with the next map in its value. */
+ * deep, as deep as they may, and the sources 64 deep. In the maps each map has seventeen entries, the last with the next map in its value; in the
+ * lone entries each map has one. */
 #define _GNU_SOURCE
 #include "mabristu.h"
 
@@ -15,8 +16,8 @@ enum { DEPTH = 100, STACK = 4 << 20 };
 
 static struct mb_pool pool;
 static uint32_t type;
-static uint8_t groups[2 * DEPTH], nested[8 * DEPTH], framed[8 * DEPTH + 2], maps[1 << 15], set[1 << 20], out[1 << 16];
-static size_t nested_len, framed_len, maps_len, set_len;
+static uint8_t groups[2 * DEPTH], nested[8 * DEPTH], framed[8 * DEPTH + 2], maps[1 << 15], lone[16 * DEPTH], set[1 << 20], out[1 << 16];
+static size_t nested_len, framed_len, maps_len, lone_len, set_len;
 static char source[1 << 14];
 static struct mb_bytes name = {(const uint8_t *)"a.proto", 7}, text;
 
@@ -37,6 +38,10 @@ static uint32_t check(void) { return mb_check(&pool, type, nested, nested_len, L
 static uint32_t check_cut(void) { return mb_check(&pool, type, nested, nested_len - 1, LIMITS, FAULT); }
 static uint32_t check_maps(void) { return mb_check(&pool, type, maps, maps_len, LIMITS, FAULT); }
 static uint32_t show_maps(void) { return mb_show(&pool, type, maps, maps_len, LIMITS, OUT, FAULT); }
+static uint32_t check_lone(void) { return mb_check(&pool, type, lone, lone_len, LIMITS, FAULT); }
+static uint32_t check_lone_cut(void) { return mb_check(&pool, type, lone, lone_len - 1, LIMITS, FAULT); }
+static uint32_t show_lone(void) { return mb_show(&pool, type, lone, lone_len, LIMITS, OUT, FAULT); }
+static uint32_t canon_lone(void) { return mb_canon(&pool, type, lone, lone_len, LIMITS, OUT, FAULT); }
 static uint32_t check_groups(void) { return mb_check(&pool, type, groups, sizeof groups, LIMITS, FAULT); }
 static uint32_t canon(void) { return mb_canon(&pool, type, nested, nested_len, LIMITS, OUT, FAULT); }
 static uint32_t show(void) { return mb_show(&pool, type, nested, nested_len, LIMITS, OUT, FAULT); }
@@ -68,7 +73,9 @@ static const struct { const char *name; uint32_t (*call)(void); } calls[] = {
     {"mb_raw_check of groups", raw_check}, {"mb_raw_check of groups that are cut off", raw_check_cut}, {"mb_raw_short of groups", raw_short},
     {"mb_pool_link, and mb_pool_free", link_set}, {"mb_pool_compile, and mb_pool_free", compile}, {"mb_pool_share, and mb_pool_free", share},
     {"mb_pool_type", find}, {"mb_check", check}, {"mb_check of a message that is cut off", check_cut}, {"mb_check of unknown groups", check_groups},
-    {"mb_check of maps", check_maps}, {"mb_show of maps", show_maps}, {"mb_canon", canon}, {"mb_show", show}, {"mb_frames", frames},
+    {"mb_check of maps", check_maps}, {"mb_show of maps", show_maps}, {"mb_check of lone entries", check_lone},
+    {"mb_check of lone entries that are cut off", check_lone_cut}, {"mb_show of lone entries", show_lone}, {"mb_canon of lone entries", canon_lone},
+    {"mb_canon", canon}, {"mb_show", show}, {"mb_frames", frames},
 };
 
 /* Puts bytes before others. */
@@ -113,7 +120,10 @@ int main(int argc, char **argv)
     framed[1] = (uint8_t)(nested_len >> 7);
     memcpy(framed + 2, nested, nested_len);
     framed_len = nested_len + 2;
-    for (int i = 0; i < DEPTH / 2; i++) {
+    for (int i = 0; i < DEPTH; i++) {
+        lone_len = wrap(lone, lone_len, 0x12);
+        lone_len = put(lone, lone_len, "\x0a\x01z", 3);
+        lone_len = wrap(lone, lone_len, 0x12);
         maps_len = wrap(maps, maps_len, 0x12);
         maps_len = put(maps, maps_len, "\x0a\x01z", 3);
         maps_len = wrap(maps, maps_len, 0x12);
