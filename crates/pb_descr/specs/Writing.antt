@@ -49,7 +49,8 @@ packed_options b = Some (one (a_message ((2, Some (one (scalar (boolean b)))) �
 
 abbrev pub field_contents : DeclaredField → List (ℕ × Option Holding)
 field_contents f =
-    (1, a_text f.name) ∷ (3, a_number f.number) ∷ (4, a_number (if f.is_repeated then pos 3 else pos 1)) ∷ (5, optional (λ c. a_number (pos (number_of_type c))) f.type_code)
+    (1, a_text f.name) ∷ (3, a_number f.number) ∷ (4, a_number (if f.is_repeated then pos 3 else pos 1))
+    ∷ (5, optional (λ c. a_number (pos (number_of_type c))) f.type_code)
     ∷ (6, optional a_text f.type_name) ∷ (8, optional packed_options f.packed) ∷ (9, optional a_number f.oneof) ∷ (17, a_mark f.is_optional) ∷ []
 
 abbrev pub field_body : DeclaredField → Datum
@@ -87,7 +88,8 @@ oneof_body name = a_message ((1, a_text name) ∷ [])
 -- beside the messages inside
 abbrev pub message_contents : MessageHead → List Datum → List (ℕ × Option Holding)
 message_contents head inner =
-    (1, a_text head.name) ∷ (2, a_list (map field_body head.fields)) ∷ (3, a_list inner) ∷ (4, a_list (map enum_body head.enums)) ∷ (7, options_with 7 head.is_entry)
+    (1, a_text head.name) ∷ (2, a_list (map field_body head.fields)) ∷ (3, a_list inner) ∷ (4, a_list (map enum_body head.enums))
+    ∷ (7, options_with 7 head.is_entry)
     ∷ (8, a_list (map oneof_body head.oneofs)) ∷ (9, a_list (map range_body head.reserved)) ∷ (10, a_list (map text_datum head.reserved_names)) ∷ []
 
 abbrev mutual
@@ -122,7 +124,8 @@ syntax_text false = a_text (codes "proto3")
 
 abbrev pub file_contents : DeclaredFile → List (ℕ × Option Holding)
 file_contents f =
-    (1, a_text f.name) ∷ (2, package_text f.package_name) ∷ (3, a_list (map text_datum f.imports)) ∷ (4, a_list (message_bodies f.messages)) ∷ (5, a_list (map enum_body f.enums))
+    (1, a_text f.name) ∷ (2, package_text f.package_name) ∷ (3, a_list (map text_datum f.imports)) ∷ (4, a_list (message_bodies f.messages))
+    ∷ (5, a_list (map enum_body f.enums))
     ∷ (6, a_list (map service_body f.services)) ∷ (10, a_list (map int_datum f.public_indexes)) ∷ (12, syntax_text f.is_proto2) ∷ []
 
 abbrev pub file_body : DeclaredFile → Datum

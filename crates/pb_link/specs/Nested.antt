@@ -23,7 +23,8 @@ with_enum e i = record { messages = i.messages; enums = i.enums ++ e ∷ [] }
 -- what stands at an index changes, if there is something
 pub record ChangesAt (index : ℕ) (change : Insides → Insides) (old new : List Inside) : Type 0 where
   pub size : length new ≡ length old
-  pub exact : (i : ℕ) (x : Insides) → option_map inside_view (slice_get old i) ≡ Some x → option_map inside_view (slice_get new i) ≡ Some (if i == index then change x else x)
+  pub exact : (i : ℕ) (x : Insides) → option_map inside_view (slice_get old i) ≡ Some x
+      → option_map inside_view (slice_get new i) ≡ Some (if i == index then change x else x)
 
 -- what stands in a file, or in a message, changes, and all else stays
 abbrev pub PlacesAt : ℕ → Option ℕ → (Insides → Insides) → List Inside → List Inside → List Inside → List Inside → Type 0

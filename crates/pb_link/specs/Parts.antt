@@ -36,7 +36,9 @@ one_if false n = n
 -- the kinds of declarations that stand behind so many message types and enums
 abbrev pub kinds_from : List DeclaredFile → ℕ → ℕ → List Declaration → List Kind
 kinds_from files messages enums [] = []
-kinds_from files messages enums (d ∷ ds) = kind_here (is_two files d.file) messages enums d.item ∷ kinds_from files (one_if (is_message_type d.item) messages) (one_if (is_enum d.item) enums) ds
+kinds_from files messages enums (d ∷ ds) =
+    kind_here (is_two files d.file) messages enums d.item
+    ∷ kinds_from files (one_if (is_message_type d.item) messages) (one_if (is_enum d.item) enums) ds
 
 -- the type that was found first
 abbrev pub first_place : List Found → Option ℕ

@@ -178,7 +178,12 @@ number_of (pos n) = n
 number_of (negsuc n) = 0
 
 abbrev pub with_kind : Bool → DeclaredField → Kind → FieldView
-with_kind two f k = record { name = f.name; number = number_of f.number; kind = k; shape = if f.is_repeated then list_shape two k f else singular_shape two k f }
+with_kind two f k = record {
+  name = f.name;
+  number = number_of f.number;
+  kind = k;
+  shape = if f.is_repeated then list_shape two k f else singular_shape two k f;
+}
 
 -- a field of a scope of a file, by the entry message that it uses, if it does
 abbrev pub field_by_entry : World → ℕ → List ℕ → DeclaredField → Option (MessageHead × List ℕ) → FieldView

@@ -133,7 +133,8 @@ is_optional_view two f = is_optional_field two f.shape f.kind
 -- the fields, where the next synthetic oneof has this index
 abbrev pub declared_fields : Bool → Types → List ℕ → ℕ → List FieldView → List DeclaredField
 declared_fields two ts scope synthetic [] = []
-declared_fields two ts scope synthetic (f ∷ fs) = declared_field two ts scope synthetic f ∷ declared_fields two ts scope (if is_optional_view two f then synthetic + 1 else synthetic) fs
+declared_fields two ts scope synthetic (f ∷ fs) =
+    declared_field two ts scope synthetic f ∷ declared_fields two ts scope (if is_optional_view two f then synthetic + 1 else synthetic) fs
 
 -- the synthetic oneofs of fields
 abbrev pub synthetic_names : Bool → List FieldView → List (List ℕ)
@@ -143,11 +144,28 @@ synthetic_names two fs = map (λ f. 95 ∷ f.name) (filter (is_optional_view two
 
 -- a field of an entry message
 abbrev pub entry_part : Types → List ℕ → ℕ → Kind → DeclaredField
-entry_part ts name n k = record { name = name; number = pos n; is_repeated = false; type_code = Some (code_of_kind k); type_name = name_of_kind ts k; packed = None; oneof = None; is_optional = false }
+entry_part ts name n k = record {
+  name = name;
+  number = pos n;
+  is_repeated = false;
+  type_code = Some (code_of_kind k);
+  type_name = name_of_kind ts k;
+  packed = None;
+  oneof = None;
+  is_optional = false;
+}
 
 -- the entry message of a map field of a name, with these kinds of key and value
 abbrev pub entry_message : Types → List ℕ → Kind → Kind → DeclaredMessage
-entry_message ts name key k = message (record { name = entry_name name; fields = entry_part ts key_name 1 key ∷ entry_part ts value_name 2 k ∷ []; enums = []; oneofs = []; reserved = []; reserved_names = []; is_entry = true }) no_messages
+entry_message ts name key k = message (record {
+  name = entry_name name;
+  fields = entry_part ts key_name 1 key ∷ entry_part ts value_name 2 k ∷ [];
+  enums = [];
+  oneofs = [];
+  reserved = [];
+  reserved_names = [];
+  is_entry = true;
+}) no_messages
 
 -- the entry message of a map field
 abbrev pub entry_of_field : Types → FieldView → Option DeclaredMessage

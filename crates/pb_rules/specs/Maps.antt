@@ -33,7 +33,9 @@ names_of_place all place = slice_index_or all place type_names.None
 -- the rule of entries at a message of a place, by what was found of it and of its fields behind it
 abbrev pub entry_rule : World → List TypeNames → ℕ → DeclaredMessage → Bool → Bool
 entry_rule w all place t is_used =
-    is_right_entry (head_of t).is_entry is_used (right_parts (head_of t).fields (are_plain w (names_of_place all (place + 1))) (are_plain w (names_of_place all (place + 2)))) (has_nothing_inside (head_of t) (inner_of t))
+    is_right_entry (head_of t).is_entry is_used
+    (right_parts (head_of t).fields (are_plain w (names_of_place all (place + 1))) (are_plain w (names_of_place all (place + 2))))
+    (has_nothing_inside (head_of t) (inner_of t))
 
 -- the rules of map fields, by what was found
 abbrev pub map_rule : World → List TypeNames → ℕ → Declaration → Bool → Item → Bool
