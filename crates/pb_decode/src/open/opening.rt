@@ -29,6 +29,7 @@ fn message_of(alloc: Global, value: Option<Value>) -> Body
 }
 
 /// The message that a field of one value held, or an empty one.
+#[inline(always)]
 fn message_in(alloc: Global, content: Option<Content>) -> Body
     ensures { body_view result ≡ message_held (option_map content_view content) }
 {

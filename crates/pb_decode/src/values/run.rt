@@ -39,6 +39,10 @@ fn element_at(pool: &Pool, kind: Kind, bytes: &[u8], left: Option<u32>) -> Optio
     ensures within { IfSome result (λ r. (0 < r.1) × (r.1 ≤ length bytes.now)) }
     ensures put { TellsElement pool.now kind bytes.now left result }
 {
+    // A run ends here most often, and a varint of no bytes is cut only where it is looked for.
+    if bytes.is_empty() || left == Some(0) {
+        return None;
+    }
     match number_at(kind.wire_type(), bytes, left) {
         NumberToken::Whole(number, size) => {
             if is_undeclared(pool, kind, number) {
