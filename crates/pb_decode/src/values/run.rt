@@ -34,6 +34,7 @@ pub(crate) struct Run {
 
 /// The element at the front of some bytes, with so many bytes before the known end, and how many bytes it takes, if it stands
 /// whole there.
+#[inline(always)]
 fn element_at(pool: &Pool, kind: Kind, bytes: &[u8], left: Option<u32>) -> Option<(Element, usize)>
     requires { (wire_type_of kind ≡ 0) ⊎ (wire_type_of kind ≡ 1) ⊎ (wire_type_of kind ≡ 5) }
     ensures within { IfSome result (λ r. (0 < r.1) × (r.1 ≤ length bytes.now)) }
