@@ -77,6 +77,8 @@ pub mod LengthTaken
 pub mod QuickLemmas
 -- for map entries that are taken at once
 pub mod FillLemmas
+-- for keys and values of map entries that are read at once
+pub mod PairLemmas
 -- for groups that are read at once
 pub mod GroupFills
 -- for the elements of a list that are read at once

@@ -3,6 +3,8 @@ pub mod Waiting
 pub mod Origin
 pub mod Fills
 pub mod Entries
+pub mod Scalars
+pub mod Pairs
 pub mod Listed
 pub mod Steps
 pub mod Pieces

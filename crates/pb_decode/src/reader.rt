@@ -11,6 +11,7 @@ pub(crate) mod quick_group;
 pub(crate) mod quick_message;
 pub(crate) mod quick_record;
 pub(crate) mod quick_text;
+pub(crate) mod scalar_behind;
 pub(crate) mod state;
 pub(crate) mod take_next;
 pub(crate) mod take_payload;

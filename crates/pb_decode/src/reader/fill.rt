@@ -8,6 +8,7 @@ ghost use Rattle.pb_decode.specs.Open.Purposes.{Means, part_context};
 ghost use Rattle.pb_decode.specs.Values.PayloadValue.{IsBytesPurpose};
 ghost use Rattle.pb_decode.specs.Reader.Fills.{IsOpen, HasTagAt, FillsOne, FillsAll};
 
+mod direct_pair;
 pub(crate) mod entries;
 mod entries_ahead;
 pub(crate) mod group;

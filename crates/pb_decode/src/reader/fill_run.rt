@@ -14,12 +14,9 @@ ghost use Rattle.pb_decode.specs.Reader.Listed.{FillsList, FillsElement, FillsEl
 use crate::error::NoMemory;
 use crate::open::part::Part;
 use crate::open::purpose::Purpose;
-use crate::reader::state::number_at;
-use crate::tokens::number::number_value;
-use crate::tokens::number_token::NumberToken;
-use crate::tokens::record_tag::{RecordTag, left_behind, record_tag};
+use crate::reader::scalar_behind::number_behind;
+use crate::tokens::record_tag::{RecordTag, record_tag};
 use crate::values::put_elements::put_elements;
-use crate::values::put_number::is_undeclared;
 use crate::values::put_scalar::put_scalar;
 use pb_schema::{Kind, Pool};
 use pb_value::Value;
@@ -44,20 +41,7 @@ fn element_behind(
     ensures within { IfSome result (λ r. (tag.size ≤ r.1) × (r.1 ≤ length bytes.now)) }
     ensures put { FillsElement pool.now kind tag.number bytes.now left result }
 {
-    let behind = left_behind(Some(left), tag.size);
-    match number_at(tag.wire_type, &bytes[tag.size..], behind) {
-        NumberToken::Whole(number, size) => {
-            if is_undeclared(pool, kind, number) {
-                return None;
-            }
-            match number_value(kind, number) {
-                Some(value) => Some((value, tag.size + size)),
-                None => None,
-            }
-        }
-        NumberToken::Short => None,
-        NumberToken::Fault(_) => None,
-    }
+    number_behind(pool, kind, tag, bytes, left)
 }
 
 /// The value of the record at the front of some bytes, if it is an element of this list and stands whole there, and how many

@@ -1,13 +1,16 @@
 //! Runs of map entries that stand whole in the bytes: they are read one behind another, and go into their map at once.
 
-ghost use Rattle.std.specs.Prelude.{◌≡◌, ◌+◌, ◌≤◌, ◌<◌, ◌^◌, Some, length, IfOk, IfSome};
+ghost use Rattle.std.specs.Prelude.{◌≡◌, ◌+◌, ◌≤◌, ◌<◌, ◌^◌, Some, None, length, IfOk, IfSome};
 ghost use Rattle.pb_schema.specs.Rules.{IsPool};
 ghost use Rattle.pb_decode.specs.declared.open.purpose.Purpose.TheVariants.{Entry};
+ghost use Rattle.pb_decode.specs.Open.Frames.{entry_part};
 ghost use Rattle.pb_decode.specs.Open.PartView.{part_view};
 ghost use Rattle.pb_decode.specs.Open.Purposes.{Means, part_context};
 ghost use Rattle.pb_decode.specs.Reader.Entries.{IsMapOpen, TellsEntry, TellsEntries};
 ghost use Rattle.pb_decode.specs.Reader.Fills.{IsOpen, HasTagAt, FillsOne};
+ghost use Rattle.pb_decode.specs.Reader.Pairs.{TellsPair};
 
+use super::direct_pair::{Pair, direct_pair};
 use super::entries_ahead::entries_ahead;
 use super::fill_entry;
 use super::pairs::fill_pair;
@@ -23,6 +26,49 @@ use std::alloc::Global;
 
 /// An entry of less bytes goes into its map by itself, so that what a run holds follows its bytes, also where keys repeat.
 pub(super) const LEAST: usize = 8;
+
+/// The key and the value of an entry whose payload of this size is read record by record. There are none where it is none.
+#[cycle(fill)]
+#[inline(never)]
+fn pair_in_turn(
+    alloc: Global,
+    pool: &Pool,
+    key_kind: Kind,
+    value_kind: Kind,
+    bytes: &[u8],
+    size: u32,
+    room: u8,
+) -> Result<Option<(MapKey, Value)>, NoMemory>
+    requires rules { IsPool pool.now }
+    requires open { IsOpen pool.now (entry_part key_kind value_kind None None) bytes.now size room }
+    requires small { length bytes.now < 2 ^ 31 }
+    requires whole { size ≤ length bytes.now }
+    ensures { TellsPair pool.now key_kind value_kind bytes.now size room result }
+{
+    let mut entry = Part::Entry {
+        key_kind,
+        value_kind,
+        key: None,
+        value: None,
+    };
+    if !fill_pair(alloc, pool, &mut entry, bytes, size, room)? {
+        return Ok(None);
+    }
+    match entry {
+        Part::Entry {
+            key_kind,
+            value_kind,
+            key,
+            value,
+        } => {
+            let key = key_or_default(alloc, key_kind, key);
+            let value = value_or_missing(alloc, value_kind, value);
+            Ok(Some((key, value)))
+        }
+        Part::Message(_kind, _body) => Ok(None),
+        Part::Group(_records) => Ok(None),
+    }
+}
 
 /// The entry behind a tag at the front of some bytes, with so many bytes before the known end and so many levels left, and how
 /// many bytes its record takes, if it stands whole there. Where its payload was read and is none, `tried` is where it ends.
@@ -58,29 +104,23 @@ fn entry_behind(
     if bytes.len() < end || end < LEAST {
         return Ok(None);
     }
-    let mut entry = Part::Entry {
-        key_kind,
-        value_kind,
-        key: None,
-        value: None,
-    };
-    if !fill_pair(alloc, pool, &mut entry, &bytes[start..], size, room - 1)? {
-        *tried = at + end as u32;
-        return Ok(None);
-    }
-    match entry {
-        Part::Entry {
-            key_kind,
-            value_kind,
-            key,
-            value,
-        } => {
-            let key = key_or_default(alloc, key_kind, key);
-            let value = value_or_missing(alloc, value_kind, value);
-            Ok(Some(((key, value), end)))
+    let payload = &bytes[start..];
+    let below = room - 1;
+    match direct_pair(alloc, pool, key_kind, value_kind, payload, size, below)? {
+        Pair::Whole(key, value) => Ok(Some(((key, value), end))),
+        Pair::Refused => {
+            *tried = at + end as u32;
+            Ok(None)
         }
-        Part::Message(_kind, _body) => Ok(None),
-        Part::Group(_records) => Ok(None),
+        Pair::Other => match pair_in_turn(
+            alloc, pool, key_kind, value_kind, payload, size, below,
+        )? {
+            Some(pair) => Ok(Some((pair, end))),
+            None => {
+                *tried = at + end as u32;
+                Ok(None)
+            }
+        },
     }
 }
 

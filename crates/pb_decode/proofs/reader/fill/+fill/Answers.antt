@@ -1,17 +1,20 @@
 -- Record by record a part is filled, and what it holds with it.
-use Rattle.std.proofs.Common.{rules, ◌≡◌, ◌+◌, ◌-◌, ◌*◌, ◌<◌, ℕ, ◌∷◌, [], Some, ap, ◌∙◌, sym, refl, subst, arith, take, drop, length, length-drop, option_map}
+use Rattle.std.proofs.Common.{rules, ◌≡◌, ◌+◌, ◌-◌, ◌*◌, ◌<◌, ℕ, ◌∷◌, [], Some, None, ap, ◌∙◌, sym, refl, subst, arith, take, drop, length, length-drop, option_map}
+use Rattle.std.proofs.lemmas.Bool.{false≢true}
 use Rattle.pb_wire.specs.Unknown.{records_of}
 use Rattle.pb_wire.specs.Fault.{Place}
 use Rattle.pb_wire.specs.Token.{given_at, passed}
 use Rattle.pb_value.specs.View.{body_view, key_view, value_view}
 use Rattle.pb_value.specs.declared.body.Value.TheVariants as value
+use Rattle.pb_value.specs.Data.{Datum}
+use Rattle.pb_value.proofs.Views.{value_view-Message}
 use Rattle.pb_decode.specs.declared.open.part.Slot.TheVariants as slot
 use Rattle.pb_decode.specs.declared.open.purpose.Purpose.TheVariants.{Message}
 use Rattle.pb_decode.specs.Open.Frames.{Part, entry_part, one_more_in, Stands}
 use Rattle.pb_decode.specs.Open.PartView.{part_view}
 use Rattle.pb_decode.specs.Close.Mapped.{pairs_view, put_mapped, put_all_mapped}
 use Rattle.pb_decode.specs.Reader.Entries.{more_in}
-use Rattle.pb_decode.specs.Reader.Fills.{IsOpen, HasTagAt, FillsTo}
+use Rattle.pb_decode.specs.Reader.Fills.{StandsIn, IsOpen, HasTagAt, FillsTo}
 use Rattle.pb_decode.specs.Reader.Fills.Groups.{FillsToEnd}
 use Rattle.pb_decode.specs.Reader.Listed.{FillsRun, IsListOpen}
 use Rattle.pb_decode.specs.Values.Run.{put_listed}
@@ -20,9 +23,10 @@ use Rattle.pb_decode.proofs.NumberSteps.{number_is}
 use Rattle.pb_decode.proofs.WellLemmas.{can_hold}
 use Rattle.pb_decode.proofs.EndedLemmas.{entry_has_room, frame_can_hold}
 use Rattle.pb_decode.proofs.FillLemmas.{some_told, open_can, nothing_filled, still_open, filled_further, typed_tag, entry_in_part, message_in_part, entry_inside, message_inside, entry_over, message_over}
+use Rattle.pb_decode.proofs.PairLemmas.{whole_pair, pair_further}
 use Rattle.pb_decode.proofs.GroupSteps.{unknown_group_means}
 use Rattle.pb_decode.proofs.GroupFills.{whole_told, whole_within, field_group_in_part, field_group_inside, field_group_over, unknown_group_in_part, unknown_group_inside, unknown_group_over, end_reached}
-use Rattle.pb_decode.proofs.ListedLemmas.{values_further, none_listed, list_further, list_number, message_listed}
+use Rattle.pb_decode.proofs.ListedLemmas.{values_further, none_listed, list_further, message_listed}
 use Rattle.pb_decode.proofs.RunLemmas.{place_behind}
 use Rattle.pb_decode.proofs.MapRuns.{tag_of, entry_in_map, entry_taken, rises_in, map_open_in, run_filled, told_of, size_next, more_room, means_along, run_further, open_further, none_read}
 use Rattle.pb_decode.proofs.reader.fill.+fill.Goals as goal
@@ -37,7 +41,7 @@ pub fill-fill_record-requires : goal.fill-fill_record-requires
 fill-fill_record-requires t c =
     let size = ap length (slice_from c.loop-here.here c.args.bytes.now) ∙ length-drop c.loop-here.here c.args.bytes.now in
     let small = c.requires.small in
-    let less : 8 * length (take (length c.args.bytes.now - c.loop-here.here) (drop c.loop-here.here c.args.bytes.now)) + 6 < 8 * length c.args.bytes.now + 7 = omega (arith, size) in (
+    let less : 16 * length (take (length c.args.bytes.now - c.loop-here.here) (drop c.loop-here.here c.args.bytes.now)) + 6 < 16 * length c.args.bytes.now + 7 = omega (arith, size) in (
       search (rules, less),
       (
         c.requires.rules,
@@ -74,7 +78,7 @@ fill_entry-fill_pair-requires t c =
     let some = c.requires.some in
     let later = c.in-Some.ensures.within.0 in
     let within = c.in-Some.ensures.within.1 in
-    let less : 8 * length (take (length c.args.bytes.now - c.in-Some.start) (drop c.in-Some.start c.args.bytes.now)) + 8 < 8 * length c.args.bytes.now + 3 = omega (arith, is, some, later, within) in (
+    let less : 16 * length (take (length c.args.bytes.now - c.in-Some.start) (drop c.in-Some.start c.args.bytes.now)) + 8 < 16 * length c.args.bytes.now + 3 = omega (arith, is, some, later, within) in (
       search (rules, less),
       (
         c.requires.rules,
@@ -120,7 +124,7 @@ fill_message-fill-requires t c =
     let some = c.requires.some in
     let later = c.in-Some.ensures.within.0 in
     let within = c.in-Some.ensures.within.1 in
-    let less : 8 * length (take (length c.args.bytes.now - c.in-Some.start) (drop c.in-Some.start c.args.bytes.now)) + 7 < 8 * length c.args.bytes.now + 4 = omega (arith, is, some, later, within) in (
+    let less : 16 * length (take (length c.args.bytes.now - c.in-Some.start) (drop c.in-Some.start c.args.bytes.now)) + 7 < 16 * length c.args.bytes.now + 4 = omega (arith, is, some, later, within) in (
       search (rules, less),
       (
         c.requires.rules,
@@ -156,7 +160,7 @@ group::fill_field_group-fill_to_tag-requires t c =
     let start = typed_tag c.args.bytes.now (Some c.args.left) c.args.tag.number c.args.tag.wire_type 3 c.args.tag.size c.requires.start c.requires.tag in
     let within = c.requires.within in
     let before = c.saturating_sub-before.ensures in
-    let less : 8 * length (take (length c.args.bytes.now - c.args.tag.size) (drop c.args.tag.size c.args.bytes.now)) + 7 < 8 * length c.args.bytes.now + 4 = omega (arith, is, some, within) in (
+    let less : 16 * length (take (length c.args.bytes.now - c.args.tag.size) (drop c.args.tag.size c.args.bytes.now)) + 7 < 16 * length c.args.bytes.now + 4 = omega (arith, is, some, within) in (
       search (rules, less),
       (
         c.requires.rules,
@@ -192,7 +196,7 @@ group::fill_unknown_group-fill_to_tag-requires t c =
     let start = typed_tag c.args.bytes.now (Some c.args.left) c.args.tag.number c.args.tag.wire_type 3 c.args.tag.size c.requires.start c.requires.tag in
     let within = c.requires.within in
     let before = c.saturating_sub-before.ensures in
-    let less : 8 * length (take (length c.args.bytes.now - c.args.tag.size) (drop c.args.tag.size c.args.bytes.now)) + 7 < 8 * length c.args.bytes.now + 4 = omega (arith, is, some, within) in (
+    let less : 16 * length (take (length c.args.bytes.now - c.args.tag.size) (drop c.args.tag.size c.args.bytes.now)) + 7 < 16 * length c.args.bytes.now + 4 = omega (arith, is, some, within) in (
       search (rules, less),
       (
         c.requires.rules,
@@ -218,7 +222,7 @@ group::fill_group-purpose_of-meant-requires t c = open_can c.requires.rules c.re
 pub group::fill_group-fill_unknown_group-requires : goal.group::fill_group-fill_unknown_group-requires
 group::fill_group-fill_unknown_group-requires t c =
     let level = c.if-room-eq0.false in
-    let less : 8 * length c.args.bytes.now + 4 < 8 * length c.args.bytes.now + 5 = omega arith in (
+    let less : 16 * length c.args.bytes.now + 4 < 16 * length c.args.bytes.now + 5 = omega arith in (
       search (rules, less),
       (
         c.requires.rules,
@@ -254,7 +258,7 @@ group::fill_to_tag-fill_inside-requires t c =
     let size = ap length (slice_from here c.args.bytes.now) ∙ length-drop here c.args.bytes.now in
     let small = c.requires.small in
     let before = c.saturating_sub-before.ensures in
-    let less : 8 * length (take (length c.args.bytes.now - here) (drop here c.args.bytes.now)) + 6 < 8 * length c.args.bytes.now + 7 = omega (arith, size) in (
+    let less : 16 * length (take (length c.args.bytes.now - here) (drop here c.args.bytes.now)) + 6 < 16 * length c.args.bytes.now + 7 = omega (arith, size) in (
       search (rules, less),
       (
         c.requires.rules,
@@ -289,15 +293,37 @@ group::fill_to_tag-returns-then-tag-number-clause-filled t c =
     subst (λ (z : ℕ). FillsToEnd c.args.pool.now z (part_view c.args.part.now) (part_view c.loop-tag.part) c.args.bytes.now c.args.left c.args.room (c.loop-tag.here + c.in-Some.tag.size)) same
     (end_reached (part_view c.args.part.now) (part_view c.loop-tag.part) c.args.bytes.now c.args.left c.args.room c.in-Some.tag.number c.in-Some.tag.wire_type c.loop-tag.here c.saturating_sub-before.result c.in-Some.tag.size c.loop-tag.invariant.filled ends c.saturating_sub-before.ensures c.in-Some.ensures.whole)
 
--- AN ENTRY OF A RUN is filled as where it is open, and what it closes to is its key and its value
-pub entries::entry_behind-fill_pair-requires : goal.entries::entry_behind-fill_pair-requires
-entries::entry_behind-fill_pair-requires t c =
+-- AN ENTRY OF A RUN is a key and a value in turn, or is filled as where it is open, and what it closes to is its key and its value
+pub entries::pair_in_turn-fill_pair-requires : goal.entries::pair_in_turn-fill_pair-requires
+entries::pair_in_turn-fill_pair-requires t c =
+    let less : 16 * length c.args.bytes.now + 8 < 16 * length c.args.bytes.now + 9 = omega arith in
+    (search (rules, less), (c.requires.rules, (c.requires.open, (c.requires.small, c.requires.whole))))
+
+pub entries::pair_in_turn-key_or_default-key-requires : goal.entries::pair_in_turn-key_or_default-key-requires
+entries::pair_in_turn-key_or_default-key-requires t c =
+    let from = c.requires.open in
+    let fills = subst (λ (z : Part). FillsTo c.args.pool.now (entry_part c.args.key_kind c.args.value_kind None None) z c.args.bytes.now c.args.size c.args.room c.args.size) (ap part_view c.in-Entry.is) (c.in_ok-fill_pair.ensures c.if-not-branch.false) in
+    can_hold c.requires.rules (entry_part c.in-Entry.key_kind c.in-Entry.value_kind (option_map key_view c.in-Entry.key) (option_map value_view c.in-Entry.value)) (fills from.m from.depth from.levels from.at from.base from.p0 from.frames from.stands).1
+
+pub entries::pair_in_turn-returns-in-Entry : goal.entries::pair_in_turn-returns-in-Entry
+entries::pair_in_turn-returns-in-Entry t c = record {
+  key_kind = c.in-Entry.key_kind;
+  value_kind = c.in-Entry.value_kind;
+  own_key = option_map key_view c.in-Entry.key;
+  own_value = option_map value_view c.in-Entry.value;
+  filled = subst (λ (z : Part). FillsTo c.args.pool.now (entry_part c.args.key_kind c.args.value_kind None None) z c.args.bytes.now c.args.size c.args.room c.args.size) (ap part_view c.in-Entry.is) (c.in_ok-fill_pair.ensures c.if-not-branch.false);
+  key_is = c.key_or_default-key.ensures;
+  value_is = c.value_or_missing-value.ensures;
+}
+
+pub entries::entry_behind-direct_pair-requires : goal.entries::entry_behind-direct_pair-requires
+entries::entry_behind-direct_pair-requires t c =
     let is = ap length (slice_from c.in-Some.start c.args.bytes.now) ∙ length-drop c.in-Some.start c.args.bytes.now in
     let small = c.requires.small in
     let some = c.requires.within.0 in
     let later = c.in-Some.ensures.within.0 in
     let within = c.in-Some.ensures.within.1 in
-    let less : 8 * length (take (length c.args.bytes.now - c.in-Some.start) (drop c.in-Some.start c.args.bytes.now)) + 8 < 8 * length c.args.bytes.now + 1 = omega (arith, is, some, later, within) in (
+    let less : 16 * length (take (length c.args.bytes.now - c.in-Some.start) (drop c.in-Some.start c.args.bytes.now)) + 9 < 16 * length c.args.bytes.now + 1 = omega (arith, is, some, later, within) in (
       search (rules, less),
       (
         c.requires.rules,
@@ -310,20 +336,44 @@ entries::entry_behind-fill_pair-requires t c =
       ),
     )
 
-pub entries::entry_behind-key_or_default-key-requires : goal.entries::entry_behind-key_or_default-key-requires
-entries::entry_behind-key_or_default-key-requires t c =
-    let from = c.requires.open in
-    let has = tag_of c.args.bytes.now c.args.left c.args.tag.number c.args.tag.wire_type c.args.tag.size c.args.number c.requires.bytes c.requires.own c.requires.tag in
-    let read = entry_inside from.at c.args.left c.args.bytes.now c.args.number c.args.tag.size c.in-Some.start c.in-Some.size c.args.room c.args.key_kind c.args.value_kind c.requires.rules (from.scope, from.stands, from.level) (has from.at) (c.in-Some.ensures.whole from.at c.args.tag.number c.args.tag.wire_type (c.requires.tag from.at)) from.means c.requires.some (c.in_ok-fill_pair.ensures c.if-not-branch.false) (ap part_view c.in-Entry.is) in
-    can_hold c.requires.rules (entry_part c.in-Entry.key_kind c.in-Entry.value_kind (option_map key_view c.in-Entry.key) (option_map value_view c.in-Entry.value)) read.1
-
-pub entries::entry_behind-returns-in-Entry-clause-put : goal.entries::entry_behind-returns-in-Entry-clause-put
-entries::entry_behind-returns-in-Entry-clause-put t c =
+pub entries::entry_behind-returns-in-Whole-clause-put : goal.entries::entry_behind-returns-in-Whole-clause-put
+entries::entry_behind-returns-in-Whole-clause-put t c =
     λ m depth levels at base p0 frames scope now stands level means.
+    let k = key_view c.in-Whole.key in
+    let v = value_view c.in-Whole.value in
     let has = tag_of c.args.bytes.now c.args.left c.args.tag.number c.args.tag.wire_type c.args.tag.size c.args.number c.requires.bytes c.requires.own c.requires.tag in
-    let read = entry_inside at c.args.left c.args.bytes.now c.args.number c.args.tag.size c.in-Some.start c.in-Some.size c.args.room c.args.key_kind c.args.value_kind c.requires.rules (scope, stands, level) (has at) (c.in-Some.ensures.whole at c.args.tag.number c.args.tag.wire_type (c.requires.tag at)) means c.requires.some (c.in_ok-fill_pair.ensures c.if-not-branch.false) (ap part_view c.in-Entry.is) in
-    entry_taken at c.args.left c.args.bytes.now c.args.number c.in-Some.start c.in-Some.size _ c.in-Entry.key_kind c.in-Entry.value_kind (option_map key_view c.in-Entry.key) (option_map value_view c.in-Entry.value) (key_view c.key_or_default-key.result) (value_view c.value_or_missing-value.result) c.requires.rules stands read
-    c.key_or_default-key.ensures c.value_or_missing-value.ensures
+    let fills = whole_pair _ c.in_ok-key.field-0 c.in-Whole.key c.in-Whole.value c.in-Whole.is c.in_ok-key.ensures in
+    let read = entry_inside at c.args.left c.args.bytes.now c.args.number c.args.tag.size c.in-Some.start c.in-Some.size c.args.room c.args.key_kind c.args.value_kind c.requires.rules (scope, stands, level) (has at) (c.in-Some.ensures.whole at c.args.tag.number c.args.tag.wire_type (c.requires.tag at)) means c.requires.some fills refl in
+    entry_taken at c.args.left c.args.bytes.now c.args.number c.in-Some.start c.in-Some.size (c.args.room - 1) c.args.key_kind c.args.value_kind (Some k) (Some v) k v c.requires.rules stands read refl refl
+
+pub entries::entry_behind-pair_in_turn-requires : goal.entries::entry_behind-pair_in_turn-requires
+entries::entry_behind-pair_in_turn-requires t c =
+    let is = ap length (slice_from c.in-Some.start c.args.bytes.now) ∙ length-drop c.in-Some.start c.args.bytes.now in
+    let small = c.requires.small in
+    let some = c.requires.within.0 in
+    let later = c.in-Some.ensures.within.0 in
+    let within = c.in-Some.ensures.within.1 in
+    let less : 16 * length (take (length c.args.bytes.now - c.in-Some.start) (drop c.in-Some.start c.args.bytes.now)) + 9 < 16 * length c.args.bytes.now + 1 = omega (arith, is, some, later, within) in (
+      search (rules, less),
+      (
+        c.requires.rules,
+        (
+          entry_in_map c.args.bytes.now c.args.left c.args.number c.args.tag.size c.in-Some.start c.in-Some.size c.args.room c.args.key_kind c.args.value_kind c.requires.rules c.requires.open
+              (tag_of c.args.bytes.now c.args.left c.args.tag.number c.args.tag.wire_type c.args.tag.size c.args.number c.requires.bytes c.requires.own c.requires.tag)
+              (λ at. c.in-Some.ensures.whole at c.args.tag.number c.args.tag.wire_type (c.requires.tag at)) c.requires.some,
+          (omega (arith, is, small), search (rules, is)),
+        ),
+      ),
+    )
+
+pub entries::entry_behind-returns-in-Some-2-clause-put : goal.entries::entry_behind-returns-in-Some-2-clause-put
+entries::entry_behind-returns-in-Some-2-clause-put t c =
+    λ m depth levels at base p0 frames scope now stands level means.
+    let pair = c.in-Some-2.pair in
+    let has = tag_of c.args.bytes.now c.args.left c.args.tag.number c.args.tag.wire_type c.args.tag.size c.args.number c.requires.bytes c.requires.own c.requires.tag in
+    let h = told_of _ c.in_ok-pair-in-Other.field-0 pair c.in-Some-2.is c.in_ok-pair-in-Other.ensures in
+    let read = entry_inside at c.args.left c.args.bytes.now c.args.number c.args.tag.size c.in-Some.start c.in-Some.size c.args.room c.args.key_kind c.args.value_kind c.requires.rules (scope, stands, level) (has at) (c.in-Some.ensures.whole at c.args.tag.number c.args.tag.wire_type (c.requires.tag at)) means c.requires.some h.filled refl in
+    entry_taken at c.args.left c.args.bytes.now c.args.number c.in-Some.start c.in-Some.size (c.args.room - 1) h.key_kind h.value_kind h.own_key h.own_value (key_view pair.0) (value_view pair.1) c.requires.rules stands read h.key_is h.value_is
 
 -- ENTRY BY ENTRY the run goes on, and one stands behind it
 pub entries::read_entries-loop-here-init : goal.entries::read_entries-loop-here-init
@@ -342,7 +392,7 @@ entries::read_entries-entry_at-requires t c =
     let size = ap length (slice_from here c.args.bytes.now) ∙ length-drop here c.args.bytes.now in
     let small = c.requires.small in
     let within = c.loop-here.invariant.within in
-    let less : 8 * length (take (length c.args.bytes.now - here) (drop here c.args.bytes.now)) + 2 < 8 * length c.args.bytes.now + 3 = omega (arith, size) in (
+    let less : 16 * length (take (length c.args.bytes.now - here) (drop here c.args.bytes.now)) + 2 < 16 * length c.args.bytes.now + 3 = omega (arith, size) in (
       search (rules, less),
       (
         c.requires.rules,
@@ -385,7 +435,7 @@ pub entries::fill_entries-read_entries-requires : goal.entries::fill_entries-rea
 entries::fill_entries-read_entries-requires t c =
     let level = c.if-room-eq0.false in
     let small = c.requires.small in
-    let less : 8 * length c.args.bytes.now + 3 < 8 * length c.args.bytes.now + 4 = omega arith in (
+    let less : 16 * length c.args.bytes.now + 3 < 16 * length c.args.bytes.now + 4 = omega arith in (
       search (rules, less),
       (
         c.requires.rules,
@@ -420,7 +470,7 @@ messages::message_behind-fill-requires t c =
     let some = c.requires.within.0 in
     let later = c.in-Some.ensures.within.0 in
     let within = c.in-Some.ensures.within.1 in
-    let less : 8 * length (take (length c.args.bytes.now - c.in-Some.start) (drop c.in-Some.start c.args.bytes.now)) + 7 < 8 * length c.args.bytes.now + 2 = omega (arith, is, some, later, within) in (
+    let less : 16 * length (take (length c.args.bytes.now - c.in-Some.start) (drop c.in-Some.start c.args.bytes.now)) + 7 < 16 * length c.args.bytes.now + 2 = omega (arith, is, some, later, within) in (
       search (rules, less),
       (
         c.requires.rules,
@@ -454,7 +504,7 @@ messages::read_messages-message_behind-requires t c =
     let size = ap length (slice_from here c.args.bytes.now) ∙ length-drop here c.args.bytes.now in
     let small = c.requires.small in
     let behind = take (length c.args.bytes.now - here) (drop here c.args.bytes.now) in
-    let less : 8 * length (take (length c.args.bytes.now - here) (drop here c.args.bytes.now)) + 2 < 8 * length c.args.bytes.now + 3 = omega (arith, size) in (
+    let less : 16 * length (take (length c.args.bytes.now - here) (drop here c.args.bytes.now)) + 2 < 16 * length c.args.bytes.now + 3 = omega (arith, size) in (
       search (rules, less),
       (
         c.requires.rules,
@@ -501,7 +551,7 @@ messages::read_messages-loop-tag-preserved t c =
 pub messages::fill_messages-read_messages-requires : goal.messages::fill_messages-read_messages-requires
 messages::fill_messages-read_messages-requires t c =
     let level = c.if-room-eq0.false in
-    let less : 8 * length c.args.bytes.now + 3 < 8 * length c.args.bytes.now + 4 = omega arith in (
+    let less : 16 * length c.args.bytes.now + 3 < 16 * length c.args.bytes.now + 4 = omega arith in (
       search (rules, less),
       (c.requires.rules, (record { now = part_view c.args.part.now; there = c.requires.open; means = c.requires.means }, (omega (arith, level), c.requires.small))),
     )
@@ -522,7 +572,7 @@ pub pairs::fill_pair-fill_in_entry-requires : goal.pairs::fill_pair-fill_in_entr
 pairs::fill_pair-fill_in_entry-requires t c =
     let size = ap length (slice_from c.loop-here.here c.args.bytes.now) ∙ length-drop c.loop-here.here c.args.bytes.now in
     let small = c.requires.small in
-    let less : 8 * length (take (length c.args.bytes.now - c.loop-here.here) (drop c.loop-here.here c.args.bytes.now)) + 7 < 8 * length c.args.bytes.now + 8 = omega (arith, size) in (
+    let less : 16 * length (take (length c.args.bytes.now - c.loop-here.here) (drop c.loop-here.here c.args.bytes.now)) + 7 < 16 * length c.args.bytes.now + 8 = omega (arith, size) in (
       search (rules, less),
       (
         c.requires.rules,
@@ -548,3 +598,71 @@ pairs::fill_pair-returns t c = λ all. subst (FillsTo c.args.pool.now (part_view
 
 pub pairs::fill_in_entry-purpose_of-purpose-requires : goal.pairs::fill_in_entry-purpose_of-purpose-requires
 pairs::fill_in_entry-purpose_of-purpose-requires t c = open_can c.requires.rules c.requires.open
+
+-- A KEY AND A MESSAGE behind it
+pub direct_pair::pair_with_message-fill-requires : goal.direct_pair::pair_with_message-fill-requires
+direct_pair::pair_with_message-fill-requires t c =
+    let bytes = c.args.bytes.now in
+    let start = c.in-Some-length_behind.start in
+    let is = ap length (slice_from start bytes) ∙ length-drop start bytes in
+    let small = c.requires.small in
+    let whole = c.requires.whole in
+    let ends = c.if-start-size.false in
+    let has = typed_tag bytes (Some c.args.left) c.in-Some.tag.number c.in-Some.tag.wire_type 2 c.in-Some.tag.size c.if-tag-ne2.false c.in-Some.ensures.whole in
+    let less : 16 * length (take (length c.args.bytes.now - c.in-Some-length_behind.start) (drop c.in-Some-length_behind.start c.args.bytes.now)) + 7 < 16 * length c.args.bytes.now + 8 = omega (arith, is) in (
+      search (rules, less),
+      (
+        c.requires.rules,
+        (
+          message_in_part bytes c.args.left c.in-Some.tag.number c.in-Some.tag.size start c.in-Some-length_behind.size c.args.room c.args.room c.args.message_type slot.Entry (entry_part c.args.key_kind c.args.value_kind (Some (key_view c.args.key)) None) (body_view c.empty_body.result) c.requires.rules c.requires.open refl has
+              (λ at. c.in-Some-length_behind.ensures.whole at c.in-Some.tag.number c.in-Some.tag.wire_type (c.in-Some.ensures.whole at)) (c.requires.message, c.in-Some.ensures.own.0, sym c.if-tag-ne2.false ∙ c.in-Some.ensures.own.1) (λ deep. absurd (false≢true deep)) refl c.empty_body.ensures,
+          (omega (arith, is, small), omega (arith, is, whole, ends)),
+        ),
+      ),
+    )
+
+pub direct_pair::pair_with_message-returns-in-Message : goal.direct_pair::pair_with_message-returns-in-Message
+direct_pair::pair_with_message-returns-in-Message t c =
+    λ m depth levels at base p0 frames there.
+    let bytes = c.args.bytes.now in
+    let start = c.in-Some-length_behind.start in
+    let number = c.in-Some.tag.number in
+    let old : Part = entry_part c.args.key_kind c.args.value_kind (Some (key_view c.args.key)) None in
+    let new : Part = entry_part c.args.key_kind c.args.value_kind (Some (key_view c.args.key)) (Some (value_view (value.Message c.in-Message.body))) in
+    let has = typed_tag bytes (Some c.args.left) number c.in-Some.tag.wire_type 2 c.in-Some.tag.size c.if-tag-ne2.false c.in-Some.ensures.whole in
+    let read = message_inside at (Some c.args.left) bytes number c.in-Some.tag.size start c.in-Some-length_behind.size c.args.room c.args.room c.args.message_type slot.Entry old (body_view c.empty_body.result) c.requires.rules there refl (has at) (c.in-Some-length_behind.ensures.whole at number c.in-Some.tag.wire_type (c.in-Some.ensures.whole at)) (c.requires.message, c.in-Some.ensures.own.0, sym c.if-tag-ne2.false ∙ c.in-Some.ensures.own.1) (λ deep. absurd (false≢true deep)) refl c.empty_body.ensures (c.in_ok-fill.ensures c.if-not-branch.false) (ap part_view c.in-Message.is) in
+    subst (λ (z : ℕ). StandsIn c.args.pool.now m depth levels base p0 frames c.args.room new (passed (given_at at (Some c.args.left) bytes) z)) c.if-start-size.false
+    (message_over at c.args.left bytes number start c.in-Some-length_behind.size c.args.room c.args.room c.in-Message._kind.0 slot.Entry (body_view c.in-Message.body) new there.1 there.2 read
+    (ap (λ (d : Datum). entry_part c.args.key_kind c.args.value_kind (Some (key_view c.args.key)) (Some d)) (value_view-Message c.in-Message.body)))
+
+-- A KEY, and what is behind it
+pub direct_pair::direct_pair-pair_with_message-requires : goal.direct_pair::direct_pair-pair_with_message-requires
+direct_pair::direct_pair-pair_with_message-requires t c =
+    let bytes = c.args.bytes.now in
+    let used = c.in-Some.used in
+    let is = ap length (slice_from used bytes) ∙ length-drop used bytes in
+    let small = c.requires.small in
+    let whole = c.requires.whole in
+    let old : Part = entry_part c.args.key_kind c.args.value_kind None None in
+    let new : Part = entry_part c.args.key_kind c.args.value_kind (Some (key_view c.in-Some.key)) None in
+    let filled = told_of _ c.in_ok-read.read (c.in-Some.key, c.in-Some.used) c.in-Some.is c.in_ok-read.ensures.filled in
+    let less : 16 * length (take (length c.args.bytes.now - c.in-Some.used) (drop c.in-Some.used c.args.bytes.now)) + 8 < 16 * length c.args.bytes.now + 9 = omega (arith, is) in (
+      search (rules, less),
+      (
+        c.requires.rules,
+        (
+          still_open old new bytes c.args.size c.args.room used c.requires.open filled,
+          (omega (arith, is, small), (omega (arith, is, whole), sym c.in-Some-message.ensures.named)),
+        ),
+      ),
+    )
+
+pub direct_pair::direct_pair-returns-in-Some-message : goal.direct_pair::direct_pair-returns-in-Some-message
+direct_pair::direct_pair-returns-in-Some-message t c =
+    pair_further (key_view c.in-Some.key) c.args.bytes.now c.args.size c.args.room c.in-Some.used c.pair_with_message.result c.if-used-size.false
+    (told_of _ c.in_ok-read.read (c.in-Some.key, c.in-Some.used) c.in-Some.is c.in_ok-read.ensures.filled) c.pair_with_message.ensures
+
+pub direct_pair::direct_pair-returns-in-None : goal.direct_pair::direct_pair-returns-in-None
+direct_pair::direct_pair-returns-in-None t c =
+    pair_further (key_view c.in-Some.key) c.args.bytes.now c.args.size c.args.room c.in-Some.used c.pair_with_scalar.result c.if-used-size.false
+    (told_of _ c.in_ok-read.read (c.in-Some.key, c.in-Some.used) c.in-Some.is c.in_ok-read.ensures.filled) c.pair_with_scalar.ensures

@@ -16,19 +16,19 @@ use Rattle.pb_decode.proofs.reader.fill.+fill.Given as goal
 
 -- fewer bytes are at hand where a payload begins than where its record does
 abbrev pub decreases-fill : goal.decreases-fill
-decreases-fill l = 8 * length l.bytes.now + 7
+decreases-fill l = 16 * length l.bytes.now + 7
 
 abbrev pub decreases-fill_record : goal.decreases-fill_record
-decreases-fill_record l = 8 * length l.bytes.now + 6
+decreases-fill_record l = 16 * length l.bytes.now + 6
 
 abbrev pub decreases-fill_length : goal.decreases-fill_length
-decreases-fill_length l = 8 * length l.bytes.now + 5
+decreases-fill_length l = 16 * length l.bytes.now + 5
 
 abbrev pub decreases-fill_entry : goal.decreases-fill_entry
-decreases-fill_entry l = 8 * length l.bytes.now + 3
+decreases-fill_entry l = 16 * length l.bytes.now + 3
 
 abbrev pub decreases-fill_message : goal.decreases-fill_message
-decreases-fill_message l = 8 * length l.bytes.now + 4
+decreases-fill_message l = 16 * length l.bytes.now + 4
 
 abbrev pub invariant-fill-loop-here : goal.invariant-fill-loop-here
 invariant-fill-loop-here l = record {
@@ -41,19 +41,19 @@ decreases-fill-loop-here l = l.size - l.here
 
 -- and where the first record of a group does
 abbrev pub decreases-group::fill_to_tag : goal.decreases-group::fill_to_tag
-decreases-group::fill_to_tag l = 8 * length l.bytes.now + 7
+decreases-group::fill_to_tag l = 16 * length l.bytes.now + 7
 
 abbrev pub decreases-group::fill_inside : goal.decreases-group::fill_inside
-decreases-group::fill_inside l = 8 * length l.bytes.now + 6
+decreases-group::fill_inside l = 16 * length l.bytes.now + 6
 
 abbrev pub decreases-group::fill_group : goal.decreases-group::fill_group
-decreases-group::fill_group l = 8 * length l.bytes.now + 5
+decreases-group::fill_group l = 16 * length l.bytes.now + 5
 
 abbrev pub decreases-group::fill_field_group : goal.decreases-group::fill_field_group
-decreases-group::fill_field_group l = 8 * length l.bytes.now + 4
+decreases-group::fill_field_group l = 16 * length l.bytes.now + 4
 
 abbrev pub decreases-group::fill_unknown_group : goal.decreases-group::fill_unknown_group
-decreases-group::fill_unknown_group l = 8 * length l.bytes.now + 4
+decreases-group::fill_unknown_group l = 16 * length l.bytes.now + 4
 
 abbrev pub invariant-group::fill_to_tag-loop-tag : goal.invariant-group::fill_to_tag-loop-tag
 invariant-group::fill_to_tag-loop-tag l = record {
@@ -66,16 +66,19 @@ decreases-group::fill_to_tag-loop-tag l = length l.bytes - l.here
 
 -- a run of entries
 abbrev pub decreases-entries::fill_entries : goal.decreases-entries::fill_entries
-decreases-entries::fill_entries l = 8 * length l.bytes.now + 4
+decreases-entries::fill_entries l = 16 * length l.bytes.now + 4
 
 abbrev pub decreases-entries::read_entries : goal.decreases-entries::read_entries
-decreases-entries::read_entries l = 8 * length l.bytes.now + 3
+decreases-entries::read_entries l = 16 * length l.bytes.now + 3
 
 abbrev pub decreases-entries::entry_at : goal.decreases-entries::entry_at
-decreases-entries::entry_at l = 8 * length l.bytes.now + 2
+decreases-entries::entry_at l = 16 * length l.bytes.now + 2
 
 abbrev pub decreases-entries::entry_behind : goal.decreases-entries::entry_behind
-decreases-entries::entry_behind l = 8 * length l.bytes.now + 1
+decreases-entries::entry_behind l = 16 * length l.bytes.now + 1
+
+abbrev pub decreases-entries::pair_in_turn : goal.decreases-entries::pair_in_turn
+decreases-entries::pair_in_turn l = 16 * length l.bytes.now + 9
 
 abbrev pub invariant-entries::read_entries-loop-here : goal.invariant-entries::read_entries-loop-here
 invariant-entries::read_entries-loop-here l = record {
@@ -93,13 +96,13 @@ decreases-entries::read_entries-loop-here l = length l.bytes - l.here
 
 -- a run of messages
 abbrev pub decreases-messages::fill_messages : goal.decreases-messages::fill_messages
-decreases-messages::fill_messages l = 8 * length l.bytes.now + 4
+decreases-messages::fill_messages l = 16 * length l.bytes.now + 4
 
 abbrev pub decreases-messages::read_messages : goal.decreases-messages::read_messages
-decreases-messages::read_messages l = 8 * length l.bytes.now + 3
+decreases-messages::read_messages l = 16 * length l.bytes.now + 3
 
 abbrev pub decreases-messages::message_behind : goal.decreases-messages::message_behind
-decreases-messages::message_behind l = 8 * length l.bytes.now + 2
+decreases-messages::message_behind l = 16 * length l.bytes.now + 2
 
 abbrev pub invariant-messages::read_messages-loop-tag : goal.invariant-messages::read_messages-loop-tag
 invariant-messages::read_messages-loop-tag l = record {
@@ -112,10 +115,10 @@ decreases-messages::read_messages-loop-tag l = length l.bytes - l.here
 
 -- the records of an entry
 abbrev pub decreases-pairs::fill_pair : goal.decreases-pairs::fill_pair
-decreases-pairs::fill_pair l = 8 * length l.bytes.now + 8
+decreases-pairs::fill_pair l = 16 * length l.bytes.now + 8
 
 abbrev pub decreases-pairs::fill_in_entry : goal.decreases-pairs::fill_in_entry
-decreases-pairs::fill_in_entry l = 8 * length l.bytes.now + 7
+decreases-pairs::fill_in_entry l = 16 * length l.bytes.now + 7
 
 abbrev pub invariant-pairs::fill_pair-loop-here : goal.invariant-pairs::fill_pair-loop-here
 invariant-pairs::fill_pair-loop-here l = record {
@@ -125,3 +128,10 @@ invariant-pairs::fill_pair-loop-here l = record {
 
 abbrev pub decreases-pairs::fill_pair-loop-here : goal.decreases-pairs::fill_pair-loop-here
 decreases-pairs::fill_pair-loop-here l = l.size - l.here
+
+-- the key and the value of an entry
+abbrev pub decreases-direct_pair::direct_pair : goal.decreases-direct_pair::direct_pair
+decreases-direct_pair::direct_pair l = 16 * length l.bytes.now + 9
+
+abbrev pub decreases-direct_pair::pair_with_message : goal.decreases-direct_pair::pair_with_message
+decreases-direct_pair::pair_with_message l = 16 * length l.bytes.now + 8

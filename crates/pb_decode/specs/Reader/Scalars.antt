@@ -1,0 +1,23 @@
+-- Scalars that are read at once, wherever a part is open in which their record gives one.
+use Rattle.std.specs.Prelude.{◌≡◌, ℕ, List, Option, Some, IfSome}
+use Rattle.pb_schema.specs.declared.types.Kind.{Kind}
+use Rattle.pb_schema.specs.Types.{Types}
+use Rattle.pb_value.specs.declared.body.Value.{Value}
+use Rattle.pb_value.specs.Data.{Datum}
+use Rattle.pb_value.specs.View.{value_view}
+use Rattle.pb_decode.specs.declared.open.purpose.Purpose.{Purpose}
+use Rattle.pb_decode.specs.Open.Frames.{Part}
+use Rattle.pb_decode.specs.Open.Purposes.{Means, part_context}
+use Rattle.pb_decode.specs.Values.Put.{scalar_kind, put_datum}
+use Rattle.pb_decode.specs.Reader.Fills.{FillsTo}
+
+-- where a record of this number and wire type gives a scalar of this kind, one stands behind so many bytes with this value in the part
+abbrev pub FillsScalar : Types → Kind → ℕ → ℕ → Datum → List ℕ → ℕ → ℕ → Type 0
+FillsScalar pool kind number type value bytes left used =
+    (room : ℕ) (now : Part) (meant : Purpose) → scalar_kind meant ≡ Some kind → Means pool (part_context now) number type meant
+    → FillsTo pool now (put_datum pool number meant now value) bytes left room used
+
+-- where the scalar behind a tag is told
+abbrev pub TellsScalar : Types → Kind → ℕ → ℕ → List ℕ → ℕ → Option (Value × ℕ) → Type 0
+TellsScalar pool kind number type bytes left result =
+    IfSome result (λ r. FillsScalar pool kind number type (value_view r.0) bytes left r.1)

@@ -1,0 +1,113 @@
+//! Scalars that stand whole behind their tags.
+
+ghost use Rattle.std.specs.Prelude.{◌≡◌, ◌⊎◌, ◌≤◌, ◌<◌, ◌^◌, Some, length, IfOk, IfSome};
+ghost use Rattle.pb_schema.specs.Rules.{IsPool};
+ghost use Rattle.pb_decode.specs.Reader.Fills.{HasTagAt};
+ghost use Rattle.pb_decode.specs.Reader.Scalars.{TellsScalar};
+
+use crate::error::NoMemory;
+use crate::reader::quick_record::length_behind;
+use crate::reader::state::number_at;
+use crate::tokens::number::number_value;
+use crate::tokens::number_token::NumberToken;
+use crate::tokens::record_tag::{RecordTag, left_behind};
+use crate::values::payload_value::{PayloadError, payload_value};
+use crate::values::put_number::is_undeclared;
+use pb_schema::{Kind, Pool};
+use pb_value::Value;
+use std::alloc::Global;
+
+/// The value of the number behind a tag, if it stands whole there, and how many bytes its record takes. A number that its closed
+/// enum doesn't declare is no value.
+#[inline(always)]
+pub(crate) fn number_behind(
+    pool: &Pool,
+    kind: Kind,
+    tag: RecordTag,
+    bytes: &[u8],
+    left: u32,
+) -> Option<(Value, usize)>
+    requires rules { IsPool pool.now }
+    requires number { (tag.wire_type ≡ 0) ⊎ (tag.wire_type ≡ 1) ⊎ (tag.wire_type ≡ 5) }
+    requires within { tag.size ≤ length bytes.now }
+    requires small { length bytes.now < 2 ^ 31 }
+    requires tag { HasTagAt bytes.now (Some left) tag.number tag.wire_type tag.size }
+    ensures within { IfSome result (λ r. (tag.size ≤ r.1) × (r.1 ≤ length bytes.now)) }
+    ensures put { TellsScalar pool.now kind tag.number tag.wire_type bytes.now left result }
+{
+    let behind = left_behind(Some(left), tag.size);
+    match number_at(tag.wire_type, &bytes[tag.size..], behind) {
+        NumberToken::Whole(number, size) => {
+            if is_undeclared(pool, kind, number) {
+                return None;
+            }
+            match number_value(kind, number) {
+                Some(value) => Some((value, tag.size + size)),
+                None => None,
+            }
+        }
+        NumberToken::Short => None,
+        NumberToken::Fault(_) => None,
+    }
+}
+
+/// The value that the bytes behind a tag and a length are, if they stand whole there, and how many bytes their record takes. Bytes
+/// that are no text are no value of a text.
+#[inline(always)]
+fn bytes_behind(
+    alloc: Global,
+    pool: &Pool,
+    kind: Kind,
+    tag: RecordTag,
+    bytes: &[u8],
+    left: u32,
+) -> Result<Option<(Value, usize)>, NoMemory>
+    requires rules { IsPool pool.now }
+    requires bytes { tag.wire_type ≡ 2 }
+    requires within { tag.size ≤ length bytes.now }
+    requires small { length bytes.now < 2 ^ 31 }
+    requires tag { HasTagAt bytes.now (Some left) tag.number tag.wire_type tag.size }
+    ensures within { IfOk result (λ o. IfSome o (λ r. (tag.size ≤ r.1) × (r.1 ≤ length bytes.now))) }
+    ensures put { IfOk result (TellsScalar pool.now kind tag.number 2 bytes.now left) }
+{
+    let Some((start, size)) = length_behind(tag.size, bytes, Some(left)) else {
+        return Ok(None);
+    };
+    let size = size as usize;
+    if bytes.len() - start < size {
+        return Ok(None);
+    }
+    let end = start + size;
+    match payload_value(alloc, kind, &bytes[start..end]) {
+        Ok(Some(value)) => Ok(Some((value, end))),
+        Ok(None) => Ok(None),
+        Err(PayloadError::BadText(_)) => Ok(None),
+        Err(PayloadError::Memory) => Err(NoMemory),
+    }
+}
+
+/// The scalar of a kind behind a tag, if it stands whole there, and how many bytes its record takes.
+#[inline(always)]
+pub(crate) fn scalar_behind(
+    alloc: Global,
+    pool: &Pool,
+    kind: Kind,
+    tag: RecordTag,
+    bytes: &[u8],
+    left: u32,
+) -> Result<Option<(Value, usize)>, NoMemory>
+    requires rules { IsPool pool.now }
+    requires within { tag.size ≤ length bytes.now }
+    requires small { length bytes.now < 2 ^ 31 }
+    requires tag { HasTagAt bytes.now (Some left) tag.number tag.wire_type tag.size }
+    ensures within { IfOk result (λ o. IfSome o (λ r. (tag.size ≤ r.1) × (r.1 ≤ length bytes.now))) }
+    ensures put { IfOk result (TellsScalar pool.now kind tag.number tag.wire_type bytes.now left) }
+{
+    if tag.wire_type == 2 {
+        bytes_behind(alloc, pool, kind, tag, bytes, left)
+    } else if tag.wire_type == 0 || tag.wire_type == 1 || tag.wire_type == 5 {
+        Ok(number_behind(pool, kind, tag, bytes, left))
+    } else {
+        Ok(None)
+    }
+}
