@@ -11,6 +11,7 @@ ghost use Rattle.pb_decode.specs.Reader.Fills.{IsOpen, HasTagAt, FillsOne, Fills
 pub(crate) mod entries;
 mod entries_ahead;
 pub(crate) mod group;
+mod groups;
 mod messages;
 mod pairs;
 
