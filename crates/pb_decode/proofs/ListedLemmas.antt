@@ -1,5 +1,5 @@
 -- Records of one list that are read at once.
-use Rattle.std.proofs.Common.{◌≡◌, ℕ, ◌+◌, ◌-◌, List, [], ◌∷◌, ◌++◌, map, take, drop, length, refl, sym, ap, ◌∙◌, subst, Option, Some, None, IfSome}
+use Rattle.std.proofs.Common.{◌≡◌, ℕ, ◌+◌, ◌-◌, List, [], ◌∷◌, ◌++◌, map, take, drop, length, refl, sym, ap, ◌∙◌, subst, arith, Option, Some, None, IfSome}
 use Rattle.std.proofs.lemmas.List.{map-append}
 use Rattle.pb_schema.specs.declared.types.Kind.{Kind}
 use Rattle.pb_schema.specs.declared.types.MessageId.{MessageId}
@@ -20,8 +20,10 @@ use Rattle.pb_decode.specs.declared.open.purpose.Purpose.TheVariants.{Element, M
 use Rattle.pb_decode.specs.Open.Frames.{Part, message_part, entry_part, group_part, put_message}
 use Rattle.pb_decode.specs.Open.Purposes.{OfShape, AtField, Means, part_context}
 use Rattle.pb_decode.specs.Values.Run.{put_listed, put_each}
-use Rattle.pb_decode.specs.Reader.Fills.{FillsTo}
+use Rattle.pb_decode.specs.Reader.Fills.{IsOpen, HasTagAt, FillsTo}
 use Rattle.pb_decode.specs.Reader.Listed.{FillsRun, FillsList, IsListOpen}
+use Rattle.pb_decode.specs.Reader.Listed.Groups.{IsGroupListOpen}
+use Rattle.pb_decode.proofs.ReaderLemmas.{slice_from}
 use Rattle.pb_decode.proofs.RunLemmas.{each_next}
 use Rattle.pb_decode.proofs.FillLemmas.{nothing_filled, still_open, filled_further}
 
@@ -40,13 +42,18 @@ each_context : (n : ℕ) (ds : List Datum) (p : Part) → part_context (put_each
 each_context n [] p = refl
 each_context n (d ∷ ds) p = each_context n ds (put_listed n d p) ∙ listed_context n d p
 
+-- so the records of a number are for what they were
+still_means :
+    (pool : Types) (type number : ℕ) (meant : Purpose) (ds : List Datum) (now : Part) → Means pool (part_context now) number type meant → Means pool (part_context (put_each number ds now)) number type meant
+still_means pool type number meant ds now = subst (λ (z : Context). Means pool z number type meant) (sym (each_context number ds now))
+
 -- ONE MORE RECORD of the list behind those that are read
 pub values_further :
     {pool : Types} (type number : ℕ) (meant : Purpose) (vs ws : List Value) (v : Value) (bytes : List ℕ) (left room used more : ℕ) → ws ≡ vs ++ v ∷ [] → FillsRun pool number type meant (map value_view vs) bytes left room used
     → FillsRun pool number type meant (value_view v ∷ []) (take (length bytes - used) (drop used bytes)) (left - used) room more → FillsRun pool number type meant (map value_view ws) bytes left room (used + more)
 values_further {pool} type number meant vs ws v bytes left room used more is so_far next now means =
     let then : Part = put_each number (map value_view vs) now in
-    let still = subst (λ (z : Context). Means pool z number type meant) (sym (each_context number (map value_view vs) now)) means in
+    let still = still_means pool type number meant (map value_view vs) now means in
     let same : put_each number (value_view v ∷ []) then ≡ put_each number (map value_view ws) now =
     sym
     (ap (λ (z : List Value). put_each number (map value_view z) now) is ∙ ap (λ (z : List Datum). put_each number z now) (map-append value_view vs (v ∷ []))
@@ -99,5 +106,32 @@ pub list_further :
 list_further {pool} {number} {of_type} vs bytes left room used from so_far = record {
   now = put_each number (map value_view vs) from.now;
   there = still_open from.now (put_each number (map value_view vs) from.now) bytes left room used from.there (so_far from.now from.means);
-  means = subst (λ (z : Context). Means pool z number 2 (Message of_type (ListSlot number))) (sym (each_context number (map value_view vs) from.now)) from.means;
+  means = still_means pool 2 number (Message of_type (ListSlot number)) (map value_view vs) from.now from.means;
 }
+
+-- GROUPS of a list: so many bytes on it goes on
+pub groups_further :
+    {pool : Types} (number : ℕ) (of_type : MessageId) (vs : List Value) (now : Part) (bytes : List ℕ) (left room used : ℕ) → IsOpen pool now bytes left room
+    → Means pool (part_context now) number 3 (Message of_type (ListSlot number)) → FillsRun pool number 3 (Message of_type (ListSlot number)) (map value_view vs) bytes left room used
+    → IsGroupListOpen pool number of_type (take (length bytes - used) (drop used bytes)) (left - used) room
+groups_further {pool} number of_type vs now bytes left room used there means so_far = record {
+  now = put_each number (map value_view vs) now;
+  there = still_open now (put_each number (map value_view vs) now) bytes left room used there (so_far now means);
+  means = still_means pool 3 number (Message of_type (ListSlot number)) (map value_view vs) now means;
+}
+
+-- and one more of them
+pub group_further :
+    {pool : Types} (number again : ℕ) (of_type : MessageId) (vs ws : List Value) (bytes : List ℕ) (left before room used more : ℕ) → again ≡ number → before ≡ left - used
+    → FillsRun pool number 3 (Message of_type (ListSlot number)) (map value_view vs) bytes left room used
+    → ((v : Value) × (ws ≡ vs ++ v ∷ []) × FillsRun pool again 3 (Message of_type (ListSlot again)) (value_view v ∷ []) (take (length bytes - used) (drop used bytes)) before room more)
+    → FillsRun pool number 3 (Message of_type (ListSlot number)) (map value_view ws) bytes left room (used + more)
+group_further {pool} number again of_type vs ws bytes left before room used more own behind so_far (v, is, next) =
+    let one = λ (n e : ℕ). FillsRun pool n 3 (Message of_type (ListSlot n)) (value_view v ∷ []) (take (length bytes - used) (drop used bytes)) e room more in
+    values_further 3 number (Message of_type (ListSlot number)) vs ws v bytes left room used more is so_far (subst (one number) behind (subst (λ (n : ℕ). one n before) own next))
+
+-- before any of the bytes is read the first tag is next
+pub first_tag : (bytes : List ℕ) (left number type size : ℕ) → HasTagAt bytes (Some left) number type size → HasTagAt (take (length bytes - 0) (drop 0 bytes)) (Some (left - 0)) number type size
+first_tag bytes left number type size has =
+    let same : left ≡ left - 0 = omega arith in
+    subst (λ (z : List ℕ). HasTagAt z (Some (left - 0)) number type size) (sym (slice_from 0 bytes)) (subst (λ (z : ℕ). HasTagAt bytes (Some z) number type size) same has)

@@ -1,4 +1,5 @@
 -- Records of one list that are read at once, wherever the message is open that holds it.
+pub mod Groups
 use Rattle.std.specs.Prelude.{ℕ, List, [], ◌∷◌, map, Option, Vec, Result, IfOk, IfSome}
 use Rattle.std.specs.declared.alloc.Global.{Global}
 use Rattle.pb_schema.specs.declared.types.Kind.{Kind}

@@ -12,6 +12,7 @@ mod direct_pair;
 pub(crate) mod entries;
 mod entries_ahead;
 pub(crate) mod group;
+mod groups;
 mod messages;
 mod pairs;
 

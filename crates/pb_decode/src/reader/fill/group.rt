@@ -8,6 +8,7 @@ ghost use Rattle.pb_decode.specs.Open.Purposes.{Means, part_context};
 ghost use Rattle.pb_decode.specs.Reader.Fills.{IsOpen, HasTagAt};
 ghost use Rattle.pb_decode.specs.Reader.Fills.Groups.{IfWhole, IsWithin, Passes, FillsGroup, FillsUpToEnd};
 
+use super::groups::fill_groups;
 use super::{fill_length, fill_number};
 use crate::close::closing::put_group;
 use crate::close::put::put_message;
@@ -253,6 +254,9 @@ pub(super) fn fill_group(
     }
     let meant = purpose_of(pool, part, tag.number, 3);
     match message_slot(meant) {
+        Some((kind, Slot::List(_))) => {
+            fill_groups(alloc, pool, part, tag, kind, bytes, left, room)
+        }
         Some((kind, slot)) => {
             fill_field_group(alloc, pool, part, tag, kind, slot, bytes, left, room)
         }

@@ -66,15 +66,15 @@ fn message_behind(
     }
 }
 
-/// The tag at the front of some bytes, if it is that of a length of this number.
+/// The tag at the front of some bytes, if it has this number and this wire type.
 #[inline(always)]
-fn tag_again(number: u32, bytes: &[u8], left: u32) -> Option<RecordTag>
-    ensures own { IfSome result (λ t. (t.number ≡ number) × (t.wire_type ≡ 2)) }
+pub(super) fn tag_again(number: u32, wire_type: u8, bytes: &[u8], left: u32) -> Option<RecordTag>
+    ensures own { IfSome result (λ t. (t.number ≡ number) × (t.wire_type ≡ wire_type)) }
     ensures within { IfSome result (λ t. (0 < t.size) × (t.size ≤ length bytes.now)) }
     ensures whole { IfSome result (λ t. HasTagAt bytes.now (Some left) t.number t.wire_type t.size) }
 {
     let tag = record_tag(bytes, Some(left))?;
-    if tag.number == number && tag.wire_type == 2 {
+    if tag.number == number && tag.wire_type == wire_type {
         Some(tag)
     } else {
         None
@@ -102,7 +102,7 @@ fn read_messages(
 {
     let mut messages = Vec::new(alloc);
     let mut here = 0;
-    while let Some(tag) = tag_again(number, &bytes[here..], left.saturating_sub(here as u32)) {
+    while let Some(tag) = tag_again(number, 2, &bytes[here..], left.saturating_sub(here as u32)) {
         let Some((message, size)) = message_behind(
             alloc,
             pool,

@@ -17,6 +17,7 @@ use Rattle.pb_decode.specs.Reader.Entries.{more_in}
 use Rattle.pb_decode.specs.Reader.Fills.{StandsIn, IsOpen, HasTagAt, FillsTo}
 use Rattle.pb_decode.specs.Reader.Fills.Groups.{FillsToEnd}
 use Rattle.pb_decode.specs.Reader.Listed.{FillsRun, IsListOpen}
+use Rattle.pb_decode.specs.Reader.Listed.Groups.{IsGroupListOpen}
 use Rattle.pb_decode.specs.Values.Run.{put_listed}
 use Rattle.pb_decode.proofs.ReaderLemmas.{slice_from}
 use Rattle.pb_decode.proofs.NumberSteps.{number_is}
@@ -26,7 +27,7 @@ use Rattle.pb_decode.proofs.FillLemmas.{some_told, open_can, nothing_filled, sti
 use Rattle.pb_decode.proofs.PairLemmas.{whole_pair, pair_further}
 use Rattle.pb_decode.proofs.GroupSteps.{unknown_group_means}
 use Rattle.pb_decode.proofs.GroupFills.{whole_told, whole_within, field_group_in_part, field_group_inside, field_group_over, unknown_group_in_part, unknown_group_inside, unknown_group_over, end_reached}
-use Rattle.pb_decode.proofs.ListedLemmas.{values_further, none_listed, list_further, message_listed}
+use Rattle.pb_decode.proofs.ListedLemmas.{values_further, none_listed, list_further, message_listed, groups_further, group_further, first_tag}
 use Rattle.pb_decode.proofs.RunLemmas.{place_behind}
 use Rattle.pb_decode.proofs.MapRuns.{tag_of, entry_in_map, entry_taken, rises_in, map_open_in, run_filled, told_of, size_next, more_room, means_along, run_further, open_further, none_read}
 use Rattle.pb_decode.proofs.reader.fill.+fill.Goals as goal
@@ -250,6 +251,120 @@ group::fill_group-fill_unknown_group-requires t c =
         ),
       ),
     )
+
+-- A GROUP OF A RUN is filled from the empty message on, and its message is one more
+pub groups::add_group-fill_to_tag-requires : goal.groups::add_group-fill_to_tag-requires
+groups::add_group-fill_to_tag-requires t c =
+    let from = c.requires.open in
+    let is = ap length (slice_from c.args.tag.size c.args.bytes.now) ∙ length-drop c.args.tag.size c.args.bytes.now in
+    let small = c.requires.small in
+    let some = c.requires.some in
+    let within = c.requires.within in
+    let start = typed_tag c.args.bytes.now (Some c.args.left) c.args.tag.number c.args.tag.wire_type 3 c.args.tag.size c.requires.start c.requires.tag in
+    let less : 16 * length (take (length c.args.bytes.now - c.args.tag.size) (drop c.args.tag.size c.args.bytes.now)) + 7 < 16 * length c.args.bytes.now + 3 = omega (arith, is, some, within) in (
+      search (rules, less),
+      (
+        c.requires.rules,
+        (
+          field_group_in_part c.args.bytes.now c.args.left c.args.tag.number c.args.tag.size c.saturating_sub-before.result c.args.room c.args.message_type (slot.List c.args.tag.number) from.now (body_view c.empty_body.result) c.requires.rules from.there start from.means c.requires.room refl c.empty_body.ensures c.saturating_sub-before.ensures,
+          omega (arith, is, small),
+        ),
+      ),
+    )
+
+pub groups::add_group-returns-in_ok-push-in-Message-clause-added : goal.groups::add_group-returns-in_ok-push-in-Message-clause-added
+groups::add_group-returns-in_ok-push-in-Message-clause-added t c = (
+  value.Message c.in-Message.body,
+  c.in_ok-push-in-Message.ensures.items,
+  λ now means m depth levels at base p0 frames there.
+      let number = c.args.tag.number in
+      let start = typed_tag c.args.bytes.now (Some c.args.left) number c.args.tag.wire_type 3 c.args.tag.size c.requires.start c.requires.tag in
+      let fills = whole_told _ c.in_ok-size.field-0 c.in-Whole.size c.in-Whole.is c.in_ok-size.ensures.filled in
+      let read = field_group_inside at c.args.left c.args.bytes.now number c.args.tag.size c.saturating_sub-before.result c.in-Whole.size c.args.room c.args.message_type (slot.List number) now (body_view c.empty_body.result) c.requires.rules there start means c.requires.room refl c.empty_body.ensures c.saturating_sub-before.ensures fills (ap part_view c.in-Message.is) in
+      field_group_over (put_listed number (value_view (value.Message c.in-Message.body)) now) there.2 read.1 read.2 (message_listed c.args.pool.now number now c.in-Message.body),
+)
+
+-- GROUP BY GROUP the run goes on
+pub groups::fill_groups-loop-groups-init : goal.groups::fill_groups-loop-groups-init
+groups::fill_groups-loop-groups-init t c =
+    let within = c.requires.within in
+    record {
+      number = refl;
+      start = c.requires.start;
+      some = c.requires.some;
+      least = omega arith;
+      within = omega (arith, within);
+      there = first_tag c.args.bytes.now c.args.left c.args.tag.number c.args.tag.wire_type c.args.tag.size c.requires.tag;
+      put = none_listed 3 c.args.tag.number (Message c.args.message_type (slot.List c.args.tag.number)) c.new-groups.result.items c.args.bytes.now c.args.left c.args.room c.new-groups.ensures.items;
+    }
+
+pub groups::fill_groups-add_group-requires : goal.groups::fill_groups-add_group-requires
+groups::fill_groups-add_group-requires t c =
+    let here = c.loop-groups.here in
+    let number = c.args.tag.number in
+    let next = c.loop-groups.next in
+    let size = ap length (slice_from here c.args.bytes.now) ∙ length-drop here c.args.bytes.now in
+    let small = c.requires.small in
+    let within = c.loop-groups.invariant.within in
+    let rest = take (length c.args.bytes.now - here) (drop here c.args.bytes.now) in
+    let behind = sym c.saturating_sub-before.ensures in
+    let less : 16 * length (take (length c.args.bytes.now - here) (drop here c.args.bytes.now)) + 3 < 16 * length c.args.bytes.now + 4 = omega (arith, size) in (
+      search (rules, less),
+      (
+        c.requires.rules,
+        (
+          subst (λ (z : ℕ). IsGroupListOpen c.args.pool.now z c.args.message_type rest c.saturating_sub-before.result c.args.room) (sym c.loop-groups.invariant.number)
+              (subst (λ (z : ℕ). IsGroupListOpen c.args.pool.now number c.args.message_type rest z c.args.room) behind
+              (groups_further number c.args.message_type c.loop-groups.groups.items (part_view c.args.part.now) c.args.bytes.now c.args.left c.args.room here c.requires.open c.requires.means c.loop-groups.invariant.put)),
+          (
+            c.requires.room,
+            (
+              omega (arith, size, small),
+              (
+                c.loop-groups.invariant.start,
+                (
+                  c.loop-groups.invariant.some,
+                  (
+                    omega (arith, size, within),
+                    subst (λ (z : ℕ). HasTagAt rest (Some z) next.number next.wire_type next.size) behind c.loop-groups.invariant.there,
+                  ),
+                ),
+              ),
+            ),
+          ),
+        ),
+      ),
+    )
+
+pub groups::fill_groups-loop-groups-preserved : goal.groups::fill_groups-loop-groups-preserved
+groups::fill_groups-loop-groups-preserved t c =
+    let here = c.loop-groups.here in
+    let used = c.in-Whole.size in
+    let number = c.args.tag.number in
+    let again = c.in-Some.again in
+    let size = ap length (slice_from (here + used) c.args.bytes.now) ∙ length-drop (here + used) c.args.bytes.now in
+    let enough = c.in-Some.ensures.within.1 in
+    let passed_one = whole_told _ c.in_ok-size.field-0 used c.in-Whole.is c.in_ok-size.ensures.passes.1 in
+    let least = c.loop-groups.invariant.least in
+    let some = c.in-Some.ensures.within.0 in
+    record {
+      number = c.in-Some.ensures.own.0;
+      start = c.in-Some.ensures.own.1;
+      some = some;
+      least = omega (arith, least, passed_one);
+      within = omega (arith, size, enough, some);
+      there = subst (λ (z : ℕ). HasTagAt (take (length c.args.bytes.now - (here + used)) (drop (here + used) c.args.bytes.now)) (Some z) again.number again.wire_type again.size) c.saturating_sub.ensures c.in-Some.ensures.whole;
+      put = group_further number c.loop-groups.next.number c.args.message_type c.loop-groups.groups.items c.add_group.new.groups.items c.args.bytes.now c.args.left c.saturating_sub-before.result c.args.room here used c.loop-groups.invariant.number c.saturating_sub-before.ensures c.loop-groups.invariant.put
+          (whole_told _ c.in_ok-size.field-0 used c.in-Whole.is c.in_ok-size.ensures.added);
+    }
+
+-- THE RUN goes to the end of its list
+pub groups::fill_groups-returns-clause-filled : goal.groups::fill_groups-returns-clause-filled
+groups::fill_groups-returns-clause-filled t c =
+    let used = c.in-Whole.size in
+    let run = group_further c.args.tag.number c.loop-groups.next.number c.args.message_type c.loop-groups.groups.items c.add_group.new.groups.items c.args.bytes.now c.args.left c.saturating_sub-before.result c.args.room c.loop-groups.here used c.loop-groups.invariant.number c.saturating_sub-before.ensures c.loop-groups.invariant.put
+    (whole_told _ c.in_ok-size.field-0 used c.in-Whole.is c.in_ok-size.ensures.added) in
+    subst (λ (z : Part). FillsTo c.args.pool.now (part_view c.args.part.now) z c.args.bytes.now c.args.left c.args.room (c.loop-groups.here + used)) (sym c.in_ok-put_elements.ensures) (run (part_view c.args.part.now) c.requires.means)
 
 -- UP TO ITS END TAG
 pub group::fill_to_tag-fill_inside-requires : goal.group::fill_to_tag-fill_inside-requires

@@ -1,4 +1,4 @@
-use Rattle.std.proofs.Common.{◌≡◌, ◌+◌, ◌*◌, ◌≤◌, ◌-◌, ℕ, List, map, length}
+use Rattle.std.proofs.Common.{◌≡◌, ◌+◌, ◌*◌, ◌<◌, ◌≤◌, ◌-◌, ℕ, List, Some, map, take, drop, length}
 use Rattle.pb_wire.specs.Record.{Record}
 use Rattle.pb_wire.specs.Fault.{Place}
 use Rattle.pb_wire.specs.Token.{given_at, passed}
@@ -10,7 +10,7 @@ use Rattle.pb_decode.specs.Open.PartView.{part_view}
 use Rattle.pb_decode.specs.Open.Purposes.{Means, part_context}
 use Rattle.pb_decode.specs.Close.Mapped.{pairs_view, put_all_mapped, FitMapped}
 use Rattle.pb_decode.specs.Reader.Entries.{more_in}
-use Rattle.pb_decode.specs.Reader.Fills.{FillsTo}
+use Rattle.pb_decode.specs.Reader.Fills.{HasTagAt, FillsTo}
 use Rattle.pb_decode.specs.Reader.Listed.{FillsRun}
 use Rattle.pb_decode.proofs.reader.fill.+fill.Given as goal
 
@@ -63,6 +63,27 @@ invariant-group::fill_to_tag-loop-tag l = record {
 
 abbrev pub decreases-group::fill_to_tag-loop-tag : goal.decreases-group::fill_to_tag-loop-tag
 decreases-group::fill_to_tag-loop-tag l = length l.bytes - l.here
+
+-- a run of groups
+abbrev pub decreases-groups::fill_groups : goal.decreases-groups::fill_groups
+decreases-groups::fill_groups l = 16 * length l.bytes.now + 4
+
+abbrev pub decreases-groups::add_group : goal.decreases-groups::add_group
+decreases-groups::add_group l = 16 * length l.bytes.now + 3
+
+abbrev pub invariant-groups::fill_groups-loop-groups : goal.invariant-groups::fill_groups-loop-groups
+invariant-groups::fill_groups-loop-groups l = record {
+  number : l.next.number ≡ l.tag.number;
+  start : l.next.wire_type ≡ 3;
+  some : 0 < l.next.size;
+  least : l.tag.size ≤ l.here + l.next.size;
+  within : l.here + l.next.size ≤ length l.bytes;
+  there : HasTagAt (take (length l.bytes - l.here) (drop l.here l.bytes)) (Some (l.left - l.here)) l.next.number l.next.wire_type l.next.size;
+  put : FillsRun l.pool l.tag.number 3 (Message l.message_type (ListSlot l.tag.number)) (map value_view l.groups.items) l.bytes l.left l.room l.here;
+}
+
+abbrev pub decreases-groups::fill_groups-loop-groups : goal.decreases-groups::fill_groups-loop-groups
+decreases-groups::fill_groups-loop-groups l = length l.bytes - l.here
 
 -- a run of entries
 abbrev pub decreases-entries::fill_entries : goal.decreases-entries::fill_entries

@@ -1,0 +1,125 @@
+//! Groups of one list that follow on each other: each is read behind the one before, and they go to the end of their list at once.
+
+ghost use Rattle.std.specs.Prelude.{◌≡◌, ◌≤◌, ◌<◌, ◌^◌, Some, length, IfOk};
+ghost use Rattle.pb_schema.specs.Rules.{IsPool};
+ghost use Rattle.pb_decode.specs.declared.open.part.Slot.TheVariants.{List as ListSlot};
+ghost use Rattle.pb_decode.specs.declared.open.purpose.Purpose.TheVariants.{Message as MessagePurpose};
+ghost use Rattle.pb_decode.specs.Open.PartView.{part_view};
+ghost use Rattle.pb_decode.specs.Open.Purposes.{Means, part_context};
+ghost use Rattle.pb_decode.specs.Reader.Fills.{IsOpen, HasTagAt};
+ghost use Rattle.pb_decode.specs.Reader.Fills.Groups.{Passes, FillsGroup};
+ghost use Rattle.pb_decode.specs.Reader.Listed.Groups.{IsGroupListOpen, AddsGroup};
+
+use super::group::{Extent, fill_to_tag};
+use super::messages::tag_again;
+use crate::error::NoMemory;
+use crate::open::part::Part;
+use crate::tokens::record_tag::RecordTag;
+use crate::values::put_elements::put_elements;
+use pb_schema::{MessageId, Pool};
+use pb_value::{Value, empty_body};
+use std::alloc::Global;
+
+/// Reads the group behind a tag at the front of some bytes, with so many bytes before the known end and so many levels left, and
+/// puts its message behind those before it, if its records and its end tag stand whole there.
+#[cycle(fill)]
+#[inline(always)]
+fn add_group(
+    alloc: Global,
+    pool: &Pool,
+    groups: &mut Vec<Value>,
+    tag: RecordTag,
+    message_type: MessageId,
+    bytes: &[u8],
+    left: u32,
+    room: u8,
+) -> Result<Extent, NoMemory>
+    requires rules { IsPool pool.now }
+    requires open { IsGroupListOpen pool.now tag.number message_type bytes.now left room }
+    requires room { 0 < room }
+    requires small { length bytes.now < 2 ^ 31 }
+    requires start { tag.wire_type ≡ 3 }
+    requires some { 0 < tag.size }
+    requires within { tag.size ≤ length bytes.now }
+    requires tag { HasTagAt bytes.now (Some left) tag.number tag.wire_type tag.size }
+    ensures passes { IfOk result (λ e. Passes tag.size e (length bytes.now)) }
+    ensures added { AddsGroup pool.now tag.number message_type groups.old.items groups.new.items bytes.now left room result }
+{
+    let mut inner = Part::Message(message_type, empty_body(alloc));
+    let rest = &bytes[tag.size..];
+    let before = left.saturating_sub(tag.size as u32);
+    match fill_to_tag(alloc, pool, &mut inner, tag.number, rest, before, room - 1)? {
+        Extent::Whole(size) => match inner {
+            Part::Message(_kind, body) => {
+                groups.push(Value::Message(body))?;
+                Ok(Extent::Whole(tag.size + size))
+            }
+            Part::Entry {
+                key_kind: _,
+                value_kind: _,
+                key: _key,
+                value: _value,
+            } => Ok(Extent::Cut(0)),
+            Part::Group(_records) => Ok(Extent::Cut(0)),
+        },
+        Extent::Cut(read) => Ok(Extent::Cut(tag.size + read)),
+    }
+}
+
+/// Puts the group behind its first tag at the end of its list, if it stands whole there, with those of the same list that follow
+/// on it. Where one of them can't be taken none is, and they are read up to where that one is.
+#[cycle(fill)]
+pub(super) fn fill_groups(
+    alloc: Global,
+    pool: &Pool,
+    part: &mut Part,
+    tag: RecordTag,
+    message_type: MessageId,
+    bytes: &[u8],
+    left: u32,
+    room: u8,
+) -> Result<Extent, NoMemory>
+    requires rules { IsPool pool.now }
+    requires open { IsOpen pool.now (part_view part.old) bytes.now left room }
+    requires small { length bytes.now < 2 ^ 31 }
+    requires start { tag.wire_type ≡ 3 }
+    requires some { 0 < tag.size }
+    requires within { tag.size ≤ length bytes.now }
+    requires tag { HasTagAt bytes.now (Some left) tag.number tag.wire_type tag.size }
+    requires room { 0 < room }
+    requires means { Means pool.now (part_context (part_view part.old)) tag.number 3 (MessagePurpose message_type (ListSlot tag.number)) }
+    ensures passes { IfOk result (λ e. Passes tag.size e (length bytes.now)) }
+    ensures filled { FillsGroup pool.now part.old part.new bytes.now left room result }
+{
+    let mut groups = Vec::new(alloc);
+    let mut here = 0;
+    let mut next = tag;
+    loop {
+        let rest = &bytes[here..];
+        let before = left.saturating_sub(here as u32);
+        match add_group(
+            alloc,
+            pool,
+            &mut groups,
+            next,
+            message_type,
+            rest,
+            before,
+            room,
+        )? {
+            Extent::Whole(size) => here += size,
+            Extent::Cut(read) => return Ok(Extent::Cut(here + read)),
+        }
+        match tag_again(
+            tag.number,
+            3,
+            &bytes[here..],
+            left.saturating_sub(here as u32),
+        ) {
+            Some(again) => next = again,
+            None => break,
+        }
+    }
+    put_elements(alloc, part, tag.number, groups)?;
+    Ok(Extent::Whole(here))
+}
