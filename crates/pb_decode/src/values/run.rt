@@ -34,16 +34,11 @@ pub(crate) struct Run {
 
 /// The element at the front of some bytes, with so many bytes before the known end, and how many bytes it takes, if it stands
 /// whole there.
-#[inline(always)]
 fn element_at(pool: &Pool, kind: Kind, bytes: &[u8], left: Option<u32>) -> Option<(Element, usize)>
     requires { (wire_type_of kind ≡ 0) ⊎ (wire_type_of kind ≡ 1) ⊎ (wire_type_of kind ≡ 5) }
     ensures within { IfSome result (λ r. (0 < r.1) × (r.1 ≤ length bytes.now)) }
     ensures put { TellsElement pool.now kind bytes.now left result }
 {
-    // A run ends here most often, and a varint of no bytes is cut only where it is looked for.
-    if bytes.is_empty() || left == Some(0) {
-        return None;
-    }
     match number_at(kind.wire_type(), bytes, left) {
         NumberToken::Whole(number, size) => {
             if is_undeclared(pool, kind, number) {
