@@ -67,24 +67,7 @@ pub listed_further :
 listed_further kind number vs ws v bytes left used more is so_far next room =
     values_further (wire_type_of kind) number (Element kind) vs ws v bytes left room used more is (so_far room) (next room)
 
--- A LIST OF MESSAGES: its records have its number
-list_shaped : (k : Kind) (s : Shape) (n w m : ℕ) (j : MessageId) → OfShape k s n w (Message j (ListSlot m)) → m ≡ n
-list_shaped k (shape.List packed) n w m j h = h.1
-list_shaped k (shape.Map key) n w m j h = absurd h
-list_shaped k shape.Implicit n w m j h = absurd h
-list_shaped k shape.Explicit n w m j h = absurd h
-list_shaped k (shape.OneofMember o) n w m j h = absurd h
-
-list_at : (f : Option FieldView) (n w m : ℕ) (j : MessageId) → AtField f n w (Message j (ListSlot m)) → m ≡ n
-list_at None n w m j h = absurd (cc)
-list_at (Some f) n w m j h = list_shaped f.kind f.shape n w m j h.1
-
-pub list_number : (pool : Types) (p : Part) (n w m : ℕ) (j : MessageId) → Means pool (part_context p) n w (Message j (ListSlot m)) → m ≡ n
-list_number pool (message_part k v) n w m j h = list_at (field_numbered n (message_fields pool k)) n w m j h
-list_number pool (entry_part key k x d) n w m j h = absurd h
-list_number pool (group_part us) n w m j h = absurd (cc)
-
--- and a message goes to its end
+-- A LIST OF MESSAGES: one goes to its end
 message_listed_view : (pool : Types) (n : ℕ) (p : Part) (w : MessageOf) → put_listed n (message w) p ≡ put_message pool (ListSlot n) p w
 message_listed_view pool n (message_part m v) w = refl
 message_listed_view pool n (entry_part key k x d) w = refl
