@@ -5,15 +5,15 @@ ghost use Rattle.std.specs.BTreeMap.{InsertsAll, IsFromIterResult};
 ghost use Rattle.pb_value.specs.KeyOrder.{map_key_cmp};
 ghost use Rattle.pb_value.specs.Data.{fields_of};
 ghost use Rattle.pb_value.specs.Change.{with_fields, entries_of};
-ghost use Rattle.pb_value.specs.View.{body_view, content_view, entries_view, key_view, value_view};
+ghost use Rattle.pb_value.specs.View.{body_view, content_view, entries_view};
 ghost use Rattle.pb_value.specs.WellFormed.{RisesFrom};
 ghost use Rattle.pb_decode.specs.Open.Frames.{message_part};
 ghost use Rattle.pb_decode.specs.Open.PartView.{part_view};
-ghost use Rattle.pb_decode.specs.Close.Mapped.{pairs_view, put_pairs, FitInTurn, insert_in_turn, insert_pairs, put_mapped, put_all_mapped, FitsMapped, FitMapped, RisesIn};
+ghost use Rattle.pb_decode.specs.Close.Mapped.{pairs_view, put_pairs, FitInTurn, insert_in_turn, insert_pairs, put_all_mapped, FitMapped, RisesIn};
 
 use crate::error::{NoMemory, memory_alone};
 use crate::open::part::Part;
-use pb_value::parts::{insert_entry, put_field, take_field};
+use pb_value::parts::{put_field, take_field};
 use pb_value::{Body, Content, MapKey, Value};
 use std::alloc::{AllocError, Global};
 use std::collections::BTreeMap;
@@ -135,34 +135,6 @@ pub(crate) fn put_entries(
     match part {
         Part::Message(_, body) => {
             store_entries(alloc, body, number, entries)?;
-            Ok(())
-        }
-        Part::Entry {
-            key_kind: _,
-            value_kind: _,
-            key: _,
-            value: _,
-        } => Ok(()),
-        Part::Group(_) => Ok(()),
-    }
-}
-
-/// Puts an entry into the map of a number in the part that its record stands in.
-#[inline(always)]
-pub(crate) fn put_pair(
-    alloc: Global,
-    part: &mut Part,
-    number: u32,
-    key: MapKey,
-    value: Value,
-) -> Result<(), NoMemory>
-    requires { FitsMapped number (key_view key) (part_view part.old) }
-    ensures { OnOk result (part_view part.new ≡ put_mapped number (key_view key, value_view value) (part_view part.old)) }
-{
-    match part {
-        Part::Message(_, body) => {
-            let old = insert_entry(alloc, body, number, key, value).map_err(memory_alone)?;
-            drop(old);
             Ok(())
         }
         Part::Entry {

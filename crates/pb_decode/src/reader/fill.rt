@@ -16,15 +16,16 @@ mod groups;
 mod messages;
 mod pairs;
 
+use crate::close::closing::put_entry;
 use crate::close::put::put_message;
-use crate::close::put_entries::put_pair;
 use crate::error::NoMemory;
 use crate::open::opening::{room_in, take_message};
 use crate::open::part::{Part, Slot};
 use crate::open::purpose::{Purpose, purpose_of};
-use crate::reader::fill::entries::{entry_pair, fill_entries};
+use crate::reader::fill::entries::fill_entries;
 use crate::reader::fill::group::{Extent, fill_group};
 use crate::reader::fill::messages::fill_messages;
+use crate::reader::fill::pairs::fill_pair;
 use crate::reader::fill_run::fill_run;
 use crate::reader::quick_record::length_behind;
 use crate::reader::state::number_at;
@@ -246,14 +247,28 @@ fn fill_entry(
     if bytes.len() < end {
         return Ok(None);
     }
-    let payload = &bytes[start..];
-    match entry_pair(alloc, pool, key_kind, value_kind, payload, size, room - 1)? {
-        Some(pair) => {
-            let (key, value) = pair;
-            put_pair(alloc, part, tag.number, key, value)?;
+    let mut entry = Part::Entry {
+        key_kind,
+        value_kind,
+        key: None,
+        value: None,
+    };
+    if !fill_pair(alloc, pool, &mut entry, &bytes[start..], size, room - 1)? {
+        return Ok(None);
+    }
+    match entry {
+        Part::Entry {
+            key_kind,
+            value_kind,
+            key,
+            value,
+        } => {
+            let slot = Slot::Map(tag.number);
+            put_entry(alloc, slot, part, key_kind, value_kind, key, value)?;
             Ok(Some(end))
         }
-        None => Ok(None),
+        Part::Message(_kind, _body) => Ok(None),
+        Part::Group(_records) => Ok(None),
     }
 }
 

@@ -70,31 +70,6 @@ fn pair_in_turn(
     }
 }
 
-/// The key and the value of an entry whose payload of this size stands here, if it is one.
-#[cycle(fill)]
-#[inline(always)]
-pub(super) fn entry_pair(
-    alloc: Global,
-    pool: &Pool,
-    key_kind: Kind,
-    value_kind: Kind,
-    bytes: &[u8],
-    size: u32,
-    room: u8,
-) -> Result<Option<(MapKey, Value)>, NoMemory>
-    requires rules { IsPool pool.now }
-    requires open { IsOpen pool.now (entry_part key_kind value_kind None None) bytes.now size room }
-    requires small { length bytes.now < 2 ^ 31 }
-    requires whole { size ≤ length bytes.now }
-    ensures { TellsPair pool.now key_kind value_kind bytes.now size room result }
-{
-    match direct_pair(alloc, pool, key_kind, value_kind, bytes, size, room)? {
-        Pair::Whole(key, value) => Ok(Some((key, value))),
-        Pair::Refused => Ok(None),
-        Pair::Other => pair_in_turn(alloc, pool, key_kind, value_kind, bytes, size, room),
-    }
-}
-
 /// The entry behind a tag at the front of some bytes, with so many bytes before the known end and so many levels left, and how
 /// many bytes its record takes, if it stands whole there. Where its payload was read and is none, `tried` is where it ends.
 #[cycle(fill)]

@@ -70,8 +70,8 @@ pub fill_length-purpose_of-purpose-requires : goal.fill_length-purpose_of-purpos
 fill_length-purpose_of-purpose-requires t c = open_can c.requires.rules c.requires.open
 
 -- THE ENTRY
-pub fill_entry-entry_pair-requires : goal.fill_entry-entry_pair-requires
-fill_entry-entry_pair-requires t c =
+pub fill_entry-fill_pair-requires : goal.fill_entry-fill_pair-requires
+fill_entry-fill_pair-requires t c =
     let level = c.if-room-eq0.false in
     let is = ap length (slice_from c.in-Some.start c.args.bytes.now) ∙ length-drop c.in-Some.start c.args.bytes.now in
     let small = c.requires.small in
@@ -79,7 +79,7 @@ fill_entry-entry_pair-requires t c =
     let some = c.requires.some in
     let later = c.in-Some.ensures.within.0 in
     let within = c.in-Some.ensures.within.1 in
-    let less : 16 * length (take (length c.args.bytes.now - c.in-Some.start) (drop c.in-Some.start c.args.bytes.now)) + 10 < 16 * length c.args.bytes.now + 3 = omega (arith, is, some, later, within) in (
+    let less : 16 * length (take (length c.args.bytes.now - c.in-Some.start) (drop c.in-Some.start c.args.bytes.now)) + 8 < 16 * length c.args.bytes.now + 3 = omega (arith, is, some, later, within) in (
       search (rules, less),
       (
         c.requires.rules,
@@ -91,26 +91,30 @@ fill_entry-entry_pair-requires t c =
       ),
     )
 
-pub fill_entry-put_pair-requires : goal.fill_entry-put_pair-requires
-fill_entry-put_pair-requires t c =
+pub fill_entry-put_entry-requires-clause-key : goal.fill_entry-put_entry-requires-clause-key
+fill_entry-put_entry-requires-clause-key t c =
     let level = c.if-room-eq0.false in
     let from = c.requires.open in
-    let pair = c.in-Some-2.pair in
     let has = typed_tag c.args.bytes.now (Some c.args.left) c.args.tag.number c.args.tag.wire_type 2 c.args.tag.size c.requires.bytes c.requires.tag in
-    let h = told_of _ c.in_ok-pair.field-0 pair c.in-Some-2.is c.in_ok-pair.ensures in
-    let read = entry_inside from.at (Some c.args.left) c.args.bytes.now c.args.tag.number c.args.tag.size c.in-Some.start c.in-Some.size c.args.room c.args.key_kind c.args.value_kind c.requires.rules from.stands (has from.at) (c.in-Some.ensures.whole from.at c.args.tag.number c.args.tag.wire_type (c.requires.tag from.at)) c.requires.means (omega (arith, level)) h.filled refl in
-    (entry_taken from.at (Some c.args.left) c.args.bytes.now c.args.tag.number c.in-Some.start c.in-Some.size (c.args.room - 1) h.key_kind h.value_kind h.own_key h.own_value (key_view pair.0) (value_view pair.1) c.requires.rules from.stands.1 read h.key_is h.value_is).0
+    let read = entry_inside from.at (Some c.args.left) c.args.bytes.now c.args.tag.number c.args.tag.size c.in-Some.start c.in-Some.size c.args.room c.args.key_kind c.args.value_kind c.requires.rules from.stands (has from.at) (c.in-Some.ensures.whole from.at c.args.tag.number c.args.tag.wire_type (c.requires.tag from.at)) c.requires.means (omega (arith, level)) (c.in_ok-fill_pair.ensures c.if-not-branch.false) (ap part_view c.in-Entry.is) in
+    can_hold c.requires.rules (entry_part c.in-Entry.key_kind c.in-Entry.value_kind (option_map key_view c.in-Entry.key) (option_map value_view c.in-Entry.value)) read.1
 
-pub fill_entry-returns-in_ok-put_pair-in-Some-2-clause-filled : goal.fill_entry-returns-in_ok-put_pair-in-Some-2-clause-filled
-fill_entry-returns-in_ok-put_pair-in-Some-2-clause-filled t c =
+pub fill_entry-put_entry-requires-clause-fits : goal.fill_entry-put_entry-requires-clause-fits
+fill_entry-put_entry-requires-clause-fits t c =
+    let level = c.if-room-eq0.false in
+    let from = c.requires.open in
+    let has = typed_tag c.args.bytes.now (Some c.args.left) c.args.tag.number c.args.tag.wire_type 2 c.args.tag.size c.requires.bytes c.requires.tag in
+    let read = entry_inside from.at (Some c.args.left) c.args.bytes.now c.args.tag.number c.args.tag.size c.in-Some.start c.in-Some.size c.args.room c.args.key_kind c.args.value_kind c.requires.rules from.stands (has from.at) (c.in-Some.ensures.whole from.at c.args.tag.number c.args.tag.wire_type (c.requires.tag from.at)) c.requires.means (omega (arith, level)) (c.in_ok-fill_pair.ensures c.if-not-branch.false) (ap part_view c.in-Entry.is) in
+    entry_has_room c.requires.rules c.in-Entry.key_kind c.in-Entry.value_kind (option_map key_view c.in-Entry.key) (option_map value_view c.in-Entry.value) read.1
+
+pub fill_entry-returns-in_ok-put_entry-in-Entry-clause-filled : goal.fill_entry-returns-in_ok-put_entry-in-Entry-clause-filled
+fill_entry-returns-in_ok-put_entry-in-Entry-clause-filled t c =
     λ m depth levels at base p0 frames there.
     let level = c.if-room-eq0.false in
-    let pair = c.in-Some-2.pair in
     let has = typed_tag c.args.bytes.now (Some c.args.left) c.args.tag.number c.args.tag.wire_type 2 c.args.tag.size c.requires.bytes c.requires.tag in
-    let h = told_of _ c.in_ok-pair.field-0 pair c.in-Some-2.is c.in_ok-pair.ensures in
-    let read = entry_inside at (Some c.args.left) c.args.bytes.now c.args.tag.number c.args.tag.size c.in-Some.start c.in-Some.size c.args.room c.args.key_kind c.args.value_kind c.requires.rules there (has at) (c.in-Some.ensures.whole at c.args.tag.number c.args.tag.wire_type (c.requires.tag at)) c.requires.means (omega (arith, level)) h.filled refl in
-    let taken = entry_taken at (Some c.args.left) c.args.bytes.now c.args.tag.number c.in-Some.start c.in-Some.size (c.args.room - 1) h.key_kind h.value_kind h.own_key h.own_value (key_view pair.0) (value_view pair.1) c.requires.rules there.1 read h.key_is h.value_is in
-    (one_more_in c.args.tag.number there.0, subst (λ (z : Part). Stands c.args.pool.now m depth levels base p0 frames z (one_more_in c.args.tag.number there.0) (passed (given_at at (Some c.args.left) c.args.bytes.now) (c.in-Some.start + c.in-Some.size))) (sym c.in_ok-put_pair-in-Some-2.ensures) taken.1, there.2)
+    let read = entry_inside at (Some c.args.left) c.args.bytes.now c.args.tag.number c.args.tag.size c.in-Some.start c.in-Some.size c.args.room c.args.key_kind c.args.value_kind c.requires.rules there (has at) (c.in-Some.ensures.whole at c.args.tag.number c.args.tag.wire_type (c.requires.tag at)) c.requires.means (omega (arith, level)) (c.in_ok-fill_pair.ensures c.if-not-branch.false) (ap part_view c.in-Entry.is) in
+    entry_over at c.args.left c.args.bytes.now c.args.tag.number c.in-Some.start c.in-Some.size c.args.room (c.args.room - 1) c.in-Entry.key_kind c.in-Entry.value_kind (option_map key_view c.in-Entry.key) (option_map value_view c.in-Entry.value) (part_view c.put_entry.new.outer) there.1 there.2 read
+    c.in_ok-put_entry-in-Entry.ensures
 
 -- THE MESSAGE
 pub fill_message-fill-requires : goal.fill_message-fill-requires
@@ -425,17 +429,6 @@ entries::pair_in_turn-returns-in-Entry t c = record {
   filled = subst (λ (z : Part). FillsTo c.args.pool.now (entry_part c.args.key_kind c.args.value_kind None None) z c.args.bytes.now c.args.size c.args.room c.args.size) (ap part_view c.in-Entry.is) (c.in_ok-fill_pair.ensures c.if-not-branch.false);
   key_is = c.key_or_default-key.ensures;
   value_is = c.value_or_missing-value.ensures;
-}
-
-pub entries::entry_pair-returns-in-Whole : goal.entries::entry_pair-returns-in-Whole
-entries::entry_pair-returns-in-Whole t c = record {
-  key_kind = c.args.key_kind;
-  value_kind = c.args.value_kind;
-  own_key = Some (key_view c.in-Whole.key);
-  own_value = Some (value_view c.in-Whole.value);
-  filled = whole_pair _ c.in_ok-key.field-0 c.in-Whole.key c.in-Whole.value c.in-Whole.is c.in_ok-key.ensures;
-  key_is = refl;
-  value_is = refl;
 }
 
 pub entries::entry_behind-direct_pair-requires : goal.entries::entry_behind-direct_pair-requires
