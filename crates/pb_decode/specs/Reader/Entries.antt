@@ -1,5 +1,5 @@
 -- Map entries that are read one behind another, wherever the part is open that holds their map.
-use Rattle.std.specs.Prelude.{◌≡◌, ℕ, zero, suc, List, length, Option, Vec, Result, IfOk, IfSome}
+use Rattle.std.specs.Prelude.{◌≡◌, ℕ, zero, suc, List, [], ◌∷◌, ◌++◌, length, Option, Some, Vec, Result, Ok, IfOk, IfSome, MatchOption}
 use Rattle.std.specs.declared.alloc.Global.{Global}
 use Rattle.pb_wire.specs.Record.{Record}
 use Rattle.pb_wire.specs.Fault.{Place}
@@ -53,3 +53,10 @@ TellsEntries pool number key kd bytes left room result =
     FitMapped number (pairs_view r.0.items) now
     × Stands pool m depth levels base p0 frames (put_all_mapped number (pairs_view r.0.items) now) (more_in number (length r.0.items) scope)
     (passed (given_at at left bytes) r.1))
+
+-- where the entry at the front is told: it is the last of the entries; or they are as before
+abbrev pub AddsEntry :
+    {E : Type 0} → Types → ℕ → Kind → Kind → List ℕ → Option ℕ → ℕ → List (MapKey × Value) → List (MapKey × Value) → Result (Option ℕ) E → Type 0
+AddsEntry {E} pool number key kd bytes left room old new result =
+    IfOk result (λ o. MatchOption o (new ≡ old) (λ n.
+    (e : MapKey × Value) × (new ≡ old ++ e ∷ []) × TellsEntry {E = E} pool number key kd bytes left room (Ok (Some (e, n)))))

@@ -2,10 +2,14 @@
 use Rattle.std.specs.Prelude.{◌≡◌, ℕ, List, Option, Some, IfSome}
 use Rattle.pb_schema.specs.declared.types.Kind.{Kind}
 use Rattle.pb_schema.specs.Types.{Types}
+use Rattle.pb_schema.specs.Kinds.{read}
+use Rattle.pb_schema.specs.Scalar.{Scalar}
 use Rattle.pb_value.specs.declared.body.Value.{Value}
-use Rattle.pb_value.specs.Data.{Datum}
+use Rattle.pb_value.specs.Data.{Datum, scalar}
 use Rattle.pb_value.specs.View.{value_view}
 use Rattle.pb_decode.specs.declared.open.purpose.Purpose.{Purpose}
+use Rattle.pb_decode.specs.declared.tokens.number.Number.{Number}
+use Rattle.pb_decode.specs.Tokens.Number.{number_view}
 use Rattle.pb_decode.specs.Open.Frames.{Part}
 use Rattle.pb_decode.specs.Open.Purposes.{Means, part_context}
 use Rattle.pb_decode.specs.Values.Put.{scalar_kind, put_datum}
@@ -21,3 +25,8 @@ FillsScalar pool kind number type value bytes left used =
 abbrev pub TellsScalar : Types → Kind → ℕ → ℕ → List ℕ → ℕ → Option (Value × ℕ) → Type 0
 TellsScalar pool kind number type bytes left result =
     IfSome result (λ r. FillsScalar pool kind number type (value_view r.0) bytes left r.1)
+
+-- where the number behind a tag is told: its value is the scalar
+abbrev pub TellsNumberThere : Types → Kind → ℕ → ℕ → List ℕ → ℕ → Option (Number × ℕ) → Type 0
+TellsNumberThere pool kind number type bytes left result =
+    IfSome result (λ r. (x : Scalar) → read kind (number_view r.0) ≡ Some x → FillsScalar pool kind number type (scalar x) bytes left r.1)

@@ -3,12 +3,12 @@
 ghost use Rattle.std.specs.Prelude.{◌≡◌, ◌⊎◌, ◌≤◌, ◌<◌, ◌^◌, Some, length, IfOk, IfSome};
 ghost use Rattle.pb_schema.specs.Rules.{IsPool};
 ghost use Rattle.pb_decode.specs.Reader.Fills.{HasTagAt};
-ghost use Rattle.pb_decode.specs.Reader.Scalars.{TellsScalar};
+ghost use Rattle.pb_decode.specs.Reader.Scalars.{TellsNumberThere, TellsScalar};
 
 use crate::error::NoMemory;
 use crate::reader::quick_record::length_behind;
 use crate::reader::state::number_at;
-use crate::tokens::number::number_value;
+use crate::tokens::number::{Number, number_value};
 use crate::tokens::number_token::NumberToken;
 use crate::tokens::record_tag::{RecordTag, left_behind};
 use crate::values::payload_value::{PayloadError, payload_value};
@@ -17,8 +17,38 @@ use pb_schema::{Kind, Pool};
 use pb_value::Value;
 use std::alloc::Global;
 
-/// The value of the number behind a tag, if it stands whole there, and how many bytes its record takes. A number that its closed
-/// enum doesn't declare is no value.
+/// The number behind a tag, if it stands whole there, and how many bytes its record takes. One that its closed enum doesn't declare
+/// is none.
+#[inline(always)]
+pub(crate) fn number_there(
+    pool: &Pool,
+    kind: Kind,
+    tag: RecordTag,
+    bytes: &[u8],
+    left: u32,
+) -> Option<(Number, usize)>
+    requires rules { IsPool pool.now }
+    requires number { (tag.wire_type ≡ 0) ⊎ (tag.wire_type ≡ 1) ⊎ (tag.wire_type ≡ 5) }
+    requires within { tag.size ≤ length bytes.now }
+    requires small { length bytes.now < 2 ^ 31 }
+    requires tag { HasTagAt bytes.now (Some left) tag.number tag.wire_type tag.size }
+    ensures within { IfSome result (λ r. (tag.size ≤ r.1) × (r.1 ≤ length bytes.now)) }
+    ensures put { TellsNumberThere pool.now kind tag.number tag.wire_type bytes.now left result }
+{
+    let behind = left_behind(Some(left), tag.size);
+    match number_at(tag.wire_type, &bytes[tag.size..], behind) {
+        NumberToken::Whole(number, size) => {
+            if is_undeclared(pool, kind, number) {
+                return None;
+            }
+            Some((number, tag.size + size))
+        }
+        NumberToken::Short => None,
+        NumberToken::Fault(_) => None,
+    }
+}
+
+/// The value of the number behind a tag, likewise.
 #[inline(always)]
 pub(crate) fn number_behind(
     pool: &Pool,
@@ -35,26 +65,19 @@ pub(crate) fn number_behind(
     ensures within { IfSome result (λ r. (tag.size ≤ r.1) × (r.1 ≤ length bytes.now)) }
     ensures put { TellsScalar pool.now kind tag.number tag.wire_type bytes.now left result }
 {
-    let behind = left_behind(Some(left), tag.size);
-    match number_at(tag.wire_type, &bytes[tag.size..], behind) {
-        NumberToken::Whole(number, size) => {
-            if is_undeclared(pool, kind, number) {
-                return None;
-            }
-            match number_value(kind, number) {
-                Some(value) => Some((value, tag.size + size)),
-                None => None,
-            }
-        }
-        NumberToken::Short => None,
-        NumberToken::Fault(_) => None,
+    let Some((number, size)) = number_there(pool, kind, tag, bytes, left) else {
+        return None;
+    };
+    match number_value(kind, number) {
+        Some(value) => Some((value, size)),
+        None => None,
     }
 }
 
 /// The value that the bytes behind a tag and a length are, if they stand whole there, and how many bytes their record takes. Bytes
 /// that are no text are no value of a text.
 #[inline(always)]
-fn bytes_behind(
+pub(crate) fn bytes_behind(
     alloc: Global,
     pool: &Pool,
     kind: Kind,

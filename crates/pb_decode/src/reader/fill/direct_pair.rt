@@ -1,45 +1,55 @@
 //! Map entries that are a key and then a value: both are read straight, without an entry that is open meanwhile.
 
-ghost use Rattle.std.specs.Prelude.{◌≡◌, ◌≤◌, ◌<◌, ◌^◌, Some, None, length, IfOk, IfSome};
+ghost use Rattle.std.specs.Prelude.{◌≡◌, ◌⊎◌, ◌≤◌, ◌<◌, ◌^◌, Some, None, length, IfOk, IfSome};
 ghost use Rattle.pb_schema.specs.Kinds.{message_of_kind, wire_type_of};
 ghost use Rattle.pb_schema.specs.Rules.{IsPool};
 ghost use Rattle.pb_value.specs.View.{key_view};
 ghost use Rattle.pb_decode.specs.Open.Frames.{entry_part};
 ghost use Rattle.pb_decode.specs.Reader.Fills.{IsOpen, HasTagAt};
-ghost use Rattle.pb_decode.specs.Reader.Pairs.{FillsKey, FillsPair};
+ghost use Rattle.pb_decode.specs.Reader.Pairs.{FillsKey, FillsPair, AddsPair};
 
 use super::fill;
 use crate::error::NoMemory;
 use crate::open::part::Part;
 use crate::reader::quick_record::length_behind;
-use crate::reader::scalar_behind::scalar_behind;
-use crate::tokens::record_tag::{RecordTag, record_tag};
+use crate::reader::scalar_behind::{bytes_behind, number_there, scalar_behind};
+use crate::tokens::front::front_number;
+use crate::tokens::number::number_value;
+use crate::tokens::record_tag::RecordTag;
 use crate::values::put_scalar::key_of;
 use pb_schema::{Kind, MessageId, Pool};
 use pb_value::{MapKey, Value, empty_body};
 use std::alloc::Global;
 
-/// What the payload of an entry is.
-#[derive(Drop)]
+/// What became of the payload of an entry.
+#[derive(Clone, Copy)]
 pub(super) enum Pair {
-    /// A key, and behind it a value that ends with the entry.
-    Whole(MapKey, Value),
-    /// A key, and behind it the record of a message that ends with the entry. The message was read, and is none.
+    /// Its key and its value are the last of the entries.
+    Whole,
+    /// It was read, and is none.
     Refused,
-    /// Anything else. No message in it was read.
+    /// It is no key and value in turn. No message in it was read.
     Other,
 }
 
 /// The tag at the front of some bytes, if it is one of this number and of the wire type of a kind.
 #[inline(always)]
 fn own_tag(number: u32, kind: Kind, bytes: &[u8], left: u32) -> Option<RecordTag>
+    requires { (0 < number) × (number < 2 ^ 29) }
     ensures own { IfSome result (λ t. (t.number ≡ number) × (t.wire_type ≡ wire_type_of kind)) }
-    ensures within { IfSome result (λ t. (0 < t.size) × (t.size ≤ length bytes.now)) }
+    ensures within { IfSome result (λ t. t.size ≤ length bytes.now) }
     ensures whole { IfSome result (λ t. HasTagAt bytes.now (Some left) t.number t.wire_type t.size) }
 {
-    let tag = record_tag(bytes, Some(left))?;
-    if tag.number == number && tag.wire_type == kind.wire_type() {
-        Some(tag)
+    let Ok(Some((tag, size))) = front_number(bytes, Some(left)) else {
+        return None;
+    };
+    let wire_type = kind.wire_type();
+    if tag == 8 * u64::from(number) + u64::from(wire_type) {
+        Some(RecordTag {
+            number,
+            wire_type,
+            size,
+        })
     } else {
         None
     }
@@ -73,7 +83,75 @@ fn key_behind(
     }
 }
 
-/// The pair of a key and the scalar behind it, which is to end with the entry.
+/// Puts a key and the number behind it among the entries, where that ends with the entry.
+#[inline(always)]
+fn pair_with_number(
+    pool: &Pool,
+    key: MapKey,
+    key_kind: Kind,
+    value_kind: Kind,
+    tag: RecordTag,
+    bytes: &[u8],
+    left: u32,
+    room: u8,
+    entries: &mut Vec<(MapKey, Value)>,
+) -> Result<Pair, NoMemory>
+    requires rules { IsPool pool.now }
+    requires number { (tag.wire_type ≡ 0) ⊎ (tag.wire_type ≡ 1) ⊎ (tag.wire_type ≡ 5) }
+    requires within { tag.size ≤ length bytes.now }
+    requires small { length bytes.now < 2 ^ 31 }
+    requires tag { HasTagAt bytes.now (Some left) tag.number tag.wire_type tag.size }
+    requires own { (tag.number ≡ 2) × (tag.wire_type ≡ wire_type_of value_kind) }
+    requires scalar { message_of_kind value_kind ≡ None }
+    ensures { FillsPair pool.now key_kind value_kind (Some (key_view key)) bytes.now left room entries.old.items entries.new.items result }
+{
+    let Some((number, size)) = number_there(pool, value_kind, tag, bytes, left) else {
+        return Ok(Pair::Other);
+    };
+    if size != left as usize {
+        return Ok(Pair::Other);
+    }
+    let Some(value) = number_value(value_kind, number) else {
+        return Ok(Pair::Other);
+    };
+    entries.push((key, value))?;
+    Ok(Pair::Whole)
+}
+
+/// Puts a key and the bytes behind it among the entries, likewise.
+#[inline(always)]
+fn pair_with_bytes(
+    alloc: Global,
+    pool: &Pool,
+    key: MapKey,
+    key_kind: Kind,
+    value_kind: Kind,
+    tag: RecordTag,
+    bytes: &[u8],
+    left: u32,
+    room: u8,
+    entries: &mut Vec<(MapKey, Value)>,
+) -> Result<Pair, NoMemory>
+    requires rules { IsPool pool.now }
+    requires bytes { tag.wire_type ≡ 2 }
+    requires within { tag.size ≤ length bytes.now }
+    requires small { length bytes.now < 2 ^ 31 }
+    requires tag { HasTagAt bytes.now (Some left) tag.number tag.wire_type tag.size }
+    requires own { (tag.number ≡ 2) × (tag.wire_type ≡ wire_type_of value_kind) }
+    requires scalar { message_of_kind value_kind ≡ None }
+    ensures { FillsPair pool.now key_kind value_kind (Some (key_view key)) bytes.now left room entries.old.items entries.new.items result }
+{
+    let Some((value, size)) = bytes_behind(alloc, pool, value_kind, tag, bytes, left)? else {
+        return Ok(Pair::Other);
+    };
+    if size != left as usize {
+        return Ok(Pair::Other);
+    }
+    entries.push((key, value))?;
+    Ok(Pair::Whole)
+}
+
+/// Puts a key and the scalar behind it among the entries, likewise.
 #[inline(always)]
 fn pair_with_scalar(
     alloc: Global,
@@ -84,27 +162,31 @@ fn pair_with_scalar(
     bytes: &[u8],
     left: u32,
     room: u8,
+    entries: &mut Vec<(MapKey, Value)>,
 ) -> Result<Pair, NoMemory>
     requires rules { IsPool pool.now }
     requires small { length bytes.now < 2 ^ 31 }
     requires scalar { message_of_kind value_kind ≡ None }
-    ensures { FillsPair pool.now key_kind value_kind (Some (key_view key)) bytes.now left room result }
+    ensures { FillsPair pool.now key_kind value_kind (Some (key_view key)) bytes.now left room entries.old.items entries.new.items result }
 {
     let Some(tag) = own_tag(2, value_kind, bytes, left) else {
         return Ok(Pair::Other);
     };
-    let Some((value, size)) = scalar_behind(alloc, pool, value_kind, tag, bytes, left)? else {
-        return Ok(Pair::Other);
-    };
-    if size == left as usize {
-        Ok(Pair::Whole(key, value))
+    if tag.wire_type == 2 {
+        pair_with_bytes(
+            alloc, pool, key, key_kind, value_kind, tag, bytes, left, room, entries,
+        )
+    } else if tag.wire_type == 0 || tag.wire_type == 1 || tag.wire_type == 5 {
+        pair_with_number(
+            pool, key, key_kind, value_kind, tag, bytes, left, room, entries,
+        )
     } else {
         Ok(Pair::Other)
     }
 }
 
-/// The pair of a key and the message behind it, which is to end with the entry. It is looked into only where it does, so that what
-/// is no such pair is not read twice.
+/// Puts a key and the message behind it among the entries, where that ends with the entry. The message is read only where it does,
+/// so that what is no such pair is not read twice.
 #[cycle(fill)]
 #[inline(always)]
 fn pair_with_message(
@@ -117,13 +199,14 @@ fn pair_with_message(
     bytes: &[u8],
     left: u32,
     room: u8,
+    entries: &mut Vec<(MapKey, Value)>,
 ) -> Result<Pair, NoMemory>
     requires rules { IsPool pool.now }
     requires open { IsOpen pool.now (entry_part key_kind value_kind (Some (key_view key)) None) bytes.now left room }
     requires small { length bytes.now < 2 ^ 31 }
     requires whole { left ≤ length bytes.now }
     requires message { message_of_kind value_kind ≡ Some message_type.0 }
-    ensures { FillsPair pool.now key_kind value_kind (Some (key_view key)) bytes.now left room result }
+    ensures { FillsPair pool.now key_kind value_kind (Some (key_view key)) bytes.now left room entries.old.items entries.new.items result }
 {
     let Some(tag) = own_tag(2, value_kind, bytes, left) else {
         return Ok(Pair::Other);
@@ -142,7 +225,10 @@ fn pair_with_message(
         return Ok(Pair::Refused);
     }
     match message {
-        Part::Message(_kind, body) => Ok(Pair::Whole(key, Value::Message(body))),
+        Part::Message(_kind, body) => {
+            entries.push((key, Value::Message(body)))?;
+            Ok(Pair::Whole)
+        }
         Part::Entry {
             key_kind: _,
             value_kind: _,
@@ -153,7 +239,7 @@ fn pair_with_message(
     }
 }
 
-/// What the payload of an entry of this size is, with so many levels left in it.
+/// Puts the key and the value of an entry whose payload has this size among the entries, where it is a key and then a value.
 #[cycle(fill)]
 pub(super) fn direct_pair(
     alloc: Global,
@@ -163,12 +249,13 @@ pub(super) fn direct_pair(
     bytes: &[u8],
     size: u32,
     room: u8,
+    entries: &mut Vec<(MapKey, Value)>,
 ) -> Result<Pair, NoMemory>
     requires rules { IsPool pool.now }
     requires open { IsOpen pool.now (entry_part key_kind value_kind None None) bytes.now size room }
     requires small { length bytes.now < 2 ^ 31 }
     requires whole { size ≤ length bytes.now }
-    ensures { FillsPair pool.now key_kind value_kind None bytes.now size room result }
+    ensures { AddsPair pool.now key_kind value_kind bytes.now size room entries.old.items entries.new.items result }
 {
     let read = key_behind(alloc, pool, key_kind, value_kind, bytes, size, room)?;
     let Some((key, used)) = read else {
@@ -190,7 +277,10 @@ pub(super) fn direct_pair(
             rest,
             left,
             room,
+            entries,
         ),
-        None => pair_with_scalar(alloc, pool, key, key_kind, value_kind, rest, left, room),
+        None => pair_with_scalar(
+            alloc, pool, key, key_kind, value_kind, rest, left, room, entries,
+        ),
     }
 }

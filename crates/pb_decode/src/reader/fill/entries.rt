@@ -6,9 +6,9 @@ ghost use Rattle.pb_decode.specs.declared.open.purpose.Purpose.TheVariants.{Entr
 ghost use Rattle.pb_decode.specs.Open.Frames.{entry_part};
 ghost use Rattle.pb_decode.specs.Open.PartView.{part_view};
 ghost use Rattle.pb_decode.specs.Open.Purposes.{Means, part_context};
-ghost use Rattle.pb_decode.specs.Reader.Entries.{IsMapOpen, TellsEntry, TellsEntries};
+ghost use Rattle.pb_decode.specs.Reader.Entries.{IsMapOpen, AddsEntry, TellsEntries};
 ghost use Rattle.pb_decode.specs.Reader.Fills.{IsOpen, HasTagAt, FillsOne};
-ghost use Rattle.pb_decode.specs.Reader.Pairs.{TellsPair};
+ghost use Rattle.pb_decode.specs.Reader.Pairs.{AddsPair};
 
 use super::direct_pair::{Pair, direct_pair};
 use super::entries_ahead::entries_ahead;
@@ -27,7 +27,7 @@ use std::alloc::Global;
 /// An entry of less bytes goes into its map by itself, so that what a run holds follows its bytes, also where keys repeat.
 pub(super) const LEAST: usize = 8;
 
-/// The key and the value of an entry whose payload of this size is read record by record. There are none where it is none.
+/// Puts the key and the value of an entry whose payload of this size is read record by record among the entries.
 #[cycle(fill)]
 #[inline(never)]
 fn pair_in_turn(
@@ -38,12 +38,13 @@ fn pair_in_turn(
     bytes: &[u8],
     size: u32,
     room: u8,
-) -> Result<Option<(MapKey, Value)>, NoMemory>
+    entries: &mut Vec<(MapKey, Value)>,
+) -> Result<Pair, NoMemory>
     requires rules { IsPool pool.now }
     requires open { IsOpen pool.now (entry_part key_kind value_kind None None) bytes.now size room }
     requires small { length bytes.now < 2 ^ 31 }
     requires whole { size ≤ length bytes.now }
-    ensures { TellsPair pool.now key_kind value_kind bytes.now size room result }
+    ensures { AddsPair pool.now key_kind value_kind bytes.now size room entries.old.items entries.new.items result }
 {
     let mut entry = Part::Entry {
         key_kind,
@@ -52,7 +53,7 @@ fn pair_in_turn(
         value: None,
     };
     if !fill_pair(alloc, pool, &mut entry, bytes, size, room)? {
-        return Ok(None);
+        return Ok(Pair::Refused);
     }
     match entry {
         Part::Entry {
@@ -63,15 +64,50 @@ fn pair_in_turn(
         } => {
             let key = key_or_default(alloc, key_kind, key);
             let value = value_or_missing(alloc, value_kind, value);
-            Ok(Some((key, value)))
+            entries.push((key, value))?;
+            Ok(Pair::Whole)
         }
-        Part::Message(_kind, _body) => Ok(None),
-        Part::Group(_records) => Ok(None),
+        Part::Message(_kind, _body) => Ok(Pair::Refused),
+        Part::Group(_records) => Ok(Pair::Refused),
     }
 }
 
-/// The entry behind a tag at the front of some bytes, with so many bytes before the known end and so many levels left, and how
-/// many bytes its record takes, if it stands whole there. Where its payload was read and is none, `tried` is where it ends.
+/// Puts the key and the value of an entry whose payload has this size among the entries. A payload in which a message was read is
+/// not read again.
+#[cycle(fill)]
+#[inline(always)]
+fn push_pair(
+    alloc: Global,
+    pool: &Pool,
+    key_kind: Kind,
+    value_kind: Kind,
+    bytes: &[u8],
+    size: u32,
+    room: u8,
+    entries: &mut Vec<(MapKey, Value)>,
+) -> Result<Pair, NoMemory>
+    requires rules { IsPool pool.now }
+    requires open { IsOpen pool.now (entry_part key_kind value_kind None None) bytes.now size room }
+    requires small { length bytes.now < 2 ^ 31 }
+    requires whole { size ≤ length bytes.now }
+    ensures { AddsPair pool.now key_kind value_kind bytes.now size room entries.old.items entries.new.items result }
+{
+    match direct_pair(
+        alloc, pool, key_kind, value_kind, bytes, size, room, entries,
+    )? {
+        Pair::Whole => Ok(Pair::Whole),
+        Pair::Refused => Ok(Pair::Refused),
+        Pair::Other => {
+            pair_in_turn(
+                alloc, pool, key_kind, value_kind, bytes, size, room, entries,
+            )
+        }
+    }
+}
+
+/// Puts the entry behind a tag at the front of some bytes among the entries, with so many bytes before the known end and so many
+/// levels left, and how many bytes its record takes, if it stands whole there. Where its payload was read and is none, `tried` is
+/// where it ends.
 #[cycle(fill)]
 fn entry_behind(
     alloc: Global,
@@ -85,7 +121,8 @@ fn entry_behind(
     room: u8,
     at: u32,
     tried: &mut u32,
-) -> Result<Option<((MapKey, Value), usize)>, NoMemory>
+    entries: &mut Vec<(MapKey, Value)>,
+) -> Result<Option<usize>, NoMemory>
     requires rules { IsPool pool.now }
     requires open { IsMapOpen pool.now number key_kind value_kind bytes.now left room }
     requires some { 0 < room }
@@ -94,8 +131,8 @@ fn entry_behind(
     requires own { tag.number ≡ number }
     requires within { (0 < tag.size) × (tag.size ≤ length bytes.now) }
     requires tag { HasTagAt bytes.now left tag.number tag.wire_type tag.size }
-    ensures within { IfOk result (λ o. IfSome o (λ r. (0 < r.1) × (r.1 ≤ length bytes.now))) }
-    ensures put { TellsEntry pool.now number key_kind value_kind bytes.now left room result }
+    ensures within { IfOk result (λ o. IfSome o (λ n. (0 < n) × (n ≤ length bytes.now))) }
+    ensures put { AddsEntry pool.now number key_kind value_kind bytes.now left room entries.old.items entries.new.items result }
 {
     let Some((start, size)) = length_behind(tag.size, bytes, left) else {
         return Ok(None);
@@ -105,26 +142,25 @@ fn entry_behind(
         return Ok(None);
     }
     let payload = &bytes[start..];
-    let below = room - 1;
-    match direct_pair(alloc, pool, key_kind, value_kind, payload, size, below)? {
-        Pair::Whole(key, value) => Ok(Some(((key, value), end))),
-        Pair::Refused => {
+    match push_pair(
+        alloc,
+        pool,
+        key_kind,
+        value_kind,
+        payload,
+        size,
+        room - 1,
+        entries,
+    )? {
+        Pair::Whole => Ok(Some(end)),
+        Pair::Refused | Pair::Other => {
             *tried = at + end as u32;
             Ok(None)
         }
-        Pair::Other => match pair_in_turn(
-            alloc, pool, key_kind, value_kind, payload, size, below,
-        )? {
-            Some(pair) => Ok(Some((pair, end))),
-            None => {
-                *tried = at + end as u32;
-                Ok(None)
-            }
-        },
     }
 }
 
-/// The entry of a number at the front of some bytes, as `entry_behind` reads it.
+/// Puts the entry of a number at the front of some bytes among the entries, as `entry_behind` does.
 #[cycle(fill)]
 fn entry_at(
     alloc: Global,
@@ -137,20 +173,21 @@ fn entry_at(
     room: u8,
     at: u32,
     tried: &mut u32,
-) -> Result<Option<((MapKey, Value), usize)>, NoMemory>
+    entries: &mut Vec<(MapKey, Value)>,
+) -> Result<Option<usize>, NoMemory>
     requires rules { IsPool pool.now }
     requires open { IsMapOpen pool.now number key_kind value_kind bytes.now left room }
     requires some { 0 < room }
     requires small { at + length bytes.now < 2 ^ 31 }
-    ensures within { IfOk result (λ o. IfSome o (λ r. (0 < r.1) × (r.1 ≤ length bytes.now))) }
-    ensures put { TellsEntry pool.now number key_kind value_kind bytes.now left room result }
+    ensures within { IfOk result (λ o. IfSome o (λ n. (0 < n) × (n ≤ length bytes.now))) }
+    ensures put { AddsEntry pool.now number key_kind value_kind bytes.now left room entries.old.items entries.new.items result }
 {
     let Some(tag) = record_tag(bytes, left) else {
         return Ok(None);
     };
     if tag.wire_type == 2 && tag.number == number {
         entry_behind(
-            alloc, pool, tag, number, key_kind, value_kind, bytes, left, room, at, tried,
+            alloc, pool, tag, number, key_kind, value_kind, bytes, left, room, at, tried, entries,
         )
     } else {
         Ok(None)
@@ -182,7 +219,7 @@ pub(crate) fn read_entries(
     let mut entries = Vec::with_capacity(alloc, entries_ahead(bytes, left))?;
     let mut here = 0;
     while here < bytes.len() {
-        let Some((entry, size)) = entry_at(
+        let Some(size) = entry_at(
             alloc,
             pool,
             number,
@@ -193,11 +230,11 @@ pub(crate) fn read_entries(
             room,
             at + here as u32,
             tried,
+            &mut entries,
         )?
         else {
             return Ok((entries, here));
         };
-        entries.push(entry)?;
         here += size;
     }
     Ok((entries, here))

@@ -1,10 +1,12 @@
 -- Record by record a part is filled, and what it holds with it.
-use Rattle.std.proofs.Common.{rules, ◌≡◌, ◌+◌, ◌-◌, ◌*◌, ◌<◌, ℕ, ◌∷◌, [], Some, None, ap, ◌∙◌, sym, refl, subst, arith, take, drop, length, length-drop, option_map}
+use Rattle.std.proofs.Common.{rules, ◌≡◌, ◌+◌, ◌-◌, ◌*◌, ◌<◌, ℕ, List, ◌∷◌, [], Some, None, ap, ◌∙◌, sym, refl, subst, arith, take, drop, length, length-drop, option_map}
 use Rattle.std.proofs.lemmas.Bool.{false≢true}
 use Rattle.pb_wire.specs.Unknown.{records_of}
 use Rattle.pb_wire.specs.Fault.{Place}
 use Rattle.pb_wire.specs.Token.{given_at, passed}
 use Rattle.pb_value.specs.View.{body_view, key_view, value_view}
+use Rattle.pb_value.specs.declared.body.MapKey.{MapKey}
+use Rattle.pb_value.specs.declared.body.Value.{Value}
 use Rattle.pb_value.specs.declared.body.Value.TheVariants as value
 use Rattle.pb_value.specs.Data.{Datum}
 use Rattle.pb_value.proofs.Views.{value_view-Message}
@@ -12,10 +14,11 @@ use Rattle.pb_decode.specs.declared.open.part.Slot.TheVariants as slot
 use Rattle.pb_decode.specs.declared.open.purpose.Purpose.TheVariants.{Message}
 use Rattle.pb_decode.specs.Open.Frames.{Part, entry_part, one_more_in, Stands}
 use Rattle.pb_decode.specs.Open.PartView.{part_view}
-use Rattle.pb_decode.specs.Close.Mapped.{pairs_view, put_mapped, put_all_mapped}
+use Rattle.pb_decode.specs.Close.Mapped.{pairs_view, put_mapped, put_all_mapped, FitMapped}
 use Rattle.pb_decode.specs.Reader.Entries.{more_in}
 use Rattle.pb_decode.specs.Reader.Fills.{StandsIn, IsOpen, HasTagAt, FillsTo}
 use Rattle.pb_decode.specs.Reader.Fills.Groups.{FillsToEnd}
+use Rattle.pb_decode.specs.Reader.Pairs.{HasPair}
 use Rattle.pb_decode.specs.Reader.Listed.{FillsRun, IsListOpen}
 use Rattle.pb_decode.specs.Reader.Listed.Groups.{IsGroupListOpen}
 use Rattle.pb_decode.specs.Values.Run.{put_listed}
@@ -24,7 +27,7 @@ use Rattle.pb_decode.proofs.NumberSteps.{number_is}
 use Rattle.pb_decode.proofs.WellLemmas.{can_hold}
 use Rattle.pb_decode.proofs.EndedLemmas.{entry_has_room, frame_can_hold}
 use Rattle.pb_decode.proofs.FillLemmas.{some_told, open_can, nothing_filled, still_open, filled_further, typed_tag, entry_in_part, message_in_part, entry_inside, message_inside, entry_over, message_over}
-use Rattle.pb_decode.proofs.PairLemmas.{whole_pair, pair_further}
+use Rattle.pb_decode.proofs.PairLemmas.{pair_further, none_put, pair_told, other_told, refused_told, some_added, none_added}
 use Rattle.pb_decode.proofs.GroupSteps.{unknown_group_means}
 use Rattle.pb_decode.proofs.GroupFills.{whole_told, whole_within, field_group_in_part, field_group_inside, field_group_over, unknown_group_in_part, unknown_group_inside, unknown_group_over, end_reached}
 use Rattle.pb_decode.proofs.ListedLemmas.{values_further, none_listed, list_further, message_listed, groups_further, group_further, first_tag}
@@ -420,25 +423,50 @@ entries::pair_in_turn-key_or_default-key-requires t c =
     let fills = subst (λ (z : Part). FillsTo c.args.pool.now (entry_part c.args.key_kind c.args.value_kind None None) z c.args.bytes.now c.args.size c.args.room c.args.size) (ap part_view c.in-Entry.is) (c.in_ok-fill_pair.ensures c.if-not-branch.false) in
     can_hold c.requires.rules (entry_part c.in-Entry.key_kind c.in-Entry.value_kind (option_map key_view c.in-Entry.key) (option_map value_view c.in-Entry.value)) (fills from.m from.depth from.levels from.at from.base from.p0 from.frames from.stands).1
 
-pub entries::pair_in_turn-returns-in-Entry : goal.entries::pair_in_turn-returns-in-Entry
-entries::pair_in_turn-returns-in-Entry t c = record {
-  key_kind = c.in-Entry.key_kind;
-  value_kind = c.in-Entry.value_kind;
-  own_key = option_map key_view c.in-Entry.key;
-  own_value = option_map value_view c.in-Entry.value;
-  filled = subst (λ (z : Part). FillsTo c.args.pool.now (entry_part c.args.key_kind c.args.value_kind None None) z c.args.bytes.now c.args.size c.args.room c.args.size) (ap part_view c.in-Entry.is) (c.in_ok-fill_pair.ensures c.if-not-branch.false);
-  key_is = c.key_or_default-key.ensures;
-  value_is = c.value_or_missing-value.ensures;
-}
+pub entries::pair_in_turn-returns-in_ok-push-in-Entry : goal.entries::pair_in_turn-returns-in_ok-push-in-Entry
+entries::pair_in_turn-returns-in_ok-push-in-Entry t c = (
+  (c.key_or_default-key.result, c.value_or_missing-value.result),
+  c.in_ok-push-in-Entry.ensures.items,
+  record {
+    key_kind = c.in-Entry.key_kind;
+    value_kind = c.in-Entry.value_kind;
+    own_key = option_map key_view c.in-Entry.key;
+    own_value = option_map value_view c.in-Entry.value;
+    filled = subst (λ (z : Part). FillsTo c.args.pool.now (entry_part c.args.key_kind c.args.value_kind None None) z c.args.bytes.now c.args.size c.args.room c.args.size) (ap part_view c.in-Entry.is) (c.in_ok-fill_pair.ensures c.if-not-branch.false);
+    key_is = c.key_or_default-key.ensures;
+    value_is = c.value_or_missing-value.ensures;
+  },
+)
 
-pub entries::entry_behind-direct_pair-requires : goal.entries::entry_behind-direct_pair-requires
-entries::entry_behind-direct_pair-requires t c =
+pub entries::push_pair-direct_pair-requires : goal.entries::push_pair-direct_pair-requires
+entries::push_pair-direct_pair-requires t c =
+    let less : 16 * length c.args.bytes.now + 9 < 16 * length c.args.bytes.now + 10 = omega arith in
+    (search (rules, less), (c.requires.rules, (c.requires.open, (c.requires.small, c.requires.whole))))
+
+pub entries::push_pair-pair_in_turn-requires : goal.entries::push_pair-pair_in_turn-requires
+entries::push_pair-pair_in_turn-requires t c =
+    let less : 16 * length c.args.bytes.now + 9 < 16 * length c.args.bytes.now + 10 = omega arith in
+    (search (rules, less), (c.requires.rules, (c.requires.open, (c.requires.small, c.requires.whole))))
+
+pub entries::push_pair-returns-in-Whole : goal.entries::push_pair-returns-in-Whole
+entries::push_pair-returns-in-Whole t c = pair_told _ _ c.in_ok-direct_pair.field-0 c.in-Whole.is c.in_ok-direct_pair.ensures
+
+pub entries::push_pair-returns-in-Refused : goal.entries::push_pair-returns-in-Refused
+entries::push_pair-returns-in-Refused t c = refused_told _ _ c.in_ok-direct_pair.field-0 c.in-Refused.is c.in_ok-direct_pair.ensures
+
+pub entries::push_pair-returns-in-Other : goal.entries::push_pair-returns-in-Other
+entries::push_pair-returns-in-Other t c =
+    none_put (HasPair c.args.pool.now c.args.key_kind c.args.value_kind c.args.bytes.now c.args.size c.args.room) c.args.entries.now.items c.direct_pair.new.entries.items c.pair_in_turn.new.entries.items c.pair_in_turn.result
+    (other_told _ _ c.in_ok-direct_pair.field-0 c.in-Other.is c.in_ok-direct_pair.ensures) c.pair_in_turn.ensures
+
+pub entries::entry_behind-push_pair-requires : goal.entries::entry_behind-push_pair-requires
+entries::entry_behind-push_pair-requires t c =
     let is = ap length (slice_from c.in-Some.start c.args.bytes.now) ∙ length-drop c.in-Some.start c.args.bytes.now in
     let small = c.requires.small in
     let some = c.requires.within.0 in
     let later = c.in-Some.ensures.within.0 in
     let within = c.in-Some.ensures.within.1 in
-    let less : 16 * length (take (length c.args.bytes.now - c.in-Some.start) (drop c.in-Some.start c.args.bytes.now)) + 9 < 16 * length c.args.bytes.now + 1 = omega (arith, is, some, later, within) in (
+    let less : 16 * length (take (length c.args.bytes.now - c.in-Some.start) (drop c.in-Some.start c.args.bytes.now)) + 10 < 16 * length c.args.bytes.now + 1 = omega (arith, is, some, later, within) in (
       search (rules, less),
       (
         c.requires.rules,
@@ -453,42 +481,16 @@ entries::entry_behind-direct_pair-requires t c =
 
 pub entries::entry_behind-returns-in-Whole-clause-put : goal.entries::entry_behind-returns-in-Whole-clause-put
 entries::entry_behind-returns-in-Whole-clause-put t c =
-    λ m depth levels at base p0 frames scope now stands level means.
-    let k = key_view c.in-Whole.key in
-    let v = value_view c.in-Whole.value in
-    let has = tag_of c.args.bytes.now c.args.left c.args.tag.number c.args.tag.wire_type c.args.tag.size c.args.number c.requires.bytes c.requires.own c.requires.tag in
-    let fills = whole_pair _ c.in_ok-key.field-0 c.in-Whole.key c.in-Whole.value c.in-Whole.is c.in_ok-key.ensures in
-    let read = entry_inside at c.args.left c.args.bytes.now c.args.number c.args.tag.size c.in-Some.start c.in-Some.size c.args.room c.args.key_kind c.args.value_kind c.requires.rules (scope, stands, level) (has at) (c.in-Some.ensures.whole at c.args.tag.number c.args.tag.wire_type (c.requires.tag at)) means c.requires.some fills refl in
-    entry_taken at c.args.left c.args.bytes.now c.args.number c.in-Some.start c.in-Some.size (c.args.room - 1) c.args.key_kind c.args.value_kind (Some k) (Some v) k v c.requires.rules stands read refl refl
-
-pub entries::entry_behind-pair_in_turn-requires : goal.entries::entry_behind-pair_in_turn-requires
-entries::entry_behind-pair_in_turn-requires t c =
-    let is = ap length (slice_from c.in-Some.start c.args.bytes.now) ∙ length-drop c.in-Some.start c.args.bytes.now in
-    let small = c.requires.small in
-    let some = c.requires.within.0 in
-    let later = c.in-Some.ensures.within.0 in
-    let within = c.in-Some.ensures.within.1 in
-    let less : 16 * length (take (length c.args.bytes.now - c.in-Some.start) (drop c.in-Some.start c.args.bytes.now)) + 9 < 16 * length c.args.bytes.now + 1 = omega (arith, is, some, later, within) in (
-      search (rules, less),
-      (
-        c.requires.rules,
-        (
-          entry_in_map c.args.bytes.now c.args.left c.args.number c.args.tag.size c.in-Some.start c.in-Some.size c.args.room c.args.key_kind c.args.value_kind c.requires.rules c.requires.open
-              (tag_of c.args.bytes.now c.args.left c.args.tag.number c.args.tag.wire_type c.args.tag.size c.args.number c.requires.bytes c.requires.own c.requires.tag)
-              (λ at. c.in-Some.ensures.whole at c.args.tag.number c.args.tag.wire_type (c.requires.tag at)) c.requires.some,
-          (omega (arith, is, small), search (rules, is)),
-        ),
-      ),
+    let told = pair_told _ _ c.in_ok-push_pair.field-0 c.in-Whole.is c.in_ok-push_pair.ensures in
+    let pair = told.0 in
+    let h = told.2 in (
+      pair,
+      told.1,
+      λ m depth levels at base p0 frames scope now stands level means.
+          let has = tag_of c.args.bytes.now c.args.left c.args.tag.number c.args.tag.wire_type c.args.tag.size c.args.number c.requires.bytes c.requires.own c.requires.tag in
+          let read = entry_inside at c.args.left c.args.bytes.now c.args.number c.args.tag.size c.in-Some.start c.in-Some.size c.args.room c.args.key_kind c.args.value_kind c.requires.rules (scope, stands, level) (has at) (c.in-Some.ensures.whole at c.args.tag.number c.args.tag.wire_type (c.requires.tag at)) means c.requires.some h.filled refl in
+          entry_taken at c.args.left c.args.bytes.now c.args.number c.in-Some.start c.in-Some.size (c.args.room - 1) h.key_kind h.value_kind h.own_key h.own_value (key_view pair.0) (value_view pair.1) c.requires.rules stands read h.key_is h.value_is,
     )
-
-pub entries::entry_behind-returns-in-Some-2-clause-put : goal.entries::entry_behind-returns-in-Some-2-clause-put
-entries::entry_behind-returns-in-Some-2-clause-put t c =
-    λ m depth levels at base p0 frames scope now stands level means.
-    let pair = c.in-Some-2.pair in
-    let has = tag_of c.args.bytes.now c.args.left c.args.tag.number c.args.tag.wire_type c.args.tag.size c.args.number c.requires.bytes c.requires.own c.requires.tag in
-    let h = told_of _ c.in_ok-pair-in-Other.field-0 pair c.in-Some-2.is c.in_ok-pair-in-Other.ensures in
-    let read = entry_inside at c.args.left c.args.bytes.now c.args.number c.args.tag.size c.in-Some.start c.in-Some.size c.args.room c.args.key_kind c.args.value_kind c.requires.rules (scope, stands, level) (has at) (c.in-Some.ensures.whole at c.args.tag.number c.args.tag.wire_type (c.requires.tag at)) means c.requires.some h.filled refl in
-    entry_taken at c.args.left c.args.bytes.now c.args.number c.in-Some.start c.in-Some.size (c.args.room - 1) h.key_kind h.value_kind h.own_key h.own_value (key_view pair.0) (value_view pair.1) c.requires.rules stands read h.key_is h.value_is
 
 -- ENTRY BY ENTRY the run goes on, and one stands behind it
 pub entries::read_entries-loop-here-init : goal.entries::read_entries-loop-here-init
@@ -522,12 +524,14 @@ entries::read_entries-entry_at-requires t c =
 pub entries::read_entries-loop-here-preserved : goal.entries::read_entries-loop-here-preserved
 entries::read_entries-loop-here-preserved t c =
     let size = ap length (slice_from c.loop-here.here c.args.bytes.now) ∙ length-drop c.loop-here.here c.args.bytes.now in
-    let used = told_of _ c.in_ok-entry.field-0 (c.in-Some.entry, c.in-Some.size) c.in-Some.is c.in_ok-entry.ensures.within in
+    let used = told_of _ c.in_ok-size.field-0 c.in-Some.size c.in-Some.is c.in_ok-size.ensures.within in
     let some = used.0 in
     let enough = used.1 in
     let within = c.loop-here.invariant.within in
     let few = c.loop-here.invariant.few in
-    let more = ap length c.in_ok-push.ensures.items ∙ size_next c.loop-here.entries.items c.in-Some.entry in
+    let added = some_added _ _ c.in_ok-size.field-0 c.in-Some.size c.in-Some.is c.in_ok-size.ensures.put in
+    let entry = added.0 in
+    let more = ap length added.1 ∙ size_next c.loop-here.entries.items entry in
     record {
       within = omega (arith, size, enough, within);
       few = omega (arith, few, more, some);
@@ -537,13 +541,20 @@ entries::read_entries-loop-here-preserved t c =
           let was = c.loop-here.invariant.put m depth levels at base p0 frames scope now stands level means in
           let behind = place_behind at c.args.left c.left_behind.result c.args.bytes.now c.loop-here.here c.left_behind.ensures in
           let here = subst (Stands c.args.pool.now m depth levels base p0 frames (put_all_mapped c.args.number (pairs_view items) now) (more_in c.args.number (length items) scope)) behind was.1 in
-          let told = told_of _ c.in_ok-entry.field-0 (c.in-Some.entry, c.in-Some.size) c.in-Some.is
-          (c.in_ok-entry.ensures.put m depth levels (at + c.loop-here.here) base p0 frames (more_in c.args.number (length items) scope) (put_all_mapped c.args.number (pairs_view items) now) here
-          (more_room c.args.number (length items) scope ∙ level) (means_along c.args.pool.now c.args.number c.args.number (pairs_view items) now c.args.key_kind c.args.value_kind means)) in
-          run_further scope now p c.loop-here.here c.in-Some.size c.args.number items c.push.new.self.items c.in-Some.entry c.in_ok-push.ensures.items was.0 told.0
-          (subst (Stands c.args.pool.now m depth levels base p0 frames (put_mapped c.args.number (key_view c.in-Some.entry.0, value_view c.in-Some.entry.1) (put_all_mapped c.args.number (pairs_view items) now)) (one_more_in c.args.number (more_in c.args.number (length items) scope)))
+          let told = added.2 m depth levels (at + c.loop-here.here) base p0 frames (more_in c.args.number (length items) scope) (put_all_mapped c.args.number (pairs_view items) now) here
+          (more_room c.args.number (length items) scope ∙ level) (means_along c.args.pool.now c.args.number c.args.number (pairs_view items) now c.args.key_kind c.args.value_kind means) in
+          run_further scope now p c.loop-here.here c.in-Some.size c.args.number items c.entry_at.new.entries.items entry added.1 was.0 told.0
+          (subst (Stands c.args.pool.now m depth levels base p0 frames (put_mapped c.args.number (key_view entry.0, value_view entry.1) (put_all_mapped c.args.number (pairs_view items) now)) (one_more_in c.args.number (more_in c.args.number (length items) scope)))
           (ap (λ (z : Place). passed z c.in-Some.size) (sym behind)) told.1);
     }
+
+pub entries::read_entries-returns-in_default-clause-put : goal.entries::read_entries-returns-in_default-clause-put
+entries::read_entries-returns-in_default-clause-put t c =
+    λ m depth levels at base p0 frames scope now stands level means.
+    subst
+    (λ (es : List (MapKey × Value)). FitMapped c.args.number (pairs_view es) now
+    × Stands c.args.pool.now m depth levels base p0 frames (put_all_mapped c.args.number (pairs_view es) now) (more_in c.args.number (length es) scope) (passed (given_at at c.args.left c.args.bytes.now) c.loop-here.here))
+    (sym (none_added _ _ c.in_ok-size.field-0 c.in_default.is c.in_ok-size.ensures.put)) (c.loop-here.invariant.put m depth levels at base p0 frames scope now stands level means)
 
 -- THE RUN goes into its map
 pub entries::fill_entries-read_entries-requires : goal.entries::fill_entries-read_entries-requires
@@ -736,19 +747,22 @@ direct_pair::pair_with_message-fill-requires t c =
       ),
     )
 
-pub direct_pair::pair_with_message-returns-in-Message : goal.direct_pair::pair_with_message-returns-in-Message
-direct_pair::pair_with_message-returns-in-Message t c =
-    λ m depth levels at base p0 frames there.
-    let bytes = c.args.bytes.now in
-    let start = c.in-Some-length_behind.start in
-    let number = c.in-Some.tag.number in
-    let old : Part = entry_part c.args.key_kind c.args.value_kind (Some (key_view c.args.key)) None in
-    let new : Part = entry_part c.args.key_kind c.args.value_kind (Some (key_view c.args.key)) (Some (value_view (value.Message c.in-Message.body))) in
-    let has = typed_tag bytes (Some c.args.left) number c.in-Some.tag.wire_type 2 c.in-Some.tag.size c.if-tag-ne2.false c.in-Some.ensures.whole in
-    let read = message_inside at (Some c.args.left) bytes number c.in-Some.tag.size start c.in-Some-length_behind.size c.args.room c.args.room c.args.message_type slot.Entry old (body_view c.empty_body.result) c.requires.rules there refl (has at) (c.in-Some-length_behind.ensures.whole at number c.in-Some.tag.wire_type (c.in-Some.ensures.whole at)) (c.requires.message, c.in-Some.ensures.own.0, sym c.if-tag-ne2.false ∙ c.in-Some.ensures.own.1) (λ deep. absurd (false≢true deep)) refl c.empty_body.ensures (c.in_ok-fill.ensures c.if-not-branch.false) (ap part_view c.in-Message.is) in
-    subst (λ (z : ℕ). StandsIn c.args.pool.now m depth levels base p0 frames c.args.room new (passed (given_at at (Some c.args.left) bytes) z)) c.if-start-size.false
-    (message_over at c.args.left bytes number start c.in-Some-length_behind.size c.args.room c.args.room c.in-Message._kind.0 slot.Entry (body_view c.in-Message.body) new there.1 there.2 read
-    (ap (λ (d : Datum). entry_part c.args.key_kind c.args.value_kind (Some (key_view c.args.key)) (Some d)) (value_view-Message c.in-Message.body)))
+pub direct_pair::pair_with_message-returns-in_ok-push-in-Message : goal.direct_pair::pair_with_message-returns-in_ok-push-in-Message
+direct_pair::pair_with_message-returns-in_ok-push-in-Message t c = (
+  (c.args.key, value.Message c.in-Message.body),
+  c.in_ok-push-in-Message.ensures.items,
+  λ m depth levels at base p0 frames there.
+      let bytes = c.args.bytes.now in
+      let start = c.in-Some-length_behind.start in
+      let number = c.in-Some.tag.number in
+      let old : Part = entry_part c.args.key_kind c.args.value_kind (Some (key_view c.args.key)) None in
+      let new : Part = entry_part c.args.key_kind c.args.value_kind (Some (key_view c.args.key)) (Some (value_view (value.Message c.in-Message.body))) in
+      let has = typed_tag bytes (Some c.args.left) number c.in-Some.tag.wire_type 2 c.in-Some.tag.size c.if-tag-ne2.false c.in-Some.ensures.whole in
+      let read = message_inside at (Some c.args.left) bytes number c.in-Some.tag.size start c.in-Some-length_behind.size c.args.room c.args.room c.args.message_type slot.Entry old (body_view c.empty_body.result) c.requires.rules there refl (has at) (c.in-Some-length_behind.ensures.whole at number c.in-Some.tag.wire_type (c.in-Some.ensures.whole at)) (c.requires.message, c.in-Some.ensures.own.0, sym c.if-tag-ne2.false ∙ c.in-Some.ensures.own.1) (λ deep. absurd (false≢true deep)) refl c.empty_body.ensures (c.in_ok-fill.ensures c.if-not-branch.false) (ap part_view c.in-Message.is) in
+      subst (λ (z : ℕ). StandsIn c.args.pool.now m depth levels base p0 frames c.args.room new (passed (given_at at (Some c.args.left) bytes) z)) c.if-start-size.false
+      (message_over at c.args.left bytes number start c.in-Some-length_behind.size c.args.room c.args.room c.in-Message._kind.0 slot.Entry (body_view c.in-Message.body) new there.1 there.2 read
+      (ap (λ (d : Datum). entry_part c.args.key_kind c.args.value_kind (Some (key_view c.args.key)) (Some d)) (value_view-Message c.in-Message.body))),
+)
 
 -- A KEY, and what is behind it
 pub direct_pair::direct_pair-pair_with_message-requires : goal.direct_pair::direct_pair-pair_with_message-requires
@@ -774,10 +788,10 @@ direct_pair::direct_pair-pair_with_message-requires t c =
 
 pub direct_pair::direct_pair-returns-in-Some-message : goal.direct_pair::direct_pair-returns-in-Some-message
 direct_pair::direct_pair-returns-in-Some-message t c =
-    pair_further (key_view c.in-Some.key) c.args.bytes.now c.args.size c.args.room c.in-Some.used c.pair_with_message.result c.if-used-size.false
+    pair_further (key_view c.in-Some.key) c.args.bytes.now c.args.size c.args.room c.in-Some.used c.args.entries.now.items c.pair_with_message.new.entries.items c.pair_with_message.result c.if-used-size.false
     (told_of _ c.in_ok-read.read (c.in-Some.key, c.in-Some.used) c.in-Some.is c.in_ok-read.ensures.filled) c.pair_with_message.ensures
 
 pub direct_pair::direct_pair-returns-in-None : goal.direct_pair::direct_pair-returns-in-None
 direct_pair::direct_pair-returns-in-None t c =
-    pair_further (key_view c.in-Some.key) c.args.bytes.now c.args.size c.args.room c.in-Some.used c.pair_with_scalar.result c.if-used-size.false
+    pair_further (key_view c.in-Some.key) c.args.bytes.now c.args.size c.args.room c.in-Some.used c.args.entries.now.items c.pair_with_scalar.new.entries.items c.pair_with_scalar.result c.if-used-size.false
     (told_of _ c.in_ok-read.read (c.in-Some.key, c.in-Some.used) c.in-Some.is c.in_ok-read.ensures.filled) c.pair_with_scalar.ensures

@@ -98,6 +98,9 @@ decreases-entries::entry_at l = 16 * length l.bytes.now + 2
 abbrev pub decreases-entries::entry_behind : goal.decreases-entries::entry_behind
 decreases-entries::entry_behind l = 16 * length l.bytes.now + 1
 
+abbrev pub decreases-entries::push_pair : goal.decreases-entries::push_pair
+decreases-entries::push_pair l = 16 * length l.bytes.now + 10
+
 abbrev pub decreases-entries::pair_in_turn : goal.decreases-entries::pair_in_turn
 decreases-entries::pair_in_turn l = 16 * length l.bytes.now + 9
 

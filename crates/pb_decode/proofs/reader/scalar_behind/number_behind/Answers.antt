@@ -1,50 +1,11 @@
--- The number's value goes where its record is for, and one stands behind it.
-use Rattle.std.proofs.Common.{◌≡◌, ℕ, ◌+◌, Some, option_map, sym, ap, ◌∙◌, arith, length, length-drop}
-use Rattle.pb_wire.specs.Fault.{Place}
-use Rattle.pb_wire.specs.Token.{given_at}
-use Rattle.pb_value.specs.Data.{scalar}
+-- The value of the number is what the number stands for.
+use Rattle.std.proofs.Common.{option_map, sym, ap, ◌∙◌}
+use Rattle.pb_schema.specs.Kinds.{read}
 use Rattle.pb_value.specs.View.{value_view}
-use Rattle.pb_decode.specs.Open.Frames.{one_more_in}
-use Rattle.pb_decode.specs.Tokens.After.{tag}
 use Rattle.pb_decode.specs.Tokens.Number.{number_view}
-use Rattle.pb_decode.specs.Tokens.Numbers.{Follows}
-use Rattle.pb_decode.specs.Values.Put.{put_datum}
-use Rattle.pb_decode.proofs.ReaderLemmas.{slice_from}
-use Rattle.pb_decode.proofs.QuickLemmas.{there_behind, number_next}
-use Rattle.pb_decode.proofs.NumberSteps.{meant_type, read_some, number_put}
-use Rattle.pb_decode.proofs.WellLemmas.{can_hold}
+use Rattle.pb_decode.proofs.PairLemmas.{value_told}
 use Rattle.pb_decode.proofs.reader.scalar_behind.number_behind.Goals as goal
 
-pub overflow_add-result : goal.overflow_add-result
-overflow_add-result c =
-    let is = ap length (slice_from c.args.tag.size c.args.bytes.now) ∙ length-drop c.args.tag.size c.args.bytes.now in
-    let behind = (c.in-Whole.ensures 0).1 in
-    let within = c.requires.within in
-    let small = c.requires.small in
-    omega (arith, is, behind, within, small)
-
-pub returns-in-Some-clause-within : goal.returns-in-Some-clause-within
-returns-in-Some-clause-within c =
-    let is = ap length (slice_from c.args.tag.size c.args.bytes.now) ∙ length-drop c.args.tag.size c.args.bytes.now in
-    let behind = (c.in-Whole.ensures 0).1 in
-    let within = c.requires.within in
-    (omega arith, omega (arith, is, behind, within))
-
-pub returns-in-Some-clause-put : goal.returns-in-Some-clause-put
-returns-in-Some-clause-put c =
-    λ room now meant of means m depth levels at base p0 frames there.
-    let pool = c.args.pool.now in
-    let number = c.args.tag.number in
-    let p : Place = given_at at (Some c.args.left) c.args.bytes.now in
-    let told = c.in-Whole.ensures (at + c.args.tag.size) in
-    let value = read_some c.args.kind c.in-Whole.number (told.0 ∙ meant_type pool now number c.args.tag.wire_type meant c.args.kind means of) in
-    let both : Some (value_view c.in-Some.value) ≡ Some (scalar value.0) = sym (ap (option_map value_view) c.in-Some.is) ∙ c.number_value.ensures ∙ ap (option_map scalar) value.1 in
-    let same : value_view c.in-Some.value ≡ scalar value.0 = cc in
-    let follows =
-    there_behind (λ (q r : Place). Follows q (number_view c.in-Whole.number) r) at (Some c.args.left) c.left_behind-behind.result c.args.bytes.now c.args.tag.size c.in-Whole.size c.left_behind-behind.ensures told.2 in
-    let next = number_next number c.args.tag.wire_type meant c.requires.number there.1 (c.requires.tag at) means in (
-      one_more_in number there.0,
-      number_put number c.in-Whole.number meant c.args.kind next.2 (next.1 ∙ ap (λ (z : ℕ). Some (tag number z meant)) (sym told.0)) of value.0 (put_datum pool number meant now (value_view c.in-Some.value)) c.requires.rules
-          (can_hold c.requires.rules now there.1) value.1 (sym c.is_undeclared.ensures ∙ c.if-is_undeclared.false) follows (ap (put_datum pool number meant now) same),
-      there.2,
-    )
+pub returns-in-Some-number_value-clause-put : goal.returns-in-Some-number_value-clause-put
+returns-in-Some-number_value-clause-put c =
+    value_told c.args.kind c.args.tag.number c.args.tag.wire_type c.args.left c.in-Some.size c.args.bytes.now (value_view c.in-Some-number_value.value) (read c.args.kind (number_view c.in-Some.number)) (sym (ap (option_map value_view) c.in-Some-number_value.is) ∙ c.number_value.ensures) c.in-Some.ensures.put
