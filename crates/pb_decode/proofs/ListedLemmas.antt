@@ -3,9 +3,7 @@ use Rattle.std.proofs.Common.{◌≡◌, ℕ, ◌+◌, ◌-◌, List, [], ◌∷
 use Rattle.std.proofs.lemmas.List.{map-append}
 use Rattle.pb_schema.specs.declared.types.Kind.{Kind}
 use Rattle.pb_schema.specs.declared.types.MessageId.{MessageId}
-use Rattle.pb_schema.specs.declared.types.Shape.{Shape}
-use Rattle.pb_schema.specs.declared.types.Shape.TheVariants as shape
-use Rattle.pb_schema.specs.Types.{FieldView, Types, message_fields, field_numbered}
+use Rattle.pb_schema.specs.Types.{Types}
 use Rattle.pb_schema.specs.Kinds.{wire_type_of}
 use Rattle.pb_schema.specs.Context.{Context}
 use Rattle.pb_value.specs.Data.{Datum, message, Message as MessageOf}
@@ -18,7 +16,7 @@ use Rattle.pb_decode.specs.declared.open.part.Slot.TheVariants.{List as ListSlot
 use Rattle.pb_decode.specs.declared.open.purpose.Purpose.{Purpose}
 use Rattle.pb_decode.specs.declared.open.purpose.Purpose.TheVariants.{Element, Message}
 use Rattle.pb_decode.specs.Open.Frames.{Part, message_part, entry_part, group_part, put_message}
-use Rattle.pb_decode.specs.Open.Purposes.{OfShape, AtField, Means, part_context}
+use Rattle.pb_decode.specs.Open.Purposes.{Means, part_context}
 use Rattle.pb_decode.specs.Values.Run.{put_listed, put_each}
 use Rattle.pb_decode.specs.Reader.Fills.{IsOpen, HasTagAt, FillsTo}
 use Rattle.pb_decode.specs.Reader.Listed.{FillsRun, FillsList, IsListOpen}

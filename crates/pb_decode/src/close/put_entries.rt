@@ -18,9 +18,8 @@ use pb_value::{Body, Content, MapKey, Value};
 use std::alloc::{AllocError, Global};
 use std::collections::BTreeMap;
 
-/// So many entries are sorted, and made a map of their own. Fewer cost less one by one, and a run is looked for where there may be
-/// as many.
-pub(crate) const MANY: usize = 16;
+/// So many entries are sorted, and made a map of their own. Fewer cost less one by one.
+const MANY: usize = 16;
 
 /// Puts entries into a map, one by one.
 fn insert_each(

@@ -15,7 +15,7 @@ use super::entries_ahead::entries_ahead;
 use super::fill_entry;
 use super::pairs::fill_pair;
 use crate::close::closing::{key_or_default, value_or_missing};
-use crate::close::put_entries::{MANY, put_entries};
+use crate::close::put_entries::put_entries;
 use crate::error::NoMemory;
 use crate::open::part::Part;
 use crate::reader::quick_record::length_behind;
@@ -248,7 +248,10 @@ fn has_left(left: Option<u32>, size: usize) -> bool {
     }
 }
 
-/// Whether many entries seem to stand here: the record behind the first has the same tag, and there are bytes for many more
+/// A run is looked for where there are bytes for so many entries as long as the first.
+const FEW: usize = 2;
+
+/// Whether a run of entries seems to stand here: the record behind the first has the same tag, and there are bytes for another
 /// before the known end.
 pub(crate) fn is_run(tag_size: usize, bytes: &[u8], left: Option<u32>) -> bool
     requires within { tag_size ≤ length bytes.now }
@@ -258,7 +261,7 @@ pub(crate) fn is_run(tag_size: usize, bytes: &[u8], left: Option<u32>) -> bool
         return false;
     };
     let end = start + size as usize;
-    if end < LEAST || bytes.len() < MANY * end || !has_left(left, MANY * end) {
+    if end < LEAST || bytes.len() < FEW * end || !has_left(left, FEW * end) {
         return false;
     }
     bytes[end..].starts_with(&bytes[..tag_size])
