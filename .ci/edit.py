@@ -11,7 +11,7 @@ EDITS = f"{TOP}/.ci/edits"
 # A proof file that names what an edit took away, and what cites that proof: by itself it says little of a contract.
 TAKEN_AWAY = re.compile(r"(\./)?proofs/.*(has no field|is not in scope|has no `|was not admitted)")
 # The head of a function, and that of an `impl` with its trait, if any, and its type.
-HEAD = re.compile(r"( *)(?:pub(?:\(crate\))? )?(?:const )?fn (\w+)")
+HEAD = re.compile(r"( *)(?:pub(?:\((?:crate|super)\))? )?(?:const )?fn (\w+)")
 IMPL = re.compile(r"impl(?:<.*?>)? (?:(?:\w+::)*(\w+).*? for )?(?:\w+::)*(\w+)")
 
 

@@ -12,7 +12,7 @@
  * - malloc, realloc and free come from one allocator, which is ready (no call from a signal handler, nor in the child of a fork of a process
  *   with threads).
  *
- * A call prints nothing, has no state but what its handles hold, and always returns: it never aborts. It needs up to 450 KB of stack, for what nests
+ * A call prints nothing, has no state but what its handles hold, and always returns: it never aborts. It needs up to 500 KB of stack, for what nests
  * 100 deep (docs/C.md). What a call does not answer by its number it does not write: out-parameters are as they were.
  */
 #ifndef MABRISTU_H

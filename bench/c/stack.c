@@ -1,6 +1,6 @@
 /* How much stack each call takes: stack SET. Each is made in a thread of its own, whose stack was painted before. The messages and groups nest 100
  * deep, as deep as they may, and the sources 64 deep. In the maps each map has seventeen entries, the last with the next map in its value; in the
- * lone entries each map has one. */
+ * lone entries each map has one. In the turned ones the value stands before its key, where the next map is in it. */
 #define _GNU_SOURCE
 #include "mabristu.h"
 
@@ -16,8 +16,9 @@ enum { DEPTH = 100, STACK = 4 << 20 };
 
 static struct mb_pool pool;
 static uint32_t type;
-static uint8_t groups[2 * DEPTH], nested[8 * DEPTH], framed[8 * DEPTH + 2], maps[1 << 15], lone[16 * DEPTH], set[1 << 20], out[1 << 16];
-static size_t nested_len, framed_len, maps_len, lone_len, set_len;
+static uint8_t groups[2 * DEPTH], nested[8 * DEPTH], framed[8 * DEPTH + 2], maps[1 << 15], lone[16 * DEPTH];
+static uint8_t turned[1 << 15], turned_lone[16 * DEPTH], set[1 << 20], out[1 << 16];
+static size_t nested_len, framed_len, maps_len, lone_len, turned_len, turned_lone_len, set_len;
 static char source[1 << 14];
 static struct mb_bytes name = {(const uint8_t *)"a.proto", 7}, text;
 
@@ -42,6 +43,10 @@ static uint32_t check_lone(void) { return mb_check(&pool, type, lone, lone_len, 
 static uint32_t check_lone_cut(void) { return mb_check(&pool, type, lone, lone_len - 1, LIMITS, FAULT); }
 static uint32_t show_lone(void) { return mb_show(&pool, type, lone, lone_len, LIMITS, OUT, FAULT); }
 static uint32_t canon_lone(void) { return mb_canon(&pool, type, lone, lone_len, LIMITS, OUT, FAULT); }
+static uint32_t check_turned(void) { return mb_check(&pool, type, turned, turned_len, LIMITS, FAULT); }
+static uint32_t check_turned_cut(void) { return mb_check(&pool, type, turned, turned_len - 1, LIMITS, FAULT); }
+static uint32_t show_turned(void) { return mb_show(&pool, type, turned, turned_len, LIMITS, OUT, FAULT); }
+static uint32_t check_turned_lone(void) { return mb_check(&pool, type, turned_lone, turned_lone_len, LIMITS, FAULT); }
 static uint32_t check_groups(void) { return mb_check(&pool, type, groups, sizeof groups, LIMITS, FAULT); }
 static uint32_t canon(void) { return mb_canon(&pool, type, nested, nested_len, LIMITS, OUT, FAULT); }
 static uint32_t show(void) { return mb_show(&pool, type, nested, nested_len, LIMITS, OUT, FAULT); }
@@ -75,6 +80,8 @@ static const struct { const char *name; uint32_t (*call)(void); } calls[] = {
     {"mb_pool_type", find}, {"mb_check", check}, {"mb_check of a message that is cut off", check_cut}, {"mb_check of unknown groups", check_groups},
     {"mb_check of maps", check_maps}, {"mb_show of maps", show_maps}, {"mb_check of lone entries", check_lone},
     {"mb_check of lone entries that are cut off", check_lone_cut}, {"mb_show of lone entries", show_lone}, {"mb_canon of lone entries", canon_lone},
+    {"mb_check of turned maps", check_turned}, {"mb_check of turned maps that are cut off", check_turned_cut},
+    {"mb_show of turned maps", show_turned}, {"mb_check of turned lone entries", check_turned_lone},
     {"mb_canon", canon}, {"mb_show", show}, {"mb_frames", frames},
 };
 
@@ -95,6 +102,18 @@ static size_t wrap(uint8_t *at, size_t len, uint8_t tag)
         front[size++] = (uint8_t)(left | 128);
     front[size++] = (uint8_t)left;
     return put(at, len, front, size);
+}
+
+/* An entry of a value, with a key before it, or behind it. */
+static size_t key_before(uint8_t *at, size_t len)
+{
+    return wrap(at, put(at, len, "\x0a\x01z", 3), 0x12);
+}
+
+static size_t key_behind(uint8_t *at, size_t len)
+{
+    memcpy(at + len, "\x0a\x01z", 3);
+    return wrap(at, len + 3, 0x12);
 }
 
 static void *work(void *call)
@@ -121,16 +140,15 @@ int main(int argc, char **argv)
     memcpy(framed + 2, nested, nested_len);
     framed_len = nested_len + 2;
     for (int i = 0; i < DEPTH; i++) {
-        lone_len = wrap(lone, lone_len, 0x12);
-        lone_len = put(lone, lone_len, "\x0a\x01z", 3);
-        lone_len = wrap(lone, lone_len, 0x12);
-        maps_len = wrap(maps, maps_len, 0x12);
-        maps_len = put(maps, maps_len, "\x0a\x01z", 3);
-        maps_len = wrap(maps, maps_len, 0x12);
+        lone_len = key_before(lone, wrap(lone, lone_len, 0x12));
+        maps_len = key_before(maps, wrap(maps, maps_len, 0x12));
+        turned_len = key_behind(turned, wrap(turned, turned_len, 0x12));
+        turned_lone_len = key_behind(turned_lone, wrap(turned_lone, turned_lone_len, 0x12));
         for (int k = 0; k < 16; k++) {
             char entry[] = "\x12\x0a\x0a\x08key-0000";
             entry[10] = (char)('a' + k);
             maps_len = put(maps, maps_len, entry, 12);
+            turned_len = put(turned, turned_len, entry, 12);
         }
     }
     at += sprintf(at, "syntax = \"proto3\"; message T { T a = 1; map<string, T> m = 2; } ");
