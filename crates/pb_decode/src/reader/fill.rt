@@ -14,7 +14,6 @@ mod entries_ahead;
 pub(crate) mod group;
 mod groups;
 mod messages;
-mod pairs;
 
 use crate::close::closing::put_entry;
 use crate::close::put::put_message;
@@ -25,7 +24,6 @@ use crate::open::purpose::{Purpose, purpose_of};
 use crate::reader::fill::entries::fill_entries;
 use crate::reader::fill::group::{Extent, fill_group};
 use crate::reader::fill::messages::fill_messages;
-use crate::reader::fill::pairs::fill_pair;
 use crate::reader::fill_run::fill_run;
 use crate::reader::quick_record::length_behind;
 use crate::reader::state::number_at;
@@ -253,7 +251,7 @@ fn fill_entry(
         key: None,
         value: None,
     };
-    if !fill_pair(alloc, pool, &mut entry, &bytes[start..], size, room - 1)? {
+    if !fill(alloc, pool, &mut entry, &bytes[start..], size, room - 1)? {
         return Ok(None);
     }
     match entry {

@@ -12,8 +12,7 @@ ghost use Rattle.pb_decode.specs.Reader.Pairs.{AddsPair};
 
 use super::direct_pair::{Pair, direct_pair};
 use super::entries_ahead::entries_ahead;
-use super::fill_entry;
-use super::pairs::fill_pair;
+use super::{fill, fill_entry};
 use crate::close::closing::{key_or_default, value_or_missing};
 use crate::close::put_entries::put_entries;
 use crate::error::NoMemory;
@@ -52,7 +51,7 @@ fn pair_in_turn(
         key: None,
         value: None,
     };
-    if !fill_pair(alloc, pool, &mut entry, bytes, size, room)? {
+    if !fill(alloc, pool, &mut entry, bytes, size, room)? {
         return Ok(Pair::Refused);
     }
     match entry {

@@ -73,8 +73,8 @@ pub fill_length-purpose_of-purpose-requires : goal.fill_length-purpose_of-purpos
 fill_length-purpose_of-purpose-requires t c = open_can c.requires.rules c.requires.open
 
 -- THE ENTRY
-pub fill_entry-fill_pair-requires : goal.fill_entry-fill_pair-requires
-fill_entry-fill_pair-requires t c =
+pub fill_entry-fill-requires : goal.fill_entry-fill-requires
+fill_entry-fill-requires t c =
     let level = c.if-room-eq0.false in
     let is = ap length (slice_from c.in-Some.start c.args.bytes.now) ∙ length-drop c.in-Some.start c.args.bytes.now in
     let small = c.requires.small in
@@ -82,7 +82,7 @@ fill_entry-fill_pair-requires t c =
     let some = c.requires.some in
     let later = c.in-Some.ensures.within.0 in
     let within = c.in-Some.ensures.within.1 in
-    let less : 16 * length (take (length c.args.bytes.now - c.in-Some.start) (drop c.in-Some.start c.args.bytes.now)) + 8 < 16 * length c.args.bytes.now + 3 = omega (arith, is, some, later, within) in (
+    let less : 16 * length (take (length c.args.bytes.now - c.in-Some.start) (drop c.in-Some.start c.args.bytes.now)) + 7 < 16 * length c.args.bytes.now + 3 = omega (arith, is, some, later, within) in (
       search (rules, less),
       (
         c.requires.rules,
@@ -99,7 +99,7 @@ fill_entry-put_entry-requires-clause-key t c =
     let level = c.if-room-eq0.false in
     let from = c.requires.open in
     let has = typed_tag c.args.bytes.now (Some c.args.left) c.args.tag.number c.args.tag.wire_type 2 c.args.tag.size c.requires.bytes c.requires.tag in
-    let read = entry_inside from.at (Some c.args.left) c.args.bytes.now c.args.tag.number c.args.tag.size c.in-Some.start c.in-Some.size c.args.room c.args.key_kind c.args.value_kind c.requires.rules from.stands (has from.at) (c.in-Some.ensures.whole from.at c.args.tag.number c.args.tag.wire_type (c.requires.tag from.at)) c.requires.means (omega (arith, level)) (c.in_ok-fill_pair.ensures c.if-not-branch.false) (ap part_view c.in-Entry.is) in
+    let read = entry_inside from.at (Some c.args.left) c.args.bytes.now c.args.tag.number c.args.tag.size c.in-Some.start c.in-Some.size c.args.room c.args.key_kind c.args.value_kind c.requires.rules from.stands (has from.at) (c.in-Some.ensures.whole from.at c.args.tag.number c.args.tag.wire_type (c.requires.tag from.at)) c.requires.means (omega (arith, level)) (c.in_ok-fill.ensures c.if-not-branch.false) (ap part_view c.in-Entry.is) in
     can_hold c.requires.rules (entry_part c.in-Entry.key_kind c.in-Entry.value_kind (option_map key_view c.in-Entry.key) (option_map value_view c.in-Entry.value)) read.1
 
 pub fill_entry-put_entry-requires-clause-fits : goal.fill_entry-put_entry-requires-clause-fits
@@ -107,7 +107,7 @@ fill_entry-put_entry-requires-clause-fits t c =
     let level = c.if-room-eq0.false in
     let from = c.requires.open in
     let has = typed_tag c.args.bytes.now (Some c.args.left) c.args.tag.number c.args.tag.wire_type 2 c.args.tag.size c.requires.bytes c.requires.tag in
-    let read = entry_inside from.at (Some c.args.left) c.args.bytes.now c.args.tag.number c.args.tag.size c.in-Some.start c.in-Some.size c.args.room c.args.key_kind c.args.value_kind c.requires.rules from.stands (has from.at) (c.in-Some.ensures.whole from.at c.args.tag.number c.args.tag.wire_type (c.requires.tag from.at)) c.requires.means (omega (arith, level)) (c.in_ok-fill_pair.ensures c.if-not-branch.false) (ap part_view c.in-Entry.is) in
+    let read = entry_inside from.at (Some c.args.left) c.args.bytes.now c.args.tag.number c.args.tag.size c.in-Some.start c.in-Some.size c.args.room c.args.key_kind c.args.value_kind c.requires.rules from.stands (has from.at) (c.in-Some.ensures.whole from.at c.args.tag.number c.args.tag.wire_type (c.requires.tag from.at)) c.requires.means (omega (arith, level)) (c.in_ok-fill.ensures c.if-not-branch.false) (ap part_view c.in-Entry.is) in
     entry_has_room c.requires.rules c.in-Entry.key_kind c.in-Entry.value_kind (option_map key_view c.in-Entry.key) (option_map value_view c.in-Entry.value) read.1
 
 pub fill_entry-returns-in_ok-put_entry-in-Entry-clause-filled : goal.fill_entry-returns-in_ok-put_entry-in-Entry-clause-filled
@@ -115,7 +115,7 @@ fill_entry-returns-in_ok-put_entry-in-Entry-clause-filled t c =
     λ m depth levels at base p0 frames there.
     let level = c.if-room-eq0.false in
     let has = typed_tag c.args.bytes.now (Some c.args.left) c.args.tag.number c.args.tag.wire_type 2 c.args.tag.size c.requires.bytes c.requires.tag in
-    let read = entry_inside at (Some c.args.left) c.args.bytes.now c.args.tag.number c.args.tag.size c.in-Some.start c.in-Some.size c.args.room c.args.key_kind c.args.value_kind c.requires.rules there (has at) (c.in-Some.ensures.whole at c.args.tag.number c.args.tag.wire_type (c.requires.tag at)) c.requires.means (omega (arith, level)) (c.in_ok-fill_pair.ensures c.if-not-branch.false) (ap part_view c.in-Entry.is) in
+    let read = entry_inside at (Some c.args.left) c.args.bytes.now c.args.tag.number c.args.tag.size c.in-Some.start c.in-Some.size c.args.room c.args.key_kind c.args.value_kind c.requires.rules there (has at) (c.in-Some.ensures.whole at c.args.tag.number c.args.tag.wire_type (c.requires.tag at)) c.requires.means (omega (arith, level)) (c.in_ok-fill.ensures c.if-not-branch.false) (ap part_view c.in-Entry.is) in
     entry_over at c.args.left c.args.bytes.now c.args.tag.number c.in-Some.start c.in-Some.size c.args.room (c.args.room - 1) c.in-Entry.key_kind c.in-Entry.value_kind (option_map key_view c.in-Entry.key) (option_map value_view c.in-Entry.value) (part_view c.put_entry.new.outer) there.1 there.2 read
     c.in_ok-put_entry-in-Entry.ensures
 
@@ -412,15 +412,15 @@ group::fill_to_tag-returns-then-tag-number-clause-filled t c =
     (end_reached (part_view c.args.part.now) (part_view c.loop-tag.part) c.args.bytes.now c.args.left c.args.room c.in-Some.tag.number c.in-Some.tag.wire_type c.loop-tag.here c.saturating_sub-before.result c.in-Some.tag.size c.loop-tag.invariant.filled ends c.saturating_sub-before.ensures c.in-Some.ensures.whole)
 
 -- AN ENTRY OF A RUN is a key and a value in turn, or is filled as where it is open, and what it closes to is its key and its value
-pub entries::pair_in_turn-fill_pair-requires : goal.entries::pair_in_turn-fill_pair-requires
-entries::pair_in_turn-fill_pair-requires t c =
-    let less : 16 * length c.args.bytes.now + 8 < 16 * length c.args.bytes.now + 9 = omega arith in
+pub entries::pair_in_turn-fill-requires : goal.entries::pair_in_turn-fill-requires
+entries::pair_in_turn-fill-requires t c =
+    let less : 16 * length c.args.bytes.now + 7 < 16 * length c.args.bytes.now + 9 = omega arith in
     (search (rules, less), (c.requires.rules, (c.requires.open, (c.requires.small, c.requires.whole))))
 
 pub entries::pair_in_turn-key_or_default-key-requires : goal.entries::pair_in_turn-key_or_default-key-requires
 entries::pair_in_turn-key_or_default-key-requires t c =
     let from = c.requires.open in
-    let fills = subst (λ (z : Part). FillsTo c.args.pool.now (entry_part c.args.key_kind c.args.value_kind None None) z c.args.bytes.now c.args.size c.args.room c.args.size) (ap part_view c.in-Entry.is) (c.in_ok-fill_pair.ensures c.if-not-branch.false) in
+    let fills = subst (λ (z : Part). FillsTo c.args.pool.now (entry_part c.args.key_kind c.args.value_kind None None) z c.args.bytes.now c.args.size c.args.room c.args.size) (ap part_view c.in-Entry.is) (c.in_ok-fill.ensures c.if-not-branch.false) in
     can_hold c.requires.rules (entry_part c.in-Entry.key_kind c.in-Entry.value_kind (option_map key_view c.in-Entry.key) (option_map value_view c.in-Entry.value)) (fills from.m from.depth from.levels from.at from.base from.p0 from.frames from.stands).1
 
 pub entries::pair_in_turn-returns-in_ok-push-in-Entry : goal.entries::pair_in_turn-returns-in_ok-push-in-Entry
@@ -432,7 +432,7 @@ entries::pair_in_turn-returns-in_ok-push-in-Entry t c = (
     value_kind = c.in-Entry.value_kind;
     own_key = option_map key_view c.in-Entry.key;
     own_value = option_map value_view c.in-Entry.value;
-    filled = subst (λ (z : Part). FillsTo c.args.pool.now (entry_part c.args.key_kind c.args.value_kind None None) z c.args.bytes.now c.args.size c.args.room c.args.size) (ap part_view c.in-Entry.is) (c.in_ok-fill_pair.ensures c.if-not-branch.false);
+    filled = subst (λ (z : Part). FillsTo c.args.pool.now (entry_part c.args.key_kind c.args.value_kind None None) z c.args.bytes.now c.args.size c.args.room c.args.size) (ap part_view c.in-Entry.is) (c.in_ok-fill.ensures c.if-not-branch.false);
     key_is = c.key_or_default-key.ensures;
     value_is = c.value_or_missing-value.ensures;
   },
@@ -686,44 +686,6 @@ pub messages::fill_messages-returns-clause-filled : goal.messages::fill_messages
 messages::fill_messages-returns-clause-filled t c =
     subst (λ (z : Part). FillsTo c.args.pool.now (part_view c.args.part.now) z c.args.bytes.now c.args.left c.args.room c.in-Some.used) (sym c.in_ok-put_elements.ensures)
     (told_of _ c.in_ok-messages.field-0 (c.in-Some.messages, c.in-Some.used) c.in-Some.is c.in_ok-messages.ensures.put (part_view c.args.part.now) c.requires.means)
-
--- RECORD BY RECORD an entry is filled
-pub pairs::fill_pair-loop-here-init : goal.pairs::fill_pair-loop-here-init
-pairs::fill_pair-loop-here-init t c = record {
-  within = omega arith;
-  filled = nothing_filled (part_view c.args.part.now) c.args.bytes.now c.args.size c.args.room;
-}
-
-pub pairs::fill_pair-fill_in_entry-requires : goal.pairs::fill_pair-fill_in_entry-requires
-pairs::fill_pair-fill_in_entry-requires t c =
-    let size = ap length (slice_from c.loop-here.here c.args.bytes.now) ∙ length-drop c.loop-here.here c.args.bytes.now in
-    let small = c.requires.small in
-    let less : 16 * length (take (length c.args.bytes.now - c.loop-here.here) (drop c.loop-here.here c.args.bytes.now)) + 7 < 16 * length c.args.bytes.now + 8 = omega (arith, size) in (
-      search (rules, less),
-      (
-        c.requires.rules,
-        (
-          still_open (part_view c.args.part.now) (part_view c.loop-here.part) c.args.bytes.now c.args.size c.args.room c.loop-here.here c.requires.open c.loop-here.invariant.filled,
-          omega (arith, size, small),
-        ),
-      ),
-    )
-
-pub pairs::fill_pair-loop-here-preserved : goal.pairs::fill_pair-loop-here-preserved
-pairs::fill_pair-loop-here-preserved t c =
-    let size = ap length (slice_from c.loop-here.here c.args.bytes.now) ∙ length-drop c.loop-here.here c.args.bytes.now in
-    let used = (some_told _ c.in_ok-used.field-0 c.in-Some.used c.in-Some.is c.in_ok-used.ensures.passes).1 in
-    let within = c.loop-here.invariant.within in
-    record {
-      within = omega (arith, size, used, within);
-      filled = filled_further (part_view c.args.part.now) (part_view c.loop-here.part) (part_view c.fill_in_entry.new.part) c.args.bytes.now c.args.size c.args.room c.loop-here.here c.in-Some.used c.loop-here.invariant.filled (some_told _ c.in_ok-used.field-0 c.in-Some.used c.in-Some.is c.in_ok-used.ensures.filled);
-    }
-
-pub pairs::fill_pair-returns : goal.pairs::fill_pair-returns
-pairs::fill_pair-returns t c = λ all. subst (FillsTo c.args.pool.now (part_view c.args.part.now) (part_view c.loop-here.part) c.args.bytes.now c.args.size c.args.room) (number_is c.loop-here.here c.args.size all) c.loop-here.invariant.filled
-
-pub pairs::fill_in_entry-purpose_of-purpose-requires : goal.pairs::fill_in_entry-purpose_of-purpose-requires
-pairs::fill_in_entry-purpose_of-purpose-requires t c = open_can c.requires.rules c.requires.open
 
 -- A KEY AND A MESSAGE behind it
 pub direct_pair::pair_with_message-fill-requires : goal.direct_pair::pair_with_message-fill-requires

@@ -137,22 +137,6 @@ invariant-messages::read_messages-loop-tag l = record {
 abbrev pub decreases-messages::read_messages-loop-tag : goal.decreases-messages::read_messages-loop-tag
 decreases-messages::read_messages-loop-tag l = length l.bytes - l.here
 
--- the records of an entry
-abbrev pub decreases-pairs::fill_pair : goal.decreases-pairs::fill_pair
-decreases-pairs::fill_pair l = 16 * length l.bytes.now + 8
-
-abbrev pub decreases-pairs::fill_in_entry : goal.decreases-pairs::fill_in_entry
-decreases-pairs::fill_in_entry l = 16 * length l.bytes.now + 7
-
-abbrev pub invariant-pairs::fill_pair-loop-here : goal.invariant-pairs::fill_pair-loop-here
-invariant-pairs::fill_pair-loop-here l = record {
-  within : l.here ≤ length l.bytes;
-  filled : FillsTo l.pool (part_view l.initial.part) (part_view l.part) l.bytes l.size l.room l.here;
-}
-
-abbrev pub decreases-pairs::fill_pair-loop-here : goal.decreases-pairs::fill_pair-loop-here
-decreases-pairs::fill_pair-loop-here l = l.size - l.here
-
 -- the key and the value of an entry
 abbrev pub decreases-direct_pair::direct_pair : goal.decreases-direct_pair::direct_pair
 decreases-direct_pair::direct_pair l = 16 * length l.bytes.now + 9
