@@ -33,9 +33,9 @@ use Rattle.pb_decode.proofs.RunLemmas.{same_message, place_behind}
 use Rattle.pb_decode.proofs.OpenSteps.{message_opened, entry_opened}
 use Rattle.pb_decode.proofs.FrameLemmas.{message_closes, entry_closes}
 
--- what is told of a number that is there
-pub some_told : (P : ℕ → Type 0) (o : Option ℕ) (n : ℕ) → o ≡ Some n → IfSome o P → P n
-some_told P o n is told = subst (λ (z : Option ℕ). IfSome z P) is told
+-- what is told of one that is there
+pub told_of : {A : Type 0} (P : A → Type 0) (o : Option A) (x : A) → o ≡ Some x → IfSome o P → P x
+told_of {A} P o x is told = subst (λ (z : Option A). IfSome z P) is told
 
 -- what is open may be changed
 pub open_can : {pool : Types} {now : Part} {bytes : List ℕ} {left room : ℕ} → IsPool pool → IsOpen pool now bytes left room → CanHold pool now

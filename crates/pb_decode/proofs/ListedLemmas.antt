@@ -18,9 +18,8 @@ use Rattle.pb_decode.specs.declared.open.purpose.Purpose.TheVariants.{Element, M
 use Rattle.pb_decode.specs.Open.Frames.{Part, message_part, entry_part, group_part, put_message}
 use Rattle.pb_decode.specs.Open.Purposes.{Means, part_context}
 use Rattle.pb_decode.specs.Values.Run.{put_listed, put_each}
-use Rattle.pb_decode.specs.Reader.Fills.{IsOpen, HasTagAt, FillsTo}
+use Rattle.pb_decode.specs.Reader.Fills.{HasTagAt, FillsTo}
 use Rattle.pb_decode.specs.Reader.Listed.{FillsRun, FillsList, IsListOpen}
-use Rattle.pb_decode.specs.Reader.Listed.Groups.{IsGroupListOpen}
 use Rattle.pb_decode.proofs.ReaderLemmas.{slice_from}
 use Rattle.pb_decode.proofs.RunLemmas.{each_next}
 use Rattle.pb_decode.proofs.FillLemmas.{nothing_filled, still_open, filled_further}
@@ -82,26 +81,15 @@ none_listed {pool} type number meant vs bytes left room none now means =
 
 -- so many bytes on the list goes on
 pub list_further :
-    {pool : Types} {number : ℕ} {of_type : MessageId} (vs : List Value) (bytes : List ℕ) (left room used : ℕ) → IsListOpen pool number of_type bytes left room
-    → FillsRun pool number 2 (Message of_type (ListSlot number)) (map value_view vs) bytes left room used → IsListOpen pool number of_type (take (length bytes - used) (drop used bytes)) (left - used) room
-list_further {pool} {number} {of_type} vs bytes left room used from so_far = record {
+    {pool : Types} {number type : ℕ} {of_type : MessageId} (vs : List Value) (bytes : List ℕ) (left room used : ℕ) → IsListOpen pool number type of_type bytes left room
+    → FillsRun pool number type (Message of_type (ListSlot number)) (map value_view vs) bytes left room used → IsListOpen pool number type of_type (take (length bytes - used) (drop used bytes)) (left - used) room
+list_further {pool} {number} {type} {of_type} vs bytes left room used from so_far = record {
   now = put_each number (map value_view vs) from.now;
   there = still_open from.now (put_each number (map value_view vs) from.now) bytes left room used from.there (so_far from.now from.means);
-  means = still_means pool 2 number (Message of_type (ListSlot number)) (map value_view vs) from.now from.means;
+  means = still_means pool type number (Message of_type (ListSlot number)) (map value_view vs) from.now from.means;
 }
 
--- GROUPS of a list: so many bytes on it goes on
-pub groups_further :
-    {pool : Types} (number : ℕ) (of_type : MessageId) (vs : List Value) (now : Part) (bytes : List ℕ) (left room used : ℕ) → IsOpen pool now bytes left room
-    → Means pool (part_context now) number 3 (Message of_type (ListSlot number)) → FillsRun pool number 3 (Message of_type (ListSlot number)) (map value_view vs) bytes left room used
-    → IsGroupListOpen pool number of_type (take (length bytes - used) (drop used bytes)) (left - used) room
-groups_further {pool} number of_type vs now bytes left room used there means so_far = record {
-  now = put_each number (map value_view vs) now;
-  there = still_open now (put_each number (map value_view vs) now) bytes left room used there (so_far now means);
-  means = still_means pool 3 number (Message of_type (ListSlot number)) (map value_view vs) now means;
-}
-
--- and one more of them
+-- ONE MORE GROUP of the list
 pub group_further :
     {pool : Types} (number again : ℕ) (of_type : MessageId) (vs ws : List Value) (bytes : List ℕ) (left before room used more : ℕ) → again ≡ number → before ≡ left - used
     → FillsRun pool number 3 (Message of_type (ListSlot number)) (map value_view vs) bytes left room used

@@ -1,5 +1,5 @@
 -- Runs of map entries.
-use Rattle.std.proofs.Common.{◌≡◌, ◌≢◌, ◌⊎◌, inl, inr, ℕ, zero, suc, ◌+◌, ◌-◌, ◌<◌, List, [], ◌∷◌, ◌++◌, take, drop, length, refl, sym, ap, ◌∙◌, subst, arith, Option, Some, None, option_map, IfSome, Equal, BTreeMap}
+use Rattle.std.proofs.Common.{◌≡◌, ◌≢◌, ◌⊎◌, inl, inr, ℕ, zero, suc, ◌+◌, ◌-◌, ◌<◌, List, [], ◌∷◌, ◌++◌, take, drop, length, refl, sym, ap, ◌∙◌, subst, arith, Option, Some, None, option_map, Equal, BTreeMap}
 use Rattle.std.specs.Prelude.{◌==◌, string_bytes, Bool, true, false, unwrap_or}
 use Rattle.std.specs.BTreeMap.{insert_entry, IsOrdered, InsertsAll, IsFromIterResult}
 use Rattle.std.proofs.lemmas.Map.Lookups.{map_keys, exact_signed, exact_unsigned, exact_bytes}
@@ -296,9 +296,6 @@ run_filled {pool} {m} {depth} {levels} {base} {p0} {frames} {new} {q} scope now 
     (more_in number (length items) scope, subst (λ (z : Part). Stands pool m depth levels base p0 frames z (more_in number (length items) scope) q) (sym is) there, more_room number (length items) scope ∙ level)
 
 -- A RUN GOES ON
-pub told_of : {A : Type 0} (P : A → Type 0) (o : Option A) (x : A) → o ≡ Some x → IfSome o P → P x
-told_of {A} P o x is told = subst (λ (z : Option A). IfSome z P) is told
-
 pub means_along : (pool : Types) (number k : ℕ) (xs : List (Scalar × Datum)) (now : Part) (key kd : Kind) → Means pool (part_context now) k 2 (purpose.Entry key kd) → Means pool (part_context (put_all_mapped number xs now)) k 2 (purpose.Entry key kd)
 means_along pool number k xs now key kd means = subst (λ z. Means pool z k 2 (purpose.Entry key kd)) (sym (all_context number xs now)) means
 

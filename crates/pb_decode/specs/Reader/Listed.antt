@@ -35,11 +35,11 @@ abbrev pub FillsElements : {E : Type 0} → Types → Kind → ℕ → List ℕ 
 FillsElements pool kind number bytes left result =
     IfOk result (λ r. FillsList pool kind number (map value_view r.0.items) bytes left r.1)
 
--- somewhere a part is open in which the records of a number are messages of a list, and these bytes come next in it
-pub record IsListOpen (pool : Types) (number : ℕ) (of_type : MessageId) (bytes : List ℕ) (left room : ℕ) : Type 0 where
+-- somewhere a part is open in which the records of a number and a wire type are messages of a list, and these bytes come next in it
+pub record IsListOpen (pool : Types) (number type : ℕ) (of_type : MessageId) (bytes : List ℕ) (left room : ℕ) : Type 0 where
   pub now : Part
   pub there : IsOpen pool now bytes left room
-  pub means : Means pool (part_context now) number 2 (Message of_type (ListSlot number))
+  pub means : Means pool (part_context now) number type (Message of_type (ListSlot number))
 
 -- where a message is told
 abbrev pub TellsMessage : {E : Type 0} → Types → ℕ → MessageId → List ℕ → ℕ → ℕ → Result (Option (Value × ℕ)) E → Type 0

@@ -7,17 +7,8 @@ use Rattle.pb_value.specs.View.{value_view}
 use Rattle.pb_decode.specs.declared.open.part.Slot.TheVariants.{List as ListSlot}
 use Rattle.pb_decode.specs.declared.open.purpose.Purpose.TheVariants.{Message}
 use Rattle.pb_decode.specs.declared.reader.fill.group.Extent.{Extent}
-use Rattle.pb_decode.specs.Open.Frames.{Part}
-use Rattle.pb_decode.specs.Open.Purposes.{Means, part_context}
-use Rattle.pb_decode.specs.Reader.Fills.{IsOpen}
 use Rattle.pb_decode.specs.Reader.Fills.Groups.{IfWhole}
 use Rattle.pb_decode.specs.Reader.Listed.{FillsRun}
-
--- somewhere a part is open in which the groups of a number are messages of a list, and these bytes come next in it
-pub record IsGroupListOpen (pool : Types) (number : ℕ) (of_type : MessageId) (bytes : List ℕ) (left room : ℕ) : Type 0 where
-  pub now : Part
-  pub there : IsOpen pool now bytes left room
-  pub means : Means pool (part_context now) number 3 (Message of_type (ListSlot number))
 
 -- where a group is read, its message is one more value, and one stands behind it with that at the end of the list
 abbrev pub AddsGroup : {E : Type 0} → Types → ℕ → MessageId → List Value → List Value → List ℕ → ℕ → ℕ → Result Extent E → Type 0

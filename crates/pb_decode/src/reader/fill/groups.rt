@@ -8,7 +8,8 @@ ghost use Rattle.pb_decode.specs.Open.PartView.{part_view};
 ghost use Rattle.pb_decode.specs.Open.Purposes.{Means, part_context};
 ghost use Rattle.pb_decode.specs.Reader.Fills.{IsOpen, HasTagAt};
 ghost use Rattle.pb_decode.specs.Reader.Fills.Groups.{Passes, FillsGroup};
-ghost use Rattle.pb_decode.specs.Reader.Listed.Groups.{IsGroupListOpen, AddsGroup};
+ghost use Rattle.pb_decode.specs.Reader.Listed.{IsListOpen};
+ghost use Rattle.pb_decode.specs.Reader.Listed.Groups.{AddsGroup};
 
 use super::group::{Extent, fill_to_tag};
 use super::messages::tag_again;
@@ -35,7 +36,7 @@ fn add_group(
     room: u8,
 ) -> Result<Extent, NoMemory>
     requires rules { IsPool pool.now }
-    requires open { IsGroupListOpen pool.now tag.number message_type bytes.now left room }
+    requires open { IsListOpen pool.now tag.number 3 message_type bytes.now left room }
     requires room { 0 < room }
     requires small { length bytes.now < 2 ^ 31 }
     requires start { tag.wire_type ≡ 3 }

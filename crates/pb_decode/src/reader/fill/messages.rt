@@ -34,7 +34,7 @@ fn message_behind(
     room: u8,
 ) -> Result<Option<(Value, usize)>, NoMemory>
     requires rules { IsPool pool.now }
-    requires open { IsListOpen pool.now tag.number message_type bytes.now left room }
+    requires open { IsListOpen pool.now tag.number 2 message_type bytes.now left room }
     requires some { 0 < room }
     requires small { length bytes.now < 2 ^ 31 }
     requires bytes { tag.wire_type ≡ 2 }
@@ -94,7 +94,7 @@ fn read_messages(
     room: u8,
 ) -> Result<Option<(Vec<Value>, usize)>, NoMemory>
     requires rules { IsPool pool.now }
-    requires open { IsListOpen pool.now number message_type bytes.now left room }
+    requires open { IsListOpen pool.now number 2 message_type bytes.now left room }
     requires some { 0 < room }
     requires small { length bytes.now < 2 ^ 31 }
     ensures within { IfOk result (λ o. IfSome o (λ r. r.1 ≤ length bytes.now)) }

@@ -20,19 +20,18 @@ use Rattle.pb_decode.specs.Reader.Fills.{StandsIn, IsOpen, HasTagAt, FillsTo}
 use Rattle.pb_decode.specs.Reader.Fills.Groups.{FillsToEnd}
 use Rattle.pb_decode.specs.Reader.Pairs.{HasPair}
 use Rattle.pb_decode.specs.Reader.Listed.{FillsRun, IsListOpen}
-use Rattle.pb_decode.specs.Reader.Listed.Groups.{IsGroupListOpen}
 use Rattle.pb_decode.specs.Values.Run.{put_listed}
 use Rattle.pb_decode.proofs.ReaderLemmas.{slice_from}
 use Rattle.pb_decode.proofs.NumberSteps.{number_is}
 use Rattle.pb_decode.proofs.WellLemmas.{can_hold}
 use Rattle.pb_decode.proofs.EndedLemmas.{entry_has_room, frame_can_hold}
-use Rattle.pb_decode.proofs.FillLemmas.{some_told, open_can, nothing_filled, still_open, filled_further, typed_tag, entry_in_part, message_in_part, entry_inside, message_inside, entry_over, message_over}
+use Rattle.pb_decode.proofs.FillLemmas.{told_of, open_can, nothing_filled, still_open, filled_further, typed_tag, entry_in_part, message_in_part, entry_inside, message_inside, entry_over, message_over}
 use Rattle.pb_decode.proofs.PairLemmas.{pair_further, none_put, pair_told, other_told, refused_told, some_added, none_added}
 use Rattle.pb_decode.proofs.GroupSteps.{unknown_group_means}
 use Rattle.pb_decode.proofs.GroupFills.{whole_told, whole_within, field_group_in_part, field_group_inside, field_group_over, unknown_group_in_part, unknown_group_inside, unknown_group_over, end_reached}
-use Rattle.pb_decode.proofs.ListedLemmas.{values_further, none_listed, list_further, message_listed, groups_further, group_further, first_tag}
+use Rattle.pb_decode.proofs.ListedLemmas.{values_further, none_listed, list_further, message_listed, group_further, first_tag}
 use Rattle.pb_decode.proofs.RunLemmas.{place_behind}
-use Rattle.pb_decode.proofs.MapRuns.{tag_of, entry_in_map, entry_taken, rises_in, map_open_in, run_filled, told_of, size_next, more_room, means_along, run_further, open_further, none_read}
+use Rattle.pb_decode.proofs.MapRuns.{tag_of, entry_in_map, entry_taken, rises_in, map_open_in, run_filled, size_next, more_room, means_along, run_further, open_further, none_read}
 use Rattle.pb_decode.proofs.reader.fill.+fill.Goals as goal
 
 pub fill-loop-here-init : goal.fill-loop-here-init
@@ -59,11 +58,11 @@ fill-fill_record-requires t c =
 pub fill-loop-here-preserved : goal.fill-loop-here-preserved
 fill-loop-here-preserved t c =
     let size = ap length (slice_from c.loop-here.here c.args.bytes.now) ∙ length-drop c.loop-here.here c.args.bytes.now in
-    let used = (some_told _ c.in_ok-used.field-0 c.in-Some.used c.in-Some.is c.in_ok-used.ensures.passes).1 in
+    let used = (told_of _ c.in_ok-used.field-0 c.in-Some.used c.in-Some.is c.in_ok-used.ensures.passes).1 in
     let within = c.loop-here.invariant.within in
     record {
       within = omega (arith, size, used, within);
-      filled = filled_further (part_view c.args.part.now) (part_view c.loop-here.part) (part_view c.fill_record.new.part) c.args.bytes.now c.args.size c.args.room c.loop-here.here c.in-Some.used c.loop-here.invariant.filled (some_told _ c.in_ok-used.field-0 c.in-Some.used c.in-Some.is c.in_ok-used.ensures.filled);
+      filled = filled_further (part_view c.args.part.now) (part_view c.loop-here.part) (part_view c.fill_record.new.part) c.args.bytes.now c.args.size c.args.room c.loop-here.here c.in-Some.used c.loop-here.invariant.filled (told_of _ c.in_ok-used.field-0 c.in-Some.used c.in-Some.is c.in_ok-used.ensures.filled);
     }
 
 pub fill-returns : goal.fill-returns
@@ -316,9 +315,9 @@ groups::fill_groups-add_group-requires t c =
       (
         c.requires.rules,
         (
-          subst (λ (z : ℕ). IsGroupListOpen c.args.pool.now z c.args.message_type rest c.saturating_sub-before.result c.args.room) (sym c.loop-groups.invariant.number)
-              (subst (λ (z : ℕ). IsGroupListOpen c.args.pool.now number c.args.message_type rest z c.args.room) behind
-              (groups_further number c.args.message_type c.loop-groups.groups.items (part_view c.args.part.now) c.args.bytes.now c.args.left c.args.room here c.requires.open c.requires.means c.loop-groups.invariant.put)),
+          subst (λ (z : ℕ). IsListOpen c.args.pool.now z 3 c.args.message_type rest c.saturating_sub-before.result c.args.room) (sym c.loop-groups.invariant.number)
+              (subst (λ (z : ℕ). IsListOpen c.args.pool.now number 3 c.args.message_type rest z c.args.room) behind
+              (list_further c.loop-groups.groups.items c.args.bytes.now c.args.left c.args.room here (record { now = part_view c.args.part.now; there = c.requires.open; means = c.requires.means }) c.loop-groups.invariant.put)),
           (
             c.requires.room,
             (
@@ -635,8 +634,8 @@ messages::read_messages-message_behind-requires t c =
       (
         c.requires.rules,
         (
-          subst (λ (z : ℕ). IsListOpen c.args.pool.now z c.args.message_type behind c.saturating_sub-in-Some.result c.args.room) (sym c.in-Some.ensures.own.0)
-              (subst (λ (z : ℕ). IsListOpen c.args.pool.now c.args.number c.args.message_type behind z c.args.room) (sym c.saturating_sub-in-Some.ensures)
+          subst (λ (z : ℕ). IsListOpen c.args.pool.now z 2 c.args.message_type behind c.saturating_sub-in-Some.result c.args.room) (sym c.in-Some.ensures.own.0)
+              (subst (λ (z : ℕ). IsListOpen c.args.pool.now c.args.number 2 c.args.message_type behind z c.args.room) (sym c.saturating_sub-in-Some.ensures)
               (list_further c.loop-tag.messages.items c.args.bytes.now c.args.left c.args.room here c.requires.open c.loop-tag.invariant.put)),
           (
             c.requires.some,

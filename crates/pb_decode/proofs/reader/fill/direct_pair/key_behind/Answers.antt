@@ -4,7 +4,7 @@ use Rattle.pb_schema.specs.Scalar.{Scalar}
 use Rattle.pb_decode.specs.declared.open.purpose.Purpose.TheVariants.{Key}
 use Rattle.pb_decode.specs.Open.Frames.{Part, entry_part}
 use Rattle.pb_decode.specs.Reader.Fills.{FillsTo}
-use Rattle.pb_decode.proofs.MapRuns.{told_of}
+use Rattle.pb_decode.proofs.FillLemmas.{told_of}
 use Rattle.pb_decode.proofs.reader.fill.direct_pair.key_behind.Goals as goal
 
 pub returns-in-Some-key_of-clause-filled : goal.returns-in-Some-key_of-clause-filled

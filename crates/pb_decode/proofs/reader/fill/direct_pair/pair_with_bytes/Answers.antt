@@ -2,7 +2,7 @@
 use Rattle.std.proofs.Common.{ℕ, sym, subst}
 use Rattle.pb_value.specs.View.{key_view, value_view}
 use Rattle.pb_decode.specs.Reader.Scalars.{FillsScalar}
-use Rattle.pb_decode.proofs.MapRuns.{told_of}
+use Rattle.pb_decode.proofs.FillLemmas.{told_of}
 use Rattle.pb_decode.proofs.PairLemmas.{value_filled}
 use Rattle.pb_decode.proofs.reader.fill.direct_pair.pair_with_bytes.Goals as goal
 
