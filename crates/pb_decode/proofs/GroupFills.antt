@@ -1,6 +1,7 @@
 -- Groups that are read at once.
-use Rattle.std.proofs.Common.{◌≡◌, ℕ, ◌+◌, ◌-◌, ◌<◌, ◌≤◌, List, [], ◌∷◌, ◌++◌, take, drop, length, refl, sym, ap, ◌∙◌, subst, arith, Option, Some, None, IfSome, option_map}
-use Rattle.std.specs.Prelude.{true, MatchOption}
+use Rattle.std.proofs.Common.{◌≡◌, ℕ, ◌+◌, ◌-◌, ◌<◌, ◌≤◌, List, [], ◌∷◌, ◌++◌, take, drop, length, refl, sym, ap, ◌∙◌, subst, arith, Bool, true, false, not, Option, Some, None, IfSome, option_map}
+use Rattle.std.proofs.lemmas.Bool.{false≢true}
+use Rattle.std.specs.Prelude.{MatchOption}
 use Rattle.pb_wire.specs.Record.{Record}
 use Rattle.pb_wire.specs.declared.fault.PathStep.{PathStep}
 use Rattle.pb_wire.specs.Fault.{Place, Moves, HasTag}
@@ -16,14 +17,13 @@ use Rattle.pb_decode.specs.declared.open.part.Slot.{Slot}
 use Rattle.pb_decode.specs.declared.open.part.Slot.TheVariants as slot
 use Rattle.pb_decode.specs.declared.open.purpose.Purpose.TheVariants as purpose
 use Rattle.pb_decode.specs.declared.reader.fill.group.Extent.{Extent}
-use Rattle.pb_decode.specs.declared.reader.fill.group.Extent.TheVariants as extent
 use Rattle.pb_decode.specs.declared.tokens.step.Step.TheVariants as step
 use Rattle.pb_decode.specs.Open.Frames.{Part, message_part, group_part, put_message, put_group, IsWorth, IsSameForm, Scope, Frame, frame_of, one_more_in, EndsAt, Held, at_top, Stands}
 use Rattle.pb_decode.specs.Open.Openings.{taken_message, without_message}
 use Rattle.pb_decode.specs.Open.Purposes.{Means, part_context}
 use Rattle.pb_decode.specs.Reader.{State, left_of, here, Reads, IsReading}
 use Rattle.pb_decode.specs.Reader.Fills.{StandsIn, IsOpen, HasTagAt, FillsTo}
-use Rattle.pb_decode.specs.Reader.Fills.Groups.{IfWhole, IsWithin, FillsToEnd}
+use Rattle.pb_decode.specs.Reader.Fills.Groups.{IfWhole, FillsToEnd}
 use Rattle.pb_decode.proofs.WellLemmas.{held_bytes, goes_on_held, can_hold}
 use Rattle.pb_decode.proofs.FrameLemmas.{ends_back, part_of_form, held_as_well}
 use Rattle.pb_decode.proofs.ReaderLemmas.{slice_from}
@@ -34,19 +34,14 @@ use Rattle.pb_decode.proofs.GroupSteps.{group_opened}
 use Rattle.pb_decode.proofs.GroupLemmas.{group_closes, message_group_closes}
 use Rattle.pb_decode.proofs.FillLemmas.{filled_so_far, typed_tag}
 
--- what is told of how many bytes are read, where all are, and where not
-pub whole_told : (P : ℕ → Type 0) (e : Extent) (n : ℕ) → e ≡ extent.Whole n → IfWhole e P → P n
-whole_told P e n is told = subst (λ (z : Extent). IfWhole z P) is told
+-- all is read where it isn't said that it is not
+pub all_read : (b : Bool) → not b ≡ false → b ≡ true
+all_read true told = refl
+all_read false told = absurd (false≢true (sym told))
 
+-- what is told of how many bytes a record takes is told of those that are read of it, where that is all
 pub whole_taken : (P : ℕ → Type 0) (e : Extent) (o : Option ℕ) → IfWhole e (λ n. o ≡ Some n) → IfSome o P → IfWhole e P
-whole_taken P (extent.Whole n) o is told = subst (λ (z : Option ℕ). IfSome z P) is told
-whole_taken P (extent.Cut n) o is told = tt
-
-pub whole_within : (e : Extent) (n most : ℕ) → e ≡ extent.Whole n → IsWithin e most → n ≤ most
-whole_within e n most is told = subst (λ (z : Extent). IsWithin z most) is told
-
-pub cut_within : (e : Extent) (n most : ℕ) → e ≡ extent.Cut n → IsWithin e most → n ≤ most
-cut_within e n most is told = subst (λ (z : Extent). IsWithin z most) is told
+whole_taken P e o is told = λ all. subst (λ (z : Option ℕ). IfSome z P) (is all) told
 
 -- THE GROUP OF A FIELD behind its first tag, as in a frame
 pub field_group_begun :

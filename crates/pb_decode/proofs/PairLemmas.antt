@@ -1,12 +1,11 @@
 -- Keys and values of map entries that are read at once.
-use Rattle.std.proofs.Common.{◌≡◌, ℕ, ◌+◌, ◌-◌, ◌≤◌, ◌<◌, List, take, drop, length, refl, sym, subst, arith, Option, Some, None, option_map, Result, Ok, Err}
-use Rattle.std.specs.Prelude.{MatchOption}
+use Rattle.std.proofs.Common.{◌≡◌, ℕ, ◌+◌, ◌-◌, ◌≤◌, ◌<◌, List, take, drop, length, [], ◌∷◌, ◌++◌, refl, subst, arith, Some, None}
 use Rattle.pb_schema.specs.declared.types.Kind.{Kind}
 use Rattle.pb_schema.specs.declared.types.Kind.TheVariants as kind
 use Rattle.pb_schema.specs.Types.{Types}
 use Rattle.pb_schema.specs.Kinds.{wire_type_of, message_of_kind}
 use Rattle.pb_schema.specs.Scalar.{Scalar}
-use Rattle.pb_value.specs.Data.{Datum, scalar}
+use Rattle.pb_value.specs.Data.{Datum}
 use Rattle.pb_value.specs.declared.body.MapKey.{MapKey}
 use Rattle.pb_value.specs.declared.body.Value.{Value}
 use Rattle.pb_value.specs.View.{key_view, value_view}
@@ -33,18 +32,6 @@ scalar_opens_none (purpose.Message j s) kd of = absurd (cc)
 scalar_opens_none (purpose.Entry key k) kd of = absurd (cc)
 scalar_opens_none purpose.Unknown kd of = absurd (cc)
 
--- the value that a scalar is read as
-pub read_as : (v : Datum) (o : Option Scalar) → Some v ≡ option_map scalar o → (x : Scalar) × (o ≡ Some x) × (v ≡ scalar x)
-read_as v None is = absurd (cc)
-read_as v (Some x) is = (x, refl, cc)
-
--- what is told of a number is told of its value
-pub value_told :
-    {pool : Types} (kd : Kind) (number type left used : ℕ) (bytes : List ℕ) (v : Datum) (o : Option Scalar) → Some v ≡ option_map scalar o
-    → ((x : Scalar) → o ≡ Some x → FillsScalar pool kd number type (scalar x) bytes left used) → FillsScalar pool kd number type v bytes left used
-value_told {pool} kd number type left used bytes v o is told =
-    let r = read_as v o is in subst (λ (d : Datum). FillsScalar pool kd number type d bytes left used) (sym r.2) (told r.0 r.1)
-
 -- a scalar that ends with its entry is the entry's value
 pub value_filled :
     {pool : Types} (key kd : Kind) (number type left used : ℕ) (bytes : List ℕ) (x : Scalar) (v : Datum) (room : ℕ) → (number ≡ 2) × (type ≡ wire_type_of kd) → message_of_kind kd ≡ None → used ≡ left
@@ -60,13 +47,12 @@ known_type k = omega arith
 
 -- behind a key that is read the rest of its entry stands
 pub pair_further :
-    {E : Type 0} {pool : Types} {key kd : Kind} (x : Scalar) (bytes : List ℕ) (size room used : ℕ) (old new : List (MapKey × Value)) (result : Result Pair E) → used ≤ size
+    {pool : Types} {key kd : Kind} (x : Scalar) (bytes : List ℕ) (size room used : ℕ) (old new : List (MapKey × Value)) (result : Pair) → used ≤ size
     → FillsTo pool (entry_part key kd None None) (entry_part key kd (Some x) None) bytes size room used
     → FillsPair pool key kd (Some x) (take (length bytes - used) (drop used bytes)) (size - used) room old new result → AddsPair pool key kd bytes size room old new result
-pair_further x bytes size room used old new (Err e) within first told = tt
-pair_further x bytes size room used old new (Ok pair.Refused) within first told = told
-pair_further x bytes size room used old new (Ok pair.Other) within first told = told
-pair_further {E} {pool} {key} {kd} x bytes size room used old new (Ok pair.Whole) within first told =
+pair_further x bytes size room used old new pair.Refused within first told = told
+pair_further x bytes size room used old new pair.Other within first told = told
+pair_further {pool} {key} {kd} x bytes size room used old new pair.Whole within first told =
     let k = key_view told.0.0 in
     let v = value_view told.0.1 in
     let all : used + (size - used) ≡ size = omega (arith, within) in (
@@ -85,20 +71,13 @@ pair_further {E} {pool} {key} {kd} x bytes size room used old new (Ok pair.Whole
     )
 
 -- where none was put, the entries are those before
-pub none_put : {E : Type 0} (P : Scalar → Datum → Type 0) (old was new : List (MapKey × Value)) (result : Result Pair E) → was ≡ old → PutsPair P was new result → PutsPair P old new result
+pub none_put : (P : Scalar → Datum → Type 0) (old was new : List (MapKey × Value)) (result : Pair) → was ≡ old → PutsPair P was new result → PutsPair P old new result
 none_put P old was new result is told = subst (λ (z : List (MapKey × Value)). PutsPair P z new result) is told
 
-pub pair_told : (P Q : Type 0) (p : Pair) → p ≡ pair.Whole → WherePut P Q p → P
-pair_told P Q p is told = subst (WherePut P Q) is told
-
-pub other_told : (P Q : Type 0) (p : Pair) → p ≡ pair.Other → WherePut P Q p → Q
-other_told P Q p is told = subst (WherePut P Q) is told
-
-pub refused_told : (P Q : Type 0) (p : Pair) → p ≡ pair.Refused → WherePut P Q p → Q
-refused_told P Q p is told = subst (WherePut P Q) is told
-
-pub some_added : {A : Type 0} (P : Type 0) (Q : A → Type 0) (o : Option A) (x : A) → o ≡ Some x → MatchOption o P Q → Q x
-some_added P Q o x is told = subst (λ z. MatchOption z P Q) is told
-
-pub none_added : {A : Type 0} (P : Type 0) (Q : A → Type 0) (o : Option A) → o ≡ None → MatchOption o P Q → P
-none_added P Q o is told = subst (λ z. MatchOption z P Q) is told
+-- where the pair was put that this holds of, or none was
+pub pair_put :
+    (P : Scalar → Datum → Type 0) (e : MapKey × Value) (old new : List (MapKey × Value)) (result : Pair) → P (key_view e.0) (value_view e.1)
+    → WherePut (new ≡ old ++ e ∷ []) (new ≡ old) result → PutsPair P old new result
+pair_put P e old new pair.Whole holds told = (e, told, holds)
+pair_put P e old new pair.Refused holds told = told
+pair_put P e old new pair.Other holds told = told

@@ -13,7 +13,7 @@ ghost use Rattle.pb_decode.specs.Reader.Origin.{Origin};
 ghost use Rattle.pb_decode.specs.Reader.Pieces.{received, ReadFrom};
 ghost use Rattle.pb_decode.specs.Frame.{IsFrameOf, BadFrame, error_later};
 
-use crate::error::{DecodeError, NoMemory};
+use crate::error::DecodeError;
 use crate::from_device::{PIECE, read_pieces};
 use crate::push::Reading;
 use crate::reader::origin::{begin_empty, finish_message, take_onward};
@@ -58,20 +58,18 @@ fn read_at_once<'p>(
     bytes: &[u8],
     size: u32,
     limits: Limits,
-) -> Result<Option<DynamicMessage<'p>>, NoMemory>
+) -> Option<DynamicMessage<'p>>
     requires rules { IsPool pool.now }
     requires within { message_type.0 < length pool.now.messages }
-    ensures of_type { IfOk result (λ o. IfSome o (λ m. (m.pool ≡ pool.now) × (m.kind ≡ message_type.0))) }
-    ensures all { IfOk result (λ o. IfSome o (λ m. length bytes.now ≡ size)) }
-    ensures text { IfOk result (λ o. IfSome o (λ m. Text pool.now message_type.0 limits bytes.now m.body)) }
+    ensures of_type { IfSome result (λ m. (m.pool ≡ pool.now) × (m.kind ≡ message_type.0)) }
+    ensures all { IfSome result (λ m. length bytes.now ≡ size) }
+    ensures text { IfSome result (λ m. Text pool.now message_type.0 limits bytes.now m.body) }
 {
     if bytes.len() != size as usize {
-        return Ok(None);
+        return None;
     }
-    match read_text(alloc, pool, message_type, bytes, limits)? {
-        Some(body) => Ok(Some(DynamicMessage::from_well_formed(alloc, pool, message_type, body))),
-        None => Ok(None),
-    }
+    let body = read_text(alloc, pool, message_type, bytes, limits)?;
+    Some(DynamicMessage::from_well_formed(alloc, pool, message_type, body))
 }
 
 /// Takes the first bytes of a frame, which stand in the buffer, and what the input gives of those behind them. Tells how many
@@ -180,7 +178,7 @@ fn read_frame<'p, I: Input>(
     let _small = limits.max_bytes();
     let mut buffer = [0u8; PIECE];
     let count = read_first(input, &mut buffer, size as usize)?;
-    match read_at_once(alloc, pool, message_type, &buffer[..count], size, limits)? {
+    match read_at_once(alloc, pool, message_type, &buffer[..count], size, limits) {
         Some(message) => Ok(message),
         None => read_in_pieces(
             alloc,

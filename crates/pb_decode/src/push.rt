@@ -251,7 +251,7 @@ fn read_whole<'p>(
     ensures value { IfOk result (λ m. Text pool.now message_type.0 limits bytes.now m.body) }
     ensures fault { IfErr result (λ e. IfFault e (IsFaultOf pool.now message_type.0 limits bytes.now)) }
 {
-    match read_text(alloc, pool, message_type, bytes, limits)? {
+    match read_text(alloc, pool, message_type, bytes, limits) {
         Some(body) => Ok(DynamicMessage::from_well_formed(alloc, pool, message_type, body)),
         None => {
             let none = empty_body(alloc);

@@ -1,5 +1,5 @@
 -- Map entries that are read one behind another, wherever the part is open that holds their map.
-use Rattle.std.specs.Prelude.{◌≡◌, ℕ, zero, suc, List, [], ◌∷◌, ◌++◌, length, Option, Some, Vec, Result, Ok, IfOk, IfSome, MatchOption}
+use Rattle.std.specs.Prelude.{◌≡◌, ℕ, zero, suc, List, [], ◌∷◌, ◌++◌, length, Option, Vec, Result, IfOk, MatchOption}
 use Rattle.std.specs.declared.alloc.Global.{Global}
 use Rattle.pb_wire.specs.Record.{Record}
 use Rattle.pb_wire.specs.Fault.{Place}
@@ -35,14 +35,13 @@ pub record IsMapOpen (pool : Types) (number : ℕ) (key kd : Kind) (bytes : List
   pub means : Means pool (part_context now) number 2 (Entry key kd)
 
 -- the entry at the front of the bytes: its map takes it, and with it there one stands behind so many of them
-abbrev pub TellsEntry : {E : Type 0} → Types → ℕ → Kind → Kind → List ℕ → Option ℕ → ℕ → Result (Option ((MapKey × Value) × ℕ)) E → Type 0
-TellsEntry pool number key kd bytes left room result =
+abbrev pub TellsEntry : Types → ℕ → Kind → Kind → List ℕ → Option ℕ → ℕ → MapKey × Value → ℕ → Type 0
+TellsEntry pool number key kd bytes left room e used =
     (m depth levels at : ℕ) (base : List Record) (p0 : Place) (frames : List Frame) (scope : Scope) (now : Part)
     → Stands pool m depth levels base p0 frames now scope (given_at at left bytes) → scope.room ≡ room → Means pool (part_context now) number 2 (Entry key kd)
-    → IfOk result (λ o. IfSome o (λ r.
-    FitsMapped number (key_view r.0.0) now
-    × Stands pool m depth levels base p0 frames (put_mapped number (key_view r.0.0, value_view r.0.1) now) (one_more_in number scope)
-    (passed (given_at at left bytes) r.1)))
+    → FitsMapped number (key_view e.0) now
+    × Stands pool m depth levels base p0 frames (put_mapped number (key_view e.0, value_view e.1) now) (one_more_in number scope)
+    (passed (given_at at left bytes) used)
 
 -- the same of the entries of a run
 abbrev pub TellsEntries : {E : Type 0} → Types → ℕ → Kind → Kind → List ℕ → Option ℕ → ℕ → Result (Vec (MapKey × Value) Global × ℕ) E → Type 0
@@ -55,8 +54,6 @@ TellsEntries pool number key kd bytes left room result =
     (passed (given_at at left bytes) r.1))
 
 -- where the entry at the front is told: it is the last of the entries; or they are as before
-abbrev pub AddsEntry :
-    {E : Type 0} → Types → ℕ → Kind → Kind → List ℕ → Option ℕ → ℕ → List (MapKey × Value) → List (MapKey × Value) → Result (Option ℕ) E → Type 0
-AddsEntry {E} pool number key kd bytes left room old new result =
-    IfOk result (λ o. MatchOption o (new ≡ old) (λ n.
-    (e : MapKey × Value) × (new ≡ old ++ e ∷ []) × TellsEntry {E = E} pool number key kd bytes left room (Ok (Some (e, n)))))
+abbrev pub AddsEntry : Types → ℕ → Kind → Kind → List ℕ → Option ℕ → ℕ → List (MapKey × Value) → List (MapKey × Value) → Option ℕ → Type 0
+AddsEntry pool number key kd bytes left room old new result =
+    MatchOption result (new ≡ old) (λ n. (e : MapKey × Value) × (new ≡ old ++ e ∷ []) × TellsEntry pool number key kd bytes left room e n)

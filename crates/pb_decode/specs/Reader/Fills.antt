@@ -1,6 +1,6 @@
 -- What is read at once into a part, wherever it is open: of any type, any levels, any records before and any first place.
 pub mod Groups
-use Rattle.std.specs.Prelude.{◌≡◌, ℕ, Bool, true, List, Option, Some, Result, IfOk, IfSome}
+use Rattle.std.specs.Prelude.{◌≡◌, ℕ, Bool, true, List, Option, Some, IfSome}
 use Rattle.pb_wire.specs.Record.{Record}
 use Rattle.pb_wire.specs.Fault.{Place, HasTag}
 use Rattle.pb_wire.specs.Token.{given_at, passed}
@@ -37,10 +37,9 @@ FillsTo pool old new bytes left room used =
     → StandsIn pool m depth levels base p0 frames room new (passed (given_at at (Some left) bytes) used)
 
 -- where a record is taken
-abbrev pub FillsOne : {E : Type 0} → Types → PartKept → PartKept → List ℕ → ℕ → ℕ → Result (Option ℕ) E → Type 0
-FillsOne pool old new bytes left room result = IfOk result (λ o. IfSome o (FillsTo pool (part_view old) (part_view new) bytes left room))
+abbrev pub FillsOne : Types → PartKept → PartKept → List ℕ → ℕ → ℕ → Option ℕ → Type 0
+FillsOne pool old new bytes left room result = IfSome result (FillsTo pool (part_view old) (part_view new) bytes left room)
 
 -- where all are
-abbrev pub FillsAll : {E : Type 0} → Types → PartKept → PartKept → List ℕ → ℕ → ℕ → Result Bool E → Type 0
-FillsAll pool old new bytes size room result =
-    IfOk result (λ all. all ≡ true → FillsTo pool (part_view old) (part_view new) bytes size room size)
+abbrev pub FillsAll : Types → PartKept → PartKept → List ℕ → ℕ → ℕ → Bool → Type 0
+FillsAll pool old new bytes size room all = all ≡ true → FillsTo pool (part_view old) (part_view new) bytes size room size

@@ -42,11 +42,11 @@ pub record IsListOpen (pool : Types) (number type : ℕ) (of_type : MessageId) (
   pub means : Means pool (part_context now) number type (Message of_type (ListSlot number))
 
 -- where a message is told
-abbrev pub TellsMessage : {E : Type 0} → Types → ℕ → MessageId → List ℕ → ℕ → ℕ → Result (Option (Value × ℕ)) E → Type 0
+abbrev pub TellsMessage : Types → ℕ → MessageId → List ℕ → ℕ → ℕ → Option (Value × ℕ) → Type 0
 TellsMessage pool number of_type bytes left room result =
-    IfOk result (λ o. IfSome o (λ r. FillsRun pool number 2 (Message of_type (ListSlot number)) (value_view r.0 ∷ []) bytes left room r.1))
+    IfSome result (λ r. FillsRun pool number 2 (Message of_type (ListSlot number)) (value_view r.0 ∷ []) bytes left room r.1)
 
 -- where those of a run are
-abbrev pub TellsMessages : {E : Type 0} → Types → ℕ → MessageId → List ℕ → ℕ → ℕ → Result (Option (Vec Value Global × ℕ)) E → Type 0
+abbrev pub TellsMessages : Types → ℕ → MessageId → List ℕ → ℕ → ℕ → Option (Vec Value Global × ℕ) → Type 0
 TellsMessages pool number of_type bytes left room result =
-    IfOk result (λ o. IfSome o (λ r. FillsRun pool number 2 (Message of_type (ListSlot number)) (map value_view r.0.items) bytes left room r.1))
+    IfSome result (λ r. FillsRun pool number 2 (Message of_type (ListSlot number)) (map value_view r.0.items) bytes left room r.1)

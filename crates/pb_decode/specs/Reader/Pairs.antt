@@ -1,5 +1,5 @@
 -- The keys and the values of map entries, read at once.
-use Rattle.std.specs.Prelude.{◌≡◌, ℕ, List, [], ◌∷◌, ◌++◌, Option, Some, None, Result, IfOk, IfSome, unwrap_or}
+use Rattle.std.specs.Prelude.{◌≡◌, ℕ, List, [], ◌∷◌, ◌++◌, Option, Some, None, IfSome, unwrap_or}
 use Rattle.pb_schema.specs.declared.types.Kind.{Kind}
 use Rattle.pb_schema.specs.Types.{Types}
 use Rattle.pb_schema.specs.Scalar.{Scalar}
@@ -15,9 +15,9 @@ use Rattle.pb_decode.specs.Open.Frames.{entry_part}
 use Rattle.pb_decode.specs.Reader.Fills.{FillsTo}
 
 -- where the record of a key is told: one stands behind so many bytes with it in an entry that had none
-abbrev pub FillsKey : {E : Type 0} → Types → Kind → Kind → List ℕ → ℕ → ℕ → Result (Option (MapKey × ℕ)) E → Type 0
+abbrev pub FillsKey : Types → Kind → Kind → List ℕ → ℕ → ℕ → Option (MapKey × ℕ) → Type 0
 FillsKey pool key kd bytes left room result =
-    IfOk result (λ o. IfSome o (λ r. FillsTo pool (entry_part key kd None None) (entry_part key kd (Some (key_view r.0)) None) bytes left room r.1))
+    IfSome result (λ r. FillsTo pool (entry_part key kd None None) (entry_part key kd (Some (key_view r.0)) None) bytes left room r.1)
 
 -- what holds where the pair is put among the entries, and where it is not
 abbrev pub WherePut : Type 0 → Type 0 → Pair → Type 0
@@ -26,13 +26,11 @@ WherePut P Q pair.Refused = Q
 WherePut P Q pair.Other = Q
 
 -- where a pair is told: it is the last of the entries, and this holds of its key and its value; or they are as before
-abbrev pub PutsPair : {E : Type 0} → (Scalar → Datum → Type 0) → List (MapKey × Value) → List (MapKey × Value) → Result Pair E → Type 0
-PutsPair P old new result =
-    IfOk result (WherePut ((e : MapKey × Value) × (new ≡ old ++ e ∷ []) × P (key_view e.0) (value_view e.1)) (new ≡ old))
+abbrev pub PutsPair : (Scalar → Datum → Type 0) → List (MapKey × Value) → List (MapKey × Value) → Pair → Type 0
+PutsPair P old new = WherePut ((e : MapKey × Value) × (new ≡ old ++ e ∷ []) × P (key_view e.0) (value_view e.1)) (new ≡ old)
 
 -- one stands behind the entry with the key and the value in it, which had this key or none, and no value
-abbrev pub FillsPair :
-    {E : Type 0} → Types → Kind → Kind → Option Scalar → List ℕ → ℕ → ℕ → List (MapKey × Value) → List (MapKey × Value) → Result Pair E → Type 0
+abbrev pub FillsPair : Types → Kind → Kind → Option Scalar → List ℕ → ℕ → ℕ → List (MapKey × Value) → List (MapKey × Value) → Pair → Type 0
 FillsPair pool key kd x bytes left room =
     PutsPair (λ k v. FillsTo pool (entry_part key kd x None) (entry_part key kd (Some k) (Some v)) bytes left room left)
 
@@ -47,5 +45,5 @@ pub record HasPair (pool : Types) (key kd : Kind) (bytes : List ℕ) (size room 
   pub value_is : v ≡ unwrap_or own_value (missing (λ _ _. empty) value_kind)
 
 -- where they are told
-abbrev pub AddsPair : {E : Type 0} → Types → Kind → Kind → List ℕ → ℕ → ℕ → List (MapKey × Value) → List (MapKey × Value) → Result Pair E → Type 0
+abbrev pub AddsPair : Types → Kind → Kind → List ℕ → ℕ → ℕ → List (MapKey × Value) → List (MapKey × Value) → Pair → Type 0
 AddsPair pool key kd bytes size room = PutsPair (HasPair pool key kd bytes size room)

@@ -3,7 +3,6 @@ use Rattle.std.specs.Prelude.{◌≡◌, ℕ, List, Option, Some, IfSome}
 use Rattle.pb_schema.specs.declared.types.Kind.{Kind}
 use Rattle.pb_schema.specs.Types.{Types}
 use Rattle.pb_schema.specs.Kinds.{read}
-use Rattle.pb_schema.specs.Scalar.{Scalar}
 use Rattle.pb_value.specs.declared.body.Value.{Value}
 use Rattle.pb_value.specs.Data.{Datum, scalar}
 use Rattle.pb_value.specs.View.{value_view}
@@ -26,7 +25,7 @@ abbrev pub TellsScalar : Types → Kind → ℕ → ℕ → List ℕ → ℕ →
 TellsScalar pool kind number type bytes left result =
     IfSome result (λ r. FillsScalar pool kind number type (value_view r.0) bytes left r.1)
 
--- where the number behind a tag is told: its value is the scalar
+-- where the number behind a tag is told: the value that it stands for is the scalar
 abbrev pub TellsNumberThere : Types → Kind → ℕ → ℕ → List ℕ → ℕ → Option (Number × ℕ) → Type 0
 TellsNumberThere pool kind number type bytes left result =
-    IfSome result (λ r. (x : Scalar) → read kind (number_view r.0) ≡ Some x → FillsScalar pool kind number type (scalar x) bytes left r.1)
+    IfSome result (λ r. (v : Datum) → IfSome (read kind (number_view r.0)) (λ x. v ≡ scalar x) → FillsScalar pool kind number type v bytes left r.1)

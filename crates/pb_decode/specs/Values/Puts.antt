@@ -1,6 +1,6 @@
 -- What a value that comes next does, wherever one stands: it goes into the part that its record stands in, and one stands behind it. Each holds of any type,
 -- any levels, any records before and any first place.
-use Rattle.std.specs.Prelude.{◌≡◌, ℕ, ◌+◌, List, [], ◌∷◌, length, Option, Some, Result, IfOk, IfErr, IfSome, OnOk}
+use Rattle.std.specs.Prelude.{◌≡◌, ℕ, ◌+◌, List, [], ◌∷◌, length, Option, Some, Result, IfOk, IfErr, OnOk}
 use Rattle.pb_wire.specs.Record.{Record, wire_type}
 use Rattle.pb_wire.specs.declared.fault.Cause.TheVariants.{BadText}
 use Rattle.pb_wire.specs.Fault.{fault, Place, Moves}
@@ -17,7 +17,6 @@ use Rattle.pb_decode.specs.declared.tokens.number.Number.{Number}
 use Rattle.pb_decode.specs.declared.tokens.step.Step.{Step}
 use Rattle.pb_decode.specs.declared.tokens.step.Step.TheVariants.{Payload, Elements}
 use Rattle.pb_decode.specs.declared.values.payload_value.PayloadError.{PayloadError}
-use Rattle.pb_decode.specs.declared.values.run.Element.{Element}
 use Rattle.pb_decode.specs.declared.values.run.Run.{Run}
 use Rattle.pb_decode.specs.Open.Frames.{Part as PartView, Scope, Frame, path_of, next_step, one_more_in, Stands}
 use Rattle.pb_decode.specs.Open.Opened.{below}
@@ -26,7 +25,7 @@ use Rattle.pb_decode.specs.Tokens.Number.{number_view}
 use Rattle.pb_decode.specs.Tokens.Numbers.{Follows}
 use Rattle.pb_decode.specs.Tokens.After.{tag, awaited, After}
 use Rattle.pb_decode.specs.Values.PayloadValue.{IfBadText}
-use Rattle.pb_decode.specs.Values.Run.{put_one, put_run}
+use Rattle.pb_decode.specs.Values.Run.{put_run}
 
 -- a number of a record with this purpose
 abbrev pub PutsNumber : {A E : Type 0} → Types → ℕ → Purpose → Number → Part → Part → Result A E → Type 0
@@ -57,15 +56,15 @@ RefusesPayload pool number meant bytes old result =
     → IfErr result (λ e. IfBadText e (λ valid.
     Bad (schema_of pool) (records (a_message m)) depth p0 (below (path_of frames) (fault (u.at + valid) (next_step number scope ∷ []) BadText))))
 
--- the element at the front of these bytes, with so many before the known end: with it in the part the list goes on behind it
-abbrev pub TellsElement : Types → Kind → List ℕ → Option ℕ → Option (Element × ℕ) → Type 0
-TellsElement pool kind bytes left result =
-    (m depth levels at number : ℕ) (outer : Option ℕ) (base : List Record) (p0 : Place) (frames : List Frame) (scope : Scope) (now : PartView)
-    → After pool m depth levels base p0 frames (Elements number kind outer) now scope (given_at at left bytes)
-    → IfSome result (λ r.
-    After pool m depth levels base p0 frames (Elements number kind outer) (put_one number r.0 now) scope (passed (given_at at left bytes) r.1))
+-- behind so many of these bytes, with so many before the known end: with one run in the part a packed list stands at their front, and with the other it
+-- goes on behind them
+abbrev pub GoesOn : Types → ℕ → Kind → List ℕ → Option ℕ → Run → Run → ℕ → Type 0
+GoesOn pool number kind bytes left old new used =
+    (m depth levels at : ℕ) (outer : Option ℕ) (base : List Record) (p0 : Place) (frames : List Frame) (scope : Scope) (now : PartView)
+    → After pool m depth levels base p0 frames (Elements number kind outer) (put_run number old now) scope (given_at at left bytes)
+    → After pool m depth levels base p0 frames (Elements number kind outer) (put_run number new now) scope (passed (given_at at left bytes) used)
 
--- the same of the elements of a run, in a list of this number
+-- the elements of a run at the front of these bytes, in a list of this number
 abbrev pub TellsRun : {E : Type 0} → Types → ℕ → Kind → List ℕ → Option ℕ → Result (Run × ℕ) E → Type 0
 TellsRun pool number kind bytes left result =
     (m depth levels at : ℕ) (outer : Option ℕ) (base : List Record) (p0 : Place) (frames : List Frame) (scope : Scope) (now : PartView)

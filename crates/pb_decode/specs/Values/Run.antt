@@ -1,15 +1,12 @@
 -- What a run of elements makes of the part that their list stands in.
 use Rattle.std.specs.Prelude.{ℕ, List, [], ◌∷◌, ◌++◌, map}
 use Rattle.pb_wire.specs.Record.{Record}
-use Rattle.pb_wire.specs.Unknown.{payload_of, records_of}
+use Rattle.pb_wire.specs.Unknown.{records_of}
 use Rattle.pb_value.specs.Data.{Datum, Message, body, fields_of, unknown_of}
 use Rattle.pb_value.specs.View.{value_view}
 use Rattle.pb_value.specs.Change.{push_at, push_each, with_fields}
-use Rattle.pb_decode.specs.declared.values.run.Element.{Element}
-use Rattle.pb_decode.specs.declared.values.run.Element.TheVariants as element
 use Rattle.pb_decode.specs.declared.values.run.Run.{Run}
 use Rattle.pb_decode.specs.Open.Frames.{Part, message_part, entry_part, group_part}
-use Rattle.pb_decode.specs.Values.Put.{put_record}
 
 -- a value at the end of the list of number n of a part
 abbrev pub put_listed : ℕ → Datum → Part → Part
@@ -31,11 +28,6 @@ abbrev pub put_records : List Record → Part → Part
 put_records rs (message_part m v) = message_part m (body (fields_of v) (unknown_of v ++ rs))
 put_records rs (entry_part key k x e) = entry_part key k x e
 put_records rs (group_part us) = group_part (us ++ rs)
-
--- an element of the list of number n: a value at its end, or a number that a closed enum doesn't declare among the unknown records
-abbrev pub put_one : ℕ → Element → Part → Part
-put_one n (element.Value v) p = put_listed n (value_view v) p
-put_one n (element.Undeclared u) p = put_record n (payload_of u) p
 
 -- the elements of a run: fields and unknown records change apart
 abbrev pub put_run : ℕ → Run → Part → Part

@@ -1,6 +1,7 @@
 //! What a whole length or the tag of a group opens.
 
-ghost use Rattle.std.specs.Prelude.{◌≡◌, ℕ, IfSome, IfNone, option_map};
+ghost use Rattle.std.specs.Prelude.{◌≡◌, ℕ, true, IfSome, IfNone, option_map};
+ghost use Rattle.pb_value.specs.Data.{empty};
 ghost use Rattle.pb_value.specs.View.{body_view, content_view, value_view};
 ghost use Rattle.pb_decode.specs.declared.open.purpose.Purpose.TheVariants as purpose;
 ghost use Rattle.pb_decode.specs.Open.PartView.{part_view};
@@ -41,9 +42,32 @@ fn message_in(alloc: Global, content: Option<Content>) -> Body
     }
 }
 
-/// Takes out what a message that is opened for a slot goes on from.
-#[inline(always)]
-pub(crate) fn take_message(alloc: Global, slot: Slot, outer: &mut Part) -> Body
+/// Says that a slot of a part holds nothing that a message for it goes on from.
+pub(crate) fn is_free(part: &Part, slot: Slot) -> bool
+    ensures { result ≡ true → (taken_message slot (part_view part.now) ≡ empty) × (without_message slot (part_view part.now) ≡ part_view part.now) }
+{
+    match part {
+        Part::Message(_, body) => match slot {
+            Slot::One(_, number) => !body.fields.contains_key(&number),
+            Slot::List(_) => true,
+            Slot::Map(_) | Slot::Entry | Slot::Unknown(_) => false,
+        },
+        Part::Entry {
+            key_kind: _,
+            value_kind: _,
+            key: _,
+            value,
+        } => match slot {
+            Slot::Entry => value.is_none(),
+            Slot::One(_, _) | Slot::List(_) | Slot::Map(_) | Slot::Unknown(_) => false,
+        },
+        Part::Group(_) => false,
+    }
+}
+
+/// Takes the message out of a slot that isn't free. Few slots are such, and what this keeps on the stack costs nothing where it stands apart.
+#[inline(never)]
+fn take_held(alloc: Global, slot: Slot, outer: &mut Part) -> Body
     ensures taken { body_view result ≡ taken_message slot (part_view outer.old) }
     ensures left { part_view outer.new ≡ without_message slot (part_view outer.old) }
 {
@@ -62,6 +86,19 @@ pub(crate) fn take_message(alloc: Global, slot: Slot, outer: &mut Part) -> Body
             Slot::One(_, _) | Slot::List(_) | Slot::Map(_) | Slot::Unknown(_) => empty_body(alloc),
         },
         Part::Group(_) => empty_body(alloc),
+    }
+}
+
+/// Takes out what a message that is opened for a slot goes on from.
+#[inline(always)]
+pub(crate) fn take_message(alloc: Global, slot: Slot, outer: &mut Part) -> Body
+    ensures taken { body_view result ≡ taken_message slot (part_view outer.old) }
+    ensures left { part_view outer.new ≡ without_message slot (part_view outer.old) }
+{
+    if is_free(outer, slot) {
+        empty_body(alloc)
+    } else {
+        take_held(alloc, slot, outer)
     }
 }
 

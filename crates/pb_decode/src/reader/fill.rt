@@ -1,6 +1,7 @@
-//! What stands whole in the bytes is read into a part at once, with all that it holds, without a frame.
+//! What stands whole in the bytes is read into a part at once, with all that it holds, without a frame. Where memory is refused
+//! nothing is told either: the reader of pieces goes over the bytes and tells it.
 
-ghost use Rattle.std.specs.Prelude.{◌≡◌, ◌⊎◌, ◌+◌, ◌≤◌, ◌<◌, ◌^◌, Some, length, IfOk, IfSome};
+ghost use Rattle.std.specs.Prelude.{◌≡◌, ◌⊎◌, ◌+◌, ◌≤◌, ◌<◌, ◌^◌, Some, length, IfSome};
 ghost use Rattle.pb_schema.specs.Rules.{IsPool};
 ghost use Rattle.pb_decode.specs.declared.open.purpose.Purpose.TheVariants as purposes;
 ghost use Rattle.pb_decode.specs.Open.PartView.{part_view};
@@ -22,7 +23,7 @@ use crate::open::opening::{room_in, take_message};
 use crate::open::part::{Part, Slot};
 use crate::open::purpose::{Purpose, purpose_of};
 use crate::reader::fill::entries::fill_entries;
-use crate::reader::fill::group::{Extent, fill_group};
+use crate::reader::fill::group::fill_group;
 use crate::reader::fill::messages::fill_messages;
 use crate::reader::fill_run::fill_run;
 use crate::reader::quick_record::length_behind;
@@ -49,7 +50,7 @@ fn fill_one(
     bytes: &[u8],
     left: u32,
     room: u8,
-) -> Result<Option<usize>, NoMemory>
+) -> Option<usize>
     requires rules { IsPool pool.now }
     requires open { IsOpen pool.now (part_view part.old) bytes.now left room }
     requires small { length bytes.now < 2 ^ 31 }
@@ -57,17 +58,19 @@ fn fill_one(
     requires within { tag.size ≤ length bytes.now }
     requires tag { HasTagAt bytes.now (Some left) tag.number tag.wire_type tag.size }
     requires means { Means pool.now (part_context (part_view part.old)) tag.number tag.wire_type purpose }
-    ensures passes { IfOk result (λ o. IfSome o (λ n. (tag.size ≤ n) × (n ≤ length bytes.now))) }
+    ensures passes { IfSome result (λ n. (tag.size ≤ n) × (n ≤ length bytes.now)) }
     ensures filled { FillsOne pool.now part.old part.new bytes.now left room result }
 {
     let behind = left_behind(Some(left), tag.size);
     match number_at(tag.wire_type, &bytes[tag.size..], behind) {
         NumberToken::Whole(value, size) => {
-            put_number(alloc, pool, part, tag.number, purpose, value)?;
-            Ok(Some(tag.size + size))
+            match put_number(alloc, pool, part, tag.number, purpose, value) {
+                Ok(()) => Some(tag.size + size),
+                Err(NoMemory) => None,
+            }
         }
-        NumberToken::Short => Ok(None),
-        NumberToken::Fault(_) => Ok(None),
+        NumberToken::Short => None,
+        NumberToken::Fault(_) => None,
     }
 }
 
@@ -82,7 +85,7 @@ fn fill_element(
     bytes: &[u8],
     left: u32,
     room: u8,
-) -> Result<Option<usize>, NoMemory>
+) -> Option<usize>
     requires rules { IsPool pool.now }
     requires open { IsOpen pool.now (part_view part.old) bytes.now left room }
     requires small { length bytes.now < 2 ^ 31 }
@@ -90,15 +93,16 @@ fn fill_element(
     requires within { tag.size ≤ length bytes.now }
     requires tag { HasTagAt bytes.now (Some left) tag.number tag.wire_type tag.size }
     requires means { Means pool.now (part_context (part_view part.old)) tag.number tag.wire_type (purposes.Element kind) }
-    ensures passes { IfOk result (λ o. IfSome o (λ n. (tag.size ≤ n) × (n ≤ length bytes.now))) }
+    ensures passes { IfSome result (λ n. (tag.size ≤ n) × (n ≤ length bytes.now)) }
     ensures filled { FillsOne pool.now part.old part.new bytes.now left room result }
 {
-    match fill_run(alloc, pool, part, tag, kind, bytes, left, room)? {
-        Some(used) => Ok(Some(used)),
-        None => {
+    match fill_run(alloc, pool, part, tag, kind, bytes, left, room) {
+        Ok(Some(used)) => Some(used),
+        Ok(None) => {
             let purpose = Purpose::Element(kind);
             fill_one(alloc, pool, part, tag, purpose, bytes, left, room)
         }
+        Err(NoMemory) => None,
     }
 }
 
@@ -113,14 +117,14 @@ fn fill_number(
     bytes: &[u8],
     left: u32,
     room: u8,
-) -> Result<Option<usize>, NoMemory>
+) -> Option<usize>
     requires rules { IsPool pool.now }
     requires open { IsOpen pool.now (part_view part.old) bytes.now left room }
     requires small { length bytes.now < 2 ^ 31 }
     requires number { (tag.wire_type ≡ 0) ⊎ (tag.wire_type ≡ 1) ⊎ (tag.wire_type ≡ 5) }
     requires within { tag.size ≤ length bytes.now }
     requires tag { HasTagAt bytes.now (Some left) tag.number tag.wire_type tag.size }
-    ensures passes { IfOk result (λ o. IfSome o (λ n. (tag.size ≤ n) × (n ≤ length bytes.now))) }
+    ensures passes { IfSome result (λ n. (tag.size ≤ n) × (n ≤ length bytes.now)) }
     ensures filled { FillsOne pool.now part.old part.new bytes.now left room result }
 {
     let purpose = purpose_of(pool, part, tag.number, tag.wire_type);
@@ -150,7 +154,7 @@ fn fill_bytes(
     bytes: &[u8],
     left: u32,
     room: u8,
-) -> Result<Option<usize>, NoMemory>
+) -> Option<usize>
     requires rules { IsPool pool.now }
     requires open { IsOpen pool.now (part_view part.old) bytes.now left room }
     requires small { length bytes.now < 2 ^ 31 }
@@ -159,21 +163,21 @@ fn fill_bytes(
     requires tag { HasTagAt bytes.now (Some left) tag.number tag.wire_type tag.size }
     requires means { Means pool.now (part_context (part_view part.old)) tag.number 2 purpose }
     requires purpose { IsBytesPurpose purpose }
-    ensures passes { IfOk result (λ o. IfSome o (λ n. (tag.size ≤ n) × (n ≤ length bytes.now))) }
+    ensures passes { IfSome result (λ n. (tag.size ≤ n) × (n ≤ length bytes.now)) }
     ensures filled { FillsOne pool.now part.old part.new bytes.now left room result }
 {
     let Some((start, size)) = length_behind(tag.size, bytes, Some(left)) else {
-        return Ok(None);
+        return None;
     };
     let size = size as usize;
     if bytes.len() - start < size {
-        return Ok(None);
+        return None;
     }
     let end = start + size;
     match put_payload(alloc, pool, part, tag.number, purpose, &bytes[start..end]) {
-        Ok(()) => Ok(Some(end)),
-        Err(PayloadError::BadText(_)) => Ok(None),
-        Err(PayloadError::Memory) => Err(NoMemory),
+        Ok(()) => Some(end),
+        Err(PayloadError::BadText(_)) => None,
+        Err(PayloadError::Memory) => None,
     }
 }
 
@@ -189,7 +193,7 @@ fn fill_list(
     bytes: &[u8],
     left: u32,
     room: u8,
-) -> Result<Option<usize>, NoMemory>
+) -> Option<usize>
     requires rules { IsPool pool.now }
     requires open { IsOpen pool.now (part_view part.old) bytes.now left room }
     requires small { length bytes.now < 2 ^ 31 }
@@ -197,18 +201,23 @@ fn fill_list(
     requires within { tag.size ≤ length bytes.now }
     requires tag { HasTagAt bytes.now (Some left) tag.number tag.wire_type tag.size }
     requires means { Means pool.now (part_context (part_view part.old)) tag.number 2 (purposes.Packed kind) }
-    ensures passes { IfOk result (λ o. IfSome o (λ n. (tag.size ≤ n) × (n ≤ length bytes.now))) }
+    ensures passes { IfSome result (λ n. (tag.size ≤ n) × (n ≤ length bytes.now)) }
     ensures filled { FillsOne pool.now part.old part.new bytes.now left room result }
 {
     let Some((start, size)) = length_behind(tag.size, bytes, Some(left)) else {
-        return Ok(None);
+        return None;
     };
-    let (run, used) = read_run(alloc, pool, tag.number, kind, &bytes[start..], Some(size))?;
+    let Ok((run, used)) = read_run(alloc, pool, tag.number, kind, &bytes[start..], Some(size))
+    else {
+        return None;
+    };
     if used != size as usize {
-        return Ok(None);
+        return None;
     }
-    put_run(alloc, part, tag.number, run)?;
-    Ok(Some(start + used))
+    match put_run(alloc, part, tag.number, run) {
+        Ok(()) => Some(start + used),
+        Err(NoMemory) => None,
+    }
 }
 
 /// Puts the entry behind a tag into the map of a message, if it stands whole there, and how many bytes its record takes.
@@ -223,7 +232,7 @@ fn fill_entry(
     bytes: &[u8],
     left: u32,
     room: u8,
-) -> Result<Option<usize>, NoMemory>
+) -> Option<usize>
     requires rules { IsPool pool.now }
     requires open { IsOpen pool.now (part_view part.old) bytes.now left room }
     requires small { length bytes.now < 2 ^ 31 }
@@ -232,18 +241,18 @@ fn fill_entry(
     requires within { tag.size ≤ length bytes.now }
     requires tag { HasTagAt bytes.now (Some left) tag.number tag.wire_type tag.size }
     requires means { Means pool.now (part_context (part_view part.old)) tag.number 2 (purposes.Entry key_kind value_kind) }
-    ensures passes { IfOk result (λ o. IfSome o (λ n. (tag.size ≤ n) × (n ≤ length bytes.now))) }
+    ensures passes { IfSome result (λ n. (tag.size ≤ n) × (n ≤ length bytes.now)) }
     ensures filled { FillsOne pool.now part.old part.new bytes.now left room result }
 {
     if room == 0 {
-        return Ok(None);
+        return None;
     }
     let Some((start, size)) = length_behind(tag.size, bytes, Some(left)) else {
-        return Ok(None);
+        return None;
     };
     let end = start + size as usize;
     if bytes.len() < end {
-        return Ok(None);
+        return None;
     }
     let mut entry = Part::Entry {
         key_kind,
@@ -251,8 +260,8 @@ fn fill_entry(
         key: None,
         value: None,
     };
-    if !fill(alloc, pool, &mut entry, &bytes[start..], size, room - 1)? {
-        return Ok(None);
+    if !fill(alloc, pool, &mut entry, &bytes[start..], size, room - 1) {
+        return None;
     }
     match entry {
         Part::Entry {
@@ -262,11 +271,13 @@ fn fill_entry(
             value,
         } => {
             let slot = Slot::Map(tag.number);
-            put_entry(alloc, slot, part, key_kind, value_kind, key, value)?;
-            Ok(Some(end))
+            match put_entry(alloc, slot, part, key_kind, value_kind, key, value) {
+                Ok(()) => Some(end),
+                Err(NoMemory) => None,
+            }
         }
-        Part::Message(_kind, _body) => Ok(None),
-        Part::Group(_records) => Ok(None),
+        Part::Message(_kind, _body) => None,
+        Part::Group(_records) => None,
     }
 }
 
@@ -283,7 +294,7 @@ fn fill_message(
     bytes: &[u8],
     left: u32,
     room: u8,
-) -> Result<Option<usize>, NoMemory>
+) -> Option<usize>
     requires rules { IsPool pool.now }
     requires open { IsOpen pool.now (part_view part.old) bytes.now left room }
     requires small { length bytes.now < 2 ^ 31 }
@@ -292,36 +303,38 @@ fn fill_message(
     requires within { tag.size ≤ length bytes.now }
     requires tag { HasTagAt bytes.now (Some left) tag.number tag.wire_type tag.size }
     requires means { Means pool.now (part_context (part_view part.old)) tag.number 2 (purposes.Message message_type slot) }
-    ensures passes { IfOk result (λ o. IfSome o (λ n. (tag.size ≤ n) × (n ≤ length bytes.now))) }
+    ensures passes { IfSome result (λ n. (tag.size ≤ n) × (n ≤ length bytes.now)) }
     ensures filled { FillsOne pool.now part.old part.new bytes.now left room result }
 {
     if !has_room(room, Purpose::Message(message_type, slot)) {
-        return Ok(None);
+        return None;
     }
     let Some((start, size)) = length_behind(tag.size, bytes, Some(left)) else {
-        return Ok(None);
+        return None;
     };
     let end = start + size as usize;
     if bytes.len() < end {
-        return Ok(None);
+        return None;
     }
     let mut inner = Part::Message(message_type, take_message(alloc, slot, part));
     let below = room_in(slot, room);
-    if !fill(alloc, pool, &mut inner, &bytes[start..], size, below)? {
-        return Ok(None);
+    if !fill(alloc, pool, &mut inner, &bytes[start..], size, below) {
+        return None;
     }
     match inner {
         Part::Message(_kind, message) => {
-            put_message(alloc, pool, slot, part, message)?;
-            Ok(Some(end))
+            match put_message(alloc, pool, slot, part, message) {
+                Ok(()) => Some(end),
+                Err(NoMemory) => None,
+            }
         }
         Part::Entry {
             key_kind: _,
             value_kind: _,
             key: _key,
             value: _value,
-        } => Ok(None),
-        Part::Group(_records) => Ok(None),
+        } => None,
+        Part::Group(_records) => None,
     }
 }
 
@@ -336,7 +349,7 @@ fn fill_length(
     bytes: &[u8],
     left: u32,
     room: u8,
-) -> Result<Option<usize>, NoMemory>
+) -> Option<usize>
     requires rules { IsPool pool.now }
     requires open { IsOpen pool.now (part_view part.old) bytes.now left room }
     requires small { length bytes.now < 2 ^ 31 }
@@ -344,7 +357,7 @@ fn fill_length(
     requires some { 0 < tag.size }
     requires within { tag.size ≤ length bytes.now }
     requires tag { HasTagAt bytes.now (Some left) tag.number tag.wire_type tag.size }
-    ensures passes { IfOk result (λ o. IfSome o (λ n. (tag.size ≤ n) × (n ≤ length bytes.now))) }
+    ensures passes { IfSome result (λ n. (tag.size ≤ n) × (n ≤ length bytes.now)) }
     ensures filled { FillsOne pool.now part.old part.new bytes.now left room result }
 {
     let purpose = purpose_of(pool, part, tag.number, 2);
@@ -379,32 +392,28 @@ fn fill_record(
     bytes: &[u8],
     left: u32,
     room: u8,
-) -> Result<Option<usize>, NoMemory>
+) -> Option<usize>
     requires rules { IsPool pool.now }
     requires open { IsOpen pool.now (part_view part.old) bytes.now left room }
     requires small { length bytes.now < 2 ^ 31 }
-    ensures passes { IfOk result (λ o. IfSome o (λ n. (0 < n) × (n ≤ length bytes.now))) }
+    ensures passes { IfSome result (λ n. (0 < n) × (n ≤ length bytes.now)) }
     ensures filled { FillsOne pool.now part.old part.new bytes.now left room result }
 {
-    let Some(tag) = record_tag(bytes, Some(left)) else {
-        return Ok(None);
-    };
+    let tag = record_tag(bytes, Some(left))?;
     if tag.wire_type == 2 {
         fill_length(alloc, pool, part, tag, bytes, left, room)
     } else if tag.wire_type == 0 || tag.wire_type == 1 || tag.wire_type == 5 {
         fill_number(alloc, pool, part, tag, bytes, left, room)
     } else if tag.wire_type == 3 {
-        match fill_group(alloc, pool, part, tag, bytes, left, room)? {
-            Extent::Whole(size) => Ok(Some(size)),
-            Extent::Cut(_) => Ok(None),
-        }
+        let group = fill_group(alloc, pool, part, tag, bytes, left, room);
+        if group.whole { Some(group.size) } else { None }
     } else {
-        Ok(None)
+        None
     }
 }
 
-/// Puts the records of a payload of this size into its part, if each stands whole, and says whether that is so. If it is not,
-/// something may be in the part.
+/// Puts the records of a payload of this size into its part, if each stands whole, and says whether that is so. If it is not, or if
+/// memory is refused, something may be in the part.
 #[cycle(fill)]
 pub(crate) fn fill(
     alloc: Global,
@@ -413,7 +422,7 @@ pub(crate) fn fill(
     bytes: &[u8],
     size: u32,
     room: u8,
-) -> Result<bool, NoMemory>
+) -> bool
     requires rules { IsPool pool.now }
     requires open { IsOpen pool.now (part_view part.old) bytes.now size room }
     requires small { length bytes.now < 2 ^ 31 }
@@ -423,10 +432,10 @@ pub(crate) fn fill(
     let mut here = 0;
     while here < size as usize {
         let left = size - here as u32;
-        let Some(used) = fill_record(alloc, pool, part, &bytes[here..], left, room)? else {
-            return Ok(false);
+        let Some(used) = fill_record(alloc, pool, part, &bytes[here..], left, room) else {
+            return false;
         };
         here += used;
     }
-    Ok(here == size as usize)
+    here == size as usize
 }

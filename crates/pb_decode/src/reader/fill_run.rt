@@ -133,7 +133,7 @@ pub(crate) fn fill_run(
     requires means { Means pool.now (part_context (part_view part.old)) tag.number (wire_type_of kind) (Element kind) }
     ensures passes { IfOk result (λ o. IfSome o (λ n. (tag.size ≤ n) × (n ≤ length bytes.now))) }
     ensures none { IfOk result (λ o. IfNone o (part.new ≡ part.old)) }
-    ensures filled { FillsOne pool.now part.old part.new bytes.now left room result }
+    ensures filled { IfOk result (FillsOne pool.now part.old part.new bytes.now left room) }
 {
     let Some((value, size)) = element_behind(pool, kind, tag, bytes, left) else {
         return Ok(None);

@@ -59,7 +59,7 @@ pub(crate) fn take_entry(
         value: None,
     };
     let room = reader.scope.room - 1;
-    if !fill(alloc, pool, &mut entry, &bytes[start..], size, room)? {
+    if !fill(alloc, pool, &mut entry, &bytes[start..], size, room) {
         *tried = reader.at + end as u32;
         return Ok(None);
     }

@@ -11,11 +11,10 @@ ghost use Rattle.pb_decode.specs.Reader.Steps.{HasTagHere, TakesWhole};
 
 use crate::close::put::close_message;
 use crate::error::NoMemory;
-use crate::open::opening::message_slot;
+use crate::open::opening::{is_free, message_slot};
 use crate::open::part::{Part, Slot};
 use crate::open::purpose::purpose_of;
-use crate::reader::fill::group::{Extent, fill_to_tag};
-use crate::reader::quick_message::is_free;
+use crate::reader::fill::group::fill_to_tag;
 use crate::reader::quick_record::take_group_start;
 use crate::reader::state::{Reader, left};
 use crate::tokens::record_tag::{RecordTag, left_behind};
@@ -68,29 +67,27 @@ fn take_field_group(
     let room = reader.scope.room - 1;
     let behind = &bytes[tag.size..];
     let before = left_at_hand(left(reader), tag.size, behind);
-    match fill_to_tag(alloc, pool, &mut inner, tag.number, behind, before, room)? {
-        Extent::Whole(size) => match inner {
-            Part::Message(_kind, message) => {
-                let outer = &mut reader.part;
-                let around = &mut reader.scope;
-                close_message(alloc, pool, outer, around, tag.number, slot, message)?;
-                let used = tag.size + size;
-                reader.at += used as u32;
-                Ok(Some(used))
-            }
-            Part::Entry {
-                key_kind: _,
-                value_kind: _,
-                key: _key,
-                value: _value,
-            } => Ok(None),
-            Part::Group(_records) => Ok(None),
-        },
-        Extent::Cut(read) => {
-            let read = tag.size + read;
-            *tried = reader.at + read as u32;
-            Ok(None)
+    let read = fill_to_tag(alloc, pool, &mut inner, tag.number, behind, before, room);
+    let used = tag.size + read.size;
+    if !read.whole {
+        *tried = reader.at + used as u32;
+        return Ok(None);
+    }
+    match inner {
+        Part::Message(_kind, message) => {
+            let outer = &mut reader.part;
+            let around = &mut reader.scope;
+            close_message(alloc, pool, outer, around, tag.number, slot, message)?;
+            reader.at += used as u32;
+            Ok(Some(used))
         }
+        Part::Entry {
+            key_kind: _,
+            value_kind: _,
+            key: _key,
+            value: _value,
+        } => Ok(None),
+        Part::Group(_records) => Ok(None),
     }
 }
 

@@ -1,11 +1,9 @@
 //! Messages that stand whole in the bytes: each goes into its slot at once, without a frame.
 
-ghost use Rattle.std.specs.Prelude.{◌≡◌, ◌+◌, ◌≤◌, true, length, IfOk, IfSome, IfNone};
+ghost use Rattle.std.specs.Prelude.{◌≡◌, ◌+◌, ◌≤◌, length, IfOk, IfSome, IfNone};
 ghost use Rattle.pb_schema.specs.Rules.{IsPool};
-ghost use Rattle.pb_value.specs.Data.{empty};
 ghost use Rattle.pb_decode.specs.declared.open.purpose.Purpose.TheVariants as purposes;
 ghost use Rattle.pb_decode.specs.declared.tokens.step.Step.TheVariants.{Tag};
-ghost use Rattle.pb_decode.specs.Open.Openings.{taken_message, without_message};
 ghost use Rattle.pb_decode.specs.Open.PartView.{part_view};
 ghost use Rattle.pb_decode.specs.Open.Purposes.{Means, part_context};
 ghost use Rattle.pb_decode.specs.Reader.{state_view, IsReading};
@@ -13,7 +11,7 @@ ghost use Rattle.pb_decode.specs.Reader.Steps.{HasTagHere, TakesWhole};
 
 use crate::close::put::close_message;
 use crate::error::NoMemory;
-use crate::open::opening::room_in;
+use crate::open::opening::{is_free, room_in};
 use crate::open::part::{Part, Slot};
 use crate::open::purpose::Purpose;
 use crate::reader::fill::fill;
@@ -24,29 +22,6 @@ use crate::tokens::tag_step::has_room;
 use pb_schema::{MessageId, Pool};
 use pb_value::empty_body;
 use std::alloc::Global;
-
-/// Says that a slot of a part holds nothing that a message for it goes on from.
-pub(crate) fn is_free(part: &Part, slot: Slot) -> bool
-    ensures { result ≡ true → (taken_message slot (part_view part.now) ≡ empty) × (without_message slot (part_view part.now) ≡ part_view part.now) }
-{
-    match part {
-        Part::Message(_, body) => match slot {
-            Slot::One(_, number) => !body.fields.contains_key(&number),
-            Slot::List(_) => true,
-            Slot::Map(_) | Slot::Entry | Slot::Unknown(_) => false,
-        },
-        Part::Entry {
-            key_kind: _,
-            value_kind: _,
-            key: _,
-            value,
-        } => match slot {
-            Slot::Entry => value.is_none(),
-            Slot::One(_, _) | Slot::List(_) | Slot::Map(_) | Slot::Unknown(_) => false,
-        },
-        Part::Group(_) => false,
-    }
-}
 
 /// Takes the message behind whose tag its payload stands whole, if its slot is free, and how many bytes it takes. Where the payload
 /// was read and can't be taken so, `tried` is where it ends.
@@ -86,7 +61,7 @@ pub(crate) fn take_message_record(
     }
     let mut inner = Part::Message(message_type, empty_body(alloc));
     let room = room_in(slot, reader.scope.room);
-    if !fill(alloc, pool, &mut inner, &bytes[start..], size, room)? {
+    if !fill(alloc, pool, &mut inner, &bytes[start..], size, room) {
         *tried = reader.at + end as u32;
         return Ok(None);
     }

@@ -1,12 +1,11 @@
 //! Texts that are all at hand: each is read into its message at once, without a reader.
 
-ghost use Rattle.std.specs.Prelude.{◌<◌, length, IfOk, IfSome};
+ghost use Rattle.std.specs.Prelude.{◌<◌, length, IfSome};
 ghost use Rattle.pb_schema.specs.Rules.{IsPool};
 ghost use Rattle.pb_value.specs.Derives.{Text};
 ghost use Rattle.pb_value.specs.View.{body_view};
 ghost use Rattle.pb_value.specs.WellFormed.{IsWellFormed};
 
-use crate::error::NoMemory;
 use crate::open::part::Part;
 use crate::reader::fill::fill;
 use pb_schema::{MessageId, Pool};
@@ -14,37 +13,38 @@ use pb_value::{Body, empty_body};
 use pb_wire::Limits;
 use std::alloc::Global;
 
-/// The body of the message whose text the bytes are, or none: then a reader tells their fault.
+/// The body of the message whose text the bytes are, or none: then a reader tells their fault, or that memory
+/// is refused.
 pub(crate) fn read_text(
     alloc: Global,
     pool: &Pool,
     message_type: MessageId,
     bytes: &[u8],
     limits: Limits,
-) -> Result<Option<Body>, NoMemory>
+) -> Option<Body>
     requires rules { IsPool pool.now }
     requires within { message_type.0 < length pool.now.messages }
-    ensures text { IfOk result (λ o. IfSome o (λ b. Text pool.now message_type.0 limits bytes.now (body_view b))) }
-    ensures well_formed { IfOk result (λ o. IfSome o (λ b. IsWellFormed pool.now message_type.0 (body_view b))) }
+    ensures text { IfSome result (λ b. Text pool.now message_type.0 limits bytes.now (body_view b)) }
+    ensures well_formed { IfSome result (λ b. IsWellFormed pool.now message_type.0 (body_view b)) }
 {
     let room = limits.max_depth();
     let most = limits.max_bytes();
     if bytes.len() > most as usize {
-        return Ok(None);
+        return None;
     }
     let size = bytes.len() as u32;
     let mut top = Part::Message(message_type, empty_body(alloc));
-    if !fill(alloc, pool, &mut top, bytes, size, room)? {
-        return Ok(None);
+    if !fill(alloc, pool, &mut top, bytes, size, room) {
+        return None;
     }
     match top {
-        Part::Message(_kind, body) => Ok(Some(body)),
+        Part::Message(_kind, body) => { Some(body) }
         Part::Entry {
             key_kind: _,
             value_kind: _,
             key: _key,
             value: _value,
-        } => Ok(None),
-        Part::Group(_records) => Ok(None),
+        } => None,
+        Part::Group(_records) => None,
     }
 }

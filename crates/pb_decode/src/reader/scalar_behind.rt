@@ -1,11 +1,10 @@
 //! Scalars that stand whole behind their tags.
 
-ghost use Rattle.std.specs.Prelude.{◌≡◌, ◌⊎◌, ◌≤◌, ◌<◌, ◌^◌, Some, length, IfOk, IfSome};
+ghost use Rattle.std.specs.Prelude.{◌≡◌, ◌⊎◌, ◌≤◌, ◌<◌, ◌^◌, Some, length, IfSome};
 ghost use Rattle.pb_schema.specs.Rules.{IsPool};
 ghost use Rattle.pb_decode.specs.Reader.Fills.{HasTagAt};
 ghost use Rattle.pb_decode.specs.Reader.Scalars.{TellsNumberThere, TellsScalar};
 
-use crate::error::NoMemory;
 use crate::reader::quick_record::length_behind;
 use crate::reader::state::number_at;
 use crate::tokens::number::{Number, number_value};
@@ -65,13 +64,8 @@ pub(crate) fn number_behind(
     ensures within { IfSome result (λ r. (tag.size ≤ r.1) × (r.1 ≤ length bytes.now)) }
     ensures put { TellsScalar pool.now kind tag.number tag.wire_type bytes.now left result }
 {
-    let Some((number, size)) = number_there(pool, kind, tag, bytes, left) else {
-        return None;
-    };
-    match number_value(kind, number) {
-        Some(value) => Some((value, size)),
-        None => None,
-    }
+    let (number, size) = number_there(pool, kind, tag, bytes, left)?;
+    Some((number_value(kind, number), size))
 }
 
 /// The value that the bytes behind a tag and a length are, if they stand whole there, and how many bytes their record takes. Bytes
@@ -84,28 +78,28 @@ pub(crate) fn bytes_behind(
     tag: RecordTag,
     bytes: &[u8],
     left: u32,
-) -> Result<Option<(Value, usize)>, NoMemory>
+) -> Option<(Value, usize)>
     requires rules { IsPool pool.now }
     requires bytes { tag.wire_type ≡ 2 }
     requires within { tag.size ≤ length bytes.now }
     requires small { length bytes.now < 2 ^ 31 }
     requires tag { HasTagAt bytes.now (Some left) tag.number tag.wire_type tag.size }
-    ensures within { IfOk result (λ o. IfSome o (λ r. (tag.size ≤ r.1) × (r.1 ≤ length bytes.now))) }
-    ensures put { IfOk result (TellsScalar pool.now kind tag.number 2 bytes.now left) }
+    ensures within { IfSome result (λ r. (tag.size ≤ r.1) × (r.1 ≤ length bytes.now)) }
+    ensures put { TellsScalar pool.now kind tag.number 2 bytes.now left result }
 {
     let Some((start, size)) = length_behind(tag.size, bytes, Some(left)) else {
-        return Ok(None);
+        return None;
     };
     let size = size as usize;
     if bytes.len() - start < size {
-        return Ok(None);
+        return None;
     }
     let end = start + size;
     match payload_value(alloc, kind, &bytes[start..end]) {
-        Ok(Some(value)) => Ok(Some((value, end))),
-        Ok(None) => Ok(None),
-        Err(PayloadError::BadText(_)) => Ok(None),
-        Err(PayloadError::Memory) => Err(NoMemory),
+        Ok(Some(value)) => Some((value, end)),
+        Ok(None) => None,
+        Err(PayloadError::BadText(_)) => None,
+        Err(PayloadError::Memory) => None,
     }
 }
 
@@ -118,19 +112,19 @@ pub(crate) fn scalar_behind(
     tag: RecordTag,
     bytes: &[u8],
     left: u32,
-) -> Result<Option<(Value, usize)>, NoMemory>
+) -> Option<(Value, usize)>
     requires rules { IsPool pool.now }
     requires within { tag.size ≤ length bytes.now }
     requires small { length bytes.now < 2 ^ 31 }
     requires tag { HasTagAt bytes.now (Some left) tag.number tag.wire_type tag.size }
-    ensures within { IfOk result (λ o. IfSome o (λ r. (tag.size ≤ r.1) × (r.1 ≤ length bytes.now))) }
-    ensures put { IfOk result (TellsScalar pool.now kind tag.number tag.wire_type bytes.now left) }
+    ensures within { IfSome result (λ r. (tag.size ≤ r.1) × (r.1 ≤ length bytes.now)) }
+    ensures put { TellsScalar pool.now kind tag.number tag.wire_type bytes.now left result }
 {
     if tag.wire_type == 2 {
         bytes_behind(alloc, pool, kind, tag, bytes, left)
     } else if tag.wire_type == 0 || tag.wire_type == 1 || tag.wire_type == 5 {
-        Ok(number_behind(pool, kind, tag, bytes, left))
+        number_behind(pool, kind, tag, bytes, left)
     } else {
-        Ok(None)
+        None
     }
 }

@@ -1,6 +1,6 @@
 //! Numbers of the wire as values.
 
-ghost use Rattle.std.specs.Prelude.{◌≡◌, option_map};
+ghost use Rattle.std.specs.Prelude.{◌≡◌, IfSome};
 ghost use Rattle.pb_wire.specs.Record.{varint};
 ghost use Rattle.pb_schema.specs.Kinds.{read};
 ghost use Rattle.pb_value.specs.Data.{scalar};
@@ -20,41 +20,41 @@ pub(crate) enum Number {
     I32(u32),
 }
 
-/// The value of a kind that a number stands for. There is none where the number is of another wire type.
+/// The value of a kind that a number stands for. A number of another wire type stands for none, and gives `false`.
 #[inline(always)]
-pub(crate) fn number_value(kind: Kind, number: Number) -> Option<Value>
-    ensures { option_map value_view result ≡ option_map scalar (read kind (number_view number)) }
+pub(crate) fn number_value(kind: Kind, number: Number) -> Value
+    ensures { IfSome (read kind (number_view number)) (λ x. value_view result ≡ scalar x) }
 {
     match number {
         Number::Varint(n) => varint_value(kind, n),
         Number::I64(n) => match kind {
-            Kind::Fixed64 => Some(Value::U64(n)),
-            Kind::Sfixed64 => Some(Value::I64(n.cast_signed())),
-            Kind::Double => Some(Value::F64(n)),
-            _ => None,
+            Kind::Fixed64 => Value::U64(n),
+            Kind::Sfixed64 => Value::I64(n.cast_signed()),
+            Kind::Double => Value::F64(n),
+            _ => Value::Bool(false),
         },
         Number::I32(n) => match kind {
-            Kind::Fixed32 => Some(Value::U32(n)),
-            Kind::Sfixed32 => Some(Value::I32(n.cast_signed())),
-            Kind::Float => Some(Value::F32(n)),
-            _ => None,
+            Kind::Fixed32 => Value::U32(n),
+            Kind::Sfixed32 => Value::I32(n.cast_signed()),
+            Kind::Float => Value::F32(n),
+            _ => Value::Bool(false),
         },
     }
 }
 
 #[inline(always)]
-fn varint_value(kind: Kind, n: u64) -> Option<Value>
-    ensures { option_map value_view result ≡ option_map scalar (read kind (varint n)) }
+fn varint_value(kind: Kind, n: u64) -> Value
+    ensures { IfSome (read kind (varint n)) (λ x. value_view result ≡ scalar x) }
 {
     match kind {
-        Kind::Int32 => Some(Value::I32(low_half(n).cast_signed())),
-        Kind::Int64 => Some(Value::I64(n.cast_signed())),
-        Kind::Uint32 => Some(Value::U32(low_half(n))),
-        Kind::Uint64 => Some(Value::U64(n)),
-        Kind::Sint32 => Some(Value::I32(unzigzag32(low_half(n)))),
-        Kind::Sint64 => Some(Value::I64(unzigzag64(n))),
-        Kind::Bool => Some(Value::Bool(n != 0)),
-        Kind::Enum(_) | Kind::ClosedEnum(_) => Some(Value::Enum(low_half(n).cast_signed())),
-        _ => None,
+        Kind::Int32 => Value::I32(low_half(n).cast_signed()),
+        Kind::Int64 => Value::I64(n.cast_signed()),
+        Kind::Uint32 => Value::U32(low_half(n)),
+        Kind::Uint64 => Value::U64(n),
+        Kind::Sint32 => Value::I32(unzigzag32(low_half(n))),
+        Kind::Sint64 => Value::I64(unzigzag64(n)),
+        Kind::Bool => Value::Bool(n != 0),
+        Kind::Enum(_) | Kind::ClosedEnum(_) => Value::Enum(low_half(n).cast_signed()),
+        _ => Value::Bool(false),
     }
 }

@@ -1,16 +1,13 @@
 //! Numbers go where their records' purposes say.
 
-ghost use Rattle.std.specs.Prelude.{◌≡◌, None, Some, OnOk};
-ghost use Rattle.pb_schema.specs.declared.types.Kind.{Kind as KindView};
+ghost use Rattle.std.specs.Prelude.{◌≡◌, OnOk};
 ghost use Rattle.pb_schema.specs.Rules.{IsPool};
-ghost use Rattle.pb_schema.specs.Scalar.{Scalar};
-ghost use Rattle.pb_schema.specs.Kinds.{closed_enum, read};
+ghost use Rattle.pb_schema.specs.Kinds.{closed_enum};
 ghost use Rattle.pb_schema.specs.Closed.{is_undeclared};
-ghost use Rattle.pb_value.specs.Data.{scalar};
 ghost use Rattle.pb_decode.specs.Open.Frames.{CanHold};
 ghost use Rattle.pb_decode.specs.Open.PartView.{part_view};
 ghost use Rattle.pb_decode.specs.Tokens.Number.{number_view};
-ghost use Rattle.pb_decode.specs.Values.Put.{scalar_kind as kind_given, put_datum, put_record};
+ghost use Rattle.pb_decode.specs.Values.Put.{scalar_kind as kind_given, put_record};
 ghost use Rattle.pb_decode.specs.Values.Puts.{PutsNumber, PutsElement};
 
 use crate::error::NoMemory;
@@ -50,31 +47,6 @@ pub(crate) fn is_undeclared(pool: &Pool, kind: Kind, value: Number) -> bool
     pool.is_undeclared(kind, number)
 }
 
-/// Puts the value that a number stands for into the part that its record stands in.
-#[inline(always)]
-fn put_value(
-    alloc: Global,
-    pool: &Pool,
-    part: &mut Part,
-    number: u32,
-    purpose: Purpose,
-    value: Number,
-) -> Result<(), NoMemory>
-    requires { CanHold pool.now (part_view part.old) }
-    ensures put { (kind : KindView) (x : Scalar) → kind_given purpose ≡ Some kind → read kind (number_view value) ≡ Some x
-        → OnOk result (part_view part.new ≡ put_datum pool.now number purpose (part_view part.old) (scalar x)) }
-    ensures no_kind { kind_given purpose ≡ None → part.new ≡ part.old }
-    ensures unread { (kind : KindView) → kind_given purpose ≡ Some kind → read kind (number_view value) ≡ None → part.new ≡ part.old }
-{
-    let Some(kind) = scalar_kind(purpose) else {
-        return Ok(());
-    };
-    let Some(value) = number_value(kind, value) else {
-        return Ok(());
-    };
-    put_scalar(alloc, pool, part, number, purpose, value)
-}
-
 /// Puts a number among the unknown records of the part that its record stands in.
 #[inline(always)]
 fn put_unknown_number(part: &mut Part, number: u32, value: Number) -> Result<(), NoMemory>
@@ -104,7 +76,14 @@ pub(crate) fn put_number(
                 put_unknown_number(part, number, value)?;
                 return Ok(());
             }
-            put_value(alloc, pool, part, number, purpose, value)?;
+            put_scalar(
+                alloc,
+                pool,
+                part,
+                number,
+                purpose,
+                number_value(kind, value),
+            )?;
             Ok(())
         }
         None => {
@@ -131,6 +110,14 @@ pub(crate) fn put_element(
         put_unknown_number(part, number, value)?;
         return Ok(());
     }
-    put_value(alloc, pool, part, number, Purpose::Element(kind), value)?;
+    let purpose = Purpose::Element(kind);
+    put_scalar(
+        alloc,
+        pool,
+        part,
+        number,
+        purpose,
+        number_value(kind, value),
+    )?;
     Ok(())
 }

@@ -1,10 +1,8 @@
 //! Runs of elements of a packed list.
 
-ghost use Rattle.std.specs.Prelude.{◌≡◌, ◌⊎◌, ◌≤◌, ◌<◌, length, IfOk, IfSome, OnOk};
+ghost use Rattle.std.specs.Prelude.{◌≡◌, ◌⊎◌, ◌≤◌, ◌<◌, length, IfOk, IfSome, IfNone};
 ghost use Rattle.pb_schema.specs.Kinds.{wire_type_of};
-ghost use Rattle.pb_decode.specs.Open.Frames.{Part};
-ghost use Rattle.pb_decode.specs.Values.Run.{put_one, put_run};
-ghost use Rattle.pb_decode.specs.Values.Puts.{TellsElement, TellsRun};
+ghost use Rattle.pb_decode.specs.Values.Puts.{GoesOn, TellsRun};
 
 use crate::error::NoMemory;
 use crate::reader::state::number_at;
@@ -18,40 +16,11 @@ use pb_value::Value;
 use pb_wire::Unknown;
 use std::alloc::Global;
 
-/// What an element is: a value of its list, or a number that its closed enum doesn't declare, which is an unknown record.
-#[derive(Drop)]
-pub(crate) enum Element {
-    Value(Value),
-    Undeclared(Unknown),
-}
-
 /// What the elements of a run are, each sort in its order. The unknown records have the number of the list.
 #[derive(Drop)]
 pub(crate) struct Run {
     pub(crate) values: Vec<Value>,
     pub(crate) undeclared: Vec<(u32, Unknown)>,
-}
-
-/// The element at the front of some bytes, with so many bytes before the known end, and how many bytes it takes, if it stands
-/// whole there.
-fn element_at(pool: &Pool, kind: Kind, bytes: &[u8], left: Option<u32>) -> Option<(Element, usize)>
-    requires { (wire_type_of kind ≡ 0) ⊎ (wire_type_of kind ≡ 1) ⊎ (wire_type_of kind ≡ 5) }
-    ensures within { IfSome result (λ r. (0 < r.1) × (r.1 ≤ length bytes.now)) }
-    ensures put { TellsElement pool.now kind bytes.now left result }
-{
-    match number_at(kind.wire_type(), bytes, left) {
-        NumberToken::Whole(number, size) => {
-            if is_undeclared(pool, kind, number) {
-                return Some((Element::Undeclared(unknown_number(number)), size));
-            }
-            match number_value(kind, number) {
-                Some(value) => Some((Element::Value(value), size)),
-                None => None,
-            }
-        }
-        NumberToken::Short => None,
-        NumberToken::Fault(_) => None,
-    }
 }
 
 /// How many of the bytes end a varint.
@@ -63,34 +32,79 @@ fn varint_ends(bytes: &[u8]) -> usize {
     ends
 }
 
-/// How many elements of a kind end within some bytes and before the known end, where they are sound: room for all of them.
-fn room_wanted(kind: Kind, bytes: &[u8], left: Option<u32>) -> usize {
-    let within = match left {
-        Some(left) => bytes.len().min(left as usize),
-        None => bytes.len(),
-    };
+/// How many elements of a kind end within some bytes, where they are sound: room for all of them.
+fn room_wanted(kind: Kind, bytes: &[u8]) -> usize {
     match kind.wire_type() {
-        1 => within / 8,
-        5 => within / 4,
-        _ => varint_ends(&bytes[..within]),
+        1 => bytes.len() / 8,
+        5 => bytes.len() / 4,
+        _ => varint_ends(bytes),
     }
 }
 
-/// Puts an element behind those of its sort.
-#[inline(always)]
-fn add_element(run: &mut Run, number: u32, element: Element) -> Result<(), NoMemory>
-    ensures { (p : Part) → OnOk result (put_run number run.new p ≡ put_one number element (put_run number run.old p)) }
+/// How many of some bytes stand before the known end.
+fn before_end(bytes: &[u8], left: Option<u32>) -> usize
+    ensures { result ≤ length bytes.now }
 {
-    match element {
-        Element::Value(value) => {
-            run.values.push(value)?;
-            Ok(())
-        }
-        Element::Undeclared(unknown) => {
-            run.undeclared.push((number, unknown))?;
-            Ok(())
-        }
+    match left {
+        Some(left) => bytes.len().min(left as usize),
+        None => bytes.len(),
     }
+}
+
+/// Puts the element at the front of some bytes, with so many bytes before the known end, behind those of its sort, and how many
+/// bytes it takes, if it stands whole there. A number that its closed enum doesn't declare is an unknown record.
+#[inline(always)]
+fn add_element(
+    pool: &Pool,
+    kind: Kind,
+    number: u32,
+    bytes: &[u8],
+    left: Option<u32>,
+    run: &mut Run,
+) -> Result<Option<usize>, NoMemory>
+    requires { (wire_type_of kind ≡ 0) ⊎ (wire_type_of kind ≡ 1) ⊎ (wire_type_of kind ≡ 5) }
+    ensures within { IfOk result (λ o. IfSome o (λ n. (0 < n) × (n ≤ length bytes.now))) }
+    ensures none { IfOk result (λ o. IfNone o (run.new ≡ run.old)) }
+    ensures put { IfOk result (λ o. IfSome o (GoesOn pool.now number kind bytes.now left run.old run.new)) }
+{
+    match number_at(kind.wire_type(), bytes, left) {
+        NumberToken::Whole(value, size) => {
+            if is_undeclared(pool, kind, value) {
+                run.undeclared.push((number, unknown_number(value)))?;
+            } else {
+                run.values.push(number_value(kind, value))?;
+            }
+            Ok(Some(size))
+        }
+        NumberToken::Short => Ok(None),
+        NumberToken::Fault(_) => Ok(None),
+    }
+}
+
+/// Puts the elements that stand whole at the front of some bytes, one behind another, behind those of their sorts, and how many
+/// bytes they take.
+fn add_elements(
+    pool: &Pool,
+    kind: Kind,
+    number: u32,
+    bytes: &[u8],
+    left: Option<u32>,
+    run: &mut Run,
+) -> Result<usize, NoMemory>
+    requires { (wire_type_of kind ≡ 0) ⊎ (wire_type_of kind ≡ 1) ⊎ (wire_type_of kind ≡ 5) }
+    ensures within { IfOk result (λ n. n ≤ length bytes.now) }
+    ensures put { IfOk result (GoesOn pool.now number kind bytes.now left run.old run.new) }
+{
+    let end = before_end(bytes, left);
+    let mut here = 0;
+    while here < end {
+        let rest = &bytes[here..];
+        let Some(size) = add_element(pool, kind, number, rest, left_behind(left, here), run)? else {
+            return Ok(here);
+        };
+        here += size;
+    }
+    Ok(here)
 }
 
 /// The elements that stand whole at the front of some bytes, one behind another, with so many bytes before the known end, and how
@@ -108,20 +122,11 @@ pub(crate) fn read_run(
     ensures put { TellsRun pool.now number kind bytes.now left result }
 {
     let mut run = Run {
-        values: Vec::with_capacity(alloc, room_wanted(kind, bytes, left))?,
+        values: Vec::with_capacity(alloc, room_wanted(kind, &bytes[..before_end(bytes, left)]))?,
         undeclared: Vec::new(alloc),
     };
-    let mut here = 0;
-    while let Some((element, size)) = element_at(
-        pool,
-        kind,
-        &bytes[here..],
-        left_behind(left, here),
-    ) {
-        add_element(&mut run, number, element)?;
-        here += size;
-    }
+    let used = add_elements(pool, kind, number, bytes, left, &mut run)?;
     // Undeclared numbers took none of the room.
     run.values.shrink_to_fit();
-    Ok((run, here))
+    Ok((run, used))
 }

@@ -6,13 +6,12 @@ use Rattle.pb_decode.proofs.frame.read_frame.Goals as goal
 
 pub returns-in-Some-clause-value : goal.returns-in-Some-clause-value
 returns-in-Some-clause-value g c =
-    let all : length (take c.in_ok-count.count c.read_first.new.buffer) ≡ c.args.size = rw c.in-Some.is at c.in_ok-message.ensures.all in
-    text_frame (g.I.Input.left c.args.input.now) (g.I.Input.left c.read_first.new.input) c.args.size (take c.in_ok-count.count c.read_first.new.buffer) c.in-Some.message.body all c.in_ok-count.ensures.given
-    (rw c.in-Some.is at c.in_ok-message.ensures.text)
+    let all : length (take c.in_ok-count.count c.read_first.new.buffer) ≡ c.args.size = c.in-Some.ensures.all in
+    text_frame (g.I.Input.left c.args.input.now) (g.I.Input.left c.read_first.new.input) c.args.size (take c.in_ok-count.count c.read_first.new.buffer) c.in-Some.message.body all c.in_ok-count.ensures.given c.in-Some.ensures.text
 
 pub returns-in-Some-clause-rest : goal.returns-in-Some-clause-rest
 returns-in-Some-clause-rest g c =
-    let all : length (take c.in_ok-count.count c.read_first.new.buffer) ≡ c.args.size = rw c.in-Some.is at c.in_ok-message.ensures.all in
+    let all : length (take c.in_ok-count.count c.read_first.new.buffer) ≡ c.args.size = c.in-Some.ensures.all in
     rest_text (g.I.Input.left c.args.input.now) (g.I.Input.left c.read_first.new.input) c.args.size (take c.in_ok-count.count c.read_first.new.buffer) all c.in_ok-count.ensures.given
 
 pub returns-in-None-clause-value : goal.returns-in-None-clause-value

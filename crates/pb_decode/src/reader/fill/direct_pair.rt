@@ -1,15 +1,14 @@
 //! Map entries that are a key and then a value: both are read straight, without an entry that is open meanwhile.
 
-ghost use Rattle.std.specs.Prelude.{◌≡◌, ◌⊎◌, ◌≤◌, ◌<◌, ◌^◌, Some, None, length, IfOk, IfSome};
+ghost use Rattle.std.specs.Prelude.{◌≡◌, ◌⊎◌, ◌≤◌, ◌<◌, ◌^◌, ◌∷◌, ◌++◌, [], Some, None, length, IfSome};
 ghost use Rattle.pb_schema.specs.Kinds.{message_of_kind, wire_type_of};
 ghost use Rattle.pb_schema.specs.Rules.{IsPool};
 ghost use Rattle.pb_value.specs.View.{key_view};
 ghost use Rattle.pb_decode.specs.Open.Frames.{entry_part};
 ghost use Rattle.pb_decode.specs.Reader.Fills.{IsOpen, HasTagAt};
-ghost use Rattle.pb_decode.specs.Reader.Pairs.{FillsKey, FillsPair, AddsPair};
+ghost use Rattle.pb_decode.specs.Reader.Pairs.{WherePut, FillsKey, FillsPair, AddsPair};
 
 use super::fill;
-use crate::error::NoMemory;
 use crate::open::part::Part;
 use crate::reader::quick_record::length_behind;
 use crate::reader::scalar_behind::{bytes_behind, number_there, scalar_behind};
@@ -26,10 +25,21 @@ use std::alloc::Global;
 pub(super) enum Pair {
     /// Its key and its value are the last of the entries.
     Whole,
-    /// It was read, and is none.
+    /// It was read, and is none, or memory was refused.
     Refused,
     /// It is no key and value in turn. No message in it was read.
     Other,
+}
+
+/// Puts a key and a value behind the entries.
+#[inline(always)]
+pub(super) fn put_pair(key: MapKey, value: Value, entries: &mut Vec<(MapKey, Value)>) -> Pair
+    ensures { WherePut (entries.new.items ≡ entries.old.items ++ (key, value) ∷ []) (entries.new.items ≡ entries.old.items) result }
+{
+    match entries.push((key, value)) {
+        Ok(()) => Pair::Whole,
+        Err(_) => Pair::Refused,
+    }
 }
 
 /// The tag at the front of some bytes, if it is one of this number and of the wire type of a kind.
@@ -65,21 +75,17 @@ fn key_behind(
     bytes: &[u8],
     left: u32,
     room: u8,
-) -> Result<Option<(MapKey, usize)>, NoMemory>
+) -> Option<(MapKey, usize)>
     requires rules { IsPool pool.now }
     requires small { length bytes.now < 2 ^ 31 }
-    ensures within { IfOk result (λ o. IfSome o (λ r. r.1 ≤ length bytes.now)) }
+    ensures within { IfSome result (λ r. r.1 ≤ length bytes.now) }
     ensures filled { FillsKey pool.now key_kind value_kind bytes.now left room result }
 {
-    let Some(tag) = own_tag(1, key_kind, bytes, left) else {
-        return Ok(None);
-    };
-    let Some((value, size)) = scalar_behind(alloc, pool, key_kind, tag, bytes, left)? else {
-        return Ok(None);
-    };
+    let tag = own_tag(1, key_kind, bytes, left)?;
+    let (value, size) = scalar_behind(alloc, pool, key_kind, tag, bytes, left)?;
     match key_of(value) {
-        Some(key) => Ok(Some((key, size))),
-        None => Ok(None),
+        Some(key) => Some((key, size)),
+        None => None,
     }
 }
 
@@ -95,7 +101,7 @@ fn pair_with_number(
     left: u32,
     room: u8,
     entries: &mut Vec<(MapKey, Value)>,
-) -> Result<Pair, NoMemory>
+) -> Pair
     requires rules { IsPool pool.now }
     requires number { (tag.wire_type ≡ 0) ⊎ (tag.wire_type ≡ 1) ⊎ (tag.wire_type ≡ 5) }
     requires within { tag.size ≤ length bytes.now }
@@ -106,16 +112,12 @@ fn pair_with_number(
     ensures { FillsPair pool.now key_kind value_kind (Some (key_view key)) bytes.now left room entries.old.items entries.new.items result }
 {
     let Some((number, size)) = number_there(pool, value_kind, tag, bytes, left) else {
-        return Ok(Pair::Other);
+        return Pair::Other;
     };
     if size != left as usize {
-        return Ok(Pair::Other);
+        return Pair::Other;
     }
-    let Some(value) = number_value(value_kind, number) else {
-        return Ok(Pair::Other);
-    };
-    entries.push((key, value))?;
-    Ok(Pair::Whole)
+    put_pair(key, number_value(value_kind, number), entries)
 }
 
 /// Puts a key and the bytes behind it among the entries, likewise.
@@ -131,7 +133,7 @@ fn pair_with_bytes(
     left: u32,
     room: u8,
     entries: &mut Vec<(MapKey, Value)>,
-) -> Result<Pair, NoMemory>
+) -> Pair
     requires rules { IsPool pool.now }
     requires bytes { tag.wire_type ≡ 2 }
     requires within { tag.size ≤ length bytes.now }
@@ -141,14 +143,13 @@ fn pair_with_bytes(
     requires scalar { message_of_kind value_kind ≡ None }
     ensures { FillsPair pool.now key_kind value_kind (Some (key_view key)) bytes.now left room entries.old.items entries.new.items result }
 {
-    let Some((value, size)) = bytes_behind(alloc, pool, value_kind, tag, bytes, left)? else {
-        return Ok(Pair::Other);
+    let Some((value, size)) = bytes_behind(alloc, pool, value_kind, tag, bytes, left) else {
+        return Pair::Other;
     };
     if size != left as usize {
-        return Ok(Pair::Other);
+        return Pair::Other;
     }
-    entries.push((key, value))?;
-    Ok(Pair::Whole)
+    put_pair(key, value, entries)
 }
 
 /// Puts a key and the scalar behind it among the entries, likewise.
@@ -163,14 +164,14 @@ fn pair_with_scalar(
     left: u32,
     room: u8,
     entries: &mut Vec<(MapKey, Value)>,
-) -> Result<Pair, NoMemory>
+) -> Pair
     requires rules { IsPool pool.now }
     requires small { length bytes.now < 2 ^ 31 }
     requires scalar { message_of_kind value_kind ≡ None }
     ensures { FillsPair pool.now key_kind value_kind (Some (key_view key)) bytes.now left room entries.old.items entries.new.items result }
 {
     let Some(tag) = own_tag(2, value_kind, bytes, left) else {
-        return Ok(Pair::Other);
+        return Pair::Other;
     };
     if tag.wire_type == 2 {
         pair_with_bytes(
@@ -181,7 +182,7 @@ fn pair_with_scalar(
             pool, key, key_kind, value_kind, tag, bytes, left, room, entries,
         )
     } else {
-        Ok(Pair::Other)
+        Pair::Other
     }
 }
 
@@ -200,7 +201,7 @@ fn pair_with_message(
     left: u32,
     room: u8,
     entries: &mut Vec<(MapKey, Value)>,
-) -> Result<Pair, NoMemory>
+) -> Pair
     requires rules { IsPool pool.now }
     requires open { IsOpen pool.now (entry_part key_kind value_kind (Some (key_view key)) None) bytes.now left room }
     requires small { length bytes.now < 2 ^ 31 }
@@ -209,33 +210,30 @@ fn pair_with_message(
     ensures { FillsPair pool.now key_kind value_kind (Some (key_view key)) bytes.now left room entries.old.items entries.new.items result }
 {
     let Some(tag) = own_tag(2, value_kind, bytes, left) else {
-        return Ok(Pair::Other);
+        return Pair::Other;
     };
     if tag.wire_type != 2 {
-        return Ok(Pair::Other);
+        return Pair::Other;
     }
     let Some((start, size)) = length_behind(tag.size, bytes, Some(left)) else {
-        return Ok(Pair::Other);
+        return Pair::Other;
     };
     if start + size as usize != left as usize {
-        return Ok(Pair::Other);
+        return Pair::Other;
     }
     let mut message = Part::Message(message_type, empty_body(alloc));
-    if !fill(alloc, pool, &mut message, &bytes[start..], size, room)? {
-        return Ok(Pair::Refused);
+    if !fill(alloc, pool, &mut message, &bytes[start..], size, room) {
+        return Pair::Refused;
     }
     match message {
-        Part::Message(_kind, body) => {
-            entries.push((key, Value::Message(body)))?;
-            Ok(Pair::Whole)
-        }
+        Part::Message(_kind, body) => { put_pair(key, Value::Message(body), entries) }
         Part::Entry {
             key_kind: _,
             value_kind: _,
             key: _key,
             value: _value,
-        } => Ok(Pair::Refused),
-        Part::Group(_records) => Ok(Pair::Refused),
+        } => Pair::Refused,
+        Part::Group(_records) => Pair::Refused,
     }
 }
 
@@ -250,19 +248,18 @@ pub(super) fn direct_pair(
     size: u32,
     room: u8,
     entries: &mut Vec<(MapKey, Value)>,
-) -> Result<Pair, NoMemory>
+) -> Pair
     requires rules { IsPool pool.now }
     requires open { IsOpen pool.now (entry_part key_kind value_kind None None) bytes.now size room }
     requires small { length bytes.now < 2 ^ 31 }
     requires whole { size ≤ length bytes.now }
     ensures { AddsPair pool.now key_kind value_kind bytes.now size room entries.old.items entries.new.items result }
 {
-    let read = key_behind(alloc, pool, key_kind, value_kind, bytes, size, room)?;
-    let Some((key, used)) = read else {
-        return Ok(Pair::Other);
+    let Some((key, used)) = key_behind(alloc, pool, key_kind, value_kind, bytes, size, room) else {
+        return Pair::Other;
     };
     if used > size as usize {
-        return Ok(Pair::Other);
+        return Pair::Other;
     }
     let rest = &bytes[used..];
     let left = size - used as u32;

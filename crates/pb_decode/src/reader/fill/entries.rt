@@ -10,7 +10,7 @@ ghost use Rattle.pb_decode.specs.Reader.Entries.{IsMapOpen, AddsEntry, TellsEntr
 ghost use Rattle.pb_decode.specs.Reader.Fills.{IsOpen, HasTagAt, FillsOne};
 ghost use Rattle.pb_decode.specs.Reader.Pairs.{AddsPair};
 
-use super::direct_pair::{Pair, direct_pair};
+use super::direct_pair::{Pair, direct_pair, put_pair};
 use super::entries_ahead::entries_ahead;
 use super::{fill, fill_entry};
 use crate::close::closing::{key_or_default, value_or_missing};
@@ -38,7 +38,7 @@ fn pair_in_turn(
     size: u32,
     room: u8,
     entries: &mut Vec<(MapKey, Value)>,
-) -> Result<Pair, NoMemory>
+) -> Pair
     requires rules { IsPool pool.now }
     requires open { IsOpen pool.now (entry_part key_kind value_kind None None) bytes.now size room }
     requires small { length bytes.now < 2 ^ 31 }
@@ -51,8 +51,8 @@ fn pair_in_turn(
         key: None,
         value: None,
     };
-    if !fill(alloc, pool, &mut entry, bytes, size, room)? {
-        return Ok(Pair::Refused);
+    if !fill(alloc, pool, &mut entry, bytes, size, room) {
+        return Pair::Refused;
     }
     match entry {
         Part::Entry {
@@ -63,11 +63,10 @@ fn pair_in_turn(
         } => {
             let key = key_or_default(alloc, key_kind, key);
             let value = value_or_missing(alloc, value_kind, value);
-            entries.push((key, value))?;
-            Ok(Pair::Whole)
+            put_pair(key, value, entries)
         }
-        Part::Message(_kind, _body) => Ok(Pair::Refused),
-        Part::Group(_records) => Ok(Pair::Refused),
+        Part::Message(_kind, _body) => Pair::Refused,
+        Part::Group(_records) => Pair::Refused,
     }
 }
 
@@ -84,7 +83,7 @@ fn push_pair(
     size: u32,
     room: u8,
     entries: &mut Vec<(MapKey, Value)>,
-) -> Result<Pair, NoMemory>
+) -> Pair
     requires rules { IsPool pool.now }
     requires open { IsOpen pool.now (entry_part key_kind value_kind None None) bytes.now size room }
     requires small { length bytes.now < 2 ^ 31 }
@@ -93,9 +92,9 @@ fn push_pair(
 {
     match direct_pair(
         alloc, pool, key_kind, value_kind, bytes, size, room, entries,
-    )? {
-        Pair::Whole => Ok(Pair::Whole),
-        Pair::Refused => Ok(Pair::Refused),
+    ) {
+        Pair::Whole => Pair::Whole,
+        Pair::Refused => Pair::Refused,
         Pair::Other => {
             pair_in_turn(
                 alloc, pool, key_kind, value_kind, bytes, size, room, entries,
@@ -121,7 +120,7 @@ fn entry_behind(
     at: u32,
     tried: &mut u32,
     entries: &mut Vec<(MapKey, Value)>,
-) -> Result<Option<usize>, NoMemory>
+) -> Option<usize>
     requires rules { IsPool pool.now }
     requires open { IsMapOpen pool.now number key_kind value_kind bytes.now left room }
     requires some { 0 < room }
@@ -130,15 +129,15 @@ fn entry_behind(
     requires own { tag.number ≡ number }
     requires within { (0 < tag.size) × (tag.size ≤ length bytes.now) }
     requires tag { HasTagAt bytes.now left tag.number tag.wire_type tag.size }
-    ensures within { IfOk result (λ o. IfSome o (λ n. (0 < n) × (n ≤ length bytes.now))) }
+    ensures within { IfSome result (λ n. (0 < n) × (n ≤ length bytes.now)) }
     ensures put { AddsEntry pool.now number key_kind value_kind bytes.now left room entries.old.items entries.new.items result }
 {
     let Some((start, size)) = length_behind(tag.size, bytes, left) else {
-        return Ok(None);
+        return None;
     };
     let end = start + size as usize;
     if bytes.len() < end || end < LEAST {
-        return Ok(None);
+        return None;
     }
     let payload = &bytes[start..];
     match push_pair(
@@ -150,11 +149,11 @@ fn entry_behind(
         size,
         room - 1,
         entries,
-    )? {
-        Pair::Whole => Ok(Some(end)),
+    ) {
+        Pair::Whole => Some(end),
         Pair::Refused | Pair::Other => {
             *tried = at + end as u32;
-            Ok(None)
+            None
         }
     }
 }
@@ -173,23 +172,21 @@ fn entry_at(
     at: u32,
     tried: &mut u32,
     entries: &mut Vec<(MapKey, Value)>,
-) -> Result<Option<usize>, NoMemory>
+) -> Option<usize>
     requires rules { IsPool pool.now }
     requires open { IsMapOpen pool.now number key_kind value_kind bytes.now left room }
     requires some { 0 < room }
     requires small { at + length bytes.now < 2 ^ 31 }
-    ensures within { IfOk result (λ o. IfSome o (λ n. (0 < n) × (n ≤ length bytes.now))) }
+    ensures within { IfSome result (λ n. (0 < n) × (n ≤ length bytes.now)) }
     ensures put { AddsEntry pool.now number key_kind value_kind bytes.now left room entries.old.items entries.new.items result }
 {
-    let Some(tag) = record_tag(bytes, left) else {
-        return Ok(None);
-    };
+    let tag = record_tag(bytes, left)?;
     if tag.wire_type == 2 && tag.number == number {
         entry_behind(
             alloc, pool, tag, number, key_kind, value_kind, bytes, left, room, at, tried, entries,
         )
     } else {
-        Ok(None)
+        None
     }
 }
 
@@ -230,8 +227,7 @@ pub(crate) fn read_entries(
             at + here as u32,
             tried,
             &mut entries,
-        )?
-        else {
+        ) else {
             return Ok((entries, here));
         };
         here += size;
@@ -279,7 +275,7 @@ pub(super) fn fill_entries(
     bytes: &[u8],
     left: u32,
     room: u8,
-) -> Result<Option<usize>, NoMemory>
+) -> Option<usize>
     requires rules { IsPool pool.now }
     requires open { IsOpen pool.now (part_view part.old) bytes.now left room }
     requires small { length bytes.now < 2 ^ 31 }
@@ -288,11 +284,11 @@ pub(super) fn fill_entries(
     requires within { tag.size ≤ length bytes.now }
     requires tag { HasTagAt bytes.now (Some left) tag.number tag.wire_type tag.size }
     requires means { Means pool.now (part_context (part_view part.old)) tag.number 2 (Entry key_kind value_kind) }
-    ensures passes { IfOk result (λ o. IfSome o (λ n. (tag.size ≤ n) × (n ≤ length bytes.now))) }
+    ensures passes { IfSome result (λ n. (tag.size ≤ n) × (n ≤ length bytes.now)) }
     ensures filled { FillsOne pool.now part.old part.new bytes.now left room result }
 {
     if room == 0 {
-        return Ok(None);
+        return None;
     }
     if !is_run(tag.size, bytes, Some(left)) {
         return fill_entry(
@@ -300,7 +296,7 @@ pub(super) fn fill_entries(
         );
     }
     let mut tried = 0;
-    let (entries, size) = read_entries(
+    let Ok((entries, size)) = read_entries(
         alloc,
         pool,
         tag.number,
@@ -311,10 +307,14 @@ pub(super) fn fill_entries(
         room,
         0,
         &mut tried,
-    )?;
+    ) else {
+        return None;
+    };
     if tried != 0 || size < tag.size {
-        return Ok(None);
+        return None;
     }
-    put_entries(alloc, part, tag.number, entries)?;
-    Ok(Some(size))
+    match put_entries(alloc, part, tag.number, entries) {
+        Ok(()) => Some(size),
+        Err(NoMemory) => None,
+    }
 }

@@ -1,12 +1,12 @@
 //! Groups that stand whole in the bytes, read into a part at once. The end of one is where its end tag is, so only reading tells it.
 
-ghost use Rattle.std.specs.Prelude.{◌≡◌, ◌≤◌, ◌<◌, ◌^◌, Some, length, IfOk, IfSome};
+ghost use Rattle.std.specs.Prelude.{◌≡◌, ◌≤◌, ◌<◌, ◌^◌, Some, true, length, IfSome};
 ghost use Rattle.pb_schema.specs.Rules.{IsPool};
 ghost use Rattle.pb_decode.specs.declared.open.purpose.Purpose.TheVariants as purposes;
 ghost use Rattle.pb_decode.specs.Open.PartView.{part_view};
 ghost use Rattle.pb_decode.specs.Open.Purposes.{Means, part_context};
 ghost use Rattle.pb_decode.specs.Reader.Fills.{IsOpen, HasTagAt};
-ghost use Rattle.pb_decode.specs.Reader.Fills.Groups.{IfWhole, IsWithin, Passes, FillsGroup, FillsUpToEnd};
+ghost use Rattle.pb_decode.specs.Reader.Fills.Groups.{IfWhole, Passes, FillsGroup, FillsUpToEnd};
 
 use super::groups::fill_groups;
 use super::{fill_length, fill_number};
@@ -23,15 +23,16 @@ use std::alloc::Global;
 
 /// How many bytes were read of what takes as many as it has.
 #[derive(Clone, Copy)]
-pub(crate) enum Extent {
-    /// All that it has.
-    Whole(usize),
-    /// So many, and one token or a run of map entries more at most: it can't be taken.
-    Cut(usize),
+pub(crate) struct Extent {
+    /// Says that these are all that it has. Where they are not it can't be taken, and one token or a run of entries or messages more
+    /// may have been read.
+    pub whole: bool,
+    /// How many.
+    pub size: usize,
 }
 
-/// How many bytes may have been read of a record behind whose tag something can't be taken. Of a run of map entries the first alone
-/// counts: the others are tried once more where the reader stands, and the one that is refused ends that.
+/// How many bytes may have been read of a record behind whose tag something can't be taken. Of a run of entries or of messages the
+/// first alone counts: the others are tried once more where the reader stands, and the one that is refused ends that.
 fn read_of(tag: RecordTag, bytes: &[u8], left: u32) -> usize
     requires within { tag.size ≤ length bytes.now }
     requires small { length bytes.now < 2 ^ 31 }
@@ -55,12 +56,15 @@ fn extent_of(taken: Option<usize>, tag: RecordTag, bytes: &[u8], left: u32) -> E
     requires within { tag.size ≤ length bytes.now }
     requires small { length bytes.now < 2 ^ 31 }
     requires taken { IfSome taken (λ n. n ≤ length bytes.now) }
-    ensures within { IsWithin result (length bytes.now) }
+    ensures within { result.size ≤ length bytes.now }
     ensures whole { IfWhole result (λ n. taken ≡ Some n) }
 {
     match taken {
-        Some(size) => Extent::Whole(size),
-        None => Extent::Cut(read_of(tag, bytes, left)),
+        Some(size) => Extent { whole: true, size },
+        None => Extent {
+            whole: false,
+            size: read_of(tag, bytes, left),
+        },
     }
 }
 
@@ -75,26 +79,29 @@ fn fill_inside(
     bytes: &[u8],
     left: u32,
     room: u8,
-) -> Result<Extent, NoMemory>
+) -> Extent
     requires rules { IsPool pool.now }
     requires open { IsOpen pool.now (part_view part.old) bytes.now left room }
     requires small { length bytes.now < 2 ^ 31 }
     requires some { 0 < tag.size }
     requires within { tag.size ≤ length bytes.now }
     requires tag { HasTagAt bytes.now (Some left) tag.number tag.wire_type tag.size }
-    ensures passes { IfOk result (λ e. Passes tag.size e (length bytes.now)) }
+    ensures passes { Passes tag.size result (length bytes.now) }
     ensures filled { FillsGroup pool.now part.old part.new bytes.now left room result }
 {
     if tag.wire_type == 2 {
-        let taken = fill_length(alloc, pool, part, tag, bytes, left, room)?;
-        Ok(extent_of(taken, tag, bytes, left))
+        let taken = fill_length(alloc, pool, part, tag, bytes, left, room);
+        extent_of(taken, tag, bytes, left)
     } else if tag.wire_type == 0 || tag.wire_type == 1 || tag.wire_type == 5 {
-        let taken = fill_number(alloc, pool, part, tag, bytes, left, room)?;
-        Ok(extent_of(taken, tag, bytes, left))
+        let taken = fill_number(alloc, pool, part, tag, bytes, left, room);
+        extent_of(taken, tag, bytes, left)
     } else if tag.wire_type == 3 {
         fill_group(alloc, pool, part, tag, bytes, left, room)
     } else {
-        Ok(Extent::Cut(0))
+        Extent {
+            whole: false,
+            size: 0,
+        }
     }
 }
 
@@ -109,11 +116,11 @@ pub(crate) fn fill_to_tag(
     bytes: &[u8],
     left: u32,
     room: u8,
-) -> Result<Extent, NoMemory>
+) -> Extent
     requires rules { IsPool pool.now }
     requires open { IsOpen pool.now (part_view part.old) bytes.now left room }
     requires small { length bytes.now < 2 ^ 31 }
-    ensures passes { IfOk result (λ e. IsWithin e (length bytes.now)) }
+    ensures passes { result.size ≤ length bytes.now }
     ensures filled { FillsUpToEnd pool.now number part.old part.new bytes.now left room result }
 {
     let mut here = 0;
@@ -121,17 +128,24 @@ pub(crate) fn fill_to_tag(
         let rest = &bytes[here..];
         let before = left.saturating_sub(here as u32);
         let Some(tag) = record_tag(rest, Some(before)) else {
-            return Ok(Extent::Cut(here));
+            return Extent {
+                whole: false,
+                size: here,
+            };
         };
         if tag.wire_type == 4 {
-            if tag.number == number {
-                return Ok(Extent::Whole(here + tag.size));
-            }
-            return Ok(Extent::Cut(here));
+            return Extent {
+                whole: tag.number == number,
+                size: here + tag.size,
+            };
         }
-        match fill_inside(alloc, pool, part, tag, rest, before, room)? {
-            Extent::Whole(size) => here += size,
-            Extent::Cut(read) => return Ok(Extent::Cut(here + read)),
+        let inside = fill_inside(alloc, pool, part, tag, rest, before, room);
+        here += inside.size;
+        if !inside.whole {
+            return Extent {
+                whole: false,
+                size: here,
+            };
         }
     }
 }
@@ -149,7 +163,7 @@ fn fill_field_group(
     bytes: &[u8],
     left: u32,
     room: u8,
-) -> Result<Extent, NoMemory>
+) -> Extent
     requires rules { IsPool pool.now }
     requires open { IsOpen pool.now (part_view part.old) bytes.now left room }
     requires small { length bytes.now < 2 ^ 31 }
@@ -159,27 +173,31 @@ fn fill_field_group(
     requires tag { HasTagAt bytes.now (Some left) tag.number tag.wire_type tag.size }
     requires room { 0 < room }
     requires means { Means pool.now (part_context (part_view part.old)) tag.number 3 (purposes.Message message_type slot) }
-    ensures passes { IfOk result (λ e. Passes tag.size e (length bytes.now)) }
+    ensures passes { Passes tag.size result (length bytes.now) }
     ensures filled { FillsGroup pool.now part.old part.new bytes.now left room result }
 {
     let mut inner = Part::Message(message_type, take_message(alloc, slot, part));
     let rest = &bytes[tag.size..];
     let before = left.saturating_sub(tag.size as u32);
-    match fill_to_tag(alloc, pool, &mut inner, tag.number, rest, before, room - 1)? {
-        Extent::Whole(size) => match inner {
-            Part::Message(_kind, message) => {
-                put_message(alloc, pool, slot, part, message)?;
-                Ok(Extent::Whole(tag.size + size))
+    let read = fill_to_tag(alloc, pool, &mut inner, tag.number, rest, before, room - 1);
+    let size = tag.size + read.size;
+    if !read.whole {
+        return Extent { whole: false, size };
+    }
+    match inner {
+        Part::Message(_kind, message) => {
+            match put_message(alloc, pool, slot, part, message) {
+                Ok(()) => Extent { whole: true, size },
+                Err(NoMemory) => Extent { whole: false, size },
             }
-            Part::Entry {
-                key_kind: _,
-                value_kind: _,
-                key: _key,
-                value: _value,
-            } => Ok(Extent::Cut(0)),
-            Part::Group(_records) => Ok(Extent::Cut(0)),
-        },
-        Extent::Cut(read) => Ok(Extent::Cut(tag.size + read)),
+        }
+        Part::Entry {
+            key_kind: _,
+            value_kind: _,
+            key: _key,
+            value: _value,
+        } => Extent { whole: false, size },
+        Part::Group(_records) => Extent { whole: false, size },
     }
 }
 
@@ -194,7 +212,7 @@ fn fill_unknown_group(
     bytes: &[u8],
     left: u32,
     room: u8,
-) -> Result<Extent, NoMemory>
+) -> Extent
     requires rules { IsPool pool.now }
     requires open { IsOpen pool.now (part_view part.old) bytes.now left room }
     requires small { length bytes.now < 2 ^ 31 }
@@ -204,27 +222,29 @@ fn fill_unknown_group(
     requires tag { HasTagAt bytes.now (Some left) tag.number tag.wire_type tag.size }
     requires room { 0 < room }
     requires means { Means pool.now (part_context (part_view part.old)) tag.number 3 purposes.Unknown }
-    ensures passes { IfOk result (λ e. Passes tag.size e (length bytes.now)) }
+    ensures passes { Passes tag.size result (length bytes.now) }
     ensures filled { FillsGroup pool.now part.old part.new bytes.now left room result }
 {
     let mut inner = Part::Group(Vec::new(alloc));
     let rest = &bytes[tag.size..];
     let before = left.saturating_sub(tag.size as u32);
-    match fill_to_tag(alloc, pool, &mut inner, tag.number, rest, before, room - 1)? {
-        Extent::Whole(size) => match inner {
-            Part::Group(records) => {
-                put_group(Slot::Unknown(tag.number), part, records)?;
-                Ok(Extent::Whole(tag.size + size))
-            }
-            Part::Message(_kind, _body) => Ok(Extent::Cut(0)),
-            Part::Entry {
-                key_kind: _,
-                value_kind: _,
-                key: _key,
-                value: _value,
-            } => Ok(Extent::Cut(0)),
+    let read = fill_to_tag(alloc, pool, &mut inner, tag.number, rest, before, room - 1);
+    let size = tag.size + read.size;
+    if !read.whole {
+        return Extent { whole: false, size };
+    }
+    match inner {
+        Part::Group(records) => match put_group(Slot::Unknown(tag.number), part, records) {
+            Ok(()) => Extent { whole: true, size },
+            Err(NoMemory) => Extent { whole: false, size },
         },
-        Extent::Cut(read) => Ok(Extent::Cut(tag.size + read)),
+        Part::Message(_kind, _body) => Extent { whole: false, size },
+        Part::Entry {
+            key_kind: _,
+            value_kind: _,
+            key: _key,
+            value: _value,
+        } => Extent { whole: false, size },
     }
 }
 
@@ -238,7 +258,7 @@ pub(super) fn fill_group(
     bytes: &[u8],
     left: u32,
     room: u8,
-) -> Result<Extent, NoMemory>
+) -> Extent
     requires rules { IsPool pool.now }
     requires open { IsOpen pool.now (part_view part.old) bytes.now left room }
     requires small { length bytes.now < 2 ^ 31 }
@@ -246,11 +266,14 @@ pub(super) fn fill_group(
     requires some { 0 < tag.size }
     requires within { tag.size ≤ length bytes.now }
     requires tag { HasTagAt bytes.now (Some left) tag.number tag.wire_type tag.size }
-    ensures passes { IfOk result (λ e. Passes tag.size e (length bytes.now)) }
+    ensures passes { Passes tag.size result (length bytes.now) }
     ensures filled { FillsGroup pool.now part.old part.new bytes.now left room result }
 {
     if room == 0 {
-        return Ok(Extent::Cut(0));
+        return Extent {
+            whole: false,
+            size: 0,
+        };
     }
     let meant = purpose_of(pool, part, tag.number, 3);
     match message_slot(meant) {

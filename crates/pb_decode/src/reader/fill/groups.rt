@@ -1,6 +1,6 @@
 //! Groups of one list that follow on each other: each is read behind the one before, and they go to the end of their list at once.
 
-ghost use Rattle.std.specs.Prelude.{◌≡◌, ◌≤◌, ◌<◌, ◌^◌, Some, length, IfOk};
+ghost use Rattle.std.specs.Prelude.{◌≡◌, ◌≤◌, ◌<◌, ◌^◌, Some, length};
 ghost use Rattle.pb_schema.specs.Rules.{IsPool};
 ghost use Rattle.pb_decode.specs.declared.open.part.Slot.TheVariants.{List as ListSlot};
 ghost use Rattle.pb_decode.specs.declared.open.purpose.Purpose.TheVariants.{Message as MessagePurpose};
@@ -34,7 +34,7 @@ fn add_group(
     bytes: &[u8],
     left: u32,
     room: u8,
-) -> Result<Extent, NoMemory>
+) -> Extent
     requires rules { IsPool pool.now }
     requires open { IsListOpen pool.now tag.number 3 message_type bytes.now left room }
     requires room { 0 < room }
@@ -43,27 +43,31 @@ fn add_group(
     requires some { 0 < tag.size }
     requires within { tag.size ≤ length bytes.now }
     requires tag { HasTagAt bytes.now (Some left) tag.number tag.wire_type tag.size }
-    ensures passes { IfOk result (λ e. Passes tag.size e (length bytes.now)) }
+    ensures passes { Passes tag.size result (length bytes.now) }
     ensures added { AddsGroup pool.now tag.number message_type groups.old.items groups.new.items bytes.now left room result }
 {
     let mut inner = Part::Message(message_type, empty_body(alloc));
     let rest = &bytes[tag.size..];
     let before = left.saturating_sub(tag.size as u32);
-    match fill_to_tag(alloc, pool, &mut inner, tag.number, rest, before, room - 1)? {
-        Extent::Whole(size) => match inner {
-            Part::Message(_kind, body) => {
-                groups.push(Value::Message(body))?;
-                Ok(Extent::Whole(tag.size + size))
-            }
-            Part::Entry {
-                key_kind: _,
-                value_kind: _,
-                key: _key,
-                value: _value,
-            } => Ok(Extent::Cut(0)),
-            Part::Group(_records) => Ok(Extent::Cut(0)),
-        },
-        Extent::Cut(read) => Ok(Extent::Cut(tag.size + read)),
+    let read = fill_to_tag(alloc, pool, &mut inner, tag.number, rest, before, room - 1);
+    let size = tag.size + read.size;
+    if !read.whole {
+        return Extent { whole: false, size };
+    }
+    match inner {
+        Part::Message(_kind, body) => {
+            let Ok(()) = groups.push(Value::Message(body)) else {
+                return Extent { whole: false, size };
+            };
+            Extent { whole: true, size }
+        }
+        Part::Entry {
+            key_kind: _,
+            value_kind: _,
+            key: _key,
+            value: _value,
+        } => Extent { whole: false, size },
+        Part::Group(_records) => Extent { whole: false, size },
     }
 }
 
@@ -79,7 +83,7 @@ pub(super) fn fill_groups(
     bytes: &[u8],
     left: u32,
     room: u8,
-) -> Result<Extent, NoMemory>
+) -> Extent
     requires rules { IsPool pool.now }
     requires open { IsOpen pool.now (part_view part.old) bytes.now left room }
     requires small { length bytes.now < 2 ^ 31 }
@@ -89,7 +93,7 @@ pub(super) fn fill_groups(
     requires tag { HasTagAt bytes.now (Some left) tag.number tag.wire_type tag.size }
     requires room { 0 < room }
     requires means { Means pool.now (part_context (part_view part.old)) tag.number 3 (MessagePurpose message_type (ListSlot tag.number)) }
-    ensures passes { IfOk result (λ e. Passes tag.size e (length bytes.now)) }
+    ensures passes { Passes tag.size result (length bytes.now) }
     ensures filled { FillsGroup pool.now part.old part.new bytes.now left room result }
 {
     let mut groups = Vec::new(alloc);
@@ -98,7 +102,7 @@ pub(super) fn fill_groups(
     loop {
         let rest = &bytes[here..];
         let before = left.saturating_sub(here as u32);
-        match add_group(
+        let group = add_group(
             alloc,
             pool,
             &mut groups,
@@ -107,9 +111,13 @@ pub(super) fn fill_groups(
             rest,
             before,
             room,
-        )? {
-            Extent::Whole(size) => here += size,
-            Extent::Cut(read) => return Ok(Extent::Cut(here + read)),
+        );
+        here += group.size;
+        if !group.whole {
+            return Extent {
+                whole: false,
+                size: here,
+            };
         }
         match tag_again(
             tag.number,
@@ -121,6 +129,14 @@ pub(super) fn fill_groups(
             None => break,
         }
     }
-    put_elements(alloc, part, tag.number, groups)?;
-    Ok(Extent::Whole(here))
+    match put_elements(alloc, part, tag.number, groups) {
+        Ok(()) => Extent {
+            whole: true,
+            size: here,
+        },
+        Err(NoMemory) => Extent {
+            whole: false,
+            size: here,
+        },
+    }
 }

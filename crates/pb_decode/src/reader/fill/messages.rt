@@ -1,6 +1,6 @@
 //! Messages of one list that follow on each other: each is read behind the one before, and they go to the end of their list at once.
 
-ghost use Rattle.std.specs.Prelude.{◌≡◌, ◌≤◌, ◌<◌, ◌^◌, Some, length, IfOk, IfSome};
+ghost use Rattle.std.specs.Prelude.{◌≡◌, ◌≤◌, ◌<◌, ◌^◌, Some, length, IfSome};
 ghost use Rattle.pb_wire.specs.Fault.{HasTag};
 ghost use Rattle.pb_schema.specs.Rules.{IsPool};
 ghost use Rattle.pb_decode.specs.declared.open.part.Slot.TheVariants.{List as ListSlot};
@@ -32,7 +32,7 @@ fn message_behind(
     bytes: &[u8],
     left: u32,
     room: u8,
-) -> Result<Option<(Value, usize)>, NoMemory>
+) -> Option<(Value, usize)>
     requires rules { IsPool pool.now }
     requires open { IsListOpen pool.now tag.number 2 message_type bytes.now left room }
     requires some { 0 < room }
@@ -40,29 +40,29 @@ fn message_behind(
     requires bytes { tag.wire_type ≡ 2 }
     requires within { (0 < tag.size) × (tag.size ≤ length bytes.now) }
     requires tag { HasTagAt bytes.now (Some left) tag.number tag.wire_type tag.size }
-    ensures within { IfOk result (λ o. IfSome o (λ r. (0 < r.1) × (r.1 ≤ length bytes.now))) }
+    ensures within { IfSome result (λ r. (0 < r.1) × (r.1 ≤ length bytes.now)) }
     ensures put { TellsMessage pool.now tag.number message_type bytes.now left room result }
 {
     let Some((start, size)) = length_behind(tag.size, bytes, Some(left)) else {
-        return Ok(None);
+        return None;
     };
     let end = start + size as usize;
     if bytes.len() < end {
-        return Ok(None);
+        return None;
     }
     let mut message = Part::Message(message_type, empty_body(alloc));
-    if !fill(alloc, pool, &mut message, &bytes[start..], size, room - 1)? {
-        return Ok(None);
+    if !fill(alloc, pool, &mut message, &bytes[start..], size, room - 1) {
+        return None;
     }
     match message {
-        Part::Message(_kind, body) => Ok(Some((Value::Message(body), end))),
+        Part::Message(_kind, body) => { Some((Value::Message(body), end)) }
         Part::Entry {
             key_kind: _,
             value_kind: _,
             key: _key,
             value: _value,
-        } => Ok(None),
-        Part::Group(_records) => Ok(None),
+        } => None,
+        Part::Group(_records) => None,
     }
 }
 
@@ -92,18 +92,18 @@ fn read_messages(
     bytes: &[u8],
     left: u32,
     room: u8,
-) -> Result<Option<(Vec<Value>, usize)>, NoMemory>
+) -> Option<(Vec<Value>, usize)>
     requires rules { IsPool pool.now }
     requires open { IsListOpen pool.now number 2 message_type bytes.now left room }
     requires some { 0 < room }
     requires small { length bytes.now < 2 ^ 31 }
-    ensures within { IfOk result (λ o. IfSome o (λ r. r.1 ≤ length bytes.now)) }
+    ensures within { IfSome result (λ r. r.1 ≤ length bytes.now) }
     ensures put { TellsMessages pool.now number message_type bytes.now left room result }
 {
     let mut messages = Vec::new(alloc);
     let mut here = 0;
     while let Some(tag) = tag_again(number, 2, &bytes[here..], left.saturating_sub(here as u32)) {
-        let Some((message, size)) = message_behind(
+        let (message, size) = message_behind(
             alloc,
             pool,
             tag,
@@ -111,14 +111,13 @@ fn read_messages(
             &bytes[here..],
             left.saturating_sub(here as u32),
             room,
-        )?
-        else {
-            return Ok(None);
+        )?;
+        let Ok(()) = messages.push(message) else {
+            return None;
         };
-        messages.push(message)?;
         here += size;
     }
-    Ok(Some((messages, here)))
+    Some((messages, here))
 }
 
 /// Puts the message behind a tag at the end of its list, if it stands whole there, with those of the same list that follow on it,
@@ -133,32 +132,23 @@ pub(super) fn fill_messages(
     bytes: &[u8],
     left: u32,
     room: u8,
-) -> Result<Option<usize>, NoMemory>
+) -> Option<usize>
     requires rules { IsPool pool.now }
     requires open { IsOpen pool.now (part_view part.old) bytes.now left room }
     requires small { length bytes.now < 2 ^ 31 }
     requires means { Means pool.now (part_context (part_view part.old)) tag.number 2 (MessagePurpose message_type (ListSlot tag.number)) }
-    ensures passes { IfOk result (λ o. IfSome o (λ n. (tag.size ≤ n) × (n ≤ length bytes.now))) }
+    ensures passes { IfSome result (λ n. (tag.size ≤ n) × (n ≤ length bytes.now)) }
     ensures filled { FillsOne pool.now part.old part.new bytes.now left room result }
 {
     if room == 0 {
-        return Ok(None);
+        return None;
     }
-    let Some((messages, used)) = read_messages(
-        alloc,
-        pool,
-        tag.number,
-        message_type,
-        bytes,
-        left,
-        room,
-    )?
-    else {
-        return Ok(None);
-    };
+    let (messages, used) = read_messages(alloc, pool, tag.number, message_type, bytes, left, room)?;
     if used < tag.size {
-        return Ok(None);
+        return None;
     }
-    put_elements(alloc, part, tag.number, messages)?;
-    Ok(Some(used))
+    match put_elements(alloc, part, tag.number, messages) {
+        Ok(()) => Some(used),
+        Err(NoMemory) => None,
+    }
 }

@@ -4,6 +4,7 @@ use Rattle.std.proofs.lemmas.Bool.{false≢true}
 use Rattle.pb_wire.specs.Unknown.{records_of}
 use Rattle.pb_wire.specs.Fault.{Place}
 use Rattle.pb_wire.specs.Token.{given_at, passed}
+use Rattle.pb_schema.specs.Scalar.{Scalar}
 use Rattle.pb_value.specs.View.{body_view, key_view, value_view}
 use Rattle.pb_value.specs.declared.body.MapKey.{MapKey}
 use Rattle.pb_value.specs.declared.body.Value.{Value}
@@ -25,10 +26,10 @@ use Rattle.pb_decode.proofs.ReaderLemmas.{slice_from}
 use Rattle.pb_decode.proofs.NumberSteps.{number_is}
 use Rattle.pb_decode.proofs.WellLemmas.{can_hold}
 use Rattle.pb_decode.proofs.EndedLemmas.{entry_has_room, frame_can_hold}
-use Rattle.pb_decode.proofs.FillLemmas.{told_of, open_can, nothing_filled, still_open, filled_further, typed_tag, entry_in_part, message_in_part, entry_inside, message_inside, entry_over, message_over}
-use Rattle.pb_decode.proofs.PairLemmas.{pair_further, none_put, pair_told, other_told, refused_told, some_added, none_added}
+use Rattle.pb_decode.proofs.FillLemmas.{open_can, nothing_filled, still_open, filled_further, typed_tag, entry_in_part, message_in_part, entry_inside, message_inside, entry_over, message_over}
+use Rattle.pb_decode.proofs.PairLemmas.{pair_further, none_put, pair_put}
 use Rattle.pb_decode.proofs.GroupSteps.{unknown_group_means}
-use Rattle.pb_decode.proofs.GroupFills.{whole_told, whole_within, field_group_in_part, field_group_inside, field_group_over, unknown_group_in_part, unknown_group_inside, unknown_group_over, end_reached}
+use Rattle.pb_decode.proofs.GroupFills.{all_read, field_group_in_part, field_group_inside, field_group_over, unknown_group_in_part, unknown_group_inside, unknown_group_over, end_reached}
 use Rattle.pb_decode.proofs.ListedLemmas.{values_further, none_listed, list_further, message_listed, group_further, first_tag}
 use Rattle.pb_decode.proofs.RunLemmas.{place_behind}
 use Rattle.pb_decode.proofs.MapRuns.{tag_of, entry_in_map, entry_taken, rises_in, map_open_in, run_filled, size_next, more_room, means_along, run_further, open_further, none_read}
@@ -58,11 +59,11 @@ fill-fill_record-requires t c =
 pub fill-loop-here-preserved : goal.fill-loop-here-preserved
 fill-loop-here-preserved t c =
     let size = ap length (slice_from c.loop-here.here c.args.bytes.now) ∙ length-drop c.loop-here.here c.args.bytes.now in
-    let used = (told_of _ c.in_ok-used.field-0 c.in-Some.used c.in-Some.is c.in_ok-used.ensures.passes).1 in
+    let used = c.in-Some.ensures.passes.1 in
     let within = c.loop-here.invariant.within in
     record {
       within = omega (arith, size, used, within);
-      filled = filled_further (part_view c.args.part.now) (part_view c.loop-here.part) (part_view c.fill_record.new.part) c.args.bytes.now c.args.size c.args.room c.loop-here.here c.in-Some.used c.loop-here.invariant.filled (told_of _ c.in_ok-used.field-0 c.in-Some.used c.in-Some.is c.in_ok-used.ensures.filled);
+      filled = filled_further (part_view c.args.part.now) (part_view c.loop-here.part) (part_view c.fill_record.new.part) c.args.bytes.now c.args.size c.args.room c.loop-here.here c.in-Some.used c.loop-here.invariant.filled c.in-Some.ensures.filled;
     }
 
 pub fill-returns : goal.fill-returns
@@ -98,7 +99,7 @@ fill_entry-put_entry-requires-clause-key t c =
     let level = c.if-room-eq0.false in
     let from = c.requires.open in
     let has = typed_tag c.args.bytes.now (Some c.args.left) c.args.tag.number c.args.tag.wire_type 2 c.args.tag.size c.requires.bytes c.requires.tag in
-    let read = entry_inside from.at (Some c.args.left) c.args.bytes.now c.args.tag.number c.args.tag.size c.in-Some.start c.in-Some.size c.args.room c.args.key_kind c.args.value_kind c.requires.rules from.stands (has from.at) (c.in-Some.ensures.whole from.at c.args.tag.number c.args.tag.wire_type (c.requires.tag from.at)) c.requires.means (omega (arith, level)) (c.in_ok-fill.ensures c.if-not-branch.false) (ap part_view c.in-Entry.is) in
+    let read = entry_inside from.at (Some c.args.left) c.args.bytes.now c.args.tag.number c.args.tag.size c.in-Some.start c.in-Some.size c.args.room c.args.key_kind c.args.value_kind c.requires.rules from.stands (has from.at) (c.in-Some.ensures.whole from.at c.args.tag.number c.args.tag.wire_type (c.requires.tag from.at)) c.requires.means (omega (arith, level)) (c.if-not-fill.ensures refl) (ap part_view c.in-Entry.is) in
     can_hold c.requires.rules (entry_part c.in-Entry.key_kind c.in-Entry.value_kind (option_map key_view c.in-Entry.key) (option_map value_view c.in-Entry.value)) read.1
 
 pub fill_entry-put_entry-requires-clause-fits : goal.fill_entry-put_entry-requires-clause-fits
@@ -106,17 +107,17 @@ fill_entry-put_entry-requires-clause-fits t c =
     let level = c.if-room-eq0.false in
     let from = c.requires.open in
     let has = typed_tag c.args.bytes.now (Some c.args.left) c.args.tag.number c.args.tag.wire_type 2 c.args.tag.size c.requires.bytes c.requires.tag in
-    let read = entry_inside from.at (Some c.args.left) c.args.bytes.now c.args.tag.number c.args.tag.size c.in-Some.start c.in-Some.size c.args.room c.args.key_kind c.args.value_kind c.requires.rules from.stands (has from.at) (c.in-Some.ensures.whole from.at c.args.tag.number c.args.tag.wire_type (c.requires.tag from.at)) c.requires.means (omega (arith, level)) (c.in_ok-fill.ensures c.if-not-branch.false) (ap part_view c.in-Entry.is) in
+    let read = entry_inside from.at (Some c.args.left) c.args.bytes.now c.args.tag.number c.args.tag.size c.in-Some.start c.in-Some.size c.args.room c.args.key_kind c.args.value_kind c.requires.rules from.stands (has from.at) (c.in-Some.ensures.whole from.at c.args.tag.number c.args.tag.wire_type (c.requires.tag from.at)) c.requires.means (omega (arith, level)) (c.if-not-fill.ensures refl) (ap part_view c.in-Entry.is) in
     entry_has_room c.requires.rules c.in-Entry.key_kind c.in-Entry.value_kind (option_map key_view c.in-Entry.key) (option_map value_view c.in-Entry.value) read.1
 
-pub fill_entry-returns-in_ok-put_entry-in-Entry-clause-filled : goal.fill_entry-returns-in_ok-put_entry-in-Entry-clause-filled
-fill_entry-returns-in_ok-put_entry-in-Entry-clause-filled t c =
+pub fill_entry-returns-in-Ok-clause-filled : goal.fill_entry-returns-in-Ok-clause-filled
+fill_entry-returns-in-Ok-clause-filled t c =
     λ m depth levels at base p0 frames there.
     let level = c.if-room-eq0.false in
     let has = typed_tag c.args.bytes.now (Some c.args.left) c.args.tag.number c.args.tag.wire_type 2 c.args.tag.size c.requires.bytes c.requires.tag in
-    let read = entry_inside at (Some c.args.left) c.args.bytes.now c.args.tag.number c.args.tag.size c.in-Some.start c.in-Some.size c.args.room c.args.key_kind c.args.value_kind c.requires.rules there (has at) (c.in-Some.ensures.whole at c.args.tag.number c.args.tag.wire_type (c.requires.tag at)) c.requires.means (omega (arith, level)) (c.in_ok-fill.ensures c.if-not-branch.false) (ap part_view c.in-Entry.is) in
+    let read = entry_inside at (Some c.args.left) c.args.bytes.now c.args.tag.number c.args.tag.size c.in-Some.start c.in-Some.size c.args.room c.args.key_kind c.args.value_kind c.requires.rules there (has at) (c.in-Some.ensures.whole at c.args.tag.number c.args.tag.wire_type (c.requires.tag at)) c.requires.means (omega (arith, level)) (c.if-not-fill.ensures refl) (ap part_view c.in-Entry.is) in
     entry_over at c.args.left c.args.bytes.now c.args.tag.number c.in-Some.start c.in-Some.size c.args.room (c.args.room - 1) c.in-Entry.key_kind c.in-Entry.value_kind (option_map key_view c.in-Entry.key) (option_map value_view c.in-Entry.value) (part_view c.put_entry.new.outer) there.1 there.2 read
-    c.in_ok-put_entry-in-Entry.ensures
+    c.in-Ok.ensures
 
 -- THE MESSAGE
 pub fill_message-fill-requires : goal.fill_message-fill-requires
@@ -143,20 +144,20 @@ pub fill_message-put_message-requires : goal.fill_message-put_message-requires
 fill_message-put_message-requires t c =
     let from = c.requires.open in
     let has = typed_tag c.args.bytes.now (Some c.args.left) c.args.tag.number c.args.tag.wire_type 2 c.args.tag.size c.requires.bytes c.requires.tag in
-    let read = message_inside from.at (Some c.args.left) c.args.bytes.now c.args.tag.number c.args.tag.size c.in-Some.start c.in-Some.size c.args.room c.room_in-below.result c.args.message_type c.args.slot (part_view c.take_message.new.outer) (body_view c.take_message.result) c.requires.rules from.stands c.room_in-below.ensures (has from.at) (c.in-Some.ensures.whole from.at c.args.tag.number c.args.tag.wire_type (c.requires.tag from.at)) c.requires.means (c.if-not-has_room.ensures.room refl) c.take_message.ensures.left c.take_message.ensures.taken (c.in_ok-fill.ensures c.if-not-branch.false) (ap part_view c.in-Message.is) in
+    let read = message_inside from.at (Some c.args.left) c.args.bytes.now c.args.tag.number c.args.tag.size c.in-Some.start c.in-Some.size c.args.room c.room_in-below.result c.args.message_type c.args.slot (part_view c.take_message.new.outer) (body_view c.take_message.result) c.requires.rules from.stands c.room_in-below.ensures (has from.at) (c.in-Some.ensures.whole from.at c.args.tag.number c.args.tag.wire_type (c.requires.tag from.at)) c.requires.means (c.if-not-has_room.ensures.room refl) c.take_message.ensures.left c.take_message.ensures.taken (c.if-not-fill.ensures refl) (ap part_view c.in-Message.is) in
     frame_can_hold read.1
 
-pub fill_message-returns-in_ok-put_message-in-Message-clause-filled : goal.fill_message-returns-in_ok-put_message-in-Message-clause-filled
-fill_message-returns-in_ok-put_message-in-Message-clause-filled t c =
+pub fill_message-returns-in-Ok-clause-filled : goal.fill_message-returns-in-Ok-clause-filled
+fill_message-returns-in-Ok-clause-filled t c =
     λ m depth levels at base p0 frames there.
     let has = typed_tag c.args.bytes.now (Some c.args.left) c.args.tag.number c.args.tag.wire_type 2 c.args.tag.size c.requires.bytes c.requires.tag in
-    let read = message_inside at (Some c.args.left) c.args.bytes.now c.args.tag.number c.args.tag.size c.in-Some.start c.in-Some.size c.args.room c.room_in-below.result c.args.message_type c.args.slot (part_view c.take_message.new.outer) (body_view c.take_message.result) c.requires.rules there c.room_in-below.ensures (has at) (c.in-Some.ensures.whole at c.args.tag.number c.args.tag.wire_type (c.requires.tag at)) c.requires.means (c.if-not-has_room.ensures.room refl) c.take_message.ensures.left c.take_message.ensures.taken (c.in_ok-fill.ensures c.if-not-branch.false) (ap part_view c.in-Message.is) in
+    let read = message_inside at (Some c.args.left) c.args.bytes.now c.args.tag.number c.args.tag.size c.in-Some.start c.in-Some.size c.args.room c.room_in-below.result c.args.message_type c.args.slot (part_view c.take_message.new.outer) (body_view c.take_message.result) c.requires.rules there c.room_in-below.ensures (has at) (c.in-Some.ensures.whole at c.args.tag.number c.args.tag.wire_type (c.requires.tag at)) c.requires.means (c.if-not-has_room.ensures.room refl) c.take_message.ensures.left c.take_message.ensures.taken (c.if-not-fill.ensures refl) (ap part_view c.in-Message.is) in
     message_over at c.args.left c.args.bytes.now c.args.tag.number c.in-Some.start c.in-Some.size c.args.room c.room_in-below.result c.in-Message._kind.0 c.args.slot (body_view c.in-Message.message) (part_view c.put_message.new.outer) there.1 there.2 read
-    c.in_ok-put_message-in-Message.ensures
+    c.in-Ok.ensures
 
 -- THE GROUP OF A FIELD
-pub group::fill_field_group-fill_to_tag-requires : goal.group::fill_field_group-fill_to_tag-requires
-group::fill_field_group-fill_to_tag-requires t c =
+pub group::fill_field_group-fill_to_tag-read-requires : goal.group::fill_field_group-fill_to_tag-read-requires
+group::fill_field_group-fill_to_tag-read-requires t c =
     let is = ap length (slice_from c.args.tag.size c.args.bytes.now) ∙ length-drop c.args.tag.size c.args.bytes.now in
     let small = c.requires.small in
     let some = c.requires.some in
@@ -178,21 +179,21 @@ pub group::fill_field_group-put_message-requires : goal.group::fill_field_group-
 group::fill_field_group-put_message-requires t c =
     let from = c.requires.open in
     let start = typed_tag c.args.bytes.now (Some c.args.left) c.args.tag.number c.args.tag.wire_type 3 c.args.tag.size c.requires.start c.requires.tag in
-    let fills = whole_told _ c.in_ok-size.field-0 c.in-Whole.size c.in-Whole.is c.in_ok-size.ensures.filled in
-    let read = field_group_inside from.at c.args.left c.args.bytes.now c.args.tag.number c.args.tag.size c.saturating_sub-before.result c.in-Whole.size c.args.room c.args.message_type c.args.slot (part_view c.take_message.new.outer) (body_view c.take_message.result) c.requires.rules from.stands start c.requires.means c.requires.room c.take_message.ensures.left c.take_message.ensures.taken c.saturating_sub-before.ensures fills (ap part_view c.in-Message.is) in
+    let fills = c.fill_to_tag-read.ensures.filled (all_read c.fill_to_tag-read.result.whole c.if-not-read.false) in
+    let read = field_group_inside from.at c.args.left c.args.bytes.now c.args.tag.number c.args.tag.size c.saturating_sub-before.result c.fill_to_tag-read.result.size c.args.room c.args.message_type c.args.slot (part_view c.take_message.new.outer) (body_view c.take_message.result) c.requires.rules from.stands start c.requires.means c.requires.room c.take_message.ensures.left c.take_message.ensures.taken c.saturating_sub-before.ensures fills (ap part_view c.in-Message.is) in
     frame_can_hold read.1.1
 
-pub group::fill_field_group-returns-in_ok-put_message-in-Message-clause-filled : goal.group::fill_field_group-returns-in_ok-put_message-in-Message-clause-filled
-group::fill_field_group-returns-in_ok-put_message-in-Message-clause-filled t c =
-    λ m depth levels at base p0 frames there.
+pub group::fill_field_group-returns-in-Ok-clause-filled : goal.group::fill_field_group-returns-in-Ok-clause-filled
+group::fill_field_group-returns-in-Ok-clause-filled t c =
+    λ _ m depth levels at base p0 frames there.
     let start = typed_tag c.args.bytes.now (Some c.args.left) c.args.tag.number c.args.tag.wire_type 3 c.args.tag.size c.requires.start c.requires.tag in
-    let fills = whole_told _ c.in_ok-size.field-0 c.in-Whole.size c.in-Whole.is c.in_ok-size.ensures.filled in
-    let read = field_group_inside at c.args.left c.args.bytes.now c.args.tag.number c.args.tag.size c.saturating_sub-before.result c.in-Whole.size c.args.room c.args.message_type c.args.slot (part_view c.take_message.new.outer) (body_view c.take_message.result) c.requires.rules there start c.requires.means c.requires.room c.take_message.ensures.left c.take_message.ensures.taken c.saturating_sub-before.ensures fills (ap part_view c.in-Message.is) in
-    field_group_over (part_view c.put_message.new.outer) there.2 read.1 read.2 c.in_ok-put_message-in-Message.ensures
+    let fills = c.fill_to_tag-read.ensures.filled (all_read c.fill_to_tag-read.result.whole c.if-not-read.false) in
+    let read = field_group_inside at c.args.left c.args.bytes.now c.args.tag.number c.args.tag.size c.saturating_sub-before.result c.fill_to_tag-read.result.size c.args.room c.args.message_type c.args.slot (part_view c.take_message.new.outer) (body_view c.take_message.result) c.requires.rules there start c.requires.means c.requires.room c.take_message.ensures.left c.take_message.ensures.taken c.saturating_sub-before.ensures fills (ap part_view c.in-Message.is) in
+    field_group_over (part_view c.put_message.new.outer) there.2 read.1 read.2 c.in-Ok.ensures
 
 -- AN UNKNOWN GROUP
-pub group::fill_unknown_group-fill_to_tag-requires : goal.group::fill_unknown_group-fill_to_tag-requires
-group::fill_unknown_group-fill_to_tag-requires t c =
+pub group::fill_unknown_group-fill_to_tag-read-requires : goal.group::fill_unknown_group-fill_to_tag-read-requires
+group::fill_unknown_group-fill_to_tag-read-requires t c =
     let is = ap length (slice_from c.args.tag.size c.args.bytes.now) ∙ length-drop c.args.tag.size c.args.bytes.now in
     let small = c.requires.small in
     let some = c.requires.some in
@@ -210,13 +211,13 @@ group::fill_unknown_group-fill_to_tag-requires t c =
       ),
     )
 
-pub group::fill_unknown_group-returns-in_ok-put_group-in-Group-clause-filled : goal.group::fill_unknown_group-returns-in_ok-put_group-in-Group-clause-filled
-group::fill_unknown_group-returns-in_ok-put_group-in-Group-clause-filled t c =
-    λ m depth levels at base p0 frames there.
+pub group::fill_unknown_group-returns-in-Ok-clause-filled : goal.group::fill_unknown_group-returns-in-Ok-clause-filled
+group::fill_unknown_group-returns-in-Ok-clause-filled t c =
+    λ _ m depth levels at base p0 frames there.
     let start = typed_tag c.args.bytes.now (Some c.args.left) c.args.tag.number c.args.tag.wire_type 3 c.args.tag.size c.requires.start c.requires.tag in
-    let fills = whole_told _ c.in_ok-size.field-0 c.in-Whole.size c.in-Whole.is c.in_ok-size.ensures.filled in
-    let read = unknown_group_inside at c.args.left c.args.bytes.now c.args.tag.number c.args.tag.size c.saturating_sub-before.result c.in-Whole.size c.args.room (records_of c.new.result.items) c.requires.rules there start c.requires.means c.requires.room (ap records_of c.new.ensures.items) c.saturating_sub-before.ensures fills (ap part_view c.in-Group.is) in
-    unknown_group_over (part_view c.put_group.new.outer) there.2 read.1 read.2 c.in_ok-put_group-in-Group.ensures
+    let fills = c.fill_to_tag-read.ensures.filled (all_read c.fill_to_tag-read.result.whole c.if-not-read.false) in
+    let read = unknown_group_inside at c.args.left c.args.bytes.now c.args.tag.number c.args.tag.size c.saturating_sub-before.result c.fill_to_tag-read.result.size c.args.room (records_of c.new.result.items) c.requires.rules there start c.requires.means c.requires.room (ap records_of c.new.ensures.items) c.saturating_sub-before.ensures fills (ap part_view c.in-Group.is) in
+    unknown_group_over (part_view c.put_group.new.outer) there.2 read.1 read.2 c.in-Ok.ensures
 
 -- ITS PURPOSE
 pub group::fill_group-purpose_of-meant-requires : goal.group::fill_group-purpose_of-meant-requires
@@ -255,8 +256,8 @@ group::fill_group-fill_unknown_group-requires t c =
     )
 
 -- A GROUP OF A RUN is filled from the empty message on, and its message is one more
-pub groups::add_group-fill_to_tag-requires : goal.groups::add_group-fill_to_tag-requires
-groups::add_group-fill_to_tag-requires t c =
+pub groups::add_group-fill_to_tag-read-requires : goal.groups::add_group-fill_to_tag-read-requires
+groups::add_group-fill_to_tag-read-requires t c =
     let from = c.requires.open in
     let is = ap length (slice_from c.args.tag.size c.args.bytes.now) ∙ length-drop c.args.tag.size c.args.bytes.now in
     let small = c.requires.small in
@@ -274,21 +275,21 @@ groups::add_group-fill_to_tag-requires t c =
       ),
     )
 
-pub groups::add_group-returns-in_ok-push-in-Message-clause-added : goal.groups::add_group-returns-in_ok-push-in-Message-clause-added
-groups::add_group-returns-in_ok-push-in-Message-clause-added t c = (
+pub groups::add_group-returns-in-Ok-clause-added : goal.groups::add_group-returns-in-Ok-clause-added
+groups::add_group-returns-in-Ok-clause-added t c = λ _. (
   value.Message c.in-Message.body,
-  c.in_ok-push-in-Message.ensures.items,
+  c.in-Ok.ensures.items,
   λ now means m depth levels at base p0 frames there.
       let number = c.args.tag.number in
       let start = typed_tag c.args.bytes.now (Some c.args.left) number c.args.tag.wire_type 3 c.args.tag.size c.requires.start c.requires.tag in
-      let fills = whole_told _ c.in_ok-size.field-0 c.in-Whole.size c.in-Whole.is c.in_ok-size.ensures.filled in
-      let read = field_group_inside at c.args.left c.args.bytes.now number c.args.tag.size c.saturating_sub-before.result c.in-Whole.size c.args.room c.args.message_type (slot.List number) now (body_view c.empty_body.result) c.requires.rules there start means c.requires.room refl c.empty_body.ensures c.saturating_sub-before.ensures fills (ap part_view c.in-Message.is) in
+      let fills = c.fill_to_tag-read.ensures.filled (all_read c.fill_to_tag-read.result.whole c.if-not-read.false) in
+      let read = field_group_inside at c.args.left c.args.bytes.now number c.args.tag.size c.saturating_sub-before.result c.fill_to_tag-read.result.size c.args.room c.args.message_type (slot.List number) now (body_view c.empty_body.result) c.requires.rules there start means c.requires.room refl c.empty_body.ensures c.saturating_sub-before.ensures fills (ap part_view c.in-Message.is) in
       field_group_over (put_listed number (value_view (value.Message c.in-Message.body)) now) there.2 read.1 read.2 (message_listed c.args.pool.now number now c.in-Message.body),
 )
 
 -- GROUP BY GROUP the run goes on
-pub groups::fill_groups-loop-groups-init : goal.groups::fill_groups-loop-groups-init
-groups::fill_groups-loop-groups-init t c =
+pub groups::fill_groups-loop-alloc-init : goal.groups::fill_groups-loop-alloc-init
+groups::fill_groups-loop-alloc-init t c =
     let within = c.requires.within in
     record {
       number = refl;
@@ -300,14 +301,14 @@ groups::fill_groups-loop-groups-init t c =
       put = none_listed 3 c.args.tag.number (Message c.args.message_type (slot.List c.args.tag.number)) c.new-groups.result.items c.args.bytes.now c.args.left c.args.room c.new-groups.ensures.items;
     }
 
-pub groups::fill_groups-add_group-requires : goal.groups::fill_groups-add_group-requires
-groups::fill_groups-add_group-requires t c =
-    let here = c.loop-groups.here in
+pub groups::fill_groups-add_group-group-requires : goal.groups::fill_groups-add_group-group-requires
+groups::fill_groups-add_group-group-requires t c =
+    let here = c.loop-alloc.here in
     let number = c.args.tag.number in
-    let next = c.loop-groups.next in
+    let next = c.loop-alloc.next in
     let size = ap length (slice_from here c.args.bytes.now) ∙ length-drop here c.args.bytes.now in
     let small = c.requires.small in
-    let within = c.loop-groups.invariant.within in
+    let within = c.loop-alloc.invariant.within in
     let rest = take (length c.args.bytes.now - here) (drop here c.args.bytes.now) in
     let behind = sym c.saturating_sub-before.ensures in
     let less : 16 * length (take (length c.args.bytes.now - here) (drop here c.args.bytes.now)) + 3 < 16 * length c.args.bytes.now + 4 = omega (arith, size) in (
@@ -315,20 +316,20 @@ groups::fill_groups-add_group-requires t c =
       (
         c.requires.rules,
         (
-          subst (λ (z : ℕ). IsListOpen c.args.pool.now z 3 c.args.message_type rest c.saturating_sub-before.result c.args.room) (sym c.loop-groups.invariant.number)
+          subst (λ (z : ℕ). IsListOpen c.args.pool.now z 3 c.args.message_type rest c.saturating_sub-before.result c.args.room) (sym c.loop-alloc.invariant.number)
               (subst (λ (z : ℕ). IsListOpen c.args.pool.now number 3 c.args.message_type rest z c.args.room) behind
-              (list_further c.loop-groups.groups.items c.args.bytes.now c.args.left c.args.room here (record { now = part_view c.args.part.now; there = c.requires.open; means = c.requires.means }) c.loop-groups.invariant.put)),
+              (list_further c.loop-alloc.groups.items c.args.bytes.now c.args.left c.args.room here (record { now = part_view c.args.part.now; there = c.requires.open; means = c.requires.means }) c.loop-alloc.invariant.put)),
           (
             c.requires.room,
             (
               omega (arith, size, small),
               (
-                c.loop-groups.invariant.start,
+                c.loop-alloc.invariant.start,
                 (
-                  c.loop-groups.invariant.some,
+                  c.loop-alloc.invariant.some,
                   (
                     omega (arith, size, within),
-                    subst (λ (z : ℕ). HasTagAt rest (Some z) next.number next.wire_type next.size) behind c.loop-groups.invariant.there,
+                    subst (λ (z : ℕ). HasTagAt rest (Some z) next.number next.wire_type next.size) behind c.loop-alloc.invariant.there,
                   ),
                 ),
               ),
@@ -338,16 +339,17 @@ groups::fill_groups-add_group-requires t c =
       ),
     )
 
-pub groups::fill_groups-loop-groups-preserved : goal.groups::fill_groups-loop-groups-preserved
-groups::fill_groups-loop-groups-preserved t c =
-    let here = c.loop-groups.here in
-    let used = c.in-Whole.size in
+pub groups::fill_groups-loop-alloc-preserved : goal.groups::fill_groups-loop-alloc-preserved
+groups::fill_groups-loop-alloc-preserved t c =
+    let here = c.loop-alloc.here in
+    let used = c.add_group-group.result.size in
+    let all = all_read c.add_group-group.result.whole c.if-not-group.false in
     let number = c.args.tag.number in
     let again = c.in-Some.again in
     let size = ap length (slice_from (here + used) c.args.bytes.now) ∙ length-drop (here + used) c.args.bytes.now in
     let enough = c.in-Some.ensures.within.1 in
-    let passed_one = whole_told _ c.in_ok-size.field-0 used c.in-Whole.is c.in_ok-size.ensures.passes.1 in
-    let least = c.loop-groups.invariant.least in
+    let passed_one = c.add_group-group.ensures.passes.1 all in
+    let least = c.loop-alloc.invariant.least in
     let some = c.in-Some.ensures.within.0 in
     record {
       number = c.in-Some.ensures.own.0;
@@ -356,21 +358,22 @@ groups::fill_groups-loop-groups-preserved t c =
       least = omega (arith, least, passed_one);
       within = omega (arith, size, enough, some);
       there = subst (λ (z : ℕ). HasTagAt (take (length c.args.bytes.now - (here + used)) (drop (here + used) c.args.bytes.now)) (Some z) again.number again.wire_type again.size) c.saturating_sub.ensures c.in-Some.ensures.whole;
-      put = group_further number c.loop-groups.next.number c.args.message_type c.loop-groups.groups.items c.add_group.new.groups.items c.args.bytes.now c.args.left c.saturating_sub-before.result c.args.room here used c.loop-groups.invariant.number c.saturating_sub-before.ensures c.loop-groups.invariant.put
-          (whole_told _ c.in_ok-size.field-0 used c.in-Whole.is c.in_ok-size.ensures.added);
+      put = group_further number c.loop-alloc.next.number c.args.message_type c.loop-alloc.groups.items c.add_group-group.new.groups.items c.args.bytes.now c.args.left c.saturating_sub-before.result c.args.room here used c.loop-alloc.invariant.number c.saturating_sub-before.ensures c.loop-alloc.invariant.put
+          (c.add_group-group.ensures.added all);
     }
 
 -- THE RUN goes to the end of its list
-pub groups::fill_groups-returns-clause-filled : goal.groups::fill_groups-returns-clause-filled
-groups::fill_groups-returns-clause-filled t c =
-    let used = c.in-Whole.size in
-    let run = group_further c.args.tag.number c.loop-groups.next.number c.args.message_type c.loop-groups.groups.items c.add_group.new.groups.items c.args.bytes.now c.args.left c.saturating_sub-before.result c.args.room c.loop-groups.here used c.loop-groups.invariant.number c.saturating_sub-before.ensures c.loop-groups.invariant.put
-    (whole_told _ c.in_ok-size.field-0 used c.in-Whole.is c.in_ok-size.ensures.added) in
-    subst (λ (z : Part). FillsTo c.args.pool.now (part_view c.args.part.now) z c.args.bytes.now c.args.left c.args.room (c.loop-groups.here + used)) (sym c.in_ok-put_elements.ensures) (run (part_view c.args.part.now) c.requires.means)
+pub groups::fill_groups-returns-in-Ok-clause-filled : goal.groups::fill_groups-returns-in-Ok-clause-filled
+groups::fill_groups-returns-in-Ok-clause-filled t c =
+    let used = c.add_group-group.result.size in
+    let all = all_read c.add_group-group.result.whole c.if-not-group.false in
+    let run = group_further c.args.tag.number c.loop-alloc.next.number c.args.message_type c.loop-alloc.groups.items c.add_group-group.new.groups.items c.args.bytes.now c.args.left c.saturating_sub-before.result c.args.room c.loop-alloc.here used c.loop-alloc.invariant.number c.saturating_sub-before.ensures c.loop-alloc.invariant.put
+    (c.add_group-group.ensures.added all) in
+    λ _. subst (λ (z : Part). FillsTo c.args.pool.now (part_view c.args.part.now) z c.args.bytes.now c.args.left c.args.room (c.loop-alloc.here + used)) (sym c.in-Ok.ensures) (run (part_view c.args.part.now) c.requires.means)
 
 -- UP TO ITS END TAG
-pub group::fill_to_tag-fill_inside-requires : goal.group::fill_to_tag-fill_inside-requires
-group::fill_to_tag-fill_inside-requires t c =
+pub group::fill_to_tag-fill_inside-inside-requires : goal.group::fill_to_tag-fill_inside-inside-requires
+group::fill_to_tag-fill_inside-inside-requires t c =
     let here = c.loop-tag.here in
     let size = ap length (slice_from here c.args.bytes.now) ∙ length-drop here c.args.bytes.now in
     let small = c.requires.small in
@@ -391,23 +394,22 @@ pub group::fill_to_tag-loop-tag-preserved : goal.group::fill_to_tag-loop-tag-pre
 group::fill_to_tag-loop-tag-preserved t c =
     let here = c.loop-tag.here in
     let size = ap length (slice_from here c.args.bytes.now) ∙ length-drop here c.args.bytes.now in
-    let passes = c.in_ok-size.ensures.passes in
-    let used = whole_within c.in_ok-size.field-0 c.in-Whole.size (length (take (length c.args.bytes.now - here) (drop here c.args.bytes.now))) c.in-Whole.is passes.0 in
+    let inside = c.fill_inside-inside.result in
+    let used = c.fill_inside-inside.ensures.passes.0 in
     let within = c.loop-tag.invariant.within in
-    let fills = whole_told _ c.in_ok-size.field-0 c.in-Whole.size c.in-Whole.is c.in_ok-size.ensures.filled in
+    let fills = c.fill_inside-inside.ensures.filled (all_read inside.whole c.if-not-inside.false) in
     record {
       within = omega (arith, size, used, within);
-      filled = filled_further (part_view c.args.part.now) (part_view c.loop-tag.part) (part_view c.fill_inside.new.part) c.args.bytes.now c.args.left c.args.room here c.in-Whole.size c.loop-tag.invariant.filled
-          (subst (λ (z : ℕ). FillsTo c.args.pool.now (part_view c.loop-tag.part) (part_view c.fill_inside.new.part) (take (length c.args.bytes.now - here) (drop here c.args.bytes.now)) z c.args.room c.in-Whole.size) c.saturating_sub-before.ensures fills);
+      filled = filled_further (part_view c.args.part.now) (part_view c.loop-tag.part) (part_view c.fill_inside-inside.new.part) c.args.bytes.now c.args.left c.args.room here inside.size c.loop-tag.invariant.filled
+          (subst (λ (z : ℕ). FillsTo c.args.pool.now (part_view c.loop-tag.part) (part_view c.fill_inside-inside.new.part) (take (length c.args.bytes.now - here) (drop here c.args.bytes.now)) z c.args.room inside.size) c.saturating_sub-before.ensures fills);
     }
 
-pub group::fill_to_tag-returns-then-tag-number-clause-filled : goal.group::fill_to_tag-returns-then-tag-number-clause-filled
-group::fill_to_tag-returns-then-tag-number-clause-filled t c =
+pub group::fill_to_tag-returns-then-tag-eq4-clause-filled : goal.group::fill_to_tag-returns-then-tag-eq4-clause-filled
+group::fill_to_tag-returns-then-tag-eq4-clause-filled t c =
+    λ own.
     let four = c.if-tag-eq4.true in
-    let own = c.if-tag-number.true in
     let ends : c.in-Some.tag.wire_type ≡ 4 = omega (arith, four) in
-    let same : c.in-Some.tag.number ≡ c.args.number = omega (arith, own) in
-    subst (λ (z : ℕ). FillsToEnd c.args.pool.now z (part_view c.args.part.now) (part_view c.loop-tag.part) c.args.bytes.now c.args.left c.args.room (c.loop-tag.here + c.in-Some.tag.size)) same
+    subst (λ (z : ℕ). FillsToEnd c.args.pool.now z (part_view c.args.part.now) (part_view c.loop-tag.part) c.args.bytes.now c.args.left c.args.room (c.loop-tag.here + c.in-Some.tag.size)) (number_is c.in-Some.tag.number c.args.number own)
     (end_reached (part_view c.args.part.now) (part_view c.loop-tag.part) c.args.bytes.now c.args.left c.args.room c.in-Some.tag.number c.in-Some.tag.wire_type c.loop-tag.here c.saturating_sub-before.result c.in-Some.tag.size c.loop-tag.invariant.filled ends c.saturating_sub-before.ensures c.in-Some.ensures.whole)
 
 -- AN ENTRY OF A RUN is a key and a value in turn, or is filled as where it is open, and what it closes to is its key and its value
@@ -419,23 +421,22 @@ entries::pair_in_turn-fill-requires t c =
 pub entries::pair_in_turn-key_or_default-key-requires : goal.entries::pair_in_turn-key_or_default-key-requires
 entries::pair_in_turn-key_or_default-key-requires t c =
     let from = c.requires.open in
-    let fills = subst (λ (z : Part). FillsTo c.args.pool.now (entry_part c.args.key_kind c.args.value_kind None None) z c.args.bytes.now c.args.size c.args.room c.args.size) (ap part_view c.in-Entry.is) (c.in_ok-fill.ensures c.if-not-branch.false) in
+    let fills = subst (λ (z : Part). FillsTo c.args.pool.now (entry_part c.args.key_kind c.args.value_kind None None) z c.args.bytes.now c.args.size c.args.room c.args.size) (ap part_view c.in-Entry.is) (c.if-not-fill.ensures refl) in
     can_hold c.requires.rules (entry_part c.in-Entry.key_kind c.in-Entry.value_kind (option_map key_view c.in-Entry.key) (option_map value_view c.in-Entry.value)) (fills from.m from.depth from.levels from.at from.base from.p0 from.frames from.stands).1
 
-pub entries::pair_in_turn-returns-in_ok-push-in-Entry : goal.entries::pair_in_turn-returns-in_ok-push-in-Entry
-entries::pair_in_turn-returns-in_ok-push-in-Entry t c = (
-  (c.key_or_default-key.result, c.value_or_missing-value.result),
-  c.in_ok-push-in-Entry.ensures.items,
-  record {
-    key_kind = c.in-Entry.key_kind;
-    value_kind = c.in-Entry.value_kind;
-    own_key = option_map key_view c.in-Entry.key;
-    own_value = option_map value_view c.in-Entry.value;
-    filled = subst (λ (z : Part). FillsTo c.args.pool.now (entry_part c.args.key_kind c.args.value_kind None None) z c.args.bytes.now c.args.size c.args.room c.args.size) (ap part_view c.in-Entry.is) (c.in_ok-fill.ensures c.if-not-branch.false);
-    key_is = c.key_or_default-key.ensures;
-    value_is = c.value_or_missing-value.ensures;
-  },
-)
+pub entries::pair_in_turn-returns-in-Entry : goal.entries::pair_in_turn-returns-in-Entry
+entries::pair_in_turn-returns-in-Entry t c =
+    pair_put (HasPair c.args.pool.now c.args.key_kind c.args.value_kind c.args.bytes.now c.args.size c.args.room) (c.key_or_default-key.result, c.value_or_missing-value.result) c.args.entries.now.items c.put_pair.new.entries.items c.put_pair.result
+    (record {
+      key_kind = c.in-Entry.key_kind;
+      value_kind = c.in-Entry.value_kind;
+      own_key = option_map key_view c.in-Entry.key;
+      own_value = option_map value_view c.in-Entry.value;
+      filled = subst (λ (z : Part). FillsTo c.args.pool.now (entry_part c.args.key_kind c.args.value_kind None None) z c.args.bytes.now c.args.size c.args.room c.args.size) (ap part_view c.in-Entry.is) (c.if-not-fill.ensures refl);
+      key_is = c.key_or_default-key.ensures;
+      value_is = c.value_or_missing-value.ensures;
+    })
+    c.put_pair.ensures
 
 pub entries::push_pair-direct_pair-requires : goal.entries::push_pair-direct_pair-requires
 entries::push_pair-direct_pair-requires t c =
@@ -448,15 +449,15 @@ entries::push_pair-pair_in_turn-requires t c =
     (search (rules, less), (c.requires.rules, (c.requires.open, (c.requires.small, c.requires.whole))))
 
 pub entries::push_pair-returns-in-Whole : goal.entries::push_pair-returns-in-Whole
-entries::push_pair-returns-in-Whole t c = pair_told _ _ c.in_ok-direct_pair.field-0 c.in-Whole.is c.in_ok-direct_pair.ensures
+entries::push_pair-returns-in-Whole t c = c.in-Whole.ensures
 
 pub entries::push_pair-returns-in-Refused : goal.entries::push_pair-returns-in-Refused
-entries::push_pair-returns-in-Refused t c = refused_told _ _ c.in_ok-direct_pair.field-0 c.in-Refused.is c.in_ok-direct_pair.ensures
+entries::push_pair-returns-in-Refused t c = c.in-Refused.ensures
 
 pub entries::push_pair-returns-in-Other : goal.entries::push_pair-returns-in-Other
 entries::push_pair-returns-in-Other t c =
     none_put (HasPair c.args.pool.now c.args.key_kind c.args.value_kind c.args.bytes.now c.args.size c.args.room) c.args.entries.now.items c.direct_pair.new.entries.items c.pair_in_turn.new.entries.items c.pair_in_turn.result
-    (other_told _ _ c.in_ok-direct_pair.field-0 c.in-Other.is c.in_ok-direct_pair.ensures) c.pair_in_turn.ensures
+    c.in-Other.ensures c.pair_in_turn.ensures
 
 pub entries::entry_behind-push_pair-requires : goal.entries::entry_behind-push_pair-requires
 entries::entry_behind-push_pair-requires t c =
@@ -480,7 +481,7 @@ entries::entry_behind-push_pair-requires t c =
 
 pub entries::entry_behind-returns-in-Whole-clause-put : goal.entries::entry_behind-returns-in-Whole-clause-put
 entries::entry_behind-returns-in-Whole-clause-put t c =
-    let told = pair_told _ _ c.in_ok-push_pair.field-0 c.in-Whole.is c.in_ok-push_pair.ensures in
+    let told = c.in-Whole.ensures in
     let pair = told.0 in
     let h = told.2 in (
       pair,
@@ -523,12 +524,11 @@ entries::read_entries-entry_at-requires t c =
 pub entries::read_entries-loop-here-preserved : goal.entries::read_entries-loop-here-preserved
 entries::read_entries-loop-here-preserved t c =
     let size = ap length (slice_from c.loop-here.here c.args.bytes.now) ∙ length-drop c.loop-here.here c.args.bytes.now in
-    let used = told_of _ c.in_ok-size.field-0 c.in-Some.size c.in-Some.is c.in_ok-size.ensures.within in
-    let some = used.0 in
-    let enough = used.1 in
+    let some = c.in-Some.ensures.within.0 in
+    let enough = c.in-Some.ensures.within.1 in
     let within = c.loop-here.invariant.within in
     let few = c.loop-here.invariant.few in
-    let added = some_added _ _ c.in_ok-size.field-0 c.in-Some.size c.in-Some.is c.in_ok-size.ensures.put in
+    let added = c.in-Some.ensures.put in
     let entry = added.0 in
     let more = ap length added.1 ∙ size_next c.loop-here.entries.items entry in
     record {
@@ -553,7 +553,7 @@ entries::read_entries-returns-in_default-clause-put t c =
     subst
     (λ (es : List (MapKey × Value)). FitMapped c.args.number (pairs_view es) now
     × Stands c.args.pool.now m depth levels base p0 frames (put_all_mapped c.args.number (pairs_view es) now) (more_in c.args.number (length es) scope) (passed (given_at at c.args.left c.args.bytes.now) c.loop-here.here))
-    (sym (none_added _ _ c.in_ok-size.field-0 c.in_default.is c.in_ok-size.ensures.put)) (c.loop-here.invariant.put m depth levels at base p0 frames scope now stands level means)
+    (sym c.in_default.ensures.put) (c.loop-here.invariant.put m depth levels at base p0 frames scope now stands level means)
 
 -- THE RUN goes into its map
 pub entries::fill_entries-read_entries-requires : goal.entries::fill_entries-read_entries-requires
@@ -574,16 +574,16 @@ entries::fill_entries-read_entries-requires t c =
 pub entries::fill_entries-put_entries-requires-clause-fits : goal.entries::fill_entries-put_entries-requires-clause-fits
 entries::fill_entries-put_entries-requires-clause-fits t c =
     let from = c.requires.open in
-    (c.in_ok-entries.ensures.put from.m from.depth from.levels from.at from.base from.p0 from.frames from.stands.0 (part_view c.args.part.now) from.stands.1 from.stands.2 c.requires.means).0
+    (c.in-Ok.ensures.put from.m from.depth from.levels from.at from.base from.p0 from.frames from.stands.0 (part_view c.args.part.now) from.stands.1 from.stands.2 c.requires.means).0
 
 pub entries::fill_entries-put_entries-requires-clause-rises : goal.entries::fill_entries-put_entries-requires-clause-rises
 entries::fill_entries-put_entries-requires-clause-rises t c = rises_in c.requires.rules (part_view c.args.part.now) c.requires.open.stands.1
 
-pub entries::fill_entries-returns-clause-filled : goal.entries::fill_entries-returns-clause-filled
-entries::fill_entries-returns-clause-filled t c =
+pub entries::fill_entries-returns-in-Ok-put_entries-clause-filled : goal.entries::fill_entries-returns-in-Ok-put_entries-clause-filled
+entries::fill_entries-returns-in-Ok-put_entries-clause-filled t c =
     λ m depth levels at base p0 frames there.
-    run_filled there.0 (part_view c.args.part.now) c.args.tag.number c.args.room c.in_ok-entries.entries.items there.2 c.in_ok-put_entries.ensures
-    (c.in_ok-entries.ensures.put m depth levels at base p0 frames there.0 (part_view c.args.part.now) there.1 there.2 c.requires.means).1
+    run_filled there.0 (part_view c.args.part.now) c.args.tag.number c.args.room c.in-Ok.entries.items there.2 c.in-Ok-put_entries.ensures
+    (c.in-Ok.ensures.put m depth levels at base p0 frames there.0 (part_view c.args.part.now) there.1 there.2 c.requires.means).1
 
 -- A MESSAGE OF A RUN is filled from the empty one on, and goes to the end of its list
 pub messages::message_behind-fill-requires : goal.messages::message_behind-fill-requires
@@ -612,7 +612,7 @@ messages::message_behind-returns-in-Message-clause-put t c =
     λ now means m depth levels at base p0 frames there.
     let number = c.args.tag.number in
     let has = typed_tag c.args.bytes.now (Some c.args.left) number c.args.tag.wire_type 2 c.args.tag.size c.requires.bytes c.requires.tag in
-    let read = message_inside at (Some c.args.left) c.args.bytes.now number c.args.tag.size c.in-Some.start c.in-Some.size c.args.room (c.args.room - 1) c.args.message_type (slot.List number) now (body_view c.empty_body.result) c.requires.rules there refl (has at) (c.in-Some.ensures.whole at number c.args.tag.wire_type (c.requires.tag at)) means (λ _. c.requires.some) refl c.empty_body.ensures (c.in_ok-fill.ensures c.if-not-branch.false) (ap part_view c.in-Message.is) in
+    let read = message_inside at (Some c.args.left) c.args.bytes.now number c.args.tag.size c.in-Some.start c.in-Some.size c.args.room (c.args.room - 1) c.args.message_type (slot.List number) now (body_view c.empty_body.result) c.requires.rules there refl (has at) (c.in-Some.ensures.whole at number c.args.tag.wire_type (c.requires.tag at)) means (λ _. c.requires.some) refl c.empty_body.ensures (c.if-not-fill.ensures refl) (ap part_view c.in-Message.is) in
     message_over at c.args.left c.args.bytes.now number c.in-Some.start c.in-Some.size c.args.room (c.args.room - 1) c.in-Message._kind.0 (slot.List number) (body_view c.in-Message.body) (put_listed number (value_view (value.Message c.in-Message.body)) now) there.1 there.2 read
     (message_listed c.args.pool.now number now c.in-Message.body)
 
@@ -659,17 +659,17 @@ messages::read_messages-loop-tag-preserved t c =
     let here = c.loop-tag.here in
     let number = c.args.number in
     let size = ap length (slice_from here c.args.bytes.now) ∙ length-drop here c.args.bytes.now in
-    let used = told_of _ c.in_ok-message.field-0 (c.in-Some-2.message, c.in-Some-2.size) c.in-Some-2.is c.in_ok-message.ensures.within in
+    let used = c.in_ok-message.ensures.within in
     let some = used.0 in
     let enough = used.1 in
     let within = c.loop-tag.invariant.within in
     let behind = take (length c.args.bytes.now - here) (drop here c.args.bytes.now) in
-    let run = λ (n left : ℕ). FillsRun c.args.pool.now n 2 (Message c.args.message_type (slot.List n)) (value_view c.in-Some-2.message ∷ []) behind left c.args.room c.in-Some-2.size in
+    let run = λ (n left : ℕ). FillsRun c.args.pool.now n 2 (Message c.args.message_type (slot.List n)) (value_view c.in_ok-message.message ∷ []) behind left c.args.room c.in_ok-message.size in
     record {
       within = omega (arith, size, enough, within);
-      put = values_further 2 number (Message c.args.message_type (slot.List number)) c.loop-tag.messages.items c.push.new.self.items c.in-Some-2.message c.args.bytes.now c.args.left c.args.room here c.in-Some-2.size c.in_ok-push.ensures.items c.loop-tag.invariant.put
+      put = values_further 2 number (Message c.args.message_type (slot.List number)) c.loop-tag.messages.items c.push.new.self.items c.in_ok-message.message c.args.bytes.now c.args.left c.args.room here c.in_ok-message.size c.in-Ok.ensures.items c.loop-tag.invariant.put
           (subst (run number) c.saturating_sub-in-Some.ensures
-          (subst (λ (n : ℕ). run n c.saturating_sub-in-Some.result) c.in-Some.ensures.own.0 (told_of _ c.in_ok-message.field-0 (c.in-Some-2.message, c.in-Some-2.size) c.in-Some-2.is c.in_ok-message.ensures.put)));
+          (subst (λ (n : ℕ). run n c.saturating_sub-in-Some.result) c.in-Some.ensures.own.0 c.in_ok-message.ensures.put));
     }
 
 -- THE RUN goes to the end of its list
@@ -681,10 +681,10 @@ messages::fill_messages-read_messages-requires t c =
       (c.requires.rules, (record { now = part_view c.args.part.now; there = c.requires.open; means = c.requires.means }, (omega (arith, level), c.requires.small))),
     )
 
-pub messages::fill_messages-returns-clause-filled : goal.messages::fill_messages-returns-clause-filled
-messages::fill_messages-returns-clause-filled t c =
-    subst (λ (z : Part). FillsTo c.args.pool.now (part_view c.args.part.now) z c.args.bytes.now c.args.left c.args.room c.in-Some.used) (sym c.in_ok-put_elements.ensures)
-    (told_of _ c.in_ok-messages.field-0 (c.in-Some.messages, c.in-Some.used) c.in-Some.is c.in_ok-messages.ensures.put (part_view c.args.part.now) c.requires.means)
+pub messages::fill_messages-returns-in-Ok-clause-filled : goal.messages::fill_messages-returns-in-Ok-clause-filled
+messages::fill_messages-returns-in-Ok-clause-filled t c =
+    subst (λ (z : Part). FillsTo c.args.pool.now (part_view c.args.part.now) z c.args.bytes.now c.args.left c.args.room c.in_ok-messages.used) (sym c.in-Ok.ensures)
+    (c.in_ok-messages.ensures.put (part_view c.args.part.now) c.requires.means)
 
 -- A KEY AND A MESSAGE behind it
 pub direct_pair::pair_with_message-fill-requires : goal.direct_pair::pair_with_message-fill-requires
@@ -708,22 +708,22 @@ direct_pair::pair_with_message-fill-requires t c =
       ),
     )
 
-pub direct_pair::pair_with_message-returns-in_ok-push-in-Message : goal.direct_pair::pair_with_message-returns-in_ok-push-in-Message
-direct_pair::pair_with_message-returns-in_ok-push-in-Message t c = (
-  (c.args.key, value.Message c.in-Message.body),
-  c.in_ok-push-in-Message.ensures.items,
-  λ m depth levels at base p0 frames there.
-      let bytes = c.args.bytes.now in
-      let start = c.in-Some-length_behind.start in
-      let number = c.in-Some.tag.number in
-      let old : Part = entry_part c.args.key_kind c.args.value_kind (Some (key_view c.args.key)) None in
-      let new : Part = entry_part c.args.key_kind c.args.value_kind (Some (key_view c.args.key)) (Some (value_view (value.Message c.in-Message.body))) in
-      let has = typed_tag bytes (Some c.args.left) number c.in-Some.tag.wire_type 2 c.in-Some.tag.size c.if-tag-ne2.false c.in-Some.ensures.whole in
-      let read = message_inside at (Some c.args.left) bytes number c.in-Some.tag.size start c.in-Some-length_behind.size c.args.room c.args.room c.args.message_type slot.Entry old (body_view c.empty_body.result) c.requires.rules there refl (has at) (c.in-Some-length_behind.ensures.whole at number c.in-Some.tag.wire_type (c.in-Some.ensures.whole at)) (c.requires.message, c.in-Some.ensures.own.0, sym c.if-tag-ne2.false ∙ c.in-Some.ensures.own.1) (λ deep. absurd (false≢true deep)) refl c.empty_body.ensures (c.in_ok-fill.ensures c.if-not-branch.false) (ap part_view c.in-Message.is) in
-      subst (λ (z : ℕ). StandsIn c.args.pool.now m depth levels base p0 frames c.args.room new (passed (given_at at (Some c.args.left) bytes) z)) c.if-start-size.false
-      (message_over at c.args.left bytes number start c.in-Some-length_behind.size c.args.room c.args.room c.in-Message._kind.0 slot.Entry (body_view c.in-Message.body) new there.1 there.2 read
-      (ap (λ (d : Datum). entry_part c.args.key_kind c.args.value_kind (Some (key_view c.args.key)) (Some d)) (value_view-Message c.in-Message.body))),
-)
+pub direct_pair::pair_with_message-returns-in-Message : goal.direct_pair::pair_with_message-returns-in-Message
+direct_pair::pair_with_message-returns-in-Message t c =
+    let P = λ (k : Scalar) (d : Datum). FillsTo c.args.pool.now (entry_part c.args.key_kind c.args.value_kind (Some (key_view c.args.key)) None) (entry_part c.args.key_kind c.args.value_kind (Some k) (Some d)) c.args.bytes.now c.args.left c.args.room c.args.left in
+    pair_put P (c.args.key, value.Message c.in-Message.body) c.args.entries.now.items c.put_pair.new.entries.items c.put_pair.result
+    (λ m depth levels at base p0 frames there.
+    let bytes = c.args.bytes.now in
+    let start = c.in-Some-length_behind.start in
+    let number = c.in-Some.tag.number in
+    let old : Part = entry_part c.args.key_kind c.args.value_kind (Some (key_view c.args.key)) None in
+    let new : Part = entry_part c.args.key_kind c.args.value_kind (Some (key_view c.args.key)) (Some (value_view (value.Message c.in-Message.body))) in
+    let has = typed_tag bytes (Some c.args.left) number c.in-Some.tag.wire_type 2 c.in-Some.tag.size c.if-tag-ne2.false c.in-Some.ensures.whole in
+    let read = message_inside at (Some c.args.left) bytes number c.in-Some.tag.size start c.in-Some-length_behind.size c.args.room c.args.room c.args.message_type slot.Entry old (body_view c.empty_body.result) c.requires.rules there refl (has at) (c.in-Some-length_behind.ensures.whole at number c.in-Some.tag.wire_type (c.in-Some.ensures.whole at)) (c.requires.message, c.in-Some.ensures.own.0, sym c.if-tag-ne2.false ∙ c.in-Some.ensures.own.1) (λ deep. absurd (false≢true deep)) refl c.empty_body.ensures (c.if-not-fill.ensures refl) (ap part_view c.in-Message.is) in
+    subst (λ (z : ℕ). StandsIn c.args.pool.now m depth levels base p0 frames c.args.room new (passed (given_at at (Some c.args.left) bytes) z)) c.if-start-size.false
+    (message_over at c.args.left bytes number start c.in-Some-length_behind.size c.args.room c.args.room c.in-Message._kind.0 slot.Entry (body_view c.in-Message.body) new there.1 there.2 read
+    (ap (λ (d : Datum). entry_part c.args.key_kind c.args.value_kind (Some (key_view c.args.key)) (Some d)) (value_view-Message c.in-Message.body))))
+    c.put_pair.ensures
 
 -- A KEY, and what is behind it
 pub direct_pair::direct_pair-pair_with_message-requires : goal.direct_pair::direct_pair-pair_with_message-requires
@@ -735,7 +735,7 @@ direct_pair::direct_pair-pair_with_message-requires t c =
     let whole = c.requires.whole in
     let old : Part = entry_part c.args.key_kind c.args.value_kind None None in
     let new : Part = entry_part c.args.key_kind c.args.value_kind (Some (key_view c.in-Some.key)) None in
-    let filled = told_of _ c.in_ok-read.read (c.in-Some.key, c.in-Some.used) c.in-Some.is c.in_ok-read.ensures.filled in
+    let filled = c.in-Some.ensures.filled in
     let less : 16 * length (take (length c.args.bytes.now - c.in-Some.used) (drop c.in-Some.used c.args.bytes.now)) + 8 < 16 * length c.args.bytes.now + 9 = omega (arith, is) in (
       search (rules, less),
       (
@@ -750,9 +750,9 @@ direct_pair::direct_pair-pair_with_message-requires t c =
 pub direct_pair::direct_pair-returns-in-Some-message : goal.direct_pair::direct_pair-returns-in-Some-message
 direct_pair::direct_pair-returns-in-Some-message t c =
     pair_further (key_view c.in-Some.key) c.args.bytes.now c.args.size c.args.room c.in-Some.used c.args.entries.now.items c.pair_with_message.new.entries.items c.pair_with_message.result c.if-used-size.false
-    (told_of _ c.in_ok-read.read (c.in-Some.key, c.in-Some.used) c.in-Some.is c.in_ok-read.ensures.filled) c.pair_with_message.ensures
+    c.in-Some.ensures.filled c.pair_with_message.ensures
 
 pub direct_pair::direct_pair-returns-in-None : goal.direct_pair::direct_pair-returns-in-None
 direct_pair::direct_pair-returns-in-None t c =
     pair_further (key_view c.in-Some.key) c.args.bytes.now c.args.size c.args.room c.in-Some.used c.args.entries.now.items c.pair_with_scalar.new.entries.items c.pair_with_scalar.result c.if-used-size.false
-    (told_of _ c.in_ok-read.read (c.in-Some.key, c.in-Some.used) c.in-Some.is c.in_ok-read.ensures.filled) c.pair_with_scalar.ensures
+    c.in-Some.ensures.filled c.pair_with_scalar.ensures

@@ -71,8 +71,8 @@ decreases-groups::fill_groups l = 16 * length l.bytes.now + 4
 abbrev pub decreases-groups::add_group : goal.decreases-groups::add_group
 decreases-groups::add_group l = 16 * length l.bytes.now + 3
 
-abbrev pub invariant-groups::fill_groups-loop-groups : goal.invariant-groups::fill_groups-loop-groups
-invariant-groups::fill_groups-loop-groups l = record {
+abbrev pub invariant-groups::fill_groups-loop-alloc : goal.invariant-groups::fill_groups-loop-alloc
+invariant-groups::fill_groups-loop-alloc l = record {
   number : l.next.number ≡ l.tag.number;
   start : l.next.wire_type ≡ 3;
   some : 0 < l.next.size;
@@ -82,8 +82,8 @@ invariant-groups::fill_groups-loop-groups l = record {
   put : FillsRun l.pool l.tag.number 3 (Message l.message_type (ListSlot l.tag.number)) (map value_view l.groups.items) l.bytes l.left l.room l.here;
 }
 
-abbrev pub decreases-groups::fill_groups-loop-groups : goal.decreases-groups::fill_groups-loop-groups
-decreases-groups::fill_groups-loop-groups l = length l.bytes - l.here
+abbrev pub decreases-groups::fill_groups-loop-alloc : goal.decreases-groups::fill_groups-loop-alloc
+decreases-groups::fill_groups-loop-alloc l = length l.bytes - l.here
 
 -- a run of entries
 abbrev pub decreases-entries::fill_entries : goal.decreases-entries::fill_entries

@@ -26,7 +26,7 @@ close_entry-requires-clause-key c =
     let has = subst (λ (z : ℕ). HasTag (here s c.args.bytes.now) c.args.tag.number z (passed (here s c.args.bytes.now) c.args.tag.size)) c.requires.bytes c.requires.tag in
     let l = length_here s c.args.bytes.now c.args.tag.number c.args.tag.wire_type c.args.tag.size c.in-Some.start c.in-Some.size c.left.ensures c.in-Some.ensures.whole c.requires.tag in
     let level = c.if-reader-eq0.false in
-    let read = entry_inside s.at (left_of s) c.args.bytes.now c.args.tag.number c.args.tag.size c.in-Some.start c.in-Some.size s.scope.room c.args.key_kind c.args.value_kind c.requires.rules (s.scope, tag_stands s c.args.bytes.now c.requires.reading.reads c.requires.step, refl) has l c.requires.means (omega (arith, level)) (c.in_ok-fill.ensures c.if-not-branch.false) (ap part_view c.in-Entry.is) in
+    let read = entry_inside s.at (left_of s) c.args.bytes.now c.args.tag.number c.args.tag.size c.in-Some.start c.in-Some.size s.scope.room c.args.key_kind c.args.value_kind c.requires.rules (s.scope, tag_stands s c.args.bytes.now c.requires.reading.reads c.requires.step, refl) has l c.requires.means (omega (arith, level)) (c.if-not-fill.ensures refl) (ap part_view c.in-Entry.is) in
     can_hold c.requires.rules (entry_part c.in-Entry.key_kind c.in-Entry.value_kind (option_map key_view c.in-Entry.key) (option_map value_view c.in-Entry.value)) read.1
 
 pub close_entry-requires-clause-fits : goal.close_entry-requires-clause-fits
@@ -35,7 +35,7 @@ close_entry-requires-clause-fits c =
     let has = subst (λ (z : ℕ). HasTag (here s c.args.bytes.now) c.args.tag.number z (passed (here s c.args.bytes.now) c.args.tag.size)) c.requires.bytes c.requires.tag in
     let l = length_here s c.args.bytes.now c.args.tag.number c.args.tag.wire_type c.args.tag.size c.in-Some.start c.in-Some.size c.left.ensures c.in-Some.ensures.whole c.requires.tag in
     let level = c.if-reader-eq0.false in
-    let read = entry_inside s.at (left_of s) c.args.bytes.now c.args.tag.number c.args.tag.size c.in-Some.start c.in-Some.size s.scope.room c.args.key_kind c.args.value_kind c.requires.rules (s.scope, tag_stands s c.args.bytes.now c.requires.reading.reads c.requires.step, refl) has l c.requires.means (omega (arith, level)) (c.in_ok-fill.ensures c.if-not-branch.false) (ap part_view c.in-Entry.is) in
+    let read = entry_inside s.at (left_of s) c.args.bytes.now c.args.tag.number c.args.tag.size c.in-Some.start c.in-Some.size s.scope.room c.args.key_kind c.args.value_kind c.requires.rules (s.scope, tag_stands s c.args.bytes.now c.requires.reading.reads c.requires.step, refl) has l c.requires.means (omega (arith, level)) (c.if-not-fill.ensures refl) (ap part_view c.in-Entry.is) in
     entry_has_room c.requires.rules c.in-Entry.key_kind c.in-Entry.value_kind (option_map key_view c.in-Entry.key) (option_map value_view c.in-Entry.value) read.1
 
 pub close_entry-requires-clause-few : goal.close_entry-requires-clause-few
@@ -51,7 +51,7 @@ returns-in_ok-close_entry-in-Entry-clause-taken c =
     let has = subst (λ (z : ℕ). HasTag (here s c.args.bytes.now) c.args.tag.number z (passed (here s c.args.bytes.now) c.args.tag.size)) c.requires.bytes c.requires.tag in
     let l = length_here s c.args.bytes.now c.args.tag.number c.args.tag.wire_type c.args.tag.size c.in-Some.start c.in-Some.size c.left.ensures c.in-Some.ensures.whole c.requires.tag in
     let level = c.if-reader-eq0.false in
-    let read = entry_inside s.at (left_of s) c.args.bytes.now c.args.tag.number c.args.tag.size c.in-Some.start c.in-Some.size s.scope.room c.args.key_kind c.args.value_kind c.requires.rules (s.scope, tag_stands s c.args.bytes.now begun c.requires.step, refl) has l c.requires.means (omega (arith, level)) (c.in_ok-fill.ensures c.if-not-branch.false) (ap part_view c.in-Entry.is) in
+    let read = entry_inside s.at (left_of s) c.args.bytes.now c.args.tag.number c.args.tag.size c.in-Some.start c.in-Some.size s.scope.room c.args.key_kind c.args.value_kind c.requires.rules (s.scope, tag_stands s c.args.bytes.now begun c.requires.step, refl) has l c.requires.means (omega (arith, level)) (c.if-not-fill.ensures refl) (ap part_view c.in-Entry.is) in
     let q = passed (given_at (c.args.reader.now.at + c.in-Some.start) (Some c.in-Some.size) (take (length c.args.bytes.now - c.in-Some.start) (drop c.in-Some.start c.args.bytes.now))) c.in-Some.size in
     inner_passed s
     (record { at = c.args.reader.now.at + (c.in-Some.start + c.in-Some.size); now = part_view c.close_entry.new.outer; scope = scope_view c.close_entry.new.scope; frames = frames_view c.args.reader.now.frames.items; next = c.args.reader.now.step })

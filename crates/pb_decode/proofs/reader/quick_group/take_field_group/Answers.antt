@@ -7,11 +7,11 @@ use Rattle.pb_decode.specs.Open.PartView.{part_view, scope_view}
 use Rattle.pb_decode.specs.Reader.{state_view, frames_view, here}
 use Rattle.pb_decode.proofs.ReaderLemmas.{stands_reads}
 use Rattle.pb_decode.proofs.QuickLemmas.{tag_few, tag_can}
-use Rattle.pb_decode.proofs.GroupFills.{whole_told, field_group_in_reader, field_group_read}
+use Rattle.pb_decode.proofs.GroupFills.{all_read, field_group_in_reader, field_group_read}
 use Rattle.pb_decode.proofs.reader.quick_group.take_field_group.Goals as goal
 
-pub fill_to_tag-requires-clause-open : goal.fill_to_tag-requires-clause-open
-fill_to_tag-requires-clause-open c =
+pub fill_to_tag-read-requires-clause-open : goal.fill_to_tag-read-requires-clause-open
+fill_to_tag-read-requires-clause-open c =
     let s = state_view c.args.reader.now in
     let has = subst (λ (z : ℕ). HasTag (here s c.args.bytes.now) c.args.tag.number z (passed (here s c.args.bytes.now) c.args.tag.size)) c.requires.start c.requires.tag in
     let before = subst (λ (z : Option ℕ). IfSome (option_map (λ (e : ℕ). e - c.args.tag.size) z) (λ (e : ℕ). c.left_at_hand-before.result ≡ e)) c.left.ensures c.left_at_hand-before.ensures in
@@ -36,9 +36,9 @@ returns-in_ok-close_message-in-Message-clause-taken c =
     let before = subst (λ (z : Option ℕ). IfSome (option_map (λ (e : ℕ). e - c.args.tag.size) z) (λ (e : ℕ). c.left_at_hand-before.result ≡ e)) c.left.ensures c.left_at_hand-before.ensures in
     let level = c.if-reader-eq0.false in
     let free = c.if-not-is_free.ensures refl in
-    let fills = whole_told _ c.in_ok-size.field-0 c.in-Whole.size c.in-Whole.is c.in_ok-size.ensures.filled in
-    let read = field_group_read s c.args.bytes.now c.args.tag.number c.args.tag.size c.left_at_hand-before.result c.in-Whole.size c.args.message_type c.args.slot s.now (body_view c.empty_body.result) c.requires.rules begun c.requires.step has c.requires.means (omega (arith, level)) (sym free.1) (c.empty_body.ensures ∙ sym free.0) before fills (ap part_view c.in-Message.is) in
+    let fills = c.fill_to_tag-read.ensures.filled (all_read c.fill_to_tag-read.result.whole c.if-not-read.false) in
+    let read = field_group_read s c.args.bytes.now c.args.tag.number c.args.tag.size c.left_at_hand-before.result c.fill_to_tag-read.result.size c.args.message_type c.args.slot s.now (body_view c.empty_body.result) c.requires.rules begun c.requires.step has c.requires.means (omega (arith, level)) (sym free.1) (c.empty_body.ensures ∙ sym free.0) before fills (ap part_view c.in-Message.is) in
     stands_reads s
-    (record { at = c.args.reader.now.at + (c.args.tag.size + c.in-Whole.size); now = part_view c.close_message.new.outer; scope = scope_view c.close_message.new.scope; frames = frames_view c.args.reader.now.frames.items; next = c.args.reader.now.step })
-    (c.args.tag.size + c.in-Whole.size) c.args.bytes.now refl c.in_ok-close_message-in-Message.ensures.same_end c.requires.step
-    (c.in_ok-close_message-in-Message.ensures.behind m depth levels c.in-Message._kind.0 base p0 read.0 (passed (here s c.args.bytes.now) (c.args.tag.size + c.in-Whole.size)) (frames_view c.args.reader.now.frames.items) read.1.0 read.1.1 read.2)
+    (record { at = c.args.reader.now.at + (c.args.tag.size + c.fill_to_tag-read.result.size); now = part_view c.close_message.new.outer; scope = scope_view c.close_message.new.scope; frames = frames_view c.args.reader.now.frames.items; next = c.args.reader.now.step })
+    (c.args.tag.size + c.fill_to_tag-read.result.size) c.args.bytes.now refl c.in_ok-close_message-in-Message.ensures.same_end c.requires.step
+    (c.in_ok-close_message-in-Message.ensures.behind m depth levels c.in-Message._kind.0 base p0 read.0 (passed (here s c.args.bytes.now) (c.args.tag.size + c.fill_to_tag-read.result.size)) (frames_view c.args.reader.now.frames.items) read.1.0 read.1.1 read.2)

@@ -1,5 +1,5 @@
 -- The text stands before an end that is put behind it, and all of it is read.
-use Rattle.std.proofs.Common.{rules, ap, arith}
+use Rattle.std.proofs.Common.{rules, ap, refl, arith}
 use Rattle.std.proofs.lemmas.List.Elements.{All-from_get_or, recursion_from_All}
 use Rattle.pb_wire.specs.Ranges.{IsByte, AreBytes}
 use Rattle.pb_value.specs.View.{body_view}
@@ -18,7 +18,7 @@ returns-in-Message-clause-text c =
     let size = c.if-bytes-most.false in
     let most = c.max_bytes-most.ensures.same in
     (text_filled c.args.pool.now c.args.message_type.0 c.max_depth-room.result c.args.limits c.args.bytes.now (body_view c.empty_body.result) _ c.in-Message._kind.0 (body_view c.in-Message.body) c.requires.rules c.empty_body.ensures c.max_depth-room.ensures.same c.max_depth-room.ensures.small (omega (arith, size, most)) c.requires.within bytes
-    (ap part_view c.in-Message.is) (c.in_ok-fill.ensures c.if-not-branch.false)).0
+    (ap part_view c.in-Message.is) (c.if-not-fill.ensures refl)).0
 
 pub returns-in-Message-clause-well_formed : goal.returns-in-Message-clause-well_formed
 returns-in-Message-clause-well_formed c =
@@ -26,4 +26,4 @@ returns-in-Message-clause-well_formed c =
     let size = c.if-bytes-most.false in
     let most = c.max_bytes-most.ensures.same in
     (text_filled c.args.pool.now c.args.message_type.0 c.max_depth-room.result c.args.limits c.args.bytes.now (body_view c.empty_body.result) _ c.in-Message._kind.0 (body_view c.in-Message.body) c.requires.rules c.empty_body.ensures c.max_depth-room.ensures.same c.max_depth-room.ensures.small (omega (arith, size, most)) c.requires.within bytes
-    (ap part_view c.in-Message.is) (c.in_ok-fill.ensures c.if-not-branch.false)).1
+    (ap part_view c.in-Message.is) (c.if-not-fill.ensures refl)).1

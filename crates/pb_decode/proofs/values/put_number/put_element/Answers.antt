@@ -1,6 +1,9 @@
 -- The value goes to the end of the list, behind which one then stands.
-use Rattle.std.proofs.Common.{refl, sym, ◌∙◌}
+use Rattle.std.proofs.Common.{sym, ap, ◌∙◌}
 use Rattle.pb_decode.specs.Open.PartView.{part_view}
+use Rattle.pb_decode.specs.declared.open.purpose.Purpose.TheVariants.{Element}
+use Rattle.pb_decode.specs.Values.Put.{put_datum}
+use Rattle.pb_decode.proofs.FillLemmas.{told_of}
 use Rattle.pb_decode.proofs.NumberSteps.{read_some}
 use Rattle.pb_decode.proofs.ListSteps.{element_put, element_passed}
 use Rattle.pb_decode.proofs.values.put_number.put_element.Goals as goal
@@ -9,7 +12,8 @@ pub returns : goal.returns
 returns c =
     λ m depth levels end base p0 u w frames scope begun type follows.
     let there = read_some c.args.kind c.args.value type in
-    element_put c.args.number c.args.kind end c.args.value there.0 (part_view c.put_value.new.part) begun type there.1 (sym c.is_undeclared.ensures ∙ c.if-is_undeclared.false) follows (c.in_ok-put_value.ensures.put c.args.kind there.0 refl there.1)
+    element_put c.args.number c.args.kind end c.args.value there.0 (part_view c.put_scalar.new.part) begun type there.1 (sym c.is_undeclared.ensures ∙ c.if-is_undeclared.false) follows
+    (c.in_ok-put_scalar.ensures ∙ ap (put_datum c.args.pool.now c.args.number (Element c.args.kind) (part_view c.args.part.now)) (told_of _ _ there.0 there.1 c.number_value.ensures))
 
 pub returns-then-is_undeclared : goal.returns-then-is_undeclared
 returns-then-is_undeclared c =

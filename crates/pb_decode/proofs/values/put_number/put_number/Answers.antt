@@ -1,19 +1,21 @@
 -- The value, or the unknown record, goes into the part, behind which one then stands.
-use Rattle.std.proofs.Common.{sym, ◌∙◌}
+use Rattle.std.proofs.Common.{sym, ap, ◌∙◌}
 use Rattle.pb_decode.specs.Open.PartView.{part_view}
+use Rattle.pb_decode.specs.Values.Put.{put_datum}
+use Rattle.pb_decode.proofs.FillLemmas.{told_of}
 use Rattle.pb_decode.proofs.NumberSteps.{value_there, number_put}
 use Rattle.pb_decode.proofs.UnknownSteps.{unknown_put}
 use Rattle.pb_decode.proofs.UndeclaredSteps.{undeclared_put}
 use Rattle.pb_decode.proofs.values.put_number.put_number.Goals as goal
 
-pub returns-in_ok-put_value-in-Some : goal.returns-in_ok-put_value-in-Some
-returns-in_ok-put_value-in-Some c =
+pub returns-in_ok-put_scalar-in-Some : goal.returns-in_ok-put_scalar-in-Some
+returns-in_ok-put_scalar-in-Some c =
     λ m depth levels base p0 u w frames scope next begun is follows.
     let kind = c.in-Some.kind in
     let of = sym c.scalar_kind.ensures ∙ c.in-Some.is in
     let there = value_there c.args.number c.args.value c.args.purpose kind begun is of in
-    number_put c.args.number c.args.value c.args.purpose kind begun is of there.0 (part_view c.put_value.new.part) c.requires.rules c.requires.can there.1 (sym c.is_undeclared.ensures ∙ c.if-is_undeclared.false) follows
-    (c.in_ok-put_value-in-Some.ensures.put kind there.0 of there.1)
+    number_put c.args.number c.args.value c.args.purpose kind begun is of there.0 (part_view c.put_scalar.new.part) c.requires.rules c.requires.can there.1 (sym c.is_undeclared.ensures ∙ c.if-is_undeclared.false) follows
+    (c.in_ok-put_scalar-in-Some.ensures ∙ ap (put_datum c.args.pool.now c.args.number c.args.purpose (part_view c.args.part.now)) (told_of _ _ there.0 there.1 c.number_value.ensures))
 
 pub returns-then-is_undeclared : goal.returns-then-is_undeclared
 returns-then-is_undeclared c =

@@ -1,17 +1,18 @@
 -- The value goes into the entry, and one stands behind both.
-use Rattle.std.proofs.Common.{option_map, sym, ap, ◌∙◌}
-use Rattle.pb_schema.specs.Kinds.{read}
+use Rattle.std.proofs.Common.{Some, None}
+use Rattle.pb_schema.specs.Scalar.{Scalar}
+use Rattle.pb_value.specs.Data.{Datum}
 use Rattle.pb_value.specs.View.{key_view, value_view}
-use Rattle.pb_decode.specs.Tokens.Number.{number_view}
-use Rattle.pb_decode.proofs.PairLemmas.{value_told, value_filled}
+use Rattle.pb_decode.specs.Open.Frames.{entry_part}
+use Rattle.pb_decode.specs.Reader.Fills.{FillsTo}
+use Rattle.pb_decode.proofs.PairLemmas.{value_filled, pair_put}
 use Rattle.pb_decode.proofs.reader.fill.direct_pair.pair_with_number.Goals as goal
 
 pub returns : goal.returns
 returns c =
-    let v = value_view c.in-Some-number_value.value in (
-      (c.args.key, c.in-Some-number_value.value),
-      c.in_ok-push.ensures.items,
-      value_filled c.args.key_kind c.args.value_kind c.args.tag.number c.args.tag.wire_type c.args.left c.in-Some.size c.args.bytes.now (key_view c.args.key) v c.args.room c.requires.own c.requires.scalar c.if-size-left.false
-          (value_told c.args.value_kind c.args.tag.number c.args.tag.wire_type c.args.left c.in-Some.size c.args.bytes.now v (read c.args.value_kind (number_view c.in-Some.number)) (sym (ap (option_map value_view) c.in-Some-number_value.is) ∙ c.number_value.ensures)
-          c.in-Some.ensures.put),
-    )
+    let v = value_view c.number_value.result in
+    let old = entry_part c.args.key_kind c.args.value_kind (Some (key_view c.args.key)) None in
+    let P = λ (k : Scalar) (d : Datum). FillsTo c.args.pool.now old (entry_part c.args.key_kind c.args.value_kind (Some k) (Some d)) c.args.bytes.now c.args.left c.args.room c.args.left in
+    pair_put P (c.args.key, c.number_value.result) c.args.entries.now.items c.put_pair.new.entries.items c.put_pair.result
+    (value_filled c.args.key_kind c.args.value_kind c.args.tag.number c.args.tag.wire_type c.args.left c.in-Some.size c.args.bytes.now (key_view c.args.key) v c.args.room c.requires.own c.requires.scalar c.if-size-left.false (c.in-Some.ensures.put v c.number_value.ensures))
+    c.put_pair.ensures

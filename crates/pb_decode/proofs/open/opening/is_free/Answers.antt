@@ -5,7 +5,7 @@ use Rattle.pb_decode.specs.Open.Frames.{message_part}
 use Rattle.pb_decode.specs.Open.Openings.{message_held}
 use Rattle.pb_decode.proofs.RunLemmas.{absent}
 use Rattle.pb_decode.proofs.FillLemmas.{not_yes, without_absent}
-use Rattle.pb_decode.proofs.reader.quick_message.is_free.Goals as goal
+use Rattle.pb_decode.proofs.open.opening.is_free.Goals as goal
 
 pub returns-in-One : goal.returns-in-One
 returns-in-One c = λ free.
