@@ -1,5 +1,5 @@
-// Counts the growths of memory of the program that it is loaded into, and refuses the one that REFUSED numbers. The count goes to the file
-// GROWTHS when the program ends. It takes no memory itself.
+// Counts the growths of memory of the program that it is loaded into, and refuses the one that REFUSED numbers, with all behind it where ONWARD is
+// set. The count goes to the file GROWTHS when the program ends. It takes no memory itself.
 #define _GNU_SOURCE
 #include <dlfcn.h>
 #include <errno.h>
@@ -9,10 +9,12 @@
 #include <unistd.h>
 
 static long count, refused;
+static int onward;
 
 __attribute__((constructor)) static void begin(void) {
     const char *number = getenv("REFUSED");
     refused = number ? atol(number) : 0;
+    onward = getenv("ONWARD") != NULL;
     count = 0;
 }
 
@@ -28,7 +30,8 @@ __attribute__((destructor)) static void tell(void) {
 }
 
 static int is_refused(void) {
-    return __atomic_add_fetch(&count, 1, __ATOMIC_SEQ_CST) == refused;
+    long number = __atomic_add_fetch(&count, 1, __ATOMIC_SEQ_CST);
+    return number == refused || (onward && refused && number > refused);
 }
 
 void *malloc(size_t size) {
