@@ -14,13 +14,13 @@ use Rattle.pb_schema.specs.declared.types.Kind.TheVariants as kind
 use Rattle.pb_schema.specs.Types.{Types, message_fields, field_numbered}
 use Rattle.pb_schema.specs.Kinds.{wire_type_of, is_packable}
 use Rattle.pb_schema.specs.Context.{a_message as in_message, element_of, schema_of}
-use Rattle.pb_decode.specs.declared.tokens.step.Step.{Step}
-use Rattle.pb_decode.specs.declared.tokens.step.Step.TheVariants as step
-use Rattle.pb_decode.specs.Open.Frames.{path_of, next_step, Part, Frame, Scope}
-use Rattle.pb_decode.specs.Tokens.Numbers.{NumberFault, a_varint, eight_bytes, four_bytes}
-use Rattle.pb_decode.specs.Tokens.After.{After}
+use Rattle.pb_parts.specs.declared.tokens.step.Step.{Step}
+use Rattle.pb_parts.specs.declared.tokens.step.Step.TheVariants as step
+use Rattle.pb_parts.specs.Open.Frames.{path_of, next_step, Part, Frame, Scope}
+use Rattle.pb_parts.specs.Tokens.Numbers.{NumberFault, a_varint, eight_bytes, four_bytes}
+use Rattle.pb_parts.specs.Tokens.After.{After}
 use Rattle.pb_decode.specs.Reader.{State, here, own_step, path_here, Reads, AfterAt, Stops, cut, Told}
-use Rattle.pb_decode.proofs.ListSteps.{at_list, packed_field, list_told}
+use Rattle.pb_parts.proofs.ListSteps.{at_list, packed_field, list_told}
 use Rattle.pb_decode.proofs.ReaderLemmas.{passed_here}
 
 varint_of : {u : Place} {g : Fault} → NumberFault 0 u g → VarintFault u g

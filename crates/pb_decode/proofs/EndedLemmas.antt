@@ -14,23 +14,23 @@ use Rattle.pb_schema.specs.Rules.{IsPool}
 use Rattle.pb_schema.specs.Scalar.{Scalar}
 use Rattle.pb_schema.specs.Context.{Context, a_message as in_message, schema_of}
 use Rattle.pb_value.specs.Data.{Datum}
-use Rattle.pb_decode.specs.declared.open.part.Frame.{Frame as FrameKept}
-use Rattle.pb_decode.specs.declared.open.part.Part.{Part as PartKept}
-use Rattle.pb_decode.specs.declared.open.part.Slot.{Slot}
-use Rattle.pb_decode.specs.declared.open.part.Slot.TheVariants as slot
-use Rattle.pb_decode.specs.declared.tokens.step.Step.{Step}
-use Rattle.pb_decode.specs.declared.tokens.step.Step.TheVariants as step
-use Rattle.pb_decode.specs.Open.Frames.{Part, message_part, entry_part, group_part, CanHold, Scope, Frame, frame_of, one_more_in, up_to, path_of, Held, inside, Stands}
-use Rattle.pb_decode.specs.Open.PartView.{part_view, scope_view, frame_view}
-use Rattle.pb_decode.specs.Close.Closing.{HasRoomFor}
-use Rattle.pb_decode.specs.Open.Openings.{innermost_group}
-use Rattle.pb_decode.specs.Tokens.After.{After}
+use Rattle.pb_parts.specs.declared.open.part.Frame.{Frame as FrameKept}
+use Rattle.pb_parts.specs.declared.open.part.Part.{Part as PartKept}
+use Rattle.pb_parts.specs.declared.open.part.Slot.{Slot}
+use Rattle.pb_parts.specs.declared.open.part.Slot.TheVariants as slot
+use Rattle.pb_parts.specs.declared.tokens.step.Step.{Step}
+use Rattle.pb_parts.specs.declared.tokens.step.Step.TheVariants as step
+use Rattle.pb_parts.specs.Open.Frames.{Part, message_part, entry_part, group_part, CanHold, Scope, Frame, frame_of, one_more_in, up_to, path_of, Held, inside, Stands}
+use Rattle.pb_parts.specs.Open.PartView.{part_view, scope_view, frame_view}
+use Rattle.pb_parts.specs.Close.Closing.{HasRoomFor}
+use Rattle.pb_parts.specs.Open.Openings.{innermost_group}
+use Rattle.pb_parts.specs.Tokens.After.{After}
 use Rattle.pb_decode.specs.Reader.{State, frames_view, left_of, here, own_step, path_here, Reads, StandsAt, Told}
-use Rattle.pb_decode.proofs.AfterLemmas.{after_record, at_record}
-use Rattle.pb_decode.proofs.GroupLemmas.{past_end_told}
-use Rattle.pb_decode.proofs.WellLemmas.{fits_keys}
+use Rattle.pb_parts.proofs.AfterLemmas.{after_record, at_record}
+use Rattle.pb_parts.proofs.GroupLemmas.{past_end_told}
+use Rattle.pb_parts.proofs.WellLemmas.{fits_keys}
 use Rattle.pb_decode.proofs.FewRecords.{counts_fit}
-use Rattle.pb_decode.proofs.ListSteps.{at_list, list_over}
+use Rattle.pb_parts.proofs.ListSteps.{at_list, list_over}
 use Rattle.pb_decode.proofs.ListHolds.{list_can_hold}
 
 -- frames are kept outermost first, so the last is the innermost

@@ -1,6 +1,5 @@
 -- What is read at once.
-use Rattle.std.proofs.Common.{◌≡◌, ℕ, ◌+◌, ◌-◌, ◌<◌, List, ◌∷◌, take, drop, length, refl, sym, ap, ◌∙◌, subst, arith, Bool, true, false, not, Option, Some, None, IfSome, option_map, Ordering, Less, Equal, Greater, nat_cmp}
-use Rattle.std.specs.Ordering.{match_ordering}
+use Rattle.std.proofs.Common.{◌≡◌, ℕ, ◌+◌, ◌-◌, ◌<◌, List, ◌∷◌, take, drop, length, refl, sym, ap, ◌∙◌, subst, arith, false, Option, Some, None, option_map}
 use Rattle.std.proofs.lemmas.Bool.{false≢true}
 use Rattle.pb_wire.specs.Record.{Record}
 use Rattle.pb_wire.specs.Fault.{Place, HasTag, HasLength}
@@ -10,53 +9,30 @@ use Rattle.pb_schema.specs.declared.types.MessageId.{MessageId}
 use Rattle.pb_schema.specs.Types.{Types}
 use Rattle.pb_schema.specs.Rules.{IsPool}
 use Rattle.pb_schema.specs.Scalar.{Scalar}
-use Rattle.pb_value.specs.Data.{Datum, Message, Fields, no_fields, field, get_field, drop_field, fields_of}
-use Rattle.pb_value.specs.Change.{with_fields}
-use Rattle.pb_decode.specs.declared.open.part.Slot.{Slot}
-use Rattle.pb_decode.specs.declared.open.part.Slot.TheVariants as slot
-use Rattle.pb_decode.specs.declared.open.purpose.Purpose.TheVariants as purpose
-use Rattle.pb_decode.specs.declared.tokens.step.Step.{Step}
-use Rattle.pb_decode.specs.declared.tokens.step.Step.TheVariants as step
-use Rattle.pb_decode.specs.Open.Frames.{Part, message_part, entry_part, put_entry, put_message, Scope, Frame, frame_of, CanHold, up_to, one_more_in, EndsAt, Stands}
-use Rattle.pb_decode.specs.Open.Openings.{taken_message, without_message, room_in}
-use Rattle.pb_decode.specs.Open.Purposes.{Means, part_context}
-use Rattle.pb_decode.specs.Tokens.After.{IsRoomFor, After}
+use Rattle.pb_value.specs.Data.{Datum, Message}
+use Rattle.pb_parts.specs.declared.open.part.Slot.{Slot}
+use Rattle.pb_parts.specs.declared.open.part.Slot.TheVariants as slot
+use Rattle.pb_parts.specs.declared.open.purpose.Purpose.TheVariants as purpose
+use Rattle.pb_parts.specs.declared.tokens.step.Step.{Step}
+use Rattle.pb_parts.specs.declared.tokens.step.Step.TheVariants as step
+use Rattle.pb_parts.specs.Open.Frames.{Part, message_part, entry_part, put_entry, put_message, Scope, Frame, frame_of, CanHold, up_to, one_more_in, EndsAt, Stands}
+use Rattle.pb_parts.specs.Open.Openings.{taken_message, without_message, room_in}
+use Rattle.pb_parts.specs.Open.Purposes.{Means, part_context}
+use Rattle.pb_parts.specs.Tokens.After.{IsRoomFor, After}
 use Rattle.pb_decode.specs.Reader.{State, left_of, here, Reads, StandsAt, IsReading}
 use Rattle.pb_decode.specs.Reader.Fills.{StandsIn, IsOpen, HasTagAt, FillsTo}
-use Rattle.pb_decode.proofs.WellLemmas.{can_hold}
-use Rattle.pb_decode.proofs.AfterLemmas.{after_record}
-use Rattle.pb_decode.proofs.ReaderLemmas.{slice_from, drop_more}
-use Rattle.pb_decode.proofs.ListSteps.{list_begins, list_over}
+use Rattle.pb_parts.proofs.WellLemmas.{can_hold}
+use Rattle.pb_parts.proofs.AfterLemmas.{after_record}
+use Rattle.pb_parts.proofs.PlaceLemmas.{slice_from, drop_more, passed_twice, place_behind}
+use Rattle.pb_parts.proofs.ListSteps.{list_begins, list_over}
 use Rattle.pb_decode.proofs.ListHolds.{list_can_hold}
-use Rattle.pb_decode.proofs.QuickLemmas.{passed_twice, tag_stands, tag_next, opening_next}
-use Rattle.pb_decode.proofs.RunLemmas.{same_message, place_behind}
-use Rattle.pb_decode.proofs.OpenSteps.{message_opened, entry_opened}
-use Rattle.pb_decode.proofs.FrameLemmas.{message_closes, entry_closes}
-
--- what is told of one that is there
-pub told_of : {A : Type 0} (P : A → Type 0) (o : Option A) (x : A) → o ≡ Some x → IfSome o P → P x
-told_of {A} P o x is told = subst (λ (z : Option A). IfSome z P) is told
+use Rattle.pb_decode.proofs.QuickLemmas.{tag_stands, tag_next, opening_next}
+use Rattle.pb_parts.proofs.OpenSteps.{message_opened, entry_opened}
+use Rattle.pb_parts.proofs.FrameLemmas.{message_closes, entry_closes}
 
 -- what is open may be changed
 pub open_can : {pool : Types} {now : Part} {bytes : List ℕ} {left room : ℕ} → IsPool pool → IsOpen pool now bytes left room → CanHold pool now
 open_can {now = now} ok there = can_hold ok now there.stands.1
-
--- A FIELD THAT IS ABSENT can't be taken out
-drop_absent : (n : ℕ) (fs : Fields) → get_field n fs ≡ None → drop_field n fs ≡ fs
-drop_absent n no_fields is = refl
-drop_absent n (field k h fs) is = by_place (nat_cmp n k) is (drop_absent n fs)
-  where
-    by_place : (z : Ordering) → match_ordering z (get_field n fs) (Some h) (get_field n fs) ≡ None → (get_field n fs ≡ None → drop_field n fs ≡ fs) → match_ordering z (field k h (drop_field n fs)) fs (field k h (drop_field n fs)) ≡ field k h fs
-    by_place Less none later = ap (field k h) (later none)
-    by_place Equal none later = absurd (cc)
-    by_place Greater none later = ap (field k h) (later none)
-
-pub not_yes : (b : Bool) → not b ≡ true → b ≡ false
-not_yes true h = absurd (cc)
-not_yes false h = refl
-
-pub without_absent : (n : ℕ) (v : Message) → get_field n (fields_of v) ≡ None → with_fields v (drop_field n (fields_of v)) ≡ v
-without_absent n v is = ap (with_fields v) (drop_absent n (fields_of v) is) ∙ same_message v
 
 -- RECORD BY RECORD: none is read yet
 pub place_before : (p : Place) → p ≡ passed p 0

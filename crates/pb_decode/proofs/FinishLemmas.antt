@@ -15,10 +15,10 @@ use Rattle.pb_schema.specs.Context.{Context, a_message as in_message, schema_of}
 use Rattle.pb_value.specs.Data.{Message}
 use Rattle.pb_value.specs.Value.{value, value_within}
 use Rattle.pb_value.specs.Derives.{Text}
-use Rattle.pb_decode.specs.Open.Opened.{Behind, below}
-use Rattle.pb_decode.specs.Open.Frames.{Part, message_part, Frame, path_of, Held, at_top, Stands, Scope}
-use Rattle.pb_decode.proofs.OpenedLemmas.{cut_at_end}
-use Rattle.pb_decode.proofs.AfterLemmas.{told_here}
+use Rattle.pb_parts.specs.Open.Opened.{Behind, below}
+use Rattle.pb_parts.specs.Open.Frames.{Part, message_part, Frame, path_of, Held, at_top, Stands, Scope}
+use Rattle.pb_parts.proofs.OpenedLemmas.{cut_at_end}
+use Rattle.pb_parts.proofs.AfterLemmas.{told_here}
 
 -- A WHOLE MESSAGE: nothing is open but the top, and no byte is left of those that stand from its place on
 pub text_read :

@@ -13,25 +13,24 @@ use Rattle.pb_schema.specs.Types.{Types}
 use Rattle.pb_schema.specs.Rules.{IsPool}
 use Rattle.pb_schema.specs.Context.{Context, a_message, schema_of}
 use Rattle.pb_value.specs.Data.{Message}
-use Rattle.pb_decode.specs.declared.open.part.Slot.{Slot}
-use Rattle.pb_decode.specs.declared.open.part.Slot.TheVariants as slot
-use Rattle.pb_decode.specs.declared.open.purpose.Purpose.TheVariants as purpose
+use Rattle.pb_parts.specs.declared.open.part.Slot.{Slot}
+use Rattle.pb_parts.specs.declared.open.part.Slot.TheVariants as slot
+use Rattle.pb_parts.specs.declared.open.purpose.Purpose.TheVariants as purpose
 use Rattle.pb_decode.specs.declared.reader.fill.group.Extent.{Extent}
-use Rattle.pb_decode.specs.declared.tokens.step.Step.TheVariants as step
-use Rattle.pb_decode.specs.Open.Frames.{Part, message_part, group_part, put_message, put_group, IsWorth, IsSameForm, Scope, Frame, frame_of, one_more_in, EndsAt, Held, at_top, Stands}
-use Rattle.pb_decode.specs.Open.Openings.{taken_message, without_message}
-use Rattle.pb_decode.specs.Open.Purposes.{Means, part_context}
+use Rattle.pb_parts.specs.declared.tokens.step.Step.TheVariants as step
+use Rattle.pb_parts.specs.Open.Frames.{Part, message_part, group_part, put_message, put_group, IsWorth, IsSameForm, Scope, Frame, frame_of, one_more_in, EndsAt, Held, at_top, Stands}
+use Rattle.pb_parts.specs.Open.Openings.{taken_message, without_message}
+use Rattle.pb_parts.specs.Open.Purposes.{Means, part_context}
 use Rattle.pb_decode.specs.Reader.{State, left_of, here, Reads, IsReading}
 use Rattle.pb_decode.specs.Reader.Fills.{StandsIn, IsOpen, HasTagAt, FillsTo}
 use Rattle.pb_decode.specs.Reader.Fills.Groups.{IfWhole, FillsToEnd}
-use Rattle.pb_decode.proofs.WellLemmas.{held_bytes, goes_on_held, can_hold}
-use Rattle.pb_decode.proofs.FrameLemmas.{ends_back, part_of_form, held_as_well}
-use Rattle.pb_decode.proofs.ReaderLemmas.{slice_from}
-use Rattle.pb_decode.proofs.RunLemmas.{place_behind}
-use Rattle.pb_decode.proofs.QuickLemmas.{passed_twice, there_behind, tag_stands}
-use Rattle.pb_decode.proofs.OpenSteps.{message_group_opened}
-use Rattle.pb_decode.proofs.GroupSteps.{group_opened}
-use Rattle.pb_decode.proofs.GroupLemmas.{group_closes, message_group_closes}
+use Rattle.pb_parts.proofs.WellLemmas.{held_bytes, goes_on_held, can_hold}
+use Rattle.pb_parts.proofs.FrameLemmas.{ends_back, part_of_form, held_as_well}
+use Rattle.pb_parts.proofs.PlaceLemmas.{slice_from, place_behind, passed_twice}
+use Rattle.pb_decode.proofs.QuickLemmas.{there_behind, tag_stands}
+use Rattle.pb_parts.proofs.OpenSteps.{message_group_opened}
+use Rattle.pb_parts.proofs.GroupSteps.{group_opened}
+use Rattle.pb_parts.proofs.GroupLemmas.{group_closes, message_group_closes}
 use Rattle.pb_decode.proofs.FillLemmas.{filled_so_far, typed_tag}
 
 -- all is read where it isn't said that it is not

@@ -4,18 +4,18 @@ use Rattle.std.proofs.lemmas.List.{map-append, reverse-append}
 use Rattle.pb_wire.specs.Record.{Record}
 use Rattle.pb_wire.specs.Fault.{Place}
 use Rattle.pb_schema.specs.Types.{Types}
-use Rattle.pb_decode.specs.declared.open.part.Frame.{Frame as FrameKept}
-use Rattle.pb_decode.specs.declared.tokens.step.Step.{Step}
-use Rattle.pb_decode.specs.declared.tokens.step.Step.TheVariants as step
-use Rattle.pb_decode.specs.Open.Frames.{Frame, Stands}
-use Rattle.pb_decode.specs.Open.PartView.{part_view, scope_view, frame_view}
-use Rattle.pb_decode.specs.Tokens.After.{After}
-use Rattle.pb_decode.specs.declared.open.part.Part.{Part as PartKept}
-use Rattle.pb_decode.specs.declared.open.part.Scope.{Scope as ScopeKept}
+use Rattle.pb_parts.specs.declared.open.part.Frame.{Frame as FrameKept}
+use Rattle.pb_parts.specs.declared.tokens.step.Step.{Step}
+use Rattle.pb_parts.specs.declared.tokens.step.Step.TheVariants as step
+use Rattle.pb_parts.specs.Open.Frames.{Frame, Stands}
+use Rattle.pb_parts.specs.Open.PartView.{part_view, scope_view, frame_view}
+use Rattle.pb_parts.specs.Tokens.After.{After}
+use Rattle.pb_parts.specs.declared.open.part.Part.{Part as PartKept}
+use Rattle.pb_parts.specs.declared.open.part.Scope.{Scope as ScopeKept}
 use Rattle.pb_decode.specs.declared.reader.state.Reader.{Reader}
 use Rattle.pb_decode.specs.Reader.{State, state_view, frames_view, left_of, here, Reads}
-use Rattle.pb_decode.proofs.FrameLemmas.{place_up_to}
-use Rattle.pb_decode.proofs.AfterLemmas.{after_record}
+use Rattle.pb_parts.proofs.FrameLemmas.{place_up_to}
+use Rattle.pb_parts.proofs.AfterLemmas.{after_record}
 
 -- a frame more is the innermost
 pub frames_pushed : (fs : List FrameKept) (f : FrameKept) → frames_view (fs ++ f ∷ []) ≡ frame_view f ∷ frames_view fs

@@ -1,5 +1,5 @@
 -- The length of a record, where its payload or its part begins.
-use Rattle.std.proofs.Common.{◌≡◌, ◌≢◌, ℕ, ◌<◌, ◌≤◌, List, [], ◌∷◌, ◌++◌, length, sym, ap, subst, arith, Option, Some, None, IfSome}
+use Rattle.std.proofs.Common.{◌≡◌, ◌≢◌, ℕ, ◌≤◌, List, [], ◌∷◌, ◌++◌, length, sym, ap, subst, Option, Some, None, IfSome}
 use Rattle.std.specs.Prelude.{IfNone}
 use Rattle.pb_wire.specs.Record.{Record}
 use Rattle.pb_wire.specs.declared.fault.Cause.{Cause}
@@ -9,21 +9,16 @@ use Rattle.pb_wire.specs.Fault.{fault, Place, input_end, Reads as ReadsNumber, V
 use Rattle.pb_wire.specs.Schema.{records}
 use Rattle.pb_wire.specs.Grammar.{Bad}
 use Rattle.pb_wire.specs.Token.{given_at, passed}
-use Rattle.pb_wire.proofs.Tokens.{ends_some}
 use Rattle.pb_schema.specs.Types.{Types}
 use Rattle.pb_schema.specs.Context.{a_message as in_message, schema_of}
-use Rattle.pb_decode.specs.declared.open.purpose.Purpose.{Purpose}
-use Rattle.pb_decode.specs.declared.tokens.step.Step.{Step}
-use Rattle.pb_decode.specs.declared.tokens.step.Step.TheVariants as step
-use Rattle.pb_decode.specs.Open.Frames.{EndsAt, path_of, next_step}
-use Rattle.pb_decode.specs.Tokens.After.{awaited, After}
+use Rattle.pb_parts.specs.declared.open.purpose.Purpose.{Purpose}
+use Rattle.pb_parts.specs.declared.tokens.step.Step.{Step}
+use Rattle.pb_parts.specs.declared.tokens.step.Step.TheVariants as step
+use Rattle.pb_parts.specs.Open.Frames.{EndsAt, path_of, next_step}
+use Rattle.pb_parts.specs.Tokens.After.{awaited, After}
 use Rattle.pb_decode.specs.Reader.{State, left_of, here, own_step, path_here, Reads, Stops, cut, Told}
-use Rattle.pb_decode.proofs.FrameLemmas.{ends_along}
-use Rattle.pb_decode.proofs.TokenTold.{length_refused}
-
--- a number takes a byte at least
-pub number_size : {p : Place} {n size : ℕ} → ReadsNumber p n (passed p size) → 0 < size
-number_size h = let some = ends_some h.0 h.1.ends in let at = h.2.at in omega (arith, some, at)
+use Rattle.pb_parts.proofs.FrameLemmas.{ends_along}
+use Rattle.pb_parts.proofs.TokenTold.{length_refused}
 
 -- BEHIND THE LENGTH the known end is where it was
 pub length_ends :

@@ -1,61 +1,7 @@
--- ---- what is open, and what records make of it
--- for `occurrences`: what a search finds among rising numbers, and what stands with each number after a change
-pub mod CountLemmas
--- for the counts of records, as the occurrences of steps of a path
-pub mod StepCounts
--- for what is open: a fault inside is the fault of the whole, and a payload that ends is one more record of what holds it
-pub mod OpenedLemmas
--- for the frames of what is open: what is told from them, and how they change
-pub mod FrameLemmas
--- for the same wherever one stands: it is well formed
-pub mod WellLemmas
--- ---- what is opened, and what a whole record makes of its part
--- for the messages and entries that are opened
-pub mod OpenLemmas
 -- for the end of the input: a whole message, or the fault that it is cut short
 pub mod FinishLemmas
--- for a packed list that is open: its whole elements so far stand in the field
-pub mod PackedLemmas
--- for an element or an entry that is opened and was not there before
-pub mod OpenMore
--- for what a length or the tag of a group opens, by the purpose of its record
-pub mod OpenSteps
--- for a whole record by its purpose: a scalar, an element, an unknown record; and for the end of a group
-pub mod StepsOfParts
--- for a whole record of a map entry, and the message of its value
-pub mod EntrySteps
--- for a packed payload so far: one more element is one more number at its end
-pub mod PackedNumbers
--- for packed lists of closed enums, where a number that is not declared is unknown
-mod ClosedLists
--- for what is begun behind the last whole record: tokens that go on, payloads, elements of a list
-pub mod AfterLemmas
--- for what a field's kind says of a record that fits it
-pub mod KindLemmas
--- for a number behind its tag
-mod NumberSteps
--- for a packed list: its length, its elements, their faults, and its end
-pub mod ListSteps
--- for an unknown number, which goes among the unknown records
-pub mod UnknownSteps
--- for a number that a closed enum does not declare, which goes there too
-mod UndeclaredSteps
--- for a whole payload behind its length, also where it is refused
-pub mod PayloadSteps
--- for records that open a level below, too deep where no level is left
-pub mod DeepLemmas
--- for numbers at the front of bytes: what `pb_wire` tells of a token
-pub mod NumberTokens
--- for a group that is open: it ends at its end tag alone
-pub mod GroupLemmas
 -- for counts of records, which never pass the position: each record takes a byte at least
 pub mod FewRecords
--- for groups of which no schema knows, opened in a message, in an entry, in a group
-pub mod GroupSteps
--- for tags, ends of groups and lengths that are refused: that is the fault of the whole
-pub mod TokenTold
--- for entries and groups that close: what the part that holds them is then
-pub mod ClosingLemmas
 -- ---- the reader, and what it takes
 -- for each step of the reader: it takes bytes, and has some text read
 pub mod ReaderLemmas
@@ -91,10 +37,6 @@ pub mod EndedLemmas
 pub mod LengthSteps
 -- for a tag, or the end of the input, behind a whole record
 pub mod TagTaken
--- for runs of packed elements that are taken at once
-pub mod RunLemmas
--- for a map that takes entries at once: it has those that it has where it takes them in turn
-mod MapLemmas
 -- for runs of map entries that are taken at once
 pub mod MapRuns
 -- for a reader that stops: it waits for the rest of what comes next

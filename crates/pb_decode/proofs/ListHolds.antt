@@ -13,13 +13,13 @@ use Rattle.pb_value.specs.WellFormed.{HasOneMemberEach}
 use Rattle.pb_value.proofs.MessageSteps.{value_members}
 use Rattle.pb_value.proofs.OneofLemmas.{pool_differ}
 use Rattle.pb_value.proofs.StepLemmas.{found_number}
-use Rattle.pb_decode.specs.declared.tokens.step.Step.TheVariants as step
-use Rattle.pb_decode.specs.Open.Frames.{Part, CanHold, Frame, Scope}
-use Rattle.pb_decode.specs.Tokens.After.{with_elements, After}
-use Rattle.pb_decode.proofs.ClosedLists.{list_value}
-use Rattle.pb_decode.proofs.WellLemmas.{type_in_pool}
-use Rattle.pb_decode.proofs.NumberSteps.{fits_is}
-use Rattle.pb_decode.proofs.ListSteps.{AtList, at_list, packed_field}
+use Rattle.pb_parts.specs.declared.tokens.step.Step.TheVariants as step
+use Rattle.pb_parts.specs.Open.Frames.{Part, CanHold, Frame, Scope}
+use Rattle.pb_parts.specs.Tokens.After.{with_elements, After}
+use Rattle.pb_parts.proofs.ClosedLists.{list_value}
+use Rattle.pb_parts.proofs.WellLemmas.{type_in_pool}
+use Rattle.pb_parts.proofs.NumberSteps.{fits_is}
+use Rattle.pb_parts.proofs.ListSteps.{AtList, at_list, packed_field}
 
 -- inside the list's payload the message is that of the records before it and of the elements so far
 members_in :

@@ -12,16 +12,16 @@ use Rattle.pb_value.specs.declared.body.Body.{Body}
 use Rattle.pb_value.specs.declared.body.Value.{Value}
 use Rattle.pb_value.specs.declared.body.Value.TheVariants as value
 use Rattle.pb_value.proofs.Views.{value_view-Message}
-use Rattle.pb_decode.specs.declared.open.part.Slot.TheVariants.{List as ListSlot}
-use Rattle.pb_decode.specs.declared.open.purpose.Purpose.{Purpose}
-use Rattle.pb_decode.specs.declared.open.purpose.Purpose.TheVariants.{Element, Message}
-use Rattle.pb_decode.specs.Open.Frames.{Part, message_part, entry_part, group_part, put_message}
-use Rattle.pb_decode.specs.Open.Purposes.{Means, part_context}
-use Rattle.pb_decode.specs.Values.Run.{put_listed, put_each}
+use Rattle.pb_parts.specs.declared.open.part.Slot.TheVariants.{List as ListSlot}
+use Rattle.pb_parts.specs.declared.open.purpose.Purpose.{Purpose}
+use Rattle.pb_parts.specs.declared.open.purpose.Purpose.TheVariants.{Element, Message}
+use Rattle.pb_parts.specs.Open.Frames.{Part, message_part, entry_part, group_part, put_message}
+use Rattle.pb_parts.specs.Open.Purposes.{Means, part_context}
+use Rattle.pb_parts.specs.Values.Run.{put_listed, put_each}
 use Rattle.pb_decode.specs.Reader.Fills.{HasTagAt, FillsTo}
 use Rattle.pb_decode.specs.Reader.Listed.{FillsRun, FillsList, IsListOpen}
-use Rattle.pb_decode.proofs.ReaderLemmas.{slice_from}
-use Rattle.pb_decode.proofs.RunLemmas.{each_next}
+use Rattle.pb_parts.proofs.PlaceLemmas.{slice_from}
+use Rattle.pb_parts.proofs.RunLemmas.{each_next}
 use Rattle.pb_decode.proofs.FillLemmas.{nothing_filled, still_open, filled_further}
 
 -- what is told of each is told of the one that is there

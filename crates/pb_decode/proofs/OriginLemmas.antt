@@ -16,17 +16,17 @@ use Rattle.pb_value.specs.Data.{Message, empty}
 use Rattle.pb_value.specs.Value.{value, value_within}
 use Rattle.pb_value.proofs.MessageSteps.{value_of_nothing}
 use Rattle.pb_value.specs.WellFormed.{IsBody, IsWellFormed}
-use Rattle.pb_decode.specs.declared.tokens.step.Step.{Step}
-use Rattle.pb_decode.specs.declared.tokens.step.Step.TheVariants as step
-use Rattle.pb_decode.specs.Open.Opened.{Behind}
-use Rattle.pb_decode.specs.Open.Frames.{Part, message_part, Frame, Scope, EndsAt, Held, at_top, Stands}
-use Rattle.pb_decode.specs.Tokens.After.{After}
+use Rattle.pb_parts.specs.declared.tokens.step.Step.{Step}
+use Rattle.pb_parts.specs.declared.tokens.step.Step.TheVariants as step
+use Rattle.pb_parts.specs.Open.Opened.{Behind}
+use Rattle.pb_parts.specs.Open.Frames.{Part, message_part, Frame, Scope, EndsAt, Held, at_top, Stands}
+use Rattle.pb_parts.specs.Tokens.After.{After}
 use Rattle.pb_decode.specs.Reader.{State, here, path_here, Reads, IsReading, Stops, over, cut}
 use Rattle.pb_decode.specs.Reader.Origin.{Origin, origin, further, TookFrom, IsOverAt, IsWhole, BadFrom}
-use Rattle.pb_decode.proofs.AfterLemmas.{after_record, at_record}
-use Rattle.pb_decode.proofs.FrameLemmas.{stands_at_start}
+use Rattle.pb_parts.proofs.AfterLemmas.{after_record, at_record}
+use Rattle.pb_parts.proofs.FrameLemmas.{stands_at_start}
 use Rattle.pb_decode.proofs.FinishLemmas.{cut_told}
-use Rattle.pb_decode.proofs.WellLemmas.{message_good}
+use Rattle.pb_parts.proofs.WellLemmas.{message_good}
 use Rattle.pb_decode.proofs.PushLemmas.{is_top}
 
 -- MORE BYTES

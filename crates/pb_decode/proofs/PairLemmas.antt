@@ -9,13 +9,13 @@ use Rattle.pb_value.specs.Data.{Datum}
 use Rattle.pb_value.specs.declared.body.MapKey.{MapKey}
 use Rattle.pb_value.specs.declared.body.Value.{Value}
 use Rattle.pb_value.specs.View.{key_view, value_view}
-use Rattle.pb_decode.specs.declared.open.purpose.Purpose.{Purpose}
-use Rattle.pb_decode.specs.declared.open.purpose.Purpose.TheVariants as purpose
+use Rattle.pb_parts.specs.declared.open.purpose.Purpose.{Purpose}
+use Rattle.pb_parts.specs.declared.open.purpose.Purpose.TheVariants as purpose
 use Rattle.pb_decode.specs.declared.reader.fill.direct_pair.Pair.{Pair}
 use Rattle.pb_decode.specs.declared.reader.fill.direct_pair.Pair.TheVariants as pair
-use Rattle.pb_decode.specs.Open.Frames.{entry_part}
-use Rattle.pb_decode.specs.Values.Put.{scalar_kind}
-use Rattle.pb_decode.specs.Values.PayloadValue.{IsBytesPurpose}
+use Rattle.pb_parts.specs.Open.Frames.{entry_part}
+use Rattle.pb_parts.specs.Values.Put.{scalar_kind}
+use Rattle.pb_parts.specs.Values.PayloadValue.{IsBytesPurpose}
 use Rattle.pb_decode.specs.Reader.Fills.{FillsTo}
 use Rattle.pb_decode.specs.Reader.Scalars.{FillsScalar}
 use Rattle.pb_decode.specs.Reader.Pairs.{WherePut, PutsPair, FillsPair, AddsPair}

@@ -2,9 +2,9 @@
 use Rattle.std.proofs.Common.{◌≡◌, List, [], ◌∷◌, ◌++◌, map, refl, sym, ap, ◌∙◌, append-nil, append_assoc}
 use Rattle.std.proofs.lemmas.List.{reverse-append}
 use Rattle.pb_wire.specs.declared.fault.PathStep.{PathStep}
-use Rattle.pb_decode.specs.declared.open.part.Frame.{Frame as FrameKept}
-use Rattle.pb_decode.specs.Open.Frames.{Frame, path_of, next_step}
-use Rattle.pb_decode.specs.Open.PartView.{scope_view, frame_view}
+use Rattle.pb_parts.specs.declared.open.part.Frame.{Frame as FrameKept}
+use Rattle.pb_parts.specs.Open.Frames.{Frame, path_of, next_step}
+use Rattle.pb_parts.specs.Open.PartView.{scope_view, frame_view}
 use Rattle.pb_decode.specs.Reader.{frames_view}
 
 path_of-append : (xs ys : List Frame) → path_of (xs ++ ys) ≡ path_of ys ++ path_of xs

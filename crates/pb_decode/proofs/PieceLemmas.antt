@@ -1,7 +1,5 @@
 -- A piece is taken part by part.
 use Rattle.std.proofs.Common.{◌≡◌, ℕ, zero, suc, ◌+◌, ◌-◌, List, [], ◌∷◌, ◌++◌, take, drop, length, sym, ap, ◌∙◌, subst, arith, append_assoc}
-use Rattle.std.specs.Prelude.{true, ◌==◌}
-use Rattle.std.proofs.lemmas.Bool.{eqb-true}
 use Rattle.std.proofs.lemmas.List.{append-nil, take-append-drop, take_all}
 use Rattle.std.proofs.Math.Seq.{take-add}
 use Rattle.pb_wire.specs.Record.{Record}
@@ -12,14 +10,11 @@ use Rattle.pb_wire.proofs.Longer.{bad_longer}
 use Rattle.pb_schema.specs.Types.{Types}
 use Rattle.pb_decode.specs.Reader.{State, Reads, Told}
 use Rattle.pb_decode.proofs.PushLemmas.{reads_more, no_bytes}
-use Rattle.pb_decode.proofs.ReaderLemmas.{slice_from}
+use Rattle.pb_parts.proofs.PlaceLemmas.{slice_from}
 
 -- a fault that is settled is that of every longer text
 pub told_longer : {pool : Types} {m depth : ℕ} {p : Place} (more : List ℕ) (f : Fault) → Told pool m depth p f → Told pool m depth (longer p more) f
 told_longer more f h = record { bad = bad_longer more h.bad h.settled; settled = h.settled }
-
-pub none_held : (n : ℕ) → true ≡ (n == 0) → n ≡ 0
-none_held n h = eqb-true n 0 (sym h)
 
 -- WHAT IS GIVEN part by part
 both_given : (p : Place) (a b c : List ℕ) → a ++ b ≡ c → longer (longer p a) b ≡ longer p c

@@ -14,15 +14,15 @@ use Rattle.pb_schema.specs.Types.{Types}
 use Rattle.pb_schema.specs.Context.{Context, a_message as in_message, schema_of}
 use Rattle.pb_value.specs.Data.{Message, empty}
 use Rattle.pb_value.specs.Derives.{Text}
-use Rattle.pb_decode.specs.declared.tokens.step.Step.{Step}
-use Rattle.pb_decode.specs.declared.tokens.step.Step.TheVariants as step
-use Rattle.pb_decode.specs.Open.Frames.{Part, message_part, entry_part, group_part, Frame, Scope, Held, at_top, inside, IsSameForm, Stands}
-use Rattle.pb_decode.specs.Tokens.After.{After}
+use Rattle.pb_parts.specs.declared.tokens.step.Step.{Step}
+use Rattle.pb_parts.specs.declared.tokens.step.Step.TheVariants as step
+use Rattle.pb_parts.specs.Open.Frames.{Part, message_part, entry_part, group_part, Frame, Scope, Held, at_top, inside, IsSameForm, Stands}
+use Rattle.pb_parts.specs.Tokens.After.{After}
 use Rattle.pb_decode.specs.Reader.{State, here, path_here, Reads, IsReading, Stops, over, cut, Told}
 use Rattle.pb_decode.specs.Push.{Took, IsSettled}
-use Rattle.pb_decode.proofs.AfterLemmas.{after_longer, at_record}
+use Rattle.pb_parts.proofs.AfterLemmas.{after_longer, at_record}
 use Rattle.pb_decode.proofs.FinishLemmas.{text_read}
-use Rattle.pb_decode.proofs.ReaderLemmas.{slice_from}
+use Rattle.pb_parts.proofs.PlaceLemmas.{slice_from}
 
 -- WHAT IS HELD is the rest of the bytes
 pub held_rest :

@@ -1,5 +1,5 @@
 -- Whole records, taken where a reader stands.
-use Rattle.std.proofs.Common.{◌≡◌, ◌⊎◌, inl, inr, ℕ, ◌+◌, ◌-◌, ◌≤◌, List, take, drop, length, refl, sym, ap, ◌∙◌, subst, arith, drop-drop, length-drop, Option, Some, None, option_map, IfSome}
+use Rattle.std.proofs.Common.{◌≡◌, ◌⊎◌, inl, inr, ℕ, ◌+◌, ◌-◌, ◌≤◌, List, take, drop, length, refl, sym, ap, subst, arith, length-drop, Option, Some, None, option_map}
 use Rattle.std.specs.Prelude.{true}
 use Rattle.std.proofs.lemmas.Bool.{false≢true}
 use Rattle.pb_wire.specs.Record.{Record}
@@ -8,40 +8,21 @@ use Rattle.pb_wire.specs.Token.{given_at, passed}
 use Rattle.pb_wire.proofs.TokenLemmas.{moves_passed}
 use Rattle.pb_schema.specs.Types.{Types}
 use Rattle.pb_schema.specs.Rules.{IsPool}
-use Rattle.pb_decode.specs.declared.open.purpose.Purpose.{Purpose}
-use Rattle.pb_decode.specs.declared.open.purpose.Purpose.TheVariants as purpose
-use Rattle.pb_decode.specs.declared.tokens.step.Step.{Step}
-use Rattle.pb_decode.specs.declared.tokens.step.Step.TheVariants as step
-use Rattle.pb_decode.specs.Values.PayloadValue.{IsBytesPurpose}
-use Rattle.pb_decode.specs.Open.Purposes.{Means, part_context}
-use Rattle.pb_decode.specs.Open.Frames.{Part, CanHold, Scope, Frame, EndsAt, Stands}
-use Rattle.pb_decode.specs.Tokens.After.{tag, awaited, goes_down, IsRoomFor, After}
+use Rattle.pb_parts.specs.declared.open.purpose.Purpose.{Purpose}
+use Rattle.pb_parts.specs.declared.open.purpose.Purpose.TheVariants as purpose
+use Rattle.pb_parts.specs.declared.tokens.step.Step.{Step}
+use Rattle.pb_parts.specs.declared.tokens.step.Step.TheVariants as step
+use Rattle.pb_parts.specs.Values.PayloadValue.{IsBytesPurpose}
+use Rattle.pb_parts.specs.Open.Purposes.{Means, part_context}
+use Rattle.pb_parts.specs.Open.Frames.{Part, CanHold, Scope, Frame, EndsAt, Stands}
+use Rattle.pb_parts.specs.Tokens.After.{tag, awaited, goes_down, IsRoomFor, After}
 use Rattle.pb_decode.specs.Reader.{State, left_of, here, Reads}
-use Rattle.pb_decode.proofs.AfterLemmas.{after_tag, after_length}
-use Rattle.pb_decode.proofs.DeepLemmas.{reads_below}
+use Rattle.pb_parts.proofs.AfterLemmas.{after_tag, after_length}
+use Rattle.pb_parts.proofs.DeepLemmas.{reads_below}
 use Rattle.pb_decode.proofs.EndedLemmas.{standing}
 use Rattle.pb_decode.proofs.FewRecords.{counts_fit}
-use Rattle.pb_decode.proofs.WellLemmas.{can_hold}
-use Rattle.pb_decode.proofs.ReaderLemmas.{slice_from}
-
--- WHAT IS TOLD of the number at the front of some bytes
-pub front_there :
-    (at : ℕ) (left : Option ℕ) (rest : List ℕ) (o : Option (ℕ × ℕ)) (n size : ℕ) → o ≡ Some (n, size)
-    → IfSome o (λ t. (t.1 ≤ length rest) × ReadsNumber (given_at at left rest) t.0 (passed (given_at at left rest) t.1)) → (size ≤ length rest) × ReadsNumber (given_at at left rest) n (passed (given_at at left rest) size)
-front_there at left rest o n size is h =
-    subst (λ (z : Option (ℕ × ℕ)). IfSome z (λ t. (t.1 ≤ length rest) × ReadsNumber (given_at at left rest) t.0 (passed (given_at at left rest) t.1))) is h
-
--- behind two numbers one stands behind the bytes of both
-known_twice : (e : Option ℕ) (a b : ℕ) → option_map (λ (z : ℕ). z - b) (option_map (λ (z : ℕ). z - a) e) ≡ option_map (λ (z : ℕ). z - (a + b)) e
-known_twice None a b = refl
-known_twice (Some e) a b = let same : (e - a) - b ≡ e - (a + b) = omega arith in ap (λ (z : ℕ). Some z) same
-
-pub passed_twice : (p : Place) (a b : ℕ) → passed (passed p a) b ≡ passed p (a + b)
-passed_twice p a b =
-    let at : (p.at + a) + b ≡ p.at + (a + b) = omega arith in
-    ap (λ (z : Option ℕ). record { at = (p.at + a) + b; known = z; rest = drop b (drop a p.rest) }) (known_twice p.known a b)
-    ∙ ap (λ (z : ℕ). record { at = z; known = option_map (λ (e : ℕ). e - (a + b)) p.known; rest = drop b (drop a p.rest) }) at
-    ∙ ap (λ (z : List ℕ). record { at = p.at + (a + b); known = option_map (λ (e : ℕ). e - (a + b)) p.known; rest = z }) (drop-drop b a p.rest)
+use Rattle.pb_parts.proofs.WellLemmas.{can_hold}
+use Rattle.pb_parts.proofs.PlaceLemmas.{slice_from, passed_twice}
 
 -- WHAT STANDS at the front of the bytes behind stands behind
 pub there_behind :

@@ -10,10 +10,10 @@ use Rattle.pb_value.specs.Data.{Message, empty}
 use Rattle.pb_value.specs.Derives.{Text}
 use Rattle.pb_value.specs.WellFormed.{IsWellFormed}
 use Rattle.pb_value.proofs.MessageSteps.{value_of_nothing}
-use Rattle.pb_decode.specs.Open.Frames.{Part, message_part, Scope, Stands}
+use Rattle.pb_parts.specs.Open.Frames.{Part, message_part, Scope, Stands}
 use Rattle.pb_decode.specs.Reader.Fills.{StandsIn, IsOpen, FillsTo}
 use Rattle.pb_decode.proofs.FinishLemmas.{text_read}
-use Rattle.pb_decode.proofs.FrameLemmas.{stands_at_start}
+use Rattle.pb_parts.proofs.FrameLemmas.{stands_at_start}
 use Rattle.pb_decode.proofs.OntoText.{nothing_good}
 use Rattle.pb_decode.proofs.OriginLemmas.{top_well_formed}
 

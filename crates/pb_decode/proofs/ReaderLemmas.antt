@@ -1,38 +1,26 @@
 -- A reader that takes bytes, and one that has some text read.
-use Rattle.std.proofs.Common.{◌≡◌, ◌≢◌, ℕ, ◌+◌, ◌-◌, ◌<◌, List, [], ◌∷◌, ◌++◌, take, drop, length, refl, sym, ap, ◌∙◌, subst, arith, length-drop, drop-drop, Option, Some, None, option_map}
-use Rattle.std.proofs.lemmas.List.{take_all}
+use Rattle.std.proofs.Common.{◌≡◌, ◌≢◌, ℕ, ◌+◌, ◌-◌, List, [], ◌∷◌, ◌++◌, take, drop, length, refl, sym, ap, ◌∙◌, subst, arith, Option, Some, None, option_map}
 use Rattle.pb_wire.specs.Record.{Record}
 use Rattle.pb_wire.specs.declared.fault.Cause.{Cause}
 use Rattle.pb_wire.specs.declared.fault.Cause.TheVariants.{Truncated}
 use Rattle.pb_wire.specs.declared.fault.PathStep.{PathStep}
 use Rattle.pb_wire.specs.Fault.{Fault, fault, Place, input_end}
-use Rattle.pb_wire.specs.Spell.{Body}
 use Rattle.pb_decode.specs.declared.error.DecodeError.{DecodeError}
 use Rattle.pb_decode.specs.declared.error.DecodeError.TheVariants as error
-use Rattle.pb_decode.specs.declared.tokens.number.Number.{Number}
-use Rattle.pb_decode.specs.declared.tokens.number.Number.TheVariants as number
-use Rattle.pb_decode.specs.Tokens.Number.{number_view}
 use Rattle.pb_wire.specs.Token.{passed}
 use Rattle.pb_wire.specs.Schema.{records}
 use Rattle.pb_wire.specs.Grammar.{Bad}
 use Rattle.pb_schema.specs.Types.{Types}
 use Rattle.pb_schema.specs.Context.{a_message as in_message, schema_of}
-use Rattle.pb_decode.specs.declared.tokens.step.Step.{Step}
-use Rattle.pb_decode.specs.declared.tokens.step.Step.TheVariants as step
-use Rattle.pb_decode.specs.Open.Frames.{Scope, path_of, next_step}
-use Rattle.pb_decode.specs.Tokens.Numbers.{NumberFault, Follows}
-use Rattle.pb_wire.proofs.Tokens.{ends_some}
-use Rattle.pb_decode.specs.Tokens.After.{Tag, tag, awaited, After}
-use Rattle.pb_decode.specs.declared.open.purpose.Purpose.{Purpose}
+use Rattle.pb_parts.specs.declared.tokens.step.Step.{Step}
+use Rattle.pb_parts.specs.declared.tokens.step.Step.TheVariants as step
+use Rattle.pb_parts.specs.Open.Frames.{Scope, path_of, next_step}
+use Rattle.pb_parts.specs.Tokens.Numbers.{NumberFault}
+use Rattle.pb_parts.specs.Tokens.After.{Tag, tag, awaited, After}
+use Rattle.pb_parts.specs.declared.open.purpose.Purpose.{Purpose}
 use Rattle.pb_decode.specs.Reader.{State, here, own_step, path_here, Reads, Stops, cut, Taken, Told, StandsAt, IfFault}
-use Rattle.pb_decode.proofs.AfterLemmas.{after_record, number_told}
-
--- a slice from here on
-pub slice_from : (n : ℕ) (l : List ℕ) → take (length l - n) (drop n l) ≡ drop n l
-slice_from n l = take_all (length l - n) (drop n l) (let e = length-drop n l in omega (arith, e))
-
-pub drop_more : (n m : ℕ) (l : List ℕ) → drop m (drop n l) ≡ drop (n + m) l
-drop_more n m l = drop-drop m n l
+use Rattle.pb_parts.proofs.AfterLemmas.{after_record, number_told}
+use Rattle.pb_parts.proofs.PlaceLemmas.{slice_from, drop_more}
 
 pub reads_slice :
     (pool : Types) (m depth levels : ℕ) (base : List Record) (p0 : Place) (s : State) (n : ℕ) (l : List ℕ) → Reads pool m depth levels base p0 s (drop n l)
@@ -105,15 +93,6 @@ pub stands_reads :
 stands_reads {pool} {m} {depth} {levels} {base} {p0} s t size rest at end tag h =
     subst (λ (z : Step). After pool m depth levels base p0 t.frames z t.now t.scope (here t (drop size rest))) (sym tag)
     (after_record (subst (StandsAt pool m depth levels base p0 t) (passed_here s t size rest at end) h))
-
--- a number has a byte at least
-pub number_some : (a : Number) (s : List ℕ) → Body 0 (number_view a) s → 0 < length s
-number_some (number.Varint n) s (small, v) = ends_some s v.ends
-number_some (number.I64 n) s (small, is) = let e = ap length is in omega (arith, e)
-number_some (number.I32 n) s (small, is) = let e = ap length is in omega (arith, e)
-
-pub size_some : (a : Number) (p : Place) (size : ℕ) → Follows p (number_view a) (passed p size) → 0 < size
-size_some a p size (front, spelled, moves) = let some = number_some a front spelled in let at = moves.at in omega (arith, some, at)
 
 -- what is told of an error
 pub if_fault_weaker : (e : DecodeError) (P Q : Fault → Type 0) → ((f : Fault) → P f → Q f) → IfFault e P → IfFault e Q

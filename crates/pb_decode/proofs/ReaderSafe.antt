@@ -4,11 +4,11 @@ use Rattle.pb_wire.specs.Record.{Record}
 use Rattle.pb_wire.specs.Fault.{Place}
 use Rattle.pb_schema.specs.Types.{Types}
 use Rattle.pb_schema.specs.Rules.{IsPool}
-use Rattle.pb_decode.specs.declared.tokens.step.Step.{Step}
-use Rattle.pb_decode.specs.Open.Frames.{Part, CanHold, Frame, Scope}
-use Rattle.pb_decode.specs.Tokens.After.{Tag, awaited, After}
-use Rattle.pb_decode.proofs.AfterLemmas.{at_tag}
-use Rattle.pb_decode.proofs.WellLemmas.{can_hold}
+use Rattle.pb_parts.specs.declared.tokens.step.Step.{Step}
+use Rattle.pb_parts.specs.Open.Frames.{Part, CanHold, Frame, Scope}
+use Rattle.pb_parts.specs.Tokens.After.{Tag, awaited, After}
+use Rattle.pb_parts.proofs.AfterLemmas.{at_tag}
+use Rattle.pb_parts.proofs.WellLemmas.{can_hold}
 use Rattle.pb_decode.proofs.FewRecords.{counts_fit}
 
 -- THE PART MAY BE CHANGED

@@ -12,15 +12,15 @@ use Rattle.pb_wire.specs.Schema.{Open, records, in_group}
 use Rattle.pb_wire.specs.Grammar.{Bad, RecordFault, Begins}
 use Rattle.pb_schema.specs.Types.{Types}
 use Rattle.pb_schema.specs.Context.{Context, a_message as in_message, schema_of}
-use Rattle.pb_decode.specs.declared.tokens.step.Step.{Step}
-use Rattle.pb_decode.specs.declared.tokens.step.Step.TheVariants as step
-use Rattle.pb_decode.specs.Open.Opened.{Begun}
-use Rattle.pb_decode.specs.Open.Opened as opened
-use Rattle.pb_decode.specs.Open.Frames.{Part, Scope, Frame, path_of, Held, inside, Stands}
+use Rattle.pb_parts.specs.declared.tokens.step.Step.{Step}
+use Rattle.pb_parts.specs.declared.tokens.step.Step.TheVariants as step
+use Rattle.pb_parts.specs.Open.Opened.{Begun}
+use Rattle.pb_parts.specs.Open.Opened as opened
+use Rattle.pb_parts.specs.Open.Frames.{Part, Scope, Frame, path_of, Held, inside, Stands}
 use Rattle.pb_decode.specs.Reader.{State, left_of, here, own_step, path_here, weight, Reads, Stops, over, cut, Told}
-use Rattle.pb_decode.specs.Close.Ended.{NothingEnds, GoesOn}
-use Rattle.pb_decode.proofs.OpenedLemmas.{cut_at_end}
-use Rattle.pb_decode.proofs.AfterLemmas.{told_here}
+use Rattle.pb_decode.specs.Reader.Ended.{NothingEnds, GoesOn}
+use Rattle.pb_parts.proofs.OpenedLemmas.{cut_at_end}
+use Rattle.pb_parts.proofs.AfterLemmas.{told_here}
 use Rattle.pb_decode.proofs.EndedLemmas.{standing}
 
 -- A STEP weighs at most as much as half a byte

@@ -1,17 +1,18 @@
 -- A reader that stops waits for the rest of what comes next.
 use Rattle.std.proofs.Common.{◌≡◌, ◌≢◌, ◌⊎◌, ℕ, zero, suc, ◌-◌, List, [], take, drop, length, ◌<◌, refl, sym, ◌∙◌, subst, inl, inr, Option, Some, None}
 use Rattle.std.specs.Prelude.{IfNone}
-use Rattle.pb_decode.specs.declared.open.purpose.Purpose.{Purpose}
-use Rattle.pb_decode.specs.declared.tokens.step.Step.{Step}
-use Rattle.pb_decode.specs.declared.tokens.step.Step.TheVariants as step
+use Rattle.pb_parts.specs.declared.open.purpose.Purpose.{Purpose}
+use Rattle.pb_parts.specs.declared.tokens.step.Step.{Step}
+use Rattle.pb_parts.specs.declared.tokens.step.Step.TheVariants as step
 use Rattle.pb_schema.specs.declared.types.Kind.{Kind}
 use Rattle.pb_schema.specs.Kinds.{wire_type_of}
-use Rattle.pb_decode.specs.Tokens.After.{Tag, tag, awaited}
+use Rattle.pb_parts.specs.Tokens.After.{Tag, tag, awaited}
 use Rattle.pb_decode.specs.Reader.{State, left_of, here}
-use Rattle.pb_decode.specs.Reader.Waiting.{IsCutVarint, IsCutNumber, WaitsAt, Waits}
-use Rattle.pb_decode.specs.Close.Ended.{NothingEnds, GoesOn}
-use Rattle.pb_decode.proofs.OpenedLemmas.{nothing_left}
-use Rattle.pb_decode.proofs.ReaderLemmas.{slice_from}
+use Rattle.pb_decode.specs.Reader.Waiting.{WaitsAt, Waits}
+use Rattle.pb_parts.specs.Tokens.Numbers.{IsCutVarint, IsCutNumber}
+use Rattle.pb_decode.specs.Reader.Ended.{NothingEnds, GoesOn}
+use Rattle.pb_parts.proofs.OpenedLemmas.{nothing_left}
+use Rattle.pb_parts.proofs.PlaceLemmas.{slice_from}
 
 same_type : (t u : Tag) → Some t ≡ Some u → t.type ≡ u.type
 same_type t u is = cc

@@ -1,7 +1,3 @@
-pub mod Open
-pub mod Tokens
-pub mod Values
-pub mod Close
 pub mod Reader
 pub mod Push
 pub mod Received

@@ -8,6 +8,8 @@ pub mod Pairs
 pub mod Listed
 pub mod Steps
 pub mod Pieces
+pub mod Ended
+pub mod Lengths
 use Rattle.std.specs.Prelude.{◌≡◌, ℕ, ◌+◌, ◌*◌, ◌-◌, ◌<◌, ◌≤◌, ◌^◌, List, [], ◌∷◌, ◌++◌, map, reverse, drop, length, Option, Some, None, option_map}
 use Rattle.pb_wire.specs.Record.{Record}
 use Rattle.pb_wire.specs.declared.fault.PathStep.{PathStep}
@@ -21,13 +23,13 @@ use Rattle.pb_schema.specs.Types.{Types}
 use Rattle.pb_schema.specs.Context.{a_message, schema_of}
 use Rattle.pb_decode.specs.declared.error.DecodeError.{DecodeError}
 use Rattle.pb_decode.specs.declared.error.DecodeError.TheVariants as error
-use Rattle.pb_decode.specs.declared.open.part.Frame.{Frame as FrameKept}
+use Rattle.pb_parts.specs.declared.open.part.Frame.{Frame as FrameKept}
 use Rattle.pb_decode.specs.declared.reader.state.Reader.{Reader}
-use Rattle.pb_decode.specs.declared.tokens.step.Step.{Step}
-use Rattle.pb_decode.specs.declared.tokens.step.Step.TheVariants as step
-use Rattle.pb_decode.specs.Open.Frames.{Part, Scope, Frame, path_of, path_to, next_step, Stands}
-use Rattle.pb_decode.specs.Open.PartView.{part_view, scope_view, frame_view}
-use Rattle.pb_decode.specs.Tokens.After.{After}
+use Rattle.pb_parts.specs.declared.tokens.step.Step.{Step}
+use Rattle.pb_parts.specs.declared.tokens.step.Step.TheVariants as step
+use Rattle.pb_parts.specs.Open.Frames.{Part, Scope, Frame, path_of, path_to, next_step, Stands}
+use Rattle.pb_parts.specs.Open.PartView.{part_view, scope_view, frame_view}
+use Rattle.pb_parts.specs.Tokens.After.{After}
 
 -- where a reader stands: the innermost part with its scope, the frames around it, innermost first, and what comes next at a position
 pub record State : Type 0 where

@@ -1,11 +1,10 @@
 //! Why bytes are refused.
 
 ghost use Rattle.std.specs.Prelude.{◌≡◌};
-ghost use Rattle.pb_value.specs.declared.error.ValueError.TheVariants as value;
 ghost use Rattle.pb_decode.specs.ErrorNumber.{number_of};
 ghost use Rattle.pb_decode.specs.declared.error.DecodeError.TheVariants.{Memory};
 
-use pb_value::ValueError;
+use pb_parts::error::NoMemory;
 use pb_wire::{Cause, PathStep};
 use std::alloc::{AllocError, AllocFailed};
 use thiserror::Error;
@@ -64,36 +63,10 @@ impl<T: Drop> From<AllocFailed<T>> for DecodeError {
     }
 }
 
-/// A growth was refused. What is put into a message fails for that alone, and this takes no room where it goes well.
-#[derive(Clone, Copy)]
-pub(crate) struct NoMemory;
-
-impl From<AllocError> for NoMemory {
-    fn from(_e: AllocError) -> NoMemory {
-        NoMemory
-    }
-}
-
-impl<T: Drop> From<AllocFailed<T>> for NoMemory {
-    fn from(_e: AllocFailed<T>) -> NoMemory {
-        NoMemory
-    }
-}
-
 impl From<NoMemory> for DecodeError {
     ghost from_gives = { λ _ e. e ≡ Memory };
 
     fn from(_e: NoMemory) -> DecodeError {
         DecodeError::Memory
-    }
-}
-
-/// Why a change failed that fails for want of memory alone.
-pub(crate) fn memory_alone(cause: ValueError) -> NoMemory
-    requires { cause ≡ value.Memory }
-{
-    match cause {
-        ValueError::Memory => NoMemory,
-        _ => unreachable!(),
     }
 }

@@ -18,18 +18,14 @@
 //! ```
 #![tactic(auto)]
 
-mod close;
 mod error;
 mod frame;
 mod from_device;
 pub mod laws;
 mod onto;
-mod open;
 mod push;
 mod push_decoder;
 mod reader;
-mod tokens;
-mod values;
 
 pub use error::DecodeError;
 pub use frame::decode_frame;

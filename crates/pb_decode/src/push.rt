@@ -13,13 +13,14 @@ ghost use Rattle.pb_decode.specs.Reader.Waiting.{Waits, lists_in};
 ghost use Rattle.pb_decode.specs.Reader.Steps.{TellsFault};
 ghost use Rattle.pb_decode.specs.Reader.Pieces.{received, ReadText, ReadSome, TakesFront, TakesPiece, TellsPieceFault};
 
-use crate::error::{DecodeError, NoMemory};
+use crate::error::DecodeError;
 use crate::onto::read_onto;
 use crate::reader::fault::{fault_at, too_large};
 use crate::reader::origin::{begin_empty, finish_message};
 use crate::reader::quick_text::read_text;
 use crate::reader::state::{Reader, take_all};
-use crate::tokens::step::Step;
+use pb_parts::error::NoMemory;
+use pb_parts::tokens::step::Step;
 use pb_schema::{MessageId, Pool};
 use pb_value::{DynamicMessage, empty_body};
 use pb_wire::{Cause, Limits};

@@ -1,9 +1,11 @@
 //! The reader: where it stands, what it takes there, and what fault it tells.
 
+pub(crate) mod element;
 pub(crate) mod fault;
 pub(crate) mod fill;
 pub(crate) mod fill_run;
 pub(crate) mod origin;
+pub(crate) mod pass_length;
 pub(crate) mod quick;
 pub(crate) mod quick_entries;
 pub(crate) mod quick_entry;
@@ -13,6 +15,8 @@ pub(crate) mod quick_record;
 pub(crate) mod quick_text;
 pub(crate) mod scalar_behind;
 pub(crate) mod state;
+pub(crate) mod take_ended;
+pub(crate) mod take_length;
 pub(crate) mod take_next;
 pub(crate) mod take_payload;
 pub(crate) mod take_tag;

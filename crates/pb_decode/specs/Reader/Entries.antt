@@ -9,10 +9,10 @@ use Rattle.pb_schema.specs.Types.{Types}
 use Rattle.pb_value.specs.declared.body.MapKey.{MapKey}
 use Rattle.pb_value.specs.declared.body.Value.{Value}
 use Rattle.pb_value.specs.View.{key_view, value_view}
-use Rattle.pb_decode.specs.declared.open.purpose.Purpose.TheVariants.{Entry}
-use Rattle.pb_decode.specs.Open.Frames.{Part, Scope, Frame, one_more_in, Stands}
-use Rattle.pb_decode.specs.Open.Purposes.{Means, part_context}
-use Rattle.pb_decode.specs.Close.Mapped.{pairs_view, put_mapped, put_all_mapped, FitsMapped, FitMapped}
+use Rattle.pb_parts.specs.declared.open.purpose.Purpose.TheVariants.{Entry}
+use Rattle.pb_parts.specs.Open.Frames.{Part, Scope, Frame, one_more_in, Stands}
+use Rattle.pb_parts.specs.Open.Purposes.{Means, part_context}
+use Rattle.pb_parts.specs.Close.Mapped.{pairs_view, put_mapped, put_all_mapped, FitsMapped, FitMapped}
 
 -- so many more records of a number
 abbrev pub more_in : ℕ → ℕ → Scope → Scope

@@ -5,9 +5,9 @@ use Rattle.pb_wire.specs.Record.{Record}
 use Rattle.pb_wire.specs.Fault.{Place, HasTag}
 use Rattle.pb_wire.specs.Token.{given_at, passed}
 use Rattle.pb_schema.specs.Types.{Types}
-use Rattle.pb_decode.specs.declared.open.part.Part.{Part as PartKept}
-use Rattle.pb_decode.specs.Open.Frames.{Part, Scope, Frame, Stands}
-use Rattle.pb_decode.specs.Open.PartView.{part_view}
+use Rattle.pb_parts.specs.declared.open.part.Part.{Part as PartKept}
+use Rattle.pb_parts.specs.Open.Frames.{Part, Scope, Frame, Stands}
+use Rattle.pb_parts.specs.Open.PartView.{part_view}
 
 -- with some scope that has so many levels left, one stands behind whole records of a part
 abbrev pub StandsIn : Types → ℕ → ℕ → ℕ → List Record → Place → List Frame → ℕ → Part → Place → Type 0

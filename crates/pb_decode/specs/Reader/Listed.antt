@@ -9,12 +9,12 @@ use Rattle.pb_schema.specs.Kinds.{wire_type_of}
 use Rattle.pb_value.specs.declared.body.Value.{Value}
 use Rattle.pb_value.specs.Data.{Datum}
 use Rattle.pb_value.specs.View.{value_view}
-use Rattle.pb_decode.specs.declared.open.part.Slot.TheVariants.{List as ListSlot}
-use Rattle.pb_decode.specs.declared.open.purpose.Purpose.{Purpose}
-use Rattle.pb_decode.specs.declared.open.purpose.Purpose.TheVariants.{Element, Message}
-use Rattle.pb_decode.specs.Open.Frames.{Part}
-use Rattle.pb_decode.specs.Open.Purposes.{Means, part_context}
-use Rattle.pb_decode.specs.Values.Run.{put_each}
+use Rattle.pb_parts.specs.declared.open.part.Slot.TheVariants.{List as ListSlot}
+use Rattle.pb_parts.specs.declared.open.purpose.Purpose.{Purpose}
+use Rattle.pb_parts.specs.declared.open.purpose.Purpose.TheVariants.{Element, Message}
+use Rattle.pb_parts.specs.Open.Frames.{Part}
+use Rattle.pb_parts.specs.Open.Purposes.{Means, part_context}
+use Rattle.pb_parts.specs.Values.Run.{put_each}
 use Rattle.pb_decode.specs.Reader.Fills.{IsOpen, FillsTo}
 
 -- where the records of a number are for a list's values, one stands behind so many bytes with these values at the end of the list

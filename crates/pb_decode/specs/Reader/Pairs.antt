@@ -11,7 +11,7 @@ use Rattle.pb_value.specs.Value.{missing}
 use Rattle.pb_value.specs.View.{key_view, value_view}
 use Rattle.pb_decode.specs.declared.reader.fill.direct_pair.Pair.{Pair}
 use Rattle.pb_decode.specs.declared.reader.fill.direct_pair.Pair.TheVariants as pair
-use Rattle.pb_decode.specs.Open.Frames.{entry_part}
+use Rattle.pb_parts.specs.Open.Frames.{entry_part}
 use Rattle.pb_decode.specs.Reader.Fills.{FillsTo}
 
 -- where the record of a key is told: one stands behind so many bytes with it in an entry that had none

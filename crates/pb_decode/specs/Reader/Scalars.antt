@@ -6,12 +6,12 @@ use Rattle.pb_schema.specs.Kinds.{read}
 use Rattle.pb_value.specs.declared.body.Value.{Value}
 use Rattle.pb_value.specs.Data.{Datum, scalar}
 use Rattle.pb_value.specs.View.{value_view}
-use Rattle.pb_decode.specs.declared.open.purpose.Purpose.{Purpose}
-use Rattle.pb_decode.specs.declared.tokens.number.Number.{Number}
-use Rattle.pb_decode.specs.Tokens.Number.{number_view}
-use Rattle.pb_decode.specs.Open.Frames.{Part}
-use Rattle.pb_decode.specs.Open.Purposes.{Means, part_context}
-use Rattle.pb_decode.specs.Values.Put.{scalar_kind, put_datum}
+use Rattle.pb_parts.specs.declared.open.purpose.Purpose.{Purpose}
+use Rattle.pb_parts.specs.declared.tokens.number.Number.{Number}
+use Rattle.pb_parts.specs.Tokens.Number.{number_view}
+use Rattle.pb_parts.specs.Open.Frames.{Part}
+use Rattle.pb_parts.specs.Open.Purposes.{Means, part_context}
+use Rattle.pb_parts.specs.Values.Put.{scalar_kind, put_datum}
 use Rattle.pb_decode.specs.Reader.Fills.{FillsTo}
 
 -- where a record of this number and wire type gives a scalar of this kind, one stands behind so many bytes with this value in the part

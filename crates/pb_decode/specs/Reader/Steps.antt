@@ -9,17 +9,17 @@ use Rattle.pb_schema.specs.Types.{Types}
 use Rattle.pb_schema.specs.Rules.{IsPool}
 use Rattle.pb_schema.specs.Kinds.{wire_type_of}
 use Rattle.pb_decode.specs.declared.error.DecodeError.{DecodeError}
-use Rattle.pb_decode.specs.declared.open.purpose.Purpose.{Purpose}
+use Rattle.pb_parts.specs.declared.open.purpose.Purpose.{Purpose}
 use Rattle.pb_decode.specs.declared.reader.state.Reader.{Reader}
-use Rattle.pb_decode.specs.declared.tokens.number.Number.{Number}
-use Rattle.pb_decode.specs.declared.tokens.step.Step.TheVariants.{Elements}
-use Rattle.pb_decode.specs.Open.Frames.{CanHold}
-use Rattle.pb_decode.specs.Open.Openings.{innermost_group}
-use Rattle.pb_decode.specs.Open.PartView.{part_view}
-use Rattle.pb_decode.specs.Open.Purposes.{Means, part_context}
-use Rattle.pb_decode.specs.Tokens.Number.{number_view}
-use Rattle.pb_decode.specs.Tokens.Numbers.{Follows}
-use Rattle.pb_decode.specs.Tokens.After.{tag, awaited}
+use Rattle.pb_parts.specs.declared.tokens.number.Number.{Number}
+use Rattle.pb_parts.specs.declared.tokens.step.Step.TheVariants.{Elements}
+use Rattle.pb_parts.specs.Open.Frames.{CanHold}
+use Rattle.pb_parts.specs.Open.Openings.{innermost_group}
+use Rattle.pb_parts.specs.Open.PartView.{part_view}
+use Rattle.pb_parts.specs.Open.Purposes.{Means, part_context}
+use Rattle.pb_parts.specs.Tokens.Number.{number_view}
+use Rattle.pb_parts.specs.Tokens.Numbers.{Follows}
+use Rattle.pb_parts.specs.Tokens.After.{tag, awaited}
 use Rattle.pb_decode.specs.Reader.{State, frames_view, state_view, here, Reads, StandsAt, AfterAt, Stops, Taken, IfFault, Told}
 
 -- a tag stands at the front of these bytes, and takes so many of them

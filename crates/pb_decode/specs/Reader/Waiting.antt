@@ -1,22 +1,13 @@
 -- What a reader that stops waits for.
 use Rattle.std.specs.Prelude.{◌≡◌, ◌⊎◌, ℕ, ◌<◌, List, [], length}
-use Rattle.pb_wire.specs.Fault.{fault, Place, input_end, VarintFault}
+use Rattle.pb_wire.specs.Fault.{Place}
 use Rattle.pb_wire.specs.Exact.{IsOver}
-use Rattle.pb_wire.specs.declared.fault.Cause.TheVariants.{Truncated}
 use Rattle.pb_schema.specs.Kinds.{wire_type_of}
-use Rattle.pb_decode.specs.declared.tokens.step.Step.{Step}
-use Rattle.pb_decode.specs.declared.tokens.step.Step.TheVariants as step
-use Rattle.pb_decode.specs.Open.Frames.{Frame}
-use Rattle.pb_decode.specs.Tokens.Numbers.{NumberFault}
+use Rattle.pb_parts.specs.declared.tokens.step.Step.{Step}
+use Rattle.pb_parts.specs.declared.tokens.step.Step.TheVariants as step
+use Rattle.pb_parts.specs.Open.Frames.{Frame}
+use Rattle.pb_parts.specs.Tokens.Numbers.{IsCutVarint, IsCutNumber}
 use Rattle.pb_decode.specs.Reader.{State, here}
-
--- the input ends inside the varint that begins here
-abbrev pub IsCutVarint : Place → Type 0
-IsCutVarint p = VarintFault p (fault (input_end p) [] Truncated)
-
--- or inside the number, behind a tag of this wire type
-abbrev pub IsCutNumber : ℕ → Place → Type 0
-IsCutNumber w p = NumberFault w p (fault (input_end p) [] Truncated)
 
 -- With these frames around the part, what comes next at this place is not whole in the bytes that are given. Where a tag may come, the message may
 -- also be over.

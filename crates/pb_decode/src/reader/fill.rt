@@ -3,10 +3,10 @@
 
 ghost use Rattle.std.specs.Prelude.{◌≡◌, ◌⊎◌, ◌+◌, ◌≤◌, ◌<◌, ◌^◌, Some, length, IfSome};
 ghost use Rattle.pb_schema.specs.Rules.{IsPool};
-ghost use Rattle.pb_decode.specs.declared.open.purpose.Purpose.TheVariants as purposes;
-ghost use Rattle.pb_decode.specs.Open.PartView.{part_view};
-ghost use Rattle.pb_decode.specs.Open.Purposes.{Means, part_context};
-ghost use Rattle.pb_decode.specs.Values.PayloadValue.{IsBytesPurpose};
+ghost use Rattle.pb_parts.specs.declared.open.purpose.Purpose.TheVariants as purposes;
+ghost use Rattle.pb_parts.specs.Open.PartView.{part_view};
+ghost use Rattle.pb_parts.specs.Open.Purposes.{Means, part_context};
+ghost use Rattle.pb_parts.specs.Values.PayloadValue.{IsBytesPurpose};
 ghost use Rattle.pb_decode.specs.Reader.Fills.{IsOpen, HasTagAt, FillsOne, FillsAll};
 
 mod direct_pair;
@@ -16,26 +16,25 @@ pub(crate) mod group;
 mod groups;
 mod messages;
 
-use crate::close::closing::put_entry;
-use crate::close::put::put_message;
-use crate::error::NoMemory;
-use crate::open::opening::{room_in, take_message};
-use crate::open::part::{Part, Slot};
-use crate::open::purpose::{Purpose, purpose_of};
 use crate::reader::fill::entries::fill_entries;
 use crate::reader::fill::group::fill_group;
 use crate::reader::fill::messages::fill_messages;
 use crate::reader::fill_run::fill_run;
 use crate::reader::quick_record::length_behind;
-use crate::reader::state::number_at;
-use crate::tokens::number_token::NumberToken;
-use crate::tokens::record_tag::{RecordTag, left_behind, record_tag};
-use crate::tokens::tag_step::has_room;
-use crate::values::payload_value::PayloadError;
-use crate::values::put_number::put_number;
-use crate::values::put_payload::put_payload;
-use crate::values::put_run::put_run;
-use crate::values::run::read_run;
+use pb_parts::close::closing::put_entry;
+use pb_parts::close::put::put_message;
+use pb_parts::error::NoMemory;
+use pb_parts::open::opening::{room_in, take_message};
+use pb_parts::open::part::{Part, Slot};
+use pb_parts::open::purpose::{Purpose, purpose_of};
+use pb_parts::tokens::number_token::{NumberToken, number_at};
+use pb_parts::tokens::record_tag::{RecordTag, left_behind, record_tag};
+use pb_parts::tokens::tag_step::has_room;
+use pb_parts::values::payload_value::PayloadError;
+use pb_parts::values::put_number::put_number;
+use pb_parts::values::put_payload::put_payload;
+use pb_parts::values::put_run::put_run;
+use pb_parts::values::run::read_run;
 use pb_schema::{Kind, MessageId, Pool};
 use std::alloc::Global;
 

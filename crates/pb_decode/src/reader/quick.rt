@@ -3,20 +3,21 @@
 
 ghost use Rattle.std.specs.Prelude.{◌≡◌, ◌+◌, ◌*◌, ◌≤◌, ◌<◌, length, OnOk, IfOk, IfSome, IfNone};
 ghost use Rattle.pb_schema.specs.Rules.{IsPool};
-ghost use Rattle.pb_decode.specs.declared.tokens.step.Step.TheVariants.{Elements};
-ghost use Rattle.pb_decode.specs.Open.KnownPurpose.{IsKnown};
-ghost use Rattle.pb_decode.specs.Close.Ended.{NothingEnds};
+ghost use Rattle.pb_parts.specs.declared.tokens.step.Step.TheVariants.{Elements};
+ghost use Rattle.pb_parts.specs.Open.KnownPurpose.{IsKnown};
+ghost use Rattle.pb_decode.specs.Reader.Ended.{NothingEnds};
 ghost use Rattle.pb_decode.specs.Reader.{state_view, weight, IsReading};
 ghost use Rattle.pb_decode.specs.Reader.Steps.{TellsFault, TakesWhole, TakesMany};
 
-use crate::close::take_ended::take_ended;
-use crate::error::{DecodeError, NoMemory};
-use crate::open::known_purpose::KnownPurpose;
+use crate::error::DecodeError;
 use crate::reader::quick_record::take_record;
 use crate::reader::state::{Reader, left};
-use crate::tokens::step::Step;
-use crate::values::put_run::put_run;
-use crate::values::run::read_run;
+use crate::reader::take_ended::take_ended;
+use pb_parts::error::NoMemory;
+use pb_parts::open::known_purpose::KnownPurpose;
+use pb_parts::tokens::step::Step;
+use pb_parts::values::put_run::put_run;
+use pb_parts::values::run::read_run;
 use pb_schema::{Kind, Pool};
 use std::alloc::Global;
 

@@ -2,23 +2,23 @@
 
 ghost use Rattle.std.specs.Prelude.{◌≡◌, ◌+◌, ◌≤◌, ◌<◌, ◌^◌, length, IfOk, IfSome, IfNone, OnOk};
 ghost use Rattle.pb_schema.specs.Rules.{IsPool};
-ghost use Rattle.pb_decode.specs.declared.open.purpose.Purpose.TheVariants.{Entry};
-ghost use Rattle.pb_decode.specs.declared.tokens.step.Step.TheVariants.{Tag};
-ghost use Rattle.pb_decode.specs.Open.Occurrences.{counts_view};
-ghost use Rattle.pb_decode.specs.Open.PartView.{part_view, scope_view};
-ghost use Rattle.pb_decode.specs.Open.Purposes.{Means, part_context};
+ghost use Rattle.pb_parts.specs.declared.open.purpose.Purpose.TheVariants.{Entry};
+ghost use Rattle.pb_parts.specs.declared.tokens.step.Step.TheVariants.{Tag};
+ghost use Rattle.pb_parts.specs.Open.Occurrences.{counts_view};
+ghost use Rattle.pb_parts.specs.Open.PartView.{part_view, scope_view};
+ghost use Rattle.pb_parts.specs.Open.Purposes.{Means, part_context};
 ghost use Rattle.pb_decode.specs.Reader.{state_view, IsReading};
 ghost use Rattle.pb_decode.specs.Reader.Entries.{more_in};
 ghost use Rattle.pb_decode.specs.Reader.Steps.{HasTagHere, TakesWhole};
 
-use crate::close::put::count_one;
-use crate::close::put_entries::put_entries;
-use crate::error::NoMemory;
-use crate::open::part::Scope;
 use crate::reader::fill::entries::{is_run, read_entries};
 use crate::reader::quick_entry::take_entry;
 use crate::reader::state::{Reader, left};
-use crate::tokens::record_tag::RecordTag;
+use pb_parts::close::put::count_one;
+use pb_parts::close::put_entries::put_entries;
+use pb_parts::error::NoMemory;
+use pb_parts::open::part::Scope;
+use pb_parts::tokens::record_tag::RecordTag;
 use pb_schema::{Kind, Pool};
 use std::alloc::Global;
 

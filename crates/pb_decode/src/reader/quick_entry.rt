@@ -2,20 +2,20 @@
 
 ghost use Rattle.std.specs.Prelude.{◌≡◌, ◌+◌, ◌≤◌, length, IfOk, IfSome, IfNone};
 ghost use Rattle.pb_schema.specs.Rules.{IsPool};
-ghost use Rattle.pb_decode.specs.declared.open.purpose.Purpose.TheVariants.{Entry};
-ghost use Rattle.pb_decode.specs.declared.tokens.step.Step.TheVariants.{Tag};
-ghost use Rattle.pb_decode.specs.Open.PartView.{part_view};
-ghost use Rattle.pb_decode.specs.Open.Purposes.{Means, part_context};
+ghost use Rattle.pb_parts.specs.declared.open.purpose.Purpose.TheVariants.{Entry};
+ghost use Rattle.pb_parts.specs.declared.tokens.step.Step.TheVariants.{Tag};
+ghost use Rattle.pb_parts.specs.Open.PartView.{part_view};
+ghost use Rattle.pb_parts.specs.Open.Purposes.{Means, part_context};
 ghost use Rattle.pb_decode.specs.Reader.{state_view, IsReading};
 ghost use Rattle.pb_decode.specs.Reader.Steps.{HasTagHere, TakesWhole};
 
-use crate::close::closing::close_entry;
-use crate::error::NoMemory;
-use crate::open::part::{Part, Slot};
 use crate::reader::fill::fill;
 use crate::reader::quick_record::length_behind;
 use crate::reader::state::{Reader, left};
-use crate::tokens::record_tag::RecordTag;
+use pb_parts::close::closing::close_entry;
+use pb_parts::error::NoMemory;
+use pb_parts::open::part::{Part, Slot};
+use pb_parts::tokens::record_tag::RecordTag;
 use pb_schema::{Kind, Pool};
 use std::alloc::Global;
 

@@ -2,22 +2,22 @@
 
 ghost use Rattle.std.specs.Prelude.{◌≡◌, ◌+◌, ◌-◌, ◌≤◌, ◌<◌, ◌^◌, length, option_map, IfOk, IfSome, IfNone};
 ghost use Rattle.pb_schema.specs.Rules.{IsPool};
-ghost use Rattle.pb_decode.specs.declared.open.purpose.Purpose.TheVariants as purposes;
-ghost use Rattle.pb_decode.specs.declared.tokens.step.Step.TheVariants.{Tag};
-ghost use Rattle.pb_decode.specs.Open.PartView.{part_view};
-ghost use Rattle.pb_decode.specs.Open.Purposes.{Means, part_context};
+ghost use Rattle.pb_parts.specs.declared.open.purpose.Purpose.TheVariants as purposes;
+ghost use Rattle.pb_parts.specs.declared.tokens.step.Step.TheVariants.{Tag};
+ghost use Rattle.pb_parts.specs.Open.PartView.{part_view};
+ghost use Rattle.pb_parts.specs.Open.Purposes.{Means, part_context};
 ghost use Rattle.pb_decode.specs.Reader.{state_view, IsReading};
 ghost use Rattle.pb_decode.specs.Reader.Steps.{HasTagHere, TakesWhole};
 
-use crate::close::put::close_message;
-use crate::error::NoMemory;
-use crate::open::opening::{is_free, message_slot};
-use crate::open::part::{Part, Slot};
-use crate::open::purpose::purpose_of;
 use crate::reader::fill::group::fill_to_tag;
 use crate::reader::quick_record::take_group_start;
 use crate::reader::state::{Reader, left};
-use crate::tokens::record_tag::{RecordTag, left_behind};
+use pb_parts::close::put::close_message;
+use pb_parts::error::NoMemory;
+use pb_parts::open::opening::{is_free, message_slot};
+use pb_parts::open::part::{Part, Slot};
+use pb_parts::open::purpose::purpose_of;
+use pb_parts::tokens::record_tag::{RecordTag, left_behind};
 use pb_schema::{MessageId, Pool};
 use pb_value::empty_body;
 use std::alloc::Global;

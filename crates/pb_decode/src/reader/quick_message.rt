@@ -2,23 +2,23 @@
 
 ghost use Rattle.std.specs.Prelude.{◌≡◌, ◌+◌, ◌≤◌, length, IfOk, IfSome, IfNone};
 ghost use Rattle.pb_schema.specs.Rules.{IsPool};
-ghost use Rattle.pb_decode.specs.declared.open.purpose.Purpose.TheVariants as purposes;
-ghost use Rattle.pb_decode.specs.declared.tokens.step.Step.TheVariants.{Tag};
-ghost use Rattle.pb_decode.specs.Open.PartView.{part_view};
-ghost use Rattle.pb_decode.specs.Open.Purposes.{Means, part_context};
+ghost use Rattle.pb_parts.specs.declared.open.purpose.Purpose.TheVariants as purposes;
+ghost use Rattle.pb_parts.specs.declared.tokens.step.Step.TheVariants.{Tag};
+ghost use Rattle.pb_parts.specs.Open.PartView.{part_view};
+ghost use Rattle.pb_parts.specs.Open.Purposes.{Means, part_context};
 ghost use Rattle.pb_decode.specs.Reader.{state_view, IsReading};
 ghost use Rattle.pb_decode.specs.Reader.Steps.{HasTagHere, TakesWhole};
 
-use crate::close::put::close_message;
-use crate::error::NoMemory;
-use crate::open::opening::{is_free, room_in};
-use crate::open::part::{Part, Slot};
-use crate::open::purpose::Purpose;
 use crate::reader::fill::fill;
 use crate::reader::quick_record::length_behind;
 use crate::reader::state::{Reader, left};
-use crate::tokens::record_tag::RecordTag;
-use crate::tokens::tag_step::has_room;
+use pb_parts::close::put::close_message;
+use pb_parts::error::NoMemory;
+use pb_parts::open::opening::{is_free, room_in};
+use pb_parts::open::part::{Part, Slot};
+use pb_parts::open::purpose::Purpose;
+use pb_parts::tokens::record_tag::RecordTag;
+use pb_parts::tokens::tag_step::has_room;
 use pb_schema::{MessageId, Pool};
 use pb_value::empty_body;
 use std::alloc::Global;

@@ -6,8 +6,8 @@ ghost use Rattle.pb_value.specs.Derives.{Text};
 ghost use Rattle.pb_value.specs.View.{body_view};
 ghost use Rattle.pb_value.specs.WellFormed.{IsWellFormed};
 
-use crate::open::part::Part;
 use crate::reader::fill::fill;
+use pb_parts::open::part::Part;
 use pb_schema::{MessageId, Pool};
 use pb_value::{Body, empty_body};
 use pb_wire::Limits;

@@ -6,12 +6,11 @@ ghost use Rattle.pb_decode.specs.Reader.Fills.{HasTagAt};
 ghost use Rattle.pb_decode.specs.Reader.Scalars.{TellsNumberThere, TellsScalar};
 
 use crate::reader::quick_record::length_behind;
-use crate::reader::state::number_at;
-use crate::tokens::number::{Number, number_value};
-use crate::tokens::number_token::NumberToken;
-use crate::tokens::record_tag::{RecordTag, left_behind};
-use crate::values::payload_value::{PayloadError, payload_value};
-use crate::values::put_number::is_undeclared;
+use pb_parts::tokens::number::{Number, number_value};
+use pb_parts::tokens::number_token::{NumberToken, number_at};
+use pb_parts::tokens::record_tag::{RecordTag, left_behind};
+use pb_parts::values::payload_value::{PayloadError, payload_value};
+use pb_parts::values::put_number::is_undeclared;
 use pb_schema::{Kind, Pool};
 use pb_value::Value;
 use std::alloc::Global;

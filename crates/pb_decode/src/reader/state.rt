@@ -3,28 +3,26 @@
 ghost use Rattle.std.specs.Prelude.{◌≡◌, ◌⊎◌, ◌+◌, ◌-◌, ◌<◌, ◌≤◌, ◌^◌, ℕ, Some, drop, length, OnOk, IfOk, IfNone};
 ghost use Rattle.pb_wire.specs.Token.{given_at};
 ghost use Rattle.pb_schema.specs.Rules.{IsPool};
-ghost use Rattle.pb_decode.specs.declared.tokens.step.Step.TheVariants.{Tag};
-ghost use Rattle.pb_decode.specs.Open.Frames.{CanHold};
-ghost use Rattle.pb_decode.specs.Tokens.Numbers.{TellsNumber};
-ghost use Rattle.pb_decode.specs.Open.Occurrences.{counts_view};
-ghost use Rattle.pb_decode.specs.Open.PartView.{part_view};
-ghost use Rattle.pb_decode.specs.Tokens.After.{tag, awaited};
+ghost use Rattle.pb_parts.specs.declared.tokens.step.Step.TheVariants.{Tag};
+ghost use Rattle.pb_parts.specs.Open.Frames.{CanHold};
+ghost use Rattle.pb_parts.specs.Open.Occurrences.{counts_view};
+ghost use Rattle.pb_parts.specs.Open.PartView.{part_view};
+ghost use Rattle.pb_parts.specs.Tokens.After.{tag, awaited};
 ghost use Rattle.pb_decode.specs.Reader.{state_view, left_of, IsReading, Passes};
 ghost use Rattle.pb_decode.specs.Reader.Waiting.{Waits};
 ghost use Rattle.pb_decode.specs.Reader.Steps.{TellsFault, TakesNext, TakesAll, StandsBehindNumber};
 
-use crate::close::put::count_one;
-use crate::error::{DecodeError, NoMemory};
-use crate::open::part::{Frame, Part, Scope};
-use crate::open::purpose::Purpose;
+use crate::error::DecodeError;
 use crate::reader::fault::fault_at;
 use crate::reader::take_next::take_next;
-use crate::tokens::number::Number;
-use crate::tokens::number_token::{
-    NumberToken, eight_byte_number, four_byte_number, varint_number,
-};
-use crate::tokens::step::Step;
-use crate::values::put_number::put_number;
+use pb_parts::close::put::count_one;
+use pb_parts::error::NoMemory;
+use pb_parts::open::part::{Frame, Part, Scope};
+use pb_parts::open::purpose::Purpose;
+use pb_parts::tokens::number::Number;
+use pb_parts::tokens::number_token::{NumberToken, number_at};
+use pb_parts::tokens::step::Step;
+use pb_parts::values::put_number::put_number;
 use pb_schema::Pool;
 use std::alloc::Global;
 
@@ -48,20 +46,6 @@ pub(crate) fn left(reader: &Reader) -> Option<u32>
     ensures { result ≡ left_of (state_view reader.now) }
 {
     reader.scope.end.map(|end| end.saturating_sub(reader.at))
-}
-
-/// The number of a wire type at the front of some bytes, with so many bytes before the known end.
-pub(crate) fn number_at(wire_type: u8, bytes: &[u8], left: Option<u32>) -> NumberToken
-    requires { (wire_type ≡ 0) ⊎ (wire_type ≡ 1) ⊎ (wire_type ≡ 5) }
-    ensures { (at : ℕ) → TellsNumber wire_type (given_at at left bytes.now) result }
-{
-    if wire_type == 0 {
-        varint_number(bytes, left)
-    } else if wire_type == 1 {
-        eight_byte_number(bytes, left)
-    } else {
-        four_byte_number(bytes, left)
-    }
 }
 
 /// Puts a number of so many bytes into the part that its record stands in, behind which the reader then stands.

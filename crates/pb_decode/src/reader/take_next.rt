@@ -4,17 +4,17 @@ ghost use Rattle.std.specs.Prelude.{IfOk, IfNone};
 ghost use Rattle.pb_schema.specs.Rules.{IsPool};
 ghost use Rattle.pb_decode.specs.Reader.{state_view, IsReading, Passes};
 ghost use Rattle.pb_decode.specs.Reader.Waiting.{Waits};
-ghost use Rattle.pb_decode.specs.Close.Ended.{NothingEnds};
+ghost use Rattle.pb_decode.specs.Reader.Ended.{NothingEnds};
 ghost use Rattle.pb_decode.specs.Reader.Steps.{TellsFault, TakesNext};
 
 use crate::error::DecodeError;
-use crate::open::take_length::take_length;
+use crate::reader::element::take_element;
 use crate::reader::quick::quick;
 use crate::reader::state::{Reader, take_number};
+use crate::reader::take_length::take_length;
 use crate::reader::take_payload::take_payload;
 use crate::reader::take_tag::take_tag;
-use crate::tokens::step::Step;
-use crate::values::element::take_element;
+use pb_parts::tokens::step::Step;
 use pb_schema::Pool;
 use std::alloc::Global;
 

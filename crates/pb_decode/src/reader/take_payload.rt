@@ -2,23 +2,23 @@
 
 ghost use Rattle.std.specs.Prelude.{◌≡◌, ◌+◌, ◌-◌, ◌<◌, ◌^◌, length, OnOk, IfOk, IfNone};
 ghost use Rattle.pb_schema.specs.Rules.{IsPool};
-ghost use Rattle.pb_decode.specs.declared.tokens.step.Step.TheVariants.{Tag, Payload};
-ghost use Rattle.pb_decode.specs.Open.Frames.{CanHold};
-ghost use Rattle.pb_decode.specs.Open.Occurrences.{counts_view};
-ghost use Rattle.pb_decode.specs.Open.PartView.{part_view};
-ghost use Rattle.pb_decode.specs.Values.PayloadValue.{IsBytesPurpose};
+ghost use Rattle.pb_parts.specs.declared.tokens.step.Step.TheVariants.{Tag, Payload};
+ghost use Rattle.pb_parts.specs.Open.Frames.{CanHold};
+ghost use Rattle.pb_parts.specs.Open.Occurrences.{counts_view};
+ghost use Rattle.pb_parts.specs.Open.PartView.{part_view};
+ghost use Rattle.pb_parts.specs.Values.PayloadValue.{IsBytesPurpose};
 ghost use Rattle.pb_decode.specs.Reader.{state_view, IsReading, Passes};
 ghost use Rattle.pb_decode.specs.Reader.Waiting.{Waits};
 ghost use Rattle.pb_decode.specs.Reader.Steps.{TellsFault, TakesNext, StandsBehindPayload, TellsPayloadFault};
 
-use crate::close::put::count_one;
 use crate::error::DecodeError;
-use crate::open::purpose::Purpose;
 use crate::reader::fault::fault_at;
 use crate::reader::state::Reader;
-use crate::tokens::step::Step;
-use crate::values::payload_value::PayloadError;
-use crate::values::put_payload::put_payload;
+use pb_parts::close::put::count_one;
+use pb_parts::open::purpose::Purpose;
+use pb_parts::tokens::step::Step;
+use pb_parts::values::payload_value::PayloadError;
+use pb_parts::values::put_payload::put_payload;
 use pb_schema::Pool;
 use pb_wire::Cause;
 use std::alloc::Global;

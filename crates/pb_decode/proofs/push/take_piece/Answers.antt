@@ -8,7 +8,8 @@ use Rattle.pb_wire.specs.Fault.{Place}
 use Rattle.pb_wire.specs.Ranges.{IsByte, AreBytes}
 use Rattle.pb_decode.specs.Reader.{state_view, Reads, Stops, Told}
 use Rattle.pb_decode.proofs.ReaderLemmas.{if_fault_weaker}
-use Rattle.pb_decode.proofs.PieceLemmas.{none_held, next_given, last_given, all_given, reads_rest, part_bytes, told_on}
+use Rattle.pb_decode.proofs.PieceLemmas.{next_given, last_given, all_given, reads_rest, part_bytes, told_on}
+use Rattle.pb_parts.proofs.AnswerLemmas.{none_held}
 use Rattle.pb_decode.proofs.push.take_piece.Goals as goal
 
 pub take_joined-requires-clause-reading : goal.take_joined-requires-clause-reading

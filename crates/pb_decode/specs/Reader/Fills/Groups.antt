@@ -3,10 +3,10 @@ use Rattle.std.specs.Prelude.{ℕ, ◌≡◌, ◌≤◌, true, List, Some}
 use Rattle.pb_wire.specs.Fault.{HasTag}
 use Rattle.pb_wire.specs.Token.{given_at, passed}
 use Rattle.pb_schema.specs.Types.{Types}
-use Rattle.pb_decode.specs.declared.open.part.Part.{Part as PartKept}
+use Rattle.pb_parts.specs.declared.open.part.Part.{Part as PartKept}
 use Rattle.pb_decode.specs.declared.reader.fill.group.Extent.{Extent}
-use Rattle.pb_decode.specs.Open.Frames.{Part}
-use Rattle.pb_decode.specs.Open.PartView.{part_view}
+use Rattle.pb_parts.specs.Open.Frames.{Part}
+use Rattle.pb_parts.specs.Open.PartView.{part_view}
 use Rattle.pb_decode.specs.Reader.Fills.{FillsTo}
 
 -- of how many bytes, if all are read, this holds

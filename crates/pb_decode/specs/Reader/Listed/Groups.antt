@@ -4,8 +4,8 @@ use Rattle.pb_schema.specs.declared.types.MessageId.{MessageId}
 use Rattle.pb_schema.specs.Types.{Types}
 use Rattle.pb_value.specs.declared.body.Value.{Value}
 use Rattle.pb_value.specs.View.{value_view}
-use Rattle.pb_decode.specs.declared.open.part.Slot.TheVariants.{List as ListSlot}
-use Rattle.pb_decode.specs.declared.open.purpose.Purpose.TheVariants.{Message}
+use Rattle.pb_parts.specs.declared.open.part.Slot.TheVariants.{List as ListSlot}
+use Rattle.pb_parts.specs.declared.open.purpose.Purpose.TheVariants.{Message}
 use Rattle.pb_decode.specs.declared.reader.fill.group.Extent.{Extent}
 use Rattle.pb_decode.specs.Reader.Fills.Groups.{IfWhole}
 use Rattle.pb_decode.specs.Reader.Listed.{FillsRun}

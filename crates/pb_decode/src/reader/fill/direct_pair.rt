@@ -4,18 +4,18 @@ ghost use Rattle.std.specs.Prelude.{◌≡◌, ◌⊎◌, ◌≤◌, ◌<◌, �
 ghost use Rattle.pb_schema.specs.Kinds.{message_of_kind, wire_type_of};
 ghost use Rattle.pb_schema.specs.Rules.{IsPool};
 ghost use Rattle.pb_value.specs.View.{key_view};
-ghost use Rattle.pb_decode.specs.Open.Frames.{entry_part};
+ghost use Rattle.pb_parts.specs.Open.Frames.{entry_part};
 ghost use Rattle.pb_decode.specs.Reader.Fills.{IsOpen, HasTagAt};
 ghost use Rattle.pb_decode.specs.Reader.Pairs.{WherePut, FillsKey, FillsPair, AddsPair};
 
 use super::fill;
-use crate::open::part::Part;
 use crate::reader::quick_record::length_behind;
 use crate::reader::scalar_behind::{bytes_behind, number_there, scalar_behind};
-use crate::tokens::front::front_number;
-use crate::tokens::number::number_value;
-use crate::tokens::record_tag::RecordTag;
-use crate::values::put_scalar::key_of;
+use pb_parts::open::part::Part;
+use pb_parts::tokens::front::front_number;
+use pb_parts::tokens::number::number_value;
+use pb_parts::tokens::record_tag::RecordTag;
+use pb_parts::values::put_scalar::key_of;
 use pb_schema::{Kind, MessageId, Pool};
 use pb_value::{MapKey, Value, empty_body};
 use std::alloc::Global;

@@ -4,7 +4,7 @@ ghost use Rattle.std.specs.Prelude.{◌≤◌, ◌<◌, ◌^◌, length, IfSome}
 
 use crate::reader::fill::entries::LEAST;
 use crate::reader::quick_record::length_behind;
-use crate::tokens::record_tag::record_tag;
+use pb_parts::tokens::record_tag::record_tag;
 
 /// How many bytes the record at the front takes, where it begins with this tag, is all there, and is no shorter than an entry of a run.
 fn size_ahead(tag: &[u8], bytes: &[u8]) -> Option<usize>

@@ -2,22 +2,22 @@
 
 ghost use Rattle.std.specs.Prelude.{◌≡◌, ◌≤◌, ◌<◌, ◌^◌, Some, true, length, IfSome};
 ghost use Rattle.pb_schema.specs.Rules.{IsPool};
-ghost use Rattle.pb_decode.specs.declared.open.purpose.Purpose.TheVariants as purposes;
-ghost use Rattle.pb_decode.specs.Open.PartView.{part_view};
-ghost use Rattle.pb_decode.specs.Open.Purposes.{Means, part_context};
+ghost use Rattle.pb_parts.specs.declared.open.purpose.Purpose.TheVariants as purposes;
+ghost use Rattle.pb_parts.specs.Open.PartView.{part_view};
+ghost use Rattle.pb_parts.specs.Open.Purposes.{Means, part_context};
 ghost use Rattle.pb_decode.specs.Reader.Fills.{IsOpen, HasTagAt};
 ghost use Rattle.pb_decode.specs.Reader.Fills.Groups.{IfWhole, Passes, FillsGroup, FillsUpToEnd};
 
 use super::groups::fill_groups;
 use super::{fill_length, fill_number};
-use crate::close::closing::put_group;
-use crate::close::put::put_message;
-use crate::error::NoMemory;
-use crate::open::opening::{message_slot, take_message};
-use crate::open::part::{Part, Slot};
-use crate::open::purpose::purpose_of;
 use crate::reader::quick_record::length_behind;
-use crate::tokens::record_tag::{RecordTag, record_tag};
+use pb_parts::close::closing::put_group;
+use pb_parts::close::put::put_message;
+use pb_parts::error::NoMemory;
+use pb_parts::open::opening::{message_slot, take_message};
+use pb_parts::open::part::{Part, Slot};
+use pb_parts::open::purpose::purpose_of;
+use pb_parts::tokens::record_tag::{RecordTag, record_tag};
 use pb_schema::{MessageId, Pool};
 use std::alloc::Global;
 

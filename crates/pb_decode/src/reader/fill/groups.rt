@@ -2,10 +2,10 @@
 
 ghost use Rattle.std.specs.Prelude.{◌≡◌, ◌≤◌, ◌<◌, ◌^◌, Some, length};
 ghost use Rattle.pb_schema.specs.Rules.{IsPool};
-ghost use Rattle.pb_decode.specs.declared.open.part.Slot.TheVariants.{List as ListSlot};
-ghost use Rattle.pb_decode.specs.declared.open.purpose.Purpose.TheVariants.{Message as MessagePurpose};
-ghost use Rattle.pb_decode.specs.Open.PartView.{part_view};
-ghost use Rattle.pb_decode.specs.Open.Purposes.{Means, part_context};
+ghost use Rattle.pb_parts.specs.declared.open.part.Slot.TheVariants.{List as ListSlot};
+ghost use Rattle.pb_parts.specs.declared.open.purpose.Purpose.TheVariants.{Message as MessagePurpose};
+ghost use Rattle.pb_parts.specs.Open.PartView.{part_view};
+ghost use Rattle.pb_parts.specs.Open.Purposes.{Means, part_context};
 ghost use Rattle.pb_decode.specs.Reader.Fills.{IsOpen, HasTagAt};
 ghost use Rattle.pb_decode.specs.Reader.Fills.Groups.{Passes, FillsGroup};
 ghost use Rattle.pb_decode.specs.Reader.Listed.{IsListOpen};
@@ -13,10 +13,10 @@ ghost use Rattle.pb_decode.specs.Reader.Listed.Groups.{AddsGroup};
 
 use super::group::{Extent, fill_to_tag};
 use super::messages::tag_again;
-use crate::error::NoMemory;
-use crate::open::part::Part;
-use crate::tokens::record_tag::RecordTag;
-use crate::values::put_elements::put_elements;
+use pb_parts::error::NoMemory;
+use pb_parts::open::part::Part;
+use pb_parts::tokens::record_tag::RecordTag;
+use pb_parts::values::put_elements::put_elements;
 use pb_schema::{MessageId, Pool};
 use pb_value::{Value, empty_body};
 use std::alloc::Global;

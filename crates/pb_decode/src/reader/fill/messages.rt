@@ -3,19 +3,19 @@
 ghost use Rattle.std.specs.Prelude.{◌≡◌, ◌≤◌, ◌<◌, ◌^◌, Some, length, IfSome};
 ghost use Rattle.pb_wire.specs.Fault.{HasTag};
 ghost use Rattle.pb_schema.specs.Rules.{IsPool};
-ghost use Rattle.pb_decode.specs.declared.open.part.Slot.TheVariants.{List as ListSlot};
-ghost use Rattle.pb_decode.specs.declared.open.purpose.Purpose.TheVariants.{Message as MessagePurpose};
-ghost use Rattle.pb_decode.specs.Open.PartView.{part_view};
-ghost use Rattle.pb_decode.specs.Open.Purposes.{Means, part_context};
+ghost use Rattle.pb_parts.specs.declared.open.part.Slot.TheVariants.{List as ListSlot};
+ghost use Rattle.pb_parts.specs.declared.open.purpose.Purpose.TheVariants.{Message as MessagePurpose};
+ghost use Rattle.pb_parts.specs.Open.PartView.{part_view};
+ghost use Rattle.pb_parts.specs.Open.Purposes.{Means, part_context};
 ghost use Rattle.pb_decode.specs.Reader.Fills.{IsOpen, HasTagAt, FillsOne};
 ghost use Rattle.pb_decode.specs.Reader.Listed.{IsListOpen, TellsMessage, TellsMessages};
 
 use super::fill;
-use crate::error::NoMemory;
-use crate::open::part::Part;
 use crate::reader::quick_record::length_behind;
-use crate::tokens::record_tag::{RecordTag, record_tag};
-use crate::values::put_elements::put_elements;
+use pb_parts::error::NoMemory;
+use pb_parts::open::part::Part;
+use pb_parts::tokens::record_tag::{RecordTag, record_tag};
+use pb_parts::values::put_elements::put_elements;
 use pb_schema::{MessageId, Pool};
 use pb_value::{Value, empty_body};
 use std::alloc::Global;

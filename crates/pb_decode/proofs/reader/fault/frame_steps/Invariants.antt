@@ -1,6 +1,6 @@
 use Rattle.std.proofs.Common.{◌≡◌, map, take}
-use Rattle.pb_decode.specs.Open.Frames.{next_step}
-use Rattle.pb_decode.specs.Open.PartView.{scope_view}
+use Rattle.pb_parts.specs.Open.Frames.{next_step}
+use Rattle.pb_parts.specs.Open.PartView.{scope_view}
 use Rattle.pb_decode.proofs.reader.fault.frame_steps.Given as goal
 
 abbrev pub invariant-loop-frame : goal.invariant-loop-frame

@@ -11,28 +11,28 @@ use Rattle.pb_value.specs.declared.body.Value.{Value}
 use Rattle.pb_value.specs.declared.body.Value.TheVariants as value
 use Rattle.pb_value.specs.Data.{Datum}
 use Rattle.pb_value.proofs.Views.{value_view-Message}
-use Rattle.pb_decode.specs.declared.open.part.Slot.TheVariants as slot
-use Rattle.pb_decode.specs.declared.open.purpose.Purpose.TheVariants.{Message}
-use Rattle.pb_decode.specs.Open.Frames.{Part, entry_part, one_more_in, Stands}
-use Rattle.pb_decode.specs.Open.PartView.{part_view}
-use Rattle.pb_decode.specs.Close.Mapped.{pairs_view, put_mapped, put_all_mapped, FitMapped}
+use Rattle.pb_parts.specs.declared.open.part.Slot.TheVariants as slot
+use Rattle.pb_parts.specs.declared.open.purpose.Purpose.TheVariants.{Message}
+use Rattle.pb_parts.specs.Open.Frames.{Part, entry_part, one_more_in, Stands}
+use Rattle.pb_parts.specs.Open.PartView.{part_view}
+use Rattle.pb_parts.specs.Close.Mapped.{pairs_view, put_mapped, put_all_mapped, FitMapped}
 use Rattle.pb_decode.specs.Reader.Entries.{more_in}
 use Rattle.pb_decode.specs.Reader.Fills.{StandsIn, IsOpen, HasTagAt, FillsTo}
 use Rattle.pb_decode.specs.Reader.Fills.Groups.{FillsToEnd}
 use Rattle.pb_decode.specs.Reader.Pairs.{HasPair}
 use Rattle.pb_decode.specs.Reader.Listed.{FillsRun, IsListOpen}
-use Rattle.pb_decode.specs.Values.Run.{put_listed}
-use Rattle.pb_decode.proofs.ReaderLemmas.{slice_from}
-use Rattle.pb_decode.proofs.NumberSteps.{number_is}
-use Rattle.pb_decode.proofs.WellLemmas.{can_hold}
+use Rattle.pb_parts.specs.Values.Run.{put_listed}
+use Rattle.pb_parts.proofs.PlaceLemmas.{slice_from, place_behind}
+use Rattle.pb_parts.proofs.NumberSteps.{number_is}
+use Rattle.pb_parts.proofs.WellLemmas.{can_hold}
 use Rattle.pb_decode.proofs.EndedLemmas.{entry_has_room, frame_can_hold}
 use Rattle.pb_decode.proofs.FillLemmas.{open_can, nothing_filled, still_open, filled_further, typed_tag, entry_in_part, message_in_part, entry_inside, message_inside, entry_over, message_over}
 use Rattle.pb_decode.proofs.PairLemmas.{pair_further, none_put, pair_put}
-use Rattle.pb_decode.proofs.GroupSteps.{unknown_group_means}
+use Rattle.pb_parts.proofs.GroupSteps.{unknown_group_means}
 use Rattle.pb_decode.proofs.GroupFills.{all_read, field_group_in_part, field_group_inside, field_group_over, unknown_group_in_part, unknown_group_inside, unknown_group_over, end_reached}
 use Rattle.pb_decode.proofs.ListedLemmas.{values_further, none_listed, list_further, message_listed, group_further, first_tag}
-use Rattle.pb_decode.proofs.RunLemmas.{place_behind}
-use Rattle.pb_decode.proofs.MapRuns.{tag_of, entry_in_map, entry_taken, rises_in, map_open_in, run_filled, size_next, more_room, means_along, run_further, open_further, none_read}
+use Rattle.pb_decode.proofs.MapRuns.{tag_of, entry_in_map, entry_taken, rises_in, map_open_in, run_filled, more_room, means_along, run_further, open_further, none_read}
+use Rattle.pb_parts.proofs.MapPuts.{size_next}
 use Rattle.pb_decode.proofs.reader.fill.+fill.Goals as goal
 
 pub fill-loop-here-init : goal.fill-loop-here-init

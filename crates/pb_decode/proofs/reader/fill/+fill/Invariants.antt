@@ -3,12 +3,12 @@ use Rattle.pb_wire.specs.Record.{Record}
 use Rattle.pb_wire.specs.Fault.{Place}
 use Rattle.pb_wire.specs.Token.{given_at, passed}
 use Rattle.pb_value.specs.View.{value_view}
-use Rattle.pb_decode.specs.declared.open.part.Slot.TheVariants.{List as ListSlot}
-use Rattle.pb_decode.specs.declared.open.purpose.Purpose.TheVariants.{Message, Entry}
-use Rattle.pb_decode.specs.Open.Frames.{Part, Frame, Scope, Stands}
-use Rattle.pb_decode.specs.Open.PartView.{part_view}
-use Rattle.pb_decode.specs.Open.Purposes.{Means, part_context}
-use Rattle.pb_decode.specs.Close.Mapped.{pairs_view, put_all_mapped, FitMapped}
+use Rattle.pb_parts.specs.declared.open.part.Slot.TheVariants.{List as ListSlot}
+use Rattle.pb_parts.specs.declared.open.purpose.Purpose.TheVariants.{Message, Entry}
+use Rattle.pb_parts.specs.Open.Frames.{Part, Frame, Scope, Stands}
+use Rattle.pb_parts.specs.Open.PartView.{part_view}
+use Rattle.pb_parts.specs.Open.Purposes.{Means, part_context}
+use Rattle.pb_parts.specs.Close.Mapped.{pairs_view, put_all_mapped, FitMapped}
 use Rattle.pb_decode.specs.Reader.Entries.{more_in}
 use Rattle.pb_decode.specs.Reader.Fills.{HasTagAt, FillsTo}
 use Rattle.pb_decode.specs.Reader.Listed.{FillsRun}

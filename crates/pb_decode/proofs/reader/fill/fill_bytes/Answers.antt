@@ -3,7 +3,7 @@ use Rattle.std.proofs.Common.{◌≡◌, ◌≤◌, ℕ, ◌+◌, ◌-◌, Some,
 use Rattle.std.proofs.lemmas.List.{length-take-le}
 use Rattle.pb_wire.specs.Fault.{HasTag}
 use Rattle.pb_wire.specs.Token.{given_at, passed}
-use Rattle.pb_decode.specs.Open.Frames.{one_more_in}
+use Rattle.pb_parts.specs.Open.Frames.{one_more_in}
 use Rattle.pb_decode.proofs.QuickLemmas.{bytes_next, payload_leads}
 use Rattle.pb_decode.proofs.FillLemmas.{open_can}
 use Rattle.pb_decode.proofs.reader.fill.fill_bytes.Goals as goal

@@ -1,10 +1,10 @@
 -- The element goes to its list, with those that follow on it.
 use Rattle.std.proofs.Common.{◌≡◌, ℕ, refl, subst}
 use Rattle.pb_schema.specs.Kinds.{wire_type_of}
-use Rattle.pb_decode.specs.declared.open.purpose.Purpose.TheVariants.{Element}
-use Rattle.pb_decode.specs.Open.PartView.{part_view}
-use Rattle.pb_decode.specs.Open.Purposes.{Means, part_context}
-use Rattle.pb_decode.proofs.NumberSteps.{meant_type}
+use Rattle.pb_parts.specs.declared.open.purpose.Purpose.TheVariants.{Element}
+use Rattle.pb_parts.specs.Open.PartView.{part_view}
+use Rattle.pb_parts.specs.Open.Purposes.{Means, part_context}
+use Rattle.pb_parts.proofs.NumberSteps.{meant_type}
 use Rattle.pb_decode.proofs.FillLemmas.{open_can}
 use Rattle.pb_decode.proofs.reader.fill.fill_element.Goals as goal
 

@@ -2,11 +2,11 @@
 use Rattle.std.proofs.Common.{ℕ, ◌+◌, ◌∙◌, Some, sym, ap, arith, length, length-drop}
 use Rattle.pb_wire.specs.Fault.{Place}
 use Rattle.pb_wire.specs.Token.{given_at, passed}
-use Rattle.pb_decode.specs.Tokens.Number.{number_view}
-use Rattle.pb_decode.specs.Tokens.Numbers.{Follows}
-use Rattle.pb_decode.specs.Open.Frames.{one_more_in}
-use Rattle.pb_decode.specs.Tokens.After.{tag}
-use Rattle.pb_decode.proofs.ReaderLemmas.{slice_from}
+use Rattle.pb_parts.specs.Tokens.Number.{number_view}
+use Rattle.pb_parts.specs.Tokens.Numbers.{Follows}
+use Rattle.pb_parts.specs.Open.Frames.{one_more_in}
+use Rattle.pb_parts.specs.Tokens.After.{tag}
+use Rattle.pb_parts.proofs.PlaceLemmas.{slice_from}
 use Rattle.pb_decode.proofs.QuickLemmas.{there_behind, number_next}
 use Rattle.pb_decode.proofs.FillLemmas.{open_can}
 use Rattle.pb_decode.proofs.reader.fill.fill_one.Goals as goal

@@ -1,10 +1,10 @@
 -- The element, or the run that it begins, goes to the end of the list.
 use Rattle.std.proofs.Common.{sym, ◌∙◌, subst}
 use Rattle.pb_value.specs.View.{value_view}
-use Rattle.pb_decode.specs.Open.Frames.{Part}
-use Rattle.pb_decode.specs.Open.PartView.{part_view}
+use Rattle.pb_parts.specs.Open.Frames.{Part}
+use Rattle.pb_parts.specs.Open.PartView.{part_view}
 use Rattle.pb_decode.specs.Reader.Fills.{FillsTo}
-use Rattle.pb_decode.proofs.RunLemmas.{listed_is}
+use Rattle.pb_parts.proofs.RunLemmas.{listed_is}
 use Rattle.pb_decode.proofs.reader.fill_run.fill_run.Goals as goal
 
 pub returns-then-not-begins_again-clause-filled : goal.returns-then-not-begins_again-clause-filled

@@ -3,7 +3,7 @@ use Rattle.std.proofs.Common.{◌-◌, ℕ, List, ◌∷◌, [], ◌++◌, map, 
 use Rattle.pb_value.specs.View.{value_view}
 use Rattle.pb_value.specs.declared.body.Value.{Value}
 use Rattle.pb_decode.specs.Reader.Listed.{FillsList}
-use Rattle.pb_decode.proofs.ReaderLemmas.{slice_from}
+use Rattle.pb_parts.proofs.PlaceLemmas.{slice_from}
 use Rattle.pb_decode.proofs.ListedLemmas.{listed_further}
 use Rattle.pb_decode.proofs.reader.fill_run.read_elements.Goals as goal
 

@@ -2,7 +2,7 @@ use Rattle.std.proofs.Common.{◌≡◌, ◌+◌, ◌*◌, ◌≤◌, ◌-◌, �
 use Rattle.pb_wire.specs.Record.{Record}
 use Rattle.pb_wire.specs.Fault.{Place}
 use Rattle.pb_decode.specs.Reader.{state_view, weight, Reads}
-use Rattle.pb_decode.specs.Open.KnownPurpose.{IsKnown}
+use Rattle.pb_parts.specs.Open.KnownPurpose.{IsKnown}
 use Rattle.pb_decode.proofs.reader.quick.quick.Given as goal
 
 abbrev pub invariant-loop-reader : goal.invariant-loop-reader

@@ -1,12 +1,12 @@
 -- The elements go into the part of their list.
 use Rattle.std.proofs.Common.{◌+◌, ℕ, Option, refl, sym, subst}
 use Rattle.pb_wire.specs.Token.{given_at, passed}
-use Rattle.pb_decode.specs.declared.tokens.step.Step.{Step}
-use Rattle.pb_decode.specs.declared.tokens.step.Step.TheVariants.{Elements}
-use Rattle.pb_decode.specs.Open.Frames.{Part}
-use Rattle.pb_decode.specs.Values.Run.{put_run}
-use Rattle.pb_decode.specs.Open.PartView.{part_view, scope_view}
-use Rattle.pb_decode.specs.Tokens.After.{After}
+use Rattle.pb_parts.specs.declared.tokens.step.Step.{Step}
+use Rattle.pb_parts.specs.declared.tokens.step.Step.TheVariants.{Elements}
+use Rattle.pb_parts.specs.Open.Frames.{Part}
+use Rattle.pb_parts.specs.Values.Run.{put_run}
+use Rattle.pb_parts.specs.Open.PartView.{part_view, scope_view}
+use Rattle.pb_parts.specs.Tokens.After.{After}
 use Rattle.pb_decode.specs.Reader.{state_view, frames_view, here}
 use Rattle.pb_decode.proofs.ElementLemmas.{list_types, after_reads}
 use Rattle.pb_decode.proofs.reader.quick.take_run.Goals as goal

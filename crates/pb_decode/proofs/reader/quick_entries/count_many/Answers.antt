@@ -1,8 +1,8 @@
 -- The counts are below the bytes that were read.
 use Rattle.std.proofs.Common.{◌≡◌, ◌+◌, ap, ◌∙◌, arith}
-use Rattle.pb_decode.specs.Open.Frames.{Scope}
-use Rattle.pb_decode.specs.Open.Occurrences.{counts_view}
-use Rattle.pb_decode.specs.Open.PartView.{scope_view}
+use Rattle.pb_parts.specs.Open.Frames.{Scope}
+use Rattle.pb_parts.specs.Open.Occurrences.{counts_view}
+use Rattle.pb_parts.specs.Open.PartView.{scope_view}
 use Rattle.pb_decode.proofs.MapRuns.{more_counts}
 use Rattle.pb_decode.proofs.reader.quick_entries.count_many.Goals as goal
 

@@ -1,5 +1,5 @@
 use Rattle.std.proofs.Common.{◌≡◌, ◌-◌, ◌≤◌}
-use Rattle.pb_decode.specs.Open.PartView.{scope_view}
+use Rattle.pb_parts.specs.Open.PartView.{scope_view}
 use Rattle.pb_decode.specs.Reader.Entries.{more_in}
 use Rattle.pb_decode.proofs.reader.quick_entries.count_many.Given as goal
 

@@ -1,9 +1,9 @@
 -- The entries go into their map, and their records are counted.
 use Rattle.std.proofs.Common.{◌≡◌, ℕ, ◌+◌, refl, sym, ap, ◌∙◌, subst, arith, length}
 use Rattle.pb_wire.specs.Token.{given_at, passed}
-use Rattle.pb_decode.specs.Open.Frames.{Part, Scope, Stands}
-use Rattle.pb_decode.specs.Open.PartView.{part_view, scope_view}
-use Rattle.pb_decode.specs.Close.Mapped.{pairs_view, put_all_mapped}
+use Rattle.pb_parts.specs.Open.Frames.{Part, Scope, Stands}
+use Rattle.pb_parts.specs.Open.PartView.{part_view, scope_view}
+use Rattle.pb_parts.specs.Close.Mapped.{pairs_view, put_all_mapped}
 use Rattle.pb_decode.specs.Reader.Entries.{more_in}
 use Rattle.pb_decode.specs.Reader.{state_view, frames_view, here}
 use Rattle.pb_decode.proofs.ReaderLemmas.{stands_reads}

@@ -3,11 +3,11 @@ use Rattle.std.proofs.Common.{ℕ, ◌+◌, ◌-◌, Some, refl, ap, subst, arit
 use Rattle.pb_wire.specs.Fault.{HasTag}
 use Rattle.pb_wire.specs.Token.{given_at, passed}
 use Rattle.pb_value.specs.View.{key_view, value_view}
-use Rattle.pb_decode.specs.Open.PartView.{part_view, scope_view}
-use Rattle.pb_decode.specs.Open.Frames.{entry_part}
+use Rattle.pb_parts.specs.Open.PartView.{part_view, scope_view}
+use Rattle.pb_parts.specs.Open.Frames.{entry_part}
 use Rattle.pb_decode.specs.Reader.{state_view, frames_view, left_of, here}
 use Rattle.pb_decode.proofs.QuickLemmas.{tag_few, tag_stands, length_here}
-use Rattle.pb_decode.proofs.WellLemmas.{can_hold}
+use Rattle.pb_parts.proofs.WellLemmas.{can_hold}
 use Rattle.pb_decode.proofs.EndedLemmas.{entry_has_room}
 use Rattle.pb_decode.proofs.FillLemmas.{entry_in_reader, entry_inside, inner_passed, none_left}
 use Rattle.pb_decode.proofs.reader.quick_entry.take_entry.Goals as goal

@@ -3,7 +3,7 @@ use Rattle.std.proofs.Common.{◌≡◌, ℕ, ◌+◌, ◌-◌, ◌∙◌, Optio
 use Rattle.pb_wire.specs.Fault.{HasTag}
 use Rattle.pb_wire.specs.Token.{passed}
 use Rattle.pb_value.specs.View.{body_view}
-use Rattle.pb_decode.specs.Open.PartView.{part_view, scope_view}
+use Rattle.pb_parts.specs.Open.PartView.{part_view, scope_view}
 use Rattle.pb_decode.specs.Reader.{state_view, frames_view, here}
 use Rattle.pb_decode.proofs.ReaderLemmas.{stands_reads}
 use Rattle.pb_decode.proofs.QuickLemmas.{tag_few, tag_can}

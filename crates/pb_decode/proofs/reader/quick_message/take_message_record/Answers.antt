@@ -3,7 +3,7 @@ use Rattle.std.proofs.Common.{ℕ, ◌+◌, ◌-◌, ◌∙◌, Some, refl, sym,
 use Rattle.pb_wire.specs.Fault.{HasTag}
 use Rattle.pb_wire.specs.Token.{given_at, passed}
 use Rattle.pb_value.specs.View.{body_view}
-use Rattle.pb_decode.specs.Open.PartView.{part_view, scope_view}
+use Rattle.pb_parts.specs.Open.PartView.{part_view, scope_view}
 use Rattle.pb_decode.specs.Reader.{state_view, frames_view, left_of, here}
 use Rattle.pb_decode.proofs.QuickLemmas.{tag_few, tag_can, tag_stands, length_here}
 use Rattle.pb_decode.proofs.FillLemmas.{message_in_reader, message_inside, inner_passed, none_left}

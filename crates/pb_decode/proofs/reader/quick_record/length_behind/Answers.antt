@@ -2,8 +2,9 @@
 use Rattle.std.proofs.Common.{ℕ, ◌+◌, ◌-◌, ap, ◌∙◌, arith, take, drop, length, length-drop}
 use Rattle.pb_wire.specs.Fault.{Place, Reads as ReadsNumber}
 use Rattle.pb_wire.specs.Token.{given_at, passed}
-use Rattle.pb_decode.proofs.ReaderLemmas.{slice_from}
-use Rattle.pb_decode.proofs.QuickLemmas.{front_there, there_behind, length_there}
+use Rattle.pb_parts.proofs.PlaceLemmas.{slice_from}
+use Rattle.pb_decode.proofs.QuickLemmas.{there_behind, length_there}
+use Rattle.pb_parts.proofs.NumberTokens.{front_there}
 use Rattle.pb_decode.proofs.reader.quick_record.length_behind.Goals as goal
 
 pub overflow_add-start : goal.overflow_add-start

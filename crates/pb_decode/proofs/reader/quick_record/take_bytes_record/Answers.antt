@@ -3,8 +3,8 @@ use Rattle.std.proofs.Common.{◌≡◌, ◌≤◌, ℕ, ◌+◌, ◌-◌, refl,
 use Rattle.std.proofs.lemmas.List.{length-take-le}
 use Rattle.pb_wire.specs.Fault.{HasTag}
 use Rattle.pb_wire.specs.Token.{passed}
-use Rattle.pb_decode.specs.Open.Frames.{Scope, Stands}
-use Rattle.pb_decode.specs.Open.PartView.{part_view, scope_view}
+use Rattle.pb_parts.specs.Open.Frames.{Scope, Stands}
+use Rattle.pb_parts.specs.Open.PartView.{part_view, scope_view}
 use Rattle.pb_decode.specs.Reader.{state_view, frames_view, here}
 use Rattle.pb_decode.proofs.ReaderLemmas.{stands_reads}
 use Rattle.pb_decode.proofs.QuickLemmas.{tag_stands, tag_can, tag_few, length_here, bytes_next, payload_leads}

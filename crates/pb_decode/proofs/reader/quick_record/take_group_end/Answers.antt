@@ -2,8 +2,8 @@
 use Rattle.std.proofs.Common.{◌≡◌, ℕ, List, Some, refl, sym, ap, ◌∙◌, subst}
 use Rattle.pb_wire.specs.Fault.{HasTag}
 use Rattle.pb_wire.specs.Token.{passed}
-use Rattle.pb_decode.specs.declared.open.part.Frame.{Frame}
-use Rattle.pb_decode.specs.Open.Openings.{innermost_group}
+use Rattle.pb_parts.specs.declared.open.part.Frame.{Frame}
+use Rattle.pb_parts.specs.Open.Openings.{innermost_group}
 use Rattle.pb_decode.specs.Reader.{state_view, frames_view, here}
 use Rattle.pb_decode.proofs.reader.quick_record.take_group_end.Goals as goal
 

@@ -2,8 +2,8 @@
 use Rattle.std.proofs.Common.{ℕ, subst}
 use Rattle.pb_wire.specs.Fault.{HasTag}
 use Rattle.pb_wire.specs.Token.{passed}
-use Rattle.pb_decode.specs.Open.PartView.{part_view}
-use Rattle.pb_decode.specs.Open.Purposes.{Means, part_context}
+use Rattle.pb_parts.specs.Open.PartView.{part_view}
+use Rattle.pb_parts.specs.Open.Purposes.{Means, part_context}
 use Rattle.pb_decode.specs.Reader.{state_view, here}
 use Rattle.pb_decode.proofs.QuickLemmas.{tag_can}
 use Rattle.pb_decode.proofs.reader.quick_record.take_group_start.Goals as goal

@@ -2,13 +2,14 @@
 use Rattle.std.proofs.Common.{ℕ, ◌+◌, ◌-◌, ◌∙◌, Option, Some, option_map, refl, sym, ap, subst, arith, length, length-drop}
 use Rattle.pb_wire.specs.Fault.{Place}
 use Rattle.pb_wire.specs.Token.{passed}
-use Rattle.pb_decode.specs.Tokens.Number.{number_view}
-use Rattle.pb_decode.specs.Tokens.Numbers.{Follows}
-use Rattle.pb_decode.specs.Open.Frames.{Scope, Stands}
-use Rattle.pb_decode.specs.Open.PartView.{part_view, scope_view}
-use Rattle.pb_decode.specs.Tokens.After.{tag}
+use Rattle.pb_parts.specs.Tokens.Number.{number_view}
+use Rattle.pb_parts.specs.Tokens.Numbers.{Follows}
+use Rattle.pb_parts.specs.Open.Frames.{Scope, Stands}
+use Rattle.pb_parts.specs.Open.PartView.{part_view, scope_view}
+use Rattle.pb_parts.specs.Tokens.After.{tag}
 use Rattle.pb_decode.specs.Reader.{state_view, frames_view, left_of, here}
-use Rattle.pb_decode.proofs.ReaderLemmas.{slice_from, stands_reads}
+use Rattle.pb_decode.proofs.ReaderLemmas.{stands_reads}
+use Rattle.pb_parts.proofs.PlaceLemmas.{slice_from}
 use Rattle.pb_decode.proofs.QuickLemmas.{there_behind, tag_stands, tag_can, tag_few, number_next}
 use Rattle.pb_decode.proofs.reader.quick_record.take_number_record.Goals as goal
 

@@ -3,7 +3,7 @@ use Rattle.std.proofs.Common.{rules, ap, refl, arith}
 use Rattle.std.proofs.lemmas.List.Elements.{All-from_get_or, recursion_from_All}
 use Rattle.pb_wire.specs.Ranges.{IsByte, AreBytes}
 use Rattle.pb_value.specs.View.{body_view}
-use Rattle.pb_decode.specs.Open.PartView.{part_view}
+use Rattle.pb_parts.specs.Open.PartView.{part_view}
 use Rattle.pb_decode.proofs.QuickTexts.{text_open, text_filled}
 use Rattle.pb_decode.proofs.reader.quick_text.read_text.Goals as goal
 

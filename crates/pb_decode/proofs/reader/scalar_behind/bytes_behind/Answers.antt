@@ -5,12 +5,12 @@ use Rattle.pb_wire.specs.Fault.{HasTag}
 use Rattle.pb_wire.specs.Token.{given_at, passed}
 use Rattle.pb_value.specs.Data.{scalar}
 use Rattle.pb_value.specs.View.{value_view}
-use Rattle.pb_decode.specs.Open.Frames.{one_more_in}
-use Rattle.pb_decode.specs.Values.Put.{put_datum}
+use Rattle.pb_parts.specs.Open.Frames.{one_more_in}
+use Rattle.pb_parts.specs.Values.Put.{put_datum}
 use Rattle.pb_decode.proofs.QuickLemmas.{bytes_next, payload_leads}
 use Rattle.pb_decode.proofs.PairLemmas.{scalar_opens_none}
-use Rattle.pb_decode.proofs.PayloadSteps.{payload_put}
-use Rattle.pb_decode.proofs.WellLemmas.{can_hold}
+use Rattle.pb_parts.proofs.PayloadSteps.{payload_put}
+use Rattle.pb_parts.proofs.WellLemmas.{can_hold}
 use Rattle.pb_decode.proofs.reader.scalar_behind.bytes_behind.Goals as goal
 
 pub returns-in-Ok-Some-clause-put : goal.returns-in-Ok-Some-clause-put

@@ -2,16 +2,16 @@
 use Rattle.std.proofs.Common.{ℕ, ◌+◌, Some, sym, ap, ◌∙◌, arith, length, length-drop}
 use Rattle.pb_wire.specs.Fault.{Place}
 use Rattle.pb_wire.specs.Token.{given_at}
-use Rattle.pb_decode.specs.Open.Frames.{one_more_in}
-use Rattle.pb_decode.specs.Tokens.After.{tag}
-use Rattle.pb_decode.specs.Tokens.Number.{number_view}
-use Rattle.pb_decode.specs.Tokens.Numbers.{Follows}
-use Rattle.pb_decode.specs.Values.Put.{put_datum}
-use Rattle.pb_decode.proofs.ReaderLemmas.{slice_from}
+use Rattle.pb_parts.specs.Open.Frames.{one_more_in}
+use Rattle.pb_parts.specs.Tokens.After.{tag}
+use Rattle.pb_parts.specs.Tokens.Number.{number_view}
+use Rattle.pb_parts.specs.Tokens.Numbers.{Follows}
+use Rattle.pb_parts.specs.Values.Put.{put_datum}
+use Rattle.pb_parts.proofs.PlaceLemmas.{slice_from}
 use Rattle.pb_decode.proofs.QuickLemmas.{there_behind, number_next}
-use Rattle.pb_decode.proofs.NumberSteps.{meant_type, read_some, number_put}
-use Rattle.pb_decode.proofs.FillLemmas.{told_of}
-use Rattle.pb_decode.proofs.WellLemmas.{can_hold}
+use Rattle.pb_parts.proofs.NumberSteps.{meant_type, read_some, number_put}
+use Rattle.pb_parts.proofs.AnswerLemmas.{told_of}
+use Rattle.pb_parts.proofs.WellLemmas.{can_hold}
 use Rattle.pb_decode.proofs.reader.scalar_behind.number_there.Goals as goal
 
 pub overflow_add-result : goal.overflow_add-result

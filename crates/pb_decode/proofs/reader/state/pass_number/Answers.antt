@@ -1,7 +1,7 @@
 -- The number goes into the part, and its record is counted.
 use Rattle.std.proofs.Common.{sym, subst}
-use Rattle.pb_decode.specs.Open.Frames.{Scope, Stands}
-use Rattle.pb_decode.specs.Open.PartView.{part_view, scope_view}
+use Rattle.pb_parts.specs.Open.Frames.{Scope, Stands}
+use Rattle.pb_parts.specs.Open.PartView.{part_view, scope_view}
 use Rattle.pb_decode.specs.Reader.{state_view, frames_view, here}
 use Rattle.pb_decode.proofs.reader.state.pass_number.Goals as goal
 

@@ -2,8 +2,8 @@
 use Rattle.std.proofs.Common.{◌+◌, length, refl, sym, subst}
 use Rattle.pb_wire.specs.Fault.{fault}
 use Rattle.pb_wire.specs.declared.fault.Cause.TheVariants.{BadText}
-use Rattle.pb_decode.specs.Open.Frames.{Scope, Stands}
-use Rattle.pb_decode.specs.Open.PartView.{part_view, scope_view}
+use Rattle.pb_parts.specs.Open.Frames.{Scope, Stands}
+use Rattle.pb_parts.specs.Open.PartView.{part_view, scope_view}
 use Rattle.pb_decode.specs.Reader.{state_view, frames_view, here, path_here}
 use Rattle.pb_decode.proofs.ReaderLemmas.{fault_told}
 use Rattle.pb_decode.proofs.PayloadTaken.{payload_next, payload_refused}

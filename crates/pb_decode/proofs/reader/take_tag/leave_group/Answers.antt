@@ -5,12 +5,12 @@ use Rattle.pb_wire.specs.Unknown.{records_of}
 use Rattle.pb_wire.specs.Fault.{HasTag}
 use Rattle.pb_wire.specs.Token.{passed}
 use Rattle.pb_value.specs.View.{body_view, key_view, value_view}
-use Rattle.pb_decode.specs.Open.Frames.{frame_of, message_part, entry_part, group_part}
-use Rattle.pb_decode.specs.Open.PartView.{part_view, scope_view}
+use Rattle.pb_parts.specs.Open.Frames.{frame_of, message_part, entry_part, group_part}
+use Rattle.pb_parts.specs.Open.PartView.{part_view, scope_view}
 use Rattle.pb_decode.specs.Reader.{state_view, frames_view, here}
 use Rattle.pb_decode.proofs.FewRecords.{frame_counts_fit}
 use Rattle.pb_decode.proofs.EndedLemmas.{popped_group, popped_number, standing, frame_can_hold}
-use Rattle.pb_decode.proofs.FrameLemmas.{entry_no_group}
+use Rattle.pb_parts.proofs.FrameLemmas.{entry_no_group}
 use Rattle.pb_decode.proofs.LengthSteps.{stands_here}
 use Rattle.pb_decode.proofs.reader.take_tag.leave_group.Goals as goal
 

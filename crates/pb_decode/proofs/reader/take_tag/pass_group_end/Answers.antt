@@ -2,9 +2,9 @@
 use Rattle.std.proofs.Common.{◌≡◌, List, Some, refl, sym, ap, ◌∙◌}
 use Rattle.pb_wire.specs.Fault.{fault}
 use Rattle.pb_wire.specs.Token.{passed}
-use Rattle.pb_decode.specs.declared.open.part.Frame.{Frame}
-use Rattle.pb_decode.specs.Open.Openings.{innermost_group}
-use Rattle.pb_decode.specs.Open.PartView.{part_view, scope_view}
+use Rattle.pb_parts.specs.declared.open.part.Frame.{Frame}
+use Rattle.pb_parts.specs.Open.Openings.{innermost_group}
+use Rattle.pb_parts.specs.Open.PartView.{part_view, scope_view}
 use Rattle.pb_decode.specs.Reader.{state_view, frames_view, here, path_here}
 use Rattle.pb_decode.proofs.ReaderLemmas.{fault_told}
 use Rattle.pb_decode.proofs.EndedLemmas.{standing}

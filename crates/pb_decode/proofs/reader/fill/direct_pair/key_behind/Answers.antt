@@ -1,8 +1,8 @@
 -- The key goes into the entry, and one stands behind its record.
 use Rattle.std.proofs.Common.{Option, None, sym, refl, subst}
 use Rattle.pb_schema.specs.Scalar.{Scalar}
-use Rattle.pb_decode.specs.declared.open.purpose.Purpose.TheVariants.{Key}
-use Rattle.pb_decode.specs.Open.Frames.{Part, entry_part}
+use Rattle.pb_parts.specs.declared.open.purpose.Purpose.TheVariants.{Key}
+use Rattle.pb_parts.specs.Open.Frames.{Part, entry_part}
 use Rattle.pb_decode.specs.Reader.Fills.{FillsTo}
 use Rattle.pb_decode.proofs.reader.fill.direct_pair.key_behind.Goals as goal
 

@@ -2,7 +2,7 @@
 use Rattle.std.proofs.Common.{◌≡◌, ◌*◌, ◌+◌, ◌<◌, ℕ, Some, sym, subst, arith}
 use Rattle.pb_wire.specs.Fault.{Reads}
 use Rattle.pb_wire.specs.Token.{given_at, passed}
-use Rattle.pb_decode.proofs.QuickLemmas.{front_there}
+use Rattle.pb_parts.proofs.NumberTokens.{front_there}
 use Rattle.pb_decode.proofs.PairLemmas.{known_type}
 use Rattle.pb_decode.proofs.reader.fill.direct_pair.own_tag.Goals as goal
 

@@ -3,7 +3,7 @@ use Rattle.std.proofs.Common.{ℕ, Some, None, sym, subst}
 use Rattle.pb_schema.specs.Scalar.{Scalar}
 use Rattle.pb_value.specs.Data.{Datum}
 use Rattle.pb_value.specs.View.{key_view, value_view}
-use Rattle.pb_decode.specs.Open.Frames.{entry_part}
+use Rattle.pb_parts.specs.Open.Frames.{entry_part}
 use Rattle.pb_decode.specs.Reader.Fills.{FillsTo}
 use Rattle.pb_decode.specs.Reader.Scalars.{FillsScalar}
 use Rattle.pb_decode.proofs.PairLemmas.{value_filled, pair_put}

@@ -1,0 +1,82 @@
+-- What is told of the length is told of the text, and behind it what it begins is begun.
+use Rattle.std.proofs.Common.{ℕ, Option, refl, sym, ap, subst, arith}
+use Rattle.pb_wire.specs.Fault.{fault}
+use Rattle.pb_wire.specs.Token.{given_at, passed}
+use Rattle.pb_parts.specs.Open.PartView.{part_view, scope_view}
+use Rattle.pb_parts.specs.Tokens.After.{tag, awaited, After}
+use Rattle.pb_decode.specs.Reader.{state_view, frames_view, here, path_here}
+use Rattle.pb_decode.proofs.ReaderLemmas.{fault_told}
+use Rattle.pb_decode.proofs.ReaderSafe.{awaited_can}
+use Rattle.pb_decode.proofs.LengthTaken.{length_ends, at_length, length_fault_told, length_short, number_there, number_cut}
+use Rattle.pb_parts.proofs.NumberTokens.{number_size}
+use Rattle.pb_decode.proofs.WaitLemmas.{length_waits}
+use Rattle.pb_decode.proofs.reader.take_length.take_length.Goals as goal
+
+pub overflow_cast-begin : goal.overflow_cast-begin
+overflow_cast-begin c =
+    let there = number_there (state_view c.args.reader.now) c.left.result c.args.bytes.now c.in-Ok-Some.field-0 c.in-Ok-Some.length c.in-Ok-Some.used c.left.ensures c.in-Ok-Some.field-0-is (c.in-Ok-Some.ensures.whole c.args.reader.now.at) in
+    let within = there.0 in
+    let small = c.requires.reading.small in
+    omega (arith, within, small)
+
+pub overflow_add-begin : goal.overflow_add-begin
+overflow_add-begin c =
+    let there = number_there (state_view c.args.reader.now) c.left.result c.args.bytes.now c.in-Ok-Some.field-0 c.in-Ok-Some.length c.in-Ok-Some.used c.left.ensures c.in-Ok-Some.field-0-is (c.in-Ok-Some.ensures.whole c.args.reader.now.at) in
+    let within = there.0 in
+    let small = c.requires.reading.small in
+    omega (arith, within, small)
+
+pub pass_length-requires : goal.pass_length-requires
+pass_length-requires c =
+    let there = number_there (state_view c.args.reader.now) c.left.result c.args.bytes.now c.in-Ok-Some.field-0 c.in-Ok-Some.length c.in-Ok-Some.used c.left.ensures c.in-Ok-Some.field-0-is (c.in-Ok-Some.ensures.whole c.args.reader.now.at) in
+    let within = there.0 in
+    let small = c.requires.reading.small in
+    let size = c.in-Ok.ensures.small in
+    omega (arith, within, small, size)
+
+pub returns-in-Err-clause-refused : goal.returns-in-Err-clause-refused
+returns-in-Err-clause-refused c =
+    λ m depth levels base p0 begun.
+    fault_told c.fault_at.result (fault c.args.reader.now.at (path_here (state_view c.args.reader.now)) c.in-Err.cause) c.fault_at.ensures
+    (length_fault_told c.args.pool.now m depth p0 (state_view c.args.reader.now) c.args.number c.args.purpose c.in-Err.cause c.requires.step c.in-Err.ensures.settled
+    (c.in-Err.ensures.length c.args.pool.now m depth levels c.args.reader.now.at c.args.number base p0 (frames_view c.args.reader.now.frames.items) (scope_view c.args.reader.now.scope) (part_view c.args.reader.now.part) c.args.reader.now.step c.args.purpose
+    (subst (λ (z : Option ℕ). After c.args.pool.now m depth levels base p0 (frames_view c.args.reader.now.frames.items) c.args.reader.now.step (part_view c.args.reader.now.part) (scope_view c.args.reader.now.scope) (given_at c.args.reader.now.at z c.args.bytes.now)) (sym c.left.ensures) begun)
+    (ap awaited c.requires.step)))
+
+pub returns-in-Ok-None-clause-taken : goal.returns-in-Ok-None-clause-taken
+returns-in-Ok-None-clause-taken c =
+    λ m depth levels base p0 begun.
+    let told = number_cut (state_view c.args.reader.now) c.left.result c.args.bytes.now c.in-Ok-None.field-0 c.left.ensures c.in-Ok-None.field-0-is (c.in-Ok-None.ensures.short c.args.reader.now.at) in
+    (begun, length_short (state_view c.args.reader.now) c.args.bytes.now c.args.number c.args.purpose begun c.requires.step told)
+
+pub returns-in-Err-payload_size-clause-refused : goal.returns-in-Err-payload_size-clause-refused
+returns-in-Err-payload_size-clause-refused c =
+    λ m depth levels base p0 begun.
+    let there = number_there (state_view c.args.reader.now) c.left.result c.args.bytes.now c.in-Ok-Some.field-0 c.in-Ok-Some.length c.in-Ok-Some.used c.left.ensures c.in-Ok-Some.field-0-is (c.in-Ok-Some.ensures.whole c.args.reader.now.at) in
+    fault_told c.fault_at-in-Err-payload_size.result (fault c.args.reader.now.at (path_here (state_view c.args.reader.now)) c.in-Err-payload_size.cause) c.fault_at-in-Err-payload_size.ensures
+    (length_fault_told c.args.pool.now m depth p0 (state_view c.args.reader.now) c.args.number c.args.purpose c.in-Err-payload_size.cause c.requires.step c.in-Err-payload_size.ensures.settled
+    (c.in-Err-payload_size.ensures.refused c.args.pool.now m depth levels c.args.number base p0 (here (state_view c.args.reader.now) c.args.bytes.now) (passed (here (state_view c.args.reader.now) c.args.bytes.now) c.in-Ok-Some.used)
+    (frames_view c.args.reader.now.frames.items) (scope_view c.args.reader.now.scope) (part_view c.args.reader.now.part) c.args.reader.now.step c.args.purpose begun (ap awaited c.requires.step) there.1 refl refl))
+
+pub returns-in_ok-pass_length-in-Ok-clause-passes : goal.returns-in_ok-pass_length-in-Ok-clause-passes
+returns-in_ok-pass_length-in-Ok-clause-passes c =
+    let there = number_there (state_view c.args.reader.now) c.left.result c.args.bytes.now c.in-Ok-Some.field-0 c.in-Ok-Some.length c.in-Ok-Some.used c.left.ensures c.in-Ok-Some.field-0-is (c.in-Ok-Some.ensures.whole c.args.reader.now.at) in
+    let some = number_size there.1 in
+    let weighs = c.in_ok-pass_length-in-Ok.ensures.step in
+    (there.0, c.in_ok-pass_length-in-Ok.ensures.at, omega (arith, some, weighs))
+
+pub returns-in_ok-pass_length-in-Ok-clause-taken : goal.returns-in_ok-pass_length-in-Ok-clause-taken
+returns-in_ok-pass_length-in-Ok-clause-taken c =
+    λ m depth levels base p0 begun.
+    let there = number_there (state_view c.args.reader.now) c.left.result c.args.bytes.now c.in-Ok-Some.field-0 c.in-Ok-Some.length c.in-Ok-Some.used c.left.ensures c.in-Ok-Some.field-0-is (c.in-Ok-Some.ensures.whole c.args.reader.now.at) in
+    let has =
+    c.in-Ok.ensures.whole (here (state_view c.args.reader.now) c.args.bytes.now) (passed (here (state_view c.args.reader.now) c.args.bytes.now) c.in-Ok-Some.used) there.1 refl
+    (length_ends (state_view c.args.reader.now) c.args.bytes.now c.in-Ok-Some.length c.in-Ok-Some.used begun there.1) in
+    c.in_ok-pass_length-in-Ok.ensures.reads c.args.pool.now m depth levels base p0 (here (state_view c.args.reader.now) c.args.bytes.now) (passed (here (state_view c.args.reader.now) c.args.bytes.now) c.in-Ok-Some.used) c.requires.rules
+    (awaited_can (tag c.args.number 2 c.args.purpose) c.requires.rules begun (ap awaited c.requires.step))
+    (at_length (state_view c.args.reader.now) c.args.bytes.now c.args.number c.args.purpose begun c.requires.step) has refl
+
+pub returns-in-Ok-None-clause-waits : goal.returns-in-Ok-None-clause-waits
+returns-in-Ok-None-clause-waits c =
+    length_waits (state_view c.args.reader.now) c.args.bytes.now c.args.number c.args.purpose c.requires.step
+    (number_cut (state_view c.args.reader.now) c.left.result c.args.bytes.now c.in-Ok-None.field-0 c.left.ensures c.in-Ok-None.field-0-is (c.in-Ok-None.ensures.short c.args.reader.now.at))

@@ -1,7 +1,0 @@
--- With no level left a group is too deep.
-use Rattle.std.proofs.Common.{◌∙◌}
-use Rattle.pb_decode.proofs.GroupSteps.{group_too_deep}
-use Rattle.pb_decode.proofs.tokens.tag.group_refusal.Goals as goal
-
-pub returns-then-room-eq0-clause-refused : goal.returns-then-room-eq0-clause-refused
-returns-then-room-eq0-clause-refused c = λ pool m depth levels number base p0 q u frames scope now s room has. group_too_deep number s has (room ∙ c.if-room-eq0.true)

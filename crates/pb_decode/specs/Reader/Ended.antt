@@ -1,0 +1,43 @@
+-- What ends where a reader stands.
+use Rattle.std.specs.Prelude.{◌≡◌, ◌≢◌, ◌⊎◌, ℕ, List, [], Option, Some, ◌<◌, Result, OnOk, vec_len}
+use Rattle.pb_parts.specs.declared.tokens.step.Step.{Step}
+use Rattle.pb_parts.specs.declared.tokens.step.Step.TheVariants as step
+use Rattle.pb_parts.specs.Open.Frames.{Frame}
+use Rattle.pb_decode.specs.Reader.{State, left_of, frames_view, state_view, Reads}
+use Rattle.pb_wire.specs.Record.{Record}
+use Rattle.pb_wire.specs.Fault.{Place}
+use Rattle.pb_schema.specs.declared.types.Kind.{Kind}
+use Rattle.pb_schema.specs.Types.{Types}
+use Rattle.pb_schema.specs.Rules.{IsPool}
+use Rattle.pb_decode.specs.declared.reader.state.Reader.{Reader}
+use Rattle.pb_parts.specs.declared.tokens.step.Step.TheVariants.{Elements}
+
+-- with these frames around the part, and so many bytes before the known end, nothing ends before what comes next: at a tag no part below the top, and
+-- inside a packed list not the list
+abbrev pub GoesOn : Step → List Frame → Option ℕ → Type 0
+GoesOn step.Tag frames left = (frames ≡ []) ⊎ (left ≢ Some 0)
+GoesOn (step.Elements n k outer) frames left = left ≢ Some 0
+GoesOn (step.Varint n p) frames left = Unit {0}
+GoesOn (step.I64 n p) frames left = Unit {0}
+GoesOn (step.I32 n p) frames left = Unit {0}
+GoesOn (step.Length n p) frames left = Unit {0}
+GoesOn (step.Payload n p size) frames left = Unit {0}
+
+-- nothing ends where the reader stands
+abbrev pub NothingEnds : State → Type 0
+NothingEnds s = GoesOn s.next s.frames (left_of s)
+
+-- a part below the top ends at a tag
+abbrev pub PartEnds : Reader → Type 0
+PartEnds r = (0 < vec_len r.frames) × (left_of (state_view r) ≡ Some 0)
+
+-- none does
+abbrev pub PartGoesOn : Reader → Type 0
+PartGoesOn r = (frames_view r.frames.items ≡ []) ⊎ (left_of (state_view r) ≢ Some 0)
+
+-- a packed list whose known end is reached is a whole record, and its part goes on to its own end
+abbrev pub EndsList : {A E : Type 0} → ℕ → Option ℕ → Reader → Reader → Result A E → Type 0
+EndsList number outer old new result =
+    (pool : Types) (m depth levels : ℕ) (kind : Kind) (base : List Record) (p0 : Place) (rest : List ℕ)
+    → IsPool pool → Reads pool m depth levels base p0 (state_view old) rest → old.step ≡ Elements number kind outer → left_of (state_view old) ≡ Some 0
+    → OnOk result (Reads pool m depth levels base p0 (state_view new) rest)

@@ -1,0 +1,154 @@
+//! What begins behind the length of a record.
+
+ghost use Rattle.std.specs.Prelude.{◌≡◌, ◌+◌, ◌≤◌, ◌<◌, ◌^◌, ◌∷◌, OnOk};
+ghost use Rattle.pb_parts.specs.declared.open.purpose.Purpose.TheVariants as purposes;
+ghost use Rattle.pb_parts.specs.declared.tokens.step.Step.TheVariants as steps;
+ghost use Rattle.pb_parts.specs.Open.PartView.{frame_view};
+ghost use Rattle.pb_parts.specs.Values.PayloadValue.{IsBytesPurpose};
+ghost use Rattle.pb_decode.specs.Reader.{frames_view, weight};
+ghost use Rattle.pb_decode.specs.Reader.Lengths.{PassesLength, PassesLengthAlone};
+
+use crate::reader::state::Reader;
+use pb_parts::error::NoMemory;
+use pb_parts::open::opening::{open_entry, open_message};
+use pb_parts::open::part::{Frame, Slot};
+use pb_parts::open::purpose::Purpose;
+use pb_parts::tokens::begin::{begin_list, begin_payload};
+use pb_parts::tokens::step::Step;
+use pb_schema::{Kind, MessageId};
+use std::alloc::Global;
+
+/// What is opened is the innermost part, which begins here; this is the frame of what holds it.
+#[inline(always)]
+pub(crate) fn enter(reader: &mut Reader, frame: Frame, at: u32) -> Result<(), NoMemory>
+    ensures at { OnOk result (reader.new.at ≡ at) }
+    ensures step { OnOk result (reader.new.step ≡ steps.Tag) }
+    ensures part { OnOk result (reader.new.part ≡ reader.old.part) }
+    ensures scope { OnOk result (reader.new.scope ≡ reader.old.scope) }
+    ensures frames { OnOk result (frames_view reader.new.frames.items ≡ frame_view frame ∷ frames_view reader.old.frames.items) }
+{
+    reader.frames.push(frame)?;
+    reader.at = at;
+    reader.step = Step::Tag;
+    Ok(())
+}
+
+/// Behind the length of a message the message is open.
+#[inline(always)]
+fn pass_message(
+    alloc: Global,
+    reader: &mut Reader,
+    number: u32,
+    message_type: MessageId,
+    slot: Slot,
+    begin: u32,
+    size: u32,
+) -> Result<(), NoMemory>
+    requires { begin + size < 2 ^ 32 }
+    ensures at { OnOk result (reader.new.at ≡ begin) }
+    ensures step { OnOk result (weight reader.new.step ≡ 0) }
+    ensures reads { PassesLength number (purposes.Message message_type slot) begin size reader.old reader.new result }
+{
+    let end = begin + size;
+    let frame = open_message(
+        alloc,
+        &mut reader.part,
+        &mut reader.scope,
+        number,
+        message_type,
+        slot,
+        end,
+    );
+    enter(reader, frame, begin)?;
+    Ok(())
+}
+
+/// Behind the length of an entry the entry is open.
+#[inline(always)]
+fn pass_entry(
+    alloc: Global,
+    reader: &mut Reader,
+    number: u32,
+    key_kind: Kind,
+    value_kind: Kind,
+    begin: u32,
+    size: u32,
+) -> Result<(), NoMemory>
+    requires { begin + size < 2 ^ 32 }
+    ensures at { OnOk result (reader.new.at ≡ begin) }
+    ensures step { OnOk result (weight reader.new.step ≡ 0) }
+    ensures reads { PassesLength number (purposes.Entry key_kind value_kind) begin size reader.old reader.new result }
+{
+    let frame = open_entry(
+        alloc,
+        &mut reader.part,
+        &mut reader.scope,
+        number,
+        key_kind,
+        value_kind,
+        begin + size,
+    );
+    enter(reader, frame, begin)?;
+    Ok(())
+}
+
+/// Behind the length of a packed list its elements come next.
+#[inline(always)]
+fn pass_list(reader: &mut Reader, number: u32, kind: Kind, begin: u32, size: u32)
+    requires { begin + size < 2 ^ 32 }
+    ensures at { reader.new.at ≡ begin }
+    ensures step { weight reader.new.step ≡ 0 }
+    ensures reads { PassesLengthAlone number (purposes.Packed kind) begin size reader.old reader.new }
+{
+    reader.step = begin_list(&mut reader.scope, number, kind, begin + size);
+    reader.at = begin;
+}
+
+/// Behind any other length its payload comes next.
+fn pass_bytes(reader: &mut Reader, number: u32, purpose: Purpose, begin: u32, size: u32)
+    requires { IsBytesPurpose purpose }
+    ensures at { reader.new.at ≡ begin }
+    ensures step { weight reader.new.step ≡ 1 }
+    ensures reads { PassesLengthAlone number purpose begin size reader.old reader.new }
+{
+    reader.step = begin_payload(number, purpose, size);
+    reader.at = begin;
+}
+
+/// Behind a length what it begins is begun.
+pub(crate) fn pass_length(
+    alloc: Global,
+    reader: &mut Reader,
+    number: u32,
+    purpose: Purpose,
+    begin: u32,
+    size: u32,
+) -> Result<(), NoMemory>
+    requires { begin + size < 2 ^ 32 }
+    ensures at { OnOk result (reader.new.at ≡ begin) }
+    ensures step { OnOk result (weight reader.new.step ≤ 1) }
+    ensures reads { PassesLength number purpose begin size reader.old reader.new result }
+{
+    match purpose {
+        Purpose::Message(kind, slot) => {
+            pass_message(alloc, reader, number, kind, slot, begin, size)?;
+            Ok(())
+        }
+        Purpose::Entry(key_kind, value_kind) => {
+            pass_entry(alloc, reader, number, key_kind, value_kind, begin, size)?;
+            Ok(())
+        }
+        Purpose::Packed(kind) => {
+            pass_list(reader, number, kind, begin, size);
+            Ok(())
+        }
+        Purpose::One(_, _)
+        | Purpose::Element(_)
+        | Purpose::Key(_)
+        | Purpose::EntryValue(_)
+        | Purpose::Unknown => {
+            pass_bytes(reader, number, purpose, begin, size);
+            Ok(())
+        }
+    }
+}

@@ -1,0 +1,169 @@
+//! What ends where a reader stands is closed before the next token.
+
+ghost use Rattle.std.specs.Prelude.{◌≡◌, ◌↔◌, ◌-◌, ◌<◌, ◌≤◌, ◌^◌, ℕ, List, Some, None, IsTrue, MatchBool, vec_len, OnOk};
+ghost use Rattle.pb_schema.specs.Rules.{IsPool};
+ghost use Rattle.pb_parts.specs.declared.tokens.step.Step.TheVariants.{Tag};
+ghost use Rattle.pb_parts.specs.Open.Occurrences.{counts_view};
+ghost use Rattle.pb_parts.specs.Open.Openings.{innermost_group};
+ghost use Rattle.pb_decode.specs.Reader.{state_view, frames_view, left_of, IsReading, weight};
+ghost use Rattle.pb_decode.specs.Reader.Ended.{NothingEnds};
+ghost use Rattle.pb_decode.specs.Reader.Steps.{TellsFaultAnyway, KeepsReading};
+ghost use Rattle.pb_decode.specs.Reader.Ended.{PartEnds, PartGoesOn, EndsList};
+
+use crate::error::DecodeError;
+use crate::reader::fault::fault_at;
+use crate::reader::state::{Reader, left};
+use crate::reader::take_tag::innermost;
+use pb_parts::close::closing::close_entry;
+use pb_parts::close::put::{close_message, count_one};
+use pb_parts::error::NoMemory;
+use pb_parts::open::part::{Frame, Part};
+use pb_parts::tokens::step::Step;
+use pb_schema::Pool;
+use pb_wire::Cause;
+use std::alloc::Global;
+use std::mem;
+
+/// Whether the known end is reached.
+#[inline(always)]
+fn is_at_end(reader: &Reader) -> bool
+    ensures { IsTrue result ↔ (left_of (state_view reader.now) ≡ Some 0) }
+{
+    left(reader) == Some(0)
+}
+
+/// Whether a part below the top ends at a tag.
+#[inline(always)]
+fn part_ends(reader: &Reader) -> bool
+    ensures { MatchBool result (PartEnds reader.now) (PartGoesOn reader.now) }
+{
+    !reader.frames.is_empty() && is_at_end(reader)
+}
+
+/// A packed list whose known end is reached is a whole record of its part, which goes on to its own end.
+fn end_list(reader: &mut Reader, number: u32, outer: Option<u32>) -> Result<(), NoMemory>
+    requires few { counts_view reader.old.scope.occurrences number < 2 ^ 32 - 1 }
+    ensures at { OnOk result ((reader.new.at ≡ reader.old.at) × (reader.new.step ≡ Tag)) }
+    ensures taken { EndsList number outer reader.old reader.new result }
+{
+    reader.scope.end = outer;
+    count_one(&mut reader.scope, number)?;
+    reader.step = Step::Tag;
+    Ok(())
+}
+
+/// The innermost part, which no end tag ends and whose known end is reached, goes where it belongs, and the reader stands in the
+/// part that holds it.
+fn close_innermost(alloc: Global, pool: &Pool, reader: &mut Reader) -> Result<(), NoMemory>
+    requires rules { IsPool pool.now }
+    requires reading { (rest : List ℕ) × IsReading pool.now (state_view reader.old) rest }
+    requires tag { reader.old.step ≡ Tag }
+    requires inside { 0 < vec_len reader.old.frames }
+    requires ends { left_of (state_view reader.old) ≡ Some 0 }
+    requires no_group { innermost_group (frames_view reader.old.frames.items) ≡ None }
+    ensures at { OnOk result ((reader.new.at ≡ reader.old.at) × (reader.new.step ≡ Tag)) }
+    ensures fewer { OnOk result (vec_len reader.new.frames < vec_len reader.old.frames) }
+    ensures taken { KeepsReading pool.now reader.old reader.new result }
+{
+    let Some(frame) = reader.frames.pop() else {
+        unreachable!();
+    };
+    let Frame {
+        part,
+        number,
+        slot,
+        group: _,
+        scope,
+    } = frame;
+    let inner = mem::replace(&mut reader.part, part);
+    reader.scope = scope;
+    let outer = &mut reader.part;
+    let around = &mut reader.scope;
+    match inner {
+        Part::Message(_, message) => {
+            close_message(alloc, pool, outer, around, number, slot, message)?;
+            Ok(())
+        }
+        Part::Entry {
+            key_kind,
+            value_kind,
+            key,
+            value,
+        } => {
+            close_entry(
+                alloc, outer, around, number, slot, key_kind, value_kind, key, value,
+            )?;
+            Ok(())
+        }
+        Part::Group(_) => unreachable!(),
+    }
+}
+
+/// Closes the parts that end at a tag, innermost first. The top stays open.
+fn close_all_ended(alloc: Global, pool: &Pool, reader: &mut Reader) -> Result<(), DecodeError>
+    requires rules { IsPool pool.now }
+    requires reading { (rest : List ℕ) × IsReading pool.now (state_view reader.old) rest }
+    requires tag { reader.old.step ≡ Tag }
+    ensures at { OnOk result ((reader.new.at ≡ reader.old.at) × (reader.new.step ≡ Tag)) }
+    ensures goes_on { OnOk result (PartGoesOn reader.new) }
+    ensures taken { KeepsReading pool.now reader.old reader.new result }
+    ensures refused { TellsFaultAnyway pool.now reader.old result }
+{
+    while part_ends(reader) {
+        if innermost(&reader.frames).is_some() {
+            return Err(fault_at(alloc, reader, reader.at, Cause::PastEnd));
+        }
+        close_innermost(alloc, pool, reader)?;
+    }
+    Ok(())
+}
+
+/// As `close_all_ended`. At most tags nothing ends.
+#[inline(always)]
+fn close_ended(alloc: Global, pool: &Pool, reader: &mut Reader) -> Result<(), DecodeError>
+    requires rules { IsPool pool.now }
+    requires reading { (rest : List ℕ) × IsReading pool.now (state_view reader.old) rest }
+    requires tag { reader.old.step ≡ Tag }
+    ensures at { OnOk result ((reader.new.at ≡ reader.old.at) × (reader.new.step ≡ Tag)) }
+    ensures goes_on { OnOk result (PartGoesOn reader.new) }
+    ensures taken { KeepsReading pool.now reader.old reader.new result }
+    ensures refused { TellsFaultAnyway pool.now reader.old result }
+{
+    if !part_ends(reader) {
+        return Ok(());
+    }
+    close_all_ended(alloc, pool, reader)
+}
+
+/// Closes all that ends where the reader stands: a packed list, and then the parts that end with it, or those that end at a
+/// tag.
+#[inline(always)]
+pub(crate) fn take_ended(alloc: Global, pool: &Pool, reader: &mut Reader) -> Result<(), DecodeError>
+    requires rules { IsPool pool.now }
+    requires reading { (rest : List ℕ) × IsReading pool.now (state_view reader.old) rest }
+    ensures at { OnOk result (reader.new.at ≡ reader.old.at) }
+    ensures weight { OnOk result (weight reader.new.step ≤ weight reader.old.step) }
+    ensures goes_on { OnOk result (NothingEnds (state_view reader.new)) }
+    ensures taken { KeepsReading pool.now reader.old reader.new result }
+    ensures refused { TellsFaultAnyway pool.now reader.old result }
+{
+    match reader.step {
+        Step::Tag => {
+            close_ended(alloc, pool, reader)?;
+            Ok(())
+        }
+        Step::Elements(number, _, outer) => {
+            if !is_at_end(reader) {
+                return Ok(());
+            }
+            end_list(reader, number, outer)?;
+            close_ended(alloc, pool, reader)?;
+            Ok(())
+        }
+        Step::Varint(_, _) => Ok(()),
+        Step::I64(_, _) => Ok(()),
+        Step::I32(_, _) => Ok(()),
+        Step::Length(_, _) => Ok(()),
+        Step::Payload(_, _, _) => Ok(()),
+    }
+}

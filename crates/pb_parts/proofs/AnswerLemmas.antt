@@ -1,0 +1,15 @@
+-- What a call tells of its answer.
+use Rattle.std.proofs.Common.{◌≡◌, ℕ, subst, sym, refl, Bool, true, false, not, Option, Some, IfSome}
+use Rattle.std.specs.Prelude.{◌==◌}
+use Rattle.std.proofs.lemmas.Bool.{eqb-true}
+
+-- what is told of one that is there
+pub told_of : {A : Type 0} (P : A → Type 0) (o : Option A) (x : A) → o ≡ Some x → IfSome o P → P x
+told_of {A} P o x is told = subst (λ (z : Option A). IfSome z P) is told
+
+pub not_yes : (b : Bool) → not b ≡ true → b ≡ false
+not_yes true h = absurd (cc)
+not_yes false h = refl
+
+pub none_held : (n : ℕ) → true ≡ (n == 0) → n ≡ 0
+none_held n h = eqb-true n 0 (sym h)

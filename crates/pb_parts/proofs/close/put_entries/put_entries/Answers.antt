@@ -1,0 +1,30 @@
+-- In a message the entries go into their map, and elsewhere nothing changes.
+use Rattle.std.proofs.Common.{sym, ap, ◌∙◌, subst, option_map}
+use Rattle.pb_wire.specs.Unknown.{records_of}
+use Rattle.pb_value.specs.View.{key_view, value_view, body_view}
+use Rattle.pb_parts.specs.declared.open.part.Part.{Part}
+use Rattle.pb_parts.specs.Open.Frames.{message_part}
+use Rattle.pb_parts.specs.Open.PartView.{part_view}
+use Rattle.pb_parts.specs.Close.Mapped.{pairs_view, put_all_mapped, FitMapped}
+use Rattle.pb_parts.proofs.MapPuts.{fit_of, all_in_message, all_in_entry, all_in_group}
+use Rattle.pb_parts.proofs.close.put_entries.put_entries.Goals as goal
+
+pub store_entries-requires-clause-fits : goal.store_entries-requires-clause-fits
+store_entries-requires-clause-fits c =
+    fit_of c.args.number c.in-Message.field-0.0 (pairs_view c.args.entries.items) (body_view c.in-Message.body)
+    (subst (λ (z : Part). FitMapped c.args.number (pairs_view c.args.entries.items) (part_view z)) c.in-Message.is c.requires.fits)
+
+pub returns-in_ok-store_entries-in-Message : goal.returns-in_ok-store_entries-in-Message
+returns-in_ok-store_entries-in-Message c =
+    ap (message_part c.in-Message.field-0.0) c.in_ok-store_entries-in-Message.ensures ∙ sym (all_in_message c.args.number c.in-Message.field-0.0 (pairs_view c.args.entries.items) _)
+    ∙ ap (λ (z : Part). put_all_mapped c.args.number (pairs_view c.args.entries.items) (part_view z)) (sym c.in-Message.is)
+
+pub returns-in-Entry : goal.returns-in-Entry
+returns-in-Entry c =
+    ap part_view c.in-Entry.is ∙ sym (all_in_entry c.args.number (pairs_view c.args.entries.items) c.in-Entry.key_kind c.in-Entry.value_kind (option_map key_view c.in-Entry.key) (option_map value_view c.in-Entry.value))
+    ∙ ap (λ (z : Part). put_all_mapped c.args.number (pairs_view c.args.entries.items) (part_view z)) (sym c.in-Entry.is)
+
+pub returns-in-Group : goal.returns-in-Group
+returns-in-Group c =
+    ap part_view c.in-Group.is ∙ sym (all_in_group c.args.number (pairs_view c.args.entries.items) (records_of c.in-Group.field-0.items))
+    ∙ ap (λ (z : Part). put_all_mapped c.args.number (pairs_view c.args.entries.items) (part_view z)) (sym c.in-Group.is)

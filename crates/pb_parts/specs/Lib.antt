@@ -1,0 +1,4 @@
+pub mod Open
+pub mod Tokens
+pub mod Values
+pub mod Close

@@ -1,0 +1,57 @@
+-- What opening takes out of the part that holds it.
+use Rattle.std.specs.Prelude.{ℕ, ◌-◌, if◌then◌else◌, List, [], ◌∷◌, Option, Some, None}
+use Rattle.pb_value.specs.Data.{Datum, scalar, message, Holding, one, list, map, Message, empty, fields_of, get_field, drop_field}
+use Rattle.pb_value.specs.Change.{with_fields}
+use Rattle.pb_parts.specs.declared.open.part.Slot.{Slot}
+use Rattle.pb_parts.specs.declared.open.part.Slot.TheVariants as slot
+use Rattle.pb_parts.specs.Open.Frames.{Part, message_part, entry_part, group_part, Frame}
+
+-- the message that a value is; no value, or another one, goes on from the empty message
+abbrev pub message_given : Option Datum → Message
+message_given (Some (message w)) = w
+message_given (Some (scalar x)) = empty
+message_given None = empty
+
+-- the message that a field of one value holds
+abbrev pub message_held : Option Holding → Message
+message_held (Some (one d)) = message_given (Some d)
+message_held (Some (list ds)) = empty
+message_held (Some (map es)) = empty
+message_held None = empty
+
+-- what a message that is opened for a slot of a part goes on from: what the slot holds. A list takes a new message.
+abbrev pub taken_message : Slot → Part → Message
+taken_message (slot.One s n) (message_part m v) = message_held (get_field n (fields_of v))
+taken_message (slot.One s n) (entry_part key k x d) = empty
+taken_message (slot.One s n) (group_part us) = empty
+taken_message slot.Entry (message_part m v) = empty
+taken_message slot.Entry (entry_part key k x d) = message_given d
+taken_message slot.Entry (group_part us) = empty
+taken_message (slot.List n) p = empty
+taken_message (slot.Map n) p = empty
+taken_message (slot.Unknown n) p = empty
+
+-- the part without it
+abbrev pub without_message : Slot → Part → Part
+without_message (slot.One s n) (message_part m v) = message_part m (with_fields v (drop_field n (fields_of v)))
+without_message (slot.One s n) (entry_part key k x d) = entry_part key k x d
+without_message (slot.One s n) (group_part us) = group_part us
+without_message slot.Entry (message_part m v) = message_part m v
+without_message slot.Entry (entry_part key k x d) = entry_part key k x None
+without_message slot.Entry (group_part us) = group_part us
+without_message (slot.List n) p = p
+without_message (slot.Map n) p = p
+without_message (slot.Unknown n) p = p
+
+-- how many levels are left in a message that is opened for a slot: that of an entry stands at the level of the entry
+abbrev pub room_in : Slot → ℕ → ℕ
+room_in slot.Entry room = room
+room_in (slot.One s n) room = room - 1
+room_in (slot.List n) room = room - 1
+room_in (slot.Map n) room = room - 1
+room_in (slot.Unknown n) room = room - 1
+
+-- the number of the group that is open innermost, if an end tag ends what is open there
+abbrev pub innermost_group : List Frame → Option ℕ
+innermost_group [] = None
+innermost_group (frame ∷ frames) = if frame.group then Some frame.number else None

@@ -1,0 +1,73 @@
+-- What a value that comes next does, wherever one stands: it goes into the part that its record stands in, and one stands behind it. Each holds of any type,
+-- any levels, any records before and any first place.
+use Rattle.std.specs.Prelude.{◌≡◌, ℕ, ◌+◌, List, [], ◌∷◌, length, Option, Some, Result, IfOk, IfErr, OnOk}
+use Rattle.pb_wire.specs.Record.{Record, wire_type}
+use Rattle.pb_wire.specs.declared.fault.Cause.TheVariants.{BadText}
+use Rattle.pb_wire.specs.Fault.{fault, Place, Moves}
+use Rattle.pb_wire.specs.Token.{given_at, passed}
+use Rattle.pb_wire.specs.Schema.{records}
+use Rattle.pb_wire.specs.Grammar.{Bad}
+use Rattle.pb_schema.specs.declared.types.Kind.{Kind}
+use Rattle.pb_schema.specs.Types.{Types}
+use Rattle.pb_schema.specs.Kinds.{wire_type_of}
+use Rattle.pb_schema.specs.Context.{a_message, schema_of}
+use Rattle.pb_parts.specs.declared.open.part.Part.{Part}
+use Rattle.pb_parts.specs.declared.open.purpose.Purpose.{Purpose}
+use Rattle.pb_parts.specs.declared.tokens.number.Number.{Number}
+use Rattle.pb_parts.specs.declared.tokens.step.Step.{Step}
+use Rattle.pb_parts.specs.declared.tokens.step.Step.TheVariants.{Payload, Elements}
+use Rattle.pb_parts.specs.declared.values.payload_value.PayloadError.{PayloadError}
+use Rattle.pb_parts.specs.declared.values.run.Run.{Run}
+use Rattle.pb_parts.specs.Open.Frames.{Part as PartView, Scope, Frame, path_of, next_step, one_more_in, Stands}
+use Rattle.pb_parts.specs.Open.Opened.{below}
+use Rattle.pb_parts.specs.Open.PartView.{part_view}
+use Rattle.pb_parts.specs.Tokens.Number.{number_view}
+use Rattle.pb_parts.specs.Tokens.Numbers.{Follows}
+use Rattle.pb_parts.specs.Tokens.After.{tag, awaited, After}
+use Rattle.pb_parts.specs.Values.PayloadValue.{IfBadText}
+use Rattle.pb_parts.specs.Values.Run.{put_run}
+
+-- a number of a record with this purpose
+abbrev pub PutsNumber : {A E : Type 0} → Types → ℕ → Purpose → Number → Part → Part → Result A E → Type 0
+PutsNumber pool number meant value old new result =
+    (m depth levels : ℕ) (base : List Record) (p0 u w : Place) (frames : List Frame) (scope : Scope) (next : Step)
+    → After pool m depth levels base p0 frames next (part_view old) scope u → awaited next ≡ Some (tag number (wire_type (number_view value)) meant)
+    → Follows u (number_view value) w → OnOk result (Stands pool m depth levels base p0 frames (part_view new) (one_more_in number scope) w)
+
+-- an element of a packed list, which then goes on
+abbrev pub PutsElement : {A E : Type 0} → Types → ℕ → Kind → Number → Part → Part → Result A E → Type 0
+PutsElement pool number kind value old new result =
+    (m depth levels : ℕ) (end : Option ℕ) (base : List Record) (p0 u w : Place) (frames : List Frame) (scope : Scope)
+    → After pool m depth levels base p0 frames (Elements number kind end) (part_view old) scope u → wire_type (number_view value) ≡ wire_type_of kind
+    → Follows u (number_view value) w → OnOk result (After pool m depth levels base p0 frames (Elements number kind end) (part_view new) scope w)
+
+-- the payload of a record with this purpose, whose bytes are these
+abbrev pub PutsPayload : {A E : Type 0} → Types → ℕ → Purpose → List ℕ → Part → Part → Result A E → Type 0
+PutsPayload pool number meant bytes old new result =
+    (m depth levels n : ℕ) (base : List Record) (p0 u w : Place) (frames : List Frame) (scope : Scope)
+    → After pool m depth levels base p0 frames (Payload number meant n) (part_view old) scope u → length bytes ≡ n → Moves u bytes w
+    → OnOk result (Stands pool m depth levels base p0 frames (part_view new) (one_more_in number scope) w)
+
+-- or they are no text, which is the fault of what is read
+abbrev pub RefusesPayload : {A : Type 0} → Types → ℕ → Purpose → List ℕ → Part → Result A PayloadError → Type 0
+RefusesPayload pool number meant bytes old result =
+    (m depth levels n : ℕ) (base : List Record) (p0 u w : Place) (frames : List Frame) (scope : Scope)
+    → After pool m depth levels base p0 frames (Payload number meant n) (part_view old) scope u → length bytes ≡ n → Moves u bytes w
+    → IfErr result (λ e. IfBadText e (λ valid.
+    Bad (schema_of pool) (records (a_message m)) depth p0 (below (path_of frames) (fault (u.at + valid) (next_step number scope ∷ []) BadText))))
+
+-- behind so many of these bytes, with so many before the known end: with one run in the part a packed list stands at their front, and with the other it
+-- goes on behind them
+abbrev pub GoesOn : Types → ℕ → Kind → List ℕ → Option ℕ → Run → Run → ℕ → Type 0
+GoesOn pool number kind bytes left old new used =
+    (m depth levels at : ℕ) (outer : Option ℕ) (base : List Record) (p0 : Place) (frames : List Frame) (scope : Scope) (now : PartView)
+    → After pool m depth levels base p0 frames (Elements number kind outer) (put_run number old now) scope (given_at at left bytes)
+    → After pool m depth levels base p0 frames (Elements number kind outer) (put_run number new now) scope (passed (given_at at left bytes) used)
+
+-- the elements of a run at the front of these bytes, in a list of this number
+abbrev pub TellsRun : {E : Type 0} → Types → ℕ → Kind → List ℕ → Option ℕ → Result (Run × ℕ) E → Type 0
+TellsRun pool number kind bytes left result =
+    (m depth levels at : ℕ) (outer : Option ℕ) (base : List Record) (p0 : Place) (frames : List Frame) (scope : Scope) (now : PartView)
+    → After pool m depth levels base p0 frames (Elements number kind outer) now scope (given_at at left bytes)
+    → IfOk result (λ r.
+    After pool m depth levels base p0 frames (Elements number kind outer) (put_run number r.0 now) scope (passed (given_at at left bytes) r.1))

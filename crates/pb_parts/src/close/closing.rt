@@ -1,0 +1,185 @@
+//! Entries and groups that are whole go where they belong.
+
+ghost use Rattle.std.specs.Prelude.{◌≡◌, ◌<◌, ◌-◌, ◌^◌, IsTrue, unwrap_or, option_map, OnOk};
+ghost use Rattle.pb_wire.specs.Unknown.{records_of};
+ghost use Rattle.pb_schema.specs.Types.{Types};
+ghost use Rattle.pb_schema.specs.Kinds.{default_of, is_key_kind};
+ghost use Rattle.pb_value.specs.View.{body_view, key_view, value_view};
+ghost use Rattle.pb_value.specs.Value.{missing};
+ghost use Rattle.pb_value.specs.Data.{empty};
+ghost use Rattle.pb_parts.specs.Open.Frames.{put_entry as put_entry_view, put_group as put_group_view, entry_part, group_part};
+ghost use Rattle.pb_parts.specs.Close.Closing.{HasRoomFor};
+ghost use Rattle.pb_parts.specs.Open.Occurrences.{counts_view};
+ghost use Rattle.pb_parts.specs.Open.PartView.{part_view};
+ghost use Rattle.pb_parts.specs.Close.Closes.{ClosesAtEnd, ClosesAtTag};
+
+use crate::close::put::count_one;
+use crate::error::{NoMemory, memory_alone};
+use crate::open::part::{Part, Scope, Slot};
+use crate::values::put_unknown::put_unknown;
+use pb_schema::Kind;
+use pb_value::parts::insert_entry;
+use pb_value::{Body, MapKey, Value, default_value};
+use pb_wire::Unknown;
+use std::alloc::Global;
+use std::collections::BTreeMap;
+
+/// The key that an entry without one has.
+fn default_key(alloc: Global, kind: Kind) -> MapKey
+    requires { IsTrue (is_key_kind kind) }
+    ensures { key_view result ≡ default_of kind }
+{
+    match kind {
+        Kind::Int32 | Kind::Sint32 | Kind::Sfixed32 => MapKey::I32(0),
+        Kind::Int64 | Kind::Sint64 | Kind::Sfixed64 => MapKey::I64(0),
+        Kind::Uint32 | Kind::Fixed32 => MapKey::U32(0),
+        Kind::Uint64 | Kind::Fixed64 => MapKey::U64(0),
+        Kind::Bool => MapKey::Bool(false),
+        Kind::Text
+        | Kind::Float
+        | Kind::Double
+        | Kind::Bytes
+        | Kind::Enum(_)
+        | Kind::ClosedEnum(_)
+        | Kind::Message(_)
+        | Kind::Group(_) => MapKey::Text(String::new(alloc)),
+    }
+}
+
+/// A message of no fields.
+fn empty_body(alloc: Global) -> Body
+    ensures { body_view result ≡ empty }
+{
+    Body {
+        fields: BTreeMap::new(alloc),
+        unknown: Vec::new(alloc),
+    }
+}
+
+/// The value that an entry without one has: the default of its kind, or the empty message.
+fn missing_value(alloc: Global, kind: Kind) -> Value
+    ensures { value_view result ≡ missing (λ _ _. empty) kind }
+{
+    match default_value(alloc, kind) {
+        Some(value) => value,
+        None => match kind {
+            Kind::ClosedEnum(_) => Value::Enum(0),
+            _ => Value::Message(empty_body(alloc)),
+        },
+    }
+}
+
+/// The key of an entry, which has this one or none.
+pub fn key_or_default(alloc: Global, kind: Kind, key: Option<MapKey>) -> MapKey
+    requires { IsTrue (is_key_kind kind) }
+    ensures { key_view result ≡ unwrap_or (option_map key_view key) (default_of kind) }
+{
+    match key {
+        Some(key) => key,
+        None => default_key(alloc, kind),
+    }
+}
+
+/// The value of an entry, which has this one or none.
+pub fn value_or_missing(alloc: Global, kind: Kind, value: Option<Value>) -> Value
+    ensures { value_view result ≡ unwrap_or (option_map value_view value) (missing (λ _ _. empty) kind) }
+{
+    match value {
+        Some(value) => value,
+        None => missing_value(alloc, kind),
+    }
+}
+
+/// Puts an entry into the map of the part that holds it.
+pub fn put_entry(
+    alloc: Global,
+    slot: Slot,
+    outer: &mut Part,
+    key_kind: Kind,
+    value_kind: Kind,
+    key: Option<MapKey>,
+    value: Option<Value>,
+) -> Result<(), NoMemory>
+    requires key { IsTrue (is_key_kind key_kind) }
+    requires fits { HasRoomFor slot (part_view outer.old) key_kind (option_map key_view key) }
+    ensures { OnOk result (part_view outer.new
+        ≡ put_entry_view slot (part_view outer.old) key_kind value_kind (option_map key_view key) (option_map value_view value)) }
+{
+    let key = key_or_default(alloc, key_kind, key);
+    let value = value_or_missing(alloc, value_kind, value);
+    match outer {
+        Part::Message(_, body) => match slot {
+            Slot::Map(number) => {
+                let old = insert_entry(alloc, body, number, key, value).map_err(memory_alone)?;
+                drop(old);
+                Ok(())
+            }
+            Slot::One(_, _) | Slot::List(_) | Slot::Entry | Slot::Unknown(_) => Ok(()),
+        },
+        Part::Entry {
+            key_kind: _,
+            value_kind: _,
+            key: _,
+            value: _,
+        }
+        | Part::Group(_) => Ok(()),
+    }
+}
+
+/// Puts a group among the unknown records of the part that holds it.
+pub fn put_group(slot: Slot, outer: &mut Part, records: Vec<(u32, Unknown)>) -> Result<(), NoMemory>
+    ensures { OnOk result (part_view outer.new ≡ put_group_view slot (part_view outer.old) (records_of records.items)) }
+{
+    match slot {
+        Slot::Unknown(number) => {
+            put_unknown(outer, number, Unknown::Group(records))?;
+            Ok(())
+        }
+        Slot::One(_, _) => Ok(()),
+        Slot::List(_) => Ok(()),
+        Slot::Map(_) => Ok(()),
+        Slot::Entry => Ok(()),
+    }
+}
+
+/// An entry whose known end is reached goes into its map, and its record is counted: one stands in what holds it.
+pub fn close_entry(
+    alloc: Global,
+    outer: &mut Part,
+    scope: &mut Scope,
+    number: u32,
+    slot: Slot,
+    key_kind: Kind,
+    value_kind: Kind,
+    key: Option<MapKey>,
+    value: Option<Value>,
+) -> Result<(), NoMemory>
+    requires key { IsTrue (is_key_kind key_kind) }
+    requires fits { HasRoomFor slot (part_view outer.old) key_kind (option_map key_view key) }
+    requires few { counts_view scope.old.occurrences number < 2 ^ 32 - 1 }
+    ensures same_end { OnOk result (scope.new.end ≡ scope.old.end) }
+    ensures stands { (pool : Types) → ClosesAtEnd pool number slot
+        (entry_part key_kind value_kind (option_map key_view key) (option_map value_view value)) outer.old scope.old outer.new scope.new result }
+{
+    put_entry(alloc, slot, outer, key_kind, value_kind, key, value)?;
+    count_one(scope, number)?;
+    Ok(())
+}
+
+/// A group whose end tag is there goes among the unknown records of what holds it, and its record is counted: one stands in
+/// that.
+pub fn close_group(
+    outer: &mut Part,
+    scope: &mut Scope,
+    number: u32,
+    slot: Slot,
+    records: Vec<(u32, Unknown)>,
+) -> Result<(), NoMemory>
+    requires few { counts_view scope.old.occurrences number < 2 ^ 32 - 1 }
+    ensures same_end { OnOk result (scope.new.end ≡ scope.old.end) }
+    ensures stands { (pool : Types) → ClosesAtTag pool number slot (group_part (records_of records.items)) outer.old scope.old outer.new scope.new result }
+{
+    put_group(slot, outer, records)?;
+    count_one(scope, number)?;
+    Ok(())
+}

@@ -1,0 +1,147 @@
+//! The entries of a run go into their map at once.
+
+ghost use Rattle.std.specs.Prelude.{◌≡◌, Some, option_map, OnOk, IfOk};
+ghost use Rattle.std.specs.BTreeMap.{InsertsAll, IsFromIterResult};
+ghost use Rattle.pb_value.specs.KeyOrder.{map_key_cmp};
+ghost use Rattle.pb_value.specs.Data.{fields_of};
+ghost use Rattle.pb_value.specs.Change.{with_fields, entries_of};
+ghost use Rattle.pb_value.specs.View.{body_view, content_view, entries_view};
+ghost use Rattle.pb_value.specs.WellFormed.{RisesFrom};
+ghost use Rattle.pb_parts.specs.Open.Frames.{message_part};
+ghost use Rattle.pb_parts.specs.Open.PartView.{part_view};
+ghost use Rattle.pb_parts.specs.Close.Mapped.{pairs_view, put_pairs, FitInTurn, insert_in_turn, insert_pairs, put_all_mapped, FitMapped, RisesIn};
+
+use crate::error::{NoMemory, memory_alone};
+use crate::open::part::Part;
+use pb_value::parts::{put_field, take_field};
+use pb_value::{Body, Content, MapKey, Value};
+use std::alloc::{AllocError, Global};
+use std::collections::BTreeMap;
+
+/// So many entries are sorted, and made a map of their own. Fewer cost less one by one.
+const MANY: usize = 16;
+
+/// Puts entries into a map, one by one.
+fn insert_each(
+    map: &mut BTreeMap<MapKey, Value>,
+    entries: Vec<(MapKey, Value)>,
+) -> Result<(), NoMemory>
+    ensures { OnOk result (map.new.entries ≡ insert_in_turn map_key_cmp entries.items map.old.entries) }
+{
+    for (key, value) in entries {
+        drop(map.insert(key, value)?);
+    }
+    Ok(())
+}
+
+/// A map of entries. Of two with one key the later one stays.
+fn map_of(
+    alloc: Global,
+    entries: Vec<(MapKey, Value)>,
+) -> Result<BTreeMap<MapKey, Value>, AllocError>
+    ensures { IfOk result (IsFromIterResult map_key_cmp entries.items) }
+{
+    entries.into_iter().collect(alloc)
+}
+
+/// Puts entries into a map by way of one of their own.
+fn append_all(
+    alloc: Global,
+    map: &mut BTreeMap<MapKey, Value>,
+    entries: Vec<(MapKey, Value)>,
+) -> Result<(), NoMemory>
+    ensures { OnOk result (InsertsAll map_key_cmp map.old entries.items map.new) }
+{
+    let mut more = map_of(alloc, entries)?;
+    map.append(&mut more)?;
+    Ok(())
+}
+
+/// Puts entries into a map.
+fn insert_all(
+    alloc: Global,
+    map: &mut BTreeMap<MapKey, Value>,
+    entries: Vec<(MapKey, Value)>,
+) -> Result<(), NoMemory>
+    requires { FitInTurn (pairs_view entries.items) (entries_view map.old.entries) }
+    ensures { OnOk result (entries_view map.new.entries ≡ put_pairs (pairs_view entries.items) (entries_view map.old.entries)) }
+{
+    // Gives that the keys are in order.
+    let _len = map.len();
+    if entries.len() < MANY {
+        insert_each(map, entries)?;
+        return Ok(());
+    }
+    append_all(alloc, map, entries)?;
+    Ok(())
+}
+
+/// The map that a content is; of any other it is empty.
+fn map_in(alloc: Global, content: Content) -> BTreeMap<MapKey, Value>
+    ensures { entries_view result.entries ≡ entries_of (Some (content_view content)) }
+{
+    match content {
+        Content::Map(map) => map,
+        Content::One(_) => BTreeMap::new(alloc),
+        Content::List(_) => BTreeMap::new(alloc),
+    }
+}
+
+/// The map that a field holds; where there is none it is empty.
+fn map_held(alloc: Global, content: Option<Content>) -> BTreeMap<MapKey, Value>
+    ensures { entries_view result.entries ≡ entries_of (option_map content_view content) }
+{
+    match content {
+        Some(content) => map_in(alloc, content),
+        None => BTreeMap::new(alloc),
+    }
+}
+
+/// Puts entries into the map of a number.
+fn store_entries(
+    alloc: Global,
+    message: &mut Body,
+    number: u32,
+    entries: Vec<(MapKey, Value)>,
+) -> Result<(), NoMemory>
+    requires fits { FitMapped number (pairs_view entries.items) (message_part 0 (body_view message.old)) }
+    requires rises { RisesFrom 0 (fields_of (body_view message.old)) }
+    ensures { OnOk result (body_view message.new
+        ≡ with_fields (body_view message.old) (insert_pairs number (pairs_view entries.items) (fields_of (body_view message.old)))) }
+{
+    if entries.is_empty() {
+        return Ok(());
+    }
+    let mut map = map_held(alloc, take_field(message, number));
+    insert_all(alloc, &mut map, entries)?;
+    match put_field(message, number, Content::Map(map)) {
+        Ok(()) => Ok(()),
+        Err(cause) => Err(memory_alone(cause)),
+    }
+}
+
+/// Puts entries into the map of a number in the part that their records stand in.
+pub fn put_entries(
+    alloc: Global,
+    part: &mut Part,
+    number: u32,
+    entries: Vec<(MapKey, Value)>,
+) -> Result<(), NoMemory>
+    requires fits { FitMapped number (pairs_view entries.items) (part_view part.old) }
+    requires rises { RisesIn (part_view part.old) }
+    ensures { OnOk result (part_view part.new ≡ put_all_mapped number (pairs_view entries.items) (part_view part.old)) }
+{
+    match part {
+        Part::Message(_, body) => {
+            store_entries(alloc, body, number, entries)?;
+            Ok(())
+        }
+        Part::Entry {
+            key_kind: _,
+            value_kind: _,
+            key: _,
+            value: _,
+        } => Ok(()),
+        Part::Group(_) => Ok(()),
+    }
+}

@@ -1,0 +1,14 @@
+//! What is open of a message while it is read, and what each record makes of it.
+//!
+//! A part is open from the record that begins it up to its end: a message, an entry of a map, or a group of which the schema knows
+//! nothing. `tokens` tells what stands at the front of bytes, `open` what a record is for in a part and what it opens, `values` puts
+//! what it gives there, and `close` puts a part that ends into the one around it.
+//!
+//! An inner crate: `pb_decode` stands on it, and moves along the bytes.
+#![tactic(auto)]
+
+pub mod close;
+pub mod error;
+pub mod open;
+pub mod tokens;
+pub mod values;

@@ -1,0 +1,10 @@
+//! What stands at the front of bytes, and what comes next behind it: tags, lengths and numbers.
+
+pub mod begin;
+pub mod front;
+pub mod number;
+pub mod number_token;
+pub mod record_tag;
+pub mod step;
+pub mod tag;
+pub mod tag_step;

@@ -1,0 +1,77 @@
+//! Whole tags, the ends of groups, and whole lengths: what they say, or why they are refused.
+
+ghost use Rattle.std.specs.Prelude.{◌≡◌, ◌≢◌, ◌<◌, ◌^◌, Some, IfOk, IfErr, IfSome, IfNone, IsOk};
+ghost use Rattle.pb_wire.specs.Fault.{Place, Reads, HasTag, HasLength};
+ghost use Rattle.pb_wire.specs.declared.fault.Cause.TheVariants.{Truncated};
+ghost use Rattle.pb_parts.specs.Open.Frames.{EndsAt};
+ghost use Rattle.pb_parts.specs.Tokens.Told.{RefusesTag, RefusesEnd, RefusesGroup, RefusesLength};
+
+use pb_wire::Cause;
+
+/// The longest payload, 2^31 - 1 bytes.
+const MAX_LENGTH: u64 = 0x7fff_ffff;
+
+/// The number and the wire type of a whole tag.
+pub fn tag_parts(tag: u64) -> Result<(u32, u8), Cause>
+    ensures whole { (q u : Place) → Reads q tag u → IfOk result (λ t. HasTag q t.0 t.1 u) }
+    ensures known { IfOk result (λ t. t.1 < 6) }
+    ensures settled { IfErr result (λ c. c ≢ Truncated) }
+    ensures refused { RefusesTag tag result }
+{
+    if tag > u64::from(u32::MAX) {
+        return Err(Cause::TagTooLarge);
+    }
+    let number = (tag / 8) as u32;
+    let wire_type = (tag % 8) as u8;
+    if number == 0 {
+        return Err(Cause::NumberZero);
+    }
+    if wire_type > 5 {
+        return Err(Cause::BadType);
+    }
+    Ok((number, wire_type))
+}
+
+/// Judges the last tag of a group of a number, where the group that is open innermost has this number, if one is.
+pub fn group_end(innermost: Option<u32>, number: u32) -> Result<(), Cause>
+    ensures ends { IsOk result → innermost ≡ Some number }
+    ensures settled { IfErr result (λ c. c ≢ Truncated) }
+    ensures refused { RefusesEnd innermost number result }
+{
+    match innermost {
+        Some(open) if open == number => Ok(()),
+        Some(_) => Err(Cause::WrongEnd),
+        None => Err(Cause::StrayEnd),
+    }
+}
+
+/// Why a group is refused in a part with so many levels left.
+pub fn group_refusal(room: u8) -> Option<Cause>
+    ensures allowed { IfNone result (0 < room) }
+    ensures settled { IfSome result (λ c. c ≢ Truncated) }
+    ensures refused { RefusesGroup room result }
+{
+    if room == 0 {
+        Some(Cause::TooDeep)
+    } else {
+        None
+    }
+}
+
+/// The size of a payload of this length, which begins at a position in a part that ends at another, if that is known.
+pub fn payload_size(length: u64, begin: u32, end: Option<u32>) -> Result<u32, Cause>
+    ensures size { IfOk result (λ n. n ≡ length) }
+    ensures whole { (u t : Place) → Reads u length t → t.at ≡ begin → EndsAt t end → IfOk result (λ n. HasLength u n t) }
+    ensures settled { IfErr result (λ c. c ≢ Truncated) }
+    ensures small { IfOk result (λ n. n < 2 ^ 31) }
+    ensures refused { RefusesLength length begin end result }
+{
+    if length > MAX_LENGTH {
+        return Err(Cause::LengthTooLarge);
+    }
+    let size = length as u32;
+    match end {
+        Some(end) if end.saturating_sub(begin) < size => Err(Cause::PastEnd),
+        _ => Ok(size),
+    }
+}

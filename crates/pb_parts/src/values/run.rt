@@ -1,0 +1,131 @@
+//! Runs of elements of a packed list.
+
+ghost use Rattle.std.specs.Prelude.{◌≡◌, ◌⊎◌, ◌≤◌, ◌<◌, length, IfOk, IfSome, IfNone};
+ghost use Rattle.pb_schema.specs.Kinds.{wire_type_of};
+ghost use Rattle.pb_parts.specs.Values.Puts.{GoesOn, TellsRun};
+
+use crate::error::NoMemory;
+use crate::tokens::number::number_value;
+use crate::tokens::number_token::{NumberToken, number_at};
+use crate::tokens::record_tag::left_behind;
+use crate::values::put_number::is_undeclared;
+use crate::values::put_unknown::unknown_number;
+use pb_schema::{Kind, Pool};
+use pb_value::Value;
+use pb_wire::Unknown;
+use std::alloc::Global;
+
+/// What the elements of a run are, each sort in its order. The unknown records have the number of the list.
+#[derive(Drop)]
+pub struct Run {
+    pub values: Vec<Value>,
+    pub undeclared: Vec<(u32, Unknown)>,
+}
+
+/// How many of the bytes end a varint.
+fn varint_ends(bytes: &[u8]) -> usize {
+    let mut ends = 0usize;
+    for byte in bytes {
+        ends = ends.wrapping_add(usize::from(*byte < 0x80));
+    }
+    ends
+}
+
+/// How many elements of a kind end within some bytes, where they are sound: room for all of them.
+fn room_wanted(kind: Kind, bytes: &[u8]) -> usize {
+    match kind.wire_type() {
+        1 => bytes.len() / 8,
+        5 => bytes.len() / 4,
+        _ => varint_ends(bytes),
+    }
+}
+
+/// How many of some bytes stand before the known end.
+fn before_end(bytes: &[u8], left: Option<u32>) -> usize
+    ensures { result ≤ length bytes.now }
+{
+    match left {
+        Some(left) => bytes.len().min(left as usize),
+        None => bytes.len(),
+    }
+}
+
+/// Puts the element at the front of some bytes, with so many bytes before the known end, behind those of its sort, and how many
+/// bytes it takes, if it stands whole there. A number that its closed enum doesn't declare is an unknown record.
+#[inline(always)]
+fn add_element(
+    pool: &Pool,
+    kind: Kind,
+    number: u32,
+    bytes: &[u8],
+    left: Option<u32>,
+    run: &mut Run,
+) -> Result<Option<usize>, NoMemory>
+    requires { (wire_type_of kind ≡ 0) ⊎ (wire_type_of kind ≡ 1) ⊎ (wire_type_of kind ≡ 5) }
+    ensures within { IfOk result (λ o. IfSome o (λ n. (0 < n) × (n ≤ length bytes.now))) }
+    ensures none { IfOk result (λ o. IfNone o (run.new ≡ run.old)) }
+    ensures put { IfOk result (λ o. IfSome o (GoesOn pool.now number kind bytes.now left run.old run.new)) }
+{
+    match number_at(kind.wire_type(), bytes, left) {
+        NumberToken::Whole(value, size) => {
+            if is_undeclared(pool, kind, value) {
+                run.undeclared.push((number, unknown_number(value)))?;
+            } else {
+                run.values.push(number_value(kind, value))?;
+            }
+            Ok(Some(size))
+        }
+        NumberToken::Short => Ok(None),
+        NumberToken::Fault(_) => Ok(None),
+    }
+}
+
+/// Puts the elements that stand whole at the front of some bytes, one behind another, behind those of their sorts, and how many
+/// bytes they take.
+fn add_elements(
+    pool: &Pool,
+    kind: Kind,
+    number: u32,
+    bytes: &[u8],
+    left: Option<u32>,
+    run: &mut Run,
+) -> Result<usize, NoMemory>
+    requires { (wire_type_of kind ≡ 0) ⊎ (wire_type_of kind ≡ 1) ⊎ (wire_type_of kind ≡ 5) }
+    ensures within { IfOk result (λ n. n ≤ length bytes.now) }
+    ensures put { IfOk result (GoesOn pool.now number kind bytes.now left run.old run.new) }
+{
+    let end = before_end(bytes, left);
+    let mut here = 0;
+    while here < end {
+        let rest = &bytes[here..];
+        let Some(size) = add_element(pool, kind, number, rest, left_behind(left, here), run)? else {
+            return Ok(here);
+        };
+        here += size;
+    }
+    Ok(here)
+}
+
+/// The elements that stand whole at the front of some bytes, one behind another, with so many bytes before the known end, and how
+/// many bytes they take. Their list has this number.
+pub fn read_run(
+    alloc: Global,
+    pool: &Pool,
+    number: u32,
+    kind: Kind,
+    bytes: &[u8],
+    left: Option<u32>,
+) -> Result<(Run, usize), NoMemory>
+    requires { (wire_type_of kind ≡ 0) ⊎ (wire_type_of kind ≡ 1) ⊎ (wire_type_of kind ≡ 5) }
+    ensures within { IfOk result (λ r. r.1 ≤ length bytes.now) }
+    ensures put { TellsRun pool.now number kind bytes.now left result }
+{
+    let mut run = Run {
+        values: Vec::with_capacity(alloc, room_wanted(kind, &bytes[..before_end(bytes, left)]))?,
+        undeclared: Vec::new(alloc),
+    };
+    let used = add_elements(pool, kind, number, bytes, left, &mut run)?;
+    // Undeclared numbers took none of the room.
+    run.values.shrink_to_fit();
+    Ok((run, used))
+}
