@@ -1,5 +1,5 @@
 -- What is read at once.
-use Rattle.std.proofs.Common.{◌≡◌, ℕ, ◌+◌, ◌-◌, ◌<◌, List, ◌∷◌, take, drop, length, refl, sym, ap, ◌∙◌, subst, arith, false, Option, Some, None, option_map}
+use Rattle.std.proofs.Common.{◌≡◌, ℕ, ◌+◌, ◌-◌, ◌<◌, List, ◌∷◌, take, drop, length, refl, sym, ap, ◌∙◌, subst, arith, false, Option, Some, None, option_map, drop-drop}
 use Rattle.std.proofs.lemmas.Bool.{false≢true}
 use Rattle.pb_wire.specs.Record.{Record}
 use Rattle.pb_wire.specs.Fault.{Place, HasTag, HasLength}
@@ -23,7 +23,7 @@ use Rattle.pb_decode.specs.Reader.{State, left_of, here, Reads, StandsAt, IsRead
 use Rattle.pb_decode.specs.Reader.Fills.{StandsIn, IsOpen, HasTagAt, FillsTo}
 use Rattle.pb_parts.proofs.WellLemmas.{can_hold}
 use Rattle.pb_parts.proofs.AfterLemmas.{after_record}
-use Rattle.pb_parts.proofs.PlaceLemmas.{slice_from, drop_more, passed_twice, place_behind}
+use Rattle.pb_parts.proofs.PlaceLemmas.{slice_from, passed_twice, place_behind}
 use Rattle.pb_parts.proofs.ListSteps.{list_begins, list_over}
 use Rattle.pb_decode.proofs.ListHolds.{list_can_hold}
 use Rattle.pb_decode.proofs.QuickLemmas.{tag_stands, tag_next, opening_next}
@@ -217,7 +217,7 @@ behind_inner at left bytes start size end ends =
     let at_is : (at + start) + size ≡ at + (start + size) = omega arith in
     let left_is : (at + left) - ((at + start) + size) ≡ left - (start + size) = omega arith in
     ap (λ (z : Option ℕ). up_to z (passed (payload_place at bytes start size) size)) (ends_there at left bytes end ends)
-    ∙ ap (λ (z : List ℕ). given_at ((at + start) + size) (Some ((at + left) - ((at + start) + size))) z) (ap (drop size) (slice_from start bytes) ∙ drop_more start size bytes)
+    ∙ ap (λ (z : List ℕ). given_at ((at + start) + size) (Some ((at + left) - ((at + start) + size))) z) (ap (drop size) (slice_from start bytes) ∙ drop-drop size start bytes)
     ∙ ap (λ (z : ℕ). given_at ((at + start) + size) (Some z) (drop (start + size) bytes)) left_is
     ∙ ap (λ (z : ℕ). given_at z (Some (left - (start + size))) (drop (start + size) bytes)) at_is
 
@@ -286,7 +286,7 @@ inner_passed {pool} {m} {depth} {levels} {base} {p0} s t rest start size at tag 
     at_is = let same : (s.at + start) + size ≡ s.at + (start + size) = omega arith in same ∙ sym at
 
     rest_is : drop size (take (length rest - start) (drop start rest)) ≡ drop (start + size) rest
-    rest_is = ap (drop size) (slice_from start rest) ∙ drop_more start size rest
+    rest_is = ap (drop size) (slice_from start rest) ∙ drop-drop size start rest
 
     place : up_to s.scope.end (passed (given_at (s.at + start) (Some size) (take (length rest - start) (drop start rest))) size) ≡ here t (drop (start + size) rest)
     place =

@@ -1,3 +1,4 @@
+-- ---- whole messages and pieces
 -- for the end of the input: a whole message, or the fault that it is cut short
 pub mod FinishLemmas
 -- for counts of records, which never pass the position: each record takes a byte at least

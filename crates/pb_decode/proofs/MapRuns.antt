@@ -1,5 +1,5 @@
 -- Runs of map entries.
-use Rattle.std.proofs.Common.{◌≡◌, ℕ, zero, suc, ◌+◌, ◌-◌, ◌<◌, List, [], ◌∷◌, ◌++◌, take, drop, length, refl, sym, ap, ◌∙◌, subst, arith, Option, Some, None, option_map}
+use Rattle.std.proofs.Common.{◌≡◌, ℕ, zero, suc, ◌+◌, ◌-◌, ◌<◌, List, [], ◌∷◌, ◌++◌, take, drop, length, refl, sym, ap, ◌∙◌, subst, arith, Option, Some, None, option_map, drop-drop}
 use Rattle.std.specs.Prelude.{false, unwrap_or}
 use Rattle.pb_wire.specs.Record.{Record}
 use Rattle.pb_wire.specs.Fault.{Place, HasLength}
@@ -27,7 +27,7 @@ use Rattle.pb_decode.specs.Reader.Entries.{more_in, IsMapOpen}
 use Rattle.pb_parts.specs.declared.open.purpose.Purpose.TheVariants as purpose
 use Rattle.pb_parts.specs.declared.tokens.step.Step.TheVariants as step
 use Rattle.pb_decode.proofs.QuickLemmas.{tag_stands}
-use Rattle.pb_parts.proofs.PlaceLemmas.{passed_twice, place_behind, slice_from, drop_more}
+use Rattle.pb_parts.proofs.PlaceLemmas.{passed_twice, place_behind, slice_from}
 use Rattle.pb_parts.proofs.WellLemmas.{message_good}
 use Rattle.pb_decode.proofs.EndedLemmas.{entry_has_room}
 use Rattle.pb_parts.proofs.FrameLemmas.{entry_closes}
@@ -54,7 +54,7 @@ behind_payload at (Some e) bytes start size end ends = behind_inner at e bytes s
 behind_payload at None bytes start size (Some e) (l, is, sum) = absurd (cc)
 behind_payload at None bytes start size None ends =
     let at_is : (at + start) + size ≡ at + (start + size) = omega arith in
-    ap (λ (z : List ℕ). given_at ((at + start) + size) None z) (ap (drop size) (slice_from start bytes) ∙ drop_more start size bytes)
+    ap (λ (z : List ℕ). given_at ((at + start) + size) None z) (ap (drop size) (slice_from start bytes) ∙ drop-drop size start bytes)
     ∙ ap (λ (z : ℕ). given_at z None (drop (start + size) bytes)) at_is
 
 -- THE PART THAT IS OPEN

@@ -1,5 +1,5 @@
 -- A reader that takes bytes, and one that has some text read.
-use Rattle.std.proofs.Common.{◌≡◌, ◌≢◌, ℕ, ◌+◌, ◌-◌, List, [], ◌∷◌, ◌++◌, take, drop, length, refl, sym, ap, ◌∙◌, subst, arith, Option, Some, None, option_map}
+use Rattle.std.proofs.Common.{◌≡◌, ◌≢◌, ℕ, ◌+◌, ◌-◌, List, [], ◌∷◌, ◌++◌, take, drop, length, refl, sym, ap, ◌∙◌, subst, arith, Option, Some, None, option_map, drop-drop}
 use Rattle.pb_wire.specs.Record.{Record}
 use Rattle.pb_wire.specs.declared.fault.Cause.{Cause}
 use Rattle.pb_wire.specs.declared.fault.Cause.TheVariants.{Truncated}
@@ -20,7 +20,7 @@ use Rattle.pb_parts.specs.Tokens.After.{Tag, tag, awaited, After}
 use Rattle.pb_parts.specs.declared.open.purpose.Purpose.{Purpose}
 use Rattle.pb_decode.specs.Reader.{State, here, own_step, path_here, Reads, Stops, cut, Taken, Told, StandsAt, IfFault}
 use Rattle.pb_parts.proofs.AfterLemmas.{after_record, number_told}
-use Rattle.pb_parts.proofs.PlaceLemmas.{slice_from, drop_more}
+use Rattle.pb_parts.proofs.PlaceLemmas.{slice_from}
 
 pub reads_slice :
     (pool : Types) (m depth levels : ℕ) (base : List Record) (p0 : Place) (s : State) (n : ℕ) (l : List ℕ) → Reads pool m depth levels base p0 s (drop n l)
@@ -38,7 +38,7 @@ pub taken_some :
     → Taken pool m depth levels base p0 s (take (length l - n) (drop n l)) o → Reads pool m depth levels base p0 s (drop (n + size) l)
 taken_some pool m depth levels base p0 s n size l o some h =
     let there : Reads pool m depth levels base p0 s (drop size (take (length l - n) (drop n l))) = subst (Taken pool m depth levels base p0 s (take (length l - n) (drop n l))) some h in
-    subst (Reads pool m depth levels base p0 s) (ap (drop size) (slice_from n l) ∙ drop_more n size l) there
+    subst (Reads pool m depth levels base p0 s) (ap (drop size) (slice_from n l) ∙ drop-drop size n l) there
 
 -- behind so many bytes
 left_passed : (e : Option ℕ) (at size : ℕ) → option_map (λ (z : ℕ). z - size) (option_map (λ (z : ℕ). z - at) e) ≡ option_map (λ (z : ℕ). z - (at + size)) e

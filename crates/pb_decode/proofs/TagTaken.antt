@@ -18,7 +18,7 @@ use Rattle.pb_parts.specs.Open.Opened.{Begun}
 use Rattle.pb_parts.specs.Open.Opened as opened
 use Rattle.pb_parts.specs.Open.Frames.{Part, Scope, Frame, path_of, Held, inside, Stands}
 use Rattle.pb_decode.specs.Reader.{State, left_of, here, own_step, path_here, weight, Reads, Stops, over, cut, Told}
-use Rattle.pb_decode.specs.Reader.Ended.{NothingEnds, GoesOn}
+use Rattle.pb_decode.specs.Reader.Ended.{NothingEnds, StepGoesOn}
 use Rattle.pb_parts.proofs.OpenedLemmas.{cut_at_end}
 use Rattle.pb_parts.proofs.AfterLemmas.{told_here}
 use Rattle.pb_decode.proofs.EndedLemmas.{standing}
@@ -128,7 +128,7 @@ stops_at_tag {pool} {m} {depth} {levels} {base} {p0} s rest begun tag goes_on no
     by_frames (f ∷ fs) is none endless = cut_off none (λ top. absurd (let never : f ∷ fs ≡ [] = sym is ∙ top in cc)) (λ end. let never : None ≡ Some 0 = sym endless ∙ end in cc)
 
     by_end : (e : Option ℕ) → left_of s ≡ e → (rest ≡ []) ⊎ (left_of s ≡ Some 0) → Stops pool m depth p0 s rest
-    by_end e is (inr end) = ended (subst (λ (z : Step). GoesOn z s.frames (left_of s)) tag goes_on) end
+    by_end e is (inr end) = ended (subst (λ (z : Step). StepGoesOn z s.frames (left_of s)) tag goes_on) end
     by_end None is (inl none) = by_frames s.frames refl none is
-    by_end (Some zero) is (inl none) = ended (subst (λ (z : Step). GoesOn z s.frames (left_of s)) tag goes_on) is
+    by_end (Some zero) is (inl none) = ended (subst (λ (z : Step). StepGoesOn z s.frames (left_of s)) tag goes_on) is
     by_end (Some (suc n)) is (inl none) = cut_off none (λ top endless. let never : Some (suc n) ≡ None = sym is ∙ endless in cc) (λ end. let never : Some (suc n) ≡ Some 0 = sym is ∙ end in cc)

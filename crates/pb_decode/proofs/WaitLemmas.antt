@@ -10,7 +10,7 @@ use Rattle.pb_parts.specs.Tokens.After.{Tag, tag, awaited}
 use Rattle.pb_decode.specs.Reader.{State, left_of, here}
 use Rattle.pb_decode.specs.Reader.Waiting.{WaitsAt, Waits}
 use Rattle.pb_parts.specs.Tokens.Numbers.{IsCutVarint, IsCutNumber}
-use Rattle.pb_decode.specs.Reader.Ended.{NothingEnds, GoesOn}
+use Rattle.pb_decode.specs.Reader.Ended.{NothingEnds, StepGoesOn}
 use Rattle.pb_parts.proofs.OpenedLemmas.{nothing_left}
 use Rattle.pb_parts.proofs.PlaceLemmas.{slice_from}
 
@@ -63,7 +63,7 @@ end_waits s rest tag goes_on nothing = subst (λ (z : Step). WaitsAt z s.frames 
     ended (inr open_end) end = absurd (open_end end)
 
     by_end : (e : Option ℕ) → left_of s ≡ e → (rest ≡ []) ⊎ (left_of s ≡ Some 0) → WaitsAt step.Tag s.frames (here s rest)
-    by_end e is (inr end) = ended (subst (λ (z : Step). GoesOn z s.frames (left_of s)) tag goes_on) end
+    by_end e is (inr end) = ended (subst (λ (z : Step). StepGoesOn z s.frames (left_of s)) tag goes_on) end
     by_end None is (inl none) = inl (nothing_left (here s rest) none (λ end. let never : None ≡ Some 0 = sym is ∙ end in cc))
-    by_end (Some zero) is (inl none) = ended (subst (λ (z : Step). GoesOn z s.frames (left_of s)) tag goes_on) is
+    by_end (Some zero) is (inl none) = ended (subst (λ (z : Step). StepGoesOn z s.frames (left_of s)) tag goes_on) is
     by_end (Some (suc n)) is (inl none) = inl (nothing_left (here s rest) none (λ end. let never : Some (suc n) ≡ Some 0 = sym is ∙ end in cc))

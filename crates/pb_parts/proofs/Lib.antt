@@ -1,7 +1,7 @@
 -- ---- bytes, and what a call tells of them
 -- for places in bytes, and the bytes behind so many of others
 pub mod PlaceLemmas
--- for what a call tells of its answer: one that is there, a sign that is not set
+-- for what a call tells of its answer: one that is there, a sign that is not set, a count that is zero
 pub mod AnswerLemmas
 -- ---- what is open, and what records make of it
 -- for `occurrences`: what a search finds among rising numbers, and what stands with each number after a change

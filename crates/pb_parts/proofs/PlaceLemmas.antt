@@ -8,9 +8,6 @@ use Rattle.pb_wire.specs.Token.{given_at, passed}
 pub slice_from : (n : ℕ) (l : List ℕ) → take (length l - n) (drop n l) ≡ drop n l
 slice_from n l = take_all (length l - n) (drop n l) (let e = length-drop n l in omega (arith, e))
 
-pub drop_more : (n m : ℕ) (l : List ℕ) → drop m (drop n l) ≡ drop (n + m) l
-drop_more n m l = drop-drop m n l
-
 -- behind two numbers one stands behind the bytes of both
 known_twice : (e : Option ℕ) (a b : ℕ) → option_map (λ (z : ℕ). z - b) (option_map (λ (z : ℕ). z - a) e) ≡ option_map (λ (z : ℕ). z - (a + b)) e
 known_twice None a b = refl

@@ -14,18 +14,18 @@ use Rattle.pb_parts.specs.declared.tokens.step.Step.TheVariants.{Elements}
 
 -- with these frames around the part, and so many bytes before the known end, nothing ends before what comes next: at a tag no part below the top, and
 -- inside a packed list not the list
-abbrev pub GoesOn : Step → List Frame → Option ℕ → Type 0
-GoesOn step.Tag frames left = (frames ≡ []) ⊎ (left ≢ Some 0)
-GoesOn (step.Elements n k outer) frames left = left ≢ Some 0
-GoesOn (step.Varint n p) frames left = Unit {0}
-GoesOn (step.I64 n p) frames left = Unit {0}
-GoesOn (step.I32 n p) frames left = Unit {0}
-GoesOn (step.Length n p) frames left = Unit {0}
-GoesOn (step.Payload n p size) frames left = Unit {0}
+abbrev pub StepGoesOn : Step → List Frame → Option ℕ → Type 0
+StepGoesOn step.Tag frames left = (frames ≡ []) ⊎ (left ≢ Some 0)
+StepGoesOn (step.Elements n k outer) frames left = left ≢ Some 0
+StepGoesOn (step.Varint n p) frames left = Unit {0}
+StepGoesOn (step.I64 n p) frames left = Unit {0}
+StepGoesOn (step.I32 n p) frames left = Unit {0}
+StepGoesOn (step.Length n p) frames left = Unit {0}
+StepGoesOn (step.Payload n p size) frames left = Unit {0}
 
 -- nothing ends where the reader stands
 abbrev pub NothingEnds : State → Type 0
-NothingEnds s = GoesOn s.next s.frames (left_of s)
+NothingEnds s = StepGoesOn s.next s.frames (left_of s)
 
 -- a part below the top ends at a tag
 abbrev pub PartEnds : Reader → Type 0

@@ -73,8 +73,34 @@ fn fill_one(
     }
 }
 
+/// As `fill_one`, for what few numbers are for. It stands apart, so that `fill_number` is small enough to be inlined into both its callers.
+#[inline(never)]
+fn fill_other(
+    alloc: Global,
+    pool: &Pool,
+    part: &mut Part,
+    tag: RecordTag,
+    purpose: Purpose,
+    bytes: &[u8],
+    left: u32,
+    room: u8,
+) -> Option<usize>
+    requires rules { IsPool pool.now }
+    requires open { IsOpen pool.now (part_view part.old) bytes.now left room }
+    requires small { length bytes.now < 2 ^ 31 }
+    requires number { (tag.wire_type ≡ 0) ⊎ (tag.wire_type ≡ 1) ⊎ (tag.wire_type ≡ 5) }
+    requires within { tag.size ≤ length bytes.now }
+    requires tag { HasTagAt bytes.now (Some left) tag.number tag.wire_type tag.size }
+    requires means { Means pool.now (part_context (part_view part.old)) tag.number tag.wire_type purpose }
+    ensures passes { IfSome result (λ n. (tag.size ≤ n) × (n ≤ length bytes.now)) }
+    ensures filled { FillsOne pool.now part.old part.new bytes.now left room result }
+{
+    fill_one(alloc, pool, part, tag, purpose, bytes, left, room)
+}
+
 /// Puts the element behind a tag into its list, if it stands whole there, with those of the same list that follow on it, and how
 /// many bytes their records take.
+#[inline(never)]
 fn fill_element(
     alloc: Global,
     pool: &Pool,
@@ -99,7 +125,7 @@ fn fill_element(
         Ok(Some(used)) => Some(used),
         Ok(None) => {
             let purpose = Purpose::Element(kind);
-            fill_one(alloc, pool, part, tag, purpose, bytes, left, room)
+            fill_other(alloc, pool, part, tag, purpose, bytes, left, room)
         }
         Err(NoMemory) => None,
     }
@@ -138,7 +164,7 @@ fn fill_number(
         | Purpose::Entry(_, _)
         | Purpose::Key(_)
         | Purpose::EntryValue(_)
-        | Purpose::Unknown => fill_one(alloc, pool, part, tag, purpose, bytes, left, room),
+        | Purpose::Unknown => fill_other(alloc, pool, part, tag, purpose, bytes, left, room),
     }
 }
 

@@ -19,12 +19,6 @@ pub data NumberFault (w : ℕ) (u : Place) (g : Fault) : Type 0 where
   eight_bytes : w ≡ 1 → FixedFault 8 u g → NumberFault w u g
   four_bytes : w ≡ 5 → FixedFault 4 u g → NumberFault w u g
 
--- the number at p, behind a tag of this wire type, is this one and takes so many bytes; or the input ends inside it; or it has another fault
-abbrev pub TellsNumber : ℕ → Place → NumberToken → Type 0
-TellsNumber w p (token.Whole a size) = (wire_type (number_view a) ≡ w) × (size ≤ length p.rest) × Follows p (number_view a) (passed p size)
-TellsNumber w p token.Short = NumberFault w p (fault (input_end p) [] Truncated)
-TellsNumber w p (token.Fault c) = (c ≢ Truncated) × NumberFault w p (fault p.at [] c)
-
 -- the input ends inside the varint that begins here
 abbrev pub IsCutVarint : Place → Type 0
 IsCutVarint p = VarintFault p (fault (input_end p) [] Truncated)
@@ -32,3 +26,9 @@ IsCutVarint p = VarintFault p (fault (input_end p) [] Truncated)
 -- or inside the number, behind a tag of this wire type
 abbrev pub IsCutNumber : ℕ → Place → Type 0
 IsCutNumber w p = NumberFault w p (fault (input_end p) [] Truncated)
+
+-- the number at p, behind a tag of this wire type, is this one and takes so many bytes; or the input ends inside it; or it has another fault
+abbrev pub TellsNumber : ℕ → Place → NumberToken → Type 0
+TellsNumber w p (token.Whole a size) = (wire_type (number_view a) ≡ w) × (size ≤ length p.rest) × Follows p (number_view a) (passed p size)
+TellsNumber w p token.Short = IsCutNumber w p
+TellsNumber w p (token.Fault c) = (c ≢ Truncated) × NumberFault w p (fault p.at [] c)
