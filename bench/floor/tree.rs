@@ -1,98 +1,110 @@
-//! A map as a B-tree with 15 pairs in a node, keys beside keys and values beside values, as the kit's maps are laid out.
+//! A map as a B-tree with 15 pairs in a node, keys beside keys and values beside values, as the kit's maps are laid out: a leaf takes a block
+//! of the same size, and a node above it holds its edges apart.
 use std::mem::MaybeUninit;
-use std::ops::{Deref, DerefMut};
-use std::ptr::copy;
+use std::ptr::{copy, drop_in_place};
 
 pub const PAIRS: usize = 15;
 
-/// Up to 15 items where they stand.
-pub struct Row<T> {
-    items: [MaybeUninit<T>; PAIRS],
-    len: usize,
+/// Up to 15 pairs where they stand. One count serves both rows, as in the kit's nodes.
+struct Pairs<K, V> {
+    keys: [MaybeUninit<K>; PAIRS],
+    values: [MaybeUninit<V>; PAIRS],
+    len: u16,
 }
 
-impl<T> Row<T> {
+/// Makes room for one item in a row of so many, and puts it there.
+fn put_in_row<T>(row: &mut [MaybeUninit<T>; PAIRS], len: usize, at: usize, item: T) {
+    assert!(at <= len && len < PAIRS);
+    let place = unsafe { row.as_mut_ptr().add(at) };
+    unsafe { copy(place, place.add(1), len - at) };
+    row[at].write(item);
+}
+
+impl<K, V> Pairs<K, V> {
     fn new() -> Self {
-        Row { items: [const { MaybeUninit::uninit() }; PAIRS], len: 0 }
+        Pairs { keys: [const { MaybeUninit::uninit() }; PAIRS], values: [const { MaybeUninit::uninit() }; PAIRS], len: 0 }
     }
 
-    fn insert(&mut self, at: usize, item: T) {
-        assert!(at <= self.len && self.len < PAIRS);
-        let place = unsafe { self.items.as_mut_ptr().add(at) };
-        unsafe { copy(place, place.add(1), self.len - at) };
-        self.items[at].write(item);
+    fn len(&self) -> usize {
+        self.len as usize
+    }
+
+    fn keys(&self) -> &[K] {
+        unsafe { &*(&self.keys[..self.len()] as *const [MaybeUninit<K>] as *const [K]) }
+    }
+
+    fn values(&mut self) -> &mut [V] {
+        let len = self.len();
+        unsafe { &mut *(&mut self.values[..len] as *mut [MaybeUninit<V>] as *mut [V]) }
+    }
+
+    fn insert(&mut self, at: usize, key: K, value: V) {
+        let len = self.len();
+        put_in_row(&mut self.keys, len, at, key);
+        put_in_row(&mut self.values, len, at, value);
         self.len += 1;
     }
 
-    fn push(&mut self, item: T) {
-        self.insert(self.len, item);
+    fn push(&mut self, key: K, value: V) {
+        self.insert(self.len(), key, value);
     }
 
-    /// Takes the items from a place on.
+    /// Takes the pairs from a place on.
     fn split_off(&mut self, at: usize) -> Self {
-        let mut rest = Row::new();
-        rest.len = self.len - at;
-        unsafe { copy(self.items.as_ptr().add(at), rest.items.as_mut_ptr(), rest.len) };
-        self.len = at;
+        let mut rest = Pairs::new();
+        let moved = self.len() - at;
+        unsafe { copy(self.keys.as_ptr().add(at), rest.keys.as_mut_ptr(), moved) };
+        unsafe { copy(self.values.as_ptr().add(at), rest.values.as_mut_ptr(), moved) };
+        (self.len, rest.len) = (at as u16, moved as u16);
         rest
     }
 
-    fn pop(&mut self) -> Option<T> {
+    fn pop(&mut self) -> Option<(K, V)> {
         self.len = self.len.checked_sub(1)?;
-        Some(unsafe { self.items[self.len].assume_init_read() })
+        let at = self.len();
+        Some(unsafe { (self.keys[at].assume_init_read(), self.values[at].assume_init_read()) })
     }
 }
 
-impl<T> Deref for Row<T> {
-    type Target = [T];
-
-    fn deref(&self) -> &[T] {
-        unsafe { &*(&self.items[..self.len] as *const [MaybeUninit<T>] as *const [T]) }
-    }
-}
-
-impl<T> DerefMut for Row<T> {
-    fn deref_mut(&mut self) -> &mut [T] {
-        unsafe { &mut *(&mut self.items[..self.len] as *mut [MaybeUninit<T>] as *mut [T]) }
-    }
-}
-
-impl<T> Drop for Row<T> {
+impl<K, V> Drop for Pairs<K, V> {
     fn drop(&mut self) {
-        unsafe { std::ptr::drop_in_place(&mut **self) }
+        let len = self.len();
+        unsafe { drop_in_place(&mut self.keys[..len] as *mut [MaybeUninit<K>] as *mut [K]) };
+        unsafe { drop_in_place(self.values()) };
     }
 }
+
+type Edges<K, V> = Vec<Box<Node<K, V>>>;
 
 /// A leaf has no edges, and another node one more than pairs.
 struct Node<K, V> {
-    keys: Row<K>,
-    values: Row<V>,
-    edges: Vec<Box<Node<K, V>>>,
+    pairs: Pairs<K, V>,
+    edges: Option<Box<Edges<K, V>>>,
 }
 
 /// A pair that goes up where a node was full, and the node behind it.
 type Split<K, V> = (K, V, Box<Node<K, V>>);
 
 impl<K: Ord, V> Node<K, V> {
-    fn new(edges: Vec<Box<Node<K, V>>>) -> Box<Self> {
-        Box::new(Node { keys: Row::new(), values: Row::new(), edges })
+    fn new(edges: Option<Box<Edges<K, V>>>) -> Box<Self> {
+        Box::new(Node { pairs: Pairs::new(), edges })
     }
 
     fn find(&self, key: &K) -> Result<usize, usize> {
-        for (at, it) in self.keys.iter().enumerate() {
+        for (at, it) in self.pairs.keys().iter().enumerate() {
             if it >= key {
                 return if it == key { Ok(at) } else { Err(at) };
             }
         }
-        Err(self.keys.len())
+        Err(self.pairs.len())
     }
 
     fn insert(&mut self, key: K, value: V) -> Option<Split<K, V>> {
-        match self.find(&key) {
-            Ok(at) => self.values[at] = value,
-            Err(at) if self.edges.is_empty() => return self.put(at, key, value, None),
-            Err(at) => {
-                let (key, value, behind) = self.edges[at].insert(key, value)?;
+        match (self.find(&key), &mut self.edges) {
+            (Ok(at), _) => self.pairs.values()[at] = value,
+            (Err(at), None) => return self.put(at, key, value, None),
+            (Err(at), Some(edges)) => {
+                let (key, value, behind) = edges[at].insert(key, value)?;
                 return self.put(at, key, value, Some(behind));
             }
         }
@@ -100,19 +112,17 @@ impl<K: Ord, V> Node<K, V> {
     }
 
     fn put(&mut self, at: usize, key: K, value: V, edge: Option<Box<Self>>) -> Option<Split<K, V>> {
-        if self.keys.len() < PAIRS {
-            self.keys.insert(at, key);
-            self.values.insert(at, value);
-            if let Some(edge) = edge {
-                self.edges.insert(at + 1, edge);
+        if self.pairs.len() < PAIRS {
+            self.pairs.insert(at, key, value);
+            if let (Some(edge), Some(edges)) = (edge, &mut self.edges) {
+                edges.insert(at + 1, edge);
             }
             return None;
         }
         let half = PAIRS / 2;
-        let mut behind = Node::new(if self.edges.is_empty() { vec![] } else { self.edges.split_off(half + 1) });
-        behind.keys = self.keys.split_off(half + 1);
-        behind.values = self.values.split_off(half + 1);
-        let (middle, of_middle) = (self.keys.pop()?, self.values.pop()?);
+        let mut behind = Node::new(self.edges.as_mut().map(|edges| Box::new(edges.split_off(half + 1))));
+        behind.pairs = self.pairs.split_off(half + 1);
+        let (middle, of_middle) = self.pairs.pop()?;
         if at <= half {
             self.put(at, key, value, edge);
         } else {
@@ -141,19 +151,18 @@ impl<K: Ord, V> Map<K, V> {
         let mut node = self.root.as_mut()?;
         loop {
             match node.find(key) {
-                Ok(at) => return node.values.get_mut(at),
-                Err(at) => node = node.edges.get_mut(at)?,
+                Ok(at) => return node.pairs.values().get_mut(at),
+                Err(at) => node = node.edges.as_mut()?.get_mut(at)?,
             }
         }
     }
 
     pub fn insert(&mut self, key: K, value: V) {
-        let root = self.root.get_or_insert_with(|| Node::new(vec![]));
+        let root = self.root.get_or_insert_with(|| Node::new(None));
         if let Some((key, value, behind)) = root.insert(key, value) {
-            let before = std::mem::replace(root, Node::new(vec![]));
-            root.edges = vec![before, behind];
-            root.keys.push(key);
-            root.values.push(value);
+            let before = std::mem::replace(root, Node::new(None));
+            root.edges = Some(Box::new(vec![before, behind]));
+            root.pairs.push(key, value);
             self.height += 1;
         }
         self.len += 1;
@@ -162,14 +171,13 @@ impl<K: Ord, V> Map<K, V> {
     /// Of pairs whose keys rise: full nodes, and a pair between each two.
     pub fn from_rising(pairs: Vec<(K, V)>) -> Self {
         let (mut nodes, mut between) = (vec![], vec![]);
-        let (len, mut height, mut node) = (pairs.len(), 0, Node::new(vec![]));
+        let (len, mut height, mut node) = (pairs.len(), 0, Node::new(None));
         for (key, value) in pairs {
-            if node.keys.len() == PAIRS {
-                nodes.push(std::mem::replace(&mut node, Node::new(vec![])));
+            if node.pairs.len() == PAIRS {
+                nodes.push(std::mem::replace(&mut node, Node::new(None)));
                 between.push((key, value));
             } else {
-                node.keys.push(key);
-                node.values.push(value);
+                node.pairs.push(key, value);
             }
         }
         nodes.push(node);
@@ -182,18 +190,17 @@ impl<K: Ord, V> Map<K, V> {
 }
 
 /// The nodes over some nodes with a pair between each two, and the pairs between these.
-fn level_above<K: Ord, V>(below: Vec<Box<Node<K, V>>>, between: Vec<(K, V)>) -> (Vec<Box<Node<K, V>>>, Vec<(K, V)>) {
+fn level_above<K: Ord, V>(below: Edges<K, V>, between: Vec<(K, V)>) -> (Edges<K, V>, Vec<(K, V)>) {
     let (mut nodes, mut left) = (vec![], vec![]);
     let mut below = below.into_iter();
-    let mut node = Node::new(below.next().into_iter().collect());
+    let mut node = Node::new(Some(Box::new(below.next().into_iter().collect())));
     for ((key, value), edge) in between.into_iter().zip(below) {
-        if node.keys.len() == PAIRS {
-            nodes.push(std::mem::replace(&mut node, Node::new(vec![edge])));
+        if node.pairs.len() == PAIRS {
+            nodes.push(std::mem::replace(&mut node, Node::new(Some(Box::new(vec![edge])))));
             left.push((key, value));
         } else {
-            node.keys.push(key);
-            node.values.push(value);
-            node.edges.push(edge);
+            node.pairs.push(key, value);
+            node.edges.get_or_insert_default().push(edge);
         }
     }
     nodes.push(node);
