@@ -200,7 +200,7 @@ fn level_above<K: Ord, V>(below: Edges<K, V>, between: Vec<(K, V)>) -> (Edges<K,
             left.push((key, value));
         } else {
             node.pairs.push(key, value);
-            node.edges.get_or_insert_default().push(edge);
+            node.edges.get_or_insert_with(Box::default).push(edge);
         }
     }
     nodes.push(node);

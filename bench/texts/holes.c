@@ -1,8 +1,8 @@
 // Under LD_PRELOAD: when a process first reads the clock of its processor time, the holes in its heap are filled.
 //
 // What a program did before, here the making of its types, leaves free blocks behind, other ones in each program. How long malloc looks for a
-// block depends on them, by a tenth of what it takes to decode small messages. So each program begins with a heap that has none: blocks of
-// falling sizes are taken, and kept, until each comes from the heap's end.
+// block depends on them, by up to a tenth of what it takes to decode groups of a few fields. So each program begins with a heap that has none:
+// blocks of falling sizes are taken, and kept, until each comes from the heap's end.
 #define _GNU_SOURCE
 #include <malloc.h>
 #include <stdlib.h>
