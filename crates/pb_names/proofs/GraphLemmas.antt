@@ -42,7 +42,7 @@ pub public_more : (targets : List (Option ℕ)) (zs : List ℤ) (i : ℕ) (z : �
 public_more targets zs i z old new r less is at was now =
     now ∙ ap (λ l. l ++ option_to_list r) was ∙ ap (λ o. filter_map (target_at targets) (take i zs) ++ option_to_list o) at ∙ sym (filter_more (target_at targets) zs i z less is)
 
-taken : {X : Type 0} (xs : List X) (i : ℕ) → i < length xs → (x : X) × (x ≡ get_or xs i x) × (slice_get xs i ≡ Some x)
+pub taken : {X : Type 0} (xs : List X) (i : ℕ) → i < length xs → (x : X) × (x ≡ get_or xs i x) × (slice_get xs i ≡ Some x)
 taken [] i less = absurd (omega (arith, less))
 taken (x ∷ xs) zero less = (x, refl, refl)
 taken (x ∷ xs) (suc i) less = taken xs i (omega (arith, less))

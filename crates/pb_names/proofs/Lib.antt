@@ -21,8 +21,6 @@ pub mod FirstsLemmas
 pub mod GraphLemmas
 -- for the walk that numbers components, and for files that no import leads back to
 pub mod ComponentLemmas
--- for the flat copy of a graph: its lists are those of the graph
-pub mod FlatLemmas
 -- for sets of names, and the packages that files make
 pub mod NameSetsLemmas
 -- for scopes, one after another outwards

@@ -1,19 +1,10 @@
 -- Components of a graph by numbers: what a walk has to do, and what its numbers are looked at for.
-use Rattle.std.specs.Prelude.{◌≡◌, ◌<◌, ◌≤◌, ◌+◌, ℕ, List, [], ◌∷◌, length, map, take, drop, All, vec_len}
+use Rattle.std.specs.Prelude.{◌≡◌, ◌<◌, ◌≤◌, ◌+◌, ℕ, List, [], ◌∷◌, length, All, vec_len}
 use Rattle.std.specs.List.{slice_index_or}
 use Rattle.pb_sets.specs.Reach.{next_of}
 use Rattle.pb_names.specs.declared.components.Progress.{Progress}
 use Rattle.pb_names.specs.declared.components.Progress.TheVariants.{Unseen, Open, Numbered}
 use Rattle.pb_names.specs.declared.components.Walk.{Walk}
-use Rattle.pb_names.specs.declared.components.flat.FlatGraph.{FlatGraph}
-
--- the part of a list that begins at a place and is so long
-abbrev pub part_of : List ℕ → ℕ × ℕ → List ℕ
-part_of targets r = take r.1 (drop r.0 targets)
-
--- the lists that lie one behind the other
-abbrev pub lists_of : FlatGraph → List (List ℕ)
-lists_of f = map (part_of f.targets.items) f.ranges.items
 
 -- a number for each index, and the open ones are among them
 pub record Fits (w : Walk) : Type 0 where

@@ -3,12 +3,9 @@
 ghost use Rattle.std.specs.Prelude.{◌≡◌, ◌<◌, ◌≤◌, ◌↔◌, ℕ, List, IsTrue, IfOk, OnOk, All, vec_len};
 ghost use Rattle.std.specs.List.{slice_index_or};
 ghost use Rattle.pb_sets.specs.Reach.{graph_of, next_of};
-ghost use Rattle.pb_names.specs.Components.{lists_of, Fits, work_left, number_of, NeverRise};
+ghost use Rattle.pb_names.specs.Components.{Fits, work_left, number_of, NeverRise};
 ghost use Rattle.pb_names.specs.declared.components.Progress.TheVariants.{Numbered};
 
-mod flat;
-
-use crate::components::flat::FlatGraph;
 use pb_sets::reach::next_of;
 use std::alloc::{AllocError, Global};
 
@@ -64,10 +61,10 @@ impl Walk {
     }
 
     /// Opens an index that was not seen, and enters what it leads to.
-    fn enter(&mut self, graph: &FlatGraph, index: usize) -> Result<(), AllocError>
+    fn enter(&mut self, graph: &[Vec<usize>], index: usize) -> Result<(), AllocError>
         requires { Fits self.old }
         ensures fits { OnOk result (Fits self.new) }
-        ensures work { OnOk result (work_left (lists_of graph.now) self.new ≤ work_left (lists_of graph.now) self.old) }
+        ensures work { OnOk result (work_left (graph_of graph.now) self.new ≤ work_left (graph_of graph.now) self.old) }
     {
         let Progress::Unseen = self.progress_of(index) else {
             return Ok(());
@@ -75,7 +72,7 @@ impl Walk {
         self.progress[index] = Progress::Open(self.opened.len());
         self.opened.push(index)?;
         self.steps.push(Step::Leave(index))?;
-        for next in graph.next(index) {
+        for next in next_of(graph, index) {
             self.steps.push(Step::Enter(*next))?;
         }
         Ok(())
@@ -120,15 +117,15 @@ impl Walk {
     }
 
     /// Closes the component of an index that leads to nothing that was opened before it.
-    fn leave(&mut self, graph: &FlatGraph, index: usize)
+    fn leave(&mut self, graph: &[Vec<usize>], index: usize)
         requires { Fits self.old }
         ensures fits { Fits self.new }
-        ensures work { work_left (lists_of graph.now) self.new ≤ work_left (lists_of graph.now) self.old }
+        ensures work { work_left (graph_of graph.now) self.new ≤ work_left (graph_of graph.now) self.old }
     {
         let Progress::Open(place) = self.progress_of(index) else {
             return;
         };
-        let first = self.first_place(place, graph.next(index));
+        let first = self.first_place(place, next_of(graph, index));
         if first == place {
             self.close(index);
         } else {
@@ -137,7 +134,7 @@ impl Walk {
     }
 
     /// Numbers an index and all that it leads to.
-    fn walk_from(&mut self, graph: &FlatGraph, start: usize) -> Result<(), AllocError>
+    fn walk_from(&mut self, graph: &[Vec<usize>], start: usize) -> Result<(), AllocError>
         requires { Fits self.old }
         ensures { OnOk result (Fits self.new) }
     {
@@ -189,10 +186,9 @@ fn never_rise(graph: &[Vec<usize>], numbers: &[usize]) -> bool
 pub fn component_numbers(alloc: Global, graph: &[Vec<usize>]) -> Result<Vec<usize>, AllocError>
     ensures { IfOk result (λ v. NeverRise (graph_of graph.now) v.items) }
 {
-    let flat = FlatGraph::new(alloc, graph)?;
     let mut walk = Walk::new(alloc, graph.len())?;
     for index in 0..graph.len() {
-        walk.walk_from(&flat, index)?;
+        walk.walk_from(graph, index)?;
     }
     if !never_rise(graph, &walk.numbers) {
         return Ok(Vec::new(alloc));

@@ -28,3 +28,5 @@ pub mod UseLemmas
 pub mod MapLemmas
 -- for `first_fault`: what the tables tell at a place holds of the declaration there
 pub mod TableLemmas
+-- for `first_cycle`: where imports have no cycle no file reaches itself
+pub mod CycleLemmas

@@ -15,6 +15,7 @@ use pb_names::components::{component_numbers, number_of};
 use pb_names::declaration::Declaration;
 use pb_names::imports::Imports;
 use pb_names::type_refs::file_in;
+use pb_sets::cycles::is_acyclic;
 use pb_sets::reach::{Reach, next_of};
 use std::alloc::{AllocError, Global};
 
@@ -75,8 +76,8 @@ fn is_cycle_at(
     Ok(is_cyclic)
 }
 
-/// The place of the first file that reaches itself. Files behind it are not asked, so that one file is walked at most.
-pub(crate) fn first_cycle(
+/// The place of the first file that reaches itself, if one does. Files behind it are not asked, so that one file is walked at most.
+fn find_cycle(
     alloc: Global,
     row: &[Declaration],
     imports: &Imports,
@@ -93,4 +94,22 @@ pub(crate) fn first_cycle(
         }
     }
     Ok(None)
+}
+
+/// The place of the first file that reaches itself. Most sets have none, and one quick walk tells that.
+pub(crate) fn first_cycle(
+    alloc: Global,
+    row: &[Declaration],
+    imports: &Imports,
+) -> Result<Option<usize>, AllocError>
+    requires { LeadToFiles imports.now }
+    ensures { IfOk result (λ first. (files : List DeclaredFile) (w : World) → AreImports files imports.now → IsWorldOf files w
+        → w.declared ≡ map declaration_view row.now → first ≡ position not (holds_table w ImportCycle)) }
+{
+    let free = is_acyclic(alloc, &imports.all)?;
+    if free {
+        return Ok(None);
+    }
+    let first = find_cycle(alloc, row, imports)?;
+    Ok(first)
 }

@@ -1,14 +1,15 @@
 -- Imports as a graph.
-use Rattle.std.proofs.Common.{◌≡◌, ℕ, zero, suc, ◌<◌, List, [], ◌∷◌, map, length, refl, sym, ap, subst, Contains}
+use Rattle.std.proofs.Common.{◌≡◌, ℕ, zero, suc, ◌<◌, ◌↔◌, List, [], ◌∷◌, map, length, refl, sym, ap, subst, Contains}
 use Rattle.std.specs.List.{AllByRecursion}
 use Rattle.std.proofs.lemmas.List.{length-map}
 use Rattle.std.proofs.lemmas.List.Elements.{All-contains, All-from_recursion}
 use Rattle.pb_sets.specs.Reach.{next_of, Reached, begun, further as led, IsGraph}
+use Rattle.pb_sets.specs.Cycles.{IsAcyclic}
 use Rattle.pb_sets.proofs.ContainsLemmas.{Contains-none}
 use Rattle.pb_schema.specs.declared.types.FileInfo.{FileInfo}
 use Rattle.pb_schema.specs.View.{file_view}
 use Rattle.pb_schema.specs.Types.{FileView}
-use Rattle.pb_schema.specs.Rules.{ImportsNameFiles}
+use Rattle.pb_schema.specs.Rules.{ImportsNameFiles, NoFileReachesItself}
 use Rattle.pb_schema.specs.Imports.{imports_of, Reaches, directly, further}
 
 -- the imports of a file of the list are in range
@@ -48,3 +49,16 @@ reaches_from files i starts right j (led {k} way among) = further (reaches_from 
 pub reached_by : (files : List FileView) (i : ℕ) (starts : List ℕ) → ((j : ℕ) → Contains (imports_of files i) j → Contains starts j) → (j : ℕ) → Reaches files i j → Reached (graph_of_files files) starts j
 reached_by files i starts all j (directly among) = begun (all j among)
 reached_by files i starts all j (further {k} way among) = led (reached_by files i starts all k way) (subst (λ l. Contains l j) (sym (next_files files k)) among)
+
+-- the graph of imports has no cycle exactly where no file reaches itself
+pub acyclic_files : (files : List FileInfo) → IsAcyclic (map (λ f. f.imports.items) files) ↔ NoFileReachesItself (map file_view files)
+acyclic_files files = (
+  λ free i r. subst IsAcyclic (viewed_graph files) free i (reached_by views i (next_of graph i) (λ j at. subst (λ l. Contains l j) (sym (next_files views i)) at) i r),
+  λ none. subst IsAcyclic (sym (viewed_graph files)) (λ i r. none i (reaches_from views i (next_of graph i) (λ j at. directly (subst (λ l. Contains l j) (next_files views i) at)) i r)),
+)
+  where
+    views : List FileView
+    views = map file_view files
+
+    graph : List (List ℕ)
+    graph = graph_of_files views

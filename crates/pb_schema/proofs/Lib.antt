@@ -20,8 +20,6 @@ mod RuleRows
 pub mod Loops
 -- for imports as a graph
 pub mod ImportLemmas
--- for the rule that no file reaches itself
-pub mod CycleLemmas
 -- for what is known of the files that a file sees
 pub mod SightLemmas
 -- for the rules of declaration order, and of messages in messages

@@ -1,7 +1,6 @@
 -- Parts that break one rule of a pool each, and so are none, worked out by the definitions.
-use Rattle.std.proofs.Common.{◌≡◌, ◌<◌, ◌≤◌, ℕ, List, [], ◌∷◌, None, Some, true, false, refl, arith, inl, inr}
+use Rattle.std.proofs.Common.{◌≡◌, ◌<◌, ◌≤◌, ℕ, List, [], ◌∷◌, None, true, false, refl, arith, inl, inr}
 use Rattle.std.specs.Prelude.{codes, ℤ, pos, Bool, Option, ◌⊎◌}
-use Rattle.pb_schema.specs.declared.types.Kind.{Kind}
 use Rattle.pb_schema.specs.declared.types.Kind.TheVariants as kind
 use Rattle.pb_schema.specs.declared.types.Shape.TheVariants as shape
 use Rattle.pb_schema.specs.Types.{FieldView, MessageView, EnumView, FileView, Types}

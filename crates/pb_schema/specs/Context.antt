@@ -1,5 +1,5 @@
 -- What a pool says of records inside messages, map entries and groups: the instance for the rules of soundness and of faults.
-use Rattle.std.specs.Prelude.{ℕ, List, [], ◌∷◌, Bool, true, false, Option, Some, None, ◌==◌, if◌then◌else◌}
+use Rattle.std.specs.Prelude.{ℕ, List, [], ◌∷◌, Bool, true, false, Option, Some, None}
 use Rattle.pb_wire.specs.Schema as wire
 use Rattle.pb_wire.specs.Schema.{Schema, Element, a_varint, four_bytes, eight_bytes, Reading}
 use Rattle.pb_schema.specs.declared.types.Kind.{Kind}
@@ -7,7 +7,7 @@ use Rattle.pb_schema.specs.declared.types.Kind.TheVariants as kind
 use Rattle.pb_schema.specs.declared.types.Shape.{Shape}
 use Rattle.pb_schema.specs.declared.types.Shape.TheVariants as shape
 use Rattle.pb_schema.specs.Types.{FieldView, Types, message_fields, field_numbered}
-use Rattle.pb_schema.specs.Kinds.{wire_type_of, is_group, message_of_kind}
+use Rattle.pb_schema.specs.Kinds.{is_group, message_of_kind}
 
 -- what records stand in: a message of a type, a map entry with these kinds of key and value, or a group that no schema knows
 pub data Context : Type 0 where

@@ -1,5 +1,4 @@
 -- Which files a file reaches by imports.
-pub mod Cycles
 pub mod Sight
 use Rattle.std.specs.Prelude.{◌≡◌, ◌⊎◌, ℕ, List, [], Option, Some, None, slice_get, Contains}
 use Rattle.pb_schema.specs.Types.{FileView}

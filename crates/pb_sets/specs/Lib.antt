@@ -1,2 +1,4 @@
+pub mod Cycles
+pub mod Flat
 pub mod NameSets
 pub mod Reach

@@ -41,19 +41,22 @@ pub(crate) fn varint_at_front(bytes: &[u8]) -> Result<(u64, usize), WireFault>
     }
 }
 
-/// The varint of two or three bytes at the front, where three bytes are there and it is one.
+/// The varint of two or three bytes at the front, if it is one.
 #[inline(always)]
 fn short_varint(bytes: &[u8]) -> Option<(u64, usize)>
     ensures within { IfSome result (λ found. found.1 ≤ length bytes.now) }
     ensures found { IfSome result (λ found. IsVarint found.0 (take found.1 bytes.now)) }
 {
-    if bytes.len() < 3 || bytes[0] < 0x80 {
+    if bytes.len() < 2 || bytes[0] < 0x80 {
         return None;
     }
     let one = u64::from(bytes[0] & 0x7f);
     let two = one | u64::from(bytes[1] & 0x7f) << 7;
     if bytes[1] < 0x80 {
         return Some((two, 2));
+    }
+    if bytes.len() < 3 {
+        return None;
     }
     let three = two | u64::from(bytes[2] & 0x7f) << 14;
     if bytes[2] < 0x80 {

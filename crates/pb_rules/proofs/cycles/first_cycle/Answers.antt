@@ -1,21 +1,8 @@
-use Rattle.std.proofs.Common.{sym, ◌∙◌, arith}
-use Rattle.pb_rules.proofs.TableLemmas.{held_more, first_failing, none_failing}
+use Rattle.pb_rules.proofs.CycleLemmas.{none_cyclic}
 use Rattle.pb_rules.proofs.cycles.first_cycle.Goals as goal
 
-pub returns-then-branch : goal.returns-then-branch
-returns-then-branch c files w are world e =
-    let place = c.loop-place.place in
-    first_failing w c.args.row.now place c.index-row-place.result e c.loop-place-test.true c.index-row-place.is (sym c.if-branch.true ∙ c.in_ok-is_cycle_at.ensures.exact files w place are world) (c.loop-place.invariant.2 files w are world e)
+pub is_acyclic-requires : goal.is_acyclic-requires
+is_acyclic-requires c = c.requires.all
 
-pub loop-place-preserved : goal.loop-place-preserved
-loop-place-preserved c = (
-  c.in_ok-is_cycle_at.ensures.listed,
-  c.in_ok-is_cycle_at.ensures.size,
-  λ files w are world e.
-      let place = c.loop-place.place in
-      held_more w c.args.row.now place c.index-row-place.result e c.loop-place-test.true c.index-row-place.is (sym (c.in_ok-is_cycle_at.ensures.exact files w place are world) ∙ c.if-branch.false) (c.loop-place.invariant.2 files w are world e),
-)
-
-pub returns : goal.returns
-returns c files w are world e =
-    none_failing w c.args.row.now c.loop-place.place e (omega (arith, c.loop-place-test.false)) (c.loop-place.invariant.2 files w are world e)
+pub returns-then-free : goal.returns-then-free
+returns-then-free c files w are world is = none_cyclic files w c.args.imports.now c.args.row.now are world is (c.in_ok-free.ensures.0 c.if-free.true)

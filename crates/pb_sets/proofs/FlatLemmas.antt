@@ -1,10 +1,9 @@
--- Lists that lie one behind the other: one more leaves those before it as they are.
+-- Lists laid one behind the other: one more leaves those before it as they are.
 use Rattle.std.proofs.Common.{◌≡◌, ℕ, ◌+◌, ◌≤◌, List, [], ◌∷◌, ◌++◌, length, map, take, drop, refl, ap, ◌∙◌, arith, length-append, length-drop, ◌<◌, get_or, sym, subst}
 use Rattle.std.specs.List.{AllByRecursion}
 use Rattle.std.proofs.Math.Seq.{drop-append_seam}
-use Rattle.std.proofs.lemmas.List.{map-append, take_all, take-append-le, drop-append-le}
-use Rattle.pb_names.proofs.GraphLemmas.{map_more}
-use Rattle.pb_names.specs.Components.{part_of}
+use Rattle.std.proofs.lemmas.List.{map-append, map_more, take_all, take-append-le, drop-append-le}
+use Rattle.pb_sets.specs.Flat.{part_of}
 
 abbrev pub IsWithin : List ℕ → ℕ × ℕ → Type 0
 IsWithin targets r = r.0 + r.1 ≤ length targets
@@ -40,7 +39,7 @@ pub laid_more : {X : Type 0} (g : X → List ℕ) (xs : List X) (i : ℕ) (x : X
     → (map (part_of now) after ≡ map g (take (i + 1) xs)) × AllByRecursion (IsWithin now) after
 laid_more g xs i x targets more now rs after start size less is list at long laid put was =
     subst (λ (t : List ℕ). Laid t after) (sym laid) (subst (λ (l : List (ℕ × ℕ)). Laid (targets ++ more) l) (sym ranges) (
-      parts_more targets more rs was.1 ∙ ap (λ l. l ++ more ∷ []) was.0 ∙ ap (λ l. map g (take i xs) ++ l ∷ []) list ∙ sym (map_more g xs i x less is),
+      parts_more targets more rs was.1 ∙ ap (λ l. l ++ more ∷ []) was.0 ∙ ap (λ l. map g (take i xs) ++ l ∷ []) (list ∙ ap g is) ∙ sym (map_more g xs i x less),
       within_more targets more rs was.1,
     ))
   where

@@ -6,7 +6,7 @@ use Rattle.pb_sets.specs.Reach.{IsListed}
 use Rattle.pb_names.specs.Graphs.{AreImports}
 use Rattle.pb_names.specs.View.{declaration_view}
 use Rattle.pb_rules.proofs.TableLemmas.{IsHeldBefore}
-use Rattle.pb_rules.proofs.cycles.first_cycle.Given as goal
+use Rattle.pb_rules.proofs.cycles.find_cycle.Given as goal
 
 abbrev pub invariant-loop-place : goal.invariant-loop-place
 invariant-loop-place l =

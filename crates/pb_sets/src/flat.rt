@@ -1,9 +1,10 @@
-//! A graph whose lists lie one behind the other, so that a walk touches little memory.
+//! A graph whose lists stand in one, so that a walk touches little memory.
 
-ghost use Rattle.std.specs.Prelude.{◌≡◌, IfOk};
-ghost use Rattle.pb_sets.specs.Reach.{graph_of, next_of};
-ghost use Rattle.pb_names.specs.Components.{part_of, lists_of};
+ghost use Rattle.std.specs.Prelude.{◌≡◌, ◌<◌, ◌^◌, length, map, IfOk};
+ghost use Rattle.pb_sets.specs.Reach.{next_of};
+ghost use Rattle.pb_sets.specs.Flat.{part_of, lists_of};
 
+use crate::reach::Node;
 use std::alloc::{AllocError, Global};
 
 /// Where each index leads.
@@ -25,12 +26,13 @@ fn part(targets: &[usize], start: usize, size: usize) -> &[usize]
 
 impl FlatGraph {
     /// The same lists as those of a graph.
-    pub(crate) fn new(alloc: Global, graph: &[Vec<usize>]) -> Result<FlatGraph, AllocError>
-        ensures { IfOk result (λ f. lists_of f ≡ graph_of graph.now) }
+    pub(crate) fn new<N: Node>(alloc: Global, graph: &[N]) -> Result<FlatGraph, AllocError>
+        ensures { IfOk result (λ f. lists_of f ≡ map N.leads_to graph.now) }
     {
         let mut ranges = Vec::with_capacity(alloc, graph.len())?;
         let mut targets: Vec<usize> = Vec::new(alloc);
-        for next in graph {
+        for node in graph {
+            let next = node.next();
             ranges.push((targets.len(), next.len()))?;
             targets.extend_from_slice(next)?;
         }
@@ -39,7 +41,8 @@ impl FlatGraph {
 
     /// Where an index leads.
     pub(crate) fn next(&self, index: usize) -> &[usize]
-        ensures { result.now ≡ next_of (lists_of self.now) index }
+        ensures exact { result.now ≡ next_of (lists_of self.now) index }
+        ensures small { length result.now < 2 ^ 63 }
     {
         match self.ranges.get(index) {
             Some((start, size)) => part(&self.targets, *start, *size),

@@ -1,0 +1,9 @@
+use Rattle.std.proofs.Common.{◌≡◌, ℕ, ◌<◌, []}
+use Rattle.pb_sets.specs.declared.cycles.Progress.TheVariants.{Done}
+use Rattle.pb_sets.specs.Flat.{lists_of}
+use Rattle.pb_sets.specs.Cycles.{AreSettled, progress_of}
+use Rattle.pb_sets.proofs.cycles.is_acyclic.Given as goal
+
+abbrev pub invariant-loop-index : goal.invariant-loop-index
+invariant-loop-index g l =
+    AreSettled (lists_of l.flat) l.progress.items × ((k : ℕ) → k < l.index → progress_of l.progress.items k ≡ Done) × (l.path.items ≡ [])
