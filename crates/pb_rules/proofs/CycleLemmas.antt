@@ -1,5 +1,5 @@
 -- Where imports have no cycle the rule of cycles fails nowhere.
-use Rattle.std.proofs.Common.{◌≡◌, ℕ, zero, suc, ◌+◌, ◌<◌, ◌≤◌, List, [], ◌∷◌, map, length, get_or, Bool, false, not, refl, sym, arith, Option, Some, None}
+use Rattle.std.proofs.Common.{◌≡◌, ℕ, zero, suc, ◌≤◌, List, map, length, false, not, refl, sym, arith, Option, Some, None}
 use Rattle.std.specs.Prelude.{position}
 use Rattle.std.proofs.lemmas.Bool.{false≢true}
 use Rattle.pb_decl.specs.Decls.{DeclaredFile}
@@ -32,7 +32,9 @@ held_up_to : (files : List DeclaredFile) (w : World) (m : Imports) (row : List D
 held_up_to files w m row are world is free zero within = λ q less. absurd (omega (arith, less))
 held_up_to files w m row are world is free (suc i) within =
     let here = taken row i (omega (arith, within)) in
-    held_more w row i here.0 is (omega (arith, within)) here.1.0 (not_cyclic files w m i (declaration_view here.0) are world free) (held_up_to files w m row are world is free i (omega (arith, within)))
+    λ q less.
+    held_more w row i here.0 is (omega (arith, within)) here.1 (not_cyclic files w m i (declaration_view here.0) are world free)
+    (held_up_to files w m row are world is free i (omega (arith, within))) q (omega (arith, less))
 
 pub none_cyclic : (files : List DeclaredFile) (w : World) (m : Imports) (row : List DeclarationValue) → AreImports files m → IsWorldOf files w → w.declared ≡ map declaration_view row
     → IsAcyclic (graph_of m.all.items) → None ≡ position not (holds_table w cause.ImportCycle)

@@ -1,5 +1,5 @@
 -- Where files stand in a row of declarations: no message, enum or service names one, so a row names those whose declarations it is.
-use Rattle.std.proofs.Common.{◌≡◌, ℕ, zero, suc, ◌+◌, List, [], ◌∷◌, ◌++◌, Bool, true, false, ◌||◌, map, take, length, refl, sym, ap, ◌∙◌, arith, Option, Some, ◌⊎◌, ⊎_elim}
+use Rattle.std.proofs.Common.{◌≡◌, ℕ, zero, suc, ◌+◌, List, [], ◌∷◌, ◌++◌, Bool, true, false, ◌||◌, map, take, length, refl, sym, ap, ◌∙◌, arith, Option, Some, ⊎_elim}
 use Rattle.std.specs.Prelude.{slice_get}
 use Rattle.std.specs.List.{list_any, enumerate_from}
 use Rattle.std.specs.Option.{option_map_or}

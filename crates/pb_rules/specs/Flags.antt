@@ -1,5 +1,5 @@
 -- What the rules of files and of free names come to, by place; and when type names may be looked up.
-use Rattle.std.specs.Prelude.{◌≡◌, ℕ, List, ◌&&◌, ◌||◌, length, take, Bool, true, false, not, nat_lt, nat_le, ◌==◌, ◌^◌, Option, Some, None}
+use Rattle.std.specs.Prelude.{ℕ, List, ◌&&◌, ◌||◌, length, take, Bool, true, false, not, nat_lt, nat_le, ◌==◌, ◌^◌, Option, Some, None}
 use Rattle.std.specs.List.{list_any, list_all, slice_index_or}
 use Rattle.std.specs.Option.{option_map_or}
 use Rattle.pb_decl.specs.Decls.{DeclaredFile}

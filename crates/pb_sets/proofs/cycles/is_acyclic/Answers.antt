@@ -9,6 +9,6 @@ pub returns : goal.returns
 returns g c =
     let size = ap length c.in_ok-flat.ensures ∙ length-map c.args.graph.now g.N.Node.leads_to in (
       λ _. subst IsAcyclic c.in_ok-flat.ensures (no_cycle (lists_of c.in_ok-flat.flat) c.loop-index.progress.items c.loop-index.invariant.0
-        (λ k h. c.loop-index.invariant.1 k (omega (arith, h, size, c.loop-index-test.false)))),
+          (λ k h. c.loop-index.invariant.1 k (omega (arith, h, size, c.loop-index-test.false)))),
       λ _. refl,
     )
