@@ -43,6 +43,7 @@ fn message_in(alloc: Global, content: Option<Content>) -> Body
 }
 
 /// Says that a slot of a part holds nothing that a message for it goes on from.
+#[inline(always)]
 pub fn is_free(part: &Part, slot: Slot) -> bool
     ensures { result ≡ true → (taken_message slot (part_view part.now) ≡ empty) × (without_message slot (part_view part.now) ≡ part_view part.now) }
 {

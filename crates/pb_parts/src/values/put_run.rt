@@ -56,7 +56,10 @@ pub fn put_run(alloc: Global, part: &mut Part, number: u32, run: Run) -> Result<
     ensures { OnOk result (part_view part.new ≡ put_run number run (part_view part.old)) }
 {
     let Run { values, undeclared } = run;
-    put_records(part, undeclared)?;
+    // Most runs have none.
+    if !undeclared.is_empty() {
+        put_records(part, undeclared)?;
+    }
     put_elements(alloc, part, number, values)?;
     Ok(())
 }
