@@ -1,10 +1,12 @@
 -- What is read at once into a part, wherever it is open: of any type, any levels, any records before and any first place.
 pub mod Groups
-use Rattle.std.specs.Prelude.{◌≡◌, ℕ, Bool, true, List, Option, Some, IfSome}
+use Rattle.std.specs.Prelude.{◌≡◌, ◌<◌, ◌≤◌, ◌^◌, ℕ, Bool, true, List, Option, Some, IfSome, length}
 use Rattle.pb_wire.specs.Record.{Record}
 use Rattle.pb_wire.specs.Fault.{Place, HasTag}
 use Rattle.pb_wire.specs.Token.{given_at, passed}
 use Rattle.pb_schema.specs.Types.{Types}
+use Rattle.pb_schema.specs.Rules.{IsPool}
+use Rattle.pb_parts.specs.declared.tokens.record_tag.RecordTag.{RecordTag}
 use Rattle.pb_parts.specs.declared.open.part.Part.{Part as PartKept}
 use Rattle.pb_parts.specs.Open.Frames.{Part, Scope, Frame, Stands}
 use Rattle.pb_parts.specs.Open.PartView.{part_view}
@@ -28,6 +30,14 @@ pub record IsOpen (pool : Types) (now : Part) (bytes : List ℕ) (left room : �
 -- a tag stands at the front of the bytes, with so many before the known end, and takes so many of them
 abbrev pub HasTagAt : List ℕ → Option ℕ → ℕ → ℕ → ℕ → Type 0
 HasTagAt bytes left number type size = (at : ℕ) → HasTag (given_at at left bytes) number type (passed (given_at at left bytes) size)
+
+-- somewhere the part is open, and a tag stands at the front of the bytes that come next in it
+pub record IsAtTag (pool : Types) (now : Part) (bytes : List ℕ) (left room : ℕ) (tag : RecordTag) : Type 0 where
+  pub rules : IsPool pool
+  pub is_open : IsOpen pool now bytes left room
+  pub small : length bytes < 2 ^ 31
+  pub within : tag.size ≤ length bytes
+  pub there : HasTagAt bytes (Some left) tag.number tag.wire_type tag.size
 
 -- one stands behind so many of the bytes, with what stood there in the part
 abbrev pub FillsTo : Types → Part → Part → List ℕ → ℕ → ℕ → ℕ → Type 0

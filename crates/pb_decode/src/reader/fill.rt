@@ -7,7 +7,7 @@ ghost use Rattle.pb_parts.specs.declared.open.purpose.Purpose.TheVariants as pur
 ghost use Rattle.pb_parts.specs.Open.PartView.{part_view};
 ghost use Rattle.pb_parts.specs.Open.Purposes.{Means, part_context};
 ghost use Rattle.pb_parts.specs.Values.PayloadValue.{IsBytesPurpose};
-ghost use Rattle.pb_decode.specs.Reader.Fills.{IsOpen, HasTagAt, FillsOne, FillsAll};
+ghost use Rattle.pb_decode.specs.Reader.Fills.{IsOpen, IsAtTag, FillsOne, FillsAll};
 
 mod direct_pair;
 pub(crate) mod entries;
@@ -50,12 +50,8 @@ fn fill_one(
     left: u32,
     room: u8,
 ) -> Option<usize>
-    requires rules { IsPool pool.now }
-    requires open { IsOpen pool.now (part_view part.old) bytes.now left room }
-    requires small { length bytes.now < 2 ^ 31 }
+    requires at_tag { IsAtTag pool.now (part_view part.old) bytes.now left room tag }
     requires number { (tag.wire_type ≡ 0) ⊎ (tag.wire_type ≡ 1) ⊎ (tag.wire_type ≡ 5) }
-    requires within { tag.size ≤ length bytes.now }
-    requires tag { HasTagAt bytes.now (Some left) tag.number tag.wire_type tag.size }
     requires means { Means pool.now (part_context (part_view part.old)) tag.number tag.wire_type purpose }
     ensures passes { IfSome result (λ n. (tag.size ≤ n) × (n ≤ length bytes.now)) }
     ensures filled { FillsOne pool.now part.old part.new bytes.now left room result }
@@ -85,17 +81,33 @@ fn fill_other(
     left: u32,
     room: u8,
 ) -> Option<usize>
-    requires rules { IsPool pool.now }
-    requires open { IsOpen pool.now (part_view part.old) bytes.now left room }
-    requires small { length bytes.now < 2 ^ 31 }
+    requires at_tag { IsAtTag pool.now (part_view part.old) bytes.now left room tag }
     requires number { (tag.wire_type ≡ 0) ⊎ (tag.wire_type ≡ 1) ⊎ (tag.wire_type ≡ 5) }
-    requires within { tag.size ≤ length bytes.now }
-    requires tag { HasTagAt bytes.now (Some left) tag.number tag.wire_type tag.size }
     requires means { Means pool.now (part_context (part_view part.old)) tag.number tag.wire_type purpose }
     ensures passes { IfSome result (λ n. (tag.size ≤ n) × (n ≤ length bytes.now)) }
     ensures filled { FillsOne pool.now part.old part.new bytes.now left room result }
 {
     fill_one(alloc, pool, part, tag, purpose, bytes, left, room)
+}
+
+/// As `fill_one`, for a number that no field has.
+#[inline(never)]
+fn fill_unknown(
+    alloc: Global,
+    pool: &Pool,
+    part: &mut Part,
+    tag: RecordTag,
+    bytes: &[u8],
+    left: u32,
+    room: u8,
+) -> Option<usize>
+    requires at_tag { IsAtTag pool.now (part_view part.old) bytes.now left room tag }
+    requires number { (tag.wire_type ≡ 0) ⊎ (tag.wire_type ≡ 1) ⊎ (tag.wire_type ≡ 5) }
+    requires means { Means pool.now (part_context (part_view part.old)) tag.number tag.wire_type purposes.Unknown }
+    ensures passes { IfSome result (λ n. (tag.size ≤ n) × (n ≤ length bytes.now)) }
+    ensures filled { FillsOne pool.now part.old part.new bytes.now left room result }
+{
+    fill_one(alloc, pool, part, tag, Purpose::Unknown, bytes, left, room)
 }
 
 /// Puts the element behind a tag into its list, if it stands whole there, with those of the same list that follow on it, and how
@@ -111,12 +123,8 @@ fn fill_element(
     left: u32,
     room: u8,
 ) -> Option<usize>
-    requires rules { IsPool pool.now }
-    requires open { IsOpen pool.now (part_view part.old) bytes.now left room }
-    requires small { length bytes.now < 2 ^ 31 }
+    requires at_tag { IsAtTag pool.now (part_view part.old) bytes.now left room tag }
     requires number { (tag.wire_type ≡ 0) ⊎ (tag.wire_type ≡ 1) ⊎ (tag.wire_type ≡ 5) }
-    requires within { tag.size ≤ length bytes.now }
-    requires tag { HasTagAt bytes.now (Some left) tag.number tag.wire_type tag.size }
     requires means { Means pool.now (part_context (part_view part.old)) tag.number tag.wire_type (purposes.Element kind) }
     ensures passes { IfSome result (λ n. (tag.size ≤ n) × (n ≤ length bytes.now)) }
     ensures filled { FillsOne pool.now part.old part.new bytes.now left room result }
@@ -143,12 +151,8 @@ fn fill_number(
     left: u32,
     room: u8,
 ) -> Option<usize>
-    requires rules { IsPool pool.now }
-    requires open { IsOpen pool.now (part_view part.old) bytes.now left room }
-    requires small { length bytes.now < 2 ^ 31 }
+    requires at_tag { IsAtTag pool.now (part_view part.old) bytes.now left room tag }
     requires number { (tag.wire_type ≡ 0) ⊎ (tag.wire_type ≡ 1) ⊎ (tag.wire_type ≡ 5) }
-    requires within { tag.size ≤ length bytes.now }
-    requires tag { HasTagAt bytes.now (Some left) tag.number tag.wire_type tag.size }
     ensures passes { IfSome result (λ n. (tag.size ≤ n) × (n ≤ length bytes.now)) }
     ensures filled { FillsOne pool.now part.old part.new bytes.now left room result }
 {
@@ -159,12 +163,12 @@ fn fill_number(
             fill_one(alloc, pool, part, tag, purpose, bytes, left, room)
         }
         Purpose::Element(kind) => fill_element(alloc, pool, part, tag, kind, bytes, left, room),
+        Purpose::Unknown => fill_unknown(alloc, pool, part, tag, bytes, left, room),
         Purpose::Packed(_)
         | Purpose::Message(_, _)
         | Purpose::Entry(_, _)
         | Purpose::Key(_)
-        | Purpose::EntryValue(_)
-        | Purpose::Unknown => fill_other(alloc, pool, part, tag, purpose, bytes, left, room),
+        | Purpose::EntryValue(_) => fill_other(alloc, pool, part, tag, purpose, bytes, left, room),
     }
 }
 
@@ -180,12 +184,8 @@ fn fill_bytes(
     left: u32,
     room: u8,
 ) -> Option<usize>
-    requires rules { IsPool pool.now }
-    requires open { IsOpen pool.now (part_view part.old) bytes.now left room }
-    requires small { length bytes.now < 2 ^ 31 }
+    requires at_tag { IsAtTag pool.now (part_view part.old) bytes.now left room tag }
     requires bytes { tag.wire_type ≡ 2 }
-    requires within { tag.size ≤ length bytes.now }
-    requires tag { HasTagAt bytes.now (Some left) tag.number tag.wire_type tag.size }
     requires means { Means pool.now (part_context (part_view part.old)) tag.number 2 purpose }
     requires purpose { IsBytesPurpose purpose }
     ensures passes { IfSome result (λ n. (tag.size ≤ n) × (n ≤ length bytes.now)) }
@@ -219,12 +219,8 @@ fn fill_list(
     left: u32,
     room: u8,
 ) -> Option<usize>
-    requires rules { IsPool pool.now }
-    requires open { IsOpen pool.now (part_view part.old) bytes.now left room }
-    requires small { length bytes.now < 2 ^ 31 }
+    requires at_tag { IsAtTag pool.now (part_view part.old) bytes.now left room tag }
     requires bytes { tag.wire_type ≡ 2 }
-    requires within { tag.size ≤ length bytes.now }
-    requires tag { HasTagAt bytes.now (Some left) tag.number tag.wire_type tag.size }
     requires means { Means pool.now (part_context (part_view part.old)) tag.number 2 (purposes.Packed kind) }
     ensures passes { IfSome result (λ n. (tag.size ≤ n) × (n ≤ length bytes.now)) }
     ensures filled { FillsOne pool.now part.old part.new bytes.now left room result }
@@ -258,13 +254,9 @@ fn fill_entry(
     left: u32,
     room: u8,
 ) -> Option<usize>
-    requires rules { IsPool pool.now }
-    requires open { IsOpen pool.now (part_view part.old) bytes.now left room }
-    requires small { length bytes.now < 2 ^ 31 }
+    requires at_tag { IsAtTag pool.now (part_view part.old) bytes.now left room tag }
     requires bytes { tag.wire_type ≡ 2 }
     requires some { 0 < tag.size }
-    requires within { tag.size ≤ length bytes.now }
-    requires tag { HasTagAt bytes.now (Some left) tag.number tag.wire_type tag.size }
     requires means { Means pool.now (part_context (part_view part.old)) tag.number 2 (purposes.Entry key_kind value_kind) }
     ensures passes { IfSome result (λ n. (tag.size ≤ n) × (n ≤ length bytes.now)) }
     ensures filled { FillsOne pool.now part.old part.new bytes.now left room result }
@@ -320,13 +312,9 @@ fn fill_message(
     left: u32,
     room: u8,
 ) -> Option<usize>
-    requires rules { IsPool pool.now }
-    requires open { IsOpen pool.now (part_view part.old) bytes.now left room }
-    requires small { length bytes.now < 2 ^ 31 }
+    requires at_tag { IsAtTag pool.now (part_view part.old) bytes.now left room tag }
     requires bytes { tag.wire_type ≡ 2 }
     requires some { 0 < tag.size }
-    requires within { tag.size ≤ length bytes.now }
-    requires tag { HasTagAt bytes.now (Some left) tag.number tag.wire_type tag.size }
     requires means { Means pool.now (part_context (part_view part.old)) tag.number 2 (purposes.Message message_type slot) }
     ensures passes { IfSome result (λ n. (tag.size ≤ n) × (n ≤ length bytes.now)) }
     ensures filled { FillsOne pool.now part.old part.new bytes.now left room result }
@@ -375,13 +363,9 @@ fn fill_length(
     left: u32,
     room: u8,
 ) -> Option<usize>
-    requires rules { IsPool pool.now }
-    requires open { IsOpen pool.now (part_view part.old) bytes.now left room }
-    requires small { length bytes.now < 2 ^ 31 }
+    requires at_tag { IsAtTag pool.now (part_view part.old) bytes.now left room tag }
     requires bytes { tag.wire_type ≡ 2 }
     requires some { 0 < tag.size }
-    requires within { tag.size ≤ length bytes.now }
-    requires tag { HasTagAt bytes.now (Some left) tag.number tag.wire_type tag.size }
     ensures passes { IfSome result (λ n. (tag.size ≤ n) × (n ≤ length bytes.now)) }
     ensures filled { FillsOne pool.now part.old part.new bytes.now left room result }
 {

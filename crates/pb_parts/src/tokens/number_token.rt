@@ -67,6 +67,7 @@ fn four_byte_number(bytes: &[u8], left: Option<u32>) -> NumberToken
 }
 
 /// The number of a wire type at the front of some bytes, with so many bytes before the known end.
+#[inline(always)]
 pub fn number_at(wire_type: u8, bytes: &[u8], left: Option<u32>) -> NumberToken
     requires { (wire_type ≡ 0) ⊎ (wire_type ≡ 1) ⊎ (wire_type ≡ 5) }
     ensures { (at : ℕ) → TellsNumber wire_type (given_at at left bytes.now) result }

@@ -7,7 +7,7 @@ ghost use Rattle.pb_parts.specs.Open.Frames.{entry_part};
 ghost use Rattle.pb_parts.specs.Open.PartView.{part_view};
 ghost use Rattle.pb_parts.specs.Open.Purposes.{Means, part_context};
 ghost use Rattle.pb_decode.specs.Reader.Entries.{IsMapOpen, AddsEntry, TellsEntries};
-ghost use Rattle.pb_decode.specs.Reader.Fills.{IsOpen, HasTagAt, FillsOne};
+ghost use Rattle.pb_decode.specs.Reader.Fills.{IsOpen, IsAtTag, HasTagAt, FillsOne};
 ghost use Rattle.pb_decode.specs.Reader.Pairs.{AddsPair};
 
 use super::direct_pair::{Pair, direct_pair, put_pair};
@@ -276,13 +276,9 @@ pub(super) fn fill_entries(
     left: u32,
     room: u8,
 ) -> Option<usize>
-    requires rules { IsPool pool.now }
-    requires open { IsOpen pool.now (part_view part.old) bytes.now left room }
-    requires small { length bytes.now < 2 ^ 31 }
+    requires at_tag { IsAtTag pool.now (part_view part.old) bytes.now left room tag }
     requires bytes { tag.wire_type ≡ 2 }
     requires some { 0 < tag.size }
-    requires within { tag.size ≤ length bytes.now }
-    requires tag { HasTagAt bytes.now (Some left) tag.number tag.wire_type tag.size }
     requires means { Means pool.now (part_context (part_view part.old)) tag.number 2 (Entry key_kind value_kind) }
     ensures passes { IfSome result (λ n. (tag.size ≤ n) × (n ≤ length bytes.now)) }
     ensures filled { FillsOne pool.now part.old part.new bytes.now left room result }

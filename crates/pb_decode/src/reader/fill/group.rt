@@ -5,7 +5,7 @@ ghost use Rattle.pb_schema.specs.Rules.{IsPool};
 ghost use Rattle.pb_parts.specs.declared.open.purpose.Purpose.TheVariants as purposes;
 ghost use Rattle.pb_parts.specs.Open.PartView.{part_view};
 ghost use Rattle.pb_parts.specs.Open.Purposes.{Means, part_context};
-ghost use Rattle.pb_decode.specs.Reader.Fills.{IsOpen, HasTagAt};
+ghost use Rattle.pb_decode.specs.Reader.Fills.{IsOpen, IsAtTag};
 ghost use Rattle.pb_decode.specs.Reader.Fills.Groups.{IfWhole, Passes, FillsGroup, FillsUpToEnd};
 
 use super::groups::fill_groups;
@@ -80,12 +80,8 @@ fn fill_inside(
     left: u32,
     room: u8,
 ) -> Extent
-    requires rules { IsPool pool.now }
-    requires open { IsOpen pool.now (part_view part.old) bytes.now left room }
-    requires small { length bytes.now < 2 ^ 31 }
+    requires at_tag { IsAtTag pool.now (part_view part.old) bytes.now left room tag }
     requires some { 0 < tag.size }
-    requires within { tag.size ≤ length bytes.now }
-    requires tag { HasTagAt bytes.now (Some left) tag.number tag.wire_type tag.size }
     ensures passes { Passes tag.size result (length bytes.now) }
     ensures filled { FillsGroup pool.now part.old part.new bytes.now left room result }
 {
@@ -164,13 +160,9 @@ fn fill_field_group(
     left: u32,
     room: u8,
 ) -> Extent
-    requires rules { IsPool pool.now }
-    requires open { IsOpen pool.now (part_view part.old) bytes.now left room }
-    requires small { length bytes.now < 2 ^ 31 }
+    requires at_tag { IsAtTag pool.now (part_view part.old) bytes.now left room tag }
     requires start { tag.wire_type ≡ 3 }
     requires some { 0 < tag.size }
-    requires within { tag.size ≤ length bytes.now }
-    requires tag { HasTagAt bytes.now (Some left) tag.number tag.wire_type tag.size }
     requires room { 0 < room }
     requires means { Means pool.now (part_context (part_view part.old)) tag.number 3 (purposes.Message message_type slot) }
     ensures passes { Passes tag.size result (length bytes.now) }
@@ -213,13 +205,9 @@ fn fill_unknown_group(
     left: u32,
     room: u8,
 ) -> Extent
-    requires rules { IsPool pool.now }
-    requires open { IsOpen pool.now (part_view part.old) bytes.now left room }
-    requires small { length bytes.now < 2 ^ 31 }
+    requires at_tag { IsAtTag pool.now (part_view part.old) bytes.now left room tag }
     requires start { tag.wire_type ≡ 3 }
     requires some { 0 < tag.size }
-    requires within { tag.size ≤ length bytes.now }
-    requires tag { HasTagAt bytes.now (Some left) tag.number tag.wire_type tag.size }
     requires room { 0 < room }
     requires means { Means pool.now (part_context (part_view part.old)) tag.number 3 purposes.Unknown }
     ensures passes { Passes tag.size result (length bytes.now) }
@@ -259,13 +247,9 @@ pub(super) fn fill_group(
     left: u32,
     room: u8,
 ) -> Extent
-    requires rules { IsPool pool.now }
-    requires open { IsOpen pool.now (part_view part.old) bytes.now left room }
-    requires small { length bytes.now < 2 ^ 31 }
+    requires at_tag { IsAtTag pool.now (part_view part.old) bytes.now left room tag }
     requires start { tag.wire_type ≡ 3 }
     requires some { 0 < tag.size }
-    requires within { tag.size ≤ length bytes.now }
-    requires tag { HasTagAt bytes.now (Some left) tag.number tag.wire_type tag.size }
     ensures passes { Passes tag.size result (length bytes.now) }
     ensures filled { FillsGroup pool.now part.old part.new bytes.now left room result }
 {

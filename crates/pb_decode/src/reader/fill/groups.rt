@@ -6,7 +6,7 @@ ghost use Rattle.pb_parts.specs.declared.open.part.Slot.TheVariants.{List as Lis
 ghost use Rattle.pb_parts.specs.declared.open.purpose.Purpose.TheVariants.{Message as MessagePurpose};
 ghost use Rattle.pb_parts.specs.Open.PartView.{part_view};
 ghost use Rattle.pb_parts.specs.Open.Purposes.{Means, part_context};
-ghost use Rattle.pb_decode.specs.Reader.Fills.{IsOpen, HasTagAt};
+ghost use Rattle.pb_decode.specs.Reader.Fills.{IsAtTag, HasTagAt};
 ghost use Rattle.pb_decode.specs.Reader.Fills.Groups.{Passes, FillsGroup};
 ghost use Rattle.pb_decode.specs.Reader.Listed.{IsListOpen};
 ghost use Rattle.pb_decode.specs.Reader.Listed.Groups.{AddsGroup};
@@ -84,13 +84,9 @@ pub(super) fn fill_groups(
     left: u32,
     room: u8,
 ) -> Extent
-    requires rules { IsPool pool.now }
-    requires open { IsOpen pool.now (part_view part.old) bytes.now left room }
-    requires small { length bytes.now < 2 ^ 31 }
+    requires at_tag { IsAtTag pool.now (part_view part.old) bytes.now left room tag }
     requires start { tag.wire_type ≡ 3 }
     requires some { 0 < tag.size }
-    requires within { tag.size ≤ length bytes.now }
-    requires tag { HasTagAt bytes.now (Some left) tag.number tag.wire_type tag.size }
     requires room { 0 < room }
     requires means { Means pool.now (part_context (part_view part.old)) tag.number 3 (MessagePurpose message_type (ListSlot tag.number)) }
     ensures passes { Passes tag.size result (length bytes.now) }

@@ -70,25 +70,25 @@ pub fill-returns : goal.fill-returns
 fill-returns t c = λ all. subst (FillsTo c.args.pool.now (part_view c.args.part.now) (part_view c.loop-here.part) c.args.bytes.now c.args.size c.args.room) (number_is c.loop-here.here c.args.size all) c.loop-here.invariant.filled
 
 pub fill_length-purpose_of-purpose-requires : goal.fill_length-purpose_of-purpose-requires
-fill_length-purpose_of-purpose-requires t c = open_can c.requires.rules c.requires.open
+fill_length-purpose_of-purpose-requires t c = open_can c.requires.at_tag.rules c.requires.at_tag.is_open
 
 -- THE ENTRY
 pub fill_entry-fill-requires : goal.fill_entry-fill-requires
 fill_entry-fill-requires t c =
     let level = c.if-room-eq0.false in
     let is = ap length (slice_from c.in-Some.start c.args.bytes.now) ∙ length-drop c.in-Some.start c.args.bytes.now in
-    let small = c.requires.small in
-    let has = typed_tag c.args.bytes.now (Some c.args.left) c.args.tag.number c.args.tag.wire_type 2 c.args.tag.size c.requires.bytes c.requires.tag in
+    let small = c.requires.at_tag.small in
+    let has = typed_tag c.args.bytes.now (Some c.args.left) c.args.tag.number c.args.tag.wire_type 2 c.args.tag.size c.requires.bytes c.requires.at_tag.there in
     let some = c.requires.some in
     let later = c.in-Some.ensures.within.0 in
     let within = c.in-Some.ensures.within.1 in
     let less : 16 * length (take (length c.args.bytes.now - c.in-Some.start) (drop c.in-Some.start c.args.bytes.now)) + 7 < 16 * length c.args.bytes.now + 3 = omega (arith, is, some, later, within) in (
       search (rules, less),
       (
-        c.requires.rules,
+        c.requires.at_tag.rules,
         (
-          entry_in_part c.args.bytes.now c.args.left c.args.tag.number c.args.tag.size c.in-Some.start c.in-Some.size c.args.room c.args.key_kind c.args.value_kind c.requires.rules c.requires.open has
-              (λ at. c.in-Some.ensures.whole at c.args.tag.number c.args.tag.wire_type (c.requires.tag at)) c.requires.means (omega (arith, level)),
+          entry_in_part c.args.bytes.now c.args.left c.args.tag.number c.args.tag.size c.in-Some.start c.in-Some.size c.args.room c.args.key_kind c.args.value_kind c.requires.at_tag.rules c.requires.at_tag.is_open has
+              (λ at. c.in-Some.ensures.whole at c.args.tag.number c.args.tag.wire_type (c.requires.at_tag.there at)) c.requires.means (omega (arith, level)),
           (omega (arith, is, small), search (rules, is)),
         ),
       ),
@@ -97,25 +97,25 @@ fill_entry-fill-requires t c =
 pub fill_entry-put_entry-requires-clause-key : goal.fill_entry-put_entry-requires-clause-key
 fill_entry-put_entry-requires-clause-key t c =
     let level = c.if-room-eq0.false in
-    let from = c.requires.open in
-    let has = typed_tag c.args.bytes.now (Some c.args.left) c.args.tag.number c.args.tag.wire_type 2 c.args.tag.size c.requires.bytes c.requires.tag in
-    let read = entry_inside from.at (Some c.args.left) c.args.bytes.now c.args.tag.number c.args.tag.size c.in-Some.start c.in-Some.size c.args.room c.args.key_kind c.args.value_kind c.requires.rules from.stands (has from.at) (c.in-Some.ensures.whole from.at c.args.tag.number c.args.tag.wire_type (c.requires.tag from.at)) c.requires.means (omega (arith, level)) (c.if-not-fill.ensures refl) (ap part_view c.in-Entry.is) in
-    can_hold c.requires.rules (entry_part c.in-Entry.key_kind c.in-Entry.value_kind (option_map key_view c.in-Entry.key) (option_map value_view c.in-Entry.value)) read.1
+    let from = c.requires.at_tag.is_open in
+    let has = typed_tag c.args.bytes.now (Some c.args.left) c.args.tag.number c.args.tag.wire_type 2 c.args.tag.size c.requires.bytes c.requires.at_tag.there in
+    let read = entry_inside from.at (Some c.args.left) c.args.bytes.now c.args.tag.number c.args.tag.size c.in-Some.start c.in-Some.size c.args.room c.args.key_kind c.args.value_kind c.requires.at_tag.rules from.stands (has from.at) (c.in-Some.ensures.whole from.at c.args.tag.number c.args.tag.wire_type (c.requires.at_tag.there from.at)) c.requires.means (omega (arith, level)) (c.if-not-fill.ensures refl) (ap part_view c.in-Entry.is) in
+    can_hold c.requires.at_tag.rules (entry_part c.in-Entry.key_kind c.in-Entry.value_kind (option_map key_view c.in-Entry.key) (option_map value_view c.in-Entry.value)) read.1
 
 pub fill_entry-put_entry-requires-clause-fits : goal.fill_entry-put_entry-requires-clause-fits
 fill_entry-put_entry-requires-clause-fits t c =
     let level = c.if-room-eq0.false in
-    let from = c.requires.open in
-    let has = typed_tag c.args.bytes.now (Some c.args.left) c.args.tag.number c.args.tag.wire_type 2 c.args.tag.size c.requires.bytes c.requires.tag in
-    let read = entry_inside from.at (Some c.args.left) c.args.bytes.now c.args.tag.number c.args.tag.size c.in-Some.start c.in-Some.size c.args.room c.args.key_kind c.args.value_kind c.requires.rules from.stands (has from.at) (c.in-Some.ensures.whole from.at c.args.tag.number c.args.tag.wire_type (c.requires.tag from.at)) c.requires.means (omega (arith, level)) (c.if-not-fill.ensures refl) (ap part_view c.in-Entry.is) in
-    entry_has_room c.requires.rules c.in-Entry.key_kind c.in-Entry.value_kind (option_map key_view c.in-Entry.key) (option_map value_view c.in-Entry.value) read.1
+    let from = c.requires.at_tag.is_open in
+    let has = typed_tag c.args.bytes.now (Some c.args.left) c.args.tag.number c.args.tag.wire_type 2 c.args.tag.size c.requires.bytes c.requires.at_tag.there in
+    let read = entry_inside from.at (Some c.args.left) c.args.bytes.now c.args.tag.number c.args.tag.size c.in-Some.start c.in-Some.size c.args.room c.args.key_kind c.args.value_kind c.requires.at_tag.rules from.stands (has from.at) (c.in-Some.ensures.whole from.at c.args.tag.number c.args.tag.wire_type (c.requires.at_tag.there from.at)) c.requires.means (omega (arith, level)) (c.if-not-fill.ensures refl) (ap part_view c.in-Entry.is) in
+    entry_has_room c.requires.at_tag.rules c.in-Entry.key_kind c.in-Entry.value_kind (option_map key_view c.in-Entry.key) (option_map value_view c.in-Entry.value) read.1
 
 pub fill_entry-returns-in-Ok-clause-filled : goal.fill_entry-returns-in-Ok-clause-filled
 fill_entry-returns-in-Ok-clause-filled t c =
     λ m depth levels at base p0 frames there.
     let level = c.if-room-eq0.false in
-    let has = typed_tag c.args.bytes.now (Some c.args.left) c.args.tag.number c.args.tag.wire_type 2 c.args.tag.size c.requires.bytes c.requires.tag in
-    let read = entry_inside at (Some c.args.left) c.args.bytes.now c.args.tag.number c.args.tag.size c.in-Some.start c.in-Some.size c.args.room c.args.key_kind c.args.value_kind c.requires.rules there (has at) (c.in-Some.ensures.whole at c.args.tag.number c.args.tag.wire_type (c.requires.tag at)) c.requires.means (omega (arith, level)) (c.if-not-fill.ensures refl) (ap part_view c.in-Entry.is) in
+    let has = typed_tag c.args.bytes.now (Some c.args.left) c.args.tag.number c.args.tag.wire_type 2 c.args.tag.size c.requires.bytes c.requires.at_tag.there in
+    let read = entry_inside at (Some c.args.left) c.args.bytes.now c.args.tag.number c.args.tag.size c.in-Some.start c.in-Some.size c.args.room c.args.key_kind c.args.value_kind c.requires.at_tag.rules there (has at) (c.in-Some.ensures.whole at c.args.tag.number c.args.tag.wire_type (c.requires.at_tag.there at)) c.requires.means (omega (arith, level)) (c.if-not-fill.ensures refl) (ap part_view c.in-Entry.is) in
     entry_over at c.args.left c.args.bytes.now c.args.tag.number c.in-Some.start c.in-Some.size c.args.room (c.args.room - 1) c.in-Entry.key_kind c.in-Entry.value_kind (option_map key_view c.in-Entry.key) (option_map value_view c.in-Entry.value) (part_view c.put_entry.new.outer) there.1 there.2 read
     c.in-Ok.ensures
 
@@ -123,18 +123,18 @@ fill_entry-returns-in-Ok-clause-filled t c =
 pub fill_message-fill-requires : goal.fill_message-fill-requires
 fill_message-fill-requires t c =
     let is = ap length (slice_from c.in-Some.start c.args.bytes.now) ∙ length-drop c.in-Some.start c.args.bytes.now in
-    let small = c.requires.small in
-    let has = typed_tag c.args.bytes.now (Some c.args.left) c.args.tag.number c.args.tag.wire_type 2 c.args.tag.size c.requires.bytes c.requires.tag in
+    let small = c.requires.at_tag.small in
+    let has = typed_tag c.args.bytes.now (Some c.args.left) c.args.tag.number c.args.tag.wire_type 2 c.args.tag.size c.requires.bytes c.requires.at_tag.there in
     let some = c.requires.some in
     let later = c.in-Some.ensures.within.0 in
     let within = c.in-Some.ensures.within.1 in
     let less : 16 * length (take (length c.args.bytes.now - c.in-Some.start) (drop c.in-Some.start c.args.bytes.now)) + 7 < 16 * length c.args.bytes.now + 4 = omega (arith, is, some, later, within) in (
       search (rules, less),
       (
-        c.requires.rules,
+        c.requires.at_tag.rules,
         (
-          message_in_part c.args.bytes.now c.args.left c.args.tag.number c.args.tag.size c.in-Some.start c.in-Some.size c.args.room c.room_in-below.result c.args.message_type c.args.slot (part_view c.take_message.new.outer) (body_view c.take_message.result) c.requires.rules c.requires.open c.room_in-below.ensures has
-              (λ at. c.in-Some.ensures.whole at c.args.tag.number c.args.tag.wire_type (c.requires.tag at)) c.requires.means (c.if-not-has_room.ensures.room refl) c.take_message.ensures.left c.take_message.ensures.taken,
+          message_in_part c.args.bytes.now c.args.left c.args.tag.number c.args.tag.size c.in-Some.start c.in-Some.size c.args.room c.room_in-below.result c.args.message_type c.args.slot (part_view c.take_message.new.outer) (body_view c.take_message.result) c.requires.at_tag.rules c.requires.at_tag.is_open c.room_in-below.ensures has
+              (λ at. c.in-Some.ensures.whole at c.args.tag.number c.args.tag.wire_type (c.requires.at_tag.there at)) c.requires.means (c.if-not-has_room.ensures.room refl) c.take_message.ensures.left c.take_message.ensures.taken,
           (omega (arith, is, small), search (rules, is)),
         ),
       ),
@@ -142,16 +142,16 @@ fill_message-fill-requires t c =
 
 pub fill_message-put_message-requires : goal.fill_message-put_message-requires
 fill_message-put_message-requires t c =
-    let from = c.requires.open in
-    let has = typed_tag c.args.bytes.now (Some c.args.left) c.args.tag.number c.args.tag.wire_type 2 c.args.tag.size c.requires.bytes c.requires.tag in
-    let read = message_inside from.at (Some c.args.left) c.args.bytes.now c.args.tag.number c.args.tag.size c.in-Some.start c.in-Some.size c.args.room c.room_in-below.result c.args.message_type c.args.slot (part_view c.take_message.new.outer) (body_view c.take_message.result) c.requires.rules from.stands c.room_in-below.ensures (has from.at) (c.in-Some.ensures.whole from.at c.args.tag.number c.args.tag.wire_type (c.requires.tag from.at)) c.requires.means (c.if-not-has_room.ensures.room refl) c.take_message.ensures.left c.take_message.ensures.taken (c.if-not-fill.ensures refl) (ap part_view c.in-Message.is) in
+    let from = c.requires.at_tag.is_open in
+    let has = typed_tag c.args.bytes.now (Some c.args.left) c.args.tag.number c.args.tag.wire_type 2 c.args.tag.size c.requires.bytes c.requires.at_tag.there in
+    let read = message_inside from.at (Some c.args.left) c.args.bytes.now c.args.tag.number c.args.tag.size c.in-Some.start c.in-Some.size c.args.room c.room_in-below.result c.args.message_type c.args.slot (part_view c.take_message.new.outer) (body_view c.take_message.result) c.requires.at_tag.rules from.stands c.room_in-below.ensures (has from.at) (c.in-Some.ensures.whole from.at c.args.tag.number c.args.tag.wire_type (c.requires.at_tag.there from.at)) c.requires.means (c.if-not-has_room.ensures.room refl) c.take_message.ensures.left c.take_message.ensures.taken (c.if-not-fill.ensures refl) (ap part_view c.in-Message.is) in
     frame_can_hold read.1
 
 pub fill_message-returns-in-Ok-clause-filled : goal.fill_message-returns-in-Ok-clause-filled
 fill_message-returns-in-Ok-clause-filled t c =
     λ m depth levels at base p0 frames there.
-    let has = typed_tag c.args.bytes.now (Some c.args.left) c.args.tag.number c.args.tag.wire_type 2 c.args.tag.size c.requires.bytes c.requires.tag in
-    let read = message_inside at (Some c.args.left) c.args.bytes.now c.args.tag.number c.args.tag.size c.in-Some.start c.in-Some.size c.args.room c.room_in-below.result c.args.message_type c.args.slot (part_view c.take_message.new.outer) (body_view c.take_message.result) c.requires.rules there c.room_in-below.ensures (has at) (c.in-Some.ensures.whole at c.args.tag.number c.args.tag.wire_type (c.requires.tag at)) c.requires.means (c.if-not-has_room.ensures.room refl) c.take_message.ensures.left c.take_message.ensures.taken (c.if-not-fill.ensures refl) (ap part_view c.in-Message.is) in
+    let has = typed_tag c.args.bytes.now (Some c.args.left) c.args.tag.number c.args.tag.wire_type 2 c.args.tag.size c.requires.bytes c.requires.at_tag.there in
+    let read = message_inside at (Some c.args.left) c.args.bytes.now c.args.tag.number c.args.tag.size c.in-Some.start c.in-Some.size c.args.room c.room_in-below.result c.args.message_type c.args.slot (part_view c.take_message.new.outer) (body_view c.take_message.result) c.requires.at_tag.rules there c.room_in-below.ensures (has at) (c.in-Some.ensures.whole at c.args.tag.number c.args.tag.wire_type (c.requires.at_tag.there at)) c.requires.means (c.if-not-has_room.ensures.room refl) c.take_message.ensures.left c.take_message.ensures.taken (c.if-not-fill.ensures refl) (ap part_view c.in-Message.is) in
     message_over at c.args.left c.args.bytes.now c.args.tag.number c.in-Some.start c.in-Some.size c.args.room c.room_in-below.result c.in-Message._kind.0 c.args.slot (body_view c.in-Message.message) (part_view c.put_message.new.outer) there.1 there.2 read
     c.in-Ok.ensures
 
@@ -159,17 +159,17 @@ fill_message-returns-in-Ok-clause-filled t c =
 pub group::fill_field_group-fill_to_tag-read-requires : goal.group::fill_field_group-fill_to_tag-read-requires
 group::fill_field_group-fill_to_tag-read-requires t c =
     let is = ap length (slice_from c.args.tag.size c.args.bytes.now) ∙ length-drop c.args.tag.size c.args.bytes.now in
-    let small = c.requires.small in
+    let small = c.requires.at_tag.small in
     let some = c.requires.some in
-    let start = typed_tag c.args.bytes.now (Some c.args.left) c.args.tag.number c.args.tag.wire_type 3 c.args.tag.size c.requires.start c.requires.tag in
-    let within = c.requires.within in
+    let start = typed_tag c.args.bytes.now (Some c.args.left) c.args.tag.number c.args.tag.wire_type 3 c.args.tag.size c.requires.start c.requires.at_tag.there in
+    let within = c.requires.at_tag.within in
     let before = c.saturating_sub-before.ensures in
     let less : 16 * length (take (length c.args.bytes.now - c.args.tag.size) (drop c.args.tag.size c.args.bytes.now)) + 7 < 16 * length c.args.bytes.now + 4 = omega (arith, is, some, within) in (
       search (rules, less),
       (
-        c.requires.rules,
+        c.requires.at_tag.rules,
         (
-          field_group_in_part c.args.bytes.now c.args.left c.args.tag.number c.args.tag.size c.saturating_sub-before.result c.args.room c.args.message_type c.args.slot (part_view c.take_message.new.outer) (body_view c.take_message.result) c.requires.rules c.requires.open start c.requires.means c.requires.room c.take_message.ensures.left c.take_message.ensures.taken before,
+          field_group_in_part c.args.bytes.now c.args.left c.args.tag.number c.args.tag.size c.saturating_sub-before.result c.args.room c.args.message_type c.args.slot (part_view c.take_message.new.outer) (body_view c.take_message.result) c.requires.at_tag.rules c.requires.at_tag.is_open start c.requires.means c.requires.room c.take_message.ensures.left c.take_message.ensures.taken before,
           omega (arith, is, small),
         ),
       ),
@@ -177,35 +177,35 @@ group::fill_field_group-fill_to_tag-read-requires t c =
 
 pub group::fill_field_group-put_message-requires : goal.group::fill_field_group-put_message-requires
 group::fill_field_group-put_message-requires t c =
-    let from = c.requires.open in
-    let start = typed_tag c.args.bytes.now (Some c.args.left) c.args.tag.number c.args.tag.wire_type 3 c.args.tag.size c.requires.start c.requires.tag in
+    let from = c.requires.at_tag.is_open in
+    let start = typed_tag c.args.bytes.now (Some c.args.left) c.args.tag.number c.args.tag.wire_type 3 c.args.tag.size c.requires.start c.requires.at_tag.there in
     let fills = c.fill_to_tag-read.ensures.filled (all_read c.fill_to_tag-read.result.whole c.if-not-read.false) in
-    let read = field_group_inside from.at c.args.left c.args.bytes.now c.args.tag.number c.args.tag.size c.saturating_sub-before.result c.fill_to_tag-read.result.size c.args.room c.args.message_type c.args.slot (part_view c.take_message.new.outer) (body_view c.take_message.result) c.requires.rules from.stands start c.requires.means c.requires.room c.take_message.ensures.left c.take_message.ensures.taken c.saturating_sub-before.ensures fills (ap part_view c.in-Message.is) in
+    let read = field_group_inside from.at c.args.left c.args.bytes.now c.args.tag.number c.args.tag.size c.saturating_sub-before.result c.fill_to_tag-read.result.size c.args.room c.args.message_type c.args.slot (part_view c.take_message.new.outer) (body_view c.take_message.result) c.requires.at_tag.rules from.stands start c.requires.means c.requires.room c.take_message.ensures.left c.take_message.ensures.taken c.saturating_sub-before.ensures fills (ap part_view c.in-Message.is) in
     frame_can_hold read.1.1
 
 pub group::fill_field_group-returns-in-Ok-clause-filled : goal.group::fill_field_group-returns-in-Ok-clause-filled
 group::fill_field_group-returns-in-Ok-clause-filled t c =
     λ _ m depth levels at base p0 frames there.
-    let start = typed_tag c.args.bytes.now (Some c.args.left) c.args.tag.number c.args.tag.wire_type 3 c.args.tag.size c.requires.start c.requires.tag in
+    let start = typed_tag c.args.bytes.now (Some c.args.left) c.args.tag.number c.args.tag.wire_type 3 c.args.tag.size c.requires.start c.requires.at_tag.there in
     let fills = c.fill_to_tag-read.ensures.filled (all_read c.fill_to_tag-read.result.whole c.if-not-read.false) in
-    let read = field_group_inside at c.args.left c.args.bytes.now c.args.tag.number c.args.tag.size c.saturating_sub-before.result c.fill_to_tag-read.result.size c.args.room c.args.message_type c.args.slot (part_view c.take_message.new.outer) (body_view c.take_message.result) c.requires.rules there start c.requires.means c.requires.room c.take_message.ensures.left c.take_message.ensures.taken c.saturating_sub-before.ensures fills (ap part_view c.in-Message.is) in
+    let read = field_group_inside at c.args.left c.args.bytes.now c.args.tag.number c.args.tag.size c.saturating_sub-before.result c.fill_to_tag-read.result.size c.args.room c.args.message_type c.args.slot (part_view c.take_message.new.outer) (body_view c.take_message.result) c.requires.at_tag.rules there start c.requires.means c.requires.room c.take_message.ensures.left c.take_message.ensures.taken c.saturating_sub-before.ensures fills (ap part_view c.in-Message.is) in
     field_group_over (part_view c.put_message.new.outer) there.2 read.1 read.2 c.in-Ok.ensures
 
 -- AN UNKNOWN GROUP
 pub group::fill_unknown_group-fill_to_tag-read-requires : goal.group::fill_unknown_group-fill_to_tag-read-requires
 group::fill_unknown_group-fill_to_tag-read-requires t c =
     let is = ap length (slice_from c.args.tag.size c.args.bytes.now) ∙ length-drop c.args.tag.size c.args.bytes.now in
-    let small = c.requires.small in
+    let small = c.requires.at_tag.small in
     let some = c.requires.some in
-    let start = typed_tag c.args.bytes.now (Some c.args.left) c.args.tag.number c.args.tag.wire_type 3 c.args.tag.size c.requires.start c.requires.tag in
-    let within = c.requires.within in
+    let start = typed_tag c.args.bytes.now (Some c.args.left) c.args.tag.number c.args.tag.wire_type 3 c.args.tag.size c.requires.start c.requires.at_tag.there in
+    let within = c.requires.at_tag.within in
     let before = c.saturating_sub-before.ensures in
     let less : 16 * length (take (length c.args.bytes.now - c.args.tag.size) (drop c.args.tag.size c.args.bytes.now)) + 7 < 16 * length c.args.bytes.now + 4 = omega (arith, is, some, within) in (
       search (rules, less),
       (
-        c.requires.rules,
+        c.requires.at_tag.rules,
         (
-          unknown_group_in_part c.args.bytes.now c.args.left c.args.tag.number c.args.tag.size c.saturating_sub-before.result c.args.room (records_of c.new.result.items) c.requires.rules c.requires.open start c.requires.means c.requires.room (ap records_of c.new.ensures.items) before,
+          unknown_group_in_part c.args.bytes.now c.args.left c.args.tag.number c.args.tag.size c.saturating_sub-before.result c.args.room (records_of c.new.result.items) c.requires.at_tag.rules c.requires.at_tag.is_open start c.requires.means c.requires.room (ap records_of c.new.ensures.items) before,
           omega (arith, is, small),
         ),
       ),
@@ -214,14 +214,14 @@ group::fill_unknown_group-fill_to_tag-read-requires t c =
 pub group::fill_unknown_group-returns-in-Ok-clause-filled : goal.group::fill_unknown_group-returns-in-Ok-clause-filled
 group::fill_unknown_group-returns-in-Ok-clause-filled t c =
     λ _ m depth levels at base p0 frames there.
-    let start = typed_tag c.args.bytes.now (Some c.args.left) c.args.tag.number c.args.tag.wire_type 3 c.args.tag.size c.requires.start c.requires.tag in
+    let start = typed_tag c.args.bytes.now (Some c.args.left) c.args.tag.number c.args.tag.wire_type 3 c.args.tag.size c.requires.start c.requires.at_tag.there in
     let fills = c.fill_to_tag-read.ensures.filled (all_read c.fill_to_tag-read.result.whole c.if-not-read.false) in
-    let read = unknown_group_inside at c.args.left c.args.bytes.now c.args.tag.number c.args.tag.size c.saturating_sub-before.result c.fill_to_tag-read.result.size c.args.room (records_of c.new.result.items) c.requires.rules there start c.requires.means c.requires.room (ap records_of c.new.ensures.items) c.saturating_sub-before.ensures fills (ap part_view c.in-Group.is) in
+    let read = unknown_group_inside at c.args.left c.args.bytes.now c.args.tag.number c.args.tag.size c.saturating_sub-before.result c.fill_to_tag-read.result.size c.args.room (records_of c.new.result.items) c.requires.at_tag.rules there start c.requires.means c.requires.room (ap records_of c.new.ensures.items) c.saturating_sub-before.ensures fills (ap part_view c.in-Group.is) in
     unknown_group_over (part_view c.put_group.new.outer) there.2 read.1 read.2 c.in-Ok.ensures
 
 -- ITS PURPOSE
 pub group::fill_group-purpose_of-meant-requires : goal.group::fill_group-purpose_of-meant-requires
-group::fill_group-purpose_of-meant-requires t c = open_can c.requires.rules c.requires.open
+group::fill_group-purpose_of-meant-requires t c = open_can c.requires.at_tag.rules c.requires.at_tag.is_open
 
 pub group::fill_group-fill_unknown_group-requires : goal.group::fill_group-fill_unknown_group-requires
 group::fill_group-fill_unknown_group-requires t c =
@@ -229,26 +229,14 @@ group::fill_group-fill_unknown_group-requires t c =
     let less : 16 * length c.args.bytes.now + 4 < 16 * length c.args.bytes.now + 5 = omega arith in (
       search (rules, less),
       (
-        c.requires.rules,
+        c.requires.at_tag,
         (
-          c.requires.open,
+          c.requires.start,
           (
-            c.requires.small,
+            c.requires.some,
             (
-              c.requires.start,
-              (
-                c.requires.some,
-                (
-                  c.requires.within,
-                  (
-                    c.requires.tag,
-                    (
-                      omega (arith, level),
-                      unknown_group_means c.args.pool.now (part_view c.args.part.now) c.args.tag.number c.purpose_of-meant.result (open_can c.requires.rules c.requires.open) c.purpose_of-meant.ensures c.in-None.ensures.none,
-                    ),
-                  ),
-                ),
-              ),
+              omega (arith, level),
+              unknown_group_means c.args.pool.now (part_view c.args.part.now) c.args.tag.number c.purpose_of-meant.result (open_can c.requires.at_tag.rules c.requires.at_tag.is_open) c.purpose_of-meant.ensures c.in-None.ensures.none,
             ),
           ),
         ),
@@ -290,14 +278,14 @@ groups::add_group-returns-in-Ok-clause-added t c = λ _. (
 -- GROUP BY GROUP the run goes on
 pub groups::fill_groups-loop-alloc-init : goal.groups::fill_groups-loop-alloc-init
 groups::fill_groups-loop-alloc-init t c =
-    let within = c.requires.within in
+    let within = c.requires.at_tag.within in
     record {
       number = refl;
       start = c.requires.start;
       some = c.requires.some;
       least = omega arith;
       within = omega (arith, within);
-      there = first_tag c.args.bytes.now c.args.left c.args.tag.number c.args.tag.wire_type c.args.tag.size c.requires.tag;
+      there = first_tag c.args.bytes.now c.args.left c.args.tag.number c.args.tag.wire_type c.args.tag.size c.requires.at_tag.there;
       put = none_listed 3 c.args.tag.number (Message c.args.message_type (slot.List c.args.tag.number)) c.new-groups.result.items c.args.bytes.now c.args.left c.args.room c.new-groups.ensures.items;
     }
 
@@ -307,18 +295,18 @@ groups::fill_groups-add_group-group-requires t c =
     let number = c.args.tag.number in
     let next = c.loop-alloc.next in
     let size = ap length (slice_from here c.args.bytes.now) ∙ length-drop here c.args.bytes.now in
-    let small = c.requires.small in
+    let small = c.requires.at_tag.small in
     let within = c.loop-alloc.invariant.within in
     let rest = take (length c.args.bytes.now - here) (drop here c.args.bytes.now) in
     let behind = sym c.saturating_sub-before.ensures in
     let less : 16 * length (take (length c.args.bytes.now - here) (drop here c.args.bytes.now)) + 3 < 16 * length c.args.bytes.now + 4 = omega (arith, size) in (
       search (rules, less),
       (
-        c.requires.rules,
+        c.requires.at_tag.rules,
         (
           subst (λ (z : ℕ). IsListOpen c.args.pool.now z 3 c.args.message_type rest c.saturating_sub-before.result c.args.room) (sym c.loop-alloc.invariant.number)
               (subst (λ (z : ℕ). IsListOpen c.args.pool.now number 3 c.args.message_type rest z c.args.room) behind
-              (list_further c.loop-alloc.groups.items c.args.bytes.now c.args.left c.args.room here (record { now = part_view c.args.part.now; there = c.requires.open; means = c.requires.means }) c.loop-alloc.invariant.put)),
+              (list_further c.loop-alloc.groups.items c.args.bytes.now c.args.left c.args.room here (record { now = part_view c.args.part.now; there = c.requires.at_tag.is_open; means = c.requires.means }) c.loop-alloc.invariant.put)),
           (
             c.requires.room,
             (
@@ -381,12 +369,15 @@ group::fill_to_tag-fill_inside-inside-requires t c =
     let less : 16 * length (take (length c.args.bytes.now - here) (drop here c.args.bytes.now)) + 6 < 16 * length c.args.bytes.now + 7 = omega (arith, size) in (
       search (rules, less),
       (
-        c.requires.rules,
-        (
-          subst (λ (z : ℕ). IsOpen c.args.pool.now (part_view c.loop-tag.part) (take (length c.args.bytes.now - here) (drop here c.args.bytes.now)) z c.args.room) (sym before)
-              (still_open (part_view c.args.part.now) (part_view c.loop-tag.part) c.args.bytes.now c.args.left c.args.room here c.requires.open c.loop-tag.invariant.filled),
-          (omega (arith, size, small), (c.in-Some.ensures.within.0, (c.in-Some.ensures.within.1, c.in-Some.ensures.whole))),
-        ),
+        record {
+          rules = c.requires.rules;
+          is_open = subst (λ (z : ℕ). IsOpen c.args.pool.now (part_view c.loop-tag.part) (take (length c.args.bytes.now - here) (drop here c.args.bytes.now)) z c.args.room) (sym before)
+              (still_open (part_view c.args.part.now) (part_view c.loop-tag.part) c.args.bytes.now c.args.left c.args.room here c.requires.open c.loop-tag.invariant.filled);
+          small = omega (arith, size, small);
+          within = c.in-Some.ensures.within.1;
+          there = c.in-Some.ensures.whole;
+        },
+        c.in-Some.ensures.within.0,
       ),
     )
 
@@ -559,13 +550,13 @@ entries::read_entries-returns-in_default-clause-put t c =
 pub entries::fill_entries-read_entries-requires : goal.entries::fill_entries-read_entries-requires
 entries::fill_entries-read_entries-requires t c =
     let level = c.if-room-eq0.false in
-    let small = c.requires.small in
+    let small = c.requires.at_tag.small in
     let less : 16 * length c.args.bytes.now + 3 < 16 * length c.args.bytes.now + 4 = omega arith in (
       search (rules, less),
       (
-        c.requires.rules,
+        c.requires.at_tag.rules,
         (
-          map_open_in c.args.bytes.now c.args.left c.args.room c.args.tag.number c.args.key_kind c.args.value_kind c.requires.open c.requires.means,
+          map_open_in c.args.bytes.now c.args.left c.args.room c.args.tag.number c.args.key_kind c.args.value_kind c.requires.at_tag.is_open c.requires.means,
           (omega (arith, level), omega (arith, small)),
         ),
       ),
@@ -573,11 +564,11 @@ entries::fill_entries-read_entries-requires t c =
 
 pub entries::fill_entries-put_entries-requires-clause-fits : goal.entries::fill_entries-put_entries-requires-clause-fits
 entries::fill_entries-put_entries-requires-clause-fits t c =
-    let from = c.requires.open in
+    let from = c.requires.at_tag.is_open in
     (c.in-Ok.ensures.put from.m from.depth from.levels from.at from.base from.p0 from.frames from.stands.0 (part_view c.args.part.now) from.stands.1 from.stands.2 c.requires.means).0
 
 pub entries::fill_entries-put_entries-requires-clause-rises : goal.entries::fill_entries-put_entries-requires-clause-rises
-entries::fill_entries-put_entries-requires-clause-rises t c = rises_in c.requires.rules (part_view c.args.part.now) c.requires.open.stands.1
+entries::fill_entries-put_entries-requires-clause-rises t c = rises_in c.requires.at_tag.rules (part_view c.args.part.now) c.requires.at_tag.is_open.stands.1
 
 pub entries::fill_entries-returns-in-Ok-put_entries-clause-filled : goal.entries::fill_entries-returns-in-Ok-put_entries-clause-filled
 entries::fill_entries-returns-in-Ok-put_entries-clause-filled t c =

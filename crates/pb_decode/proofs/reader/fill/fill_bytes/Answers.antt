@@ -9,14 +9,14 @@ use Rattle.pb_decode.proofs.FillLemmas.{open_can}
 use Rattle.pb_decode.proofs.reader.fill.fill_bytes.Goals as goal
 
 pub put_payload-requires-clause-can : goal.put_payload-requires-clause-can
-put_payload-requires-clause-can c = open_can c.requires.rules c.requires.open
+put_payload-requires-clause-can c = open_can c.requires.at_tag.rules c.requires.at_tag.is_open
 
 pub returns-in-Ok-clause-filled : goal.returns-in-Ok-clause-filled
 returns-in-Ok-clause-filled c =
     λ m depth levels at base p0 frames there.
     let p = given_at at (Some c.args.left) c.args.bytes.now in
-    let has = subst (λ (z : ℕ). HasTag p c.args.tag.number z (passed p c.args.tag.size)) c.requires.bytes (c.requires.tag at) in
-    let l = c.in-Some.ensures.whole at c.args.tag.number c.args.tag.wire_type (c.requires.tag at) in
+    let has = subst (λ (z : ℕ). HasTag p c.args.tag.number z (passed p c.args.tag.size)) c.requires.bytes (c.requires.at_tag.there at) in
+    let l = c.in-Some.ensures.whole at c.args.tag.number c.args.tag.wire_type (c.requires.at_tag.there at) in
     let begins = c.in-Some.ensures.within.1 in
     let enough = c.if-bytes-start.false in
     let within : c.in-Some.start + c.in-Some.size ≤ length c.args.bytes.now = omega (arith, begins, enough) in

@@ -9,7 +9,7 @@ use Rattle.pb_decode.proofs.FillLemmas.{open_can}
 use Rattle.pb_decode.proofs.reader.fill.fill_element.Goals as goal
 
 pub fill_run-requires-clause-can : goal.fill_run-requires-clause-can
-fill_run-requires-clause-can c = open_can c.requires.rules c.requires.open
+fill_run-requires-clause-can c = open_can c.requires.at_tag.rules c.requires.at_tag.is_open
 
 pub fill_run-requires-clause-same : goal.fill_run-requires-clause-same
 fill_run-requires-clause-same c = meant_type c.args.pool.now (part_view c.args.part.now) c.args.tag.number c.args.tag.wire_type (Element c.args.kind) c.args.kind c.requires.means refl

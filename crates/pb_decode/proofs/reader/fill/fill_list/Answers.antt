@@ -13,8 +13,8 @@ returns-in-Ok-put_run-clause-filled c =
     λ m depth levels at base p0 frames there.
     let same = c.if-used-size.false in
     let all : c.in-Ok.used ≡ c.in-Some.size = omega (arith, same) in
-    list_filled at c.args.left c.args.bytes.now c.args.tag.number c.args.tag.size c.in-Some.start c.in-Some.size c.in-Ok.used c.args.room c.args.kind (part_view c.put_run.new.part) c.requires.rules there
-    (typed_tag c.args.bytes.now (Some c.args.left) c.args.tag.number c.args.tag.wire_type 2 c.args.tag.size c.requires.bytes c.requires.tag at) (c.in-Some.ensures.whole at c.args.tag.number c.args.tag.wire_type (c.requires.tag at)) c.requires.means
+    list_filled at c.args.left c.args.bytes.now c.args.tag.number c.args.tag.size c.in-Some.start c.in-Some.size c.in-Ok.used c.args.room c.args.kind (part_view c.put_run.new.part) c.requires.at_tag.rules there
+    (typed_tag c.args.bytes.now (Some c.args.left) c.args.tag.number c.args.tag.wire_type 2 c.args.tag.size c.requires.bytes c.requires.at_tag.there at) (c.in-Some.ensures.whole at c.args.tag.number c.args.tag.wire_type (c.requires.at_tag.there at)) c.requires.means
     (λ outer scope begun.
     subst (λ (z : Part). After c.args.pool.now m depth levels base p0 frames (Elements c.args.tag.number c.args.kind outer) z scope (passed (payload_place at c.args.bytes.now c.in-Some.start c.in-Some.size) c.in-Ok.used)) (sym c.in-Ok-put_run.ensures)
     (c.in-Ok.ensures.put m depth levels (at + c.in-Some.start) outer base p0 frames scope (part_view c.args.part.now) begun)) all

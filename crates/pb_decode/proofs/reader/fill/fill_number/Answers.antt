@@ -3,4 +3,4 @@ use Rattle.pb_decode.proofs.FillLemmas.{open_can}
 use Rattle.pb_decode.proofs.reader.fill.fill_number.Goals as goal
 
 pub purpose_of-purpose-requires : goal.purpose_of-purpose-requires
-purpose_of-purpose-requires c = open_can c.requires.rules c.requires.open
+purpose_of-purpose-requires c = open_can c.requires.at_tag.rules c.requires.at_tag.is_open

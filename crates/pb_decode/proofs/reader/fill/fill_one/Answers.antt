@@ -12,7 +12,7 @@ use Rattle.pb_decode.proofs.FillLemmas.{open_can}
 use Rattle.pb_decode.proofs.reader.fill.fill_one.Goals as goal
 
 pub put_number-requires-clause-can : goal.put_number-requires-clause-can
-put_number-requires-clause-can c = open_can c.requires.rules c.requires.open
+put_number-requires-clause-can c = open_can c.requires.at_tag.rules c.requires.at_tag.is_open
 
 pub returns-in-Ok-clause-filled : goal.returns-in-Ok-clause-filled
 returns-in-Ok-clause-filled c =
@@ -21,7 +21,7 @@ returns-in-Ok-clause-filled c =
     let told = c.in-Whole.ensures (at + c.args.tag.size) in
     let follows =
     there_behind (λ (q r : Place). Follows q (number_view c.in-Whole.value) r) at (Some c.args.left) c.left_behind-behind.result c.args.bytes.now c.args.tag.size c.in-Whole.size c.left_behind-behind.ensures told.2 in
-    let next = number_next c.args.tag.number c.args.tag.wire_type c.args.purpose c.requires.number there.1 (c.requires.tag at) c.requires.means in (
+    let next = number_next c.args.tag.number c.args.tag.wire_type c.args.purpose c.requires.number there.1 (c.requires.at_tag.there at) c.requires.means in (
       one_more_in c.args.tag.number there.0,
       c.in-Ok.ensures m depth levels base p0 (passed p c.args.tag.size) (passed p (c.args.tag.size + c.in-Whole.size)) frames there.0 next.0 next.2
           (next.1 ∙ ap (λ (z : ℕ). Some (tag c.args.tag.number z c.args.purpose)) (sym told.0)) follows,
@@ -32,13 +32,13 @@ pub returns-in-Ok-clause-passes : goal.returns-in-Ok-clause-passes
 returns-in-Ok-clause-passes c =
     let is = ap length (slice_from c.args.tag.size c.args.bytes.now) ∙ length-drop c.args.tag.size c.args.bytes.now in
     let behind = (c.in-Whole.ensures 0).1 in
-    let within = c.requires.within in
+    let within = c.requires.at_tag.within in
     (omega arith, omega (arith, is, behind, within))
 
 pub overflow_add-result : goal.overflow_add-result
 overflow_add-result c =
     let is = ap length (slice_from c.args.tag.size c.args.bytes.now) ∙ length-drop c.args.tag.size c.args.bytes.now in
     let behind = (c.in-Whole.ensures 0).1 in
-    let within = c.requires.within in
-    let small = c.requires.small in
+    let within = c.requires.at_tag.within in
+    let small = c.requires.at_tag.small in
     omega (arith, is, behind, within, small)
