@@ -69,7 +69,8 @@ fn fill_one(
     }
 }
 
-/// As `fill_one`, for what few numbers are for. It stands apart, so that `fill_number` is small enough to be inlined into both its callers.
+/// As `fill_one`, for what few numbers are for, of which most are unknown. It stands apart, so that `fill_number` is small enough to be inlined
+/// into both its callers.
 #[inline(never)]
 fn fill_other(
     alloc: Global,
@@ -87,27 +88,10 @@ fn fill_other(
     ensures passes { IfSome result (λ n. (tag.size ≤ n) × (n ≤ length bytes.now)) }
     ensures filled { FillsOne pool.now part.old part.new bytes.now left room result }
 {
+    if let Purpose::Unknown = purpose {
+        return fill_one(alloc, pool, part, tag, Purpose::Unknown, bytes, left, room);
+    }
     fill_one(alloc, pool, part, tag, purpose, bytes, left, room)
-}
-
-/// As `fill_one`, for a number that no field has.
-#[inline(never)]
-fn fill_unknown(
-    alloc: Global,
-    pool: &Pool,
-    part: &mut Part,
-    tag: RecordTag,
-    bytes: &[u8],
-    left: u32,
-    room: u8,
-) -> Option<usize>
-    requires at_tag { IsAtTag pool.now (part_view part.old) bytes.now left room tag }
-    requires number { (tag.wire_type ≡ 0) ⊎ (tag.wire_type ≡ 1) ⊎ (tag.wire_type ≡ 5) }
-    requires means { Means pool.now (part_context (part_view part.old)) tag.number tag.wire_type purposes.Unknown }
-    ensures passes { IfSome result (λ n. (tag.size ≤ n) × (n ≤ length bytes.now)) }
-    ensures filled { FillsOne pool.now part.old part.new bytes.now left room result }
-{
-    fill_one(alloc, pool, part, tag, Purpose::Unknown, bytes, left, room)
 }
 
 /// Puts the element behind a tag into its list, if it stands whole there, with those of the same list that follow on it, and how
@@ -163,12 +147,12 @@ fn fill_number(
             fill_one(alloc, pool, part, tag, purpose, bytes, left, room)
         }
         Purpose::Element(kind) => fill_element(alloc, pool, part, tag, kind, bytes, left, room),
-        Purpose::Unknown => fill_unknown(alloc, pool, part, tag, bytes, left, room),
         Purpose::Packed(_)
         | Purpose::Message(_, _)
         | Purpose::Entry(_, _)
         | Purpose::Key(_)
-        | Purpose::EntryValue(_) => fill_other(alloc, pool, part, tag, purpose, bytes, left, room),
+        | Purpose::EntryValue(_)
+        | Purpose::Unknown => fill_other(alloc, pool, part, tag, purpose, bytes, left, room),
     }
 }
 
