@@ -67,8 +67,16 @@ fn four_byte_number(bytes: &[u8], left: Option<u32>) -> NumberToken
 }
 
 /// The number of a wire type at the front of some bytes, with so many bytes before the known end.
-#[inline(always)]
 pub fn number_at(wire_type: u8, bytes: &[u8], left: Option<u32>) -> NumberToken
+    requires { (wire_type ≡ 0) ⊎ (wire_type ≡ 1) ⊎ (wire_type ≡ 5) }
+    ensures { (at : ℕ) → TellsNumber wire_type (given_at at left bytes.now) result }
+{
+    number_here(wire_type, bytes, left)
+}
+
+/// As `number_at`, for a loop that does little else: there a call costs too much. Elsewhere what calls it would grow too large to be inlined itself.
+#[inline(always)]
+pub(crate) fn number_here(wire_type: u8, bytes: &[u8], left: Option<u32>) -> NumberToken
     requires { (wire_type ≡ 0) ⊎ (wire_type ≡ 1) ⊎ (wire_type ≡ 5) }
     ensures { (at : ℕ) → TellsNumber wire_type (given_at at left bytes.now) result }
 {

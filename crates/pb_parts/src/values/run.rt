@@ -6,7 +6,7 @@ ghost use Rattle.pb_parts.specs.Values.Puts.{GoesOn, TellsRun};
 
 use crate::error::NoMemory;
 use crate::tokens::number::number_value;
-use crate::tokens::number_token::{NumberToken, number_at};
+use crate::tokens::number_token::{NumberToken, number_here};
 use crate::tokens::record_tag::left_behind;
 use crate::values::put_number::is_undeclared;
 use crate::values::put_unknown::unknown_number;
@@ -66,7 +66,7 @@ fn add_element(
     ensures none { IfOk result (λ o. IfNone o (run.new ≡ run.old)) }
     ensures put { IfOk result (λ o. IfSome o (GoesOn pool.now number kind bytes.now left run.old run.new)) }
 {
-    match number_at(kind.wire_type(), bytes, left) {
+    match number_here(kind.wire_type(), bytes, left) {
         NumberToken::Whole(value, size) => {
             if is_undeclared(pool, kind, value) {
                 run.undeclared.push((number, unknown_number(value)))?;

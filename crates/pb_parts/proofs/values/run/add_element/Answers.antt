@@ -17,8 +17,8 @@ use Rattle.pb_parts.proofs.ListSteps.{element_put, element_passed}
 use Rattle.pb_parts.proofs.RunLemmas.{listed_is, value_added, record_added}
 use Rattle.pb_parts.proofs.values.run.add_element.Goals as goal
 
-pub number_at-requires : goal.number_at-requires
-number_at-requires c = subst (λ (z : ℕ). (z ≡ 0) ⊎ (z ≡ 1) ⊎ (z ≡ 5)) (sym c.wire_type.ensures) c.requires
+pub number_here-requires : goal.number_here-requires
+number_here-requires c = subst (λ (z : ℕ). (z ≡ 0) ⊎ (z ≡ 1) ⊎ (z ≡ 5)) (sym c.wire_type.ensures) c.requires
 
 pub returns-in_ok-push-in-Whole-clause-within : goal.returns-in_ok-push-in-Whole-clause-within
 returns-in_ok-push-in-Whole-clause-within c = let told = c.in-Whole.ensures 0 in (size_some c.in-Whole.value (given_at 0 c.args.left c.args.bytes.now) c.in-Whole.size told.2, told.1)

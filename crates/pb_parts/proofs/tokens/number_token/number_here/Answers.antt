@@ -2,7 +2,7 @@
 use Rattle.std.proofs.Common.{◌≡◌, ℕ, sym, subst, arith}
 use Rattle.pb_wire.specs.Token.{given_at}
 use Rattle.pb_parts.specs.Tokens.Numbers.{TellsNumber}
-use Rattle.pb_parts.proofs.tokens.number_token.number_at.Goals as goal
+use Rattle.pb_parts.proofs.tokens.number_token.number_here.Goals as goal
 
 pub returns-then-wire_type-eq0 : goal.returns-then-wire_type-eq0
 returns-then-wire_type-eq0 c = λ at. subst (λ (z : ℕ). TellsNumber z (given_at at c.args.left c.args.bytes.now) c.varint_number.result) (sym c.if-wire_type-eq0.true) (c.varint_number.ensures at)
