@@ -11,7 +11,8 @@ use Rattle.pb_sets.proofs.ContainsLemmas.{Contains-none, Contains-first, Contain
 use Rattle.pb_sets.specs.declared.cycles.Progress.{Progress}
 use Rattle.pb_sets.specs.declared.cycles.Progress.TheVariants.{Unseen, Open, Done}
 use Rattle.pb_sets.specs.Reach.{next_of, begun, further, IsGraph}
-use Rattle.pb_sets.specs.Cycles.{LeadsOn, progress_of, AreDone, AreSettled, AnswersWalk}
+use Rattle.pb_sets.specs.Cycles.{LeadsOn}
+use Rattle.pb_sets.specs.Walks.{progress_of, AreDone, AreSettled, AnswersWalk}
 
 some_same : {x y : ℕ} {o : Option ℕ} → o ≡ Some x → o ≡ Some y → x ≡ y
 some_same p q = cc

@@ -4,7 +4,8 @@ ghost use Rattle.std.specs.Prelude.{◌≡◌, ◌↔◌, ◌<◌, ◌^◌, [], 
 ghost use Rattle.std.specs.List.{slice_index_or};
 ghost use Rattle.pb_sets.specs.Flat.{lists_of};
 ghost use Rattle.pb_sets.specs.Reach.{next_of, IsGraph};
-ghost use Rattle.pb_sets.specs.Cycles.{IsAcyclic, AreSettled, AnswersWalk};
+ghost use Rattle.pb_sets.specs.Cycles.{IsAcyclic};
+ghost use Rattle.pb_sets.specs.Walks.{AreSettled, AnswersWalk};
 ghost use Rattle.pb_sets.specs.declared.cycles.Progress.TheVariants.{Unseen};
 
 use crate::flat::FlatGraph;

@@ -1,7 +1,7 @@
 use Rattle.std.proofs.Common.{◌≡◌, ℕ, ◌<◌, []}
 use Rattle.pb_sets.specs.declared.cycles.Progress.TheVariants.{Done}
 use Rattle.pb_sets.specs.Flat.{lists_of}
-use Rattle.pb_sets.specs.Cycles.{AreSettled, progress_of}
+use Rattle.pb_sets.specs.Walks.{AreSettled, progress_of}
 use Rattle.pb_sets.proofs.cycles.is_acyclic.Given as goal
 
 abbrev pub invariant-loop-index : goal.invariant-loop-index

@@ -4,7 +4,7 @@ use Rattle.std.proofs.lemmas.List.{get_or_read}
 use Rattle.pb_sets.specs.declared.cycles.Progress.TheVariants.{Unseen, Open, Done}
 use Rattle.pb_sets.specs.Flat.{lists_of}
 use Rattle.pb_sets.specs.Reach.{next_of}
-use Rattle.pb_sets.specs.Cycles.{progress_of}
+use Rattle.pb_sets.specs.Walks.{progress_of}
 use Rattle.pb_sets.proofs.CycleLemmas.{Walk, becomes-set, top_of, walk-start, walk-push, walk-advance, walk-pop, walk-reaches, walk-cycle, walk-answers, work-push, work-advance, work-pop, onward-start, onward-push, onward-pop, target_is_there}
 use Rattle.pb_sets.proofs.cycles.walk_from.Goals as goal
 
