@@ -1,8 +1,8 @@
 -- Fields by their numbers.
-use Rattle.std.proofs.Common.{◌≡◌, ◌≢◌, ℕ, Bool, true, false, not, ◌||◌, IsTrue, ◌↔◌, if◌then◌else◌, eqb, take, zero, suc, ◌+◌, ◌<◌, ◌≤◌, List, [], ◌∷◌, ◌++◌, map, length, get_or, refl, sym, ◌∙◌, ap, subst, arith, Option, Some, None, Contains, ◌⊎◌, inl, inr, ⊎_elim}
+use Rattle.std.proofs.Common.{◌≡◌, ◌≢◌, ℕ, Bool, true, false, not, ◌||◌, IsTrue, ◌↔◌, if◌then◌else◌, eqb, take, zero, suc, ◌+◌, ◌-◌, ◌<◌, ◌≤◌, List, [], ◌∷◌, ◌++◌, map, length, get_or, refl, sym, ◌∙◌, ap, subst, arith, Option, Some, None, Contains, ◌⊎◌, inl, inr, ⊎_elim}
 use Rattle.std.specs.List.{AllByRecursion, list_any}
 use Rattle.std.specs.List.Sorted.{IsPermutation, IsNonDecreasingBy, IsPartitionPoint}
-use Rattle.std.proofs.lemmas.List.{length-take, take_more, map-append}
+use Rattle.std.proofs.lemmas.List.{length-take, take_more, map-append, get_or_default}
 use Rattle.std.proofs.lemmas.List.Sorted.{IsPermutation-sym, Contains-permutation}
 use Rattle.std.proofs.lemmas.Bool.{false≢true, cases_lt}
 use Rattle.std.proofs.lemmas.Bool.Decides.{Decides-eqb, nat_tests}
@@ -153,3 +153,14 @@ search_none table n i rising parts k found =
     let j = found.0 in
     let same : (get_or table j (n, k)).0 ≡ n = ap (λ (p : ℕ × ℕ). p.0) found.2 in
     ⊎_elim (λ low. not_less (get_or table j (n, k)).0 n same (split.0 j (n, k) (omega arith) low)) (λ high. not_greater (get_or table j (n, k)).0 n same (split.1 j (n, k) high found.1)) (cases_lt j i)
+
+-- the last number of a table is its largest
+pub none_behind : (table : List (ℕ × ℕ)) (n : ℕ) → IsNonDecreasingBy (λ e. e.0) table → (get_or table (length table - 1) (0, 0)).0 < n → (i : ℕ) → ¬ Contains table (n, i)
+none_behind table n rising less i found =
+    let at : ℕ = found.0 in
+    let bound : at < length table = found.1 in
+    let there : (get_or table at (n, i)).0 ≡ n = ap (λ (e : ℕ × ℕ). e.0) found.2 in
+    let inside : length table - 1 < length table = omega (arith, bound) in
+    let last = ap (λ (e : ℕ × ℕ). e.0) (get_or_default table (length table - 1) (n, i) (0, 0) inside) in
+    let most = rising at (length table - 1) (n, i) (omega (arith, bound)) inside in
+    absurd (omega (arith, there, last, most, less))

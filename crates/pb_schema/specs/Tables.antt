@@ -12,6 +12,7 @@ use Rattle.std.specs.declared.alloc.Global.{Global}
 use Rattle.pb_sets.specs.declared.name_set.NameSet.{NameSet}
 use Rattle.pb_sets.specs.NameSets.{names_in}
 use Rattle.pb_schema.specs.declared.tables.Tables.{Tables}
+use Rattle.pb_schema.specs.declared.tables.numbers.NumberTable.{NumberTable}
 use Rattle.pb_schema.specs.declared.tables.values.ValueTable.{ValueTable}
 use Rattle.pb_schema.specs.Types.{MessageView, EnumView, Types}
 use Rattle.pb_schema.specs.Names.{message_names, enum_names}
@@ -23,8 +24,8 @@ HaveTables P [] (x ∷ xs) = ⊥
 HaveTables P (t ∷ ts) [] = ⊥
 HaveTables P (t ∷ ts) (x ∷ xs) = P t x × HaveTables P ts xs
 
-abbrev pub AreNumberTables : List MessageView → List (Vec (ℕ × ℕ) Global) → Type 0
-AreNumberTables ts tables = HaveTables (λ t n. IsNumberTable t.fields n.items) ts tables
+abbrev pub AreNumberTables : List MessageView → List NumberTable → Type 0
+AreNumberTables ts tables = HaveTables (λ t n. IsNumberTable t.fields n.rising.items) ts tables
 
 abbrev pub AreMemberTables : List MessageView → List (Vec (Vec ℕ Global) Global) → Type 0
 AreMemberTables ts tables = HaveTables (λ t v. IsMemberTable (length t.oneofs) t.fields v.items) ts tables

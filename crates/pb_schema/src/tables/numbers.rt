@@ -10,10 +10,16 @@ ghost use Rattle.pb_schema.specs.Types.{field_numbered};
 use crate::types::{Field, MessageType};
 use std::alloc::{AllocError, Global};
 
-/// The numbers of fields in rising order, each with its field's index.
-pub(crate) type NumberTable = Vec<(u32, usize)>;
+/// The fields of a message by their numbers.
+#[derive(Debug, Drop)]
+pub(crate) struct NumberTable {
+    /// The numbers in rising order, each with its field's index.
+    rising: Vec<(u32, usize)>,
+    /// By number the index at which its field may stand. The field there is looked at before it is believed.
+    guesses: Vec<usize>,
+}
 
-fn number_table(alloc: Global, fields: &[Field]) -> Result<NumberTable, AllocError>
+fn rising_numbers(alloc: Global, fields: &[Field]) -> Result<Vec<(u32, usize)>, AllocError>
     ensures { IfOk result (λ table. IsNumberTable (map field_view fields.now) table.items) }
 {
     let mut table = Vec::new(alloc);
@@ -22,6 +28,39 @@ fn number_table(alloc: Global, fields: &[Field]) -> Result<NumberTable, AllocErr
     }
     table.sort_unstable_by_key(|entry| entry.0);
     Ok(table)
+}
+
+/// Notes where the field of a number stands.
+fn note_place(guesses: &mut Vec<usize>, number: u32, index: usize) -> Result<(), AllocError> {
+    let number = number as usize;
+    if guesses.len() <= number {
+        guesses.resize(number + 1, 0)?;
+    }
+    if let Some(guess) = guesses.get_mut(number) {
+        *guess = index;
+    }
+    Ok(())
+}
+
+/// Where the fields of small numbers stand, up to eight numbers a field, so that memory follows the fields. Where the numbers are 1, 2, 3
+/// and so on there is nothing to note.
+fn places_guessed(alloc: Global, fields: &[Field]) -> Result<Vec<usize>, AllocError> {
+    let mut guesses = Vec::new(alloc);
+    for (index, field) in fields.iter().enumerate() {
+        let place = (field.number as usize).wrapping_sub(1);
+        if place != index && place / 8 <= fields.len() {
+            note_place(&mut guesses, field.number, index)?;
+        }
+    }
+    Ok(guesses)
+}
+
+fn number_table(alloc: Global, fields: &[Field]) -> Result<NumberTable, AllocError>
+    ensures { IfOk result (λ table. IsNumberTable (map field_view fields.now) table.rising.items) }
+{
+    let rising = rising_numbers(alloc, fields)?;
+    let guesses = places_guessed(alloc, fields)?;
+    Ok(NumberTable { rising, guesses })
 }
 
 /// A table for each message.
@@ -39,26 +78,30 @@ pub(crate) fn number_tables(
     Ok(tables)
 }
 
-/// The index of the field of a number.
+/// The index of the field of a number. Most numbers that no field has are larger than those that fields have.
+#[inline(never)]
 fn place_of(table: &[(u32, usize)], number: u32) -> Option<usize>
     requires { IsNonDecreasingBy (λ e. e.0) table.now }
     ensures found { IfSome result (λ i. Contains table.now (number, i)) }
     ensures none { IfNone result ((i : ℕ) → ¬ Contains table.now (number, i)) }
 {
+    if !table.is_empty() && table[table.len() - 1].0 < number {
+        return None;
+    }
     match table.binary_search_by_key(&number, |entry| entry.0) {
         Ok(at) => Some(table[at].1),
         Err(_) => None,
     }
 }
 
-/// The field of a number: at its place where the numbers are 1, 2, 3 and so on, else by the table.
+/// The field of a number: at its place where the numbers are 1, 2, 3 and so on, else where it is guessed, else by the table.
 #[inline(always)]
 pub(crate) fn field_at<'a>(
     fields: &'a [Field],
-    table: &[(u32, usize)],
+    table: &NumberTable,
     number: u32,
 ) -> Option<&'a Field>
-    requires table { IsNumberTable (map field_view fields.now) table.now }
+    requires table { IsNumberTable (map field_view fields.now) table.now.rising.items }
     requires differ { AllDiffer (map (λ f. f.number) (map field_view fields.now)) }
     ensures { option_map (λ f. field_view f.now) result ≡ field_numbered number (map field_view fields.now) }
 {
@@ -68,7 +111,13 @@ pub(crate) fn field_at<'a>(
     {
         return Some(field);
     }
-    match place_of(table, number) {
+    if let Some(guess) = table.guesses.get(number as usize)
+        && let Some(field) = fields.get(*guess)
+        && field.number == number
+    {
+        return Some(field);
+    }
+    match place_of(&table.rising, number) {
         Some(index) => fields.get(index),
         None => None,
     }

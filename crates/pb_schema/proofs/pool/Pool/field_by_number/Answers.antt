@@ -1,5 +1,6 @@
-use Rattle.std.proofs.Common.{◌≡◌, ◌==◌, ◌<◌, ℕ, Vec, Global, List, map, length, sym, ap, ◌∙◌, subst, arith}
+use Rattle.std.proofs.Common.{◌≡◌, ◌==◌, ◌<◌, ℕ, List, map, length, sym, ap, ◌∙◌, subst, arith}
 use Rattle.std.proofs.lemmas.List.{length-map}
+use Rattle.pb_schema.specs.declared.tables.numbers.NumberTable.{NumberTable}
 use Rattle.pb_schema.specs.declared.types.Field.{Field}
 use Rattle.pb_schema.specs.Types.{FieldView, MessageView, Types, message_fields, fields_of_message, field_numbered}
 use Rattle.pb_schema.specs.View.{field_view, message_view}
@@ -14,7 +15,7 @@ use Rattle.pb_schema.proofs.pool.Pool.field_by_number.Goals as goal
 
 pub index-requires-2 : goal.index-requires-2
 index-requires-2 c =
-    omega (arith, c.requires, ap (λ (ts : Types). length ts.messages) c.self.view_is, tables_length (λ (t : MessageView) (v : Vec (ℕ × ℕ) Global). IsNumberTable t.fields v.items) (map message_view c.self.inside.messages.items) c.self.inside.tables.numbers.items c.self.invariant.1.numbers, c.self.inside.tables.numbers.ok.0)
+    omega (arith, c.requires, ap (λ (ts : Types). length ts.messages) c.self.view_is, tables_length (λ (t : MessageView) (v : NumberTable). IsNumberTable t.fields v.rising.items) (map message_view c.self.inside.messages.items) c.self.inside.tables.numbers.items c.self.invariant.1.numbers, c.self.inside.tables.numbers.ok.0)
 
 pub field_at-requires-clause-table : goal.field_at-requires-clause-table
 field_at-requires-clause-table c =
@@ -24,8 +25,8 @@ field_at-requires-clause-table c =
     let n = c.index-2.result.now in
     let within : m < length ms = omega (arith, c.requires, ap (λ (ts : Types). length ts.messages) c.self.view_is, length-map ms message_view) in
     let at : message_view x ≡ _ = ap message_view c.index.ensures ∙ sym (get_or-map message_view ms m x (message_view x) within) in
-    let table = table_at (λ (t : MessageView) (v : Vec (ℕ × ℕ) Global). IsNumberTable t.fields v.items) (map message_view ms) c.self.inside.tables.numbers.items m (message_view x) n c.self.invariant.1.numbers (omega (arith, length-map ms message_view, within)) at c.index-2.ensures in
-    subst (λ (l : List Field). IsNumberTable (map field_view l) c.deref-2.result.now) (sym c.deref.ensures.value) (subst (IsNumberTable (map field_view x.fields.items)) (sym c.deref-2.ensures.value) table)
+    let table = table_at (λ (t : MessageView) (v : NumberTable). IsNumberTable t.fields v.rising.items) (map message_view ms) c.self.inside.tables.numbers.items m (message_view x) n c.self.invariant.1.numbers (omega (arith, length-map ms message_view, within)) at c.index-2.ensures in
+    subst (λ (l : List Field). IsNumberTable (map field_view l) n.rising.items) (sym c.deref.ensures.value) table
 
 pub field_at-requires-clause-differ : goal.field_at-requires-clause-differ
 field_at-requires-clause-differ c =

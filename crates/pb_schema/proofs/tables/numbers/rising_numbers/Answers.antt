@@ -2,7 +2,7 @@ use Rattle.std.proofs.Common.{get_or, sym, ◌∙◌, ◌++◌, ◌∷◌, [], a
 use Rattle.std.specs.List.Sorted.{IsPermutation}
 use Rattle.std.proofs.lemmas.List.Sorted.{IsNonDecreasingBy-from_sort_by_key}
 use Rattle.pb_schema.proofs.NumberLemmas.{entries_from, entries-more, all_taken, table_exact}
-use Rattle.pb_schema.proofs.tables.numbers.number_table.Goals as goal
+use Rattle.pb_schema.proofs.tables.numbers.rising_numbers.Goals as goal
 
 pub loop-index-preserved : goal.loop-index-preserved
 loop-index-preserved c =
