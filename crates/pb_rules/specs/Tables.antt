@@ -3,18 +3,27 @@ use Rattle.std.specs.Prelude.{◌≡◌, ◌==◌, ℕ, List, map, Bool, true, f
 use Rattle.std.specs.List.{enumerate_from, slice_index_or}
 use Rattle.pb_rules.specs.declared.cause.LinkCause.{LinkCause}
 use Rattle.pb_rules.specs.declared.cause.LinkCause.TheVariants as cause
+use Rattle.pb_decl.specs.Decls.{DeclaredFile}
+use Rattle.pb_names.specs.declared.declaration.Declaration.{Declaration as DeclarationValue}
 use Rattle.pb_names.specs.declared.found.TypeNames.{TypeNames}
 use Rattle.pb_names.specs.declared.found.TypeNames.TheVariants as type_names
 use Rattle.pb_rules.specs.declared.names.Names.{Names}
 use Rattle.pb_rules.specs.declared.names.At.{At}
+use Rattle.pb_names.specs.declared.imports.Imports.{Imports}
 use Rattle.pb_names.specs.Declarations.{Declaration}
+use Rattle.pb_names.specs.Graphs.{AreImports}
 use Rattle.pb_rules.specs.Rules.{World, lookups}
-use Rattle.pb_rules.specs.Link.{holds}
-use Rattle.pb_names.specs.View.{type_names_view}
+use Rattle.pb_rules.specs.Link.{holds, IsWorldOf}
+use Rattle.pb_names.specs.View.{declaration_view, type_names_view}
 
 -- whether the rule of a cause holds, by place
 abbrev pub holds_table : World → LinkCause → List Bool
 holds_table w c = map (λ e. holds w e.0 e.1 c) (enumerate_from 0 w.declared)
+
+-- the first place at which the rule of cycles fails, whatever files these imports and this row are of
+abbrev pub TellsFirstCycle : Imports → List DeclarationValue → Option ℕ → Type 0
+TellsFirstCycle m row first = (files : List DeclaredFile) (w : World) → AreImports files m → IsWorldOf files w → w.declared ≡ map declaration_view row
+    → first ≡ position not (holds_table w cause.ImportCycle)
 
 -- what the rules of files come to
 pub record AreFileTables (w : World) (firsts imports : List Bool) (cycle : Option ℕ) : Type 0 where

@@ -1,15 +1,16 @@
 //! The first file that reaches itself by imports.
 
-ghost use Rattle.std.specs.Prelude.{◌≡◌, ◌<◌, ◌↔◌, ℕ, List, IsTrue, All, IfOk, OnOk, map, not, position, vec_len};
+ghost use Rattle.std.specs.Prelude.{◌≡◌, ◌<◌, ◌↔◌, ℕ, List, IsTrue, All, IfOk, OnOk, not, vec_len};
 ghost use Rattle.pb_decl.specs.Decls.{DeclaredFile};
 ghost use Rattle.pb_rules.specs.declared.cause.LinkCause.TheVariants.{ImportCycle};
 ghost use Rattle.pb_names.specs.Components.{number_of, NeverRise};
 ghost use Rattle.pb_rules.specs.Rules.{World};
 ghost use Rattle.pb_rules.specs.Link.{holds, IsWorldOf};
-ghost use Rattle.pb_sets.specs.Reach.{graph_of, next_of, Reached, IsListed};
+ghost use Rattle.pb_sets.specs.Cycles.{LeadsOn};
+ghost use Rattle.pb_sets.specs.Reach.{graph_of, IsListed};
 ghost use Rattle.pb_names.specs.Graphs.{AreImports, LeadToFiles};
-ghost use Rattle.pb_rules.specs.Tables.{holds_table};
 ghost use Rattle.pb_names.specs.View.{declaration_view};
+ghost use Rattle.pb_rules.specs.Tables.{TellsFirstCycle};
 
 use pb_names::components::{component_numbers, number_of};
 use pb_names::declaration::Declaration;
@@ -43,7 +44,7 @@ fn is_cyclic(
     requires size { vec_len reach.old.bits ≡ vec_len imports.now.all }
     ensures listed { OnOk result (IsListed reach.new) }
     ensures size { OnOk result (vec_len reach.new.bits ≡ vec_len imports.now.all) }
-    ensures exact { IfOk result (λ b. IsTrue b ↔ Reached (graph_of imports.now.all.items) (next_of (graph_of imports.now.all.items) file) file) }
+    ensures exact { IfOk result (λ b. IsTrue b ↔ LeadsOn (graph_of imports.now.all.items) file file) }
 {
     let number = number_of(numbers, file);
     if are_below(numbers, next_of(&imports.all, file), number) {
@@ -83,8 +84,7 @@ fn find_cycle(
     imports: &Imports,
 ) -> Result<Option<usize>, AllocError>
     requires { LeadToFiles imports.now }
-    ensures { IfOk result (λ first. (files : List DeclaredFile) (w : World) → AreImports files imports.now → IsWorldOf files w
-        → w.declared ≡ map declaration_view row.now → first ≡ position not (holds_table w ImportCycle)) }
+    ensures { IfOk result (TellsFirstCycle imports.now row.now) }
 {
     let numbers = component_numbers(alloc, &imports.all)?;
     let mut reach = Reach::new(alloc, imports.all.len())?;
@@ -103,8 +103,7 @@ pub(crate) fn first_cycle(
     imports: &Imports,
 ) -> Result<Option<usize>, AllocError>
     requires { LeadToFiles imports.now }
-    ensures { IfOk result (λ first. (files : List DeclaredFile) (w : World) → AreImports files imports.now → IsWorldOf files w
-        → w.declared ≡ map declaration_view row.now → first ≡ position not (holds_table w ImportCycle)) }
+    ensures { IfOk result (TellsFirstCycle imports.now row.now) }
 {
     let free = is_acyclic(alloc, &imports.all)?;
     if free {
