@@ -1,5 +1,7 @@
 -- What pb_wire tells of a token, as what is told of a number.
-use Rattle.std.proofs.Common.{ℕ, ◌<◌, ◌^◌, refl, arith, ◌≡◌, ◌≤◌, List, length, ap, subst, Option, Some, IfSome}
+use Rattle.std.proofs.Common.{ℕ, ◌<◌, ◌^◌, ◌-◌, ◌++◌, refl, sym, ◌∙◌, arith, ◌≡◌, ◌≤◌, List, length, take, drop, ap, subst, append_assoc, Option, Some, None, IfSome}
+use Rattle.std.proofs.lemmas.List.{take-append-drop, drop-append-le, length-take}
+use Rattle.pb_wire.specs.Record.{Payload}
 use Rattle.pb_wire.specs.Fault.{Place, Reads as ReadsNumber}
 use Rattle.pb_wire.specs.Token.{TellsVarint, TellsFixed64, TellsFixed32, given_at, passed}
 use Rattle.pb_wire.specs.declared.token.Token.TheVariants as wire
@@ -58,3 +60,26 @@ number_some (number.I32 n) s (small, is) = let e = ap length is in omega (arith,
 
 pub size_some : (a : Number) (p : Place) (size : ℕ) → Follows p (number_view a) (passed p size) → 0 < size
 size_some a p size (front, spelled, moves) = let some = number_some a front spelled in let at = moves.at in omega (arith, some, at)
+
+-- a number that stands whole in the first so many of some bytes stands whole at their front
+pub follows_on :
+    (x : Payload) (at size used : ℕ) (bytes rest : List ℕ) → rest ≡ take size bytes → used ≤ length rest → Follows (given_at at None rest) x (passed (given_at at None rest) used)
+    → Follows (given_at at (Some size) bytes) x (passed (given_at at (Some size) bytes) used)
+follows_on x at size used bytes rest is within (front, spelled, moves) = (front, spelled, record { given = given; within = omega (arith, moves.at, within, short); at = moves.at; known = known })
+  where
+    whole : rest ++ drop size bytes ≡ bytes
+    whole = ap (λ (z : List ℕ). z ++ drop size bytes) is ∙ take-append-drop size bytes
+
+    behind : drop used rest ++ drop size bytes ≡ drop used bytes
+    behind = sym (drop-append-le used rest (drop size bytes) within) ∙ ap (drop used) whole
+
+    given : bytes ≡ front ++ drop used bytes
+    given =
+        sym whole ∙ ap (λ (z : List ℕ). z ++ drop size bytes) moves.given ∙ append_assoc front (drop used rest) (drop size bytes)
+        ∙ ap (λ (z : List ℕ). front ++ z) behind
+
+    short : length rest ≤ size
+    short = let all = ap length is ∙ length-take size bytes in omega (arith, all)
+
+    known : Some (size - used) ≡ Some (size - length front)
+    known = let same : size - used ≡ size - length front = omega (arith, moves.at) in ap (λ (z : ℕ). Some z) same

@@ -1,5 +1,6 @@
 //! Values, which go into the part that holds their record.
 
+pub mod list;
 pub mod payload_value;
 pub mod put_elements;
 pub mod put_number;

@@ -31,7 +31,8 @@ pub record IsOpen (pool : Types) (now : Part) (bytes : List ℕ) (left room : �
 abbrev pub HasTagAt : List ℕ → Option ℕ → ℕ → ℕ → ℕ → Type 0
 HasTagAt bytes left number type size = (at : ℕ) → HasTag (given_at at left bytes) number type (passed (given_at at left bytes) size)
 
--- somewhere the part is open, and a tag stands at the front of the bytes that come next in it
+-- The pool meets its rules, and somewhere the part is open. The bytes that come next in it are fewer than 2 GiB; a tag stands at their front, and all of it
+-- is in them.
 pub record IsAtTag (pool : Types) (now : Part) (bytes : List ℕ) (left room : ℕ) (tag : RecordTag) : Type 0 where
   pub rules : IsPool pool
   pub is_open : IsOpen pool now bytes left room

@@ -30,7 +30,9 @@ use pb_parts::open::purpose::{Purpose, purpose_of};
 use pb_parts::tokens::number_token::{NumberToken, number_at};
 use pb_parts::tokens::record_tag::{RecordTag, left_behind, record_tag};
 use pb_parts::tokens::tag_step::has_room;
+use pb_parts::values::list::read_list;
 use pb_parts::values::payload_value::PayloadError;
+use pb_parts::values::put_elements::put_elements;
 use pb_parts::values::put_number::put_number;
 use pb_parts::values::put_payload::put_payload;
 use pb_parts::values::put_run::put_run;
@@ -69,8 +71,8 @@ fn fill_one(
     }
 }
 
-/// As `fill_one`, for what few numbers are for, of which most are unknown. It stands apart, so that `fill_number` is small enough to be inlined
-/// into both its callers.
+/// As `fill_one`, for what few numbers are for. It stands apart, so that `fill_number` is small enough to be inlined into both its callers. Most of
+/// these numbers are unknown, and code of their own asks nothing more of what they are for.
 #[inline(never)]
 fn fill_other(
     alloc: Global,
@@ -191,9 +193,9 @@ fn fill_bytes(
 }
 
 /// Puts the elements of a packed list behind a tag and a length into a part, if they stand whole there, and how many bytes their
-/// record takes.
-#[inline(always)]
-fn fill_list(
+/// record takes. Numbers that a closed enum doesn't declare go among the unknown records.
+#[inline(never)]
+fn fill_run_of_list(
     alloc: Global,
     pool: &Pool,
     part: &mut Part,
@@ -223,6 +225,67 @@ fn fill_list(
         Ok(()) => Some(start + used),
         Err(NoMemory) => None,
     }
+}
+
+/// As `fill_run_of_list`, where each element is a value, as those of all kinds but closed enums are.
+#[inline(always)]
+fn fill_values_of_list(
+    alloc: Global,
+    pool: &Pool,
+    part: &mut Part,
+    tag: RecordTag,
+    kind: Kind,
+    bytes: &[u8],
+    left: u32,
+    room: u8,
+) -> Option<usize>
+    requires at_tag { IsAtTag pool.now (part_view part.old) bytes.now left room tag }
+    requires bytes { tag.wire_type ≡ 2 }
+    requires means { Means pool.now (part_context (part_view part.old)) tag.number 2 (purposes.Packed kind) }
+    ensures passes { IfSome result (λ n. (tag.size ≤ n) × (n ≤ length bytes.now)) }
+    ensures filled { FillsOne pool.now part.old part.new bytes.now left room result }
+{
+    let Some((start, size)) = length_behind(tag.size, bytes, Some(left)) else {
+        return None;
+    };
+    let end = start + size as usize;
+    if bytes.len() < end {
+        return None;
+    }
+    let Ok(found) = read_list(alloc, kind, &bytes[start..end]) else {
+        return None;
+    };
+    let Some(values) = found else {
+        return None;
+    };
+    match put_elements(alloc, part, tag.number, values) {
+        Ok(()) => Some(end),
+        Err(NoMemory) => None,
+    }
+}
+
+/// Puts a packed list behind a tag and a length into a part, if it stands whole there, and how many bytes its record takes.
+#[inline(always)]
+fn fill_list(
+    alloc: Global,
+    pool: &Pool,
+    part: &mut Part,
+    tag: RecordTag,
+    kind: Kind,
+    bytes: &[u8],
+    left: u32,
+    room: u8,
+) -> Option<usize>
+    requires at_tag { IsAtTag pool.now (part_view part.old) bytes.now left room tag }
+    requires bytes { tag.wire_type ≡ 2 }
+    requires means { Means pool.now (part_context (part_view part.old)) tag.number 2 (purposes.Packed kind) }
+    ensures passes { IfSome result (λ n. (tag.size ≤ n) × (n ≤ length bytes.now)) }
+    ensures filled { FillsOne pool.now part.old part.new bytes.now left room result }
+{
+    if let Kind::ClosedEnum(_) = kind {
+        return fill_run_of_list(alloc, pool, part, tag, kind, bytes, left, room);
+    }
+    fill_values_of_list(alloc, pool, part, tag, kind, bytes, left, room)
 }
 
 /// Puts the entry behind a tag into the map of a message, if it stands whole there, and how many bytes its record takes.

@@ -1,6 +1,6 @@
 -- What a value that comes next does, wherever one stands: it goes into the part that its record stands in, and one stands behind it. Each holds of any type,
 -- any levels, any records before and any first place.
-use Rattle.std.specs.Prelude.{◌≡◌, ℕ, ◌+◌, List, [], ◌∷◌, length, Option, Some, Result, IfOk, IfErr, OnOk}
+use Rattle.std.specs.Prelude.{◌≡◌, ℕ, ◌+◌, List, [], ◌∷◌, length, map, take, Option, Some, Result, IfOk, IfErr, OnOk}
 use Rattle.pb_wire.specs.Record.{Record, wire_type}
 use Rattle.pb_wire.specs.declared.fault.Cause.TheVariants.{BadText}
 use Rattle.pb_wire.specs.Fault.{fault, Place, Moves}
@@ -8,6 +8,8 @@ use Rattle.pb_wire.specs.Token.{given_at, passed}
 use Rattle.pb_wire.specs.Schema.{records}
 use Rattle.pb_wire.specs.Grammar.{Bad}
 use Rattle.pb_schema.specs.declared.types.Kind.{Kind}
+use Rattle.pb_value.specs.declared.body.Value.{Value}
+use Rattle.pb_value.specs.View.{value_view}
 use Rattle.pb_schema.specs.Types.{Types}
 use Rattle.pb_schema.specs.Kinds.{wire_type_of}
 use Rattle.pb_schema.specs.Context.{a_message, schema_of}
@@ -25,7 +27,7 @@ use Rattle.pb_parts.specs.Tokens.Number.{number_view}
 use Rattle.pb_parts.specs.Tokens.Numbers.{Follows}
 use Rattle.pb_parts.specs.Tokens.After.{tag, awaited, After}
 use Rattle.pb_parts.specs.Values.PayloadValue.{IfBadText}
-use Rattle.pb_parts.specs.Values.Run.{put_run}
+use Rattle.pb_parts.specs.Values.Run.{put_run, put_each}
 
 -- a number of a record with this purpose
 abbrev pub PutsNumber : {A E : Type 0} → Types → ℕ → Purpose → Number → Part → Part → Result A E → Type 0
@@ -71,3 +73,13 @@ TellsRun pool number kind bytes left result =
     → After pool m depth levels base p0 frames (Elements number kind outer) now scope (given_at at left bytes)
     → IfOk result (λ r.
     After pool m depth levels base p0 frames (Elements number kind outer) (put_run number r.0 now) scope (passed (given_at at left bytes) r.1))
+
+-- where these bytes are what is left of a packed list, whatever its number and whatever follows on it: with one list of values in the part one stands at
+-- their front, and with the other behind so many of them
+abbrev pub ListGoesOn : Kind → List ℕ → List Value → List Value → ℕ → Type 0
+ListGoesOn kind rest old new used =
+    (pool : Types) (number m depth levels at size : ℕ) (outer : Option ℕ) (base : List Record) (p0 : Place) (frames : List Frame) (scope : Scope)
+    (now : PartView) (bytes : List ℕ) → rest ≡ take size bytes
+    → After pool m depth levels base p0 frames (Elements number kind outer) (put_each number (map value_view old) now) scope (given_at at (Some size) bytes)
+    → After pool m depth levels base p0 frames (Elements number kind outer) (put_each number (map value_view new) now) scope
+    (passed (given_at at (Some size) bytes) used)

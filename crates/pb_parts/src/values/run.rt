@@ -32,7 +32,7 @@ fn varint_ends(bytes: &[u8]) -> usize {
 }
 
 /// How many elements of a kind end within some bytes, where they are sound: room for all of them.
-fn room_wanted(kind: Kind, bytes: &[u8]) -> usize {
+pub(crate) fn room_wanted(kind: Kind, bytes: &[u8]) -> usize {
     match kind.wire_type() {
         1 => bytes.len() / 8,
         5 => bytes.len() / 4,

@@ -6,7 +6,7 @@ use Rattle.pb_parts.specs.Open.Frames.{Part}
 use Rattle.pb_parts.specs.Open.PartView.{part_view}
 use Rattle.pb_parts.specs.Tokens.After.{After}
 use Rattle.pb_decode.proofs.FillLemmas.{payload_place, typed_tag, list_filled}
-use Rattle.pb_decode.proofs.reader.fill.fill_list.Goals as goal
+use Rattle.pb_decode.proofs.reader.fill.fill_run_of_list.Goals as goal
 
 pub returns-in-Ok-put_run-clause-filled : goal.returns-in-Ok-put_run-clause-filled
 returns-in-Ok-put_run-clause-filled c =
