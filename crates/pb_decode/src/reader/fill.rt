@@ -126,7 +126,7 @@ fn fill_element(
 }
 
 /// Puts the number behind a tag into a part, if it stands whole there, and how many bytes its record takes. An element takes
-/// those of its list with it that follow on it.
+/// those of its list with it that follow on it. What it is for is told anew to each call, so that it need not stand in memory.
 #[inline(always)]
 fn fill_number(
     alloc: Global,
@@ -142,19 +142,32 @@ fn fill_number(
     ensures passes { IfSome result (λ n. (tag.size ≤ n) × (n ≤ length bytes.now)) }
     ensures filled { FillsOne pool.now part.old part.new bytes.now left room result }
 {
-    let purpose = purpose_of(pool, part, tag.number, tag.wire_type);
-    match purpose {
+    match purpose_of(pool, part, tag.number, tag.wire_type) {
         Purpose::One(kind, shape) => {
             let purpose = Purpose::One(kind, shape);
             fill_one(alloc, pool, part, tag, purpose, bytes, left, room)
         }
         Purpose::Element(kind) => fill_element(alloc, pool, part, tag, kind, bytes, left, room),
-        Purpose::Packed(_)
-        | Purpose::Message(_, _)
-        | Purpose::Entry(_, _)
-        | Purpose::Key(_)
-        | Purpose::EntryValue(_)
-        | Purpose::Unknown => fill_other(alloc, pool, part, tag, purpose, bytes, left, room),
+        Purpose::Unknown => {
+            fill_other(alloc, pool, part, tag, Purpose::Unknown, bytes, left, room)
+        }
+        Purpose::Key(kind) => {
+            fill_other(
+                alloc,
+                pool,
+                part,
+                tag,
+                Purpose::Key(kind),
+                bytes,
+                left,
+                room,
+            )
+        }
+        Purpose::EntryValue(kind) => {
+            let purpose = Purpose::EntryValue(kind);
+            fill_other(alloc, pool, part, tag, purpose, bytes, left, room)
+        }
+        Purpose::Packed(_) | Purpose::Message(_, _) | Purpose::Entry(_, _) => None,
     }
 }
 

@@ -33,15 +33,15 @@ pub(crate) struct Extent {
 
 /// How many bytes may have been read of a record behind whose tag something can't be taken. Of a run of entries or of messages the
 /// first alone counts: the others are tried once more where the reader stands, and the one that is refused ends that.
-fn read_of(tag: RecordTag, bytes: &[u8], left: u32) -> usize
-    requires within { tag.size ≤ length bytes.now }
+fn read_of(wire_type: u8, tag_size: usize, bytes: &[u8], left: u32) -> usize
+    requires within { tag_size ≤ length bytes.now }
     requires small { length bytes.now < 2 ^ 31 }
     ensures { result ≤ length bytes.now }
 {
-    if tag.wire_type != 2 {
+    if wire_type != 2 {
         return 0;
     }
-    let Some((start, size)) = length_behind(tag.size, bytes, Some(left)) else {
+    let Some((start, size)) = length_behind(tag_size, bytes, Some(left)) else {
         return 0;
     };
     let size = size as usize;
@@ -63,7 +63,7 @@ fn extent_of(taken: Option<usize>, tag: RecordTag, bytes: &[u8], left: u32) -> E
         Some(size) => Extent { whole: true, size },
         None => Extent {
             whole: false,
-            size: read_of(tag, bytes, left),
+            size: read_of(tag.wire_type, tag.size, bytes, left),
         },
     }
 }
