@@ -40,6 +40,18 @@ use pb_parts::values::run::read_run;
 use pb_schema::{Kind, MessageId, Pool};
 use std::alloc::Global;
 
+/// A tag for a call that stands apart. It goes there through memory, and the tag itself then does not.
+#[inline(always)]
+fn copied(tag: RecordTag) -> RecordTag
+    ensures { result ≡ tag }
+{
+    RecordTag {
+        number: tag.number,
+        wire_type: tag.wire_type,
+        size: tag.size,
+    }
+}
+
 /// Puts the number behind a tag into a part, if it stands whole there, and how many bytes its record takes.
 #[inline(always)]
 fn fill_one(
@@ -71,28 +83,44 @@ fn fill_one(
     }
 }
 
-/// As `fill_one`, for what few numbers are for. It stands apart, so that `fill_number` is small enough to be inlined into both its callers. Most of
-/// these numbers are unknown, and code of their own asks nothing more of what they are for.
+/// As `fill_one`, of a number that is unknown. It stands apart, so that `fill_number` is small enough to be inlined into both its callers.
 #[inline(never)]
-fn fill_other(
+fn fill_unknown(
     alloc: Global,
     pool: &Pool,
     part: &mut Part,
     tag: RecordTag,
-    purpose: Purpose,
     bytes: &[u8],
     left: u32,
     room: u8,
 ) -> Option<usize>
     requires at_tag { IsAtTag pool.now (part_view part.old) bytes.now left room tag }
     requires number { (tag.wire_type ≡ 0) ⊎ (tag.wire_type ≡ 1) ⊎ (tag.wire_type ≡ 5) }
-    requires means { Means pool.now (part_context (part_view part.old)) tag.number tag.wire_type purpose }
+    requires means { Means pool.now (part_context (part_view part.old)) tag.number tag.wire_type purposes.Unknown }
     ensures passes { IfSome result (λ n. (tag.size ≤ n) × (n ≤ length bytes.now)) }
     ensures filled { FillsOne pool.now part.old part.new bytes.now left room result }
 {
-    if let Purpose::Unknown = purpose {
-        return fill_one(alloc, pool, part, tag, Purpose::Unknown, bytes, left, room);
-    }
+    fill_one(alloc, pool, part, tag, Purpose::Unknown, bytes, left, room)
+}
+
+/// As `fill_one`, for what few numbers are for, likewise apart. What that is is looked up once more here: handed on, it would stand in memory, and be
+/// written for each number.
+#[inline(never)]
+fn fill_other(
+    alloc: Global,
+    pool: &Pool,
+    part: &mut Part,
+    tag: RecordTag,
+    bytes: &[u8],
+    left: u32,
+    room: u8,
+) -> Option<usize>
+    requires at_tag { IsAtTag pool.now (part_view part.old) bytes.now left room tag }
+    requires number { (tag.wire_type ≡ 0) ⊎ (tag.wire_type ≡ 1) ⊎ (tag.wire_type ≡ 5) }
+    ensures passes { IfSome result (λ n. (tag.size ≤ n) × (n ≤ length bytes.now)) }
+    ensures filled { FillsOne pool.now part.old part.new bytes.now left room result }
+{
+    let purpose = purpose_of(pool, part, tag.number, tag.wire_type);
     fill_one(alloc, pool, part, tag, purpose, bytes, left, room)
 }
 
@@ -117,16 +145,13 @@ fn fill_element(
 {
     match fill_run(alloc, pool, part, tag, kind, bytes, left, room) {
         Ok(Some(used)) => Some(used),
-        Ok(None) => {
-            let purpose = Purpose::Element(kind);
-            fill_other(alloc, pool, part, tag, purpose, bytes, left, room)
-        }
+        Ok(None) => fill_other(alloc, pool, part, tag, bytes, left, room),
         Err(NoMemory) => None,
     }
 }
 
 /// Puts the number behind a tag into a part, if it stands whole there, and how many bytes its record takes. An element takes
-/// those of its list with it that follow on it. What it is for is told anew to each call, so that it need not stand in memory.
+/// those of its list with it that follow on it. Most numbers are for one value, and nothing of these has to stand in memory.
 #[inline(always)]
 fn fill_number(
     alloc: Global,
@@ -147,27 +172,15 @@ fn fill_number(
             let purpose = Purpose::One(kind, shape);
             fill_one(alloc, pool, part, tag, purpose, bytes, left, room)
         }
-        Purpose::Element(kind) => fill_element(alloc, pool, part, tag, kind, bytes, left, room),
-        Purpose::Unknown => {
-            fill_other(alloc, pool, part, tag, Purpose::Unknown, bytes, left, room)
+        Purpose::Element(kind) => {
+            fill_element(alloc, pool, part, copied(tag), kind, bytes, left, room)
         }
-        Purpose::Key(kind) => {
-            fill_other(
-                alloc,
-                pool,
-                part,
-                tag,
-                Purpose::Key(kind),
-                bytes,
-                left,
-                room,
-            )
-        }
-        Purpose::EntryValue(kind) => {
-            let purpose = Purpose::EntryValue(kind);
-            fill_other(alloc, pool, part, tag, purpose, bytes, left, room)
-        }
-        Purpose::Packed(_) | Purpose::Message(_, _) | Purpose::Entry(_, _) => None,
+        Purpose::Unknown => fill_unknown(alloc, pool, part, copied(tag), bytes, left, room),
+        Purpose::Key(_)
+        | Purpose::EntryValue(_)
+        | Purpose::Packed(_)
+        | Purpose::Message(_, _)
+        | Purpose::Entry(_, _) => fill_other(alloc, pool, part, copied(tag), bytes, left, room),
     }
 }
 

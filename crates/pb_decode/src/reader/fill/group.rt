@@ -9,7 +9,7 @@ ghost use Rattle.pb_decode.specs.Reader.Fills.{IsOpen, IsAtTag};
 ghost use Rattle.pb_decode.specs.Reader.Fills.Groups.{IfWhole, Passes, FillsGroup, FillsUpToEnd};
 
 use super::groups::fill_groups;
-use super::{fill_length, fill_number};
+use super::{copied, fill_length, fill_number};
 use crate::reader::quick_record::length_behind;
 use pb_parts::close::closing::put_group;
 use pb_parts::close::put::put_message;
@@ -236,9 +236,10 @@ fn fill_unknown_group(
     }
 }
 
-/// Puts the group behind its first tag into a part, where a level is left for it and it stands whole.
+/// As `fill_group`, apart.
 #[cycle(fill)]
-pub(super) fn fill_group(
+#[inline(never)]
+fn fill_group_apart(
     alloc: Global,
     pool: &Pool,
     part: &mut Part,
@@ -269,4 +270,25 @@ pub(super) fn fill_group(
         }
         None => fill_unknown_group(alloc, pool, part, tag, bytes, left, room),
     }
+}
+
+/// Puts the group behind its first tag into a part, where a level is left for it and it stands whole.
+#[cycle(fill)]
+#[inline(always)]
+pub(super) fn fill_group(
+    alloc: Global,
+    pool: &Pool,
+    part: &mut Part,
+    tag: RecordTag,
+    bytes: &[u8],
+    left: u32,
+    room: u8,
+) -> Extent
+    requires at_tag { IsAtTag pool.now (part_view part.old) bytes.now left room tag }
+    requires start { tag.wire_type ≡ 3 }
+    requires some { 0 < tag.size }
+    ensures passes { Passes tag.size result (length bytes.now) }
+    ensures filled { FillsGroup pool.now part.old part.new bytes.now left room result }
+{
+    fill_group_apart(alloc, pool, part, copied(tag), bytes, left, room)
 }

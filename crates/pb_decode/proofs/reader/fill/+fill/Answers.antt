@@ -220,11 +220,11 @@ group::fill_unknown_group-returns-in-Ok-clause-filled t c =
     unknown_group_over (part_view c.put_group.new.outer) there.2 read.1 read.2 c.in-Ok.ensures
 
 -- ITS PURPOSE
-pub group::fill_group-purpose_of-meant-requires : goal.group::fill_group-purpose_of-meant-requires
-group::fill_group-purpose_of-meant-requires t c = open_can c.requires.at_tag.rules c.requires.at_tag.is_open
+pub group::fill_group_apart-purpose_of-meant-requires : goal.group::fill_group_apart-purpose_of-meant-requires
+group::fill_group_apart-purpose_of-meant-requires t c = open_can c.requires.at_tag.rules c.requires.at_tag.is_open
 
-pub group::fill_group-fill_unknown_group-requires : goal.group::fill_group-fill_unknown_group-requires
-group::fill_group-fill_unknown_group-requires t c =
+pub group::fill_group_apart-fill_unknown_group-requires : goal.group::fill_group_apart-fill_unknown_group-requires
+group::fill_group_apart-fill_unknown_group-requires t c =
     let level = c.if-room-eq0.false in
     let less : 16 * length c.args.bytes.now + 4 < 16 * length c.args.bytes.now + 5 = omega arith in (
       search (rules, less),

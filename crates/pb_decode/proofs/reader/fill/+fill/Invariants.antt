@@ -16,10 +16,10 @@ use Rattle.pb_decode.proofs.reader.fill.+fill.Given as goal
 
 -- fewer bytes are at hand where a payload begins than where its record does
 abbrev pub decreases-fill : goal.decreases-fill
-decreases-fill l = 16 * length l.bytes.now + 7
+decreases-fill l = 16 * length l.bytes.now + 8
 
 abbrev pub decreases-fill_record : goal.decreases-fill_record
-decreases-fill_record l = 16 * length l.bytes.now + 6
+decreases-fill_record l = 16 * length l.bytes.now + 7
 
 abbrev pub decreases-fill_length : goal.decreases-fill_length
 decreases-fill_length l = 16 * length l.bytes.now + 5
@@ -41,13 +41,16 @@ decreases-fill-loop-here l = l.size - l.here
 
 -- and where the first record of a group does
 abbrev pub decreases-group::fill_to_tag : goal.decreases-group::fill_to_tag
-decreases-group::fill_to_tag l = 16 * length l.bytes.now + 7
+decreases-group::fill_to_tag l = 16 * length l.bytes.now + 8
 
 abbrev pub decreases-group::fill_inside : goal.decreases-group::fill_inside
-decreases-group::fill_inside l = 16 * length l.bytes.now + 6
+decreases-group::fill_inside l = 16 * length l.bytes.now + 7
+
+abbrev pub decreases-group::fill_group_apart : goal.decreases-group::fill_group_apart
+decreases-group::fill_group_apart l = 16 * length l.bytes.now + 5
 
 abbrev pub decreases-group::fill_group : goal.decreases-group::fill_group
-decreases-group::fill_group l = 16 * length l.bytes.now + 5
+decreases-group::fill_group l = 16 * length l.bytes.now + 6
 
 abbrev pub decreases-group::fill_field_group : goal.decreases-group::fill_field_group
 decreases-group::fill_field_group l = 16 * length l.bytes.now + 4
@@ -99,10 +102,10 @@ abbrev pub decreases-entries::entry_behind : goal.decreases-entries::entry_behin
 decreases-entries::entry_behind l = 16 * length l.bytes.now + 1
 
 abbrev pub decreases-entries::push_pair : goal.decreases-entries::push_pair
-decreases-entries::push_pair l = 16 * length l.bytes.now + 10
+decreases-entries::push_pair l = 16 * length l.bytes.now + 11
 
 abbrev pub decreases-entries::pair_in_turn : goal.decreases-entries::pair_in_turn
-decreases-entries::pair_in_turn l = 16 * length l.bytes.now + 9
+decreases-entries::pair_in_turn l = 16 * length l.bytes.now + 10
 
 abbrev pub invariant-entries::read_entries-loop-here : goal.invariant-entries::read_entries-loop-here
 invariant-entries::read_entries-loop-here l = record {
@@ -139,7 +142,7 @@ decreases-messages::read_messages-loop-tag l = length l.bytes - l.here
 
 -- the key and the value of an entry
 abbrev pub decreases-direct_pair::direct_pair : goal.decreases-direct_pair::direct_pair
-decreases-direct_pair::direct_pair l = 16 * length l.bytes.now + 9
+decreases-direct_pair::direct_pair l = 16 * length l.bytes.now + 10
 
 abbrev pub decreases-direct_pair::pair_with_message : goal.decreases-direct_pair::pair_with_message
-decreases-direct_pair::pair_with_message l = 16 * length l.bytes.now + 8
+decreases-direct_pair::pair_with_message l = 16 * length l.bytes.now + 9
