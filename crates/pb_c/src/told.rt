@@ -1,6 +1,6 @@
 //! What a call tells its caller.
 
-ghost use Rattle.std.specs.Prelude.{◌≡◌, length, map};
+ghost use Rattle.std.specs.Prelude.{◌≡◌, map};
 ghost use Rattle.pb_wire.specs.Fault.{fault};
 ghost use Rattle.pb_c.specs.Told.{Tells, laid_over, told_step};
 

@@ -19,6 +19,7 @@ use Rattle.pb_parts.specs.declared.tokens.step.Step.TheVariants as step
 use Rattle.pb_parts.specs.Open.Frames.{path_of, next_step, Part, Frame, Scope}
 use Rattle.pb_parts.specs.Tokens.Numbers.{NumberFault, a_varint, eight_bytes, four_bytes}
 use Rattle.pb_parts.specs.Tokens.After.{After}
+use Rattle.pb_parts.specs.Tokens.Number.{IsNumberType}
 use Rattle.pb_decode.specs.Reader.{State, here, own_step, path_here, Reads, AfterAt, Stops, cut, Told}
 use Rattle.pb_parts.proofs.ListSteps.{at_list, packed_field, list_told}
 use Rattle.pb_decode.proofs.ReaderLemmas.{passed_here}
@@ -60,7 +61,7 @@ element_fault kind.Bytes can bad = absurd (false≢true can)
 element_fault (kind.Message j) can bad = absurd (false≢true can)
 element_fault (kind.Group j) can bad = absurd (false≢true can)
 
-type_of_packed : (kd : Kind) → IsTrue (is_packable kd) → (wire_type_of kd ≡ 0) ⊎ (wire_type_of kd ≡ 1) ⊎ (wire_type_of kd ≡ 5)
+type_of_packed : (kd : Kind) → IsTrue (is_packable kd) → IsNumberType (wire_type_of kd)
 type_of_packed kind.Int32 can = inl refl
 type_of_packed kind.Int64 can = inl refl
 type_of_packed kind.Uint32 can = inl refl
@@ -95,7 +96,7 @@ packs_here {pool} k kd outer begun =
 
 pub list_types :
     {pool : Types} {m depth levels : ℕ} {base : List Record} {p0 : Place} (s : State) (rest : List ℕ) (k : ℕ) (kd : Kind) (outer : Option ℕ) → Reads pool m depth levels base p0 s rest → s.next ≡ step.Elements k kd outer
-    → (wire_type_of kd ≡ 0) ⊎ (wire_type_of kd ≡ 1) ⊎ (wire_type_of kd ≡ 5)
+    → IsNumberType (wire_type_of kd)
 list_types s rest k kd outer begun is = type_of_packed kd (packs_here k kd outer (in_list s rest k kd outer begun is))
 
 own_list : (next : Step) (k : ℕ) (kd : Kind) (outer : Option ℕ) (scope : Scope) → next ≡ step.Elements k kd outer → own_step next scope ≡ next_step k scope ∷ []

@@ -1,5 +1,5 @@
 -- Whole records, taken where a reader stands.
-use Rattle.std.proofs.Common.{◌≡◌, ◌⊎◌, inl, inr, ℕ, ◌+◌, ◌-◌, ◌≤◌, List, take, drop, length, refl, sym, ap, subst, arith, length-drop, Option, Some, None, option_map}
+use Rattle.std.proofs.Common.{◌≡◌, inl, inr, ℕ, ◌+◌, ◌-◌, ◌≤◌, List, take, drop, length, refl, sym, ap, subst, arith, length-drop, Option, Some, None, option_map}
 use Rattle.std.specs.Prelude.{true}
 use Rattle.std.proofs.lemmas.Bool.{false≢true}
 use Rattle.pb_wire.specs.Record.{Record}
@@ -16,6 +16,7 @@ use Rattle.pb_parts.specs.Values.PayloadValue.{IsBytesPurpose}
 use Rattle.pb_parts.specs.Open.Purposes.{Means, part_context}
 use Rattle.pb_parts.specs.Open.Frames.{Part, CanHold, Scope, Frame, EndsAt, Stands}
 use Rattle.pb_parts.specs.Tokens.After.{tag, awaited, goes_down, IsRoomFor, After}
+use Rattle.pb_parts.specs.Tokens.Number.{IsNumberType}
 use Rattle.pb_decode.specs.Reader.{State, left_of, here, Reads}
 use Rattle.pb_parts.proofs.AfterLemmas.{after_tag, after_length}
 use Rattle.pb_parts.proofs.DeepLemmas.{reads_below}
@@ -51,15 +52,15 @@ pub tag_next :
     → Stands pool m depth levels base p0 frames now scope q → awaited next ≡ Some (tag k w meant) → HasTag q k w u → Means pool (part_context now) k w meant → (goes_down meant ≡ true → ⊥) → After pool m depth levels base p0 frames next now scope u
 tag_next next k w meant s is has means stays = after_tag next (tag k w meant) s is has means (λ deep. absurd (stays deep))
 
-pub number_stays : (pool : Types) (now : Part) (k w : ℕ) (meant : Purpose) → Means pool (part_context now) k w meant → ((w ≡ 0) ⊎ (w ≡ 1) ⊎ (w ≡ 5)) → goes_down meant ≡ true → ⊥
+pub number_stays : (pool : Types) (now : Part) (k w : ℕ) (meant : Purpose) → Means pool (part_context now) k w meant → IsNumberType w → goes_down meant ≡ true → ⊥
 number_stays pool now k w meant means type deep = let two : w ≡ 2 = (reads_below pool now k w meant means deep (no_start type)).0 in by_type type two
   where
-    no_start : ((w ≡ 0) ⊎ (w ≡ 1) ⊎ (w ≡ 5)) → w ≡ 3 → ⊥
+    no_start : IsNumberType w → w ≡ 3 → ⊥
     no_start (inl e) three = absurd (omega (arith, e, three))
     no_start (inr (inl e)) three = absurd (omega (arith, e, three))
     no_start (inr (inr e)) three = absurd (omega (arith, e, three))
 
-    by_type : ((w ≡ 0) ⊎ (w ≡ 1) ⊎ (w ≡ 5)) → w ≡ 2 → ⊥
+    by_type : IsNumberType w → w ≡ 2 → ⊥
     by_type (inl e) two = absurd (omega (arith, e, two))
     by_type (inr (inl e)) two = absurd (omega (arith, e, two))
     by_type (inr (inr e)) two = absurd (omega (arith, e, two))
@@ -76,14 +77,14 @@ bytes_stay (purpose.Entry key k) bytes deep = bytes
 
 -- behind the tag of a number
 pub number_next :
-    {pool : Types} {m depth levels : ℕ} {base : List Record} {p0 : Place} {frames : List Frame} {scope : Scope} {now : Part} {q u : Place} (k w : ℕ) (meant : Purpose) → ((w ≡ 0) ⊎ (w ≡ 1) ⊎ (w ≡ 5))
+    {pool : Types} {m depth levels : ℕ} {base : List Record} {p0 : Place} {frames : List Frame} {scope : Scope} {now : Part} {q u : Place} (k w : ℕ) (meant : Purpose) → IsNumberType w
     → Stands pool m depth levels base p0 frames now scope q → HasTag q k w u → Means pool (part_context now) k w meant → (next : Step) × (awaited next ≡ Some (tag k w meant)) × After pool m depth levels base p0 frames next now scope u
 number_next {pool} {m} {depth} {levels} {base} {p0} {frames} {scope} {now} {q} {u} k w meant type s has means = by_type type
   where
     by_step : (next : Step) → awaited next ≡ Some (tag k w meant) → (next : Step) × (awaited next ≡ Some (tag k w meant)) × After pool m depth levels base p0 frames next now scope u
     by_step next is = (next, is, tag_next next k w meant s is has means (number_stays pool now k w meant means type))
 
-    by_type : ((w ≡ 0) ⊎ (w ≡ 1) ⊎ (w ≡ 5)) → (next : Step) × (awaited next ≡ Some (tag k w meant)) × After pool m depth levels base p0 frames next now scope u
+    by_type : IsNumberType w → (next : Step) × (awaited next ≡ Some (tag k w meant)) × After pool m depth levels base p0 frames next now scope u
     by_type (inl e) = by_step (step.Varint k meant) (ap (λ (z : ℕ). Some (tag k z meant)) (sym e))
     by_type (inr (inl e)) = by_step (step.I64 k meant) (ap (λ (z : ℕ). Some (tag k z meant)) (sym e))
     by_type (inr (inr e)) = by_step (step.I32 k meant) (ap (λ (z : ℕ). Some (tag k z meant)) (sym e))

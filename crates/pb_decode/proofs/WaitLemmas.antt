@@ -10,6 +10,7 @@ use Rattle.pb_parts.specs.Tokens.After.{Tag, tag, awaited}
 use Rattle.pb_decode.specs.Reader.{State, left_of, here}
 use Rattle.pb_decode.specs.Reader.Waiting.{WaitsAt, Waits}
 use Rattle.pb_parts.specs.Tokens.Numbers.{IsCutVarint, IsCutNumber}
+use Rattle.pb_parts.specs.Tokens.Number.{IsNumberType}
 use Rattle.pb_decode.specs.Reader.Ended.{NothingEnds, StepGoesOn}
 use Rattle.pb_parts.proofs.OpenedLemmas.{nothing_left}
 use Rattle.pb_parts.proofs.PlaceLemmas.{slice_from}
@@ -18,10 +19,10 @@ same_type : (t u : Tag) → Some t ≡ Some u → t.type ≡ u.type
 same_type t u is = cc
 
 -- a number that is cut is waited for
-pub number_waits : (s : State) (rest : List ℕ) (t : Tag) → ((t.type ≡ 0) ⊎ (t.type ≡ 1) ⊎ (t.type ≡ 5)) → awaited s.next ≡ Some t → IsCutNumber t.type (here s rest) → Waits s rest
+pub number_waits : (s : State) (rest : List ℕ) (t : Tag) → IsNumberType t.type → awaited s.next ≡ Some t → IsCutNumber t.type (here s rest) → Waits s rest
 number_waits s rest t types is h = by_step s.next is
   where
-    no_length : (n : ℕ) → n ≡ 2 → ((n ≡ 0) ⊎ (n ≡ 1) ⊎ (n ≡ 5)) → ⊥
+    no_length : (n : ℕ) → n ≡ 2 → IsNumberType n → ⊥
     no_length n two (inl e) = absurd (cc)
     no_length n two (inr (inl e)) = absurd (cc)
     no_length n two (inr (inr e)) = absurd (cc)

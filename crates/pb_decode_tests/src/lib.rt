@@ -1,6 +1,6 @@
-//! Tests of `pb_decode` by its public calls: the worked rows at once, from an input that gives a byte a call, and in pieces of every
+//! Tests of `pb_decode` by its public calls: worked texts at once, from an input that gives a byte a call, and in pieces of every
 //! cut; messages that are decoded onto, frames, what is held between pieces, refused reads and growths, and texts made to hurt.
-//! A caller in pieces is proved from public clauses alone. Expected values are those of the worked rows or were worked out by hand.
+//! A caller in pieces is proved from public clauses alone. Expected values were worked out by hand.
 #![tactic(auto)]
 
 #[cfg(test)]

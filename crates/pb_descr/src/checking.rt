@@ -189,7 +189,7 @@ fn is_proto3(file: &Value) -> bool
 fn has_known_syntax(file: &Value) -> bool
     ensures { result ≡ has_known_syntax (fields_in (value_view file.now)) }
 {
-    is_proto2(file) || is_proto3(file)
+    is_proto3(file) || is_proto2(file)
 }
 
 /// Checks a file itself.

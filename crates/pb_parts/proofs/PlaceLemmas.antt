@@ -1,12 +1,19 @@
 -- Places in bytes, and the bytes behind so many of others.
-use Rattle.std.proofs.Common.{◌≡◌, ℕ, ◌+◌, ◌-◌, List, take, drop, length, refl, sym, ap, ◌∙◌, arith, length-drop, drop-drop, Option, Some, None, option_map}
-use Rattle.std.proofs.lemmas.List.{take_all}
+use Rattle.std.proofs.Common.{◌≡◌, ℕ, ◌+◌, ◌-◌, ◌≤◌, List, take, drop, length, refl, sym, ap, ◌∙◌, arith, length-drop, drop-drop, Option, Some, None, option_map}
+use Rattle.std.proofs.lemmas.List.{take_all, length-take-le}
 use Rattle.pb_wire.specs.Fault.{Place}
 use Rattle.pb_wire.specs.Token.{given_at, passed}
 
 -- a slice from here on
 pub slice_from : (n : ℕ) (l : List ℕ) → take (length l - n) (drop n l) ≡ drop n l
 slice_from n l = take_all (length l - n) (drop n l) (let e = length-drop n l in omega (arith, e))
+
+-- a slice of so many
+pub slice_size : (start size : ℕ) (l : List ℕ) → start + size ≤ length l → length (take ((start + size) - start) (drop start l)) ≡ size
+slice_size start size l within =
+    let left = length-drop start l in
+    let fits = length-take-le ((start + size) - start) (drop start l) (omega (arith, left, within)) in
+    omega (arith, fits)
 
 -- behind two numbers one stands behind the bytes of both
 known_twice : (e : Option ℕ) (a b : ℕ) → option_map (λ (z : ℕ). z - b) (option_map (λ (z : ℕ). z - a) e) ≡ option_map (λ (z : ℕ). z - (a + b)) e

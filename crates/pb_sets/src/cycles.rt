@@ -1,6 +1,6 @@
 //! Whether a graph has a cycle: one pass over its indexes and where they lead.
 
-ghost use Rattle.std.specs.Prelude.{◌≡◌, ◌↔◌, ◌<◌, ◌^◌, [], ℕ, IsTrue, IfOk, IfSome, length, map, slice_get};
+ghost use Rattle.std.specs.Prelude.{◌≡◌, ◌↔◌, ◌<◌, ◌^◌, [], IsTrue, IfOk, IfSome, length, map, slice_get};
 ghost use Rattle.std.specs.List.{slice_index_or};
 ghost use Rattle.pb_sets.specs.Flat.{lists_of};
 ghost use Rattle.pb_sets.specs.Reach.{next_of, IsGraph};

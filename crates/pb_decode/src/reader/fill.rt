@@ -7,6 +7,7 @@ ghost use Rattle.pb_parts.specs.declared.open.purpose.Purpose.TheVariants as pur
 ghost use Rattle.pb_parts.specs.Open.PartView.{part_view};
 ghost use Rattle.pb_parts.specs.Open.Purposes.{Means, part_context};
 ghost use Rattle.pb_parts.specs.Values.PayloadValue.{IsBytesPurpose};
+ghost use Rattle.pb_parts.specs.Tokens.Number.{IsNumberType};
 ghost use Rattle.pb_decode.specs.Reader.Fills.{IsOpen, IsAtTag, FillsOne, FillsAll};
 
 mod direct_pair;
@@ -20,7 +21,7 @@ use crate::reader::fill::entries::fill_entries;
 use crate::reader::fill::group::fill_group;
 use crate::reader::fill::messages::fill_messages;
 use crate::reader::fill_run::fill_run;
-use crate::reader::quick_record::length_behind;
+use crate::reader::quick_record::payload_behind;
 use pb_parts::close::closing::put_entry;
 use pb_parts::close::put::put_message;
 use pb_parts::error::NoMemory;
@@ -65,7 +66,7 @@ fn fill_one(
     room: u8,
 ) -> Option<usize>
     requires at_tag { IsAtTag pool.now (part_view part.old) bytes.now left room tag }
-    requires number { (tag.wire_type ≡ 0) ⊎ (tag.wire_type ≡ 1) ⊎ (tag.wire_type ≡ 5) }
+    requires number { IsNumberType tag.wire_type }
     requires means { Means pool.now (part_context (part_view part.old)) tag.number tag.wire_type purpose }
     ensures passes { IfSome result (λ n. (tag.size ≤ n) × (n ≤ length bytes.now)) }
     ensures filled { FillsOne pool.now part.old part.new bytes.now left room result }
@@ -95,7 +96,7 @@ fn fill_unknown(
     room: u8,
 ) -> Option<usize>
     requires at_tag { IsAtTag pool.now (part_view part.old) bytes.now left room tag }
-    requires number { (tag.wire_type ≡ 0) ⊎ (tag.wire_type ≡ 1) ⊎ (tag.wire_type ≡ 5) }
+    requires number { IsNumberType tag.wire_type }
     requires means { Means pool.now (part_context (part_view part.old)) tag.number tag.wire_type purposes.Unknown }
     ensures passes { IfSome result (λ n. (tag.size ≤ n) × (n ≤ length bytes.now)) }
     ensures filled { FillsOne pool.now part.old part.new bytes.now left room result }
@@ -103,8 +104,8 @@ fn fill_unknown(
     fill_one(alloc, pool, part, tag, Purpose::Unknown, bytes, left, room)
 }
 
-/// As `fill_one`, for what few numbers are for, likewise apart. What that is is looked up once more here: handed on, it would stand in memory, and be
-/// written for each number.
+/// As `fill_one`, for a purpose that few numbers have, likewise apart. It is looked up once more: handed on, it would stand in memory, and be written
+/// there for each number.
 #[inline(never)]
 fn fill_other(
     alloc: Global,
@@ -116,7 +117,7 @@ fn fill_other(
     room: u8,
 ) -> Option<usize>
     requires at_tag { IsAtTag pool.now (part_view part.old) bytes.now left room tag }
-    requires number { (tag.wire_type ≡ 0) ⊎ (tag.wire_type ≡ 1) ⊎ (tag.wire_type ≡ 5) }
+    requires number { IsNumberType tag.wire_type }
     ensures passes { IfSome result (λ n. (tag.size ≤ n) × (n ≤ length bytes.now)) }
     ensures filled { FillsOne pool.now part.old part.new bytes.now left room result }
 {
@@ -138,7 +139,7 @@ fn fill_element(
     room: u8,
 ) -> Option<usize>
     requires at_tag { IsAtTag pool.now (part_view part.old) bytes.now left room tag }
-    requires number { (tag.wire_type ≡ 0) ⊎ (tag.wire_type ≡ 1) ⊎ (tag.wire_type ≡ 5) }
+    requires number { IsNumberType tag.wire_type }
     requires means { Means pool.now (part_context (part_view part.old)) tag.number tag.wire_type (purposes.Element kind) }
     ensures passes { IfSome result (λ n. (tag.size ≤ n) × (n ≤ length bytes.now)) }
     ensures filled { FillsOne pool.now part.old part.new bytes.now left room result }
@@ -163,7 +164,7 @@ fn fill_number(
     room: u8,
 ) -> Option<usize>
     requires at_tag { IsAtTag pool.now (part_view part.old) bytes.now left room tag }
-    requires number { (tag.wire_type ≡ 0) ⊎ (tag.wire_type ≡ 1) ⊎ (tag.wire_type ≡ 5) }
+    requires number { IsNumberType tag.wire_type }
     ensures passes { IfSome result (λ n. (tag.size ≤ n) × (n ≤ length bytes.now)) }
     ensures filled { FillsOne pool.now part.old part.new bytes.now left room result }
 {
@@ -203,14 +204,10 @@ fn fill_bytes(
     ensures passes { IfSome result (λ n. (tag.size ≤ n) × (n ≤ length bytes.now)) }
     ensures filled { FillsOne pool.now part.old part.new bytes.now left room result }
 {
-    let Some((start, size)) = length_behind(tag.size, bytes, Some(left)) else {
+    let Some((start, size)) = payload_behind(tag.size, bytes, Some(left)) else {
         return None;
     };
-    let size = size as usize;
-    if bytes.len() - start < size {
-        return None;
-    }
-    let end = start + size;
+    let end = start + size as usize;
     match put_payload(alloc, pool, part, tag.number, purpose, &bytes[start..end]) {
         Ok(()) => Some(end),
         Err(PayloadError::BadText(_)) => None,
@@ -237,7 +234,7 @@ fn fill_run_of_list(
     ensures passes { IfSome result (λ n. (tag.size ≤ n) × (n ≤ length bytes.now)) }
     ensures filled { FillsOne pool.now part.old part.new bytes.now left room result }
 {
-    let Some((start, size)) = length_behind(tag.size, bytes, Some(left)) else {
+    let Some((start, size)) = payload_behind(tag.size, bytes, Some(left)) else {
         return None;
     };
     let Ok((run, used)) = read_run(alloc, pool, tag.number, kind, &bytes[start..], Some(size))
@@ -271,13 +268,10 @@ fn fill_values_of_list(
     ensures passes { IfSome result (λ n. (tag.size ≤ n) × (n ≤ length bytes.now)) }
     ensures filled { FillsOne pool.now part.old part.new bytes.now left room result }
 {
-    let Some((start, size)) = length_behind(tag.size, bytes, Some(left)) else {
+    let Some((start, size)) = payload_behind(tag.size, bytes, Some(left)) else {
         return None;
     };
     let end = start + size as usize;
-    if bytes.len() < end {
-        return None;
-    }
     let Ok(found) = read_list(alloc, kind, &bytes[start..end]) else {
         return None;
     };
@@ -337,13 +331,10 @@ fn fill_entry(
     if room == 0 {
         return None;
     }
-    let Some((start, size)) = length_behind(tag.size, bytes, Some(left)) else {
+    let Some((start, size)) = payload_behind(tag.size, bytes, Some(left)) else {
         return None;
     };
     let end = start + size as usize;
-    if bytes.len() < end {
-        return None;
-    }
     let mut entry = Part::Entry {
         key_kind,
         value_kind,
@@ -395,13 +386,10 @@ fn fill_message(
     if !has_room(room, Purpose::Message(message_type, slot)) {
         return None;
     }
-    let Some((start, size)) = length_behind(tag.size, bytes, Some(left)) else {
+    let Some((start, size)) = payload_behind(tag.size, bytes, Some(left)) else {
         return None;
     };
     let end = start + size as usize;
-    if bytes.len() < end {
-        return None;
-    }
     let mut inner = Part::Message(message_type, take_message(alloc, slot, part));
     let below = room_in(slot, room);
     if !fill(alloc, pool, &mut inner, &bytes[start..], size, below) {

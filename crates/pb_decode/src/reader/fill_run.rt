@@ -8,6 +8,7 @@ ghost use Rattle.pb_parts.specs.declared.open.purpose.Purpose.TheVariants.{Eleme
 ghost use Rattle.pb_parts.specs.Open.Frames.{CanHold};
 ghost use Rattle.pb_parts.specs.Open.PartView.{part_view};
 ghost use Rattle.pb_parts.specs.Open.Purposes.{Means, part_context};
+ghost use Rattle.pb_parts.specs.Tokens.Number.{IsNumberType};
 ghost use Rattle.pb_decode.specs.Reader.Fills.{HasTagAt, FillsOne};
 ghost use Rattle.pb_decode.specs.Reader.Listed.{FillsList, FillsElement, FillsElements};
 
@@ -33,7 +34,7 @@ fn element_behind(
     left: u32,
 ) -> Option<(Value, usize)>
     requires rules { IsPool pool.now }
-    requires number { (wire_type_of kind ≡ 0) ⊎ (wire_type_of kind ≡ 1) ⊎ (wire_type_of kind ≡ 5) }
+    requires number { IsNumberType (wire_type_of kind) }
     requires within { tag.size ≤ length bytes.now }
     requires small { length bytes.now < 2 ^ 31 }
     requires same { tag.wire_type ≡ wire_type_of kind }
@@ -55,7 +56,7 @@ fn element_record(
     left: u32,
 ) -> Option<(Value, usize)>
     requires rules { IsPool pool.now }
-    requires number { (wire_type_of kind ≡ 0) ⊎ (wire_type_of kind ≡ 1) ⊎ (wire_type_of kind ≡ 5) }
+    requires number { IsNumberType (wire_type_of kind) }
     requires small { length bytes.now < 2 ^ 31 }
     ensures within { IfSome result (λ r. (0 < r.1) × (r.1 ≤ length bytes.now)) }
     ensures put { FillsElement pool.now kind number bytes.now left result }
@@ -83,7 +84,7 @@ fn read_elements(
     left: u32,
 ) -> Result<(Vec<Value>, usize), NoMemory>
     requires rules { IsPool pool.now }
-    requires number { (wire_type_of kind ≡ 0) ⊎ (wire_type_of kind ≡ 1) ⊎ (wire_type_of kind ≡ 5) }
+    requires number { IsNumberType (wire_type_of kind) }
     requires small { length bytes.now < 2 ^ 31 }
     requires within { size ≤ length bytes.now }
     requires first { FillsList pool.now kind number (value_view first ∷ []) bytes.now left size }
@@ -125,7 +126,7 @@ pub(crate) fn fill_run(
 ) -> Result<Option<usize>, NoMemory>
     requires rules { IsPool pool.now }
     requires can { CanHold pool.now (part_view part.old) }
-    requires number { (wire_type_of kind ≡ 0) ⊎ (wire_type_of kind ≡ 1) ⊎ (wire_type_of kind ≡ 5) }
+    requires number { IsNumberType (wire_type_of kind) }
     requires within { tag.size ≤ length bytes.now }
     requires small { length bytes.now < 2 ^ 31 }
     requires same { tag.wire_type ≡ wire_type_of kind }

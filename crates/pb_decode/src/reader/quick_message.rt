@@ -10,7 +10,7 @@ ghost use Rattle.pb_decode.specs.Reader.{state_view, IsReading};
 ghost use Rattle.pb_decode.specs.Reader.Steps.{HasTagHere, TakesWhole};
 
 use crate::reader::fill::fill;
-use crate::reader::quick_record::length_behind;
+use crate::reader::quick_record::payload_behind;
 use crate::reader::state::{Reader, left};
 use pb_parts::close::put::close_message;
 use pb_parts::error::NoMemory;
@@ -52,13 +52,10 @@ pub(crate) fn take_message_record(
     if !is_free(&reader.part, slot) {
         return Ok(None);
     }
-    let Some((start, size)) = length_behind(tag.size, bytes, left(reader)) else {
+    let Some((start, size)) = payload_behind(tag.size, bytes, left(reader)) else {
         return Ok(None);
     };
     let end = start + size as usize;
-    if bytes.len() < end {
-        return Ok(None);
-    }
     let mut inner = Part::Message(message_type, empty_body(alloc));
     let room = room_in(slot, reader.scope.room);
     if !fill(alloc, pool, &mut inner, &bytes[start..], size, room) {

@@ -7,6 +7,7 @@ ghost use Rattle.pb_parts.specs.Open.PartView.{part_view};
 ghost use Rattle.pb_parts.specs.Open.Purposes.{Means, part_context};
 ghost use Rattle.pb_parts.specs.Open.KnownPurpose.{IsKnown};
 ghost use Rattle.pb_parts.specs.Values.PayloadValue.{IsBytesPurpose};
+ghost use Rattle.pb_parts.specs.Tokens.Number.{IsNumberType};
 ghost use Rattle.pb_decode.specs.Reader.{state_view, IsReading};
 ghost use Rattle.pb_decode.specs.Reader.Steps.{HasTagHere, TakesWhole, TellsLengthBehind};
 
@@ -43,7 +44,7 @@ fn take_number_record(
     requires rules { IsPool pool.now }
     requires reading { IsReading pool.now (state_view reader.old) bytes.now }
     requires step { reader.old.step ≡ Tag }
-    requires number { (tag.wire_type ≡ 0) ⊎ (tag.wire_type ≡ 1) ⊎ (tag.wire_type ≡ 5) }
+    requires number { IsNumberType tag.wire_type }
     requires within { tag.size ≤ length bytes.now }
     requires tag { HasTagHere (state_view reader.old) bytes.now tag.number tag.wire_type tag.size }
     requires known { IsKnown pool.now known.old }
@@ -105,6 +106,25 @@ pub(crate) fn length_behind(
     }
 }
 
+/// As `length_behind`, where the payload is all there behind its length.
+#[inline(always)]
+pub(crate) fn payload_behind(
+    tag_size: usize,
+    bytes: &[u8],
+    left: Option<u32>,
+) -> Option<(usize, u32)>
+    requires within { tag_size ≤ length bytes.now }
+    requires small { length bytes.now < 2 ^ 31 }
+    ensures within { IfSome result (λ t. (tag_size ≤ t.0) × (t.0 + t.1 ≤ length bytes.now)) }
+    ensures whole { TellsLengthBehind tag_size bytes.now left result }
+{
+    let (start, size) = length_behind(tag_size, bytes, left)?;
+    if bytes.len() - start < size as usize {
+        return None;
+    }
+    Some((start, size))
+}
+
 /// Takes the record of bytes, behind whose tag its payload stands whole, and how many bytes the record takes.
 fn take_bytes_record(
     alloc: Global,
@@ -126,14 +146,10 @@ fn take_bytes_record(
     ensures none { IfOk result (λ o. IfNone o (reader.new ≡ reader.old)) }
     ensures taken { TakesWhole pool.now reader.old reader.new bytes.now result }
 {
-    let Some((start, size)) = length_behind(tag.size, bytes, left(reader)) else {
+    let Some((start, size)) = payload_behind(tag.size, bytes, left(reader)) else {
         return Ok(None);
     };
-    let size = size as usize;
-    if bytes.len() - start < size {
-        return Ok(None);
-    }
-    let end = start + size;
+    let end = start + size as usize;
     let payload = &bytes[start..end];
     match put_payload(alloc, pool, &mut reader.part, tag.number, purpose, payload) {
         Ok(()) => {

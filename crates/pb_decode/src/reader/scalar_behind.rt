@@ -2,10 +2,11 @@
 
 ghost use Rattle.std.specs.Prelude.{◌≡◌, ◌⊎◌, ◌≤◌, ◌<◌, ◌^◌, Some, length, IfSome};
 ghost use Rattle.pb_schema.specs.Rules.{IsPool};
+ghost use Rattle.pb_parts.specs.Tokens.Number.{IsNumberType};
 ghost use Rattle.pb_decode.specs.Reader.Fills.{HasTagAt};
 ghost use Rattle.pb_decode.specs.Reader.Scalars.{TellsNumberThere, TellsScalar};
 
-use crate::reader::quick_record::length_behind;
+use crate::reader::quick_record::payload_behind;
 use pb_parts::tokens::number::{Number, number_value};
 use pb_parts::tokens::number_token::{NumberToken, number_at};
 use pb_parts::tokens::record_tag::{RecordTag, left_behind};
@@ -26,7 +27,7 @@ pub(crate) fn number_there(
     left: u32,
 ) -> Option<(Number, usize)>
     requires rules { IsPool pool.now }
-    requires number { (tag.wire_type ≡ 0) ⊎ (tag.wire_type ≡ 1) ⊎ (tag.wire_type ≡ 5) }
+    requires number { IsNumberType tag.wire_type }
     requires within { tag.size ≤ length bytes.now }
     requires small { length bytes.now < 2 ^ 31 }
     requires tag { HasTagAt bytes.now (Some left) tag.number tag.wire_type tag.size }
@@ -56,7 +57,7 @@ pub(crate) fn number_behind(
     left: u32,
 ) -> Option<(Value, usize)>
     requires rules { IsPool pool.now }
-    requires number { (tag.wire_type ≡ 0) ⊎ (tag.wire_type ≡ 1) ⊎ (tag.wire_type ≡ 5) }
+    requires number { IsNumberType tag.wire_type }
     requires within { tag.size ≤ length bytes.now }
     requires small { length bytes.now < 2 ^ 31 }
     requires tag { HasTagAt bytes.now (Some left) tag.number tag.wire_type tag.size }
@@ -86,14 +87,10 @@ pub(crate) fn bytes_behind(
     ensures within { IfSome result (λ r. (tag.size ≤ r.1) × (r.1 ≤ length bytes.now)) }
     ensures put { TellsScalar pool.now kind tag.number 2 bytes.now left result }
 {
-    let Some((start, size)) = length_behind(tag.size, bytes, Some(left)) else {
+    let Some((start, size)) = payload_behind(tag.size, bytes, Some(left)) else {
         return None;
     };
-    let size = size as usize;
-    if bytes.len() - start < size {
-        return None;
-    }
-    let end = start + size;
+    let end = start + size as usize;
     match payload_value(alloc, kind, &bytes[start..end]) {
         Ok(Some(value)) => Some((value, end)),
         Ok(None) => None,

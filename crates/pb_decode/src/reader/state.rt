@@ -1,13 +1,13 @@
 //! A reader of a message: a stack of what is open, and what comes next.
 
-ghost use Rattle.std.specs.Prelude.{◌≡◌, ◌⊎◌, ◌+◌, ◌-◌, ◌<◌, ◌≤◌, ◌^◌, ℕ, Some, drop, length, OnOk, IfOk, IfNone};
-ghost use Rattle.pb_wire.specs.Token.{given_at};
+ghost use Rattle.std.specs.Prelude.{◌≡◌, ◌⊎◌, ◌+◌, ◌-◌, ◌<◌, ◌≤◌, ◌^◌, Some, drop, length, OnOk, IfOk, IfNone};
 ghost use Rattle.pb_schema.specs.Rules.{IsPool};
 ghost use Rattle.pb_parts.specs.declared.tokens.step.Step.TheVariants.{Tag};
 ghost use Rattle.pb_parts.specs.Open.Frames.{CanHold};
 ghost use Rattle.pb_parts.specs.Open.Occurrences.{counts_view};
 ghost use Rattle.pb_parts.specs.Open.PartView.{part_view};
 ghost use Rattle.pb_parts.specs.Tokens.After.{tag, awaited};
+ghost use Rattle.pb_parts.specs.Tokens.Number.{IsNumberType};
 ghost use Rattle.pb_decode.specs.Reader.{state_view, left_of, IsReading, Passes};
 ghost use Rattle.pb_decode.specs.Reader.Waiting.{Waits};
 ghost use Rattle.pb_decode.specs.Reader.Steps.{TellsFault, TakesNext, TakesAll, StandsBehindNumber};
@@ -85,7 +85,7 @@ pub(crate) fn take_number(
 ) -> Result<Option<usize>, DecodeError>
     requires rules { IsPool pool.now }
     requires reading { IsReading pool.now (state_view reader.old) bytes.now }
-    requires number { (wire_type ≡ 0) ⊎ (wire_type ≡ 1) ⊎ (wire_type ≡ 5) }
+    requires number { IsNumberType wire_type }
     requires step { awaited reader.old.step ≡ Some (tag number wire_type purpose) }
     ensures passes { IfOk result (λ o. Passes (state_view reader.old) bytes.now (state_view reader.new) o) }
     ensures taken { TakesNext pool.now reader.old reader.new bytes.now result }

@@ -58,13 +58,17 @@ RefusesPayload pool number meant bytes old result =
     → IfErr result (λ e. IfBadText e (λ valid.
     Bad (schema_of pool) (records (a_message m)) depth p0 (below (path_of frames) (fault (u.at + valid) (next_step number scope ∷ []) BadText))))
 
--- behind so many of these bytes, with so many before the known end: with one run in the part a packed list stands at their front, and with the other it
--- goes on behind them
-abbrev pub GoesOn : Types → ℕ → Kind → List ℕ → Option ℕ → Run → Run → ℕ → Type 0
-GoesOn pool number kind bytes left old new used =
+-- where a packed list stands at the front of these bytes, with so many before the known end, it goes on behind so many of them: the part has one thing in it
+-- at their front, and another behind them
+abbrev pub ElementsGoOn : Types → ℕ → Kind → List ℕ → Option ℕ → (PartView → PartView) → (PartView → PartView) → ℕ → Type 0
+ElementsGoOn pool number kind bytes left before behind used =
     (m depth levels at : ℕ) (outer : Option ℕ) (base : List Record) (p0 : Place) (frames : List Frame) (scope : Scope) (now : PartView)
-    → After pool m depth levels base p0 frames (Elements number kind outer) (put_run number old now) scope (given_at at left bytes)
-    → After pool m depth levels base p0 frames (Elements number kind outer) (put_run number new now) scope (passed (given_at at left bytes) used)
+    → After pool m depth levels base p0 frames (Elements number kind outer) (before now) scope (given_at at left bytes)
+    → After pool m depth levels base p0 frames (Elements number kind outer) (behind now) scope (passed (given_at at left bytes) used)
+
+-- so with one run and then with the other
+abbrev pub GoesOn : Types → ℕ → Kind → List ℕ → Option ℕ → Run → Run → ℕ → Type 0
+GoesOn pool number kind bytes left old new used = ElementsGoOn pool number kind bytes left (put_run number old) (put_run number new) used
 
 -- the elements of a run at the front of these bytes, in a list of this number
 abbrev pub TellsRun : {E : Type 0} → Types → ℕ → Kind → List ℕ → Option ℕ → Result (Run × ℕ) E → Type 0
@@ -74,12 +78,8 @@ TellsRun pool number kind bytes left result =
     → IfOk result (λ r.
     After pool m depth levels base p0 frames (Elements number kind outer) (put_run number r.0 now) scope (passed (given_at at left bytes) r.1))
 
--- where these bytes are what is left of a packed list, whatever its number and whatever follows on it: with one list of values in the part one stands at
--- their front, and with the other behind so many of them
+-- so with one list of values and then with the other, where these bytes are what is there of a packed list, whatever its number, and whatever follows
 abbrev pub ListGoesOn : Kind → List ℕ → List Value → List Value → ℕ → Type 0
-ListGoesOn kind rest old new used =
-    (pool : Types) (number m depth levels at size : ℕ) (outer : Option ℕ) (base : List Record) (p0 : Place) (frames : List Frame) (scope : Scope)
-    (now : PartView) (bytes : List ℕ) → rest ≡ take size bytes
-    → After pool m depth levels base p0 frames (Elements number kind outer) (put_each number (map value_view old) now) scope (given_at at (Some size) bytes)
-    → After pool m depth levels base p0 frames (Elements number kind outer) (put_each number (map value_view new) now) scope
-    (passed (given_at at (Some size) bytes) used)
+ListGoesOn kind there old new used =
+    (pool : Types) (number size : ℕ) (bytes : List ℕ) → there ≡ take size bytes
+    → ElementsGoOn pool number kind bytes (Some size) (put_each number (map value_view old)) (put_each number (map value_view new)) used

@@ -3,6 +3,7 @@
 ghost use Rattle.std.specs.Prelude.{◌≡◌, ◌⊎◌, ◌<◌, ◌^◌, ℕ};
 ghost use Rattle.pb_wire.specs.Token.{given_at};
 ghost use Rattle.pb_parts.specs.Tokens.Numbers.{TellsNumber};
+ghost use Rattle.pb_parts.specs.Tokens.Number.{IsNumberType};
 ghost use Rattle.pb_parts.specs.declared.tokens.number.Number.TheVariants.{I64};
 ghost use Rattle.pb_parts.specs.declared.tokens.number_token.NumberToken.TheVariants.{Whole};
 
@@ -68,7 +69,7 @@ fn four_byte_number(bytes: &[u8], left: Option<u32>) -> NumberToken
 
 /// The number of a wire type at the front of some bytes, with so many bytes before the known end.
 pub fn number_at(wire_type: u8, bytes: &[u8], left: Option<u32>) -> NumberToken
-    requires { (wire_type ≡ 0) ⊎ (wire_type ≡ 1) ⊎ (wire_type ≡ 5) }
+    requires { IsNumberType wire_type }
     ensures { (at : ℕ) → TellsNumber wire_type (given_at at left bytes.now) result }
 {
     number_here(wire_type, bytes, left)
@@ -77,7 +78,7 @@ pub fn number_at(wire_type: u8, bytes: &[u8], left: Option<u32>) -> NumberToken
 /// As `number_at`, for a loop that does little else: there a call costs too much. Elsewhere what calls it would grow too large to be inlined itself.
 #[inline(always)]
 pub(crate) fn number_here(wire_type: u8, bytes: &[u8], left: Option<u32>) -> NumberToken
-    requires { (wire_type ≡ 0) ⊎ (wire_type ≡ 1) ⊎ (wire_type ≡ 5) }
+    requires { IsNumberType wire_type }
     ensures { (at : ℕ) → TellsNumber wire_type (given_at at left bytes.now) result }
 {
     if wire_type == 0 {

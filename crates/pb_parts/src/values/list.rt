@@ -1,8 +1,9 @@
 //! The values of a packed list that stands whole.
 
-ghost use Rattle.std.specs.Prelude.{◌≡◌, ◌⊎◌, ◌≤◌, ◌<◌, [], None, IsTrue, length, IfOk, IfSome, IfNone};
+ghost use Rattle.std.specs.Prelude.{◌≡◌, ◌⊎◌, ◌≤◌, ◌<◌, [], None, IsTrue, length, IfOk, IfSome};
 ghost use Rattle.pb_schema.specs.Kinds.{wire_type_of, closed_enum};
 ghost use Rattle.pb_parts.specs.Values.Puts.{ListGoesOn};
+ghost use Rattle.pb_parts.specs.Tokens.Number.{IsNumberType};
 
 use crate::error::NoMemory;
 use crate::tokens::number::number_value;
@@ -15,7 +16,7 @@ use std::alloc::Global;
 /// Puts the value of the element at the front of some bytes behind the others, and how many bytes it takes, if it stands whole there.
 #[inline(always)]
 fn push_value(kind: Kind, bytes: &[u8], values: &mut Vec<Value>) -> Result<Option<usize>, NoMemory>
-    requires number { (wire_type_of kind ≡ 0) ⊎ (wire_type_of kind ≡ 1) ⊎ (wire_type_of kind ≡ 5) }
+    requires number { IsNumberType (wire_type_of kind) }
     requires open { closed_enum kind ≡ None }
     ensures within { IfOk result (λ o. IfSome o (λ n. (0 < n) × (n ≤ length bytes.now))) }
     ensures put { IfOk result (λ o. IfSome o (ListGoesOn kind bytes.now values.old.items values.new.items)) }
@@ -33,7 +34,7 @@ fn push_value(kind: Kind, bytes: &[u8], values: &mut Vec<Value>) -> Result<Optio
 /// Puts the values of the elements of a payload behind the others, and says whether each stands whole.
 #[inline(always)]
 fn push_values(kind: Kind, payload: &[u8], values: &mut Vec<Value>) -> Result<bool, NoMemory>
-    requires number { (wire_type_of kind ≡ 0) ⊎ (wire_type_of kind ≡ 1) ⊎ (wire_type_of kind ≡ 5) }
+    requires number { IsNumberType (wire_type_of kind) }
     requires open { closed_enum kind ≡ None }
     ensures { IfOk result (λ all. IsTrue all → ListGoesOn kind payload.now values.old.items values.new.items (length payload.now)) }
 {

@@ -3,6 +3,7 @@
 ghost use Rattle.std.specs.Prelude.{◌≡◌, ◌⊎◌, ◌≤◌, ◌<◌, length, IfOk, IfSome, IfNone};
 ghost use Rattle.pb_schema.specs.Kinds.{wire_type_of};
 ghost use Rattle.pb_parts.specs.Values.Puts.{GoesOn, TellsRun};
+ghost use Rattle.pb_parts.specs.Tokens.Number.{IsNumberType};
 
 use crate::error::NoMemory;
 use crate::tokens::number::number_value;
@@ -61,7 +62,7 @@ fn add_element(
     left: Option<u32>,
     run: &mut Run,
 ) -> Result<Option<usize>, NoMemory>
-    requires { (wire_type_of kind ≡ 0) ⊎ (wire_type_of kind ≡ 1) ⊎ (wire_type_of kind ≡ 5) }
+    requires { IsNumberType (wire_type_of kind) }
     ensures within { IfOk result (λ o. IfSome o (λ n. (0 < n) × (n ≤ length bytes.now))) }
     ensures none { IfOk result (λ o. IfNone o (run.new ≡ run.old)) }
     ensures put { IfOk result (λ o. IfSome o (GoesOn pool.now number kind bytes.now left run.old run.new)) }
@@ -90,7 +91,7 @@ fn add_elements(
     left: Option<u32>,
     run: &mut Run,
 ) -> Result<usize, NoMemory>
-    requires { (wire_type_of kind ≡ 0) ⊎ (wire_type_of kind ≡ 1) ⊎ (wire_type_of kind ≡ 5) }
+    requires { IsNumberType (wire_type_of kind) }
     ensures within { IfOk result (λ n. n ≤ length bytes.now) }
     ensures put { IfOk result (GoesOn pool.now number kind bytes.now left run.old run.new) }
 {
@@ -116,7 +117,7 @@ pub fn read_run(
     bytes: &[u8],
     left: Option<u32>,
 ) -> Result<(Run, usize), NoMemory>
-    requires { (wire_type_of kind ≡ 0) ⊎ (wire_type_of kind ≡ 1) ⊎ (wire_type_of kind ≡ 5) }
+    requires { IsNumberType (wire_type_of kind) }
     ensures within { IfOk result (λ r. r.1 ≤ length bytes.now) }
     ensures put { TellsRun pool.now number kind bytes.now left result }
 {

@@ -1,6 +1,6 @@
 //! Fields by their numbers.
 
-ghost use Rattle.std.specs.Prelude.{◌≡◌, ◌<◌, ℕ, IfOk, IfSome, IfNone, Contains, map, option_map};
+ghost use Rattle.std.specs.Prelude.{◌≡◌, ◌<◌, ◌≤◌, ◌+◌, ◌*◌, ℕ, length, IfOk, IfSome, IfNone, Contains, map, option_map};
 ghost use Rattle.std.specs.List.Sorted.{IsNonDecreasingBy};
 ghost use Rattle.pb_schema.specs.View.{field_view, message_view};
 ghost use Rattle.pb_schema.specs.Names.{AllDiffer};
@@ -9,6 +9,9 @@ ghost use Rattle.pb_schema.specs.Types.{field_numbered};
 
 use crate::types::{Field, MessageType};
 use std::alloc::{AllocError, Global};
+
+/// Up to how many numbers a field there are guesses, so that their memory follows what is declared.
+const NUMBERS_A_FIELD: usize = 8;
 
 /// The fields of a message by their numbers.
 #[derive(Debug, Drop)]
@@ -31,7 +34,9 @@ fn rising_numbers(alloc: Global, fields: &[Field]) -> Result<Vec<(u32, usize)>, 
 }
 
 /// Notes where the field of a number stands.
-fn note_place(guesses: &mut Vec<usize>, number: u32, index: usize) -> Result<(), AllocError> {
+fn note_place(guesses: &mut Vec<usize>, number: u32, index: usize) -> Result<(), AllocError>
+    ensures longest { (most : ℕ) → number < most → length guesses.old.items ≤ most → length guesses.new.items ≤ most }
+{
     let number = number as usize;
     if guesses.len() <= number {
         guesses.resize(number + 1, 0)?;
@@ -42,13 +47,15 @@ fn note_place(guesses: &mut Vec<usize>, number: u32, index: usize) -> Result<(),
     Ok(())
 }
 
-/// Where the fields of small numbers stand, up to eight numbers a field, so that memory follows the fields. Where the numbers are 1, 2, 3
-/// and so on there is nothing to note.
-fn places_guessed(alloc: Global, fields: &[Field]) -> Result<Vec<usize>, AllocError> {
+/// Where the fields of small numbers stand. Where the numbers are 1, 2, 3 and so on there is nothing to note.
+fn places_guessed(alloc: Global, fields: &[Field]) -> Result<Vec<usize>, AllocError>
+    ensures few { IfOk result (λ guesses. length guesses.items ≤ 8 * length fields.now + 1) }
+{
+    let largest = fields.len().saturating_mul(NUMBERS_A_FIELD);
     let mut guesses = Vec::new(alloc);
     for (index, field) in fields.iter().enumerate() {
-        let place = (field.number as usize).wrapping_sub(1);
-        if place != index && place / 8 <= fields.len() {
+        let number = field.number as usize;
+        if number != index + 1 && number <= largest {
             note_place(&mut guesses, field.number, index)?;
         }
     }
@@ -56,7 +63,8 @@ fn places_guessed(alloc: Global, fields: &[Field]) -> Result<Vec<usize>, AllocEr
 }
 
 fn number_table(alloc: Global, fields: &[Field]) -> Result<NumberTable, AllocError>
-    ensures { IfOk result (λ table. IsNumberTable (map field_view fields.now) table.rising.items) }
+    ensures rising { IfOk result (λ table. IsNumberTable (map field_view fields.now) table.rising.items) }
+    ensures few { IfOk result (λ table. length table.guesses.items ≤ 8 * length fields.now + 1) }
 {
     let rising = rising_numbers(alloc, fields)?;
     let guesses = places_guessed(alloc, fields)?;

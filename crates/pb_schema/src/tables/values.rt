@@ -1,6 +1,6 @@
 //! Enums by the numbers of their values.
 
-ghost use Rattle.std.specs.Prelude.{◌≡◌, ◌⊎◌, ◌-ℤ◌, IsTrue, IfOk, IfSome, MatchOption, List, ℕ, ℤ, pos, true, map, set, string_bytes};
+ghost use Rattle.std.specs.Prelude.{◌≡◌, ◌≤◌, ◌*◌, ◌⊎◌, ◌-ℤ◌, IsTrue, IfOk, IfSome, MatchOption, List, length, ℕ, ℤ, pos, true, map, set, string_bytes};
 ghost use Rattle.std.specs.List.{list_any};
 ghost use Rattle.std.specs.Ordering.{int_eq};
 ghost use Rattle.pb_schema.specs.View.{enum_view};
@@ -68,7 +68,8 @@ fn marks_of(
     least: i32,
     count: usize,
 ) -> Result<Vec<bool>, AllocError>
-    ensures { IfOk result (λ marks. AreMarksOf (map (λ v. (string_bytes v.0, v.1)) values.now) least marks.items) }
+    ensures marks { IfOk result (λ marks. AreMarksOf (map (λ v. (string_bytes v.0, v.1)) values.now) least marks.items) }
+    ensures count { IfOk result (λ marks. length marks.items ≡ count) }
 {
     let mut marks = vec![in alloc; false; count]?;
     for value in values {
@@ -78,7 +79,8 @@ fn marks_of(
 }
 
 fn value_table(alloc: Global, values: &[(String, i32)]) -> Result<ValueTable, AllocError>
-    ensures { IfOk result (λ table. IsValueTable (map (λ v. (string_bytes v.0, v.1)) values.now) table) }
+    ensures table { IfOk result (λ table. IsValueTable (map (λ v. (string_bytes v.0, v.1)) values.now) table) }
+    ensures few { IfOk result (λ table. length table.marks.items ≤ 16 * length values.now) }
 {
     let first = values.first().map_or(0, |value| value.1);
     let (least, extent) = extent(values, first);

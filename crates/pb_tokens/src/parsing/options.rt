@@ -18,7 +18,7 @@ use crate::parsing::single::{
 };
 use crate::refusal::Refusal;
 use crate::rule::Rule;
-use crate::symbol::{Placed, Symbol, is_keyword, is_mark};
+use crate::symbol::{Placed, Symbol, is_keyword};
 use std::alloc::Global;
 
 /// Reads a part of an option's name.

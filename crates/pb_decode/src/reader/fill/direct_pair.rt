@@ -5,6 +5,7 @@ ghost use Rattle.pb_schema.specs.Kinds.{message_of_kind, wire_type_of};
 ghost use Rattle.pb_schema.specs.Rules.{IsPool};
 ghost use Rattle.pb_value.specs.View.{key_view};
 ghost use Rattle.pb_parts.specs.Open.Frames.{entry_part};
+ghost use Rattle.pb_parts.specs.Tokens.Number.{IsNumberType};
 ghost use Rattle.pb_decode.specs.Reader.Fills.{IsOpen, HasTagAt};
 ghost use Rattle.pb_decode.specs.Reader.Pairs.{WherePut, FillsKey, FillsPair, AddsPair};
 
@@ -103,7 +104,7 @@ fn pair_with_number(
     entries: &mut Vec<(MapKey, Value)>,
 ) -> Pair
     requires rules { IsPool pool.now }
-    requires number { (tag.wire_type ≡ 0) ⊎ (tag.wire_type ≡ 1) ⊎ (tag.wire_type ≡ 5) }
+    requires number { IsNumberType tag.wire_type }
     requires within { tag.size ≤ length bytes.now }
     requires small { length bytes.now < 2 ^ 31 }
     requires tag { HasTagAt bytes.now (Some left) tag.number tag.wire_type tag.size }

@@ -13,7 +13,7 @@ ghost use Rattle.pb_decode.specs.Reader.Pairs.{AddsPair};
 use super::direct_pair::{Pair, direct_pair, put_pair};
 use super::entries_ahead::entries_ahead;
 use super::{fill, fill_entry};
-use crate::reader::quick_record::length_behind;
+use crate::reader::quick_record::{length_behind, payload_behind};
 use pb_parts::close::closing::{key_or_default, value_or_missing};
 use pb_parts::close::put_entries::put_entries;
 use pb_parts::error::NoMemory;
@@ -132,11 +132,11 @@ fn entry_behind(
     ensures within { IfSome result (λ n. (0 < n) × (n ≤ length bytes.now)) }
     ensures put { AddsEntry pool.now number key_kind value_kind bytes.now left room entries.old.items entries.new.items result }
 {
-    let Some((start, size)) = length_behind(tag.size, bytes, left) else {
+    let Some((start, size)) = payload_behind(tag.size, bytes, left) else {
         return None;
     };
     let end = start + size as usize;
-    if bytes.len() < end || end < LEAST {
+    if end < LEAST {
         return None;
     }
     let payload = &bytes[start..];

@@ -3,7 +3,7 @@
 ghost use Rattle.std.specs.Prelude.{◌≤◌, ◌<◌, ◌^◌, length, IfSome};
 
 use crate::reader::fill::entries::LEAST;
-use crate::reader::quick_record::length_behind;
+use crate::reader::quick_record::payload_behind;
 use pb_parts::tokens::record_tag::record_tag;
 
 /// How many bytes the record at the front takes, where it begins with this tag, is all there, and is no shorter than an entry of a run.
@@ -14,9 +14,9 @@ fn size_ahead(tag: &[u8], bytes: &[u8]) -> Option<usize>
     if bytes.len() < tag.len() || !bytes.starts_with(tag) {
         return None;
     }
-    let (start, size) = length_behind(tag.len(), bytes, None)?;
+    let (start, size) = payload_behind(tag.len(), bytes, None)?;
     let end = start + size as usize;
-    if end < LEAST || bytes.len() < end {
+    if end < LEAST {
         return None;
     }
     Some(end)

@@ -10,7 +10,7 @@ ghost use Rattle.pb_decode.specs.Reader.Fills.Groups.{IfWhole, Passes, FillsGrou
 
 use super::groups::fill_groups;
 use super::{copied, fill_length, fill_number};
-use crate::reader::quick_record::length_behind;
+use crate::reader::quick_record::payload_behind;
 use pb_parts::close::closing::put_group;
 use pb_parts::close::put::put_message;
 use pb_parts::error::NoMemory;
@@ -41,14 +41,10 @@ fn read_of(wire_type: u8, tag_size: usize, bytes: &[u8], left: u32) -> usize
     if wire_type != 2 {
         return 0;
     }
-    let Some((start, size)) = length_behind(tag_size, bytes, Some(left)) else {
-        return 0;
-    };
-    let size = size as usize;
-    if bytes.len() - start < size {
-        return 0;
+    match payload_behind(tag_size, bytes, Some(left)) {
+        Some((start, size)) => start + size as usize,
+        None => 0,
     }
-    start + size
 }
 
 /// How many bytes were read of a record: those that it takes, if it is taken.
@@ -236,7 +232,7 @@ fn fill_unknown_group(
     }
 }
 
-/// As `fill_group`, apart.
+/// Puts the group behind its first tag into a part, where a level is left for it and it stands whole. It stands apart: few records begin a group.
 #[cycle(fill)]
 #[inline(never)]
 fn fill_group_apart(
@@ -272,7 +268,7 @@ fn fill_group_apart(
     }
 }
 
-/// Puts the group behind its first tag into a part, where a level is left for it and it stands whole.
+/// As `fill_group_apart`, to which the tag goes as a copy, so that in the loop that read it it need not stand in memory.
 #[cycle(fill)]
 #[inline(always)]
 pub(super) fn fill_group(

@@ -11,7 +11,7 @@ ghost use Rattle.pb_decode.specs.Reader.Fills.{IsOpen, HasTagAt, FillsOne};
 ghost use Rattle.pb_decode.specs.Reader.Listed.{IsListOpen, TellsMessage, TellsMessages};
 
 use super::fill;
-use crate::reader::quick_record::length_behind;
+use crate::reader::quick_record::payload_behind;
 use pb_parts::error::NoMemory;
 use pb_parts::open::part::Part;
 use pb_parts::tokens::record_tag::{RecordTag, record_tag};
@@ -43,13 +43,10 @@ fn message_behind(
     ensures within { IfSome result (λ r. (0 < r.1) × (r.1 ≤ length bytes.now)) }
     ensures put { TellsMessage pool.now tag.number message_type bytes.now left room result }
 {
-    let Some((start, size)) = length_behind(tag.size, bytes, Some(left)) else {
+    let Some((start, size)) = payload_behind(tag.size, bytes, Some(left)) else {
         return None;
     };
     let end = start + size as usize;
-    if bytes.len() < end {
-        return None;
-    }
     let mut message = Part::Message(message_type, empty_body(alloc));
     if !fill(alloc, pool, &mut message, &bytes[start..], size, room - 1) {
         return None;

@@ -1,11 +1,12 @@
 -- What is told of the element is told of the text.
-use Rattle.std.proofs.Common.{◌≡◌, ◌⊎◌, ℕ, Option, ◌∙◌, sym, ap, subst, arith}
+use Rattle.std.proofs.Common.{ℕ, Option, ◌∙◌, sym, ap, subst, arith}
 use Rattle.pb_wire.specs.Fault.{fault}
 use Rattle.pb_wire.specs.Token.{given_at, passed}
 use Rattle.pb_parts.specs.declared.tokens.number_token.NumberToken.TheVariants as token
 use Rattle.pb_parts.specs.declared.tokens.step.Step.{Step}
 use Rattle.pb_parts.specs.Tokens.Numbers.{TellsNumber}
 use Rattle.pb_parts.specs.Tokens.After.{After}
+use Rattle.pb_parts.specs.Tokens.Number.{IsNumberType}
 use Rattle.pb_decode.specs.Reader.{state_view, here, path_here, weight}
 use Rattle.pb_decode.proofs.ReaderLemmas.{fault_told}
 use Rattle.pb_parts.proofs.NumberTokens.{size_some}
@@ -16,7 +17,7 @@ use Rattle.pb_decode.proofs.reader.element.take_element.Goals as goal
 
 pub number_at-requires : goal.number_at-requires
 number_at-requires c =
-    subst (λ (z : ℕ). (z ≡ 0) ⊎ (z ≡ 1) ⊎ (z ≡ 5)) (sym c.wire_type.ensures)
+    subst IsNumberType (sym c.wire_type.ensures)
     (list_types (state_view c.args.reader.now) c.args.bytes.now c.args.number c.args.kind c.args.outer c.requires.reading.reads c.requires.step)
 
 pub pass_element-requires-clause-can : goal.pass_element-requires-clause-can

@@ -1,9 +1,9 @@
 -- The payload goes into the entry, and one stands behind its record.
-use Rattle.std.proofs.Common.{◌≡◌, ◌≤◌, ℕ, ◌+◌, ◌-◌, Some, subst, arith, take, drop, length, length-drop}
-use Rattle.std.proofs.lemmas.List.{length-take-le}
+use Rattle.std.proofs.Common.{ℕ, ◌+◌, Some, subst}
 use Rattle.pb_wire.specs.Fault.{HasTag}
 use Rattle.pb_wire.specs.Token.{given_at, passed}
 use Rattle.pb_parts.specs.Open.Frames.{one_more_in}
+use Rattle.pb_parts.proofs.PlaceLemmas.{slice_size}
 use Rattle.pb_decode.proofs.QuickLemmas.{bytes_next, payload_leads}
 use Rattle.pb_decode.proofs.FillLemmas.{open_can}
 use Rattle.pb_decode.proofs.reader.fill.fill_bytes.Goals as goal
@@ -17,13 +17,9 @@ returns-in-Ok-clause-filled c =
     let p = given_at at (Some c.args.left) c.args.bytes.now in
     let has = subst (λ (z : ℕ). HasTag p c.args.tag.number z (passed p c.args.tag.size)) c.requires.bytes (c.requires.at_tag.there at) in
     let l = c.in-Some.ensures.whole at c.args.tag.number c.args.tag.wire_type (c.requires.at_tag.there at) in
-    let begins = c.in-Some.ensures.within.1 in
-    let enough = c.if-bytes-start.false in
-    let within : c.in-Some.start + c.in-Some.size ≤ length c.args.bytes.now = omega (arith, begins, enough) in
+    let within = c.in-Some.ensures.within.1 in
     let next = bytes_next c.args.tag.number c.in-Some.size c.args.purpose there.1 has c.requires.means c.requires.purpose l in
-    let size : length (take ((c.in-Some.start + c.in-Some.size) - c.in-Some.start) (drop c.in-Some.start c.args.bytes.now)) ≡ c.in-Some.size =
-    (let left = length-drop c.in-Some.start c.args.bytes.now in
-    let fits = length-take-le ((c.in-Some.start + c.in-Some.size) - c.in-Some.start) (drop c.in-Some.start c.args.bytes.now) (omega (arith, left, within)) in omega (arith, fits)) in (
+    let size = slice_size c.in-Some.start c.in-Some.size c.args.bytes.now within in (
       one_more_in c.args.tag.number there.0,
       c.in-Ok.ensures.stands m depth levels c.in-Some.size base p0 (passed p c.in-Some.start) (passed p (c.in-Some.start + c.in-Some.size)) frames there.0 next size
           (payload_leads p c.in-Some.start c.in-Some.size (passed p c.args.tag.size) within l),

@@ -1,16 +1,17 @@
 -- The element goes to the end of the list, and one stands behind its record.
-use Rattle.std.proofs.Common.{◌≡◌, ℕ, ◌⊎◌, refl, sym, subst}
+use Rattle.std.proofs.Common.{ℕ, refl, sym, subst}
 use Rattle.pb_value.specs.View.{value_view}
 use Rattle.pb_parts.specs.declared.open.purpose.Purpose.TheVariants.{Element}
 use Rattle.pb_parts.specs.Open.Frames.{Part}
 use Rattle.pb_parts.specs.Open.Purposes.{Means, part_context}
+use Rattle.pb_parts.specs.Tokens.Number.{IsNumberType}
 use Rattle.pb_decode.specs.Reader.Fills.{FillsTo}
 use Rattle.pb_parts.proofs.RunLemmas.{listed_is}
 use Rattle.pb_decode.proofs.ListedLemmas.{told_of_some}
 use Rattle.pb_decode.proofs.reader.fill_run.element_behind.Goals as goal
 
 pub number_behind-requires-clause-number : goal.number_behind-requires-clause-number
-number_behind-requires-clause-number c = subst (λ (z : ℕ). (z ≡ 0) ⊎ (z ≡ 1) ⊎ (z ≡ 5)) (sym c.requires.same) c.requires.number
+number_behind-requires-clause-number c = subst IsNumberType (sym c.requires.same) c.requires.number
 
 pub returns-clause-put : goal.returns-clause-put
 returns-clause-put c =

@@ -1,10 +1,10 @@
 -- The payload goes into the part, and its record is counted.
-use Rattle.std.proofs.Common.{◌≡◌, ◌≤◌, ℕ, ◌+◌, ◌-◌, refl, sym, subst, arith, take, drop, length, length-drop}
-use Rattle.std.proofs.lemmas.List.{length-take-le}
+use Rattle.std.proofs.Common.{ℕ, ◌+◌, refl, sym, subst, arith}
 use Rattle.pb_wire.specs.Fault.{HasTag}
 use Rattle.pb_wire.specs.Token.{passed}
 use Rattle.pb_parts.specs.Open.Frames.{Scope, Stands}
 use Rattle.pb_parts.specs.Open.PartView.{part_view, scope_view}
+use Rattle.pb_parts.proofs.PlaceLemmas.{slice_size}
 use Rattle.pb_decode.specs.Reader.{state_view, frames_view, here}
 use Rattle.pb_decode.proofs.ReaderLemmas.{stands_reads}
 use Rattle.pb_decode.proofs.QuickLemmas.{tag_stands, tag_can, tag_few, length_here, bytes_next, payload_leads}
@@ -26,13 +26,9 @@ returns-in_ok-count_one-in-Ok-clause-taken c =
     let has = subst (λ (z : ℕ). HasTag (here (state_view c.args.reader.now) c.args.bytes.now) c.args.tag.number z (passed (here (state_view c.args.reader.now) c.args.bytes.now) c.args.tag.size)) c.requires.bytes c.requires.tag in
     let l =
     length_here (state_view c.args.reader.now) c.args.bytes.now c.args.tag.number c.args.tag.wire_type c.args.tag.size c.in-Some.start c.in-Some.size c.left.ensures c.in-Some.ensures.whole c.requires.tag in
-    let begins = c.in-Some.ensures.within.1 in
-    let enough = c.if-bytes-start.false in
-    let within : c.in-Some.start + c.in-Some.size ≤ length c.args.bytes.now = omega (arith, begins, enough) in
+    let within = c.in-Some.ensures.within.1 in
     let next = bytes_next c.args.tag.number c.in-Some.size c.args.purpose (tag_stands (state_view c.args.reader.now) c.args.bytes.now begun c.requires.step) has c.requires.means c.requires.purpose l in
-    let size : length (take ((c.in-Some.start + c.in-Some.size) - c.in-Some.start) (drop c.in-Some.start c.args.bytes.now)) ≡ c.in-Some.size =
-    (let left = length-drop c.in-Some.start c.args.bytes.now in
-    let fits = length-take-le ((c.in-Some.start + c.in-Some.size) - c.in-Some.start) (drop c.in-Some.start c.args.bytes.now) (omega (arith, left, within)) in omega (arith, fits)) in
+    let size = slice_size c.in-Some.start c.in-Some.size c.args.bytes.now within in
     stands_reads (state_view c.args.reader.now)
     (record { at = c.args.reader.now.at + (c.in-Some.start + c.in-Some.size); now = part_view c.put_payload.new.part; scope = scope_view c.count_one.new.scope; frames = frames_view c.args.reader.now.frames.items; next = c.args.reader.now.step })
     (c.in-Some.start + c.in-Some.size) c.args.bytes.now refl c.in_ok-count_one-in-Ok.ensures.same_end c.requires.step

@@ -1,5 +1,5 @@
 -- With one more value in their list one stands behind its element.
-use Rattle.std.proofs.Common.{◌≡◌, ◌⊎◌, ℕ, ◌∙◌, Option, Some, None, false, sym, ap, subst, map}
+use Rattle.std.proofs.Common.{◌≡◌, ℕ, ◌∙◌, Option, Some, None, false, sym, ap, subst, map}
 use Rattle.pb_schema.specs.Closed.{is_undeclared}
 use Rattle.pb_schema.specs.Kinds.{closed_enum}
 use Rattle.pb_wire.specs.Token.{given_at, passed}
@@ -8,7 +8,7 @@ use Rattle.pb_parts.specs.declared.open.purpose.Purpose.TheVariants.{Element}
 use Rattle.pb_parts.specs.declared.tokens.step.Step.TheVariants.{Elements}
 use Rattle.pb_parts.specs.Open.Frames.{Part}
 use Rattle.pb_parts.specs.Tokens.After.{After}
-use Rattle.pb_parts.specs.Tokens.Number.{number_view}
+use Rattle.pb_parts.specs.Tokens.Number.{IsNumberType, number_view}
 use Rattle.pb_parts.specs.Values.Put.{put_datum}
 use Rattle.pb_parts.specs.Values.Run.{put_each, put_listed}
 use Rattle.pb_parts.proofs.AnswerLemmas.{told_of}
@@ -19,14 +19,14 @@ use Rattle.pb_parts.proofs.RunLemmas.{listed_is, value_added}
 use Rattle.pb_parts.proofs.values.list.push_value.Goals as goal
 
 pub number_here-requires : goal.number_here-requires
-number_here-requires c = subst (λ (z : ℕ). (z ≡ 0) ⊎ (z ≡ 1) ⊎ (z ≡ 5)) (sym c.wire_type.ensures) c.requires.number
+number_here-requires c = subst IsNumberType (sym c.wire_type.ensures) c.requires.number
 
 pub returns-in_ok-push-in-Whole-clause-within : goal.returns-in_ok-push-in-Whole-clause-within
 returns-in_ok-push-in-Whole-clause-within c = let told = c.in-Whole.ensures 0 in (size_some c.in-Whole.value (given_at 0 None c.args.bytes.now) c.in-Whole.size told.2, told.1)
 
 pub returns-in_ok-push-in-Whole-clause-put : goal.returns-in_ok-push-in-Whole-clause-put
 returns-in_ok-push-in-Whole-clause-put c =
-    λ pool number m depth levels at size outer base p0 frames scope now bytes is begun.
+    λ pool number size bytes is m depth levels at outer base p0 frames scope now begun.
     let kind = c.args.kind in
     let value = c.in-Whole.value in
     let old = put_each number (map value_view c.args.values.now.items) now in

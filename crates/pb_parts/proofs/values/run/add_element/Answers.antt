@@ -1,5 +1,5 @@
 -- With one more of its sort in the part one stands behind it.
-use Rattle.std.proofs.Common.{◌≡◌, ◌⊎◌, ℕ, ◌∙◌, sym, ap, subst, map}
+use Rattle.std.proofs.Common.{◌∙◌, sym, ap, subst, map}
 use Rattle.pb_wire.specs.Record.{Payload}
 use Rattle.pb_wire.specs.Token.{given_at, passed}
 use Rattle.pb_wire.specs.Unknown.{payload_of, records_of}
@@ -10,6 +10,7 @@ use Rattle.pb_parts.specs.Open.Frames.{Part}
 use Rattle.pb_parts.specs.Tokens.After.{After}
 use Rattle.pb_parts.specs.Values.Put.{put_datum, put_record}
 use Rattle.pb_parts.specs.Values.Run.{put_listed, put_records, put_run}
+use Rattle.pb_parts.specs.Tokens.Number.{IsNumberType}
 use Rattle.pb_parts.proofs.NumberTokens.{size_some}
 use Rattle.pb_parts.proofs.NumberSteps.{read_some}
 use Rattle.pb_parts.proofs.AnswerLemmas.{told_of}
@@ -18,7 +19,7 @@ use Rattle.pb_parts.proofs.RunLemmas.{listed_is, value_added, record_added}
 use Rattle.pb_parts.proofs.values.run.add_element.Goals as goal
 
 pub number_here-requires : goal.number_here-requires
-number_here-requires c = subst (λ (z : ℕ). (z ≡ 0) ⊎ (z ≡ 1) ⊎ (z ≡ 5)) (sym c.wire_type.ensures) c.requires
+number_here-requires c = subst IsNumberType (sym c.wire_type.ensures) c.requires
 
 pub returns-in_ok-push-in-Whole-clause-within : goal.returns-in_ok-push-in-Whole-clause-within
 returns-in_ok-push-in-Whole-clause-within c = let told = c.in-Whole.ensures 0 in (size_some c.in-Whole.value (given_at 0 c.args.left c.args.bytes.now) c.in-Whole.size told.2, told.1)

@@ -8,11 +8,14 @@ use Rattle.pb_schema.proofs.ValueLemmas.{number_there, more_marks}
 use Rattle.pb_schema.proofs.tables.values.marks_of.Goals as goal
 
 pub loop-value-preserved : goal.loop-value-preserved
-loop-value-preserved c =
-    let vs = c.args.values.now in
-    let v = c.value-item.result in
-    let views = map (λ (w : String Global × ℤ). (string_bytes w.0, w.1)) vs in
-    let fits : FitsSigned w32 v.1 = search rules in
-    let there = number_there vs c.loop-value.value-index v c.loop-value-test.true c.value-item.is in
-    more_marks views _ (to_z w32 (of_z w32 v.1)) c.distance.result c.loop-value.marks.items c.mark.new.marks.items c.distance.ensures c.mark.ensures
-    (subst (λ (z : ℤ). list_any (λ w. int_eq w.1 z) views ≡ true) (sym (to_z-of_z w32 v.1 fits)) there) c.loop-value.invariant
+loop-value-preserved c = record {
+  marks =
+      let vs = c.args.values.now in
+      let v = c.value-item.result in
+      let views = map (λ (w : String Global × ℤ). (string_bytes w.0, w.1)) vs in
+      let fits : FitsSigned w32 v.1 = search rules in
+      let there = number_there vs c.loop-value.value-index v c.loop-value-test.true c.value-item.is in
+      more_marks views _ (to_z w32 (of_z w32 v.1)) c.distance.result c.loop-value.marks.items c.mark.new.marks.items c.distance.ensures c.mark.ensures
+      (subst (λ (z : ℤ). list_any (λ w. int_eq w.1 z) views ≡ true) (sym (to_z-of_z w32 v.1 fits)) there) c.loop-value.invariant.marks;
+  count = search rules;
+}
