@@ -24,7 +24,6 @@ use pb_stream::DelimitedReader;
 use pb_value::DynamicMessage;
 use pb_wire::{Input, Limits, Output};
 use std::alloc::Global;
-use std::mem::forget;
 
 /// What comes of the frame that follows.
 #[derive(Drop)]
@@ -50,10 +49,7 @@ pub fn frames<'a, F: Files, O: Output>(
     ensures kept { KeepsFailures F.failures files.old files.new result }
 {
     let (pool, kind) = find_type(alloc, source, files)?;
-    let answer = frames_at(alloc, &pool, kind, source.file, files, out);
-    // The command is done, and the memory of its pool goes with the program, all at once.
-    forget(pool);
-    answer
+    frames_at(alloc, &pool, kind, source.file, files, out)
 }
 
 /// Shows the messages of a type that the file at a path holds.

@@ -14,7 +14,6 @@ use crate::report::Refusal;
 use pb_schema::{MessageId, Pool};
 use pb_wire::Output;
 use std::alloc::Global;
-use std::mem::forget;
 
 /// Makes it of the message of a file: nothing is printed before the message is accepted.
 pub fn message<'a, F: Files, O: Output>(
@@ -30,9 +29,7 @@ pub fn message<'a, F: Files, O: Output>(
     ensures kept { KeepsFailures F.failures files.old files.new result }
 {
     let (pool, kind) = find_type(alloc, source, files)?;
-    let answer = message_at(alloc, form, &pool, kind, source.file, files, out);
-    forget(pool);
-    answer
+    message_at(alloc, form, &pool, kind, source.file, files, out)
 }
 
 /// Makes it of the message of a type that the file at a path holds.
@@ -52,8 +49,5 @@ fn message_at<'a, F: Files, O: Output>(
     ensures kept { KeepsFailures F.failures files.old files.new result }
 {
     let message = read_message(alloc, pool, message_type, path, files)?;
-    let answer = make(form, &message, files, out);
-    // The command is done, and the memory of its message goes with the program, all at once; so does that of its pool.
-    forget(message);
-    answer
+    make(form, &message, files, out)
 }
