@@ -3,14 +3,28 @@
 pub(crate) mod cycles;
 pub(crate) mod sight;
 
+ghost use Rattle.std.specs.Prelude.{map};
+
 use crate::types::FileInfo;
-use pb_sets::reach::Node;
+use pb_sets::reach::Graph;
 
-/// A file leads to those that it imports.
-impl Node for FileInfo {
-    ghost leads_to = { λ f. f.imports.items };
+/// Files, each of which leads to those that it imports.
+#[derive(Clone, Copy)]
+pub(crate) struct Files<'a> {
+    pub(crate) files: &'a [FileInfo],
+}
 
-    fn next(&self) -> &[usize] {
-        &self.imports
+impl Graph for Files<'_> {
+    ghost lists = { λ g. map (λ f. f.imports.items) g.files.now };
+
+    fn len(&self) -> usize {
+        self.files.len()
+    }
+
+    fn next(&self, index: usize) -> &[usize] {
+        match self.files.get(index) {
+            Some(file) => &file.imports,
+            None => &[],
+        }
     }
 }

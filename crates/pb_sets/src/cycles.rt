@@ -1,6 +1,6 @@
 //! Whether a graph has a cycle: one pass over its indexes and where they lead.
 
-ghost use Rattle.std.specs.Prelude.{◌≡◌, ◌↔◌, ◌<◌, ◌^◌, [], IsTrue, IfOk, IfSome, length, map, slice_get};
+ghost use Rattle.std.specs.Prelude.{◌≡◌, ◌↔◌, ◌<◌, ◌^◌, [], IsTrue, IfOk, IfSome, length, slice_get};
 ghost use Rattle.std.specs.List.{slice_index_or};
 ghost use Rattle.pb_sets.specs.Flat.{lists_of};
 ghost use Rattle.pb_sets.specs.Reach.{next_of, IsGraph};
@@ -9,7 +9,7 @@ ghost use Rattle.pb_sets.specs.Walks.{AreSettled, AnswersWalk};
 ghost use Rattle.pb_sets.specs.declared.cycles.Progress.TheVariants.{Unseen};
 
 use crate::flat::FlatGraph;
-use crate::reach::Node;
+use crate::reach::Graph;
 use std::alloc::{AllocError, Global};
 
 /// How far a walk is with an index.
@@ -68,16 +68,15 @@ fn walk_from(
 }
 
 /// Whether no index of a graph leads back to itself.
-pub fn is_acyclic<N: Node>(alloc: Global, graph: &[N]) -> Result<bool, AllocError>
-    requires { IsGraph (map N.leads_to graph.now) }
-    ensures { IfOk result (λ free. IsTrue free ↔ IsAcyclic (map N.leads_to graph.now)) }
+pub fn is_acyclic(alloc: Global, graph: &FlatGraph) -> Result<bool, AllocError>
+    requires { IsGraph (lists_of graph.now) }
+    ensures { IfOk result (λ free. IsTrue free ↔ IsAcyclic (lists_of graph.now)) }
 {
-    let flat = FlatGraph::new(alloc, graph)?;
     let mut progress = vec![in alloc; Progress::Unseen; graph.len()]?;
     let mut path = Vec::new(alloc);
     for index in 0..graph.len() {
         if progress[index] == Progress::Unseen {
-            let free = walk_from(&flat, index, &mut progress, &mut path)?;
+            let free = walk_from(graph, index, &mut progress, &mut path)?;
             if !free {
                 return Ok(false);
             }

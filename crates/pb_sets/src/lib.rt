@@ -4,6 +4,6 @@
 #![tactic(auto)]
 
 pub mod cycles;
-mod flat;
+pub mod flat;
 pub mod name_set;
 pub mod reach;

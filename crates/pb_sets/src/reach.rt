@@ -1,25 +1,21 @@
 //! What is reached along a graph from some of its indexes.
 
-ghost use Rattle.std.specs.Prelude.{◌≡◌, ◌<◌, ◌↔◌, [], ◌∷◌, ℕ, List, IsTrue, All, Contains, IfOk, OnOk, length, map, vec_len};
+ghost use Rattle.std.specs.Prelude.{◌≡◌, ◌<◌, ◌↔◌, [], ◌∷◌, ℕ, List, IsTrue, All, Contains, IfOk, OnOk, length, vec_len};
 ghost use Rattle.pb_sets.specs.Reach.{next_of, IsGraph, Reached, is_marked, IsListed, IsClear, Marks};
 
 use std::alloc::{AllocError, Global};
 
-/// What stands at an index of a graph.
-pub trait Node {
-    ghost leads_to: { Self → List ℕ };
+/// A graph over indexes, each of which leads to a list of them.
+pub trait Graph {
+    ghost lists: { Self → List (List ℕ) };
 
-    /// The indexes that it leads to.
-    fn next(&self) -> &[usize]
-        ensures { result.now ≡ leads_to self.now };
-}
+    /// How many indexes it has.
+    fn len(&self) -> usize
+        ensures { result ≡ length (lists self.now) };
 
-impl Node for Vec<usize> {
-    ghost leads_to = { λ v. v.items };
-
-    fn next(&self) -> &[usize] {
-        self.as_slice()
-    }
+    /// Where an index leads. One that is not there leads nowhere.
+    fn next(&self, index: usize) -> &[usize]
+        ensures { result.now ≡ next_of (lists self.now) index };
 }
 
 /// What was reached along a graph last.
@@ -29,16 +25,6 @@ pub struct Reach {
     pub bits: Vec<bool>,
     /// The indexes whose bit is set, so that work follows what is reached.
     pub reached: Vec<usize>,
-}
-
-/// Where an index leads.
-pub fn next_of<N: Node>(graph: &[N], index: usize) -> &[usize]
-    ensures { result.now ≡ next_of (map N.leads_to graph.now) index }
-{
-    match graph.get(index) {
-        Some(node) => node.next(),
-        None => &[],
-    }
 }
 
 impl Reach {
@@ -108,32 +94,32 @@ impl Reach {
     }
 
     /// Marks what is reached from what is marked.
-    pub fn follow<N: Node>(&mut self, graph: &[N]) -> Result<(), AllocError>
+    pub fn follow<G: Graph>(&mut self, graph: &G) -> Result<(), AllocError>
         requires listed { IsListed self.old }
-        requires size { vec_len self.old.bits ≡ length graph.now }
-        requires graph { IsGraph (map N.leads_to graph.now) }
+        requires size { vec_len self.old.bits ≡ length (G.lists graph.now) }
+        requires graph { IsGraph (G.lists graph.now) }
         ensures listed { OnOk result (IsListed self.new) }
-        ensures size { OnOk result (vec_len self.new.bits ≡ length graph.now) }
-        ensures exact { OnOk result ((j : ℕ) → IsTrue (is_marked self.new j) ↔ Reached (map N.leads_to graph.now) self.old.reached.items j) }
+        ensures size { OnOk result (vec_len self.new.bits ≡ length (G.lists graph.now)) }
+        ensures exact { OnOk result ((j : ℕ) → IsTrue (is_marked self.new j) ↔ Reached (G.lists graph.now) self.old.reached.items j) }
     {
         let mut at = 0;
         while at < self.reached.len() {
             let index = self.reached[at];
-            self.mark_all(next_of(graph, index))?;
+            self.mark_all(graph.next(index))?;
             at += 1;
         }
         Ok(())
     }
 
     /// Marks what is reached from the starts, and nothing else.
-    pub fn reach<N: Node>(&mut self, graph: &[N], starts: &[usize]) -> Result<(), AllocError>
+    pub fn reach<G: Graph>(&mut self, graph: &G, starts: &[usize]) -> Result<(), AllocError>
         requires listed { IsListed self.old }
-        requires size { vec_len self.old.bits ≡ length graph.now }
-        requires graph { IsGraph (map N.leads_to graph.now) }
-        requires starts { All (λ j. j < length graph.now) starts.now }
+        requires size { vec_len self.old.bits ≡ length (G.lists graph.now) }
+        requires graph { IsGraph (G.lists graph.now) }
+        requires starts { All (λ j. j < length (G.lists graph.now)) starts.now }
         ensures listed { OnOk result (IsListed self.new) }
-        ensures size { OnOk result (vec_len self.new.bits ≡ length graph.now) }
-        ensures exact { OnOk result ((j : ℕ) → IsTrue (is_marked self.new j) ↔ Reached (map N.leads_to graph.now) starts.now j) }
+        ensures size { OnOk result (vec_len self.new.bits ≡ length (G.lists graph.now)) }
+        ensures exact { OnOk result ((j : ℕ) → IsTrue (is_marked self.new j) ↔ Reached (G.lists graph.now) starts.now j) }
     {
         self.start(starts)?;
         self.follow(graph)?;

@@ -6,8 +6,9 @@ ghost use Rattle.pb_schema.specs.Imports.{IsSeen};
 ghost use Rattle.pb_schema.specs.Imports.Sight.{KnowsSight};
 ghost use Rattle.pb_schema.specs.Rules.{ImportsNameFiles};
 
+use crate::imports::Files;
 use crate::types::FileInfo;
-use pb_sets::reach::{Reach, next_of};
+use pb_sets::reach::{Graph, Reach};
 use std::alloc::{AllocError, Global};
 
 /// What the file that was looked at last imports, or all that it reaches.
@@ -41,7 +42,7 @@ impl Sight {
         if self.file == Some(file) {
             return Ok(());
         }
-        self.reach.start(next_of(files, file))?;
+        self.reach.start(Files { files }.next(file))?;
         self.file = Some(file);
         self.is_whole = false;
         Ok(())
@@ -58,7 +59,7 @@ impl Sight {
         if self.is_whole {
             return Ok(());
         }
-        self.reach.follow(files)?;
+        self.reach.follow(&Files { files })?;
         self.is_whole = true;
         Ok(())
     }

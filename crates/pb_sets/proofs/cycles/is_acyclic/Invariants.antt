@@ -5,5 +5,5 @@ use Rattle.pb_sets.specs.Walks.{AreSettled, progress_of}
 use Rattle.pb_sets.proofs.cycles.is_acyclic.Given as goal
 
 abbrev pub invariant-loop-index : goal.invariant-loop-index
-invariant-loop-index g l =
-    AreSettled (lists_of l.flat) l.progress.items × ((k : ℕ) → k < l.index → progress_of l.progress.items k ≡ Done) × (l.path.items ≡ [])
+invariant-loop-index l =
+    AreSettled (lists_of l.graph) l.progress.items × ((k : ℕ) → k < l.index → progress_of l.progress.items k ≡ Done) × (l.path.items ≡ [])
