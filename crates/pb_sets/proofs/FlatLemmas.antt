@@ -1,10 +1,10 @@
 -- Lists laid one behind the other: one more leaves those before it as they are.
-use Rattle.std.proofs.Common.{◌≡◌, ℕ, zero, suc, ◌+◌, ◌-◌, ◌≤◌, ◌<◌, List, [], ◌∷◌, ◌++◌, length, take, drop, get_or, refl, ap, sym, subst, ◌∙◌, arith, length-append, length-drop}
+use Rattle.std.proofs.Common.{◌≡◌, ℕ, zero, suc, ◌+◌, ◌-◌, ◌≤◌, ◌<◌, List, [], ◌∷◌, ◌++◌, length, take, drop, get_or, refl, ap, sym, subst, ◌∙◌, arith, length-append, append-nil, append_assoc, length-drop}
 use Rattle.std.specs.List.{AllByRecursion}
 use Rattle.std.proofs.lemmas.List.{take_all, take-append-le, drop-append-le, drop_all, take_more}
 use Rattle.pb_sets.specs.declared.flat.FlatGraph.{FlatGraph}
 use Rattle.pb_sets.specs.Reach.{next_of}
-use Rattle.pb_sets.specs.Flat.{part_of, parts_of, behind_parts, IsLaid, Grows}
+use Rattle.pb_sets.specs.Flat.{part_of, parts_of, behind_parts, open_list, IsLaid, Grows}
 
 -- these places lie in a list of such a length
 abbrev AreWithin : ℕ → List ℕ → Type 0
@@ -35,6 +35,16 @@ grows old new more laid put same = record {
   lists = ap (λ t. parts_of t 0 new.ends.items) put ∙ ap (parts_of (old.targets.items ++ more) 0) same ∙ parts_kept old.targets.items more 0 old.ends.items (omega arith) laid;
   grown = ap (λ t. behind_parts t 0 new.ends.items) put ∙ ap (behind_parts (old.targets.items ++ more) 0) same ∙ behind_more old.targets.items more 0 old.ends.items (omega arith) laid;
   laid = λ was. subst (AreWithin (length new.targets.items)) (sym same) (within_more (length old.targets.items) (length new.targets.items) old.ends.items (omega (arith, ap length put, length-append old.targets.items more)) was);
+}
+
+pub grows_none : (f : FlatGraph) → Grows [] f f
+grows_none f = record { lists = refl; grown = sym (append-nil (open_list f)); laid = λ was. was }
+
+pub grows_append : (xs ys : List ℕ) (a b c : FlatGraph) → Grows xs a b → Grows ys b c → Grows (xs ++ ys) a c
+grows_append xs ys a b c first then = record {
+  lists = then.lists ∙ first.lists;
+  grown = then.grown ∙ ap (λ l. l ++ ys) first.grown ∙ append_assoc (open_list a) xs ys;
+  laid = λ was. then.laid (first.laid was);
 }
 
 -- ONE LIST MORE

@@ -1,5 +1,5 @@
 -- Bits and a list that tell what is reached along a graph.
-use Rattle.std.proofs.Common.{◌≡◌, ℕ, zero, suc, ◌+◌, ◌-◌, ◌*◌, ◌<◌, ◌≤◌, List, [], ◌∷◌, ◌++◌, Bool, true, false, IsTrue, ◌↔◌, ◌⊎◌, inl, inr, ⊎_elim, length, map, get_or, set, replicate, refl, sym, ◌∙◌, ap, subst, arith, cond, Contains, length-append, append-nil, append_assoc}
+use Rattle.std.proofs.Common.{◌≡◌, ℕ, zero, suc, ◌+◌, ◌-◌, ◌*◌, ◌<◌, ◌≤◌, List, [], ◌∷◌, ◌++◌, Bool, true, false, IsTrue, ◌↔◌, ◌⊎◌, inl, inr, ⊎_elim, length, get_or, set, replicate, refl, sym, ◌∙◌, ap, subst, arith, cond, Contains, length-append, append-nil, append_assoc}
 use Rattle.std.specs.List.{All, AllByRecursion}
 use Rattle.std.proofs.lemmas.List.{length-set, get_or-set_same, get_or-set_other, get_or_append_left, get_or_read}
 use Rattle.std.proofs.lemmas.List.Sums.{sum_by-set}
@@ -198,9 +198,3 @@ next_all P (xs ∷ graph) all (suc i) = next_all P graph all.1 i
 pub next_within : (graph : List (List ℕ)) (i n : ℕ) → IsGraph graph → n ≡ length graph → All (λ j. j < n) (next_of graph i)
 next_within graph i n all size =
     subst (λ m. All (λ j. j < m) (next_of graph i)) (sym size) (All-from_recursion (λ j. j < length graph) (next_of graph i) (next_all (λ j. j < length graph) graph all i))
-
--- what stands at an index leads there
-pub next_at : {N : Type 0} (leads : N → List ℕ) (nodes : List N) (i : ℕ) (d : N) → i < length nodes → next_of (map leads nodes) i ≡ leads (get_or nodes i d)
-next_at leads [] i d h = absurd (omega (arith, h))
-next_at leads (x ∷ xs) zero d h = refl
-next_at leads (x ∷ xs) (suc i) d h = next_at leads xs i d (omega (arith, h))

@@ -1,13 +1,8 @@
 -- What is reached along a graph from some indexes, and the bits that tell it.
-use Rattle.std.specs.Prelude.{◌≡◌, ◌<◌, ◌≤◌, ◌+◌, ◌*◌, ◌↔◌, ◌⊎◌, ℕ, List, [], ◌++◌, length, map, Bool}
-use Rattle.std.specs.Prelude.{false, cond, IsTrue, Vec, unwrap_or, slice_get, Contains, sum_by}
+use Rattle.std.specs.Prelude.{◌≡◌, ◌<◌, ◌≤◌, ◌+◌, ◌*◌, ◌↔◌, ◌⊎◌, ℕ, List, [], ◌++◌, length, Bool}
+use Rattle.std.specs.Prelude.{false, cond, IsTrue, unwrap_or, slice_get, Contains, sum_by}
 use Rattle.std.specs.List.{slice_index_or, AllByRecursion}
-use Rattle.std.specs.declared.alloc.Global.{Global}
 use Rattle.pb_sets.specs.declared.reach.Reach.{Reach}
-
--- the graph of lists, each of where its index leads
-abbrev pub graph_of : List (Vec ℕ Global) → List (List ℕ)
-graph_of lists = map (λ v. v.items) lists
 
 -- where an index of a graph leads
 abbrev pub next_of : List (List ℕ) → ℕ → List ℕ

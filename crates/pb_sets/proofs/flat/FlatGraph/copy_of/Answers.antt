@@ -16,9 +16,9 @@ loop-index-preserved g c =
     let more = grows c.loop-index.flat longer next c.loop-index.invariant.2 c.in_ok-extend_from_slice.ensures.items refl in
     let list = more.grown ∙ ap (λ l. l ++ next) c.loop-index.invariant.1 ∙ c.next.ensures in (
       c.in_ok-end_list.ensures.lists
-      ∙ ap (λ (l : List ℕ). lists_of longer ++ l ∷ []) list
-      ∙ ap (λ (ls : List (List ℕ)). ls ++ next_of lists i ∷ []) (more.lists ∙ c.loop-index.invariant.0)
-      ∙ lists_next lists i less,
+          ∙ ap (λ (l : List ℕ). lists_of longer ++ l ∷ []) list
+          ∙ ap (λ (ls : List (List ℕ)). ls ++ next_of lists i ∷ []) (more.lists ∙ c.loop-index.invariant.0)
+          ∙ lists_next lists i less,
       c.in_ok-end_list.ensures.open_one,
       c.in_ok-end_list.ensures.laid,
     )
