@@ -4,13 +4,14 @@ pub(crate) mod same;
 
 use crate::error::PoolError;
 use crate::pool::same::{same_enums, same_files, same_messages};
+use crate::rules::meet_rules;
 use crate::scalars::low_half;
 use crate::tables::names::field_named;
 use crate::tables::numbers::field_at;
 use crate::tables::values::has_number;
-use crate::tables::{Tables, checked};
+use crate::tables::{Tables, tables_of};
 use crate::types::{EnumId, EnumType, Field, FileInfo, Kind, MessageId, MessageType};
-use std::alloc::Global;
+use std::alloc::{AllocError, Global};
 use std::marker::Model;
 
 /// Message types and enums with their files. Every rule of docs/SCHEMAS.md holds of them.
@@ -65,15 +66,31 @@ impl Pool {
         ensures rules { IfOk result (λ p. IsPool p) }
         ensures refused { IfErr result (λ e. e ≡ BadParts → ¬ IsPool (types_of files.items messages.items enums.items)) }
     {
-        match checked(alloc, &files, &messages, &enums)? {
-            Some(tables) => Ok(Pool {
-                files,
-                messages,
-                enums,
-                tables,
-            }),
-            None => Err(PoolError::BadParts),
+        let holds = meet_rules(alloc, &files, &messages, &enums)?;
+        if !holds {
+            return Err(PoolError::BadParts);
         }
+        let pool = Pool::from_known_parts(alloc, files, messages, enums)?;
+        Ok(pool)
+    }
+
+    /// The pool of parts of which every rule is known to hold. Nothing is judged.
+    pub fn from_known_parts(
+        alloc: Global,
+        files: Vec<FileInfo>,
+        messages: Vec<MessageType>,
+        enums: Vec<EnumType>,
+    ) -> Result<Pool, AllocError>
+        requires { IsPool (types_of files.items messages.items enums.items) }
+        ensures { IfOk result (λ p. p ≡ types_of files.items messages.items enums.items) }
+    {
+        let tables = tables_of(alloc, &files, &messages, &enums)?;
+        Ok(Pool {
+            files,
+            messages,
+            enums,
+            tables,
+        })
     }
 
     /// The files, in their order.

@@ -5,14 +5,13 @@ pub(crate) mod names;
 pub(crate) mod numbers;
 pub(crate) mod values;
 
-ghost use Rattle.std.specs.Prelude.{IfOk, IfSome, IfNone};
+ghost use Rattle.std.specs.Prelude.{IfOk};
 ghost use Rattle.pb_schema.specs.View.{types_of};
 ghost use Rattle.pb_schema.specs.Rules.{IsPool};
 ghost use Rattle.pb_schema.specs.Tables.{HasTables};
 
 use crate::names::set::AddedNames;
 use crate::names::{enum_names, message_names};
-use crate::rules::meet_rules;
 use crate::tables::members::{MemberTable, member_tables};
 use crate::tables::names::{NameTable, name_tables};
 use crate::tables::numbers::{NumberTable, number_tables};
@@ -33,21 +32,16 @@ pub(crate) struct Tables {
     pub(crate) values: Vec<ValueTable>,
 }
 
-/// The tables of parts that meet every rule; None where they do not.
-pub(crate) fn checked(
+/// The tables of parts that meet every rule.
+pub(crate) fn tables_of(
     alloc: Global,
     files: &[FileInfo],
     messages: &[MessageType],
     enums: &[EnumType],
-) -> Result<Option<Tables>, AllocError>
-    ensures meets { IfOk result (λ o. IfSome o (λ t. IsPool (types_of files.now messages.now enums.now))) }
-    ensures tables { IfOk result (λ o. IfSome o (λ t. HasTables (types_of files.now messages.now enums.now) t)) }
-    ensures none { IfOk result (λ o. IfNone o (¬ IsPool (types_of files.now messages.now enums.now))) }
+) -> Result<Tables, AllocError>
+    requires { IsPool (types_of files.now messages.now enums.now) }
+    ensures { IfOk result (HasTables (types_of files.now messages.now enums.now)) }
 {
-    let holds = meet_rules(alloc, files, messages, enums)?;
-    if !holds {
-        return Ok(None);
-    }
     let names = message_names(alloc, files, messages)?;
     let names_of_enums = enum_names(alloc, files, &names, enums)?;
     let added_enums = AddedNames::collect(alloc, names_of_enums)?;
@@ -56,12 +50,12 @@ pub(crate) fn checked(
     let members = member_tables(alloc, messages)?;
     let field_names = name_tables(alloc, messages)?;
     let values = value_tables(alloc, enums)?;
-    Ok(Some(Tables {
+    Ok(Tables {
         messages: added_messages.set,
         enums: added_enums.set,
         numbers,
         members,
         names: field_names,
         values,
-    }))
+    })
 }
