@@ -14,7 +14,7 @@ ghost use Rattle.pb_command.specs.declared.command.Command.{Command as Told};
 use crate::words::definition;
 use clap::error::ErrorKind;
 use clap::{ArgMatches, Error};
-use pb_command::{Command, Files, Refusal, Roots, Source, execute};
+use pb_command::{Afterwards, Command, Files, Refusal, Roots, Source, execute_then};
 use pb_wire::{Output, write_all};
 use std::alloc::Global;
 
@@ -46,11 +46,42 @@ pub fn run<F: Files, O: Output, E: Output>(
     // Where the files failed, the status tells it.
     ensures kept { result ≢ 3 → F.failures files.new ≡ F.failures files.old }
 {
+    run_then(alloc, Afterwards::GoesOn, args, files, out, err)
+}
+
+/// Does what `run` does, in a program that goes on or ends behind it.
+pub fn run_then<F: Files, O: Output, E: Output>(
+    alloc: Global,
+    afterwards: Afterwards,
+    args: &[String],
+    files: &mut F,
+    out: &mut O,
+    err: &mut E,
+) -> u8
+    // Where the words are taken, the command that they name is done, unless memory runs out before.
+    ensures taken { fault_of tool (words_of args.now) ≡ []
+        → RunsOut (Sent O.written O.failures out.old out.new) (SentOrCut E.written E.failures err.old err.new)
+        (IsSaved F.contents files.old files.new) result
+        ⊎ ((command : Told) × IsMatched (subcommand_of tool (words_of args.now)) command
+        × Does (Sent O.written O.failures out.old out.new) (Cut O.written O.failures out.old out.new)
+        (SentOrCut E.written E.failures err.old err.new) (IsSaved F.contents files.old files.new)
+        (IsUnsaved F.contents F.failures files.old files.new) result (IsHonest F.contents F.is_steady files.old) command) }
+
+    // Where they are not taken, nothing goes to standard output.
+    ensures refused { fault_of tool (words_of args.now) ≢ []
+        → ((result ≡ 2) × Sent O.written O.failures out.old out.new [] × KeepsMap (F.contents files.old) (F.contents files.new))
+        ⊎ RunsOut (Sent O.written O.failures out.old out.new) (SentOrCut E.written E.failures err.old err.new)
+        (IsSaved F.contents files.old files.new) result }
+    ensures usage { result ≡ 2 → (fault_of tool (words_of args.now) ≢ []) × (takes tool (words_of args.now) ≡ false) }
+
+    // Where the files failed, the status tells it.
+    ensures kept { result ≢ 3 → F.failures files.new ≡ F.failures files.old }
+{
     let Ok(definition) = definition(alloc) else {
         return Refusal::Memory.tell(err);
     };
     match definition.try_get_matches_from(args) {
-        Ok(matches) => dispatch(alloc, &matches, files, out, err),
+        Ok(matches) => dispatch(alloc, afterwards, &matches, files, out, err),
         Err(error) => usage(alloc, &error, err),
     }
 }
@@ -74,6 +105,7 @@ fn usage<E: Output>(alloc: Global, error: &Error, err: &mut E) -> u8
 /// Does the command that the words named.
 fn dispatch<F: Files, O: Output, E: Output>(
     alloc: Global,
+    afterwards: Afterwards,
     matches: &ArgMatches<'_>,
     files: &mut F,
     out: &mut O,
@@ -88,7 +120,7 @@ fn dispatch<F: Files, O: Output, E: Output>(
     ensures kept { result ≢ 3 → F.failures files.new ≡ F.failures files.old }
 {
     let command = command_of(matches);
-    execute(alloc, &command, files, out, err)
+    execute_then(alloc, afterwards, &command, files, out, err)
 }
 
 /// The command that the words named.

@@ -1,7 +1,7 @@
 //! The words of the command line, and the command that they name. A program that calls commands itself finds them here too.
 //!
 //! ```rust
-//! use pb_cli::{HostFiles, Refusal, run};
+//! use pb_cli::{Afterwards, HostFiles, Refusal, run_then};
 //! use pb_wire::{Output, WriteOutput, write_all};
 //! use std::io::ErrorKind;
 //! use std::process::ExitCode;
@@ -15,7 +15,14 @@
 //!     };
 //!     let mut files = HostFiles::new(&rt);
 //!     let mut out = WriteOutput::new(rt.stdout());
-//!     let status = run(rt.alloc(), args.as_slice(), &mut files, &mut out, &mut err);
+//!     let status = run_then(
+//!         rt.alloc(),
+//!         Afterwards::Ends,
+//!         args.as_slice(),
+//!         &mut files,
+//!         &mut out,
+//!         &mut err,
+//!     );
 //!     ExitCode::from(status)
 //! }
 //!
@@ -30,5 +37,7 @@
 mod command_line;
 mod words;
 
-pub use command_line::run;
-pub use pb_command::{Command, Files, HostFiles, MemFiles, Refusal, Roots, Source, execute};
+pub use command_line::{run, run_then};
+pub use pb_command::{
+    Afterwards, Command, Files, HostFiles, MemFiles, Refusal, Roots, Source, execute, execute_then,
+};

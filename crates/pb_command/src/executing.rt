@@ -2,12 +2,13 @@
 
 ghost use Rattle.std.specs.Prelude.{◌≡◌, ◌≢◌, MatchResult, []};
 ghost use Rattle.pb_command.specs.Answer.{Ends};
-ghost use Rattle.pb_command.specs.Answers.{Answers, AnyAnswers, AnyBegins, Begins, canonical_form};
+ghost use Rattle.pb_command.specs.Answers.{Answers, AnyAnswers, AnyBegins, Begins, Does, canonical_form};
 ghost use Rattle.pb_command.specs.FileMap.{FileMap, IsHonest, IsSaved, IsUnsaved};
 ghost use Rattle.pb_command.specs.Refusal.{KeepsFailures, refusal_line, refusal_status};
 ghost use Rattle.pb_output.specs.Sending.{Cut, Sent, SentOrCut};
 ghost use Rattle.pb_command.specs.Steps.{BegunOf, Comes, RightOf};
 
+use crate::afterwards::Afterwards;
 use crate::command::Command;
 use crate::compile::compile;
 use crate::files::Files;
@@ -42,13 +43,32 @@ pub fn execute<F: Files, O: Output, E: Output>(
     // Where the files failed, the status tells it.
     ensures kept { result ≢ 3 → F.failures files.new ≡ F.failures files.old }
 {
-    let outcome = perform(alloc, command, files, out);
+    execute_then(alloc, Afterwards::GoesOn, command, files, out, err)
+}
+
+/// Does a command as `execute` does, in a program that goes on or ends behind it.
+pub fn execute_then<F: Files, O: Output, E: Output>(
+    alloc: Global,
+    afterwards: Afterwards,
+    command: &Command<'_>,
+    files: &mut F,
+    out: &mut O,
+    err: &mut E,
+) -> u8
+    ensures done { Does (Sent O.written O.failures out.old out.new) (Cut O.written O.failures out.old out.new)
+        (SentOrCut E.written E.failures err.old err.new) (IsSaved F.contents files.old files.new)
+        (IsUnsaved F.contents F.failures files.old files.new) result (IsHonest F.contents F.is_steady files.old) command.now }
+    ensures status { result ≢ 2 }
+    ensures kept { result ≢ 3 → F.failures files.new ≡ F.failures files.old }
+{
+    let outcome = perform(alloc, afterwards, command, files, out);
     conclude(outcome, err)
 }
 
 /// The work of a command, without the line that tells a refusal.
 fn perform<'a, F: Files, O: Output>(
     alloc: Global,
+    afterwards: Afterwards,
     command: &Command<'a>,
     files: &mut F,
     out: &mut O,
@@ -60,10 +80,17 @@ fn perform<'a, F: Files, O: Output>(
 {
     match command {
         Command::Raw { short, file } => raw(alloc, Limits::FULL, *short, file, files, out),
-        Command::Check { source } => message(alloc, Form::Check, source, files, out),
-        Command::Show { source } => message(alloc, Form::Listing, source, files, out),
-        Command::Canon { out: to, source } => message(alloc, form_of(*to), source, files, out),
-        Command::Frames { source } => frames(alloc, source, files, out),
+        Command::Check { source } => message(alloc, afterwards, Form::Check, source, files, out),
+        Command::Show { source } => message(alloc, afterwards, Form::Listing, source, files, out),
+        Command::Canon { out: to, source } => message(
+            alloc,
+            afterwards,
+            form_of(*to),
+            source,
+            files,
+            out,
+        ),
+        Command::Frames { source } => frames(alloc, afterwards, source, files, out),
         Command::Compile {
             roots,
             out: to,

@@ -11,6 +11,7 @@ ghost use Rattle.pb_command.specs.Steps.{Comes, NoFile, StreamAt, StreamBegun, S
 ghost use Rattle.pb_command.specs.Streaming.{FramesBegunIn, FramesIn, IsToldOfFrame, PutsFrames, PutsNext};
 ghost use Rattle.pb_command.specs.Refusal.{KeepsFailures};
 
+use crate::afterwards::{Afterwards, part_with};
 use crate::by_type::find_type;
 use crate::command::Source;
 use crate::files::Files;
@@ -39,6 +40,7 @@ enum Next<'a> {
 /// Shows the messages of a file up to its end or to what is no message. What was printed before a refusal stands.
 pub fn frames<'a, F: Files, O: Output>(
     alloc: Global,
+    afterwards: Afterwards,
     source: &Source<'a>,
     files: &mut F,
     out: &mut O,
@@ -49,7 +51,9 @@ pub fn frames<'a, F: Files, O: Output>(
     ensures kept { KeepsFailures F.failures files.old files.new result }
 {
     let (pool, kind) = find_type(alloc, source, files)?;
-    frames_at(alloc, &pool, kind, source.file, files, out)
+    let answer = frames_at(alloc, &pool, kind, source.file, files, out);
+    part_with(pool, afterwards);
+    answer
 }
 
 /// Shows the messages of a type that the file at a path holds.

@@ -1,6 +1,7 @@
 //! The commands, and what each does over files and two outputs.
 #![tactic(auto)]
 
+mod afterwards;
 mod by_type;
 mod command;
 mod compile;
@@ -17,8 +18,9 @@ mod reading;
 mod report;
 mod sources;
 
+pub use afterwards::Afterwards;
 pub use command::{Command, Roots, Source};
-pub use executing::execute;
+pub use executing::{execute, execute_then};
 pub use files::Files;
 pub use host::HostFiles;
 pub use memory::MemFiles;

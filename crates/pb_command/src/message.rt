@@ -6,6 +6,7 @@ ghost use Rattle.pb_output.specs.Sending.{Cut, Sent};
 ghost use Rattle.pb_command.specs.Steps.{Comes, IsNothing, MessageAt, MessageOf};
 ghost use Rattle.pb_command.specs.Refusal.{KeepsFailures};
 
+use crate::afterwards::{Afterwards, part_with};
 use crate::by_type::{find_type, read_message};
 use crate::command::Source;
 use crate::files::Files;
@@ -18,6 +19,7 @@ use std::alloc::Global;
 /// Makes it of the message of a file: nothing is printed before the message is accepted.
 pub fn message<'a, F: Files, O: Output>(
     alloc: Global,
+    afterwards: Afterwards,
     form: Form<'a>,
     source: &Source<'a>,
     files: &mut F,
@@ -29,12 +31,24 @@ pub fn message<'a, F: Files, O: Output>(
     ensures kept { KeepsFailures F.failures files.old files.new result }
 {
     let (pool, kind) = find_type(alloc, source, files)?;
-    message_at(alloc, form, &pool, kind, source.file, files, out)
+    let answer = message_at(
+        alloc,
+        afterwards,
+        form,
+        &pool,
+        kind,
+        source.file,
+        files,
+        out,
+    );
+    part_with(pool, afterwards);
+    answer
 }
 
 /// Makes it of the message of a type that the file at a path holds.
 fn message_at<'a, F: Files, O: Output>(
     alloc: Global,
+    afterwards: Afterwards,
     form: Form<'a>,
     pool: &Pool,
     message_type: MessageId,
@@ -49,5 +63,7 @@ fn message_at<'a, F: Files, O: Output>(
     ensures kept { KeepsFailures F.failures files.old files.new result }
 {
     let message = read_message(alloc, pool, message_type, path, files)?;
-    make(form, &message, files, out)
+    let answer = make(form, &message, files, out);
+    part_with(message, afterwards);
+    answer
 }

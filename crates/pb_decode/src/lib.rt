@@ -21,6 +21,7 @@
 mod error;
 mod frame;
 mod from_device;
+mod heap;
 pub mod laws;
 mod onto;
 mod push;

@@ -6,3 +6,5 @@ pub mod HexParts
 pub mod Digits
 -- for varints of two bytes and of three
 pub mod Varints
+-- rows for what went out
+pub mod Rows

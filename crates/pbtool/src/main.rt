@@ -1,7 +1,7 @@
 //! The program: does the command that its words name, over the files and outputs of its process.
 #![tactic(auto)]
 
-use pb_cli::{HostFiles, Refusal, run};
+use pb_cli::{Afterwards, HostFiles, Refusal, run_then};
 use pb_wire::{Output, WriteOutput, write_all};
 use std::io::ErrorKind;
 use std::process::ExitCode;
@@ -15,7 +15,14 @@ fn main(rt: HostRuntime) -> ExitCode {
     };
     let mut files = HostFiles::new(&rt);
     let mut out = WriteOutput::new(rt.stdout());
-    let status = run(rt.alloc(), args.as_slice(), &mut files, &mut out, &mut err);
+    let status = run_then(
+        rt.alloc(),
+        Afterwards::Ends,
+        args.as_slice(),
+        &mut files,
+        &mut out,
+        &mut err,
+    );
     ExitCode::from(status)
 }
 

@@ -2,7 +2,7 @@
 //! rows of the command for the same bytes.
 
 use super::{FLAT, NONE, files_of};
-use pb_cli::{Command, Source, execute};
+use pb_cli::{Afterwards, Command, Source, execute, execute_then, run_then};
 use pb_decode::decode;
 use pb_descr::{FileDecl, read_set};
 use pb_link::link;
@@ -61,13 +61,22 @@ fn message(rt: HostRuntime) -> Result<(), Fail> {
     Ok(())
 }
 
-/// The status of a command over the set and the message, and whether this is all that it writes.
-fn done(alloc: Global, command: &Command<'_>, printed: &[u8]) -> Result<(u8, bool), Fail> {
+/// The status of a command over the set and the message, and whether this is all that it writes; by `execute` where nothing is told
+/// of what comes behind it.
+fn done(
+    alloc: Global,
+    afterwards: Option<Afterwards>,
+    command: &Command<'_>,
+    printed: &[u8],
+) -> Result<(u8, bool), Fail> {
     let bytes = hex::decode(alloc, SET)?;
     let mut files = files_of(alloc, &[("s", bytes.as_slice()), ("f", MESSAGE)], NONE)?;
     let mut out = output(alloc);
     let mut err = output(alloc);
-    let status = execute(alloc, command, &mut files, &mut out, &mut err);
+    let status = match afterwards {
+        None => execute(alloc, command, &mut files, &mut out, &mut err),
+        Some(it) => execute_then(alloc, it, command, &mut files, &mut out, &mut err),
+    };
     Ok((status, out.bytes() == printed && err.bytes().is_empty()))
 }
 
@@ -79,8 +88,28 @@ fn commands(rt: HostRuntime) -> Result<(), Fail> {
         type_name: "M",
         file: "f",
     };
-    let shown = done(alloc, &Command::Show { source }, b"a: 150\n")?;
-    let checked = done(alloc, &Command::Check { source }, b"ok\n")?;
-    assert!(rt; shown == (0, true) && checked == (0, true));
+    for afterwards in [None, Some(Afterwards::GoesOn), Some(Afterwards::Ends)] {
+        let shown = done(alloc, afterwards, &Command::Show { source }, b"a: 150\n")?;
+        let checked = done(alloc, afterwards, &Command::Check { source }, b"ok\n")?;
+        assert!(rt; shown == (0, true) && checked == (0, true));
+    }
+    Ok(())
+}
+
+// The words of a program that ends behind its command.
+#[test]
+fn words(rt: HostRuntime) -> Result<(), Fail> {
+    let alloc = rt.alloc();
+    let bytes = hex::decode(alloc, SET)?;
+    let mut files = files_of(alloc, &[("s", bytes.as_slice()), ("f", MESSAGE)], NONE)?;
+    let mut args = Vec::new(alloc);
+    for word in ["pbtool", "show", "s", "M", "f"] {
+        args.push(String::from_str(alloc, word)?)?;
+    }
+    let mut out = output(alloc);
+    let mut err = output(alloc);
+    let ends = Afterwards::Ends;
+    let status = run_then(alloc, ends, args.as_slice(), &mut files, &mut out, &mut err);
+    assert!(rt; status == 0 && out.bytes() == b"a: 150\n".as_slice() && err.bytes().is_empty());
     Ok(())
 }

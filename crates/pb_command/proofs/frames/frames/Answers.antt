@@ -36,10 +36,10 @@ returns-clause-comes g c =
     let pool = c.in_ok-pool.pool in
     let kind = c.in_ok-pool.kind.0 in
     let type = c.in_ok-pool.ensures in
-    later_comes contents g.F.Files.failures before mid c.frames_at.new.files
-    (Sent g.O.Output.written g.O.Output.failures c.args.out.now c.frames_at.new.out) (Cut g.O.Output.written g.O.Output.failures c.args.out.now c.frames_at.new.out)
+    later_comes contents g.F.Files.failures before mid c.frames_at-answer.new.files
+    (Sent g.O.Output.written g.O.Output.failures c.args.out.now c.frames_at-answer.new.out) (Cut g.O.Output.written g.O.Output.failures c.args.out.now c.frames_at-answer.new.out)
     (StreamAt contents is_steady mid pool kind source.file.now) (StreamOf contents is_steady before source)
-    (StreamBegunAt contents is_steady mid pool kind source.file.now) (StreamBegun contents is_steady before source) c.frames_at.result type.files type.kept
+    (StreamBegunAt contents is_steady mid pool kind source.file.now) (StreamBegun contents is_steady before source) c.frames_at-answer.result type.files type.kept
     (stream_of contents is_steady before mid source type.found.0 pool kind type.found.1 type.found.2 type.files type.steady)
     (stream_begun_of contents is_steady before mid source type.found.0 pool kind type.found.1 type.found.2 type.files type.steady)
-    c.frames_at.ensures.comes
+    c.frames_at-answer.ensures.comes

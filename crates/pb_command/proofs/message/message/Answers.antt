@@ -30,9 +30,9 @@ returns-clause-comes g c =
     let pool = c.in_ok-pool.pool in
     let kind = c.in_ok-pool.kind.0 in
     let type = c.in_ok-pool.ensures in
-    later_comes contents g.F.Files.failures before mid c.message_at.new.files
-    (Sent g.O.Output.written g.O.Output.failures c.args.out.now c.message_at.new.out) (Cut g.O.Output.written g.O.Output.failures c.args.out.now c.message_at.new.out)
+    later_comes contents g.F.Files.failures before mid c.message_at-answer.new.files
+    (Sent g.O.Output.written g.O.Output.failures c.args.out.now c.message_at-answer.new.out) (Cut g.O.Output.written g.O.Output.failures c.args.out.now c.message_at-answer.new.out)
     (MessageAt contents is_steady mid c.args.form pool kind c.args.source.now.file.now) (MessageOf contents is_steady before c.args.form c.args.source.now)
-    IsNothing IsNothing c.message_at.result type.files type.kept
+    IsNothing IsNothing c.message_at-answer.result type.files type.kept
     (message_of contents is_steady before mid c.args.form c.args.source.now type.found.0 pool kind type.found.1 type.found.2 type.files type.steady)
-    (λ text nothing. nothing) c.message_at.ensures.comes
+    (λ text nothing. nothing) c.message_at-answer.ensures.comes

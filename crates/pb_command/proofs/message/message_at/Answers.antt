@@ -33,9 +33,9 @@ returns-clause-comes g c =
     let mid = c.read_message.new.files in
     let message = c.in_ok-message.message in
     let read = c.in_ok-message.ensures in
-    later_comes contents g.F.Files.failures before mid c.make.new.files
-    (Sent g.O.Output.written g.O.Output.failures c.args.out.now c.make.new.out) (Cut g.O.Output.written g.O.Output.failures c.args.out.now c.make.new.out)
+    later_comes contents g.F.Files.failures before mid c.make-answer.new.files
+    (Sent g.O.Output.written g.O.Output.failures c.args.out.now c.make-answer.new.out) (Cut g.O.Output.written g.O.Output.failures c.args.out.now c.make-answer.new.out)
     (FormAnswer c.args.form message) (MessageAt contents is_steady before c.args.form c.args.pool.now c.args.message_type.0 c.args.path.now)
-    IsNothing IsNothing c.make.result read.files read.kept
+    IsNothing IsNothing c.make-answer.result read.files read.kept
     (λ a made. made_of contents is_steady before c.args.form c.args.pool.now c.args.message_type.0 c.args.path.now message a read.of_type.0 read.of_type.1 read.read made)
-    (λ text nothing. nothing) c.make.ensures.comes
+    (λ text nothing. nothing) c.make-answer.ensures.comes

@@ -6,7 +6,7 @@ use Rattle.pb_cli.specs.Words.{IsMatched, tool, words_of}
 use Rattle.pb_command.proofs.FileSteps.{keeps_same}
 use Rattle.pb_cli.proofs.Matches.{subcommand_named}
 use Rattle.pb_cli.proofs.Refusals.{no_kind, not_true}
-use Rattle.pb_cli.proofs.command_line.run.Goals as goal
+use Rattle.pb_cli.proofs.command_line.run_then.Goals as goal
 
 pub returns-in-Ok-try_get_matches_from-clause-taken : goal.returns-in-Ok-try_get_matches_from-clause-taken
 returns-in-Ok-try_get_matches_from-clause-taken g c = λ taken.
