@@ -6,7 +6,7 @@ use Rattle.pb_decl.specs.One.{ExactlyOne}
 
 -- a message that declares these, and nothing else
 abbrev holds : DeclaredMessages → DeclaredMessage
-holds inner = message (record {name = []; fields = []; enums = []; oneofs = []; reserved = []; reserved_names = []; is_entry = false}) inner
+holds inner = message (record { name = []; fields = []; enums = []; oneofs = []; reserved = []; reserved_names = []; is_entry = false }) inner
 
 abbrev alone : DeclaredMessage
 alone = holds no_messages
