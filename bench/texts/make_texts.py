@@ -163,6 +163,18 @@ def maps(size, first):
     return b"".join(until(size // 2, first, part, size) for part in (counted, entry))
 
 
+def unsorted(size, first):
+    """The same maps, whose entries stand in no order."""
+    out = []
+    for part in counted, entry:
+        entries, held = [], 0
+        while held < size // 2:
+            entries.append(part(first + len(entries)))
+            held += len(entries[-1])
+        out += (entries[i] for i in sorted(range(len(entries)), key=mixed))
+    return b"".join(out)
+
+
 def deep(part, levels, least):
     """Nests of so many levels, which take so many bytes at least, and one of less levels where the size asks for less."""
     return lambda size, first: until(size, first, lambda i: part(i, min(levels, 1 + size * levels // least)))
@@ -178,6 +190,7 @@ SHAPES = {
     "Texts/strings": strings,
     "Texts/packed": lists,
     "Texts/maps": maps,
+    "Texts.decode/unsorted": unsorted,
     "Texts/nests": deep(nest, 90, 580),
     "Texts/unknown": parts(unknown),
     "Texts/repeats": run_of(11, repeat),
