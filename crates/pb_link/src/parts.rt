@@ -8,6 +8,7 @@ pub(crate) mod types;
 ghost use Rattle.std.specs.Prelude.{◌≡◌, map, length, IfOk, IfErr};
 ghost use Rattle.pb_schema.specs.declared.error.PoolError.TheVariants.{Memory};
 ghost use Rattle.pb_decl.specs.View.{file_view};
+ghost use Rattle.pb_sets.specs.Flat.{lists_of};
 ghost use Rattle.pb_names.specs.Sees.{files_of};
 ghost use Rattle.pb_rules.specs.Rules.{World, lookups};
 ghost use Rattle.pb_rules.specs.Link.{IsWorldOf, NothingFails};
@@ -24,17 +25,18 @@ use pb_names::declaration::Declaration;
 use pb_names::found::TypeNames;
 use pb_rules::judged::Judged;
 use pb_schema::{Pool, PoolError};
+use pb_sets::flat::FlatGraph;
 use std::alloc::Global;
 
 /// The pool of declarations that link, of which `found` says what their type names came to, and `imports` which files each file imports.
 pub(crate) fn linked_pool(
     alloc: Global,
     files: &[FileDecl],
-    imports: &[Vec<usize>],
+    imports: &FlatGraph,
     row: &[Declaration<'_>],
     found: &[TypeNames],
 ) -> Result<Pool, PoolError>
-    requires imports { map (λ v. v.items) imports.now ≡ map (λ f. f.imports) (files_of (map file_view files.now)) }
+    requires imports { lists_of imports.now ≡ map (λ f. f.imports) (files_of (map file_view files.now)) }
     requires sizes { length found.now ≡ length row.now }
     ensures made { (w : World) → IsWorldOf (map file_view files.now) w → NothingFails w → w.declared ≡ map declaration_view row.now
         → map type_names_view found.now ≡ map (lookups w) w.declared → IfOk result (λ p. p ≡ pool_of (map file_view files.now) w) }
@@ -66,10 +68,9 @@ pub(crate) fn pool_of_names(
     ensures made { IfOk result (Links (map file_view files.now)) }
     ensures refused { IfErr result (λ e. e ≡ Memory) }
 {
-    let all = judged.imports.all.as_slice();
     let row = judged.row.as_slice();
     let found = judged.names.found.as_slice();
-    match linked_pool(alloc, files, all, row, found) {
+    match linked_pool(alloc, files, &judged.imports.all, row, found) {
         Ok(pool) => Ok(pool),
         Err(error) => Err(error),
     }

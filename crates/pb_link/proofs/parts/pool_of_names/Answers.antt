@@ -5,9 +5,7 @@ use Rattle.pb_link.proofs.LinkLemmas.{as_many}
 use Rattle.pb_link.proofs.parts.pool_of_names.Goals as goal
 
 pub linked_pool-requires-clause-imports : goal.linked_pool-requires-clause-imports
-linked_pool-requires-clause-imports c =
-    let same : c.as_slice-all.result.now ≡ c.args.judged.now.imports.all.items = search rules in
-    ap (map (λ v. v.items)) same ∙ c.requires.imports.all
+linked_pool-requires-clause-imports c = c.requires.imports.all
 
 pub linked_pool-requires-clause-sizes : goal.linked_pool-requires-clause-sizes
 linked_pool-requires-clause-sizes c =
