@@ -8,6 +8,7 @@ use Rattle.std.proofs.lemmas.List.{drop_more, take_more, take_all, map-append}
 use Rattle.pb_schema.specs.declared.types.Kind.{Kind}
 use Rattle.pb_decl.specs.Decls.{DeclaredFile, MessageHead}
 use Rattle.pb_decl.specs.View.{field_view}
+use Rattle.pb_sets.specs.Reach.{next_of}
 use Rattle.pb_decl.specs.declared.decl.FieldDecl.{FieldDecl}
 use Rattle.pb_names.specs.Sees.{file_of}
 use Rattle.pb_rules.specs.Rules.{key_name}
@@ -69,15 +70,10 @@ copied_all make view see xs i held past invariant = invariant ∙ ap (map (λ x.
 -- FILES
 
 -- what a file imports
-pub imports_at : {X : Type 0} (view : X → DeclaredFile) (all : List DeclaredFile) (imports : List (Vec ℕ Global)) (xs : List X) (i : ℕ) (x : X) (v : Vec ℕ Global) → map (λ u. u.items) imports ≡ map (λ f. f.imports) (map (file_of all) (map view xs)) → i < length xs → x ≡ get_or xs i x → v ≡ get_or imports i v → v.items ≡ (file_of all (view x)).imports
-imports_at view all [] [] i x v same h there at = absurd (omega (arith, h))
-imports_at view all [] (y ∷ xs) i x v same h there at = absurd (omega (arith, ap length same))
-imports_at view all (u ∷ us) [] i x v same h there at = absurd (omega (arith, h))
-imports_at view all (u ∷ us) (y ∷ xs) zero x v same h there at = ap (λ z. z.items) at ∙ first_same same ∙ ap (λ z. (file_of all (view z)).imports) (sym there)
+pub imports_at : {X : Type 0} (view : X → DeclaredFile) (all : List DeclaredFile) (graph : List (List ℕ)) (xs : List X) (i : ℕ) (x : X) → graph ≡ map (λ f. f.imports) (map (file_of all) (map view xs)) → i < length xs → x ≡ get_or xs i x → next_of graph i ≡ (file_of all (view x)).imports
+imports_at {X} view all graph xs i x same h there = ap (λ g. next_of g i) same ∙ listed xs i h there
   where
-    first_same : ◌≡◌ {A = List (List ℕ)} (u.items ∷ map (λ z. z.items) us) ((file_of all (view y)).imports ∷ map (λ f. f.imports) (map (file_of all) (map view xs))) → u.items ≡ (file_of all (view y)).imports
-    first_same e = cc
-imports_at view all (u ∷ us) (y ∷ xs) (suc i) x v same h there at = imports_at view all us xs i x v (rest_same same) (omega (arith, h)) there at
-  where
-    rest_same : ◌≡◌ {A = List (List ℕ)} (u.items ∷ map (λ z. z.items) us) ((file_of all (view y)).imports ∷ map (λ f. f.imports) (map (file_of all) (map view xs))) → map (λ z. z.items) us ≡ map (λ f. f.imports) (map (file_of all) (map view xs))
-    rest_same e = cc
+    listed : (ys : List X) (k : ℕ) → k < length ys → x ≡ get_or ys k x → next_of (map (λ f. f.imports) (map (file_of all) (map view ys))) k ≡ (file_of all (view x)).imports
+    listed [] k less is = absurd (omega (arith, less))
+    listed (y ∷ ys) zero less is = ap (λ z. (file_of all (view z)).imports) (sym is)
+    listed (y ∷ ys) (suc k) less is = listed ys k (omega (arith, less)) is

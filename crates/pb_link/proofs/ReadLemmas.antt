@@ -7,8 +7,6 @@ use Rattle.std.specs.Str.{bytes_eq}
 use Rattle.std.proofs.lemmas.Bool.{false≢true}
 use Rattle.std.proofs.lemmas.Bool.Decides.{nat_tests}
 use Rattle.std.proofs.lemmas.Option.{none-some, slice_get-map}
-use Rattle.pb_schema.specs.declared.error.PoolError.{PoolError}
-use Rattle.pb_schema.specs.declared.error.PoolError.TheVariants.{BadParts, Memory}
 use Rattle.pb_schema.specs.declared.types.Kind.{Kind}
 use Rattle.pb_schema.specs.declared.types.Kind.TheVariants as kind
 use Rattle.pb_schema.specs.declared.types.FileInfo.{FileInfo}
@@ -312,7 +310,3 @@ pool_read all w world nothing t declared found_is kinds listed files messages en
     let same_messages = messages_is ∙ ap (messages_read t 0) (sym declared) ∙ messages_are all w world nothing t tables 0 w.declared (λ j d at. ap (slice_get w.declared) (zero_plus j) ∙ at) in
     let same_enums = enums_is ∙ ap (enums_read t) (sym declared) ∙ enums_are w t tables w.declared in
     λ i. record { files = files_is i; messages = same_messages i; enums = same_enums i }
-
-pub memory_alone : (e : PoolError) → (e ≡ BadParts → ⊥) → e ≡ Memory
-memory_alone BadParts apart = absurd (apart refl)
-memory_alone Memory apart = refl

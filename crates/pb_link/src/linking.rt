@@ -13,7 +13,7 @@ use crate::parts::pool_of_names;
 use pb_decl::FileDecl;
 use pb_rules::LinkError;
 use pb_rules::judged::{Judged, judge_files};
-use pb_schema::{Pool, PoolError};
+use pb_schema::Pool;
 use std::alloc::Global;
 
 /// The pool of files of which every rule holds.
@@ -24,8 +24,7 @@ fn pool_of_judged(alloc: Global, files: &[FileDecl], judged: &Judged) -> Result<
 {
     match pool_of_names(alloc, files, judged) {
         Ok(pool) => Ok(pool),
-        Err(PoolError::Memory) => Err(LinkError::Memory),
-        Err(PoolError::BadParts) => unreachable!(),
+        Err(_) => Err(LinkError::Memory),
     }
 }
 

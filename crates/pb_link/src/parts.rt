@@ -5,9 +5,9 @@ pub(crate) mod files;
 pub(crate) mod tables;
 pub(crate) mod types;
 
-ghost use Rattle.std.specs.Prelude.{◌≡◌, map, length, IfOk, IfErr};
-ghost use Rattle.pb_schema.specs.declared.error.PoolError.TheVariants.{Memory};
+ghost use Rattle.std.specs.Prelude.{◌≡◌, map, length, IfOk};
 ghost use Rattle.pb_decl.specs.View.{file_view};
+ghost use Rattle.pb_sets.specs.Flat.{lists_of};
 ghost use Rattle.pb_names.specs.Sees.{files_of};
 ghost use Rattle.pb_rules.specs.Rules.{World, lookups};
 ghost use Rattle.pb_rules.specs.Link.{IsWorldOf, NothingFails};
@@ -23,23 +23,24 @@ use pb_decl::FileDecl;
 use pb_names::declaration::Declaration;
 use pb_names::found::TypeNames;
 use pb_rules::judged::Judged;
-use pb_schema::{Pool, PoolError};
-use std::alloc::Global;
+use pb_schema::Pool;
+use pb_sets::flat::FlatGraph;
+use std::alloc::{AllocError, Global};
 
 /// The pool of declarations that link, of which `found` says what their type names came to, and `imports` which files each file imports.
 pub(crate) fn linked_pool(
     alloc: Global,
     files: &[FileDecl],
-    imports: &[Vec<usize>],
+    imports: &FlatGraph,
     row: &[Declaration<'_>],
     found: &[TypeNames],
-) -> Result<Pool, PoolError>
-    requires imports { map (λ v. v.items) imports.now ≡ map (λ f. f.imports) (files_of (map file_view files.now)) }
+) -> Result<Pool, AllocError>
+    requires imports { lists_of imports.now ≡ map (λ f. f.imports) (files_of (map file_view files.now)) }
     requires sizes { length found.now ≡ length row.now }
-    ensures made { (w : World) → IsWorldOf (map file_view files.now) w → NothingFails w → w.declared ≡ map declaration_view row.now
+    requires holds { (w : World) × IsWorldOf (map file_view files.now) w × NothingFails w × (w.declared ≡ map declaration_view row.now)
+        × (map type_names_view found.now ≡ map (lookups w) w.declared) }
+    ensures { (w : World) → IsWorldOf (map file_view files.now) w → NothingFails w → w.declared ≡ map declaration_view row.now
         → map type_names_view found.now ≡ map (lookups w) w.declared → IfOk result (λ p. p ≡ pool_of (map file_view files.now) w) }
-    ensures refused { (w : World) → IsWorldOf (map file_view files.now) w → NothingFails w → w.declared ≡ map declaration_view row.now
-        → map type_names_view found.now ≡ map (lookups w) w.declared → IfErr result (λ e. e ≡ Memory) }
 {
     let tables = Tables {
         files,
@@ -50,7 +51,7 @@ pub(crate) fn linked_pool(
     let infos = files_of(alloc, files, imports)?;
     let messages = messages_of(alloc, &tables)?;
     let enums = enums_of(alloc, &tables)?;
-    match Pool::from_parts(alloc, infos, messages, enums) {
+    match Pool::from_known_parts(alloc, infos, messages, enums) {
         Ok(pool) => Ok(pool),
         Err(error) => Err(error),
     }
@@ -61,15 +62,13 @@ pub(crate) fn pool_of_names(
     alloc: Global,
     files: &[FileDecl],
     judged: &Judged,
-) -> Result<Pool, PoolError>
+) -> Result<Pool, AllocError>
     requires { IsJudged (map file_view files.now) judged.now }
-    ensures made { IfOk result (Links (map file_view files.now)) }
-    ensures refused { IfErr result (λ e. e ≡ Memory) }
+    ensures { IfOk result (Links (map file_view files.now)) }
 {
-    let all = judged.imports.all.as_slice();
     let row = judged.row.as_slice();
     let found = judged.names.found.as_slice();
-    match linked_pool(alloc, files, all, row, found) {
+    match linked_pool(alloc, files, &judged.imports.all, row, found) {
         Ok(pool) => Ok(pool),
         Err(error) => Err(error),
     }

@@ -1,12 +1,12 @@
 -- Imports as graphs: what they lead to are files, and what is reached along them is seen.
-use Rattle.std.proofs.Common.{◌≡◌, ℕ, zero, suc, ◌+◌, ◌-◌, ◌<◌, ◌≤◌, ◌≢◌, ◌↔◌, ◌⊎◌, inl, inr, ⊎_elim, List, [], ◌∷◌, ◌++◌, map, take, length, drop, get_or, Bool, true, false, ◌==◌, ◌&&◌, not, refl, sym, ap, ◌∙◌, subst, arith, append_assoc, length-append, IsTrue, Contains, Option, Some, None, cond, Vec, Global}
+use Rattle.std.proofs.Common.{◌≡◌, ℕ, zero, suc, ◌+◌, ◌-◌, ◌<◌, ◌≤◌, ◌≢◌, ◌↔◌, ◌⊎◌, inl, inr, ⊎_elim, List, [], ◌∷◌, ◌++◌, map, take, length, drop, get_or, Bool, true, false, ◌==◌, ◌&&◌, not, refl, sym, ap, ◌∙◌, subst, arith, append_assoc, length-append, IsTrue, Contains, Option, Some, None, cond}
 use Rattle.std.specs.Prelude.{ℤ, pos, negsuc, filter_map, option_and_then, option_to_list, slice_get}
 use Rattle.std.specs.List.{AllByRecursion, cons_option, enumerate_from, position_from}
 use Rattle.std.specs.Cmp.{unsigned_Decides}
 use Rattle.std.specs.Str.{bytes_eq}
 use Rattle.std.proofs.lemmas.Bool.{cases_eq, false≢true}
 use Rattle.std.proofs.lemmas.Option.{none-some}
-use Rattle.std.proofs.lemmas.List.{length-map, take_more, take_all, map-append, append-nil}
+use Rattle.std.proofs.lemmas.List.{take_more, take_all, map-append, append-nil}
 use Rattle.std.proofs.lemmas.Grind.{flat_map-append}
 use Rattle.std.proofs.lemmas.List.Elements.{filter_map-append}
 use Rattle.std.proofs.lemmas.Slice.Eq.{bytes_eq-Decides}
@@ -19,7 +19,10 @@ use Rattle.pb_decl.specs.Decls.{DeclaredFile}
 use Rattle.pb_decl.specs.View.{file_view}
 use Rattle.pb_decl.specs.declared.decl.FileDecl.{FileDecl}
 use Rattle.pb_names.specs.Sees.{file_named, import_at, file_of, files_of, public_file_of, public_files_of, Sees, itself, imported, onward}
-use Rattle.pb_sets.specs.Reach.{graph_of, next_of, Reached, begun, further as led, IsGraph, is_marked}
+use Rattle.pb_sets.specs.declared.flat.FlatGraph.{FlatGraph}
+use Rattle.pb_sets.specs.Flat.{lists_of, open_list, IsLaid, Grows}
+use Rattle.pb_sets.proofs.FlatLemmas.{grows_append}
+use Rattle.pb_sets.specs.Reach.{next_of, Reached, begun, further as led, IsGraph, is_marked}
 use Rattle.pb_names.specs.Graphs.{target_at, joined_names, AreImports, LeadToFiles, KnowsSight, sees_by, is_file}
 use Rattle.pb_names.specs.declared.imports.Imports.{Imports}
 use Rattle.pb_names.specs.declared.sight.Sight.{Sight}
@@ -38,31 +41,49 @@ pub filter_more : {X Y : Type 0} (h : X → Option Y) (xs : List X) (i : ℕ) (x
 filter_more h xs i x less is =
     ap (filter_map h) (take_more xs i x less ∙ ap (λ z. take i xs ++ z ∷ []) (sym is)) ∙ filter_map-append h (take i xs) (x ∷ []) ∙ ap (λ l. filter_map h (take i xs) ++ l) (as_list (h x))
 
-pub public_more : (targets : List (Option ℕ)) (zs : List ℤ) (i : ℕ) (z : ℤ) (old new : List ℕ) (r : Option ℕ) → i < length zs → z ≡ get_or zs i z → r ≡ target_at targets z → old ≡ filter_map (target_at targets) (take i zs) → new ≡ old ++ option_to_list r → new ≡ filter_map (target_at targets) (take (i + 1) zs)
-public_more targets zs i z old new r less is at was now =
-    now ∙ ap (λ l. l ++ option_to_list r) was ∙ ap (λ o. filter_map (target_at targets) (take i zs) ++ option_to_list o) at ∙ sym (filter_more (target_at targets) zs i z less is)
+pub public_more : (targets : List (Option ℕ)) (zs : List ℤ) (i : ℕ) (z : ℤ) (start old new : FlatGraph) (r : Option ℕ) → i < length zs → z ≡ get_or zs i z → r ≡ target_at targets z → Grows (filter_map (target_at targets) (take i zs)) start old → Grows (option_to_list r) old new → Grows (filter_map (target_at targets) (take (i + 1) zs)) start new
+public_more targets zs i z start old new r less is at was now =
+    subst (λ l. Grows l start new) (ap (λ o. filter_map (target_at targets) (take i zs) ++ option_to_list o) at ∙ sym (filter_more (target_at targets) zs i z less is))
+    (grows_append (filter_map (target_at targets) (take i zs)) (option_to_list r) start old new was now)
 
 pub taken : {X : Type 0} (xs : List X) (i : ℕ) → i < length xs → (x : X) × (x ≡ get_or xs i x) × (slice_get xs i ≡ Some x)
 taken [] i less = absurd (omega (arith, less))
 taken (x ∷ xs) zero less = (x, refl, refl)
 taken (x ∷ xs) (suc i) less = taken xs i (omega (arith, less))
 
-pub all_more : (targets : List (Option ℕ)) (i : ℕ) (old new : List ℕ) (r : Option ℕ) → i < length targets → r ≡ option_and_then (λ (o : Option ℕ). o) (slice_get targets i) → old ≡ filter_map (λ (o : Option ℕ). o) (take i targets) → new ≡ old ++ option_to_list r → new ≡ filter_map (λ (o : Option ℕ). o) (take (i + 1) targets)
-all_more targets i old new r less at was now =
+pub all_more : (targets : List (Option ℕ)) (i : ℕ) (start old new : FlatGraph) (r : Option ℕ) → i < length targets → r ≡ option_and_then (λ (o : Option ℕ). o) (slice_get targets i) → Grows (filter_map (λ (o : Option ℕ). o) (take i targets)) start old → Grows (option_to_list r) old new → Grows (filter_map (λ (o : Option ℕ). o) (take (i + 1) targets)) start new
+all_more targets i start old new r less at was now =
     let here = taken targets i less in
-    now ∙ ap (λ l. l ++ option_to_list r) was ∙ ap (λ o. filter_map (λ (p : Option ℕ). p) (take i targets) ++ option_to_list o) (at ∙ ap (option_and_then (λ (p : Option ℕ). p)) here.2) ∙ sym (filter_more (λ (p : Option ℕ). p) targets i here.0 less here.1)
+    subst (λ l. Grows l start new) (ap (λ o. filter_map (λ (p : Option ℕ). p) (take i targets) ++ option_to_list o) (at ∙ ap (option_and_then (λ (p : Option ℕ). p)) here.2) ∙ sym (filter_more (λ (p : Option ℕ). p) targets i here.0 less here.1))
+    (grows_append (filter_map (λ (p : Option ℕ). p) (take i targets)) (option_to_list r) start old new was now)
 
 pub map_more : {X Y : Type 0} (g : X → Y) (xs : List X) (i : ℕ) (x : X) → i < length xs → x ≡ get_or xs i x → map g (take (i + 1) xs) ≡ map g (take i xs) ++ g x ∷ []
 map_more g xs i x less is = ap (map g) (take_more xs i x less ∙ ap (λ z. take i xs ++ z ∷ []) (sym is)) ∙ map-append g (take i xs) (x ∷ [])
 
-pub lists_more : {X : Type 0} (g : X → List ℕ) (xs : List X) (i : ℕ) (x : X) (vs : List (Vec ℕ Global)) (v : Vec ℕ Global) → i < length xs → x ≡ get_or xs i x → graph_of vs ≡ map g (take i xs) → v.items ≡ g x → graph_of (vs ++ v ∷ []) ≡ map g (take (i + 1) xs)
-lists_more g xs i x vs v less is was new =
-    map-append (λ (u : Vec ℕ Global). u.items) vs (v ∷ []) ∙ ap (λ l. l ++ v.items ∷ []) was ∙ ap (λ l. map g (take i xs) ++ l ∷ []) new ∙ sym (map_more g xs i x less is)
+-- a flat graph that has these lists, and none open
+pub record HasLists (lists : List (List ℕ)) (f : FlatGraph) : Type 0 where
+  pub exact : lists_of f ≡ lists
+  pub none_open : open_list f ≡ []
+  pub laid : IsLaid f
 
-pub named_more : {X : Type 0} (t : List ℕ → Option ℕ) (text : X → List ℕ) (xs : List X) (i : ℕ) (x : X) (old new : List ℕ) (r : Option ℕ) → i < length xs → x ≡ get_or xs i x → r ≡ t (text x) → old ≡ filter_map t (map text (take i xs)) → new ≡ old ++ option_to_list r → new ≡ filter_map t (map text (take (i + 1) xs))
-named_more t text xs i x old new r less is at was now =
-    now ∙ ap (λ l. l ++ option_to_list r) was ∙ ap (λ o. filter_map t (map text (take i xs)) ++ option_to_list o) at
-    ∙ sym (ap (filter_map t) (map_more text xs i x less is) ∙ filter_map-append t (map text (take i xs)) (text x ∷ []) ∙ ap (λ l. filter_map t (map text (take i xs)) ++ l) (as_list (t (text x))))
+pub list_ended : {X : Type 0} (g : X → List ℕ) (xs : List X) (i : ℕ) (x : X) (old grown new : FlatGraph) → i < length xs → x ≡ get_or xs i x → HasLists (map g (take i xs)) old → Grows (g x) old grown → lists_of new ≡ lists_of grown ++ open_list grown ∷ [] → open_list new ≡ [] → IsLaid new → HasLists (map g (take (i + 1) xs)) new
+list_ended g xs i x old grown new less is was more ended none laid = record {
+  exact =
+      ended
+      ∙ ap (λ l. lists_of grown ++ l ∷ []) (more.grown ∙ ap (λ l. l ++ g x) was.none_open)
+      ∙ ap (λ ls. ls ++ g x ∷ []) (more.lists ∙ was.exact)
+      ∙ sym (map_more g xs i x less is);
+  none_open = none;
+  laid = laid;
+}
+
+pub named_more : {X : Type 0} (t : List ℕ → Option ℕ) (text : X → List ℕ) (xs : List X) (i : ℕ) (x : X) (start old new : FlatGraph) (r : Option ℕ) → i < length xs → x ≡ get_or xs i x → r ≡ t (text x) → Grows (filter_map t (map text (take i xs))) start old → Grows (option_to_list r) old new → Grows (filter_map t (map text (take (i + 1) xs))) start new
+named_more t text xs i x start old new r less is at was now =
+    subst (λ l. Grows l start new) (
+      ap (λ o. filter_map t (map text (take i xs)) ++ option_to_list o) at
+      ∙ sym (ap (filter_map t) (map_more text xs i x less is) ∙ filter_map-append t (map text (take i xs)) (text x ∷ []) ∙ ap (λ l. filter_map t (map text (take i xs)) ++ l) (as_list (t (text x))))
+    )
+    (grows_append (filter_map t (map text (take i xs))) (option_to_list r) start old new was now)
 
 pub map_twice : {X Y Z : Type 0} (f : Y → Z) (g : X → Y) (xs : List X) → map f (map g xs) ≡ map (λ x. f (g x)) xs
 map_twice f g [] = refl
@@ -264,13 +285,10 @@ graph_public files = all_lists (λ j. j < length (map (λ (f : FileView). f.impo
 
 pub lead_to_files : (files : List DeclaredFile) (m : Imports) → AreImports files m → LeadToFiles m
 lead_to_files files m are = record {
-  size = omega (arith, m.public.ok.0, m.all.ok.0, sizes m.public.items (public_file_of files) are.public, sizes m.all.items (file_of files) are.all);
+  size = ap length are.public ∙ size_of (public_file_of files) files ∙ sym (ap length are.all ∙ size_of (file_of files) files);
   all = subst IsGraph (sym are.all) (graph_all files);
   public = subst IsGraph (sym are.public) (graph_public files);
 }
-  where
-    sizes : (vs : List (Vec ℕ Global)) (g : DeclaredFile → FileView) → graph_of vs ≡ map (λ (f : FileView). f.imports) (map g files) → length vs ≡ length files
-    sizes vs g e = sym (length-map vs (λ (v : Vec ℕ Global). v.items)) ∙ ap length e ∙ size_of g files
 
 -- all files' imports
 abbrev pub imports_in : List FileDecl → FileDecl → List ℕ
@@ -279,7 +297,7 @@ imports_in files f = (file_of (map file_view files) (file_view f)).imports
 abbrev pub public_in : List FileDecl → FileDecl → List ℕ
 public_in files f = (public_file_of (map file_view files) (file_view f)).imports
 
-pub imports_whole : (files : List FileDecl) (i : ℕ) (m : Imports) → length files ≤ i → graph_of m.all.items ≡ map (imports_in files) (take i files) → graph_of m.public.items ≡ map (public_in files) (take i files) → AreImports (map file_view files) m
+pub imports_whole : (files : List FileDecl) (i : ℕ) (m : Imports) → length files ≤ i → lists_of m.all ≡ map (imports_in files) (take i files) → lists_of m.public ≡ map (public_in files) (take i files) → AreImports (map file_view files) m
 imports_whole files i m past all public = record {
   all = all ∙ ap (map (imports_in files)) (take_all i files past) ∙ sym (map_twice (λ (f : DeclaredFile). (file_of (map file_view files) f).imports) file_view files) ∙ sym (map_twice (λ (f : FileView). f.imports) (file_of (map file_view files)) (map file_view files));
   public = public ∙ ap (map (public_in files)) (take_all i files past) ∙ sym (map_twice (λ (f : DeclaredFile). (public_file_of (map file_view files) f).imports) file_view files) ∙ sym (map_twice (λ (f : FileView). f.imports) (public_file_of (map file_view files)) (map file_view files));
@@ -312,13 +330,13 @@ seen_cases files i j itself = inl refl
 seen_cases files i j (imported among) = inr (begun among)
 seen_cases files i j (onward {k = k} among way) = inr (led_by files i k j among way)
 
-marked_reached : (files : List DeclaredFile) (m : Imports) (i j : ℕ) → AreImports files m → Reached (graph_of m.public.items) (next_of (graph_of m.all.items) i) j → Reached (map (λ (f : FileView). f.imports) (public_files_of files)) (imports_of (files_of files) i) j
+marked_reached : (files : List DeclaredFile) (m : Imports) (i j : ℕ) → AreImports files m → Reached (lists_of m.public) (next_of (lists_of m.all) i) j → Reached (map (λ (f : FileView). f.imports) (public_files_of files)) (imports_of (files_of files) i) j
 marked_reached files m i j are h =
-    subst (λ starts. Reached (map (λ (f : FileView). f.imports) (public_files_of files)) starts j) (ap (λ g. next_of g i) are.all ∙ next_files (files_of files) i) (subst (λ g. Reached g (next_of (graph_of m.all.items) i) j) are.public h)
+    subst (λ starts. Reached (map (λ (f : FileView). f.imports) (public_files_of files)) starts j) (ap (λ g. next_of g i) are.all ∙ next_files (files_of files) i) (subst (λ g. Reached g (next_of (lists_of m.all) i) j) are.public h)
 
-reached_marked : (files : List DeclaredFile) (m : Imports) (i j : ℕ) → AreImports files m → Reached (map (λ (f : FileView). f.imports) (public_files_of files)) (imports_of (files_of files) i) j → Reached (graph_of m.public.items) (next_of (graph_of m.all.items) i) j
+reached_marked : (files : List DeclaredFile) (m : Imports) (i j : ℕ) → AreImports files m → Reached (map (λ (f : FileView). f.imports) (public_files_of files)) (imports_of (files_of files) i) j → Reached (lists_of m.public) (next_of (lists_of m.all) i) j
 reached_marked files m i j are h =
-    subst (λ g. Reached g (next_of (graph_of m.all.items) i) j) (sym are.public) (subst (λ starts. Reached (map (λ (f : FileView). f.imports) (public_files_of files)) starts j) (sym (ap (λ g. next_of g i) are.all ∙ next_files (files_of files) i)) h)
+    subst (λ g. Reached g (next_of (lists_of m.all) i) j) (sym are.public) (subst (λ starts. Reached (map (λ (f : FileView). f.imports) (public_files_of files)) starts j) (sym (ap (λ g. next_of g i) are.all ∙ next_files (files_of files) i)) h)
 
 pub sees_exact : (files : List DeclaredFile) (m : Imports) (s : Sight) (i j : ℕ) → AreImports files m → KnowsSight m s → s.file ≡ Some i → IsTrue (sees_by s j) ↔ Sees files i j
 sees_exact files m s i j are knows at = (
@@ -333,8 +351,8 @@ sees_exact files m s i j are knows at = (
 pub sees_same : (files : List DeclaredFile) (m : Imports) (s : Sight) (i : ℕ) (sees : ℕ → ℕ → Bool) → AreImports files m → KnowsSight m s → s.file ≡ Some i → ((k j : ℕ) → IsTrue (sees k j) ↔ Sees files k j) → sees_by s ≡ sees i
 sees_same files m s i sees are knows at exact = λ p. λ j. same_test (sees_by s j) (sees i j) (λ h. (exact i j).1 ((sees_exact files m s i j are knows at).0 h)) (λ h. (sees_exact files m s i j are knows at).1 ((exact i j).0 h)) p
 
-pub cyclic_reaches : (files : List DeclaredFile) (m : Imports) (i : ℕ) → AreImports files m → Reached (graph_of m.all.items) (next_of (graph_of m.all.items) i) i ↔ Reaches (files_of files) i i
+pub cyclic_reaches : (files : List DeclaredFile) (m : Imports) (i : ℕ) → AreImports files m → Reached (lists_of m.all) (next_of (lists_of m.all) i) i ↔ Reaches (files_of files) i i
 cyclic_reaches files m i are = (
-  λ way. reaches_from (files_of files) i (imports_of (files_of files) i) (λ j among. directly among) i (subst (λ starts. Reached (map (λ (f : FileView). f.imports) (files_of files)) starts i) (ap (λ g. next_of g i) are.all ∙ next_files (files_of files) i) (subst (λ g. Reached g (next_of (graph_of m.all.items) i) i) are.all way)),
-  λ way. subst (λ g. Reached g (next_of (graph_of m.all.items) i) i) (sym are.all) (subst (λ starts. Reached (map (λ (f : FileView). f.imports) (files_of files)) starts i) (sym (ap (λ g. next_of g i) are.all ∙ next_files (files_of files) i)) (reached_by (files_of files) i (imports_of (files_of files) i) (λ j among. among) i way)),
+  λ way. reaches_from (files_of files) i (imports_of (files_of files) i) (λ j among. directly among) i (subst (λ starts. Reached (map (λ (f : FileView). f.imports) (files_of files)) starts i) (ap (λ g. next_of g i) are.all ∙ next_files (files_of files) i) (subst (λ g. Reached g (next_of (lists_of m.all) i) i) are.all way)),
+  λ way. subst (λ g. Reached g (next_of (lists_of m.all) i) i) (sym are.all) (subst (λ starts. Reached (map (λ (f : FileView). f.imports) (files_of files)) starts i) (sym (ap (λ g. next_of g i) are.all ∙ next_files (files_of files) i)) (reached_by (files_of files) i (imports_of (files_of files) i) (λ j among. among) i way)),
 )

@@ -1,9 +1,10 @@
 -- Imports of files as graphs over their indexes.
-use Rattle.std.specs.Prelude.{◌≡◌, ◌↔◌, ℕ, ℤ, pos, negsuc, List, map, Bool, false, ◌==◌, ◌||◌, Option, Some, None, IsTrue, option_and_then, slice_get, vec_len}
+use Rattle.std.specs.Prelude.{◌≡◌, ◌↔◌, ℕ, ℤ, pos, negsuc, List, map, length, Bool, false, ◌==◌, ◌||◌, Option, Some, None, IsTrue, option_and_then, slice_get, vec_len}
 use Rattle.pb_decl.specs.Decls.{DeclaredFile}
 use Rattle.std.specs.List.{enumerate_from, flat_map}
 use Rattle.pb_names.specs.Sees.{file_named, files_of, public_files_of}
-use Rattle.pb_sets.specs.Reach.{graph_of, next_of, Reached, IsGraph, is_marked, IsListed}
+use Rattle.pb_sets.specs.Flat.{lists_of}
+use Rattle.pb_sets.specs.Reach.{next_of, Reached, IsGraph, is_marked, IsListed}
 use Rattle.pb_names.specs.declared.imports.Imports.{Imports}
 use Rattle.pb_names.specs.declared.sight.Sight.{Sight}
 
@@ -30,14 +31,14 @@ AreFirst files m = m.are_first.items ≡ first_marks (file_named files) files
 
 -- the imports of these files, and which of them are public
 pub record AreImports (files : List DeclaredFile) (m : Imports) : Type 0 where
-  pub all : graph_of m.all.items ≡ map (λ f. f.imports) (files_of files)
-  pub public : graph_of m.public.items ≡ map (λ f. f.imports) (public_files_of files)
+  pub all : lists_of m.all ≡ map (λ f. f.imports) (files_of files)
+  pub public : lists_of m.public ≡ map (λ f. f.imports) (public_files_of files)
 
 -- what is imported are files
 pub record LeadToFiles (m : Imports) : Type 0 where
-  pub size : vec_len m.public ≡ vec_len m.all
-  pub all : IsGraph (graph_of m.all.items)
-  pub public : IsGraph (graph_of m.public.items)
+  pub size : length (lists_of m.public) ≡ length (lists_of m.all)
+  pub all : IsGraph (lists_of m.all)
+  pub public : IsGraph (lists_of m.public)
 
 -- the file that was looked at last sees this one
 abbrev pub sees_by : Sight → ℕ → Bool
@@ -45,6 +46,6 @@ sees_by s j = is_file s.file j || is_marked s.reach j
 
 -- the bits are those of the file that was looked at last
 pub record KnowsSight (m : Imports) (s : Sight) : Type 0 where
-  pub size : vec_len s.reach.bits ≡ vec_len m.all
+  pub size : vec_len s.reach.bits ≡ length (lists_of m.all)
   pub listed : IsListed s.reach
-  pub exact : (i : ℕ) → s.file ≡ Some i → (j : ℕ) → IsTrue (is_marked s.reach j) ↔ Reached (graph_of m.public.items) (next_of (graph_of m.all.items) i) j
+  pub exact : (i : ℕ) → s.file ≡ Some i → (j : ℕ) → IsTrue (is_marked s.reach j) ↔ Reached (lists_of m.public) (next_of (lists_of m.all) i) j

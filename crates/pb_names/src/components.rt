@@ -2,11 +2,13 @@
 
 ghost use Rattle.std.specs.Prelude.{◌≡◌, ◌<◌, ◌≤◌, ◌↔◌, ℕ, List, IsTrue, IfOk, OnOk, All, vec_len};
 ghost use Rattle.std.specs.List.{slice_index_or};
-ghost use Rattle.pb_sets.specs.Reach.{graph_of, next_of};
+ghost use Rattle.pb_sets.specs.Reach.{next_of};
+ghost use Rattle.pb_sets.specs.Flat.{lists_of};
 ghost use Rattle.pb_names.specs.Components.{Fits, work_left, number_of, NeverRise};
 ghost use Rattle.pb_names.specs.declared.components.Progress.TheVariants.{Numbered};
 
-use pb_sets::reach::next_of;
+use pb_sets::flat::FlatGraph;
+use pb_sets::reach::Graph;
 use std::alloc::{AllocError, Global};
 
 /// How far the walk is with an index.
@@ -61,10 +63,10 @@ impl Walk {
     }
 
     /// Opens an index that was not seen, and enters what it leads to.
-    fn enter(&mut self, graph: &[Vec<usize>], index: usize) -> Result<(), AllocError>
+    fn enter(&mut self, graph: &FlatGraph, index: usize) -> Result<(), AllocError>
         requires { Fits self.old }
         ensures fits { OnOk result (Fits self.new) }
-        ensures work { OnOk result (work_left (graph_of graph.now) self.new ≤ work_left (graph_of graph.now) self.old) }
+        ensures work { OnOk result (work_left (lists_of graph.now) self.new ≤ work_left (lists_of graph.now) self.old) }
     {
         let Progress::Unseen = self.progress_of(index) else {
             return Ok(());
@@ -72,7 +74,7 @@ impl Walk {
         self.progress[index] = Progress::Open(self.opened.len());
         self.opened.push(index)?;
         self.steps.push(Step::Leave(index))?;
-        for next in next_of(graph, index) {
+        for next in graph.next(index) {
             self.steps.push(Step::Enter(*next))?;
         }
         Ok(())
@@ -117,15 +119,15 @@ impl Walk {
     }
 
     /// Closes the component of an index that leads to nothing that was opened before it.
-    fn leave(&mut self, graph: &[Vec<usize>], index: usize)
+    fn leave(&mut self, graph: &FlatGraph, index: usize)
         requires { Fits self.old }
         ensures fits { Fits self.new }
-        ensures work { work_left (graph_of graph.now) self.new ≤ work_left (graph_of graph.now) self.old }
+        ensures work { work_left (lists_of graph.now) self.new ≤ work_left (lists_of graph.now) self.old }
     {
         let Progress::Open(place) = self.progress_of(index) else {
             return;
         };
-        let first = self.first_place(place, next_of(graph, index));
+        let first = self.first_place(place, graph.next(index));
         if first == place {
             self.close(index);
         } else {
@@ -134,7 +136,7 @@ impl Walk {
     }
 
     /// Numbers an index and all that it leads to.
-    fn walk_from(&mut self, graph: &[Vec<usize>], start: usize) -> Result<(), AllocError>
+    fn walk_from(&mut self, graph: &FlatGraph, start: usize) -> Result<(), AllocError>
         requires { Fits self.old }
         ensures { OnOk result (Fits self.new) }
     {
@@ -170,11 +172,11 @@ fn are_at_most(numbers: &[usize], indexes: &[usize], bound: usize) -> bool
     true
 }
 
-fn never_rise(graph: &[Vec<usize>], numbers: &[usize]) -> bool
-    ensures { IsTrue result ↔ NeverRise (graph_of graph.now) numbers.now }
+fn never_rise(graph: &FlatGraph, numbers: &[usize]) -> bool
+    ensures { IsTrue result ↔ NeverRise (lists_of graph.now) numbers.now }
 {
     for index in 0..graph.len() {
-        if !are_at_most(numbers, next_of(graph, index), number_of(numbers, index)) {
+        if !are_at_most(numbers, graph.next(index), number_of(numbers, index)) {
             return false;
         }
     }
@@ -183,8 +185,8 @@ fn never_rise(graph: &[Vec<usize>], numbers: &[usize]) -> bool
 
 /// Numbers of a graph's indexes that never rise along it; one that is not there is 0. Two indexes have the same where each leads to the
 /// other. That is not proved of the walk: its numbers are looked at, and if one rose none would be given.
-pub fn component_numbers(alloc: Global, graph: &[Vec<usize>]) -> Result<Vec<usize>, AllocError>
-    ensures { IfOk result (λ v. NeverRise (graph_of graph.now) v.items) }
+pub fn component_numbers(alloc: Global, graph: &FlatGraph) -> Result<Vec<usize>, AllocError>
+    ensures { IfOk result (λ v. NeverRise (lists_of graph.now) v.items) }
 {
     let mut walk = Walk::new(alloc, graph.len())?;
     for index in 0..graph.len() {

@@ -5,19 +5,21 @@ ghost use Rattle.std.specs.Prelude.{filter_map, option_and_then, option_to_list,
 ghost use Rattle.std.specs.List.{slice_index_or};
 ghost use Rattle.pb_decl.specs.Decls.{DeclaredFile};
 ghost use Rattle.pb_decl.specs.View.{file_view};
+ghost use Rattle.pb_sets.specs.Flat.{IsLaid, Grows};
 ghost use Rattle.pb_names.specs.Sees.{file_named, file_of, public_file_of};
 ghost use Rattle.pb_names.specs.Firsts.{first_at};
 ghost use Rattle.pb_names.specs.Graphs.{target_at, is_file, first_marks, joined_names, AreImports, AreFirst, LeadToFiles};
 
 use crate::firsts::Firsts;
 use pb_decl::FileDecl;
+use pb_sets::flat::FlatGraph;
 use std::alloc::{AllocError, Global};
 
 /// The imports of each file, and those that are public. An import whose file is not there is left out.
 #[derive(Drop)]
 pub struct Imports {
-    pub all: Vec<Vec<usize>>,
-    pub public: Vec<Vec<usize>>,
+    pub all: FlatGraph,
+    pub public: FlatGraph,
     /// Whether each file is the first of its name.
     pub are_first: Vec<bool>,
 }
@@ -87,13 +89,14 @@ fn targets(
     Ok(targets)
 }
 
-fn push_target(indexes: &mut Vec<usize>, target: Option<usize>) -> Result<(), AllocError>
-    ensures { OnOk result (indexes.new.items ≡ indexes.old.items ++ option_to_list target) }
+fn push_target(graph: &mut FlatGraph, target: Option<usize>) -> Result<(), AllocError>
+    requires { IsLaid graph.old }
+    ensures { OnOk result (Grows (option_to_list target) graph.old graph.new) }
 {
     let Some(index) = target else {
         return Ok(());
     };
-    indexes.push(index)?;
+    graph.push_target(index)?;
     Ok(())
 }
 
@@ -106,14 +109,14 @@ fn target_of(targets: &[Option<usize>], index: usize) -> Option<usize>
     }
 }
 
-fn all_of(alloc: Global, targets: &[Option<usize>]) -> Result<Vec<usize>, AllocError>
-    ensures { IfOk result (λ v. v.items ≡ filter_map (λ o. o) targets.now) }
+fn push_all(graph: &mut FlatGraph, targets: &[Option<usize>]) -> Result<(), AllocError>
+    requires { IsLaid graph.old }
+    ensures { OnOk result (Grows (filter_map (λ o. o) targets.now) graph.old graph.new) }
 {
-    let mut indexes: Vec<usize> = Vec::with_capacity(alloc, targets.len())?;
     for index in 0..targets.len() {
-        push_target(&mut indexes, target_of(targets, index))?;
+        push_target(graph, target_of(targets, index))?;
     }
-    Ok(indexes)
+    Ok(())
 }
 
 fn target_at(targets: &[Option<usize>], at: i32) -> Option<usize>
@@ -125,48 +128,58 @@ fn target_at(targets: &[Option<usize>], at: i32) -> Option<usize>
     target_of(targets, at as usize)
 }
 
-fn public_of(
-    alloc: Global,
+fn push_public(
+    graph: &mut FlatGraph,
     targets: &[Option<usize>],
     public: &[i32],
-) -> Result<Vec<usize>, AllocError>
-    ensures { IfOk result (λ v. v.items ≡ filter_map (target_at targets.now) public.now) }
+) -> Result<(), AllocError>
+    requires { IsLaid graph.old }
+    ensures { OnOk result (Grows (filter_map (target_at targets.now) public.now) graph.old graph.new) }
 {
-    let mut indexes: Vec<usize> = Vec::with_capacity(alloc, public.len())?;
     for at in public {
-        push_target(&mut indexes, target_at(targets, *at))?;
+        push_target(graph, target_at(targets, *at))?;
     }
-    Ok(indexes)
+    Ok(())
 }
 
-/// The files that imports name. A name that no file has is left out.
-fn files_named(alloc: Global, firsts: &Firsts, names: &[String]) -> Result<Vec<usize>, AllocError>
-    ensures { IfOk result (λ v. v.items ≡ filter_map (first_at firsts.now) (map string_bytes names.now)) }
+/// Adds the files that imports name. A name that no file has is left out.
+fn push_named(
+    graph: &mut FlatGraph,
+    firsts: &Firsts,
+    names: &[String],
+) -> Result<(), AllocError>
+    requires { IsLaid graph.old }
+    ensures { OnOk result (Grows (filter_map (first_at firsts.now) (map string_bytes names.now)) graph.old graph.new) }
 {
-    let mut indexes: Vec<usize> = Vec::with_capacity(alloc, names.len())?;
     for name in names {
-        push_target(&mut indexes, firsts.get(name.as_str().as_bytes()))?;
+        push_target(graph, firsts.get(name.as_str().as_bytes()))?;
     }
-    Ok(indexes)
+    Ok(())
 }
 
-/// The imports of a file, and the public ones. What each import names is kept where there are public ones.
-fn imports_of(
+/// Adds the imports of a file, and the public ones. What each import names is kept where there are public ones.
+fn push_imports(
     alloc: Global,
     firsts: &Firsts,
     file: &FileDecl,
-) -> Result<(Vec<usize>, Vec<usize>), AllocError>
-    ensures { (files : List DeclaredFile) → ((name : List ℕ) → first_at firsts.now name ≡ file_named files name)
-        → IfOk result (λ r. (r.0.items ≡ (file_of files (file_view file.now)).imports) × (r.1.items ≡ (public_file_of files (file_view file.now)).imports)) }
+    all: &mut FlatGraph,
+    public: &mut FlatGraph,
+) -> Result<(), AllocError>
+    requires all { IsLaid all.old }
+    requires public { IsLaid public.old }
+    ensures all { (files : List DeclaredFile) → ((name : List ℕ) → first_at firsts.now name ≡ file_named files name)
+        → OnOk result (Grows (file_of files (file_view file.now)).imports all.old all.new) }
+    ensures public { (files : List DeclaredFile) → ((name : List ℕ) → first_at firsts.now name ≡ file_named files name)
+        → OnOk result (Grows (public_file_of files (file_view file.now)).imports public.old public.new) }
 {
     if file.public.is_empty() {
-        let all = files_named(alloc, firsts, &file.imports)?;
-        return Ok((all, Vec::new(alloc)));
+        push_named(all, firsts, &file.imports)?;
+        return Ok(());
     }
     let targets = targets(alloc, firsts, &file.imports)?;
-    let all = all_of(alloc, &targets)?;
-    let public = public_of(alloc, &targets, &file.public)?;
-    Ok((all, public))
+    push_all(all, &targets)?;
+    push_public(public, &targets, &file.public)?;
+    Ok(())
 }
 
 impl Imports {
@@ -178,12 +191,12 @@ impl Imports {
     {
         let names = joined_names(alloc, files)?;
         let (firsts, are_first) = files_by_name(alloc, files, &names)?;
-        let mut all = Vec::with_capacity(alloc, files.len())?;
-        let mut public = Vec::with_capacity(alloc, files.len())?;
+        let mut all = FlatGraph::with_capacity(alloc, files.len())?;
+        let mut public = FlatGraph::with_capacity(alloc, files.len())?;
         for file in files {
-            let (near, onward) = imports_of(alloc, &firsts, file)?;
-            all.push(near)?;
-            public.push(onward)?;
+            push_imports(alloc, &firsts, file, &mut all, &mut public)?;
+            all.end_list()?;
+            public.end_list()?;
         }
         Ok(Imports {
             all,

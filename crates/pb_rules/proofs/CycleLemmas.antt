@@ -3,7 +3,7 @@ use Rattle.std.proofs.Common.{◌≡◌, ℕ, zero, suc, ◌≤◌, List, map, l
 use Rattle.std.specs.Prelude.{position}
 use Rattle.std.proofs.lemmas.Bool.{false≢true}
 use Rattle.pb_decl.specs.Decls.{DeclaredFile}
-use Rattle.pb_sets.specs.Reach.{graph_of}
+use Rattle.pb_sets.specs.Flat.{lists_of}
 use Rattle.pb_sets.specs.Cycles.{IsAcyclic}
 use Rattle.pb_names.specs.Graphs.{AreImports}
 use Rattle.pb_names.specs.declared.imports.Imports.{Imports}
@@ -19,7 +19,7 @@ use Rattle.pb_names.proofs.GraphLemmas.{taken}
 use Rattle.pb_rules.proofs.NamesLemmas.{cycle_told, cycle_apart}
 use Rattle.pb_rules.proofs.TableLemmas.{IsHeldBefore, held_more, none_failing}
 
-not_cyclic : (files : List DeclaredFile) (w : World) (m : Imports) (place : ℕ) (d : Declaration) → AreImports files m → IsWorldOf files w → IsAcyclic (graph_of m.all.items)
+not_cyclic : (files : List DeclaredFile) (w : World) (m : Imports) (place : ℕ) (d : Declaration) → AreImports files m → IsWorldOf files w → IsAcyclic (lists_of m.all)
     → not (holds w place d cause.ImportCycle) ≡ false
 not_cyclic files w m place d are world free = by_file (file_in d.item) refl
   where
@@ -28,7 +28,7 @@ not_cyclic files w m place d are world free = by_file (file_in d.item) refl
     by_file (Some f) is = sym (cycle_told files w m place d f false are world is (λ h. absurd (false≢true h), λ way. absurd (free d.file way)))
 
 held_up_to : (files : List DeclaredFile) (w : World) (m : Imports) (row : List DeclarationValue) → AreImports files m → IsWorldOf files w → w.declared ≡ map declaration_view row
-    → IsAcyclic (graph_of m.all.items) → (i : ℕ) → i ≤ length row → IsHeldBefore w i
+    → IsAcyclic (lists_of m.all) → (i : ℕ) → i ≤ length row → IsHeldBefore w i
 held_up_to files w m row are world is free zero within = λ q less. absurd (omega (arith, less))
 held_up_to files w m row are world is free (suc i) within =
     let here = taken row i (omega (arith, within)) in
@@ -37,6 +37,6 @@ held_up_to files w m row are world is free (suc i) within =
     (held_up_to files w m row are world is free i (omega (arith, within))) q (omega (arith, less))
 
 pub none_cyclic : (files : List DeclaredFile) (w : World) (m : Imports) (row : List DeclarationValue) → AreImports files m → IsWorldOf files w → w.declared ≡ map declaration_view row
-    → IsAcyclic (graph_of m.all.items) → None ≡ position not (holds_table w cause.ImportCycle)
+    → IsAcyclic (lists_of m.all) → None ≡ position not (holds_table w cause.ImportCycle)
 none_cyclic files w m row are world is free =
     none_failing w row (length row) is (omega arith) (held_up_to files w m row are world is free (length row) (omega arith))

@@ -15,7 +15,8 @@ use Rattle.pb_rules.specs.Rules.{World, lookups, lookups_if, is_file_named, is_i
 use Rattle.pb_rules.specs.Link.{holds, IsWorldOf}
 use Rattle.pb_names.specs.Firsts.{first_at}
 use Rattle.pb_names.specs.Sees.{file_named, file_of, files_of}
-use Rattle.pb_sets.specs.Reach.{graph_of, next_of, Reached}
+use Rattle.pb_sets.specs.Flat.{lists_of}
+use Rattle.pb_sets.specs.Reach.{next_of, Reached}
 use Rattle.pb_schema.specs.Types.{FileView}
 use Rattle.pb_names.specs.Graphs.{is_file, first_marks, AreImports, AreFirst, sees_by}
 use Rattle.pb_names.specs.NameSets.{is_in_set}
@@ -138,12 +139,12 @@ imports_table files w m ds is exact e =
         ∙ sym (files_named name 0 0 files)
         ∙ ap (list_any (λ (d : Declaration). is_file_named name d.item)) (sym is.declared)
 
-    near : (k : ℕ) (d : Declaration) (f : DeclaredFile) → slice_get w.declared k ≡ Some d → file_in d.item ≡ Some f → next_of (graph_of m.all.items) d.file ≡ filter_map (file_named files) f.imports
+    near : (k : ℕ) (d : Declaration) (f : DeclaredFile) → slice_get w.declared k ≡ Some d → file_in d.item ≡ Some f → next_of (lists_of m.all) d.file ≡ filter_map (file_named files) f.imports
     near k d f there file =
         let at = file_stands 0 0 files k d f (ap (λ l. slice_get l k) (sym is.declared) ∙ there) file in
         ap (λ g. next_of g d.file) exact.all ∙ ap (next_of (map (λ (g : FileView). g.imports) (files_of files))) (at.number ∙ zero_plus at.before) ∙ next_there (file_of files) files at.before f at.there
 
-    right : (k : ℕ) (d : Declaration) (f : DeclaredFile) → slice_get w.declared k ≡ Some d → file_in d.item ≡ Some f → are_right_imports (length (next_of (graph_of m.all.items) d.file)) f ≡ imports_are_there w f
+    right : (k : ℕ) (d : Declaration) (f : DeclaredFile) → slice_get w.declared k ≡ Some d → file_in d.item ≡ Some f → are_right_imports (length (next_of (lists_of m.all) d.file)) f ≡ imports_are_there w f
     right k d f there file =
         ap (λ l. are_right_imports (length l) f) (near k d f there file)
         ∙ ap (λ b. nat_lt (length f.imports) (2 ^ 31) && b && list_all (is_import_index f) f.public_indexes)
@@ -152,11 +153,11 @@ imports_table files w m ds is exact e =
     each : (j k : ℕ) (d : Declaration) → k ≡ 0 + j → slice_get w.declared j ≡ Some d → are_imports_there m d ≡ holds w k d cause.MissingImport
     each j k d at there =
         let here : slice_get w.declared k ≡ Some d = ap (slice_get w.declared) (at ∙ zero_plus j) ∙ there in
-        option_placed (are_right_imports (length (next_of (graph_of m.all.items) d.file))) (imports_are_there w) (file_in d.item) true (λ f file. right k d f here file)
+        option_placed (are_right_imports (length (next_of (lists_of m.all) d.file))) (imports_are_there w) (file_in d.item) true (λ f file. right k d f here file)
         ∙ sym (imports_hold w k d.file d.parent d.scope d.item)
 
 -- a file reaches itself where the rule of cycles fails
-pub cycle_told : (files : List DeclaredFile) (w : World) (m : Imports) (place : ℕ) (d : Declaration) (f : DeclaredFile) (b : Bool) → AreImports files m → IsWorldOf files w → file_in d.item ≡ Some f → (IsTrue b ↔ Reached (graph_of m.all.items) (next_of (graph_of m.all.items) d.file) d.file) → b ≡ not (holds w place d cause.ImportCycle)
+pub cycle_told : (files : List DeclaredFile) (w : World) (m : Imports) (place : ℕ) (d : Declaration) (f : DeclaredFile) (b : Bool) → AreImports files m → IsWorldOf files w → file_in d.item ≡ Some f → (IsTrue b ↔ Reached (lists_of m.all) (next_of (lists_of m.all) d.file) d.file) → b ≡ not (holds w place d cause.ImportCycle)
 cycle_told files w m place d f b are world is exact =
     sym (not_twice b) ∙ ap (λ x. not (not x)) same ∙ ap not (sym (cycle_holds w place d.file d.parent d.scope d.item ∙ ap (λ o. option_map_or (λ (g : DeclaredFile). not (w.sight.is_cyclic d.file)) o true) is))
   where
@@ -164,7 +165,7 @@ cycle_told files w m place d f b are world is exact =
     not_twice true = refl
     not_twice false = refl
 
-    ways : Reached (graph_of m.all.items) (next_of (graph_of m.all.items) d.file) d.file ↔ Reaches (files_of files) d.file d.file
+    ways : Reached (lists_of m.all) (next_of (lists_of m.all) d.file) d.file ↔ Reaches (files_of files) d.file d.file
     ways = cyclic_reaches files m d.file are
 
     same : b ≡ w.sight.is_cyclic d.file

@@ -6,7 +6,8 @@ use Rattle.pb_decl.specs.Decls.{DeclaredFile}
 use Rattle.pb_names.specs.Declarations.{Declaration, declarations, is_named, full_name, has_name}
 use Rattle.pb_names.specs.Lookup.{every_file, is_package_name}
 use Rattle.pb_rules.specs.Rules.{is_import_index}
-use Rattle.pb_sets.specs.Reach.{graph_of, next_of}
+use Rattle.pb_sets.specs.Flat.{lists_of}
+use Rattle.pb_sets.specs.Reach.{next_of}
 use Rattle.pb_names.specs.Graphs.{AreImports, LeadToFiles, KnowsSight}
 use Rattle.pb_names.specs.Scene.{IsScene}
 use Rattle.pb_names.specs.declared.imports.Imports.{Imports}
@@ -30,7 +31,7 @@ abbrev pub are_right_imports : ℕ → DeclaredFile → Bool
 are_right_imports found f = nat_lt (length f.imports) (2 ^ 31) && (found == length f.imports) && list_all (is_import_index f) f.public_indexes
 
 abbrev pub are_imports_there : Imports → Declaration → Bool
-are_imports_there m d = option_map_or (are_right_imports (length (next_of (graph_of m.all.items) d.file))) (file_in d.item) true
+are_imports_there m d = option_map_or (are_right_imports (length (next_of (lists_of m.all) d.file))) (file_in d.item) true
 
 abbrev pub is_free_name : List Declaration → ℕ × Declaration → Bool
 is_free_name ds e =

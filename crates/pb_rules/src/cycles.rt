@@ -1,13 +1,14 @@
 //! The first file that reaches itself by imports.
 
-ghost use Rattle.std.specs.Prelude.{◌≡◌, ◌<◌, ◌↔◌, ℕ, List, IsTrue, All, IfOk, OnOk, not, vec_len};
+ghost use Rattle.std.specs.Prelude.{◌≡◌, ◌<◌, ◌↔◌, ℕ, List, IsTrue, All, IfOk, OnOk, not, length, vec_len};
 ghost use Rattle.pb_decl.specs.Decls.{DeclaredFile};
 ghost use Rattle.pb_rules.specs.declared.cause.LinkCause.TheVariants.{ImportCycle};
 ghost use Rattle.pb_names.specs.Components.{number_of, NeverRise};
 ghost use Rattle.pb_rules.specs.Rules.{World};
 ghost use Rattle.pb_rules.specs.Link.{holds, IsWorldOf};
 ghost use Rattle.pb_sets.specs.Cycles.{LeadsOn};
-ghost use Rattle.pb_sets.specs.Reach.{graph_of, IsListed};
+ghost use Rattle.pb_sets.specs.Flat.{lists_of};
+ghost use Rattle.pb_sets.specs.Reach.{IsListed};
 ghost use Rattle.pb_names.specs.Graphs.{AreImports, LeadToFiles};
 ghost use Rattle.pb_names.specs.View.{declaration_view};
 ghost use Rattle.pb_rules.specs.Tables.{TellsFirstCycle};
@@ -17,7 +18,7 @@ use pb_names::declaration::Declaration;
 use pb_names::imports::Imports;
 use pb_names::type_refs::file_in;
 use pb_sets::cycles::is_acyclic;
-use pb_sets::reach::{Reach, next_of};
+use pb_sets::reach::{Graph, Reach};
 use std::alloc::{AllocError, Global};
 
 fn are_below(numbers: &[usize], indexes: &[usize], bound: usize) -> bool
@@ -39,18 +40,18 @@ fn is_cyclic(
     file: usize,
 ) -> Result<bool, AllocError>
     requires lead { LeadToFiles imports.now }
-    requires numbers { NeverRise (graph_of imports.now.all.items) numbers.now }
+    requires numbers { NeverRise (lists_of imports.now.all) numbers.now }
     requires listed { IsListed reach.old }
-    requires size { vec_len reach.old.bits ≡ vec_len imports.now.all }
+    requires size { vec_len reach.old.bits ≡ length (lists_of imports.now.all) }
     ensures listed { OnOk result (IsListed reach.new) }
-    ensures size { OnOk result (vec_len reach.new.bits ≡ vec_len imports.now.all) }
-    ensures exact { IfOk result (λ b. IsTrue b ↔ LeadsOn (graph_of imports.now.all.items) file file) }
+    ensures size { OnOk result (vec_len reach.new.bits ≡ length (lists_of imports.now.all)) }
+    ensures exact { IfOk result (λ b. IsTrue b ↔ LeadsOn (lists_of imports.now.all) file file) }
 {
     let number = number_of(numbers, file);
-    if are_below(numbers, next_of(&imports.all, file), number) {
+    if are_below(numbers, imports.all.next(file), number) {
         return Ok(false);
     }
-    reach.reach(&imports.all, next_of(&imports.all, file))?;
+    reach.reach(&imports.all, imports.all.next(file))?;
     Ok(reach.is_marked(file))
 }
 
@@ -62,11 +63,11 @@ fn is_cycle_at(
     declaration: &Declaration,
 ) -> Result<bool, AllocError>
     requires lead { LeadToFiles imports.now }
-    requires numbers { NeverRise (graph_of imports.now.all.items) numbers.now }
+    requires numbers { NeverRise (lists_of imports.now.all) numbers.now }
     requires listed { IsListed reach.old }
-    requires size { vec_len reach.old.bits ≡ vec_len imports.now.all }
+    requires size { vec_len reach.old.bits ≡ length (lists_of imports.now.all) }
     ensures listed { OnOk result (IsListed reach.new) }
-    ensures size { OnOk result (vec_len reach.new.bits ≡ vec_len imports.now.all) }
+    ensures size { OnOk result (vec_len reach.new.bits ≡ length (lists_of imports.now.all)) }
     ensures exact { IfOk result (λ b. (files : List DeclaredFile) (w : World) (place : ℕ) → AreImports files imports.now → IsWorldOf files w
         → b ≡ not (holds w place (declaration_view declaration.now) ImportCycle)) }
 {

@@ -14,7 +14,7 @@ use pb_names::declaration::Declaration;
 use pb_names::imports::Imports;
 use pb_names::scene::Scene;
 use pb_names::type_refs::file_in;
-use pb_sets::reach::next_of;
+use pb_sets::reach::Graph;
 use std::alloc::{AllocError, Global};
 
 /// A file has fewer imports.
@@ -80,7 +80,7 @@ fn are_right_imports(found: usize, file: &FileDecl) -> bool
 fn has_right_imports(imports: &Imports, declaration: &Declaration) -> bool
     ensures { result ≡ are_imports_there imports.now (declaration_view declaration.now) }
 {
-    let found = next_of(&imports.all, declaration.file).len();
+    let found = imports.all.next(declaration.file).len();
     match file_in(declaration.item) {
         Some(file) => are_right_imports(found, file),
         None => true,

@@ -3,16 +3,17 @@ use Rattle.pb_schema.specs.Rules.{IsPool}
 use Rattle.pb_decl.specs.View.{file_view}
 use Rattle.pb_link.specs.declared.parts.tables.Tables.{Tables}
 use Rattle.pb_link.proofs.PoolLemmas.{linked_pool}
-use Rattle.pb_link.proofs.ReadLemmas.{pool_read, memory_alone}
+use Rattle.pb_link.proofs.ReadLemmas.{pool_read}
 use Rattle.pb_link.proofs.parts.linked_pool.Goals as goal
 
-pub returns-in-Ok-clause-made : goal.returns-in-Ok-clause-made
-returns-in-Ok-clause-made c = λ w world nothing declared found.
+pub from_known_parts-requires : goal.from_known_parts-requires
+from_known_parts-requires c =
     let t : Tables = record { files = c.args.files; row = c.args.row; found = c.args.found; kinds = c.in_ok-kinds.field-0 } in
-    c.in-Ok.ensures.made ∙ pool_read (map file_view c.args.files.now) w world nothing t declared found c.in_ok-kinds.ensures refl c.in_ok-infos.infos.items c.in_ok-messages.messages.items c.in_ok-enums.enums.items c.in_ok-infos.ensures c.in_ok-messages.ensures c.in_ok-enums.ensures
+    let h = c.requires.holds in
+    let same = pool_read (map file_view c.args.files.now) h.0 h.1 h.2 t h.3 h.4 c.in_ok-kinds.ensures refl c.in_ok-infos.infos.items c.in_ok-messages.messages.items c.in_ok-enums.enums.items c.in_ok-infos.ensures c.in_ok-messages.ensures c.in_ok-enums.ensures in
+    subst IsPool (sym same) (linked_pool (map file_view c.args.files.now) h.0 h.1 h.2)
 
-pub returns-clause-refused : goal.returns-clause-refused
-returns-clause-refused c = λ w world nothing declared found.
+pub returns-in-Ok : goal.returns-in-Ok
+returns-in-Ok c = λ w world nothing declared found.
     let t : Tables = record { files = c.args.files; row = c.args.row; found = c.args.found; kinds = c.in_ok-kinds.field-0 } in
-    let same = pool_read (map file_view c.args.files.now) w world nothing t declared found c.in_ok-kinds.ensures refl c.in_ok-infos.infos.items c.in_ok-messages.messages.items c.in_ok-enums.enums.items c.in_ok-infos.ensures c.in_ok-messages.ensures c.in_ok-enums.ensures in
-    memory_alone c.in-Err.error (λ bad. c.in-Err.ensures.refused bad (subst IsPool (sym same) (linked_pool (map file_view c.args.files.now) w world nothing)))
+    c.in-Ok.ensures ∙ pool_read (map file_view c.args.files.now) w world nothing t declared found c.in_ok-kinds.ensures refl c.in_ok-infos.infos.items c.in_ok-messages.messages.items c.in_ok-enums.enums.items c.in_ok-infos.ensures c.in_ok-messages.ensures c.in_ok-enums.ensures

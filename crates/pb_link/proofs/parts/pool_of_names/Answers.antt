@@ -5,9 +5,7 @@ use Rattle.pb_link.proofs.LinkLemmas.{as_many}
 use Rattle.pb_link.proofs.parts.pool_of_names.Goals as goal
 
 pub linked_pool-requires-clause-imports : goal.linked_pool-requires-clause-imports
-linked_pool-requires-clause-imports c =
-    let same : c.as_slice-all.result.now ≡ c.args.judged.now.imports.all.items = search rules in
-    ap (map (λ v. v.items)) same ∙ c.requires.imports.all
+linked_pool-requires-clause-imports c = c.requires.imports.all
 
 pub linked_pool-requires-clause-sizes : goal.linked_pool-requires-clause-sizes
 linked_pool-requires-clause-sizes c =
@@ -16,8 +14,15 @@ linked_pool-requires-clause-sizes c =
     let found : c.as_slice-found.result.now ≡ c.args.judged.now.names.found.items = search rules in
     as_many declaration_view type_names_view (lookups j.world) c.as_slice-row.result.now c.as_slice-found.result.now j.world.declared (ap (map declaration_view) row ∙ j.row) (ap (map type_names_view) found ∙ j.names.of_names.found)
 
-pub returns-in-Ok-clause-made : goal.returns-in-Ok-clause-made
-returns-in-Ok-clause-made c =
+pub linked_pool-requires-clause-holds : goal.linked_pool-requires-clause-holds
+linked_pool-requires-clause-holds c =
+    let j = c.requires in
+    let row : c.as_slice-row.result.now ≡ c.args.judged.now.row.items = search rules in
+    let found : c.as_slice-found.result.now ≡ c.args.judged.now.names.found.items = search rules in
+    (j.world, j.is_world, j.holds, sym j.row ∙ ap (map declaration_view) (sym row), ap (map type_names_view) found ∙ j.names.of_names.found)
+
+pub returns-in-Ok : goal.returns-in-Ok
+returns-in-Ok c =
     let j = c.requires in
     let row : c.as_slice-row.result.now ≡ c.args.judged.now.row.items = search rules in
     let found : c.as_slice-found.result.now ≡ c.args.judged.now.names.found.items = search rules in
@@ -25,12 +30,5 @@ returns-in-Ok-clause-made c =
       world = j.world;
       is_world = j.is_world;
       holds = j.holds;
-      made = c.in-Ok.ensures.made j.world j.is_world j.holds (sym j.row ∙ ap (map declaration_view) (sym row)) (ap (map type_names_view) found ∙ j.names.of_names.found);
+      made = c.in-Ok.ensures j.world j.is_world j.holds (sym j.row ∙ ap (map declaration_view) (sym row)) (ap (map type_names_view) found ∙ j.names.of_names.found);
     }
-
-pub returns-in-Err-clause-refused : goal.returns-in-Err-clause-refused
-returns-in-Err-clause-refused c =
-    let j = c.requires in
-    let row : c.as_slice-row.result.now ≡ c.args.judged.now.row.items = search rules in
-    let found : c.as_slice-found.result.now ≡ c.args.judged.now.names.found.items = search rules in
-    c.in-Err.ensures.refused j.world j.is_world j.holds (sym j.row ∙ ap (map declaration_view) (sym row)) (ap (map type_names_view) found ∙ j.names.of_names.found)

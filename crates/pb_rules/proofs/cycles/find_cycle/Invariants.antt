@@ -1,7 +1,8 @@
-use Rattle.std.proofs.Common.{◌≡◌, List, map, vec_len}
+use Rattle.std.proofs.Common.{◌≡◌, List, length, map, vec_len}
 use Rattle.pb_decl.specs.Decls.{DeclaredFile}
 use Rattle.pb_rules.specs.Rules.{World}
 use Rattle.pb_rules.specs.Link.{IsWorldOf}
+use Rattle.pb_sets.specs.Flat.{lists_of}
 use Rattle.pb_sets.specs.Reach.{IsListed}
 use Rattle.pb_names.specs.Graphs.{AreImports}
 use Rattle.pb_names.specs.View.{declaration_view}
@@ -10,4 +11,4 @@ use Rattle.pb_rules.proofs.cycles.find_cycle.Given as goal
 
 abbrev pub invariant-loop-place : goal.invariant-loop-place
 invariant-loop-place l =
-    IsListed l.reach × (vec_len l.reach.bits ≡ vec_len l.imports.all) × ((files : List DeclaredFile) (w : World) → AreImports files l.imports → IsWorldOf files w → w.declared ≡ map declaration_view l.row → IsHeldBefore w l.place)
+    IsListed l.reach × (vec_len l.reach.bits ≡ length (lists_of l.imports.all)) × ((files : List DeclaredFile) (w : World) → AreImports files l.imports → IsWorldOf files w → w.declared ≡ map declaration_view l.row → IsHeldBefore w l.place)

@@ -1,6 +1,7 @@
 use Rattle.std.proofs.Common.{map, ap, ◌∙◌}
 use Rattle.pb_schema.specs.View.{file_view}
 use Rattle.pb_decl.specs.View.{file_view as declared_view}
+use Rattle.pb_sets.specs.Flat.{lists_of}
 use Rattle.pb_names.specs.Sees.{file_of}
 use Rattle.pb_link.proofs.PartLemmas.{copied_more, copied_all, imports_at}
 use Rattle.pb_link.proofs.parts.files.files_of.Goals as goal
@@ -10,7 +11,7 @@ loop-index-preserved c =
     let all = map declared_view c.args.files.now in
     let file = declared_view c.index-files-index.result in
     copied_more (λ f. file_of all (declared_view f)) file_view c.args.files.now c.loop-index.index c.index-files-index.result c.loop-index.infos.items c.push.new.self.items c.in_ok-info.info c.loop-index-test.true c.index-files-index.is c.loop-index.invariant c.in_ok-push.ensures.items
-    (c.in_ok-info.ensures ∙ ap (λ is. record (file_of all file) { imports = is }) (imports_at declared_view all c.args.imports.now c.args.files.now c.loop-index.index c.index-files-index.result c.index-imports-index.result c.requires c.loop-index-test.true c.index-files-index.is c.index-imports-index.is))
+    (c.in_ok-info.ensures ∙ ap (λ is. record (file_of all file) { imports = is }) (c.next.ensures.exact ∙ imports_at declared_view all (lists_of c.args.imports.now) c.args.files.now c.loop-index.index c.index-files-index.result c.requires c.loop-index-test.true c.index-files-index.is))
 
 pub returns : goal.returns
 returns c =

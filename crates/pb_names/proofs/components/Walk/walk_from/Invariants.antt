@@ -1,4 +1,4 @@
-use Rattle.pb_sets.specs.Reach.{graph_of}
+use Rattle.pb_sets.specs.Flat.{lists_of}
 use Rattle.pb_names.specs.Components.{Fits, work_left}
 use Rattle.pb_names.proofs.components.Walk.walk_from.Given as goal
 
@@ -6,4 +6,4 @@ abbrev pub invariant-loop-step : goal.invariant-loop-step
 invariant-loop-step l = Fits l.self
 
 abbrev pub decreases-loop-step : goal.decreases-loop-step
-decreases-loop-step l = work_left (graph_of l.graph) l.self
+decreases-loop-step l = work_left (lists_of l.graph) l.self

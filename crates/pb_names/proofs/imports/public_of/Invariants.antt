@@ -1,7 +1,0 @@
-use Rattle.std.proofs.Common.{◌≡◌, take}
-use Rattle.std.specs.Prelude.{filter_map}
-use Rattle.pb_names.specs.Graphs.{target_at}
-use Rattle.pb_names.proofs.imports.public_of.Given as goal
-
-abbrev pub invariant-loop-at : goal.invariant-loop-at
-invariant-loop-at l = l.indexes.items ≡ filter_map (target_at l.targets) (take l.at-index l.public)
