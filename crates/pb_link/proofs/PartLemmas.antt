@@ -1,9 +1,8 @@
 -- The loops that make the parts of a pool.
 use Rattle.std.proofs.Common.{◌≡◌, ℕ, zero, suc, ◌+◌, ◌<◌, ◌≤◌, List, [], ◌∷◌, ◌++◌, Bool, true, false, not, length, map, take, drop, get_or, refl, sym, ap, ◌∙◌, arith, append_assoc, append-nil}
-use Rattle.std.specs.Prelude.{Vec, string_bytes, if◌then◌else◌, cond, filter}
+use Rattle.std.specs.Prelude.{string_bytes, if◌then◌else◌, cond, filter}
 use Rattle.std.specs.List.{enumerate_from}
 use Rattle.std.specs.Str.{bytes_eq}
-use Rattle.std.specs.declared.alloc.Global.{Global}
 use Rattle.std.proofs.lemmas.List.{drop_more, take_more, take_all, map-append}
 use Rattle.pb_schema.specs.declared.types.Kind.{Kind}
 use Rattle.pb_decl.specs.Decls.{DeclaredFile, MessageHead}

@@ -80,8 +80,8 @@ list_ended g xs i x old grown new less is was more ended none laid = record {
 pub named_more : {X : Type 0} (t : List ℕ → Option ℕ) (text : X → List ℕ) (xs : List X) (i : ℕ) (x : X) (start old new : FlatGraph) (r : Option ℕ) → i < length xs → x ≡ get_or xs i x → r ≡ t (text x) → Grows (filter_map t (map text (take i xs))) start old → Grows (option_to_list r) old new → Grows (filter_map t (map text (take (i + 1) xs))) start new
 named_more t text xs i x start old new r less is at was now =
     subst (λ l. Grows l start new) (
-      ap (λ o. filter_map t (map text (take i xs)) ++ option_to_list o) at
-      ∙ sym (ap (filter_map t) (map_more text xs i x less is) ∙ filter_map-append t (map text (take i xs)) (text x ∷ []) ∙ ap (λ l. filter_map t (map text (take i xs)) ++ l) (as_list (t (text x))))
+    ap (λ o. filter_map t (map text (take i xs)) ++ option_to_list o) at
+    ∙ sym (ap (filter_map t) (map_more text xs i x less is) ∙ filter_map-append t (map text (take i xs)) (text x ∷ []) ∙ ap (λ l. filter_map t (map text (take i xs)) ++ l) (as_list (t (text x))))
     )
     (grows_append (filter_map t (map text (take i xs))) (option_to_list r) start old new was now)
 

@@ -143,11 +143,7 @@ fn push_public(
 }
 
 /// Adds the files that imports name. A name that no file has is left out.
-fn push_named(
-    graph: &mut FlatGraph,
-    firsts: &Firsts,
-    names: &[String],
-) -> Result<(), AllocError>
+fn push_named(graph: &mut FlatGraph, firsts: &Firsts, names: &[String]) -> Result<(), AllocError>
     requires { IsLaid graph.old }
     ensures { OnOk result (Grows (filter_map (first_at firsts.now) (map string_bytes names.now)) graph.old graph.new) }
 {

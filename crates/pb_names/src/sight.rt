@@ -35,8 +35,7 @@ impl Sight {
         if self.file == Some(file) {
             return Ok(());
         }
-        self.reach
-            .reach(&imports.public, imports.all.next(file))?;
+        self.reach.reach(&imports.public, imports.all.next(file))?;
         self.file = Some(file);
         Ok(())
     }

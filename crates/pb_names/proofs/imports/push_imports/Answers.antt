@@ -38,8 +38,8 @@ returns-clause-public c files same =
     let names = map string_bytes c.args.file.now.imports.items in
     let targets = c.in_ok-targets.ensures ∙ ap (λ l. map t (map string_bytes l)) c.deref-2.ensures.value in
     subst (λ l. Grows l c.args.public.now c.push_public.new.graph) (
-      ap (λ (l : List (Option ℕ)). filter_map (target_at l) c.deref-5.result.now) (c.deref-4.ensures.value ∙ targets)
-      ∙ ap (λ (zs : List ℤ). filter_map (target_at (map t names)) zs) c.deref-5.ensures.value
-      ∙ public_targets t (file_named files) same (file_view c.args.file.now) c.args.file.now.public.items
+    ap (λ (l : List (Option ℕ)). filter_map (target_at l) c.deref-5.result.now) (c.deref-4.ensures.value ∙ targets)
+    ∙ ap (λ (zs : List ℤ). filter_map (target_at (map t names)) zs) c.deref-5.ensures.value
+    ∙ public_targets t (file_named files) same (file_view c.args.file.now) c.args.file.now.public.items
     )
     c.in_ok-push_public.ensures

@@ -10,4 +10,4 @@ returns-clause-work c =
     let P = c.args.self.now.progress in
     let less = work_opened graph P.items c.args.index c.len.result (sym c.progress_of.ensures ∙ c.in-Unseen.is) in
     let same = ap (unseen_work graph) c.loop-next.invariant.1 in
-    omega (arith, less, same, c.loop-next.invariant.2, c.loop-next-test.false, ap length c.next-next-items.ensures)
+    omega (arith, less, same, c.loop-next.invariant.2, c.loop-next-test.false, ap length c.next-next-items.ensures.exact)
