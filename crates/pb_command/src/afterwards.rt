@@ -5,9 +5,9 @@ use std::mem::forget;
 /// What the program does when a command is done.
 #[derive(Clone, Copy, Debug, PartialEq, Eq)]
 pub enum Afterwards {
-    /// It goes on, so all that the command took of memory is freed.
+    /// It goes on, so the command frees its pool and its message.
     GoesOn,
-    /// It ends, and the system takes all its memory at once: what is large is left to it.
+    /// It ends, and the system takes all its memory at once: the pool and the message are left to it.
     Ends,
 }
 

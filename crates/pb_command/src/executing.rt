@@ -46,7 +46,8 @@ pub fn execute<F: Files, O: Output, E: Output>(
     execute_then(alloc, Afterwards::GoesOn, command, files, out, err)
 }
 
-/// Does a command as `execute` does, in a program that goes on or ends behind it.
+/// Does a command as `execute` does, in a program that goes on or ends behind it. Where it ends, the pool and the message of the command
+/// are not freed.
 pub fn execute_then<F: Files, O: Output, E: Output>(
     alloc: Global,
     afterwards: Afterwards,
@@ -55,10 +56,13 @@ pub fn execute_then<F: Files, O: Output, E: Output>(
     out: &mut O,
     err: &mut E,
 ) -> u8
+    // Over honest files the answer is the one of their bytes, and over any files it has the form of one.
     ensures done { Does (Sent O.written O.failures out.old out.new) (Cut O.written O.failures out.old out.new)
         (SentOrCut E.written E.failures err.old err.new) (IsSaved F.contents files.old files.new)
         (IsUnsaved F.contents F.failures files.old files.new) result (IsHonest F.contents F.is_steady files.old) command.now }
     ensures status { result ≢ 2 }
+
+    // Where the files failed, the status tells it.
     ensures kept { result ≢ 3 → F.failures files.new ≡ F.failures files.old }
 {
     let outcome = perform(alloc, afterwards, command, files, out);

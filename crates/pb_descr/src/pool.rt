@@ -8,7 +8,7 @@ ghost use Rattle.pb_descr.specs.PoolRows.{field_row_view, type_row_view};
 ghost use Rattle.pb_descr.specs.declared.error.DescrError.TheVariants.{Memory};
 
 use crate::error::DescrError;
-use pb_schema::{Field, FileInfo, Kind, MessageId, MessageType, Pool, PoolError, Shape};
+use pb_schema::{Field, FileInfo, Kind, MessageId, MessageType, Pool, Shape};
 use std::alloc::{AllocError, Global};
 
 /// The set itself, the first message of the pool.
@@ -204,10 +204,6 @@ pub fn descriptor_pool(alloc: Global) -> Result<Pool, DescrError>
     let file = descriptor_file(alloc)?;
     let files = vec![in alloc; file]?;
     let messages = descriptor_messages(alloc)?;
-    match Pool::from_parts(alloc, files, messages, Vec::new(alloc)) {
-        Ok(pool) => Ok(pool),
-        // The types meet every rule of a pool.
-        Err(PoolError::BadParts) => unreachable!(),
-        Err(PoolError::Memory) => Err(DescrError::Memory),
-    }
+    let pool = Pool::from_known_parts(alloc, files, messages, Vec::new(alloc))?;
+    Ok(pool)
 }

@@ -6,8 +6,13 @@ use Rattle.pb_schema.specs.Types.{Types}
 use Rattle.pb_decl.specs.Decls.{DeclaredFile}
 use Rattle.pb_rules.specs.declared.error.LinkError.{LinkError}
 use Rattle.pb_rules.specs.declared.error.LinkError.TheVariants.{Memory}
+use Rattle.pb_names.specs.View.{declaration_view, type_names_view}
+use Rattle.pb_names.specs.declared.declaration.Declaration.{Declaration}
+use Rattle.pb_names.specs.declared.found.TypeNames.{TypeNames}
 use Rattle.pb_rules.specs.Faults.{IsUnlinked}
-use Rattle.pb_link.specs.Linking.{Links}
+use Rattle.pb_rules.specs.Judged.{IsJudged}
+use Rattle.pb_rules.specs.declared.judged.Judged.{Judged}
+use Rattle.pb_link.specs.Linking.{IsLinked, Links}
 use Rattle.pb_link.specs.PoolOf.{pool_of}
 use Rattle.pb_rules.proofs.ExactLemmas.{one_world}
 
@@ -27,3 +32,12 @@ pool_accepted files (Err e) made memory types links = memory
 -- what is found stands beside the row
 pub as_many : {X Y D F : Type 0} (view : X → D) (found_view : Y → F) (f : D → F) (row : List X) (found : List Y) (ds : List D) → map view row ≡ ds → map found_view found ≡ map f ds → length found ≡ length row
 as_many view found_view f row found ds declared is = sym (length-map found found_view) ∙ ap length is ∙ length-map ds f ∙ ap length (sym declared) ∙ length-map row view
+
+-- what was judged, in the world of its files
+pub judged_linked : (files : List DeclaredFile) (j : Judged) (row : List Declaration) (found : List TypeNames) (is : IsJudged files j) → row ≡ j.row.items → found ≡ j.names.found.items → IsLinked files (map declaration_view row) (map type_names_view found) is.world
+judged_linked files j row found is row_is found_is = record {
+  is_world = is.is_world;
+  holds = is.holds;
+  row = sym is.row ∙ ap (map declaration_view) (sym row_is);
+  found = ap (map type_names_view) found_is ∙ is.names.of_names.found;
+}

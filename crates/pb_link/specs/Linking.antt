@@ -1,10 +1,19 @@
 -- What linking answers: the types that files make where every rule holds.
-use Rattle.std.specs.Prelude.{◌≡◌, List}
+use Rattle.std.specs.Prelude.{◌≡◌, List, map}
 use Rattle.pb_schema.specs.Types.{Types}
 use Rattle.pb_decl.specs.Decls.{DeclaredFile}
-use Rattle.pb_rules.specs.Rules.{World}
+use Rattle.pb_names.specs.Declarations.{Declaration}
+use Rattle.pb_names.specs.Lookup.{Found}
+use Rattle.pb_rules.specs.Rules.{World, lookups}
 use Rattle.pb_rules.specs.Link.{IsWorldOf, NothingFails}
 use Rattle.pb_link.specs.PoolOf.{pool_of}
+
+-- in the world of these files nothing fails; they declare this row, and this is what its type names came to
+pub record IsLinked (files : List DeclaredFile) (row : List Declaration) (found : List (List Found)) (w : World) : Type 0 where
+  pub is_world : IsWorldOf files w
+  pub holds : NothingFails w
+  pub row : w.declared ≡ row
+  pub found : found ≡ map (lookups w) w.declared
 
 -- every rule holds of the files, and they make these types
 pub record Links (files : List DeclaredFile) (types : Types) : Type 0 where

@@ -9,12 +9,11 @@ ghost use Rattle.std.specs.Prelude.{◌≡◌, map, length, IfOk};
 ghost use Rattle.pb_decl.specs.View.{file_view};
 ghost use Rattle.pb_sets.specs.Flat.{lists_of};
 ghost use Rattle.pb_names.specs.Sees.{files_of};
-ghost use Rattle.pb_rules.specs.Rules.{World, lookups};
-ghost use Rattle.pb_rules.specs.Link.{IsWorldOf, NothingFails};
+ghost use Rattle.pb_rules.specs.Rules.{World};
 ghost use Rattle.pb_link.specs.PoolOf.{pool_of};
 ghost use Rattle.pb_names.specs.View.{declaration_view, type_names_view};
 ghost use Rattle.pb_rules.specs.Judged.{IsJudged};
-ghost use Rattle.pb_link.specs.Linking.{Links};
+ghost use Rattle.pb_link.specs.Linking.{IsLinked, Links};
 
 use crate::parts::files::files_of;
 use crate::parts::tables::{Tables, kinds};
@@ -37,10 +36,9 @@ pub(crate) fn linked_pool(
 ) -> Result<Pool, AllocError>
     requires imports { lists_of imports.now ≡ map (λ f. f.imports) (files_of (map file_view files.now)) }
     requires sizes { length found.now ≡ length row.now }
-    requires holds { (w : World) × IsWorldOf (map file_view files.now) w × NothingFails w × (w.declared ≡ map declaration_view row.now)
-        × (map type_names_view found.now ≡ map (lookups w) w.declared) }
-    ensures { (w : World) → IsWorldOf (map file_view files.now) w → NothingFails w → w.declared ≡ map declaration_view row.now
-        → map type_names_view found.now ≡ map (lookups w) w.declared → IfOk result (λ p. p ≡ pool_of (map file_view files.now) w) }
+    requires holds { (w : World) × IsLinked (map file_view files.now) (map declaration_view row.now) (map type_names_view found.now) w }
+    ensures { (w : World) → IsLinked (map file_view files.now) (map declaration_view row.now) (map type_names_view found.now) w
+        → IfOk result (λ p. p ≡ pool_of (map file_view files.now) w) }
 {
     let tables = Tables {
         files,

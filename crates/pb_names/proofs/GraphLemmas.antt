@@ -60,7 +60,7 @@ all_more targets i start old new r less at was now =
 pub map_more : {X Y : Type 0} (g : X → Y) (xs : List X) (i : ℕ) (x : X) → i < length xs → x ≡ get_or xs i x → map g (take (i + 1) xs) ≡ map g (take i xs) ++ g x ∷ []
 map_more g xs i x less is = ap (map g) (take_more xs i x less ∙ ap (λ z. take i xs ++ z ∷ []) (sym is)) ∙ map-append g (take i xs) (x ∷ [])
 
--- a flat graph that has these lists, and none open
+-- a flat graph that has these lists, and whose open list is empty
 pub record HasLists (lists : List (List ℕ)) (f : FlatGraph) : Type 0 where
   pub exact : lists_of f ≡ lists
   pub none_open : open_list f ≡ []

@@ -2,7 +2,6 @@
 
 ghost use Rattle.std.specs.Prelude.{◌≡◌, ◌<◌, ◌≤◌, ◌↔◌, ℕ, List, IsTrue, IfOk, OnOk, All, vec_len};
 ghost use Rattle.std.specs.List.{slice_index_or};
-ghost use Rattle.pb_sets.specs.Reach.{next_of};
 ghost use Rattle.pb_sets.specs.Flat.{lists_of};
 ghost use Rattle.pb_names.specs.Components.{Fits, work_left, number_of, NeverRise};
 ghost use Rattle.pb_names.specs.declared.components.Progress.TheVariants.{Numbered};

@@ -1,6 +1,6 @@
 //! Which files each file imports, by their indexes.
 
-ghost use Rattle.std.specs.Prelude.{◌≡◌, ◌&&◌, ◌++◌, ℕ, List, length, false, not, map, string_bytes};
+ghost use Rattle.std.specs.Prelude.{◌≡◌, ◌&&◌, ℕ, List, length, false, not, map, string_bytes};
 ghost use Rattle.std.specs.Prelude.{filter_map, option_and_then, option_to_list, slice_get, IfOk, OnOk};
 ghost use Rattle.std.specs.List.{slice_index_or};
 ghost use Rattle.pb_decl.specs.Decls.{DeclaredFile};

@@ -6,7 +6,7 @@ ghost use Rattle.pb_value.specs.Derives.{Text};
 ghost use Rattle.pb_value.specs.View.{body_view};
 ghost use Rattle.pb_value.specs.WellFormed.{IsWellFormed};
 
-use crate::heap::hold_heap;
+use crate::heap::keep_heap;
 use crate::reader::fill::fill;
 use pb_parts::open::part::Part;
 use pb_schema::{MessageId, Pool};
@@ -38,7 +38,7 @@ pub(crate) fn read_text(
     if !fill(alloc, pool, &mut top, bytes, size, room) {
         return None;
     }
-    hold_heap(alloc, bytes.len());
+    keep_heap(alloc, bytes.len());
     match top {
         Part::Message(_kind, body) => { Some(body) }
         Part::Entry {

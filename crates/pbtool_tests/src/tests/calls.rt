@@ -17,6 +17,12 @@ const SET: &str = "0a240a076d2e70726f746f22110a014d120c0a01611801200128055201616
 
 const MESSAGE: &[u8] = b"\x08\x96\x01";
 
+/// The same message behind its length.
+const FRAME: &[u8] = b"\x03\x08\x96\x01";
+
+/// What a command comes to: the exit status, and what goes to standard output and to standard error.
+type Comes = (u8, &'static [u8], &'static [u8]);
+
 fn output(alloc: Global) -> MemOutput {
     MemOutput::new(alloc, 1, FailurePlan::NEVER)
 }
@@ -61,23 +67,24 @@ fn message(rt: HostRuntime) -> Result<(), Fail> {
     Ok(())
 }
 
-/// The status of a command over the set and the message, and whether this is all that it writes; by `execute` where nothing is told
-/// of what comes behind it.
-fn done(
+/// Whether a command over the set, the message and its frame comes to this; by `execute` where nothing is told of what comes behind
+/// it.
+fn is_done(
     alloc: Global,
     afterwards: Option<Afterwards>,
     command: &Command<'_>,
-    printed: &[u8],
-) -> Result<(u8, bool), Fail> {
+    comes: Comes,
+) -> Result<bool, Fail> {
     let bytes = hex::decode(alloc, SET)?;
-    let mut files = files_of(alloc, &[("s", bytes.as_slice()), ("f", MESSAGE)], NONE)?;
+    let entries = [("s", bytes.as_slice()), ("f", MESSAGE), ("g", FRAME)];
+    let mut files = files_of(alloc, &entries, NONE)?;
     let mut out = output(alloc);
     let mut err = output(alloc);
     let status = match afterwards {
         None => execute(alloc, command, &mut files, &mut out, &mut err),
         Some(it) => execute_then(alloc, it, command, &mut files, &mut out, &mut err),
     };
-    Ok((status, out.bytes() == printed && err.bytes().is_empty()))
+    Ok(status == comes.0 && out.bytes() == comes.1 && err.bytes() == comes.2)
 }
 
 #[test]
@@ -88,10 +95,35 @@ fn commands(rt: HostRuntime) -> Result<(), Fail> {
         type_name: "M",
         file: "f",
     };
+    let frames = Source {
+        file: "g",
+        ..source
+    };
+    let unknown = Source {
+        type_name: "N",
+        ..source
+    };
+    let rows: [(Command<'_>, Comes); 6] = [
+        (Command::Show { source }, (0, b"a: 150\n", b"")),
+        (Command::Check { source }, (0, b"ok\n", b"")),
+        (Command::Canon { out: None, source }, (0, b"089601\n", b"")),
+        (
+            Command::Frames { source: frames },
+            (0, b"frame 0 at 0 size 4\n  a: 150\n", b""),
+        ),
+        (
+            Command::Check { source: frames },
+            (1, b"", b"byte 0 path - cause NumberZero\n"),
+        ),
+        (
+            Command::Check { source: unknown },
+            (1, b"", b"type N unknown\n"),
+        ),
+    ];
     for afterwards in [None, Some(Afterwards::GoesOn), Some(Afterwards::Ends)] {
-        let shown = done(alloc, afterwards, &Command::Show { source }, b"a: 150\n")?;
-        let checked = done(alloc, afterwards, &Command::Check { source }, b"ok\n")?;
-        assert!(rt; shown == (0, true) && checked == (0, true));
+        for (command, comes) in rows {
+            assert!(rt; is_done(alloc, afterwards, &command, comes)?, "{command:?}");
+        }
     }
     Ok(())
 }

@@ -1,7 +1,8 @@
-use Rattle.std.proofs.Common.{◌≡◌, rules, map, ap, sym, ◌∙◌}
+use Rattle.std.proofs.Common.{◌≡◌, rules, map, ap, ◌∙◌}
+use Rattle.pb_decl.specs.View.{file_view}
 use Rattle.pb_names.specs.View.{declaration_view, type_names_view}
 use Rattle.pb_rules.specs.Rules.{lookups}
-use Rattle.pb_link.proofs.LinkLemmas.{as_many}
+use Rattle.pb_link.proofs.LinkLemmas.{as_many, judged_linked}
 use Rattle.pb_link.proofs.parts.pool_of_names.Goals as goal
 
 pub linked_pool-requires-clause-imports : goal.linked_pool-requires-clause-imports
@@ -16,10 +17,9 @@ linked_pool-requires-clause-sizes c =
 
 pub linked_pool-requires-clause-holds : goal.linked_pool-requires-clause-holds
 linked_pool-requires-clause-holds c =
-    let j = c.requires in
     let row : c.as_slice-row.result.now ≡ c.args.judged.now.row.items = search rules in
     let found : c.as_slice-found.result.now ≡ c.args.judged.now.names.found.items = search rules in
-    (j.world, j.is_world, j.holds, sym j.row ∙ ap (map declaration_view) (sym row), ap (map type_names_view) found ∙ j.names.of_names.found)
+    (c.requires.world, judged_linked (map file_view c.args.files.now) c.args.judged.now c.as_slice-row.result.now c.as_slice-found.result.now c.requires row found)
 
 pub returns-in-Ok : goal.returns-in-Ok
 returns-in-Ok c =
@@ -30,5 +30,5 @@ returns-in-Ok c =
       world = j.world;
       is_world = j.is_world;
       holds = j.holds;
-      made = c.in-Ok.ensures j.world j.is_world j.holds (sym j.row ∙ ap (map declaration_view) (sym row)) (ap (map type_names_view) found ∙ j.names.of_names.found);
+      made = c.in-Ok.ensures j.world (judged_linked (map file_view c.args.files.now) c.args.judged.now c.as_slice-row.result.now c.as_slice-found.result.now j row found);
     }
