@@ -6,8 +6,8 @@ A file FOLDER/SIZE/TYPE/SHAPE has texts of one shape and of about one size, each
 10 MB, one of 2 MB, 4 KB each, and 30 to 500 bytes each, the last two 2 MB together. SCALE, as 0.1, makes the files smaller.
 
 Each text of the types Texts and Old is the canonical bytes of its message: fields by rising number, map entries by rising key, the shortest
-spelling of each record. So what a codec encodes again is the text itself. Not so those in a folder Old.decode, which have undeclared
-numbers of closed enums inside runs of declared ones."""
+spelling of each record. So what a codec encodes again is the text itself. Not so those in a folder TYPE.decode, which are decoded
+alone: in Old.decode undeclared numbers of closed enums stand inside runs of declared ones, in Texts.decode the entries of maps in no order."""
 import os
 import sys
 

@@ -9,11 +9,11 @@ use Rattle.pb_rules.specs.Link.{IsWorldOf, NothingFails}
 use Rattle.pb_link.specs.PoolOf.{pool_of}
 
 -- in the world of these files nothing fails; they declare this row, and this is what its type names came to
-pub record IsLinked (files : List DeclaredFile) (row : List Declaration) (found : List (List Found)) (w : World) : Type 0 where
+pub record IsLinked (files : List DeclaredFile) (ds : List Declaration) (names : List (List Found)) (w : World) : Type 0 where
   pub is_world : IsWorldOf files w
   pub holds : NothingFails w
-  pub row : w.declared ≡ row
-  pub found : found ≡ map (lookups w) w.declared
+  pub row : w.declared ≡ ds
+  pub found : names ≡ map (lookups w) w.declared
 
 -- every rule holds of the files, and they make these types
 pub record Links (files : List DeclaredFile) (types : Types) : Type 0 where
