@@ -1,5 +1,5 @@
 -- Rows that pin how deep messages stand in each other, and what it is to have one meaning or one fault.
-use Rattle.std.proofs.Common.{◌≡◌, refl, [], false}
+use Rattle.std.proofs.Common.{◌≡◌, ◌⊎◌, refl, [], false}
 use Rattle.pb_decl.specs.Decls.{DeclaredMessage, message, DeclaredMessages, no_messages, more_messages}
 use Rattle.pb_decl.specs.Nests.{nests, all_nest}
 use Rattle.pb_decl.specs.One.{ExactlyOne}
@@ -26,6 +26,12 @@ deepest_last = refl
 
 deepest_first : all_nest (more_messages two_deep (more_messages alone no_messages)) ≡ 2
 deepest_first = refl
+
+meaning_or_fault : {A B : Type 0} {Means : A → Type 0} {Fails : B → Type 0} → ExactlyOne Means Fails → ((v : A) × Means v) ⊎ ((f : B) × Fails f)
+meaning_or_fault one = one.either
+
+never_both : {A B : Type 0} {Means : A → Type 0} {Fails : B → Type 0} → ExactlyOne Means Fails → (v : A) (f : B) → Means v → Fails f → ⊥
+never_both one v f means fails = one.not_both v f means fails
 
 same_meaning : {A B : Type 0} {Means : A → Type 0} {Fails : B → Type 0} → ExactlyOne Means Fails → (v w : A) → Means v → Means w → v ≡ w
 same_meaning one v w first second = one.one_meaning v w first second

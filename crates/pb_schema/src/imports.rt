@@ -10,11 +10,11 @@ use pb_sets::reach::Graph;
 
 /// Files, each of which leads to those that it imports.
 #[derive(Clone, Copy)]
-pub(crate) struct Files<'a> {
+pub(crate) struct ImportGraph<'a> {
     pub(crate) files: &'a [FileInfo],
 }
 
-impl Graph for Files<'_> {
+impl Graph for ImportGraph<'_> {
     ghost lists = { λ g. map (λ f. f.imports.items) g.files.now };
 
     fn len(&self) -> usize {

@@ -74,7 +74,8 @@ impl Pool {
         Ok(pool)
     }
 
-    /// The pool of parts of which every rule is known to hold. Nothing is judged.
+    /// The pool of parts of which every rule is known to hold. Nothing is judged: only the tables are made that names and numbers are
+    /// looked up by. The only error is that memory is refused.
     pub fn from_known_parts(
         alloc: Global,
         files: Vec<FileInfo>,

@@ -29,7 +29,7 @@ impl FlatGraph {
     /// No list yet, with room for so many.
     pub fn with_capacity(alloc: Global, lists: usize) -> Result<FlatGraph, AllocError>
         ensures lists { IfOk result (λ f. lists_of f ≡ []) }
-        ensures open_one { IfOk result (λ f. open_list f ≡ []) }
+        ensures empty { IfOk result (λ f. open_list f ≡ []) }
         ensures laid { IfOk result IsLaid }
     {
         Ok(FlatGraph {
@@ -51,7 +51,7 @@ impl FlatGraph {
     pub fn end_list(&mut self) -> Result<(), AllocError>
         requires { IsLaid self.old }
         ensures lists { OnOk result (lists_of self.new ≡ lists_of self.old ++ open_list self.old ∷ []) }
-        ensures open_one { OnOk result (open_list self.new ≡ []) }
+        ensures empty { OnOk result (open_list self.new ≡ []) }
         ensures laid { OnOk result (IsLaid self.new) }
     {
         self.ends.push(self.targets.len())?;

@@ -1,6 +1,7 @@
-//! What several crates keep sets by: names, each once, what is reached along a graph, and whether it has a cycle.
+//! What several crates keep sets and graphs by: names, each once, a graph whose lists stand in one, what is reached along a graph, and
+//! whether it has a cycle.
 //!
-//! An inner crate: `pb_schema`, `pb_names`, `pb_rules` and `pb_command` stand on it.
+//! An inner crate: `pb_schema`, `pb_names`, `pb_rules`, `pb_link` and `pb_command` stand on it.
 #![tactic(auto)]
 
 pub mod cycles;

@@ -1,4 +1,4 @@
-//! What is reached along a graph from some of its indexes.
+//! What a graph is, and what is reached along it from some of its indexes.
 
 ghost use Rattle.std.specs.Prelude.{◌≡◌, ◌<◌, ◌↔◌, [], ◌∷◌, ℕ, List, IsTrue, All, Contains, IfOk, OnOk, length, vec_len};
 ghost use Rattle.pb_sets.specs.Reach.{next_of, IsGraph, Reached, is_marked, IsListed, IsClear, Marks};

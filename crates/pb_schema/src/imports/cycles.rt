@@ -4,7 +4,7 @@ ghost use Rattle.std.specs.Prelude.{◌↔◌, IsTrue, IfOk, map};
 ghost use Rattle.pb_schema.specs.View.{file_view};
 ghost use Rattle.pb_schema.specs.Rules.{ImportsNameFiles, NoFileReachesItself};
 
-use crate::imports::Files;
+use crate::imports::ImportGraph;
 use crate::types::FileInfo;
 use pb_sets::cycles::is_acyclic;
 use pb_sets::flat::FlatGraph;
@@ -14,7 +14,7 @@ pub(crate) fn no_file_reaches_itself(alloc: Global, files: &[FileInfo]) -> Resul
     requires { ImportsNameFiles (map file_view files.now) }
     ensures { IfOk result (λ holds. IsTrue holds ↔ NoFileReachesItself (map file_view files.now)) }
 {
-    let flat = FlatGraph::copy_of(alloc, &Files { files })?;
+    let flat = FlatGraph::copy_of(alloc, &ImportGraph { files })?;
     let holds = is_acyclic(alloc, &flat)?;
     Ok(holds)
 }

@@ -6,7 +6,7 @@ ghost use Rattle.pb_schema.specs.Imports.{IsSeen};
 ghost use Rattle.pb_schema.specs.Imports.Sight.{KnowsSight};
 ghost use Rattle.pb_schema.specs.Rules.{ImportsNameFiles};
 
-use crate::imports::Files;
+use crate::imports::ImportGraph;
 use crate::types::FileInfo;
 use pb_sets::reach::{Graph, Reach};
 use std::alloc::{AllocError, Global};
@@ -42,7 +42,7 @@ impl Sight {
         if self.file == Some(file) {
             return Ok(());
         }
-        self.reach.start(Files { files }.next(file))?;
+        self.reach.start(ImportGraph { files }.next(file))?;
         self.file = Some(file);
         self.is_whole = false;
         Ok(())
@@ -59,7 +59,7 @@ impl Sight {
         if self.is_whole {
             return Ok(());
         }
-        self.reach.follow(&Files { files })?;
+        self.reach.follow(&ImportGraph { files })?;
         self.is_whole = true;
         Ok(())
     }

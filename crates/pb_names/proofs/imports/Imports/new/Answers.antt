@@ -16,8 +16,8 @@ loop-file-preserved c =
     let public = c.in_ok-push_imports.ensures.public (map file_view files) c.in_ok-firsts.ensures.named in
     let ended = c.in_ok-end_list.ensures in
     let ended_too = c.in_ok-end_list-2.ensures in (
-      list_ended (imports_in files) files c.loop-file.file-index c.file-item.result c.loop-file.all c.push_imports.new.all c.end_list.new.self c.loop-file-test.true c.file-item.is c.loop-file.invariant.0 all ended.lists ended.open_one ended.laid,
-      list_ended (public_in files) files c.loop-file.file-index c.file-item.result c.loop-file.public c.push_imports.new.public c.end_list-in-loop-file.new.self c.loop-file-test.true c.file-item.is c.loop-file.invariant.1 public ended_too.lists ended_too.open_one ended_too.laid,
+      list_ended (imports_in files) files c.loop-file.file-index c.file-item.result c.loop-file.all c.push_imports.new.all c.end_list.new.self c.loop-file-test.true c.file-item.is c.loop-file.invariant.0 all ended.lists ended.empty ended.laid,
+      list_ended (public_in files) files c.loop-file.file-index c.file-item.result c.loop-file.public c.push_imports.new.public c.end_list-in-loop-file.new.self c.loop-file-test.true c.file-item.is c.loop-file.invariant.1 public ended_too.lists ended_too.empty ended_too.laid,
     )
 
 pub returns-clause-exact : goal.returns-clause-exact

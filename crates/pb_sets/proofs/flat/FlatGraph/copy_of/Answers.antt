@@ -19,6 +19,6 @@ loop-index-preserved g c =
           ∙ ap (λ (l : List ℕ). lists_of longer ++ l ∷ []) list
           ∙ ap (λ (ls : List (List ℕ)). ls ++ next_of lists i ∷ []) (more.lists ∙ c.loop-index.invariant.0)
           ∙ lists_next lists i less,
-      c.in_ok-end_list.ensures.open_one,
+      c.in_ok-end_list.ensures.empty,
       c.in_ok-end_list.ensures.laid,
     )

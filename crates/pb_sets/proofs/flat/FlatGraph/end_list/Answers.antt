@@ -9,8 +9,8 @@ returns-clause-lists c =
     let end : c.len.result ≡ length f.targets.items = omega (arith, c.len.ensures, f.targets.ok.0) in
     ap (parts_of f.targets.items 0) (c.in_ok-push.ensures.items ∙ ap (λ n. f.ends.items ++ n ∷ []) end) ∙ parts_end f.targets.items 0 f.ends.items
 
-pub returns-clause-open_one : goal.returns-clause-open_one
-returns-clause-open_one c =
+pub returns-clause-empty : goal.returns-clause-empty
+returns-clause-empty c =
     let f = c.args.self.now in
     let end : c.len.result ≡ length f.targets.items = omega (arith, c.len.ensures, f.targets.ok.0) in
     ap (behind_parts f.targets.items 0) (c.in_ok-push.ensures.items ∙ ap (λ n. f.ends.items ++ n ∷ []) end) ∙ none_behind f.targets.items 0 f.ends.items
