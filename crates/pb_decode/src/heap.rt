@@ -4,37 +4,66 @@ use std::alloc::{AllocError, Global};
 
 /// What is held of a text of so many bytes may be more than glibc's malloc leaves free at the heap's end, which is 128 KB at first.
 const LARGE: usize = 8192;
-/// How many freed blocks of one size that malloc keeps for a thread, and one more: so one of them is new.
-const BLOCKS: usize = 8;
+/// A list of so many entries leaves a hole of that size.
+const MANY: usize = 1024;
+/// An entry of a list takes no more bytes.
+const ENTRY: usize = 96;
+/// malloc maps blocks of 32 MB by themselves: they leave no hole, and stand in none.
+const MOST: usize = 33_000_000;
+/// How many freed blocks of one size malloc keeps for a thread.
+const KEPT: usize = 7;
 /// A size that few values take, within those that malloc keeps for a thread, up to 1,032 bytes.
 const SIZE: usize = 1000;
 
-/// Takes some small blocks, one of them new at least: where no hole has room for it, it stands behind all that was taken before.
-fn take_blocks(alloc: Global) -> Result<Vec<Vec<u8>>, AllocError> {
-    let mut blocks = Vec::with_capacity(alloc, BLOCKS)?;
-    for _ in 0..BLOCKS {
+/// Takes a small block behind all that was taken before, where no hole has this many bytes: a block of as many, cut to a small one.
+fn last_block(alloc: Global, hole: usize) -> Result<Vec<u8>, AllocError> {
+    // malloc may map a block so large by itself. Once one was freed it takes the next from the heap.
+    let mapped: Vec<u8> = Vec::with_capacity(alloc, hole)?;
+    drop(mapped);
+    let mut block = Vec::with_capacity(alloc, hole)?;
+    block.shrink_to(SIZE);
+    Ok(block)
+}
+
+/// Takes the small blocks that malloc keeps, and one behind all that was taken before, which is the last one.
+fn take_blocks(alloc: Global, hole: usize) -> Result<Vec<Vec<u8>>, AllocError> {
+    let mut blocks = Vec::with_capacity(alloc, KEPT + 1)?;
+    for _ in 0..KEPT {
         blocks.push(Vec::with_capacity(alloc, SIZE)?)?;
     }
+    blocks.push(last_block(alloc, hole)?)?;
     Ok(blocks)
 }
 
-/// Frees blocks, the last one first, so that the new one is among those that malloc keeps.
+/// Frees blocks, the last one first, so that it is among those that malloc keeps.
 fn free_blocks(mut blocks: Vec<Vec<u8>>) {
-    for _ in 0..BLOCKS {
+    for _ in 0..=KEPT {
         drop(blocks.pop());
     }
 }
 
-/// Takes small blocks behind what a text of so many bytes was read into, where these are many, and frees them at once.
+/// Takes small blocks behind all that was taken before, where no hole has this many bytes, and frees them at once.
 ///
 /// glibc's malloc gives what lies free at the heap's end back to the system, and a process that reads one large message behind another
 /// would have all its pages made anew for each. A freed block that malloc keeps for the thread isn't free to it, so what lies before
 /// it stays. Where memory is refused nothing is taken.
-pub(crate) fn keep_heap(alloc: Global, size: usize) {
-    if size < LARGE {
-        return;
-    }
-    if let Ok(blocks) = take_blocks(alloc) {
+fn hold_end(alloc: Global, hole: usize) {
+    if let Ok(blocks) = take_blocks(alloc, hole) {
         free_blocks(blocks);
+    }
+}
+
+/// Keeps what a text of so many bytes was read into, where these are many.
+pub(crate) fn keep_heap(alloc: Global, size: usize) {
+    if size >= LARGE {
+        hold_end(alloc, SIZE);
+    }
+}
+
+/// Keeps what entries were put into a map of, where these are many. The list that they were read into is free by now, which had room
+/// for so many: a small block would come to stand in its place, before what was taken since.
+pub(crate) fn keep_heap_behind_list(alloc: Global, entries: usize) {
+    if entries >= MANY {
+        hold_end(alloc, entries.saturating_mul(ENTRY).min(MOST));
     }
 }

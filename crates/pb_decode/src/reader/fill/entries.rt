@@ -13,6 +13,7 @@ ghost use Rattle.pb_decode.specs.Reader.Pairs.{AddsPair};
 use super::direct_pair::{Pair, direct_pair, put_pair};
 use super::entries_ahead::entries_ahead;
 use super::{fill, fill_entry};
+use crate::heap::keep_heap_behind_list;
 use crate::reader::quick_record::{length_behind, payload_behind};
 use pb_parts::close::closing::{key_or_default, value_or_missing};
 use pb_parts::close::put_entries::put_entries;
@@ -309,8 +310,12 @@ pub(super) fn fill_entries(
     if tried != 0 || size < tag.size {
         return None;
     }
+    let held = entries.capacity();
     match put_entries(alloc, part, tag.number, entries) {
-        Ok(()) => Some(size),
+        Ok(()) => {
+            keep_heap_behind_list(alloc, held);
+            Some(size)
+        }
         Err(NoMemory) => None,
     }
 }
