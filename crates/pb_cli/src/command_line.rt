@@ -1,13 +1,13 @@
 //! From the words of the command line to the exit status.
 
 ghost use Rattle.std.specs.Prelude.{◌≡◌, ◌≢◌, ◌⊎◌, [], false, Any, Some};
-ghost use Rattle.clap.specs.Words.{fault_of, found_of, kind_of, rows_of, subcommand_name_of, subcommand_of, subcommand_rows_of, takes};
-ghost use Rattle.pb_command.specs.Answer.{RunsOut};
+ghost use Rattle.clap.specs.Words.{fault_of, found_of, kind_of, rows_of, subcommand_name_of, subcommand_rows_of, takes};
 ghost use Rattle.pb_command.specs.Answers.{Does};
 ghost use Rattle.pb_command.specs.CompileAnswer.{texts_of};
-ghost use Rattle.pb_command.specs.FileMap.{IsHonest, IsSaved, IsUnsaved, KeepsMap};
+ghost use Rattle.pb_command.specs.FileMap.{IsHonest, IsSaved, IsUnsaved};
 ghost use Rattle.pb_command.specs.Report.{memory_line};
 ghost use Rattle.pb_output.specs.Sending.{Cut, Sent, SentOrCut};
+ghost use Rattle.pb_cli.specs.Running.{DoesNamed, RefusesWords};
 ghost use Rattle.pb_cli.specs.Words.{AreRoots, IsMatched, IsSource, flag_of, value_of, values_of, tool, tool_names, words_of};
 ghost use Rattle.pb_command.specs.declared.command.Command.{Command as Told};
 
@@ -29,17 +29,13 @@ pub fn run<F: Files, O: Output, E: Output>(
 ) -> u8
     // Where the words are taken, the command that they name is done, unless memory runs out before.
     ensures taken { fault_of tool (words_of args.now) ≡ []
-        → RunsOut (Sent O.written O.failures out.old out.new) (SentOrCut E.written E.failures err.old err.new)
-        (IsSaved F.contents files.old files.new) result
-        ⊎ ((command : Told) × IsMatched (subcommand_of tool (words_of args.now)) command
-        × Does (Sent O.written O.failures out.old out.new) (Cut O.written O.failures out.old out.new)
+        → DoesNamed (Sent O.written O.failures out.old out.new) (Cut O.written O.failures out.old out.new)
         (SentOrCut E.written E.failures err.old err.new) (IsSaved F.contents files.old files.new)
-        (IsUnsaved F.contents F.failures files.old files.new) result (IsHonest F.contents F.is_steady files.old) command) }
+        (IsUnsaved F.contents F.failures files.old files.new) result (IsHonest F.contents F.is_steady files.old) (words_of args.now) }
 
     // Where they are not taken, nothing goes to standard output.
     ensures refused { fault_of tool (words_of args.now) ≢ []
-        → ((result ≡ 2) × Sent O.written O.failures out.old out.new [] × KeepsMap (F.contents files.old) (F.contents files.new))
-        ⊎ RunsOut (Sent O.written O.failures out.old out.new) (SentOrCut E.written E.failures err.old err.new)
+        → RefusesWords (Sent O.written O.failures out.old out.new) (SentOrCut E.written E.failures err.old err.new)
         (IsSaved F.contents files.old files.new) result }
     ensures usage { result ≡ 2 → (fault_of tool (words_of args.now) ≢ []) × (takes tool (words_of args.now) ≡ false) }
 
@@ -61,17 +57,13 @@ pub fn run_then<F: Files, O: Output, E: Output>(
 ) -> u8
     // Where the words are taken, the command that they name is done, unless memory runs out before.
     ensures taken { fault_of tool (words_of args.now) ≡ []
-        → RunsOut (Sent O.written O.failures out.old out.new) (SentOrCut E.written E.failures err.old err.new)
-        (IsSaved F.contents files.old files.new) result
-        ⊎ ((command : Told) × IsMatched (subcommand_of tool (words_of args.now)) command
-        × Does (Sent O.written O.failures out.old out.new) (Cut O.written O.failures out.old out.new)
+        → DoesNamed (Sent O.written O.failures out.old out.new) (Cut O.written O.failures out.old out.new)
         (SentOrCut E.written E.failures err.old err.new) (IsSaved F.contents files.old files.new)
-        (IsUnsaved F.contents F.failures files.old files.new) result (IsHonest F.contents F.is_steady files.old) command) }
+        (IsUnsaved F.contents F.failures files.old files.new) result (IsHonest F.contents F.is_steady files.old) (words_of args.now) }
 
     // Where they are not taken, nothing goes to standard output.
     ensures refused { fault_of tool (words_of args.now) ≢ []
-        → ((result ≡ 2) × Sent O.written O.failures out.old out.new [] × KeepsMap (F.contents files.old) (F.contents files.new))
-        ⊎ RunsOut (Sent O.written O.failures out.old out.new) (SentOrCut E.written E.failures err.old err.new)
+        → RefusesWords (Sent O.written O.failures out.old out.new) (SentOrCut E.written E.failures err.old err.new)
         (IsSaved F.contents files.old files.new) result }
     ensures usage { result ≡ 2 → (fault_of tool (words_of args.now) ≢ []) × (takes tool (words_of args.now) ≡ false) }
 

@@ -1,0 +1,20 @@
+-- What a run of the program comes to, by its words.
+use Rattle.std.specs.Prelude.{◌≡◌, ◌⊎◌, ℕ, List, [], Option, None}
+use Rattle.clap.specs.Words.{Text, subcommand_of}
+use Rattle.pb_command.specs.Answer.{RunsOut}
+use Rattle.pb_command.specs.Answers.{Does}
+use Rattle.pb_command.specs.FileMap.{FileMap}
+use Rattle.pb_command.specs.declared.command.Command.{Command}
+use Rattle.pb_cli.specs.Words.{IsMatched, tool}
+
+-- The command that the words name is done, unless memory runs out before. What is said of its end is told in pb_command's specs/Answer.antt.
+abbrev pub DoesNamed :
+    (List ℕ → Type 0) → (List ℕ → Type 0) → (List ℕ → Type 0) → (Option (List ℕ × List ℕ) → Type 0) → (List ℕ → Type 0) → ℕ
+    → (FileMap → Type 0) → List Text → Type 0
+DoesNamed Out Cut Told Saved Unsaved status IsMap words =
+    RunsOut Out Told Saved status
+    ⊎ ((command : Command) × IsMatched (subcommand_of tool words) command × Does Out Cut Told Saved Unsaved status IsMap command)
+
+-- The words are refused: nothing goes to standard output, no file is written, and the status is 2, unless memory runs out before.
+abbrev pub RefusesWords : (List ℕ → Type 0) → (List ℕ → Type 0) → (Option (List ℕ × List ℕ) → Type 0) → ℕ → Type 0
+RefusesWords Out Told Saved status = ((status ≡ 2) × Out [] × Saved None) ⊎ RunsOut Out Told Saved status
