@@ -1,18 +1,33 @@
 # What dist/program, dist/library, dist/release, .ci/library and .ci/run share: what was made of what. Whoever reads this in has set `top`, the
 # repository's folder.
 
-# A hash of all that the program and the library are proved and built of: crates.txt, HANDLES, and each file in src, specs and proofs of a
-# crate, by their paths and bytes alone, in the order of the paths' bytes. So it is the same in each clone, whatever the locale, the modes and
-# the times.
+# The folders of sources of a crate of this repository and of those that it stands on: src, specs and proofs. Whoever calls it is in `top`.
+source_folders() {
+    local name part
+    for name in $(stack "$1"); do
+        for part in src specs proofs; do
+            if [ -d "crates/$name/$part" ]; then echo "crates/$name/$part"; fi
+        done
+    done
+}
+
+# The lines of crates.txt of a crate and of those that it stands on.
+crate_lines() {
+    stack "$1" | sed 's/.*/^&[ :]/' | grep -f - "$top/crates.txt"
+}
+
+# A hash of all that a crate is proved and built of (the program: pbtool; the library: pb_c): its lines of crates.txt, HANDLES, and each file in
+# src, specs and proofs of its crates, by their paths and bytes alone, in the order of the paths' bytes. So it is the same in each clone,
+# whatever the locale, the modes and the times, and no other crate changes it.
 sources_hash() {
     (
         cd "$top"
         export LC_ALL=C
-        find crates.txt HANDLES crates/*/src crates/*/specs crates/*/proofs -type f -print0 | sort -z | xargs -0 sha256sum | sha256sum | cut -d' ' -f1
+        { crate_lines "$1" | sort; find HANDLES $(source_folders "$1") -type f -print0 | sort -z | xargs -0 sha256sum; } | sha256sum | cut -d' ' -f1
     )
 }
 
-# What is recorded in a file, by its first word: recorded sources|program|archive|shared|header|objcopy|machine|kit FILE.
+# What is recorded in a file, by its first word: recorded sources|program|library|archive|shared|header|objcopy|machine|kit FILE.
 recorded() {
     sed -n "s/^$1 //p" "$2" 2>/dev/null
 }
@@ -21,9 +36,9 @@ sum_of() {
     sha256sum <"$1" | cut -d' ' -f1
 }
 
-# What is recorded of a program that was made here: the hashes of the tree's sources and of the program, the machine and the kit.
+# What is recorded of a program that was made here: the hashes of its sources and of the program, the machine and the kit.
 record() {
-    echo "sources $(sources_hash)"
+    echo "sources $(sources_hash pbtool)"
     echo "program $(sum_of "$1")"
     echo "machine $(uname -sm)"
     echo "kit $(rt version)"
@@ -31,7 +46,7 @@ record() {
 
 # The same of a library in a folder, with its header and with the one tool that neither the kit nor this repository has.
 record_library() {
-    echo "sources $(sources_hash)"
+    echo "library $(sources_hash pb_c)"
     echo "archive $(sum_of "$1/libmabristu.a")"
     echo "shared $(sum_of "$1/libmabristu.so")"
     echo "header $(sum_of "$top/include/mabristu.h")"
@@ -42,23 +57,30 @@ record_library() {
 
 # Whether a folder has a library that the record says was made of these sources, with this header.
 is_of_these() {
-    [ -f "$1/libmabristu.so" ] && [ "$(recorded sources "$2")" = "$(sources_hash)" ] && [ "$(recorded header "$2")" = "$(sum_of "$top/include/mabristu.h")" ]
+    [ -f "$1/libmabristu.so" ] && [ "$(recorded library "$2")" = "$(sources_hash pb_c)" ] && [ "$(recorded header "$2")" = "$(sum_of "$top/include/mabristu.h")" ]
 }
 
 # The crates of this repository that a crate stands on, lowest first, and the crate itself.
 stack() {
-    stacked "$1" | awk '!seen[$0]++'
-}
-
-stacked() {
-    local name
-    for name in $(sed -n "s/#.*//; s/^$1\( [^:]*\)\?://p" "$top/crates.txt"); do
-        if [ -d "$top/crates/$name" ]; then stacked "$name"; fi
-    done
-    echo "$1"
+    awk -v of="$1" '
+        function visit(name, count, its, at) {
+            if (name in seen) return
+            seen[name]
+            count = split(below[name], its, " ")
+            for (at = 1; at <= count; at++) if (its[at] in below) visit(its[at])
+            print name
+        }
+        { sub(/#.*/, "") }
+        /:/ { split($0, sides, ":"); split(sides[1], head, " "); below[head[1]] = sides[2] }
+        END { visit(of) }' "$top/crates.txt"
 }
 
 # Whether what .ci/library takes beside the kit is there.
 has_binutils() {
     command -v objcopy >/dev/null && command -v nm >/dev/null
+}
+
+# The number of the library's interface, which is that of its shared object's name for the loader.
+interface() {
+    sed -n 's/^#define MB_INTERFACE //p' "$top/include/mabristu.h"
 }
