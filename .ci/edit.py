@@ -11,7 +11,7 @@ EDITS = f"{TOP}/.ci/edits"
 # A proof file that names what an edit took away, and what cites that proof: by itself it says little of a contract.
 TAKEN_AWAY = re.compile(r"(\./)?proofs/.*(has no field|is not in scope|has no `|was not admitted)")
 # The head of a function, and that of an `impl` with its trait, if any, and its type.
-HEAD = re.compile(r"( *)(?:pub(?:\((?:crate|super)\))? )?(?:const )?fn (\w+)")
+HEAD = re.compile(r"( *)(?:pub(?:\((?:crate|super)\))? )?(?:const )?(?:extern \"C\" )?fn (\w+)")
 IMPL = re.compile(r"impl(?:<.*?>)? (?:(?:\w+::)*(\w+).*? for )?(?:\w+::)*(\w+)")
 
 
@@ -62,10 +62,10 @@ def chosen(words, gate, beside=EDITS):
     return found
 
 
-def folder_of_edits(words):
-    """The folder of the edits beside the gate, which `--from FOLDER` in front of the words names, and the words behind it."""
+def folder_of_edits(words, otherwise=EDITS):
+    """The folder of the edits beside the gate, which `--from FOLDER` in front of the words names, and the words after it."""
     if words[:1] != ["--from"]:
-        return EDITS, words
+        return otherwise, words
     if len(words) < 2 or not os.path.isdir(words[1]):
         sys.exit("--from: no such folder")
     return os.path.abspath(words[1]), words[2:]
