@@ -9,6 +9,8 @@ mod KindRows
 mod FaultRows
 -- for the law of packed lists: the numbers of a packed payload
 pub mod PackedLemmas
+-- for the law of a fault's path: which messages lie at the level of what holds them
+pub mod StepLemmas
 -- ---- the rules
 -- for `is_package`: a package's name, read from some byte on
 pub mod WordLemmas

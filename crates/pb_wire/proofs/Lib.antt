@@ -41,6 +41,8 @@ pub mod ExactLemmas
 pub mod Longer
 -- for the law of a fault's byte: where a fault is told, between the place that is read from and the end of the input
 pub mod FaultBounds
+-- for the law of a fault's path: how many steps it has, by the levels left
+pub mod PathBounds
 -- ---- records without memory
 -- for the groups that an iterator holds open, one inside another
 pub mod Nesting

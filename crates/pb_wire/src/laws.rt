@@ -1,13 +1,13 @@
 //! Laws of the spellings.
 
-ghost use Rattle.std.specs.Prelude.{◌≡◌, ◌++◌, ◌≢◌, ◌<◌, ◌≤◌, ◌^◌, ◌⊎◌, ℕ, List, length, All, None};
+ghost use Rattle.std.specs.Prelude.{◌≡◌, ◌++◌, ◌≢◌, ◌+◌, ◌*◌, ◌<◌, ◌≤◌, ◌^◌, ◌⊎◌, ℕ, List, length, All, None};
 ghost use Rattle.pb_wire.specs.Ranges.{IsByte, AreInRange};
 ghost use Rattle.pb_wire.specs.Exact.{IsRead, Exactly, IsFrame, ending_at, IsSomeText, schema, longer, IsCut};
 ghost use Rattle.pb_wire.specs.Fault.{Fault, Place, input_end};
 ghost use Rattle.pb_wire.specs.Grammar.{Bad, HasFault};
 ghost use Rattle.pb_wire.specs.declared.fault.Cause.TheVariants.{InputTooLarge};
 ghost use Rattle.pb_wire.specs.Limits.{Bounds};
-ghost use Rattle.pb_wire.specs.Schema.{Reading, Open, records, open_group};
+ghost use Rattle.pb_wire.specs.Schema.{Reading, Open, records, context_of, open_group, UsesLevels, NestsOnce};
 ghost use Rattle.pb_wire.specs.Inside.{records_spelled, AreNumbered};
 ghost use Rattle.pb_wire.specs.Record.{Record};
 ghost use Rattle.pb_wire.specs.Spell.{AreRecords, shortest_records};
@@ -55,6 +55,19 @@ pub fn fault_bounds<C>()
         → Bad (schema reading group) o room p f → IsCut f → f.byte ≡ input_end p }
     ensures within { (reading : C → ℕ → Reading C) (group : C → ℕ → C) (o : Open C) (room : ℕ) (p : Place) (f : Fault)
         → Bad (schema reading group) o room p f → f.cause ≢ InputTooLarge }
+{}
+
+/// How long the path of a fault is. Each level adds one step to it. Where messages may also lie at the level of what holds them, as those of map entries
+/// do, each level adds two at most. The last step leads into the record that has the fault.
+pub fn path_bounds<C>()
+    ensures here { (reading : C → ℕ → Reading C) (group : C → ℕ → C) (o : Open C) (room : ℕ) (p : Place) (f : Fault)
+        → NestsOnce reading → UsesLevels reading (context_of o) → Bad (schema reading group) o room p f → length f.path ≤ 2 * room + 1 }
+    ensures text { (reading : C → ℕ → Reading C) (group : C → ℕ → C) (c : C) (limits : Bounds) (b : List ℕ) (f : Fault)
+        → NestsOnce reading → UsesLevels reading c → HasFault (schema reading group) c limits b f → length f.path ≤ 2 * limits.depth + 1 }
+    ensures levels { (reading : C → ℕ → Reading C) (group : C → ℕ → C) (o : Open C) (room : ℕ) (p : Place) (f : Fault)
+        → ((c : C) → UsesLevels reading c) → Bad (schema reading group) o room p f → length f.path ≤ room + 1 }
+    ensures text_levels { (reading : C → ℕ → Reading C) (group : C → ℕ → C) (c : C) (limits : Bounds) (b : List ℕ) (f : Fault)
+        → ((d : C) → UsesLevels reading d) → HasFault (schema reading group) c limits b f → length f.path ≤ limits.depth + 1 }
 {}
 
 /// Records are read back from every spelling of them, whatever the lengths in it, and from their shortest spelling also
