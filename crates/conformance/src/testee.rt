@@ -7,7 +7,8 @@ use crate::stop::Stop;
 use pb_encode::{EncodeError, encode};
 use pb_schema::{MessageId, Pool};
 use pb_value::parts::put_field;
-use pb_value::{Content, DynamicMessage, ValueError, empty_body};
+use pb_value::parts::empty_body;
+use pb_value::{Content, DynamicMessage, ValueError};
 use std::alloc::Global;
 
 /// The pool of the messages that are tested, and in it the types of requests and responses.

@@ -20,6 +20,7 @@ use crate::reader::origin::{begin_empty, finish_message, take_onward};
 use crate::reader::quick_text::read_text;
 use pb_schema::{MessageId, Pool};
 use pb_value::DynamicMessage;
+use pb_value::parts::from_well_formed;
 use pb_wire::{Input, Limits};
 use std::alloc::Global;
 
@@ -69,7 +70,7 @@ fn read_at_once<'p>(
         return None;
     }
     let body = read_text(alloc, pool, message_type, bytes, limits)?;
-    Some(DynamicMessage::from_well_formed(alloc, pool, message_type, body))
+    Some(from_well_formed(alloc, pool, message_type, body))
 }
 
 /// Takes the first bytes of a frame, which stand in the buffer, and what the input gives of those behind them. Tells how many

@@ -22,7 +22,8 @@ use crate::reader::state::{Reader, take_all};
 use pb_parts::error::NoMemory;
 use pb_parts::tokens::step::Step;
 use pb_schema::{MessageId, Pool};
-use pb_value::{DynamicMessage, empty_body};
+use pb_value::DynamicMessage;
+use pb_value::parts::{empty_body, from_well_formed};
 use pb_wire::{Cause, Limits};
 use std::alloc::Global;
 
@@ -253,7 +254,7 @@ fn read_whole<'p>(
     ensures fault { IfErr result (λ e. IfFault e (IsFaultOf pool.now message_type.0 limits bytes.now)) }
 {
     match read_text(alloc, pool, message_type, bytes, limits) {
-        Some(body) => Ok(DynamicMessage::from_well_formed(alloc, pool, message_type, body)),
+        Some(body) => Ok(from_well_formed(alloc, pool, message_type, body)),
         None => {
             let none = empty_body(alloc);
             read_onto(alloc, pool, message_type, none, bytes, u32::MAX, limits)

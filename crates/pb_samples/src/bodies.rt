@@ -10,7 +10,8 @@ use crate::contents::content_of;
 use crate::error::WordError;
 use crate::texts::{bytes_of, halves, head_of, letter_of, u32_of, u64_of};
 use crate::values::with_field;
-use pb_value::{Body, empty_body};
+use pb_value::Body;
+use pb_value::parts::empty_body;
 use pb_wire::Unknown;
 use std::alloc::Global;
 

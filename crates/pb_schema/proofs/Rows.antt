@@ -165,6 +165,16 @@ closed-in-a-list = refl
 closed-in-a-map : closed_shaped (shape.Map kind.Int32) (kind.ClosedEnum (record { 0 = 2 })) ≡ None
 closed-in-a-map = refl
 
+-- each other shape has the values of its kind, a member of a oneof too
+closed-in-a-oneof : closed_shaped (shape.OneofMember 0) (kind.ClosedEnum (record { 0 = 2 })) ≡ Some 2
+closed-in-a-oneof = refl
+
+closed-alone : map (λ s. closed_shaped s (kind.ClosedEnum (record { 0 = 2 }))) (shape.Explicit ∷ shape.Implicit ∷ []) ≡ Some 2 ∷ Some 2 ∷ []
+closed-alone = refl
+
+open-in-a-oneof : closed_shaped (shape.OneofMember 0) (kind.Enum (record { 0 = 2 })) ≡ None
+open-in-a-oneof = refl
+
 open-alone : closed_shaped shape.Explicit (kind.Enum (record { 0 = 2 })) ≡ None
 open-alone = refl
 

@@ -245,25 +245,6 @@ impl<'p> DynamicMessage<'p> {
         self.merge_alike(other)
     }
 
-    /// The message of a body that is known to be well formed. Nothing is judged.
-    pub fn from_well_formed(
-        alloc: Global,
-        pool: &'p Pool,
-        message_type: MessageId,
-        body: Body,
-    ) -> DynamicMessage<'p>
-        requires within { message_type.0 < length pool.now.messages }
-        requires well_formed { IsWellFormed pool.now message_type.0 (body_view body) }
-        ensures { result ≡ record { pool = pool.now; kind = message_type.0; body = body_view body } }
-    {
-        DynamicMessage {
-            alloc,
-            pool,
-            kind: message_type,
-            body,
-        }
-    }
-
     /// Whether another message is of the same type, and its pool holds the same.
     fn is_alike(&self, other: &DynamicMessage) -> bool
         ensures same { Decides result (IsSameType self.now other.now) }
@@ -330,9 +311,29 @@ impl fmt::Debug for DynamicMessage<'_> {
     }
 }
 
-ghost use Rattle.std.specs.Prelude.{◌≡◌};
+ghost use Rattle.std.specs.Prelude.{◌≡◌, ◌<◌, length};
 ghost use Rattle.pb_value.specs.Data.{empty};
 ghost use Rattle.pb_value.specs.View.{body_view};
+ghost use Rattle.pb_value.specs.WellFormed.{IsWellFormed};
+
+/// The message of a body that the caller knows to be well formed: no rule is checked here.
+pub fn from_well_formed<'p>(
+    alloc: Global,
+    pool: &'p Pool,
+    message_type: MessageId,
+    body: Body,
+) -> DynamicMessage<'p>
+    requires within { message_type.0 < length pool.now.messages }
+    requires well_formed { IsWellFormed pool.now message_type.0 (body_view body) }
+    ensures { result ≡ record { pool = pool.now; kind = message_type.0; body = body_view body } }
+{
+    DynamicMessage {
+        alloc,
+        pool,
+        kind: message_type,
+        body,
+    }
+}
 
 /// The message without a field.
 pub fn empty_body(alloc: Global) -> Body

@@ -32,6 +32,6 @@ mod message_ref;
 pub mod parts;
 
 pub use body::{Body, Content, MapKey, Value};
-pub use dynamic::{DynamicMessage, default_value, empty_body};
+pub use dynamic::{DynamicMessage, default_value};
 pub use error::ValueError;
 pub use message_ref::MessageRef;

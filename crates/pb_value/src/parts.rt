@@ -4,3 +4,4 @@
 pub use crate::change::insert::insert_entry;
 pub use crate::change::push::push_element;
 pub use crate::change::{put_field, store, take_field};
+pub use crate::dynamic::{empty_body, from_well_formed};

@@ -18,7 +18,7 @@ ghost use Rattle.pb_wire.specs.RecordIter.{as_told};
 ghost use Rattle.pb_wire.specs.Reading.{ReadsAll, ReadsValue, IfFault, IfRawFault, BadValue, BadFrom};
 
 use crate::fault::{Cause, PathStep, RawError, ReadError, WireFault};
-use crate::limits::Limits;
+use crate::limits::{Limits, MAX_BYTES};
 use crate::unknown::Unknown;
 use crate::varint::varint_at_front;
 use std::alloc::Global;
@@ -141,7 +141,7 @@ pub(crate) fn u32_at(bytes: &[u8], at: usize) -> Result<(u32, usize), WireFault>
 }
 
 /// The most bytes that a payload has.
-const MAX_LENGTH: u64 = 0x7fff_ffff;
+const MAX_LENGTH: u64 = MAX_BYTES as u64;
 
 /// Reads the length that begins at an index and the bytes that it counts.
 pub(crate) fn bytes_at(bytes: &[u8], at: usize) -> Result<(&[u8], usize), WireFault>

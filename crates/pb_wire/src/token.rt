@@ -66,9 +66,9 @@ pub fn fixed32_token(bytes: &[u8], left: Option<u32>) -> Token
     }
 }
 
-/// How many of the bytes stand before the known end.
+/// How many of the bytes are before the known end, if there is one.
 #[inline(always)]
-fn before_end(bytes: &[u8], left: Option<u32>) -> usize
+pub fn before_end(bytes: &[u8], left: Option<u32>) -> usize
     ensures within { result ≤ length bytes.now }
     ensures window { (at : ℕ) → window (given_at at left bytes.now) ≡ take result bytes.now }
 {

@@ -12,15 +12,13 @@ ghost use Rattle.pb_wire.specs.Limits.{full};
 ghost use Rattle.pb_wire.specs.Grammar.{IsText};
 
 use crate::fault::RawError;
+use crate::limits::MAX_BYTES;
 use crate::unknown::Unknown;
 use crate::varint::put_varint;
 use std::alloc::{AllocError, Global};
 
 /// The least number above those that a record may have.
 const NUMBERS: u32 = 0x2000_0000;
-
-/// The most bytes that a length-delimited payload has.
-const MAX_LENGTH: usize = 0x7fff_ffff;
 
 /// Says whether records can be written: each number is from 1 to 2^29 - 1, and no payload is longer than 2^31 - 1.
 ///
@@ -54,7 +52,7 @@ fn is_writable(number: u32, payload: &Unknown) -> bool
         return false;
     }
     match payload {
-        Unknown::Len(bytes) => bytes.len() <= MAX_LENGTH,
+        Unknown::Len(bytes) => bytes.len() <= MAX_BYTES as usize,
         Unknown::Group(inside) => are_writable(inside),
         Unknown::Varint(_) => true,
         Unknown::I64(_) => true,

@@ -22,7 +22,8 @@ use pb_parts::open::occurrences::Occurrences;
 use pb_parts::open::part::{Part, Scope};
 use pb_parts::tokens::step::Step;
 use pb_schema::{MessageId, Pool};
-use pb_value::{Body, DynamicMessage, empty_body};
+use pb_value::parts::{empty_body, from_well_formed};
+use pb_value::{Body, DynamicMessage};
 use pb_wire::Limits;
 use std::alloc::Global;
 
@@ -166,5 +167,5 @@ pub(crate) fn finish_message<'p>(
     ensures fault { (o : Origin) → ReadFrom pool.now o reading → IfErr result (λ e. IfFault e (BadFrom pool.now o)) }
 {
     let body = whole_body(alloc, pool, reading)?;
-    Ok(DynamicMessage::from_well_formed(alloc, pool, message_type, body))
+    Ok(from_well_formed(alloc, pool, message_type, body))
 }

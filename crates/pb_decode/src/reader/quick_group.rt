@@ -19,7 +19,7 @@ use pb_parts::open::part::{Part, Slot};
 use pb_parts::open::purpose::purpose_of;
 use pb_parts::tokens::record_tag::{RecordTag, left_behind};
 use pb_schema::{MessageId, Pool};
-use pb_value::empty_body;
+use pb_value::parts::empty_body;
 use std::alloc::Global;
 
 /// How many bytes stand behind a tag of so many before the known end. Where none is known it is put behind the bytes at hand, which

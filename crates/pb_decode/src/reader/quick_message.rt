@@ -20,7 +20,7 @@ use pb_parts::open::purpose::Purpose;
 use pb_parts::tokens::record_tag::RecordTag;
 use pb_parts::tokens::tag_step::has_room;
 use pb_schema::{MessageId, Pool};
-use pb_value::empty_body;
+use pb_value::parts::empty_body;
 use std::alloc::Global;
 
 /// Takes the message behind whose tag its payload stands whole, if its slot is free, and how many bytes it takes. Where the payload

@@ -10,7 +10,8 @@ use crate::heap::keep_heap;
 use crate::reader::fill::fill;
 use pb_parts::open::part::Part;
 use pb_schema::{MessageId, Pool};
-use pb_value::{Body, empty_body};
+use pb_value::Body;
+use pb_value::parts::empty_body;
 use pb_wire::Limits;
 use std::alloc::Global;
 

@@ -4,7 +4,7 @@ ghost use Rattle.std.specs.Prelude.{◌≡◌, ◌<◌, ◌-◌, ◌^◌, IsTrue
 ghost use Rattle.pb_wire.specs.Unknown.{records_of};
 ghost use Rattle.pb_schema.specs.Types.{Types};
 ghost use Rattle.pb_schema.specs.Kinds.{default_of, is_key_kind};
-ghost use Rattle.pb_value.specs.View.{body_view, key_view, value_view};
+ghost use Rattle.pb_value.specs.View.{key_view, value_view};
 ghost use Rattle.pb_value.specs.Value.{missing};
 ghost use Rattle.pb_value.specs.Data.{empty};
 ghost use Rattle.pb_parts.specs.Open.Frames.{put_entry as put_entry_view, put_group as put_group_view, entry_part, group_part};
@@ -18,11 +18,10 @@ use crate::error::{NoMemory, memory_alone};
 use crate::open::part::{Part, Scope, Slot};
 use crate::values::put_unknown::put_unknown;
 use pb_schema::Kind;
-use pb_value::parts::insert_entry;
-use pb_value::{Body, MapKey, Value, default_value};
+use pb_value::parts::{empty_body, insert_entry};
+use pb_value::{MapKey, Value, default_value};
 use pb_wire::Unknown;
 use std::alloc::Global;
-use std::collections::BTreeMap;
 
 /// The key that an entry without one has.
 fn default_key(alloc: Global, kind: Kind) -> MapKey
@@ -43,16 +42,6 @@ fn default_key(alloc: Global, kind: Kind) -> MapKey
         | Kind::ClosedEnum(_)
         | Kind::Message(_)
         | Kind::Group(_) => MapKey::Text(String::new(alloc)),
-    }
-}
-
-/// A message of no fields.
-fn empty_body(alloc: Global) -> Body
-    ensures { body_view result ≡ empty }
-{
-    Body {
-        fields: BTreeMap::new(alloc),
-        unknown: Vec::new(alloc),
     }
 }
 

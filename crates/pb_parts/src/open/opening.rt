@@ -14,8 +14,8 @@ use crate::open::occurrences::Occurrences;
 use crate::open::part::{Frame, Part, Scope, Slot};
 use crate::open::purpose::Purpose;
 use pb_schema::{Kind, MessageId};
-use pb_value::parts::take_field;
-use pb_value::{Body, Content, Value, empty_body};
+use pb_value::parts::{empty_body, take_field};
+use pb_value::{Body, Content, Value};
 use std::alloc::Global;
 use std::mem;
 

@@ -6,10 +6,10 @@ ghost use Rattle.pb_wire.specs.declared.fault.Cause.TheVariants.{Truncated};
 ghost use Rattle.pb_parts.specs.Open.Frames.{EndsAt};
 ghost use Rattle.pb_parts.specs.Tokens.Told.{RefusesTag, RefusesEnd, RefusesGroup, RefusesLength};
 
-use pb_wire::Cause;
+use pb_wire::{Cause, MAX_BYTES};
 
-/// The longest payload, 2^31 - 1 bytes.
-const MAX_LENGTH: u64 = 0x7fff_ffff;
+/// The most bytes that a payload has.
+const MAX_LENGTH: u64 = MAX_BYTES as u64;
 
 /// The number and the wire type of a whole tag.
 pub fn tag_parts(tag: u64) -> Result<(u32, u8), Cause>

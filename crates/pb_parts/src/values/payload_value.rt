@@ -59,23 +59,6 @@ pub fn payload_value(alloc: Global, kind: Kind, bytes: &[u8]) -> Result<Option<V
     }
 }
 
-/// The value of a kind that a payload stands for which was gathered from pieces. It is not copied again.
-pub(crate) fn gathered_value(kind: Kind, bytes: Vec<u8>) -> Result<Option<Value>, PayloadError>
-    ensures value { IfOk result (λ v. option_map value_view v ≡ option_map scalar (read kind (len bytes.items))) }
-    ensures text { IfOk result (λ _. kind ≡ TextKind → IsUtf8 bytes.items) }
-    ensures fault { IfErr result (IsPayloadError kind bytes.items) }
-    ensures accepted { (kind ≡ TextKind → IsUtf8 bytes.items) → IfErr result (λ e. e ≡ Memory) }
-{
-    match kind {
-        Kind::Text => match String::from_utf8(bytes) {
-            Ok(text) => Ok(Some(Value::Text(text))),
-            Err(error) => Err(PayloadError::BadText(error.utf8_error().valid_up_to())),
-        },
-        Kind::Bytes => Ok(Some(Value::Bytes(bytes))),
-        _ => Ok(None),
-    }
-}
-
 /// A payload that no field reads, copied.
 pub(crate) fn unknown_payload(alloc: Global, bytes: &[u8]) -> Result<Unknown, AllocError>
     ensures { IfOk result (λ u. payload_of u ≡ len bytes.now) }

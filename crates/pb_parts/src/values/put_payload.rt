@@ -16,13 +16,12 @@ ghost use Rattle.pb_parts.specs.Values.Puts.{PutsPayload, RefusesPayload};
 use crate::error::NoMemory;
 use crate::open::part::Part;
 use crate::open::purpose::Purpose;
-use crate::values::payload_value::{PayloadError, gathered_value, payload_value, unknown_payload};
+use crate::values::payload_value::{PayloadError, payload_value, unknown_payload};
 use crate::values::put_number::scalar_kind;
 use crate::values::put_scalar::put_scalar;
 use crate::values::put_unknown::put_unknown;
 use pb_schema::Pool;
 use pb_value::Value;
-use pb_wire::Unknown;
 use std::alloc::Global;
 
 /// Puts the value of a payload, where it has one, into the part that its record stands in.
@@ -75,36 +74,6 @@ pub fn put_payload(
         None => {
             let unknown = unknown_payload(alloc, bytes)?;
             put_unknown(part, number, unknown)?;
-            Ok(())
-        }
-    }
-}
-
-/// A payload that was gathered from pieces, likewise. It is not copied again.
-pub(crate) fn put_gathered(
-    alloc: Global,
-    pool: &Pool,
-    part: &mut Part,
-    number: u32,
-    purpose: Purpose,
-    bytes: Vec<u8>,
-) -> Result<(), PayloadError>
-    requires rules { IsPool pool.now }
-    requires can { CanHold pool.now (part_view part.old) }
-    requires bytes { IsBytesPurpose purpose }
-    ensures stands { PutsPayload pool.now number purpose bytes.items part.old part.new result }
-    ensures refused { RefusesPayload pool.now number purpose bytes.items part.old result }
-    ensures within { IfErr result (λ e. IfBadText e (λ valid. valid ≤ length bytes.items)) }
-    ensures accepted { (kind_given purpose ≡ Some TextKind → IsUtf8 bytes.items) → IfErr result (λ e. e ≡ Memory) }
-{
-    match scalar_kind(purpose) {
-        Some(kind) => {
-            let value = gathered_value(kind, bytes)?;
-            put_value(alloc, pool, part, number, purpose, value)?;
-            Ok(())
-        }
-        None => {
-            put_unknown(part, number, Unknown::Len(bytes))?;
             Ok(())
         }
     }

@@ -14,6 +14,7 @@ use crate::values::put_unknown::unknown_number;
 use pb_schema::{Kind, Pool};
 use pb_value::Value;
 use pb_wire::Unknown;
+use pb_wire::token::before_end;
 use std::alloc::Global;
 
 /// What the elements of a run are, each sort in its order. The unknown records have the number of the list.
@@ -38,16 +39,6 @@ pub(crate) fn room_wanted(kind: Kind, bytes: &[u8]) -> usize {
         1 => bytes.len() / 8,
         5 => bytes.len() / 4,
         _ => varint_ends(bytes),
-    }
-}
-
-/// How many of some bytes stand before the known end.
-fn before_end(bytes: &[u8], left: Option<u32>) -> usize
-    ensures { result ≤ length bytes.now }
-{
-    match left {
-        Some(left) => bytes.len().min(left as usize),
-        None => bytes.len(),
     }
 }
 

@@ -18,7 +18,8 @@ use pb_parts::tokens::number::number_value;
 use pb_parts::tokens::record_tag::RecordTag;
 use pb_parts::values::put_scalar::key_of;
 use pb_schema::{Kind, MessageId, Pool};
-use pb_value::{MapKey, Value, empty_body};
+use pb_value::parts::empty_body;
+use pb_value::{MapKey, Value};
 use std::alloc::Global;
 
 /// What became of the payload of an entry.

@@ -18,7 +18,8 @@ use pb_parts::open::part::Part;
 use pb_parts::tokens::record_tag::RecordTag;
 use pb_parts::values::put_elements::put_elements;
 use pb_schema::{MessageId, Pool};
-use pb_value::{Value, empty_body};
+use pb_value::Value;
+use pb_value::parts::empty_body;
 use std::alloc::Global;
 
 /// Reads the group behind a tag at the front of some bytes, with so many bytes before the known end and so many levels left, and
