@@ -4,13 +4,17 @@
  * messages of it as there are. Free the pool. Names and texts are bytes with a length, and no zero byte ends them. docs/C.md has it in examples.
  *
  * What a caller owes, and nothing checks:
- * - A pointer and the length behind it are those of one stretch of memory that may be read, and written where it is not const, for the whole
- *   call. Where the length is 0 the pointer may be null. No other pointer may be null.
+ * - A pointer and the length after it describe one stretch of memory. It may be read, and written where it is not const, during the whole call.
+ *   Where the length is 0 the pointer may be null. No other pointer may be null.
+ * - A pointer to a struct or to a number is aligned as C asks for its type. So is a pointer to a list of steps.
+ * - A list of struct mb_bytes is read as a list of slices: each of its pointers and lengths is subject to the same rules. It is aligned, too.
  * - What one call may write overlaps nothing else that the call is given.
+ * - The bytes that a call reads do not change during the call: no other thread writes them, and if they are a mapped file, nobody writes or shortens
+ *   that file.
  * - A handle is all zeros, or as a call left it; it is not copied while it holds something, and nothing but these calls writes it. One call at
  *   a time uses a handle: for another thread share it (mb_pool_share).
- * - malloc, realloc and free come from one allocator, which is ready (no call from a signal handler, nor in the child of a fork of a process
- *   with threads).
+ * - malloc, realloc and free come from one allocator, and it may be called (so no call of this library from a signal handler, nor in the child of a
+ *   fork of a process with threads). They align a block to each power of two up to 16 that divides its size.
  *
  * A call prints nothing, has no state but what its handles hold, and always returns: it never aborts. It needs up to 500 KB of stack, for what nests
  * 100 deep (docs/C.md). What a call does not answer by its number it does not write: out-parameters are as they were.
@@ -27,7 +31,7 @@ extern "C" {
 #endif
 
 /* What this header says. A library that answers another number has other calls. */
-#define MB_INTERFACE 1
+#define MB_INTERFACE 2
 uint32_t mb_interface(void);
 
 /* What a call answers. Numbers from 50 on are the causes why a set, a source or declarations are refused, as docs/ERRORS.md lists them. */
@@ -52,8 +56,9 @@ enum {
 /* The greatest limits. Each call on bytes is given its own: how many bytes it takes, and how deep messages and groups may nest. */
 #define MB_MAX_BYTES UINT32_C(0x7fffffff)
 #define MB_MAX_DEPTH UINT8_C(100)
-/* A path has at most this many steps, so a buffer of that many always holds it. */
-#define MB_MAX_STEPS 101
+/* A path has at most this many steps: two for each level, and one into the record that has the fault. A map entry is one step and the message in it,
+ * which is at the entry's level, is another. A buffer of this many steps always holds the path. */
+#define MB_MAX_STEPS 201
 
 /* A fault of bytes. */
 struct mb_fault {

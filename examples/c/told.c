@@ -19,7 +19,7 @@ int tell(uint32_t answer, const struct told *told)
         return answer == MB_TOO_LARGE ? 1 : 3;
     }
     fprintf(stderr, "byte %" PRIu64 " path %s", told->fault.byte, told->fault.steps == 0 ? "-" : "");
-    for (size_t i = 0; i < told->fault.steps; i++)
+    for (size_t i = 0; i < told->fault.steps && i < MB_MAX_STEPS; i++)
         fprintf(stderr, "%s%" PRIu32 "[%" PRIu32 "]", i == 0 ? "" : ".", told->path[i].number, told->path[i].before);
     fprintf(stderr, " cause %s\n", cause_names[told->fault.cause]);
     return 1;

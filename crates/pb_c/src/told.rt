@@ -28,7 +28,7 @@ pub const FAULT: u32 = 13;
 pub const MEMORY: u32 = 14;
 
 /// Which calls the library has: the number of the header.
-const INTERFACE: u32 = 1;
+const INTERFACE: u32 = 2;
 
 /// A fault of bytes, but for its path.
 #[repr(C)]

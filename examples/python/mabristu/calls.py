@@ -2,9 +2,9 @@
 import os
 from ctypes import CDLL, POINTER, Structure, c_bool, c_char_p, c_size_t, c_uint8, c_uint32, c_uint64, c_void_p
 
-INTERFACE = 1
+INTERFACE = 2
 DONE, BAD_LIMITS, NO_TYPE, EMPTY, BAD_NAME, PART, FAULT, MEMORY, TOO_LARGE = 0, 1, 2, 3, 4, 5, 13, 14, 31
-MAX_BYTES, MAX_DEPTH, MAX_STEPS, TRUNCATED = 0x7FFFFFFF, 100, 101, 1
+MAX_BYTES, MAX_DEPTH, MAX_STEPS, TRUNCATED = 0x7FFFFFFF, 100, 201, 1
 
 
 class Fault(Structure):
@@ -50,7 +50,7 @@ CALLS = {
     "mb_frames": MESSAGE + [POINTER(Frame)] + TOLD,
 }
 
-library = CDLL(os.environ.get("MABRISTU", "libmabristu.so.1"))
+library = CDLL(os.environ.get("MABRISTU", "libmabristu.so.2"))
 for name, parameters in CALLS.items():
     call = getattr(library, name)
     call.argtypes, call.restype = parameters, None if name == "mb_pool_free" else c_uint32

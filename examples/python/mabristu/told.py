@@ -24,7 +24,7 @@ class Told:
     def judge(self, answer, before=""):
         """Raises why a call did not answer DONE. The words before stand before a fault."""
         if answer == c.FAULT:
-            path = [(step.number, step.before) for step in self.path[: self.fault.steps]]
+            path = [(step.number, step.before) for step in self.path[: min(self.fault.steps, c.MAX_STEPS)]]
             steps = ".".join(f"{number}[{count}]" for number, count in path) or "-"
             raise Refused(f"{before}byte {self.fault.byte} path {steps}", CAUSES[self.fault.cause], self.fault.byte, path)
         if answer == c.TOO_LARGE:

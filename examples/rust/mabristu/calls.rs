@@ -1,7 +1,7 @@
 //! The numbers and calls of mabristu.h.
 use super::structs::{Bytes, Fault, Frame, Handle, Refusal, Step};
 
-pub const INTERFACE: u32 = 1;
+pub const INTERFACE: u32 = 2;
 // What a call answers. Numbers from 50 on are the causes why declarations are refused.
 pub const DONE: u32 = 0;
 pub const NO_TYPE: u32 = 2;
@@ -12,7 +12,7 @@ pub const TOO_LARGE: u32 = 31;
 pub const TRUNCATED: u32 = 1;
 pub const MAX_BYTES: u32 = 0x7fff_ffff;
 pub const MAX_DEPTH: u8 = 100;
-pub const MAX_STEPS: usize = 101;
+pub const MAX_STEPS: usize = 201;
 
 type At = *const u8;
 type Out = *mut u8;

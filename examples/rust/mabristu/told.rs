@@ -20,7 +20,7 @@ impl Told {
             calls::DONE => return Ok(()),
             calls::FAULT => {
                 let Fault { byte, steps, cause } = self.fault;
-                Error::Fault { byte, path: self.path[..steps].to_vec(), cause }
+                Error::Fault { byte, path: self.path[..steps.min(MAX_STEPS)].to_vec(), cause }
             }
             calls::NO_TYPE => Error::NoType,
             calls::TOO_LARGE => Error::TooLarge,
