@@ -1,7 +1,7 @@
 -- Which messages lie at the level of what holds them: those that are values of map entries, and none inside them.
 use Rattle.std.proofs.Common.{◌≡◌, ◌≢◌, ℕ, Option, Some, None}
 use Rattle.pb_wire.specs.Schema as wire
-use Rattle.pb_wire.specs.Schema.{UsesLevels, NestsOnce}
+use Rattle.pb_wire.specs.Levels.{UsesLevels, NestsOnce}
 use Rattle.pb_schema.specs.declared.types.Kind.{Kind}
 use Rattle.pb_schema.specs.declared.types.Kind.TheVariants as kind
 use Rattle.pb_schema.specs.declared.types.Shape.{Shape}

@@ -4,7 +4,8 @@ use Rattle.std.proofs.Common.{◌≡◌, ℕ, suc, ◌+◌, ◌*◌, ◌≤◌, 
 use Rattle.pb_wire.specs.Record.{Record}
 use Rattle.pb_wire.specs.declared.fault.PathStep.{PathStep}
 use Rattle.pb_wire.specs.Fault.{Fault, fault, inside, Place, TagFault, VarintFault, FixedFault, LengthFault}
-use Rattle.pb_wire.specs.Schema.{Schema, Element, a_varint, four_bytes, eight_bytes, Open, records, context_of, UsesLevels, NestsOnce}
+use Rattle.pb_wire.specs.Schema.{Schema, Element, a_varint, four_bytes, eight_bytes, Open, records, context_of}
+use Rattle.pb_wire.specs.Levels.{UsesLevels, NestsOnce}
 use Rattle.pb_wire.specs.Limits.{Bounds}
 use Rattle.pb_wire.specs.Grammar.{Bad, RecordFault, ElementFault, beyond, HasFault}
 use Rattle.pb_wire.specs.declared.fault.Cause.{Cause}

@@ -5,6 +5,7 @@ pub mod Spell
 pub mod Inside
 pub mod Fault
 pub mod Schema
+pub mod Levels
 pub mod Sound
 pub mod Grammar
 pub mod Exact
