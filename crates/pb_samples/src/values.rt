@@ -8,8 +8,7 @@ ghost use Rattle.pb_samples.specs.declared.error.WordError.TheVariants.{Memory, 
 
 use crate::error::WordError;
 use crate::texts::{bytes_of, halves, head_of, i32_of, i64_of, letter_of, u32_of, u64_of};
-use pb_value::parts::put_field;
-use pb_value::parts::empty_body;
+use pb_value::parts::{empty_body, put_field};
 use pb_value::{Body, Content, MapKey, Value};
 use std::alloc::Global;
 use std::collections::BTreeMap;

@@ -1,6 +1,8 @@
 //! Worked rows, and each call once. Expected values are those of the encoding guide or were worked out by hand.
 
-use pb_wire::laws::{fault_bounds, longer_text, one_fault, path_bounds, read_back, shortest_spelling};
+use pb_wire::laws::{
+    fault_bounds, longer_text, one_fault, path_bounds, read_back, shortest_spelling,
+};
 use pb_wire::{
     Cause, Limits, MAX_BYTES, MAX_DEPTH, PathStep, RawError, RecordIter, Unknown, WireFault,
     can_write, put_varint, read_raw, read_varint, unzigzag32, unzigzag64, write_raw, zigzag32,
