@@ -1,4 +1,4 @@
-"""The plot of README.md: how fast each text is decoded, beside libprotobuf and the floor, as SVG.
+"""The plot of docs/SPEED.md: how fast each input is decoded, beside libprotobuf and the floor, as SVG.
 
 Its colours follow whether the page is light or dark, on a ground of its own, so that it can be read in both."""
 import math
@@ -6,7 +6,7 @@ from xml.sax.saxutils import escape
 
 WIDTH, LEFT, RIGHT, ROW = 860, 290, 100, 22
 TEXTS = {
-    "strings": "texts and byte strings",
+    "strings": "strings and bytes",
     "packed": "packed numbers",
     "repeats": "unpacked lists",
     "unknown": "unknown records",
@@ -116,7 +116,7 @@ def plot(report):
 
     parts = {
         "Messages of 30 to 500 bytes, decoded and dropped one by one": rows(TEXTS, "single"),
-        "Texts of 10 MB": rows(TEXTS, "10MB"),
+        "Inputs of 10 MB": rows(TEXTS, "10MB"),
         "protobuf's own data sets": rows(PAYLOADS, "payload"),
     }
     speeds = [speed for rows in parts.values() for row in rows for speed in row[1:] if speed]
@@ -126,7 +126,7 @@ def plot(report):
     drawing.text(20, title, "title")
     drawing.y += 24
     told = report.figures["texts"]
-    drawing.text(20, f"MB of text a second of processor time, to decode and to drop; the best of {told['passes'] * 2} rounds, {told['date']}", "small")
+    drawing.text(20, f"MB of input a second of processor time, to decode and to drop; the best of {told['passes'] * 2} rounds, {told['date']}", "small")
     drawing.y += 24
     drawing.legend(told["protobuf"])
     for of_part, found in parts.items():
