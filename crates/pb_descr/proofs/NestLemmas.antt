@@ -1,9 +1,10 @@
 -- What messages are written as is little deeper than they are declared in each other.
-use Rattle.std.proofs.Common.{ℕ, ℤ, pos, suc, ◌+◌, ◌≤◌, max, List, [], ◌∷◌, map, Bool, true, false, Option, Some, None, arith}
+use Rattle.std.proofs.Common.{◌≡◌, ℕ, ℤ, pos, zero, suc, ◌+◌, ◌<◌, ◌≤◌, max, List, [], ◌∷◌, ◌++◌, map, length, get_or, take, Bool, true, false, Option, Some, None, ap, sym, ◌∙◌, subst, arith}
+use Rattle.std.proofs.lemmas.List.{take_more, map-append}
 use Rattle.std.specs.List.{AllByRecursion}
 use Rattle.pb_value.specs.Data.{Datum, levels_of, datums_of, datums_depth, Holding, Fields, fields_depth, message_depth}
 use Rattle.pb_decl.specs.declared.decl.TypeCode.{TypeCode}
-use Rattle.pb_decl.specs.Decls.{DeclaredField, DeclaredEnum, DeclaredMessage, message, DeclaredMessages, no_messages, more_messages, DeclaredMethod, DeclaredService, DeclaredFile}
+use Rattle.pb_decl.specs.Decls.{DeclaredField, DeclaredEnum, DeclaredMessage, message, DeclaredMessages, no_messages, more_messages, messages_of, DeclaredMethod, DeclaredService, DeclaredFile}
 use Rattle.pb_decl.specs.TypeNumbers.{number_of_type}
 use Rattle.pb_descr.specs.Writing.{with_field, fields_with, a_text, a_number, a_mark, a_list, a_message, options_with, optional, packed_options, field_contents, field_body, range_body, value_body, text_datum, int_datum, enum_contents, enum_body, oneof_body, message_contents, message_body, message_bodies, method_contents, method_body, service_contents, service_body, package_text, syntax_text, file_contents, file_body, set_body}
 use Rattle.pb_decl.specs.Nests.{nests, all_nest}
@@ -122,3 +123,25 @@ set_levels fs k h =
     each : (gs : List DeclaredFile) → AllByRecursion (λ f. all_nest f.messages ≤ k) gs → AllByRecursion (λ d. levels_of d ≤ k + 3) (map file_body gs)
     each [] h = tt
     each (g ∷ gs) h = (file_levels g k h.0, each gs h.1)
+
+-- what holds of each element before an index, and of the element there, holds of each up to it
+pub taken_and_next :
+    {X Y : Type 0} (P : Y → Type 0) (view : X → Y) (xs : List X) (i : ℕ) (x : X) → i < length xs → x ≡ get_or xs i x → AllByRecursion P (map view (take i xs)) → P (view x) → AllByRecursion P (map view (take (i + 1) xs))
+taken_and_next P view [] i x within is all p = absurd (omega (arith, within))
+taken_and_next P view (y ∷ ys) zero x within is all p = (subst (λ z. P (view z)) is p, tt)
+taken_and_next P view (y ∷ ys) (suc i) x within is all p =
+    let more : suc (i + 1) ≡ suc i + 1 = omega arith in
+    subst (λ k. AllByRecursion P (map view (take k (y ∷ ys)))) more (all.0, taken_and_next P view ys i x (omega (arith, within)) is all.1 p)
+
+-- what is written of the elements before an index, and then of the one there, is what is written of those up to it
+pub written_next :
+    {V D X Y : Type 0} (see : V → D) (write : Y → D) (view : X → Y) (xs : List X) (i : ℕ) (x : X) (old new : List V) (v : V) → i < length xs → x ≡ get_or xs i x → new ≡ old ++ v ∷ [] → see v ≡ write (view x) → map see old ≡ map write (map view (take i xs)) → map see new ≡ map write (map view (take (i + 1) xs))
+written_next see write view xs i x old new v within is pushed seen written =
+    let taken : take (i + 1) xs ≡ take i xs ++ x ∷ [] = take_more xs i x within ∙ ap (λ z. take i xs ++ z ∷ []) (sym is) in
+    let more = ap (λ zs. map write (map view zs)) taken ∙ ap (map write) (map-append view (take i xs) (x ∷ [])) ∙ map-append write (map view (take i xs)) (view x ∷ []) in
+    ap (map see) pushed ∙ map-append see old (v ∷ []) ∙ ap (λ ds. ds ++ see v ∷ []) written ∙ ap (λ d. map write (map view (take i xs)) ++ d ∷ []) seen ∙ sym more
+
+-- where each message of a list has so many levels, so has the list
+pub nest_each : (k : ℕ) (ms : List DeclaredMessage) → AllByRecursion (λ m. nests m ≤ k) ms → all_nest (messages_of ms) ≤ k
+nest_each k [] all = omega arith
+nest_each k (m ∷ ms) all = let first = all.0 in let rest = nest_each k ms all.1 in omega (arith, first, rest)

@@ -1,9 +1,11 @@
 //! Messages and files, as they are written.
 
-ghost use Rattle.std.specs.Prelude.{◌≡◌, map, option_map, IfOk, IfErr};
+ghost use Rattle.std.specs.Prelude.{◌≡◌, ◌≤◌, map, option_map, IfOk, IfErr, OnOk};
+ghost use Rattle.std.specs.List.{AllByRecursion};
 ghost use Rattle.pb_value.specs.Data.{levels_of, datums_depth, datums_of, message_depth};
 ghost use Rattle.pb_value.specs.View.{content_view, value_view, body_view};
 ghost use Rattle.pb_decl.specs.Decls.{inner_of, messages_of};
+ghost use Rattle.pb_decl.specs.Nests.{nests, all_nest};
 ghost use Rattle.pb_decl.specs.View.{message_view, file_view};
 ghost use Rattle.pb_descr.specs.Writing.{a_list, package_text, syntax_text, message_body, message_bodies, file_body, set_body};
 ghost use Rattle.pb_descr.specs.Sets.{CutAt};
@@ -53,6 +55,7 @@ fn message_with(
 #[cycle(messages)]
 fn message_value(alloc: Global, declared: &MessageDecl, room: u8) -> Result<Value, WriteSetError>
     ensures written { IfOk result (λ v. value_view v ≡ message_body (message_view declared.now)) }
+    ensures within { OnOk result (nests (message_view declared.now) ≤ room) }
     ensures refused { IfErr result (CutAt room (levels_of (message_body (message_view declared.now)))) }
 {
     if room == 0 {
@@ -71,6 +74,7 @@ fn message_values(
     room: u8,
 ) -> Result<Vec<Value>, WriteSetError>
     ensures written { IfOk result (λ v. map value_view v.items ≡ message_bodies (messages_of (map message_view messages.now.items))) }
+    ensures within { OnOk result (all_nest (messages_of (map message_view messages.now.items)) ≤ room) }
     ensures refused { IfErr result (CutAt room (datums_depth (datums_of (message_bodies (messages_of (map message_view messages.now.items)))))) }
 {
     let mut values = Vec::with_capacity(alloc, messages.len())?;
@@ -131,6 +135,7 @@ fn file_with(alloc: Global, file: &FileDecl, messages: Option<Content>) -> Resul
 
 fn file_value(alloc: Global, file: &FileDecl) -> Result<Value, WriteSetError>
     ensures written { IfOk result (λ v. value_view v ≡ file_body (file_view file.now)) }
+    ensures within { OnOk result (all_nest (file_view file.now).messages ≤ 99) }
     ensures refused { IfErr result (CutAt FILE_LEVELS (levels_of (file_body (file_view file.now)))) }
 {
     let messages = message_values(alloc, &file.messages, FILE_LEVELS - 1)?;
@@ -140,6 +145,7 @@ fn file_value(alloc: Global, file: &FileDecl) -> Result<Value, WriteSetError>
 
 fn file_values(alloc: Global, files: &[FileDecl]) -> Result<Vec<Value>, WriteSetError>
     ensures written { IfOk result (λ v. map value_view v.items ≡ map file_body (map file_view files.now)) }
+    ensures within { OnOk result (AllByRecursion (λ f. all_nest f.messages ≤ 99) (map file_view files.now)) }
     ensures refused { IfErr result (CutAt FILE_LEVELS (datums_depth (datums_of (map file_body (map file_view files.now))))) }
 {
     let mut values = Vec::with_capacity(alloc, files.len())?;
@@ -153,6 +159,7 @@ fn file_values(alloc: Global, files: &[FileDecl]) -> Result<Vec<Value>, WriteSet
 /// The message that the files of a set are written as. It is not made where it would nest too deep.
 pub(crate) fn set_body(alloc: Global, files: &[FileDecl]) -> Result<Body, WriteSetError>
     ensures written { IfOk result (λ b. body_view b ≡ set_body (map file_view files.now)) }
+    ensures within { OnOk result (message_depth (set_body (map file_view files.now)) ≤ 102) }
     ensures refused { IfErr result (CutAt FILE_LEVELS (message_depth (set_body (map file_view files.now)))) }
 {
     let files = file_values(alloc, files)?;
