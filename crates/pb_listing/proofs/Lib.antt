@@ -8,5 +8,7 @@ pub mod Lines
 pub mod PuttingLemmas
 -- for what the parts of a message print
 pub mod ListingLemmas
+-- the lines of the types of a pool
+pub mod TypesLemmas
 -- the listing of some bytes by a schema, worked out by the rules
 mod ListingRows

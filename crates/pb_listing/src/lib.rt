@@ -4,9 +4,11 @@
 mod messages;
 mod records;
 mod shortest;
+mod types;
 mod unknown;
 mod values;
 
 pub use messages::{put_listing_at, write_message};
 pub use records::write_listing;
 pub use shortest::write_shortest;
+pub use types::{put_enum_type, put_message_type, put_types, write_types};
