@@ -6,7 +6,7 @@ use pb_cli::{Afterwards, Command, Source, execute, execute_then, run_then};
 use pb_decode::decode;
 use pb_descr::{FileDecl, read_set};
 use pb_link::link;
-use pb_listing::{write_listing, write_message, write_shortest};
+use pb_listing::{write_listing, write_message, write_shortest, write_types};
 use pb_schema::Pool;
 use pb_wire::{FailurePlan, Limits, MemOutput};
 use std::alloc::Global;
@@ -14,6 +14,18 @@ use std::test::Fail;
 
 /// What protoc writes of m.proto: message M { int32 a = 1; }
 const SET: &str = "0a240a076d2e70726f746f22110a014d120c0a0161180120012805520161620670726f746f33";
+
+/// What protoc writes of t.proto, a file of proto2 with the package p: a message M with a field of each shape and two messages in it, and the enum
+/// Color.
+const TYPES: &str =
+    "0aba020a07742e70726f746f1201702287020a014d120c0a0161180120012805520161121c0a02637318022003280e32082e702e436f6c6f72420210015202637312250a056e616d657318032003280b320f2e702e4d2e4e616d6573456e74727952056e616d6573120e0a0173180420012809480052017312140a016d18052001280b32042e702e4d480052016d121d0a046974656d18062001280a32092e702e4d2e4974656d52046974656d1a380a0a4e616d6573456e74727912100a036b657918012001280552036b657912140a0576616c7565180220012809520576616c75653a0238011a140a044974656d120c0a016e18012003280652016e1a120a02496e120c0a016218012001280c52016242060a047069636b2a220a05436f6c6f7212070a03524544100012100a034c4f5710ffffffffffffffffff01";
+
+/// What t.proto declares, worked out from its source by hand.
+const TYPE_LINES: &str =
+    "file t.proto proto2\nmessage p.M t.proto\nfield p.M.a 1 optional int32\nfield p.M.cs 2 repeated p.Color packed\n\
+field p.M.names 3 repeated map<int32, string>\nfield p.M.s 4 oneof:pick string\nfield p.M.m 5 oneof:pick p.M\n\
+field p.M.item 6 optional group p.M.Item\nmessage p.M.Item t.proto\nfield p.M.Item.n 1 repeated fixed64\nmessage p.M.In t.proto\n\
+field p.M.In.b 1 optional bytes\nenum p.Color t.proto\nvalue p.Color RED 0\nvalue p.Color LOW -1\n";
 
 const MESSAGE: &[u8] = b"\x08\x96\x01";
 
@@ -64,6 +76,22 @@ fn listed(alloc: Global, pool: &Pool, bytes: &[u8]) -> Result<MemOutput, Fail> {
 fn message(rt: HostRuntime) -> Result<(), Fail> {
     let pool = pool(rt.alloc())?;
     assert!(rt; listed(rt.alloc(), &pool, MESSAGE)?.bytes() == b"a: 150\n".as_slice());
+    Ok(())
+}
+
+/// The listing of what a set declares.
+fn types_listed(alloc: Global, set: &str) -> Result<MemOutput, Fail> {
+    let bytes = hex::decode(alloc, set)?;
+    let files = read_set(alloc, bytes.as_slice())?;
+    let pool = link(alloc, files.as_slice())?;
+    let mut out = output(alloc);
+    write_types(&mut out, &pool)?;
+    Ok(out)
+}
+
+#[test]
+fn types(rt: HostRuntime) -> Result<(), Fail> {
+    assert!(rt; types_listed(rt.alloc(), TYPES)?.bytes() == TYPE_LINES.as_bytes());
     Ok(())
 }
 
