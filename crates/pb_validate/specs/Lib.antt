@@ -1,0 +1,5 @@
+pub mod Contexts
+pub mod Here
+pub mod Numbers
+pub mod Payloads
+pub mod Judging

@@ -1,0 +1,16 @@
+//! Whether bytes are a message of a type, without building it.
+//!
+//! The bytes are read where they lie, by recursion over what nests in them. No memory is taken but for the path of a fault.
+//!
+//! An inner crate: `pb_decode::validate` is the call for users.
+#![tactic(auto)]
+
+mod context;
+mod elements;
+mod judging;
+mod payload;
+mod refusal;
+mod step;
+mod tokens;
+
+pub use judging::judge;
