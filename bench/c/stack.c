@@ -1,6 +1,7 @@
 /* How much stack each call takes: stack SET. Each is made in a thread of its own, whose stack was painted before. The messages and groups nest 100
  * deep, as deep as they may, and the sources 64 deep. In the maps each map has seventeen entries, the last with the next map in its value; in the
- * lone entries each map has one. In the turned ones the value stands before its key, where the next map is in it. */
+ * lone entries each map has one. Where they are cut off inside, the innermost message has a fault, whose path has 201 steps. In the turned ones the
+ * value stands before its key, where the next map is in it. */
 #define _GNU_SOURCE
 #include "mabristu.h"
 
@@ -17,8 +18,9 @@ enum { DEPTH = 100, STACK = 4 << 20 };
 static struct mb_pool pool;
 static uint32_t type;
 static uint8_t groups[2 * DEPTH], nested[8 * DEPTH], framed[8 * DEPTH + 2], maps[1 << 15], lone[16 * DEPTH];
+static uint8_t framed_lone[16 * DEPTH + 2], cut[16 * DEPTH] = "\x0a\x05";
 static uint8_t turned[1 << 15], turned_lone[16 * DEPTH], set[1 << 20], out[1 << 16];
-static size_t nested_len, framed_len, maps_len, lone_len, turned_len, turned_lone_len, set_len;
+static size_t nested_len, framed_len, maps_len, lone_len, framed_lone_len, cut_len = 2, turned_len, turned_lone_len, set_len;
 static char source[1 << 14];
 static struct mb_bytes name = {(const uint8_t *)"a.proto", 7}, text;
 
@@ -41,8 +43,10 @@ static uint32_t check_maps(void) { return mb_check(&pool, type, maps, maps_len, 
 static uint32_t show_maps(void) { return mb_show(&pool, type, maps, maps_len, LIMITS, OUT, FAULT); }
 static uint32_t check_lone(void) { return mb_check(&pool, type, lone, lone_len, LIMITS, FAULT); }
 static uint32_t check_lone_cut(void) { return mb_check(&pool, type, lone, lone_len - 1, LIMITS, FAULT); }
+static uint32_t check_cut_inside(void) { return mb_check(&pool, type, cut, cut_len, LIMITS, FAULT); }
 static uint32_t show_lone(void) { return mb_show(&pool, type, lone, lone_len, LIMITS, OUT, FAULT); }
 static uint32_t canon_lone(void) { return mb_canon(&pool, type, lone, lone_len, LIMITS, OUT, FAULT); }
+static uint32_t frames_lone(void) { return mb_frames(&pool, type, framed_lone, framed_lone_len, LIMITS, &frame, FAULT); }
 static uint32_t check_turned(void) { return mb_check(&pool, type, turned, turned_len, LIMITS, FAULT); }
 static uint32_t check_turned_cut(void) { return mb_check(&pool, type, turned, turned_len - 1, LIMITS, FAULT); }
 static uint32_t show_turned(void) { return mb_show(&pool, type, turned, turned_len, LIMITS, OUT, FAULT); }
@@ -80,6 +84,7 @@ static const struct { const char *name; uint32_t (*call)(void); } calls[] = {
     {"mb_pool_type", find}, {"mb_check", check}, {"mb_check of a message that is cut off", check_cut}, {"mb_check of unknown groups", check_groups},
     {"mb_check of maps", check_maps}, {"mb_show of maps", show_maps}, {"mb_check of lone entries", check_lone},
     {"mb_check of lone entries that are cut off", check_lone_cut}, {"mb_show of lone entries", show_lone}, {"mb_canon of lone entries", canon_lone},
+    {"mb_check of lone entries that are cut off inside", check_cut_inside}, {"mb_frames of lone entries", frames_lone},
     {"mb_check of turned maps", check_turned}, {"mb_check of turned maps that are cut off", check_turned_cut},
     {"mb_show of turned maps", show_turned}, {"mb_check of turned lone entries", check_turned_lone},
     {"mb_canon", canon}, {"mb_show", show}, {"mb_frames", frames},
@@ -116,6 +121,15 @@ static size_t key_behind(uint8_t *at, size_t len)
     return wrap(at, len + 3, 0x12);
 }
 
+/* A frame of a message whose length takes two bytes. */
+static size_t frame_of(uint8_t *at, const uint8_t *message, size_t len)
+{
+    at[0] = (uint8_t)((len & 127) | 128);
+    at[1] = (uint8_t)(len >> 7);
+    memcpy(at + 2, message, len);
+    return len + 2;
+}
+
 static void *work(void *call)
 {
     return (void *)(uintptr_t)calls[(uintptr_t)call].call();
@@ -135,12 +149,10 @@ int main(int argc, char **argv)
     /* From the innermost out. */
     for (int i = 0; i < DEPTH; i++)
         nested_len = wrap(nested, nested_len, 0x0a);
-    framed[0] = (uint8_t)((nested_len & 127) | 128);
-    framed[1] = (uint8_t)(nested_len >> 7);
-    memcpy(framed + 2, nested, nested_len);
-    framed_len = nested_len + 2;
+    framed_len = frame_of(framed, nested, nested_len);
     for (int i = 0; i < DEPTH; i++) {
         lone_len = key_before(lone, wrap(lone, lone_len, 0x12));
+        cut_len = key_before(cut, wrap(cut, cut_len, 0x12));
         maps_len = key_before(maps, wrap(maps, maps_len, 0x12));
         turned_len = key_behind(turned, wrap(turned, turned_len, 0x12));
         turned_lone_len = key_behind(turned_lone, wrap(turned_lone, turned_lone_len, 0x12));
@@ -151,6 +163,7 @@ int main(int argc, char **argv)
             turned_len = put(turned, turned_len, entry, 12);
         }
     }
+    framed_lone_len = frame_of(framed_lone, lone, lone_len);
     at += sprintf(at, "syntax = \"proto3\"; message T { T a = 1; map<string, T> m = 2; } ");
     for (int i = 0; i < 64; i++)
         at += sprintf(at, "message N%d { ", i);
