@@ -18,7 +18,7 @@ use Rattle.pb_c.specs.declared.pool.compile.Unparsed.TheVariants.{Source, Memory
 use Rattle.pb_c.specs.PoolFault.{PoolFault, answer_of, set_fault}
 use Rattle.pb_c.specs.SourcePool.{IsUnparsed}
 
-decl_from : (c : DeclCause) → 50 ≤ decl_number c
+pub decl_from : (c : DeclCause) → 50 ≤ decl_number c
 decl_from decl.MissingName = omega arith
 decl_from decl.BadLabel = omega arith
 decl_from decl.BadTypeNumber = omega arith
@@ -41,7 +41,7 @@ source_from source.NotProto3 = omega arith
 source_from source.NestedTooDeep = omega arith
 source_from source.Memory = omega arith
 
-link_from : (c : LinkCause) → 50 ≤ cause_number c
+pub link_from : (c : LinkCause) → 50 ≤ cause_number c
 link_from link.TwoFiles = omega arith
 link_from link.MissingImport = omega arith
 link_from link.ImportCycle = omega arith

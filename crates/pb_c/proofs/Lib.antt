@@ -18,6 +18,8 @@ pub mod TypeNames
 pub mod LinkTelling
 -- the numbers of faults are none of the other answers
 pub mod AnswerNumbers
+-- how many steps are reported of a fault
+pub mod StepBounds
 -- the bytes of a set make one pool, or have one fault
 pub mod OneSetPool
 -- from one meaning or one fault to what is answered

@@ -12,7 +12,7 @@ ghost use Rattle.pb_schema.specs.PayloadView.{payload_view};
 ghost use Rattle.pb_schema_tests.specs.Cuts.{Cuts};
 
 use pb_schema::Kind;
-use pb_schema::laws::{packed_numbers, reads_back};
+use pb_schema::laws::{packed_numbers, path_bounds, reads_back};
 use pb_schema::scalars::*;
 use pb_wire::{put_varint, read_varint};
 use std::alloc::{AllocError, Global};
@@ -174,4 +174,5 @@ fn fixed_lists(rt: HostRuntime) -> Result<(), Fail> {
 fn laws() {
     reads_back();
     packed_numbers();
+    path_bounds();
 }

@@ -1,6 +1,6 @@
 //! A pool of a descriptor set.
 
-ghost use Rattle.std.specs.Prelude.{◌≡◌, ◌≢◌, ◌⊎◌};
+ghost use Rattle.std.specs.Prelude.{◌≡◌, ◌≢◌, ◌≤◌, ◌⊎◌};
 ghost use Rattle.pb_schema.specs.Types.{Types};
 ghost use Rattle.pb_c.specs.Held.{types_held};
 ghost use Rattle.pb_c.specs.PoolFault.{PoolFault, TellsFault};
@@ -9,7 +9,7 @@ ghost use Rattle.pb_c.specs.SetPool.{SetFails, SetMakes};
 use super::linking::link_files;
 use super::refusal::{Refusal, tell_set};
 use crate::handle::{PoolHandle, take};
-use crate::told::{DONE, FaultReport, MEMORY, Step};
+use crate::told::{DONE, FAULT, FaultReport, MEMORY, Step};
 use pb_descr::read_set;
 use std::alloc::Global;
 
@@ -40,7 +40,7 @@ fn link_set(
 /// Links the types of a descriptor set into a handle, in place of what it held: the bytes are the text of a
 /// `google.protobuf.FileDescriptorSet`, of at most 2^31 - 1 bytes.
 ///
-/// Answers DONE; FAULT with the fault, and as many steps of its path as the buffer holds, where the bytes are no text of a set; the number
+/// Answers DONE; FAULT with the fault, and as many of the at most 201 steps of its path as the buffer holds, where the bytes are no text of a set; the number
 /// of a cause, from 52 to 60, with the file's index in the refusal, where a file is not read; the number of a cause, from 71 to 89, with
 /// the lengths of the file's name and of the declaration's full name in the refusal and both as text, as much as the buffer holds, where the
 /// files do not link; or MEMORY. At any answer but DONE the handle holds nothing. What is not told is not written.
@@ -58,6 +58,7 @@ pub extern "C" fn mb_pool_link(
     ensures left { result ≢ DONE → types_held pool.new ≡ None }
     ensures refused { result ≢ DONE → result ≢ MEMORY → (w : PoolFault) × SetFails set.now w
         × TellsFault w result fault.old fault.new path.old path.new refusal.old refusal.new text.old text.new }
+    ensures steps { result ≡ FAULT → fault.new.steps ≤ 201 }
     ensures untold { (result ≡ DONE) ⊎ (result ≡ MEMORY) → (fault.new ≡ fault.old) × (path.new ≡ path.old)
         × (refusal.new ≡ refusal.old) × (text.new ≡ text.old) }
 

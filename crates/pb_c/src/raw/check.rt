@@ -1,6 +1,6 @@
 //! Bytes judged as records.
 
-ghost use Rattle.std.specs.Prelude.{◌≡◌, ◌≢◌, ◌↔◌, ◌⊎◌};
+ghost use Rattle.std.specs.Prelude.{◌≡◌, ◌≢◌, ◌+◌, ◌≤◌, ◌↔◌, ◌⊎◌};
 ghost use Rattle.pb_wire.specs.Exact.{IsSomeText};
 ghost use Rattle.pb_wire.specs.Fault.{Fault};
 ghost use Rattle.pb_wire.specs.Grammar.{HasFault};
@@ -14,8 +14,8 @@ use std::alloc::Global;
 
 /// Checks bytes as records within the limits: at most `max_bytes` bytes, and groups at most `max_depth` deep.
 ///
-/// Answers DONE where they are records; FAULT with the fault, and as many steps of its path as the buffer holds; BAD_LIMITS where a
-/// limit is above the greatest; or MEMORY. The fault and the path are written at FAULT alone.
+/// Answers DONE where they are records; FAULT with the fault, and as many steps of its path as the buffer holds, of at most
+/// `max_depth + 1`; BAD_LIMITS where a limit is above the greatest; or MEMORY. The fault and the path are written at FAULT alone.
 #[unsafe(no_mangle)]
 pub extern "C" fn mb_raw_check(
     alloc: Global,
@@ -28,6 +28,7 @@ pub extern "C" fn mb_raw_check(
     ensures text { result ≡ DONE → IsSomeText blank tt (bounds max_bytes max_depth) bytes.now }
     ensures fault { result ≡ FAULT → (f : Fault) × HasFault blank tt (bounds max_bytes max_depth) bytes.now f
         × Tells f fault.new path.old path.new }
+    ensures steps { result ≡ FAULT → fault.new.steps ≤ max_depth + 1 }
     ensures untold { result ≢ FAULT → (fault.new ≡ fault.old) × (path.new ≡ path.old) }
     ensures limits { result ≡ BAD_LIMITS ↔ ¬ AreLimits max_bytes max_depth }
 

@@ -1,6 +1,6 @@
 //! The shortest spelling of records.
 
-ghost use Rattle.std.specs.Prelude.{◌≡◌, ◌≢◌, ◌↔◌, ◌⊎◌, List};
+ghost use Rattle.std.specs.Prelude.{◌≡◌, ◌≢◌, ◌+◌, ◌≤◌, ◌↔◌, ◌⊎◌, List};
 ghost use Rattle.pb_wire.specs.Fault.{Fault};
 ghost use Rattle.pb_wire.specs.Grammar.{IsText, HasFault};
 ghost use Rattle.pb_wire.specs.Record.{Record};
@@ -31,6 +31,7 @@ pub extern "C" fn mb_raw_short(
         × IsLaid (shortest_records rs) out.old out.new size.new }
     ensures fault { result ≡ FAULT → (f : Fault) × HasFault blank tt (bounds max_bytes max_depth) bytes.now f
         × Tells f fault.new path.old path.new }
+    ensures steps { result ≡ FAULT → fault.new.steps ≤ max_depth + 1 }
     ensures unwritten { result ≢ DONE → (out.new ≡ out.old) × (size.new ≡ size.old) }
     ensures untold { result ≢ FAULT → (fault.new ≡ fault.old) × (path.new ≡ path.old) }
     ensures limits { result ≡ BAD_LIMITS ↔ ¬ AreLimits max_bytes max_depth }

@@ -1,6 +1,6 @@
 //! The canonical bytes of a message.
 
-ghost use Rattle.std.specs.Prelude.{◌≡◌, ◌≢◌, ◌<◌, ◌≤◌, ◌^◌, ◌↔◌, ◌⊎◌, None, length};
+ghost use Rattle.std.specs.Prelude.{◌≡◌, ◌≢◌, ◌+◌, ◌*◌, ◌<◌, ◌≤◌, ◌^◌, ◌↔◌, ◌⊎◌, None, length};
 ghost use Rattle.pb_wire.specs.Fault.{Fault};
 ghost use Rattle.pb_value.specs.Canon.{canon_bytes};
 ghost use Rattle.pb_schema.specs.Types.{Types};
@@ -45,6 +45,7 @@ pub extern "C" fn mb_canon(
         × ((v : Message) × Text ts message_type (bounds max_bytes max_depth) bytes.now v × (2 ^ 31 ≤ length (canon_bytes ts message_type v))) }
     ensures fault { result ≡ FAULT → (ts : Types) × HasType (types_held pool.old) message_type ts
         × ((f : Fault) × IsFaultOf ts message_type (bounds max_bytes max_depth) bytes.now f × Tells f fault.new path.old path.new) }
+    ensures steps { result ≡ FAULT → fault.new.steps ≤ 2 * max_depth + 1 }
     ensures unwritten { result ≢ DONE → (out.new ≡ out.old) × (size.new ≡ size.old) }
     ensures untold { result ≢ FAULT → (fault.new ≡ fault.old) × (path.new ≡ path.old) }
     ensures limits { result ≡ BAD_LIMITS ↔ ¬ AreLimits max_bytes max_depth }

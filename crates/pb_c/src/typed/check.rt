@@ -1,6 +1,6 @@
 //! Bytes checked as a message.
 
-ghost use Rattle.std.specs.Prelude.{◌≡◌, ◌≢◌, ◌<◌, ◌≤◌, ◌↔◌, ◌⊎◌, None, length};
+ghost use Rattle.std.specs.Prelude.{◌≡◌, ◌≢◌, ◌+◌, ◌*◌, ◌<◌, ◌≤◌, ◌↔◌, ◌⊎◌, None, length};
 ghost use Rattle.pb_wire.specs.Fault.{Fault};
 ghost use Rattle.pb_schema.specs.Types.{Types};
 ghost use Rattle.pb_value.specs.Data.{Message};
@@ -20,9 +20,9 @@ use std::alloc::Global;
 /// Checks the bytes as a message of the type of this number in the pool, within the limits: at most `max_bytes` bytes, and messages
 /// and groups at most `max_depth` deep.
 ///
-/// Answers DONE where they are one; FAULT with the fault, and as many steps of its path as the buffer holds; BAD_LIMITS where a limit
-/// is above the greatest, EMPTY where the handle holds nothing, and NO_TYPE where its pool has no such type, judged in this order; or
-/// MEMORY. The fault and the path are written at FAULT alone, and the handle holds what it held.
+/// Answers DONE where they are one; FAULT with the fault, and as many steps of its path as the buffer holds, of at most
+/// `2 * max_depth + 1`; BAD_LIMITS where a limit is above the greatest, EMPTY where the handle holds nothing, and NO_TYPE where its pool
+/// has no such type, judged in this order; or MEMORY. The fault and the path are written at FAULT alone, and the handle holds what it held.
 #[unsafe(no_mangle)]
 pub extern "C" fn mb_check(
     alloc: Global,
@@ -38,6 +38,7 @@ pub extern "C" fn mb_check(
         × ((v : Message) × Text ts message_type (bounds max_bytes max_depth) bytes.now v) }
     ensures fault { result ≡ FAULT → (ts : Types) × HasType (types_held pool.old) message_type ts
         × ((f : Fault) × IsFaultOf ts message_type (bounds max_bytes max_depth) bytes.now f × Tells f fault.new path.old path.new) }
+    ensures steps { result ≡ FAULT → fault.new.steps ≤ 2 * max_depth + 1 }
     ensures untold { result ≢ FAULT → (fault.new ≡ fault.old) × (path.new ≡ path.old) }
     ensures limits { result ≡ BAD_LIMITS ↔ ¬ AreLimits max_bytes max_depth }
     ensures empty { result ≡ EMPTY ↔ AreLimits max_bytes max_depth × (types_held pool.old ≡ None) }

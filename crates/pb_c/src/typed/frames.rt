@@ -1,6 +1,6 @@
 //! A message behind its length.
 
-ghost use Rattle.std.specs.Prelude.{◌≡◌, ◌≢◌, ◌<◌, ◌≤◌, ◌++◌, ◌↔◌, ◌⊎◌, ℕ, List, None, length};
+ghost use Rattle.std.specs.Prelude.{◌≡◌, ◌≢◌, ◌+◌, ◌*◌, ◌<◌, ◌≤◌, ◌++◌, ◌↔◌, ◌⊎◌, ℕ, List, None, length};
 ghost use Rattle.pb_wire.specs.Fault.{Fault};
 ghost use Rattle.pb_wire.specs.Varint.{IsVarint};
 ghost use Rattle.pb_schema.specs.Types.{Types};
@@ -51,6 +51,7 @@ pub extern "C" fn mb_frames(
         × IsPart ts message_type (bounds max_bytes max_depth) bytes.now }
     ensures fault { result ≡ FAULT → (ts : Types) × HasType (types_held pool.old) message_type ts
         × ((f : Fault) × IsNoFrame ts message_type (bounds max_bytes max_depth) bytes.now f × Tells f fault.new path.old path.new) }
+    ensures steps { result ≡ FAULT → fault.new.steps ≤ 2 * max_depth + 1 }
     ensures unframed { result ≢ DONE → frame.new ≡ frame.old }
     ensures untold { result ≢ FAULT → (fault.new ≡ fault.old) × (path.new ≡ path.old) }
     ensures limits { result ≡ BAD_LIMITS ↔ ¬ AreLimits max_bytes max_depth }

@@ -1,5 +1,5 @@
 -- A set makes one pool or has one fault, so what was answered is all that may be.
-use Rattle.std.proofs.Common.{All, rules}
+use Rattle.std.proofs.Common.{All, arith, rules, sym, ◌∙◌}
 use Rattle.std.proofs.lemmas.List.Elements.{All-from_get_or}
 use Rattle.pb_wire.specs.Ranges.{IsByte}
 use Rattle.pb_c.specs.Held.{types_held}
@@ -7,6 +7,7 @@ use Rattle.pb_c.specs.PoolFault.{TellsFault}
 use Rattle.pb_c.specs.SetPool.{SetFails, SetMakes}
 use Rattle.pb_c.proofs.Exact.{accepted, told}
 use Rattle.pb_c.proofs.OneSetPool.{never_both, one_fault, one_types}
+use Rattle.pb_c.proofs.StepBounds.{of_set}
 use Rattle.pb_c.proofs.pool.link.mb_pool_link.Goals as goal
 
 pub returns-clause-accepted : goal.returns-clause-accepted
@@ -24,3 +25,8 @@ returns-clause-told c =
     told (SetMakes set) (SetFails set) (never_both set bytes) c.link_set.result (types_held c.link_set.new.pool)
     (λ w. TellsFault w c.link_set.result c.args.fault.now c.link_set.new.fault c.args.path.now c.link_set.new.path c.args.refusal.now c.link_set.new.refusal c.args.text.now c.link_set.new.text)
     c.link_set.ensures.made c.link_set.ensures.refused (one_fault set bytes)
+
+pub returns-clause-steps : goal.returns-clause-steps
+returns-clause-steps c is =
+    let bad = c.link_set.ensures.refused (λ done. omega (arith, is, done)) (λ memory. omega (arith, is, memory)) in
+    of_set c.args.set.now c.args.fault.now c.link_set.new.fault c.args.path.now c.link_set.new.path bad.0 bad.1 (sym bad.2.refusal.answer_is ∙ is) bad.2.bytes
