@@ -35,7 +35,8 @@ fn add_part(
     name: &str,
     part: OmittedPart,
 ) -> Result<(), AllocError>
-    ensures { OnOk result (map omitted_view omitted.new.items ≡ map omitted_view omitted.old.items ++ (record { file = file; name = name.now; part = part }) ∷ []) }
+    ensures { OnOk result (map omitted_view omitted.new.items
+        ≡ map omitted_view omitted.old.items ++ (record { file = file; name = name.now; part = part }) ∷ []) }
 {
     let name = String::from_str(alloc, name)?;
     omitted.push(Omitted { file, name, part })?;
