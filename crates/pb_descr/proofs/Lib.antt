@@ -24,9 +24,17 @@ pub mod JudgeLemmas
 pub mod ReadLemmas
 -- for `read_set` part by part: sets that are joined
 pub mod JoinedSets
+-- for sets that are read leniently: messages changed in place, one by one
+pub mod WithoutLemmas
+-- for the list of what they leave out
+pub mod OmittedLemmas
+-- for why sets are not read leniently
+pub mod LenientLemmas
 -- for the law that bytes are one set, or have one fault or first cause
 pub mod OneSet
 -- for files that are written as a set without a cause, as the declarations of a pool are
 pub mod SilentLemmas
 -- small sets with their declarations, bytes and causes, worked out by the rules
 mod Rows
+-- messages without their parts, what is left out of sets, and the causes of what stays
+mod LenientRows

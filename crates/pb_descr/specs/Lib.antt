@@ -3,8 +3,12 @@ pub mod Causes
 pub mod Contents
 pub mod ErrorNumber
 pub mod Held
+pub mod Lenient
+pub mod Omitted
+pub mod OmittedName
 pub mod Pool
 pub mod PoolRows
 pub mod Reading
 pub mod Sets
+pub mod Without
 pub mod Writing

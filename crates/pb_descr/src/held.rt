@@ -1,11 +1,18 @@
 //! What the fields of a message hold, by number.
 
 ghost use Rattle.std.specs.Prelude.{◌≡◌, map, option_map};
-ghost use Rattle.pb_value.specs.Data.{get_field};
-ghost use Rattle.pb_value.specs.View.{content_view, value_view};
+ghost use Rattle.pb_value.specs.Data.{get_field, fields_of};
+ghost use Rattle.pb_value.specs.View.{body_view, content_view, value_view};
 ghost use Rattle.pb_descr.specs.Held.{fields_in, text_in, int_in, datum_at, data_at, text_at, int_at, bool_at, inside_at, name_at, number_at, mark_at};
 
-use pb_value::{Content, Value};
+use pb_value::{Body, Content, Value};
+
+/// What a field of a body holds.
+pub(crate) fn content_in(body: &Body, number: u32) -> Option<&Content>
+    ensures { option_map (λ c. content_view c.now) result ≡ get_field number (fields_of (body_view body.now)) }
+{
+    body.fields.get(&number)
+}
 
 fn content_at(message: &Value, number: u32) -> Option<&Content>
     ensures { option_map (λ c. content_view c.now) result ≡ get_field number (fields_in (value_view message.now)) }

@@ -35,7 +35,7 @@ const FILE: u8 = 0x0a;
 const PART: usize = 128;
 
 /// The message of a set, from its bytes by the fixed pool.
-fn decode_by(alloc: Global, pool: &Pool, bytes: &[u8]) -> Result<Body, DescrError>
+pub(crate) fn decode_by(alloc: Global, pool: &Pool, bytes: &[u8]) -> Result<Body, DescrError>
     requires { pool.now ≡ descriptor_types }
     ensures text { IfOk result (λ b. IsSetText full bytes.now (body_view b)) }
     ensures fault { IfErr result (IsUnread full bytes.now) }
@@ -52,7 +52,7 @@ fn decode_by(alloc: Global, pool: &Pool, bytes: &[u8]) -> Result<Body, DescrErro
 }
 
 /// The files that the message of a set declares, or the first cause why not.
-fn declared_files(alloc: Global, set: Body) -> Result<Vec<FileDecl>, DescrError>
+pub(crate) fn declared_files(alloc: Global, set: Body) -> Result<Vec<FileDecl>, DescrError>
     ensures declared { IfOk result (λ v. map file_view v.items ≡ files_in (body_view set)) }
     ensures silent { OnOk result (set_causes (body_view set) ≡ []) }
     ensures refused { IfErr result (IsRefusedSet (body_view set)) }

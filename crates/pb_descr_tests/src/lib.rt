@@ -8,4 +8,6 @@ mod faults;
 #[cfg(test)]
 mod first_call;
 #[cfg(test)]
+mod lenient;
+#[cfg(test)]
 mod rows;
