@@ -20,6 +20,9 @@ use Rattle.pb_decode.specs.Reader.{IfFault}
 pub some_text : {pool : Types} {m : ℕ} {limits : Bounds} {b : List ℕ} (v : Message) → Text pool m limits b v → IsSomeText (schema_of pool) (a_message m) limits b
 some_text v t = (t.derives.records, record { size = t.size; spelled = t.derives.spelled; sound = t.derives.sound })
 
+pub text_of : {pool : Types} {m : ℕ} {limits : Bounds} {b : List ℕ} → IsSomeText (schema_of pool) (a_message m) limits b → (v : Message) × Text pool m limits b v
+text_of {pool = pool} {m = m} (rs, t) = (value pool m rs, record { size = t.size; derives = record { records = rs; spelled = t.spelled; sound = t.sound; valued = refl } })
+
 -- bytes are the text of a value, or have one fault
 pub exactly_value : (pool : Types) (m : ℕ) (limits : Bounds) (b : List ℕ) → All IsByte b → Exactly ((v : Message) × Text pool m limits b v) (HasFault (schema_of pool) (a_message m) limits b)
 exactly_value pool m limits b bytes = record {
@@ -33,7 +36,7 @@ exactly_value pool m limits b bytes = record {
 
     by_text : IsSomeText (schema_of pool) (a_message m) limits b ⊎ ((f : Fault) × HasFault (schema_of pool) (a_message m) limits b f)
         → ((v : Message) × Text pool m limits b v) ⊎ ((f : Fault) × HasFault (schema_of pool) (a_message m) limits b f)
-    by_text (inl (rs, t)) = inl (value pool m rs, record { size = t.size; derives = record { records = rs; spelled = t.spelled; sound = t.sound; valued = refl } })
+    by_text (inl t) = inl (text_of t)
     by_text (inr bad) = inr bad
 
 pub accepted_from :

@@ -27,6 +27,7 @@ mod onto;
 mod push;
 mod push_decoder;
 mod reader;
+mod validating;
 
 pub use error::DecodeError;
 pub use frame::decode_frame;
@@ -34,3 +35,4 @@ pub use from_device::decode_from;
 pub use onto::decode_onto;
 pub use push::decode;
 pub use push_decoder::PushDecoder;
+pub use validating::validate;
