@@ -22,17 +22,20 @@ impl<'a, R: rt::Files> HostFiles<'a, R> {
         HostFiles { rt, failures: 0 }
     }
 
-    /// What an error of opening a file says: no file has this path, or the system failed. A file that may not be read is a failure.
+    /// Whether an error of opening a file says that no file has this path. Any other error is a failure, also of a file that may
+    /// not be read.
     fn judge(&mut self, kind: ErrorKind) -> Result<(), DeviceFault>
-        ensures missing { IsOk result ↔ kind ≡ ErrorKind.NotFound }
+        ensures missing { IsOk result ↔ (kind ≡ ErrorKind.NotFound) }
         ensures kept { OnOk result (self.new.failures ≡ self.old.failures) }
         ensures failed { OnErr result (self.new.failures ≢ self.old.failures) }
     {
-        if kind == ErrorKind::NotFound {
-            return Ok(());
+        match kind {
+            ErrorKind::NotFound => Ok(()),
+            _ => {
+                self.failures = self.failures.wrapping_add(1);
+                Err(DeviceFault)
+            }
         }
-        self.failures = self.failures.wrapping_add(1);
-        Err(DeviceFault)
     }
 }
 

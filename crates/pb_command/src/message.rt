@@ -1,6 +1,6 @@
 //! The message of a file, by its type.
 
-ghost use Rattle.std.specs.Prelude.{◌<◌, length, true};
+ghost use Rattle.std.specs.Prelude.{◌≡◌, ◌<◌, length, true};
 ghost use Rattle.pb_command.specs.FileMap.{IsSaved, IsUnsaved};
 ghost use Rattle.pb_output.specs.Sending.{Cut, Sent};
 ghost use Rattle.pb_command.specs.Steps.{Comes, IsNothing, MessageAt, MessageOf};

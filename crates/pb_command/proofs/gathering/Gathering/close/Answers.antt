@@ -54,3 +54,6 @@ pub returns-in_err-go_on-clause-kept : goal.returns-in_err-go_on-clause-kept
 returns-in_err-go_on-clause-kept g c =
     let p = err_from_is_err_and c.from_residual-in_err-go_on.result c.from_residual-in_err-go_on.ensures.1 in
     rw (p.1, p.2) (λ none. c.in_err-go_on.ensures.kept none ∙ c.loop.invariant.kept)
+
+pub returns-in_err-go_on-clause-unfailing : goal.returns-in_err-go_on-clause-unfailing
+returns-in_err-go_on-clause-unfailing g c = λ s. c.in_err-go_on.ensures.unfailing (c.loop.invariant.steady s) ∙ c.loop.invariant.kept
