@@ -59,7 +59,7 @@ never_two Quiet Told (Err e) status concluded two = no_two e (sym concluded.0 �
     no_two (File path) is = omega (arith, is)
     no_two Memory is = omega (arith, is)
 
--- what holds of a command where its refusal has no status 3 holds where the status is not 3
+-- what holds of a command where its refusal names no device holds where the status is not 3
 pub kept_but_at_three :
     (Quiet : Type 0) (Told : Refusal → Type 0) (r : Result Unit Refusal) (status : ℕ) (Kept : Type 0)
     → MatchResult r (λ _. (status ≡ 0) × Quiet) (λ e. (status ≡ refusal_status e) × Told e)
