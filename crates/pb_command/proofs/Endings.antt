@@ -1,9 +1,9 @@
 -- How a run ends, from what its command came to and what was told.
-use Rattle.std.proofs.Common.{◌≡◌, ◌≢◌, ℕ, List, [], Option, None, inl, inr, ap, sym, ◌∙◌, subst, arith}
+use Rattle.std.proofs.Common.{◌≡◌, ◌≢◌, ℕ, List, [], Option, None, false, refl, inl, inr, ap, sym, ◌∙◌, subst, arith}
 use Rattle.std.specs.Prelude.{Result, Ok, Err, MatchResult, string_bytes}
 use Rattle.pb_command.specs.Answer.{Answer, stopped, Ends, delivered, output_failed, file_failed, out_of_memory}
 use Rattle.pb_command.specs.Report.{device_line}
-use Rattle.pb_command.specs.Refusal.{refusal_line, refusal_status}
+use Rattle.pb_command.specs.Refusal.{names_device, refusal_line, refusal_status}
 use Rattle.pb_command.specs.Steps.{Comes, FailsAt}
 use Rattle.pb_command.specs.declared.report.Refusal.{Refusal}
 use Rattle.pb_command.specs.declared.report.Refusal.TheVariants.{Fault, Set, SetFile, Link, UnknownType, TooLarge, Frame, Source, Device, File, Memory}
@@ -59,10 +59,44 @@ never_two Quiet Told (Err e) status concluded two = no_two e (sym concluded.0 �
     no_two (File path) is = omega (arith, is)
     no_two Memory is = omega (arith, is)
 
--- what holds of a command where its refusal has no status 3 holds where the status is not 3
+-- what holds of a command where its refusal names no device holds where the status is not 3
 pub kept_but_at_three :
     (Quiet : Type 0) (Told : Refusal → Type 0) (r : Result Unit Refusal) (status : ℕ) (Kept : Type 0)
     → MatchResult r (λ _. (status ≡ 0) × Quiet) (λ e. (status ≡ refusal_status e) × Told e)
-    → MatchResult r (λ _. Kept) (λ e. refusal_status e ≢ 3 → Kept) → status ≢ 3 → Kept
+    → MatchResult r (λ _. Kept) (λ e. names_device e ≡ false → Kept) → status ≢ 3 → Kept
 kept_but_at_three Quiet Told (Ok u) status Kept concluded kept other = kept
-kept_but_at_three Quiet Told (Err e) status Kept concluded kept other = kept (λ three. other (concluded.0 ∙ three))
+kept_but_at_three Quiet Told (Err e) status Kept concluded kept other = by e concluded.0 kept
+  where
+    by : (e : Refusal) → status ≡ refusal_status e → (names_device e ≡ false → Kept) → Kept
+    by (Fault byte path cause) is kept = kept refl
+    by (Set byte path cause) is kept = kept refl
+    by (SetFile file cause) is kept = kept refl
+    by (Link file full_name cause) is kept = kept refl
+    by (UnknownType name) is kept = kept refl
+    by TooLarge is kept = kept refl
+    by (Frame index byte path cause) is kept = kept refl
+    by (Source file byte cause) is kept = kept refl
+    by (Device path) is kept = absurd (other is)
+    by (File path) is kept = absurd (other is)
+    by Memory is kept = kept refl
+
+-- where that does not hold, the line that is told names a device
+pub device_told :
+    (Quiet : Type 0) (Told : List ℕ → Type 0) (r : Result Unit Refusal) (status : ℕ) (Kept : Type 0)
+    → MatchResult r (λ _. (status ≡ 0) × Quiet) (λ e. (status ≡ refusal_status e) × Told (refusal_line e))
+    → MatchResult r (λ _. Kept) (λ e. names_device e ≡ false → Kept) → (Kept → ⊥) → (path : List ℕ) × Told (device_line path)
+device_told Quiet Told (Ok u) status Kept concluded kept failed = absurd (failed kept)
+device_told Quiet Told (Err e) status Kept concluded kept failed = by e concluded.1 kept
+  where
+    by : (e : Refusal) → Told (refusal_line e) → (names_device e ≡ false → Kept) → (path : List ℕ) × Told (device_line path)
+    by (Fault byte path cause) told kept = absurd (failed (kept refl))
+    by (Set byte path cause) told kept = absurd (failed (kept refl))
+    by (SetFile file cause) told kept = absurd (failed (kept refl))
+    by (Link file full_name cause) told kept = absurd (failed (kept refl))
+    by (UnknownType name) told kept = absurd (failed (kept refl))
+    by TooLarge told kept = absurd (failed (kept refl))
+    by (Frame index byte path cause) told kept = absurd (failed (kept refl))
+    by (Source file byte cause) told kept = absurd (failed (kept refl))
+    by (Device path) told kept = (path.now, told)
+    by (File path) told kept = (string_bytes path, told)
+    by Memory told kept = absurd (failed (kept refl))

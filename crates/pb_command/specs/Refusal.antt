@@ -1,5 +1,5 @@
 -- The line and the exit status of a refusal, and what it comes to.
-use Rattle.std.specs.Prelude.{◌≡◌, ◌≢◌, ℕ, List, string_bytes, Result, MatchResult}
+use Rattle.std.specs.Prelude.{◌≡◌, ℕ, List, Bool, true, false, string_bytes, Result, MatchResult}
 use Rattle.pb_wire.specs.Fault.{fault}
 use Rattle.pb_wire.specs.declared.fault.RawError.{RawError}
 use Rattle.pb_wire.specs.declared.fault.RawError.TheVariants as raw
@@ -40,9 +40,23 @@ refusal_status (Device path) = 3
 refusal_status (File path) = 3
 refusal_status Memory = 3
 
--- a call whose answer is none of status 3 leaves the count of failures as it was
+-- the refusal names a device that failed, or a file that is not there
+abbrev pub names_device : Refusal → Bool
+names_device (Fault byte path cause) = false
+names_device (Set byte path cause) = false
+names_device (SetFile file cause) = false
+names_device (Link file full_name cause) = false
+names_device (UnknownType name) = false
+names_device TooLarge = false
+names_device (Frame index byte path cause) = false
+names_device (Source file byte cause) = false
+names_device (Device path) = true
+names_device (File path) = true
+names_device Memory = false
+
+-- a call whose answer names no device leaves the count of failures as it was
 abbrev pub KeepsFailures : {F A : Type 0} → (F → ℕ) → F → F → Result A Refusal → Type 0
-KeepsFailures failures old new r = MatchResult r (λ _. failures new ≡ failures old) (λ e. refusal_status e ≢ 3 → failures new ≡ failures old)
+KeepsFailures failures old new r = MatchResult r (λ _. failures new ≡ failures old) (λ e. names_device e ≡ false → failures new ≡ failures old)
 
 -- what a refusal is: an input is refused with this line, a device of this path failed, or memory ran out
 abbrev pub ByRefusal : (List ℕ → Type 0) → (List ℕ → Type 0) → Type 0 → Refusal → Type 0

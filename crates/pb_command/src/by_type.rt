@@ -1,7 +1,7 @@
 //! The steps of the commands that read messages by a type: the set is read, is one, links, and has the type; then the
 //! file of the messages is opened.
 
-ghost use Rattle.std.specs.Prelude.{◌≡◌, ◌+◌, ◌<◌, ◌⊎◌, true, ℕ, List, Option, Some, None, length, IfOk, IfErr};
+ghost use Rattle.std.specs.Prelude.{◌≡◌, ◌≢◌, ◌+◌, ◌<◌, ◌⊎◌, true, ℕ, List, Option, Some, None, length, IfOk, IfErr};
 ghost use Rattle.pb_wire.specs.Fault.{Fault};
 ghost use Rattle.pb_wire.specs.Limits.{full};
 ghost use Rattle.pb_decl.specs.Decls.{DeclaredFile};
@@ -9,7 +9,7 @@ ghost use Rattle.pb_descr.specs.Sets.{IsSetOf};
 ghost use Rattle.pb_link.specs.Linking.{Links};
 ghost use Rattle.pb_command.specs.Answer.{refused, device_failed};
 ghost use Rattle.pb_command.specs.FileMap.{KeepsMap};
-ghost use Rattle.pb_command.specs.Refusal.{KeepsFailures, Refuses};
+ghost use Rattle.pb_command.specs.Refusal.{KeepsFailures, Refuses, names_device};
 ghost use Rattle.pb_command.specs.Report.{fault_line};
 ghost use Rattle.pb_value.specs.WellFormed.{IsWellFormed};
 ghost use Rattle.pb_command.specs.Answers.{FaultAt, TextAt};
@@ -42,6 +42,8 @@ pub fn find_type<'a, F: Files>(
         × NoType source.now.type_name.now source.now.set.now content a)) }
     ensures kept { KeepsFailures F.failures files.old files.new result }
     ensures steady { F.is_steady files.old ≡ true → F.is_steady files.new ≡ true }
+    ensures unfailing { F.is_steady files.old ≡ true → F.failures files.new ≡ F.failures files.old }
+    ensures takes_writes { F.takes_writes files.old ≡ true → F.takes_writes files.new ≡ true }
     ensures files { KeepsMap (F.contents files.old) (F.contents files.new) }
 {
     let pool = pool_at(alloc, source.set, files)?;
@@ -60,6 +62,8 @@ fn pool_at<'a, F: Files>(alloc: Global, path: &'a str, files: &mut F) -> Result<
         × NoType name path.entry.now content a)) }
     ensures kept { KeepsFailures F.failures files.old files.new result }
     ensures steady { F.is_steady files.old ≡ true → F.is_steady files.new ≡ true }
+    ensures unfailing { F.is_steady files.old ≡ true → F.failures files.new ≡ F.failures files.old }
+    ensures takes_writes { F.takes_writes files.old ≡ true → F.takes_writes files.new ≡ true }
     ensures files { KeepsMap (F.contents files.old) (F.contents files.new) }
 {
     let set = read_file(alloc, Limits::FULL, path, files)?;
@@ -93,6 +97,8 @@ pub fn read_message<'p, 'a, F: Files>(
         ⊎ ((f : Fault) × OfFiles F.contents F.is_steady files.old path.entry.now (λ content. FaultAt content pool.now message_type.0 f)
         × (a ≡ refused (fault_line f))))) }
     ensures kept { KeepsFailures F.failures files.old files.new result }
+    ensures unfailing { F.is_steady files.old ≡ true → F.failures files.new ≡ F.failures files.old }
+    ensures takes_writes { F.takes_writes files.old ≡ true → F.takes_writes files.new ≡ true }
     ensures files { KeepsMap (F.contents files.old) (F.contents files.new) }
 {
     let mut input = open_file(path, files)?;
@@ -114,6 +120,8 @@ fn decode_input<'p, 'a, I: Input>(
     ensures read { IfOk result (λ m. OfInput I.left I.is_steady input.old (λ content. TextAt content pool.now message_type.0 m.body)) }
     ensures refused { IfErr result (Refuses (λ a. (OfInput I.left I.is_steady input.old (λ content. content ≡ None) × (a ≡ device_failed path.entry.now))
         ⊎ ((f : Fault) × OfInput I.left I.is_steady input.old (λ content. FaultAt content pool.now message_type.0 f) × (a ≡ refused (fault_line f))))) }
+    ensures kept { KeepsFailures I.failures input.old input.new result }
+    ensures failed { IfErr result (λ e. names_device e ≡ true → I.failures input.new ≢ I.failures input.old) }
 {
     match decode_from(alloc, pool, message_type, input, Limits::FULL) {
         Ok(message) => {

@@ -1,6 +1,6 @@
 //! Sources compiled to a descriptor set.
 
-ghost use Rattle.std.specs.Prelude.{◌≡◌, ◌≤◌, ◌<◌, ◌^◌, [], length, map, IfOk, IfErr};
+ghost use Rattle.std.specs.Prelude.{◌≡◌, ◌≤◌, ◌<◌, ◌^◌, [], length, map, IfOk, IfErr, true};
 ghost use Rattle.pb_descr.specs.Sets.{set_bytes};
 ghost use Rattle.pb_decl.specs.View.{file_view};
 ghost use Rattle.pb_descr.specs.Writing.{set_body};
@@ -32,6 +32,7 @@ pub fn compile<'a, F: Files>(
         (IsSaved F.contents files.old files.new) (IsUnsaved F.contents F.failures files.old files.new)
         (CompileOf F.contents F.is_steady files.old (roots_of roots.entry) out.entry.now (texts_of names.now)) IsNothing result }
     ensures kept { KeepsFailures F.failures files.old files.new result }
+    ensures unfailing { F.is_steady files.old ≡ true → F.takes_writes files.old ≡ true → F.failures files.new ≡ F.failures files.old }
 {
     let gathered = gather(alloc, roots, names, files)?;
     let resolved = resolve(alloc, &gathered)?;

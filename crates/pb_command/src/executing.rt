@@ -1,9 +1,10 @@
 //! What each command does.
 
-ghost use Rattle.std.specs.Prelude.{◌≡◌, ◌≢◌, MatchResult, []};
+ghost use Rattle.std.specs.Prelude.{◌≡◌, ◌≢◌, ℕ, List, [], true, MatchResult};
 ghost use Rattle.pb_command.specs.Answer.{Ends};
 ghost use Rattle.pb_command.specs.Answers.{Answers, AnyAnswers, AnyBegins, Begins, Does, canonical_form};
 ghost use Rattle.pb_command.specs.FileMap.{FileMap, IsHonest, IsSaved, IsUnsaved};
+ghost use Rattle.pb_command.specs.Report.{device_line};
 ghost use Rattle.pb_command.specs.Refusal.{KeepsFailures, refusal_line, refusal_status};
 ghost use Rattle.pb_output.specs.Sending.{Cut, Sent, SentOrCut};
 ghost use Rattle.pb_command.specs.Steps.{BegunOf, Comes, RightOf};
@@ -40,8 +41,14 @@ pub fn execute<F: Files, O: Output, E: Output>(
         (IsUnsaved F.contents F.failures files.old files.new) result (AnyAnswers command.now) (AnyBegins command.now) }
     ensures status { result ≢ 2 }
 
-    // Where the files failed, the status tells it.
+    // Where opening or writing a file failed, the status is 3 and the line names a device. Inputs count
+    // their failed reads themselves, of which these clauses do not speak.
     ensures kept { result ≢ 3 → F.failures files.new ≡ F.failures files.old }
+    ensures failed { F.failures files.new ≢ F.failures files.old
+        → (path : List ℕ) × SentOrCut E.written E.failures err.old err.new (device_line path) }
+
+    // Steady files that take writes do not fail.
+    ensures unfailing { F.is_steady files.old ≡ true → F.takes_writes files.old ≡ true → F.failures files.new ≡ F.failures files.old }
 {
     execute_then(alloc, Afterwards::GoesOn, command, files, out, err)
 }
@@ -62,8 +69,14 @@ pub fn execute_then<F: Files, O: Output, E: Output>(
         (IsUnsaved F.contents F.failures files.old files.new) result (IsHonest F.contents F.is_steady files.old) command.now }
     ensures status { result ≢ 2 }
 
-    // Where the files failed, the status tells it.
+    // Where opening or writing a file failed, the status is 3 and the line names a device. Inputs count
+    // their failed reads themselves, of which these clauses do not speak.
     ensures kept { result ≢ 3 → F.failures files.new ≡ F.failures files.old }
+    ensures failed { F.failures files.new ≢ F.failures files.old
+        → (path : List ℕ) × SentOrCut E.written E.failures err.old err.new (device_line path) }
+
+    // Steady files that take writes do not fail.
+    ensures unfailing { F.is_steady files.old ≡ true → F.takes_writes files.old ≡ true → F.failures files.new ≡ F.failures files.old }
 {
     let outcome = perform(alloc, afterwards, command, files, out);
     conclude(outcome, err)
@@ -81,6 +94,7 @@ fn perform<'a, F: Files, O: Output>(
         (IsSaved F.contents files.old files.new) (IsUnsaved F.contents F.failures files.old files.new)
         (RightOf F.contents F.is_steady files.old command.now) (BegunOf F.contents F.is_steady files.old command.now) result }
     ensures kept { KeepsFailures F.failures files.old files.new result }
+    ensures unfailing { F.is_steady files.old ≡ true → F.takes_writes files.old ≡ true → F.failures files.new ≡ F.failures files.old }
 {
     match command {
         Command::Raw { short, file } => raw(alloc, Limits::FULL, *short, file, files, out),

@@ -1,6 +1,6 @@
 //! What is made of a message.
 
-ghost use Rattle.std.specs.Prelude.{◌≡◌, ◌++◌, ◌<◌, ◌≤◌, ◌^◌, [], codes, length, IfOk, IfErr, MatchResult};
+ghost use Rattle.std.specs.Prelude.{◌≡◌, ◌++◌, ◌<◌, ◌≤◌, ◌^◌, [], codes, length, IfOk, IfErr, MatchResult, true};
 ghost use Rattle.hex.specs.Hex.{encode_lower};
 ghost use Rattle.pb_encode.specs.Encoding.{bytes_of};
 ghost use Rattle.pb_command.specs.Answer.{done, saves, refused};
@@ -44,6 +44,7 @@ pub fn make<'a, F: Files, O: Output>(
         (IsSaved F.contents files.old files.new) (IsUnsaved F.contents F.failures files.old files.new)
         (FormAnswer form.entry message.now) IsNothing result }
     ensures kept { KeepsFailures F.failures files.old files.new result }
+    ensures unfailing { F.takes_writes files.old ≡ true → F.failures files.new ≡ F.failures files.old }
 {
     match form {
         Form::Check => print_ok(out),
@@ -110,6 +111,7 @@ fn save_canonical<'a, F: Files>(
         (IsSaved F.contents files.old files.new) (IsUnsaved F.contents F.failures files.old files.new)
         (CanonAnswer (bytes_of message.now) (saves path.entry.now (bytes_of message.now))) IsNothing result }
     ensures kept { KeepsFailures F.failures files.old files.new result }
+    ensures unfailing { F.takes_writes files.old ≡ true → F.failures files.new ≡ F.failures files.old }
 {
     let bytes = canonical(message)?;
     match files.write_whole(path, &bytes) {

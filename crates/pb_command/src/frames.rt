@@ -1,6 +1,6 @@
 //! The messages of a file, each behind its length.
 
-ghost use Rattle.std.specs.Prelude.{◌≡◌, ◌++◌, ◌<◌, false, codes, decimal, length};
+ghost use Rattle.std.specs.Prelude.{◌≡◌, ◌++◌, ◌<◌, false, codes, decimal, length, true};
 ghost use Rattle.pb_wire.specs.Limits.{full};
 ghost use Rattle.pb_command.specs.FileMap.{IsSaved, IsUnsaved};
 ghost use Rattle.pb_command.specs.FramesAnswer.{frame_lines};
@@ -49,6 +49,7 @@ pub fn frames<'a, F: Files, O: Output>(
         (IsSaved F.contents files.old files.new) (IsUnsaved F.contents F.failures files.old files.new)
         (StreamOf F.contents F.is_steady files.old source.now) (StreamBegun F.contents F.is_steady files.old source.now) result }
     ensures kept { KeepsFailures F.failures files.old files.new result }
+    ensures unfailing { F.is_steady files.old ≡ true → F.failures files.new ≡ F.failures files.old }
 {
     let (pool, kind) = find_type(alloc, source, files)?;
     let answer = frames_at(alloc, &pool, kind, source.file, files, out);
@@ -71,6 +72,7 @@ fn frames_at<'a, F: Files, O: Output>(
         (StreamAt F.contents F.is_steady files.old pool.now message_type.0 path.entry.now)
         (StreamBegunAt F.contents F.is_steady files.old pool.now message_type.0 path.entry.now) result }
     ensures kept { KeepsFailures F.failures files.old files.new result }
+    ensures unfailing { F.is_steady files.old ≡ true → F.failures files.new ≡ F.failures files.old }
 {
     let input = open_file(path, files)?;
     let mut reader = DelimitedReader::new(alloc, pool, message_type, input, Limits::FULL);

@@ -49,6 +49,8 @@ pub fn gather<'a, F: Files>(
     ensures refused { IfErr result (Refuses (StopsOf F.contents F.is_steady files.old (roots_of roots.entry) given (texts_of names.now) nothing_yet)) }
     ensures kept { KeepsFailures F.failures files.old files.new result }
     ensures steady { F.is_steady files.old ≡ true → F.is_steady files.new ≡ true }
+    ensures unfailing { F.is_steady files.old ≡ true → F.failures files.new ≡ F.failures files.old }
+    ensures takes_writes { F.takes_writes files.old ≡ true → F.takes_writes files.new ≡ true }
     ensures files { KeepsMap (F.contents files.old) (F.contents files.new) }
 {
     let mut gathering = Gathering {
@@ -97,6 +99,8 @@ impl Gathering {
         ensures refused { IfErr result (Refuses (StopsOf F.contents F.is_steady files.old (roots_of roots.entry) given (name.now ∷ []) (reached self.old))) }
         ensures kept { KeepsFailures F.failures files.old files.new result }
         ensures steady { F.is_steady files.old ≡ true → F.is_steady files.new ≡ true }
+        ensures unfailing { F.is_steady files.old ≡ true → F.failures files.new ≡ F.failures files.old }
+        ensures takes_writes { F.takes_writes files.old ≡ true → F.takes_writes files.new ≡ true }
         ensures files { KeepsMap (F.contents files.old) (F.contents files.new) }
     {
         if self.names.contains(name.as_bytes()) {
@@ -123,6 +127,8 @@ impl Gathering {
             (Refuses (StopsOf F.contents F.is_steady files.old (roots_of roots.entry) imported (file_view file).imports (reached self.old))) }
         ensures kept { KeepsFailures F.failures files.old files.new result }
         ensures steady { F.is_steady files.old ≡ true → F.is_steady files.new ≡ true }
+        ensures unfailing { F.is_steady files.old ≡ true → F.failures files.new ≡ F.failures files.old }
+        ensures takes_writes { F.takes_writes files.old ≡ true → F.takes_writes files.new ≡ true }
         ensures files { KeepsMap (F.contents files.old) (F.contents files.new) }
     {
         let mut stack = Vec::new(alloc);
@@ -153,6 +159,8 @@ impl Gathering {
             (Refuses (StopsInside (TroubleOf F.contents F.is_steady files.old (roots_of roots.entry)) (reached self.old) (open_view innermost).left)) }
         ensures kept { KeepsFailures F.failures files.old files.new result }
         ensures steady { F.is_steady files.old ≡ true → F.is_steady files.new ≡ true }
+        ensures unfailing { F.is_steady files.old ≡ true → F.failures files.new ≡ F.failures files.old }
+        ensures takes_writes { F.takes_writes files.old ≡ true → F.takes_writes files.new ≡ true }
         ensures files { KeepsMap (F.contents files.old) (F.contents files.new) }
     {
         let Open { file, next } = innermost;
@@ -185,6 +193,8 @@ impl Gathering {
             × (a ≡ told_of name.now t))) }
         ensures kept { KeepsFailures F.failures files.old files.new result }
         ensures steady { F.is_steady files.old ≡ true → F.is_steady files.new ≡ true }
+        ensures unfailing { F.is_steady files.old ≡ true → F.failures files.new ≡ F.failures files.old }
+        ensures takes_writes { F.takes_writes files.old ≡ true → F.takes_writes files.new ≡ true }
         ensures files { KeepsMap (F.contents files.old) (F.contents files.new) }
     {
         if self.names.contains(name.as_bytes()) || leaves_root(name) {

@@ -1,6 +1,6 @@
 //! The files of the system.
 
-ghost use Rattle.std.specs.Prelude.{◌≡◌, None, false};
+ghost use Rattle.std.specs.Prelude.{◌≡◌, ◌≢◌, ◌↔◌, None, false, IsOk, OnOk, OnErr};
 
 use crate::files::Files;
 use pb_wire::{DeviceFault, ReadInput};
@@ -21,6 +21,22 @@ impl<'a, R: rt::Files> HostFiles<'a, R> {
     {
         HostFiles { rt, failures: 0 }
     }
+
+    /// Whether an error of opening a file says that no file has this path. Any other error is a failure, also of a file that may
+    /// not be read.
+    fn judge(&mut self, kind: ErrorKind) -> Result<(), DeviceFault>
+        ensures missing { IsOk result ↔ (kind ≡ ErrorKind.NotFound) }
+        ensures kept { OnOk result (self.new.failures ≡ self.old.failures) }
+        ensures failed { OnErr result (self.new.failures ≢ self.old.failures) }
+    {
+        match kind {
+            ErrorKind::NotFound => Ok(()),
+            _ => {
+                self.failures = self.failures.wrapping_add(1);
+                Err(DeviceFault)
+            }
+        }
+    }
 }
 
 impl<R: rt::Files> Files for HostFiles<'_, R>
@@ -40,10 +56,9 @@ where
     fn open(&mut self, path: &str) -> Result<Option<ReadInput<R::File>>, DeviceFault> {
         match fs::open(self.rt, path) {
             Ok(file) => Ok(Some(ReadInput::new(file))),
-            Err(error) if error.kind() == ErrorKind::NotFound => Ok(None),
-            Err(_) => {
-                self.failures = self.failures.wrapping_add(1);
-                Err(DeviceFault)
+            Err(error) => {
+                self.judge(error.kind())?;
+                Ok(None)
             }
         }
     }

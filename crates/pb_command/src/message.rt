@@ -1,6 +1,6 @@
 //! The message of a file, by its type.
 
-ghost use Rattle.std.specs.Prelude.{◌<◌, length};
+ghost use Rattle.std.specs.Prelude.{◌≡◌, ◌<◌, length, true};
 ghost use Rattle.pb_command.specs.FileMap.{IsSaved, IsUnsaved};
 ghost use Rattle.pb_output.specs.Sending.{Cut, Sent};
 ghost use Rattle.pb_command.specs.Steps.{Comes, IsNothing, MessageAt, MessageOf};
@@ -29,6 +29,7 @@ pub fn message<'a, F: Files, O: Output>(
         (IsSaved F.contents files.old files.new) (IsUnsaved F.contents F.failures files.old files.new)
         (MessageOf F.contents F.is_steady files.old form.entry source.now) IsNothing result }
     ensures kept { KeepsFailures F.failures files.old files.new result }
+    ensures unfailing { F.is_steady files.old ≡ true → F.takes_writes files.old ≡ true → F.failures files.new ≡ F.failures files.old }
 {
     let (pool, kind) = find_type(alloc, source, files)?;
     let answer = message_at(
@@ -61,6 +62,7 @@ fn message_at<'a, F: Files, O: Output>(
         (IsSaved F.contents files.old files.new) (IsUnsaved F.contents F.failures files.old files.new)
         (MessageAt F.contents F.is_steady files.old form.entry pool.now message_type.0 path.entry.now) IsNothing result }
     ensures kept { KeepsFailures F.failures files.old files.new result }
+    ensures unfailing { F.is_steady files.old ≡ true → F.takes_writes files.old ≡ true → F.failures files.new ≡ F.failures files.old }
 {
     let message = read_message(alloc, pool, message_type, path, files)?;
     let answer = make(form, &message, files, out);

@@ -1,6 +1,6 @@
 //! The records of a file, without a schema.
 
-ghost use Rattle.std.specs.Prelude.{◌≡◌, ◌+◌, ◌^◌, ◌<◌, ◌≤◌, ℕ, List, Option};
+ghost use Rattle.std.specs.Prelude.{◌≡◌, ◌+◌, ◌^◌, ◌<◌, ◌≤◌, ℕ, List, Option, true};
 ghost use Rattle.pb_wire.specs.Record.{Record};
 ghost use Rattle.pb_wire.specs.Schema.{blank};
 ghost use Rattle.pb_wire.specs.Grammar.{IsText};
@@ -35,6 +35,7 @@ pub fn raw<'a, F: Files, O: Output>(
         (λ a. (content : Option (List ℕ)) × IsReadOf F.contents F.is_steady files.old (limits.bytes + 1) path.entry.now content
         × RawAnswer limits short path.entry.now content a) IsNothing result }
     ensures kept { KeepsFailures F.failures files.old files.new result }
+    ensures unfailing { F.is_steady files.old ≡ true → F.failures files.new ≡ F.failures files.old }
     ensures files { KeepsMap (F.contents files.old) (F.contents files.new) }
 {
     let text = read_judged(alloc, limits, path, files)?;
@@ -51,6 +52,7 @@ fn read_judged<'a, F: Files>(
 ) -> Result<Vec<u8>, Refusal<'a>>
     ensures judged { Judges limits path.entry.now (IsReadOf F.contents F.is_steady files.old (limits.bytes + 1) path.entry.now) result }
     ensures kept { KeepsFailures F.failures files.old files.new result }
+    ensures unfailing { F.is_steady files.old ≡ true → F.failures files.new ≡ F.failures files.old }
     ensures files { KeepsMap (F.contents files.old) (F.contents files.new) }
 {
     let text = read_file(alloc, limits, path, files)?;

@@ -1,9 +1,9 @@
 //! Opening the file that a command reads, and reading it.
 
-ghost use Rattle.std.specs.Prelude.{◌≡◌, ◌+◌, true, None, Some, drop, IfOk, IfErr, IfSome, IsErrOf, OnOk};
+ghost use Rattle.std.specs.Prelude.{◌≡◌, ◌≢◌, ◌+◌, true, None, Some, drop, IfOk, IfErr, IfSome, OnOk};
 ghost use Rattle.pb_command.specs.Answer.{device_failed};
 ghost use Rattle.pb_command.specs.FileMap.{IsOpened, KeepsMap};
-ghost use Rattle.pb_command.specs.Refusal.{KeepsFailures, Refuses};
+ghost use Rattle.pb_command.specs.Refusal.{KeepsFailures, Refuses, names_device};
 ghost use Rattle.pb_command.specs.Steps.{IsReadFrom, IsReadOf, OfFiles};
 
 use crate::files::Files;
@@ -17,8 +17,11 @@ pub fn open_file<'a, F: Files>(path: &'a str, files: &mut F) -> Result<F::In, Re
         (λ content. IsOpened F.In.left content (Some input) × (F.In.is_steady input ≡ true))) }
     ensures refused { IfErr result (Refuses (λ a. OfFiles F.contents F.is_steady files.old path.entry.now (λ content. content ≡ None)
         × (a ≡ device_failed path.entry.now))) }
+    ensures device { IfErr result (λ e. e ≡ Refusal.Device path.entry) }
     ensures kept { KeepsFailures F.failures files.old files.new result }
     ensures steady { F.is_steady files.old ≡ true → F.is_steady files.new ≡ true }
+    ensures unfailing { F.is_steady files.old ≡ true → F.failures files.new ≡ F.failures files.old }
+    ensures takes_writes { F.takes_writes files.old ≡ true → F.takes_writes files.new ≡ true }
     ensures files { KeepsMap (F.contents files.old) (F.contents files.new) }
 {
     match files.open(path) {
@@ -39,6 +42,8 @@ pub fn read_file<'a, F: Files>(
         × (a ≡ device_failed path.entry.now))) }
     ensures kept { KeepsFailures F.failures files.old files.new result }
     ensures steady { F.is_steady files.old ≡ true → F.is_steady files.new ≡ true }
+    ensures unfailing { F.is_steady files.old ≡ true → F.failures files.new ≡ F.failures files.old }
+    ensures takes_writes { F.takes_writes files.old ≡ true → F.takes_writes files.new ≡ true }
     ensures files { KeepsMap (F.contents files.old) (F.contents files.new) }
 {
     let mut input = open_file(path, files)?;
@@ -56,7 +61,8 @@ fn read_input<'a, I: Input>(
     ensures read { IfOk result (λ v. IsReadFrom I.left I.is_steady input.old (limits.bytes + 1) (Some v.items)) }
     ensures refused { IfErr result (Refuses (λ a. IsReadFrom I.left I.is_steady input.old (limits.bytes + 1) None
         × (a ≡ device_failed path.entry.now))) }
-    ensures memory { IsErrOf result Refusal.Memory → I.failures input.new ≡ I.failures input.old }
+    ensures kept { KeepsFailures I.failures input.old input.new result }
+    ensures failed { IfErr result (λ e. names_device e ≡ true → I.failures input.new ≢ I.failures input.old) }
     ensures rest { IfSome (I.left input.old) (λ left. OnOk result (I.left input.new ≡ Some (drop (limits.bytes + 1) left))) }
 {
     let most = limits.max_bytes() as usize + 1;

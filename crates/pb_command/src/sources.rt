@@ -57,7 +57,10 @@ fn read_bytes<F: Files>(
     ensures read { IfOk result (λ o. IsReadOf F.contents F.is_steady files.old (full.bytes + 1) path.now (option_map (λ v. v.items) o)) }
     ensures failed { IsErrOf result ReadFault.Device → Fails F.contents F.is_steady files.old path.now }
     ensures kept { OnOk result (F.failures files.new ≡ F.failures files.old) }
+    ensures memory { IsErrOf result ReadFault.Memory → F.failures files.new ≡ F.failures files.old }
     ensures steady { F.is_steady files.old ≡ true → F.is_steady files.new ≡ true }
+    ensures unfailing { F.is_steady files.old ≡ true → F.failures files.new ≡ F.failures files.old }
+    ensures takes_writes { F.takes_writes files.old ≡ true → F.takes_writes files.new ≡ true }
     ensures files { KeepsMap (F.contents files.old) (F.contents files.new) }
 {
     let most = Limits::FULL.max_bytes() as usize + 1;
@@ -115,6 +118,8 @@ fn read_under<'a, F: Files>(
         × (a ≡ told_of name.now t))) }
     ensures kept { KeepsFailures F.failures files.old files.new result }
     ensures steady { F.is_steady files.old ≡ true → F.is_steady files.new ≡ true }
+    ensures unfailing { F.is_steady files.old ≡ true → F.failures files.new ≡ F.failures files.old }
+    ensures takes_writes { F.takes_writes files.old ≡ true → F.takes_writes files.new ≡ true }
     ensures files { KeepsMap (F.contents files.old) (F.contents files.new) }
 {
     let path = path_under(alloc, root, name)?;
@@ -142,6 +147,8 @@ fn read_first<'a, F: Files>(
         × TroubleOf F.contents F.is_steady files.old (texts_of roots.now) imported name.now t × (a ≡ told_of name.now t))) }
     ensures kept { KeepsFailures F.failures files.old files.new result }
     ensures steady { F.is_steady files.old ≡ true → F.is_steady files.new ≡ true }
+    ensures unfailing { F.is_steady files.old ≡ true → F.failures files.new ≡ F.failures files.old }
+    ensures takes_writes { F.takes_writes files.old ≡ true → F.takes_writes files.new ≡ true }
     ensures files { KeepsMap (F.contents files.old) (F.contents files.new) }
 {
     for root in roots {
@@ -165,6 +172,8 @@ pub fn read_source<'a, F: Files>(
         × TroubleOf F.contents F.is_steady files.old (roots_of roots.entry) imported name.now t × (a ≡ told_of name.now t))) }
     ensures kept { KeepsFailures F.failures files.old files.new result }
     ensures steady { F.is_steady files.old ≡ true → F.is_steady files.new ≡ true }
+    ensures unfailing { F.is_steady files.old ≡ true → F.failures files.new ≡ F.failures files.old }
+    ensures takes_writes { F.takes_writes files.old ≡ true → F.takes_writes files.new ≡ true }
     ensures files { KeepsMap (F.contents files.old) (F.contents files.new) }
 {
     match read_under(alloc, roots.root, name, files)? {
@@ -185,6 +194,8 @@ pub fn read_given<'a, F: Files>(
         × TroubleOf F.contents F.is_steady files.old (roots_of roots.entry) given name.now t × (a ≡ told_of name.now t))) }
     ensures kept { KeepsFailures F.failures files.old files.new result }
     ensures steady { F.is_steady files.old ≡ true → F.is_steady files.new ≡ true }
+    ensures unfailing { F.is_steady files.old ≡ true → F.failures files.new ≡ F.failures files.old }
+    ensures takes_writes { F.takes_writes files.old ≡ true → F.takes_writes files.new ≡ true }
     ensures files { KeepsMap (F.contents files.old) (F.contents files.new) }
 {
     match read_source(alloc, roots, name, files) {

@@ -4,7 +4,7 @@ use Rattle.pb_command.specs.FileMap.{IsSaved, IsUnsaved}
 use Rattle.pb_output.specs.Sending.{Cut, Sent, SentOrCut}
 use Rattle.pb_command.specs.Steps.{BegunOf, RightOf}
 use Rattle.pb_command.proofs.Coming.{comes_map}
-use Rattle.pb_command.proofs.Endings.{ends_from, kept_but_at_three, never_two}
+use Rattle.pb_command.proofs.Endings.{device_told, ends_from, kept_but_at_three, never_two}
 use Rattle.pb_command.proofs.Honest.{begun_of_any, begun_of_map, right_of_any, right_of_map}
 use Rattle.pb_command.proofs.executing.execute_then.Goals as goal
 
@@ -41,3 +41,8 @@ returns-clause-status g c = never_two _ _ c.perform-outcome.result c.conclude.re
 pub returns-clause-kept : goal.returns-clause-kept
 returns-clause-kept g c = λ other.
     kept_but_at_three _ _ c.perform-outcome.result c.conclude.result _ c.conclude.ensures c.perform-outcome.ensures.kept other
+
+pub returns-clause-failed : goal.returns-clause-failed
+returns-clause-failed g c = λ failed.
+    device_told _ (SentOrCut g.E.Output.written g.E.Output.failures c.args.err.now c.conclude.new.err) c.perform-outcome.result c.conclude.result _
+    c.conclude.ensures c.perform-outcome.ensures.kept failed

@@ -20,6 +20,7 @@ loop-name-init g c = record {
       none_left;
   kept = refl;
   steady = λ s. s;
+  takes_writes = λ s. s;
   files = keeps_same (g.F.Files.contents c.args.files.now);
 }
 
@@ -31,6 +32,7 @@ loop-name-preserved g c =
           c.loop-name.name-index _ (reached c.loop-name.gathering) (reached c.take_given.new.self) c.loop-name-test.true inv.so_far done.taken;
       kept = done.kept ∙ inv.kept;
       steady = λ s. done.steady (inv.steady s);
+      takes_writes = λ s. done.takes_writes (inv.takes_writes s);
       files = keeps_then (g.F.Files.contents c.args.files.now) (g.F.Files.contents c.loop-name.files) (g.F.Files.contents c.take_given.new.files) inv.files done.files;
     }
 

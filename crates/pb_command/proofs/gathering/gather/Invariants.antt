@@ -11,5 +11,6 @@ invariant-loop-name g l = record {
   so_far : GathersOf g.F.Files.contents g.F.Files.is_steady l.fn.files (roots_of l.roots) given (texts_of (take l.name-index l.names)) nothing_yet (gathered (reached l.gathering));
   kept : g.F.Files.failures l.files ≡ g.F.Files.failures l.fn.files;
   steady : g.F.Files.is_steady l.fn.files ≡ true → g.F.Files.is_steady l.files ≡ true;
+  takes_writes : g.F.Files.takes_writes l.fn.files ≡ true → g.F.Files.takes_writes l.files ≡ true;
   files : KeepsMap (g.F.Files.contents l.fn.files) (g.F.Files.contents l.files);
 }

@@ -14,6 +14,7 @@ loop-root-preserved g c =
           c.loop-root.root-index _ c.loop-root-test.true inv.passed none;
       kept = done.kept ∙ inv.kept;
       steady = λ s. done.steady (inv.steady s);
+      takes_writes = λ s. done.takes_writes (inv.takes_writes s);
       files = keeps_then (g.F.Files.contents c.args.files.now) (g.F.Files.contents c.loop-root.files) (g.F.Files.contents c.read_under.new.files) inv.files
           done.files;
     }

@@ -9,5 +9,6 @@ invariant-loop-root g l = record {
   passed : AbsentOf g.F.Files.contents g.F.Files.is_steady l.fn.files (texts_of (take l.root-index l.roots)) l.name;
   kept : g.F.Files.failures l.files ≡ g.F.Files.failures l.fn.files;
   steady : g.F.Files.is_steady l.fn.files ≡ true → g.F.Files.is_steady l.files ≡ true;
+  takes_writes : g.F.Files.takes_writes l.fn.files ≡ true → g.F.Files.takes_writes l.files ≡ true;
   files : KeepsMap (g.F.Files.contents l.fn.files) (g.F.Files.contents l.files);
 }

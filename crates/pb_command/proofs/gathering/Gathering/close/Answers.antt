@@ -21,6 +21,7 @@ loop-preserved g c =
           (reached c.go_on.new.self) inv.leads c.in-Some.ensures.items done.moved;
       kept = done.kept ∙ inv.kept;
       steady = λ s. done.steady (inv.steady s);
+      takes_writes = λ s. done.takes_writes (inv.takes_writes s);
       files = keeps_then (g.F.Files.contents c.args.files.now) (g.F.Files.contents c.loop.files) (g.F.Files.contents c.go_on.new.files) inv.files done.files;
     }
 
@@ -52,4 +53,7 @@ returns-in_err-go_on-clause-files g c =
 pub returns-in_err-go_on-clause-kept : goal.returns-in_err-go_on-clause-kept
 returns-in_err-go_on-clause-kept g c =
     let p = err_from_is_err_and c.from_residual-in_err-go_on.result c.from_residual-in_err-go_on.ensures.1 in
-    rw (p.1, p.2) (λ other. c.in_err-go_on.ensures.kept other ∙ c.loop.invariant.kept)
+    rw (p.1, p.2) (λ none. c.in_err-go_on.ensures.kept none ∙ c.loop.invariant.kept)
+
+pub returns-in_err-go_on-clause-unfailing : goal.returns-in_err-go_on-clause-unfailing
+returns-in_err-go_on-clause-unfailing g c = λ s. c.in_err-go_on.ensures.unfailing (c.loop.invariant.steady s) ∙ c.loop.invariant.kept

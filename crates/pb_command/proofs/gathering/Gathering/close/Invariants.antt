@@ -12,5 +12,6 @@ invariant-loop g l = record {
       (stack_of l.stack.items) (reached l.self);
   kept : g.F.Files.failures l.files ≡ g.F.Files.failures l.fn.files;
   steady : g.F.Files.is_steady l.fn.files ≡ true → g.F.Files.is_steady l.files ≡ true;
+  takes_writes : g.F.Files.takes_writes l.fn.files ≡ true → g.F.Files.takes_writes l.files ≡ true;
   files : KeepsMap (g.F.Files.contents l.fn.files) (g.F.Files.contents l.files);
 }
