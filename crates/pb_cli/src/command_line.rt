@@ -1,11 +1,11 @@
 //! From the words of the command line to the exit status.
 
-ghost use Rattle.std.specs.Prelude.{◌≡◌, ◌≢◌, ◌⊎◌, [], false, Any, Some};
-ghost use Rattle.clap.specs.Words.{fault_of, found_of, kind_of, rows_of, subcommand_name_of, subcommand_rows_of, takes};
+ghost use Rattle.std.specs.Prelude.{◌≡◌, ◌≢◌, ◌⊎◌, ℕ, List, [], true, false, Any, Some};
+ghost use Rattle.clap.specs.Words.{fault_of, found_of, is_simple_and_free, kind_of, rows_of, subcommand_name_of, subcommand_rows_of, takes};
 ghost use Rattle.pb_command.specs.Answers.{Does};
 ghost use Rattle.pb_command.specs.CompileAnswer.{texts_of};
 ghost use Rattle.pb_command.specs.FileMap.{IsHonest, IsSaved, IsUnsaved};
-ghost use Rattle.pb_command.specs.Report.{memory_line};
+ghost use Rattle.pb_command.specs.Report.{device_line, memory_line};
 ghost use Rattle.pb_output.specs.Sending.{Cut, Sent, SentOrCut};
 ghost use Rattle.pb_cli.specs.Running.{DoesNamed, RefusesWords};
 ghost use Rattle.pb_cli.specs.Words.{AreRoots, IsMatched, IsSource, flag_of, value_of, values_of, tool, tool_names, words_of};
@@ -38,9 +38,17 @@ pub fn run<F: Files, O: Output, E: Output>(
         → RefusesWords (Sent O.written O.failures out.old out.new) (SentOrCut E.written E.failures err.old err.new)
         (IsSaved F.contents files.old files.new) result }
     ensures usage { result ≡ 2 → (fault_of tool (words_of args.now) ≢ []) × (takes tool (words_of args.now) ≡ false) }
+    // The command line is one whose words are judged as clap says, so that the three clauses above are not empty.
+    ensures simple { is_simple_and_free tool ≡ true }
 
-    // Where the files failed, the status tells it.
+    // Where opening or writing a file failed, the status is 3 and the line names a device. Inputs count
+    // their failed reads themselves, of which these clauses do not speak.
     ensures kept { result ≢ 3 → F.failures files.new ≡ F.failures files.old }
+    ensures failed { F.failures files.new ≢ F.failures files.old
+        → (path : List ℕ) × SentOrCut E.written E.failures err.old err.new (device_line path) }
+
+    // Steady files that take writes do not fail.
+    ensures unfailing { F.is_steady files.old ≡ true → F.takes_writes files.old ≡ true → F.failures files.new ≡ F.failures files.old }
 {
     run_then(alloc, Afterwards::GoesOn, args, files, out, err)
 }
@@ -66,9 +74,17 @@ pub fn run_then<F: Files, O: Output, E: Output>(
         → RefusesWords (Sent O.written O.failures out.old out.new) (SentOrCut E.written E.failures err.old err.new)
         (IsSaved F.contents files.old files.new) result }
     ensures usage { result ≡ 2 → (fault_of tool (words_of args.now) ≢ []) × (takes tool (words_of args.now) ≡ false) }
+    // The command line is one whose words are judged as clap says, so that the three clauses above are not empty.
+    ensures simple { is_simple_and_free tool ≡ true }
 
-    // Where the files failed, the status tells it.
+    // Where opening or writing a file failed, the status is 3 and the line names a device. Inputs count
+    // their failed reads themselves, of which these clauses do not speak.
     ensures kept { result ≢ 3 → F.failures files.new ≡ F.failures files.old }
+    ensures failed { F.failures files.new ≢ F.failures files.old
+        → (path : List ℕ) × SentOrCut E.written E.failures err.old err.new (device_line path) }
+
+    // Steady files that take writes do not fail.
+    ensures unfailing { F.is_steady files.old ≡ true → F.takes_writes files.old ≡ true → F.failures files.new ≡ F.failures files.old }
 {
     let Ok(definition) = definition(alloc) else {
         return Refusal::Memory.tell(err);
@@ -111,6 +127,9 @@ fn dispatch<F: Files, O: Output, E: Output>(
         (IsUnsaved F.contents F.failures files.old files.new) result (IsHonest F.contents F.is_steady files.old) command }
     ensures status { result ≢ 2 }
     ensures kept { result ≢ 3 → F.failures files.new ≡ F.failures files.old }
+    ensures failed { F.failures files.new ≢ F.failures files.old
+        → (path : List ℕ) × SentOrCut E.written E.failures err.old err.new (device_line path) }
+    ensures unfailing { F.is_steady files.old ≡ true → F.takes_writes files.old ≡ true → F.failures files.new ≡ F.failures files.old }
 {
     let command = command_of(matches);
     execute_then(alloc, afterwards, &command, files, out, err)

@@ -53,3 +53,21 @@ dispatch-requires g c =
     let built_tool = e.parsed.from in
     let there = (e.parsed.parsed (built_tool.globals ∙ c.in-Ok.ensures.local)).checked.subcommand (built_tool.needs_subcommand ∙ ap (λ (a : App). a.top.subcommand_required) app) in
     subcommand_named _ words there ((e.matches (ap is_simple app)).1 ∙ ap (λ (a : App). subcommand_of a words) app)
+
+pub returns-in-Ok-try_get_matches_from-clause-simple : goal.returns-in-Ok-try_get_matches_from-clause-simple
+returns-in-Ok-try_get_matches_from-clause-simple g c = refl
+
+pub returns-in-Err-clause-simple : goal.returns-in-Err-clause-simple
+returns-in-Err-clause-simple g c = refl
+
+pub returns-in_default-clause-simple : goal.returns-in_default-clause-simple
+returns-in_default-clause-simple g c = refl
+
+pub returns-in-Ok-try_get_matches_from-clause-failed : goal.returns-in-Ok-try_get_matches_from-clause-failed
+returns-in-Ok-try_get_matches_from-clause-failed g c = c.dispatch.ensures.failed
+
+pub returns-in-Err-clause-failed : goal.returns-in-Err-clause-failed
+returns-in-Err-clause-failed g c = λ failed. absurd (failed refl)
+
+pub returns-in_default-clause-failed : goal.returns-in_default-clause-failed
+returns-in_default-clause-failed g c = λ failed. absurd (failed refl)
