@@ -21,7 +21,7 @@
 
 ghost use Rattle.std.specs.Prelude.{◌<◌, length};
 
-use pb_decode::{DecodeError, PushDecoder, decode};
+use pb_decode::{DecodeError, PushDecoder, decode, validate};
 use pb_samples::{
     EnumRow, FIELDS_OF_F, FIELDS_OF_T, FieldRow, FileRow, PACKED, TypeRow, UNPACKED, pool_of,
 };
@@ -127,6 +127,10 @@ impl Schema {
         limits: Limits,
     ) -> Result<DynamicMessage<'p>, DecodeError> {
         decode(self.alloc, &self.pool, self.kind, bytes, limits)
+    }
+
+    pub(crate) fn validate(&self, bytes: &[u8], limits: Limits) -> Result<(), DecodeError> {
+        validate(self.alloc, &self.pool, self.kind, bytes, limits)
     }
 }
 

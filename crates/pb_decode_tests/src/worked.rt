@@ -2,7 +2,7 @@
 
 ghost use Rattle.std.specs.Prelude.{◌<◌};
 
-use super::answers::{is_answered, is_answered_or_memory};
+use super::answers::{is_answered, is_answered_or_memory, is_refused};
 use super::sample::Schema;
 use super::words::{bytes_of, word};
 use pb_decode::{DecodeError, PushDecoder};
@@ -65,6 +65,14 @@ fn is_fed_at_cuts(schema: &Schema, limits: Limits, bytes: &[u8], told: &str) -> 
     Ok(true)
 }
 
+/// Whether `validate` accepts bytes whose answer is a message, and reports the same fault of others.
+fn is_validated(schema: &Schema, limits: Limits, bytes: &[u8], told: &str) -> Result<bool, Fail> {
+    match schema.validate(bytes, limits) {
+        Ok(()) => Ok(told.starts_with("= ")),
+        Err(error) => is_refused(schema.alloc, error, told),
+    }
+}
+
 /// Whether the answer is as told at once, byte by byte and at every cut into two.
 pub(crate) fn is_decoded(schema: &Schema, limits: Limits, words: &str) -> Result<bool, Fail> {
     let (input, told) = word(words);
@@ -72,6 +80,7 @@ pub(crate) fn is_decoded(schema: &Schema, limits: Limits, words: &str) -> Result
     let at_once = schema.decode(&bytes, limits);
     Ok(
         is_answered(schema.alloc, at_once, told)?
+            && is_validated(schema, limits, &bytes, told)?
             && is_fed(schema, limits, b"", &bytes, 1, told)?
             && is_fed_at_cuts(schema, limits, &bytes, told)?,
     )
