@@ -5,7 +5,7 @@ use super::sample::Schema;
 use super::words::{bytes_of, word};
 use super::worked::{is_fed, is_finished};
 use pb_decode::{DecodeError, PushDecoder};
-use pb_wire::{Limits, put_varint};
+use pb_wire::{Cause, Limits, put_varint};
 use std::alloc::Global;
 use std::test::Fail;
 
@@ -183,4 +183,52 @@ pub(crate) fn are_nested(schema: &Schema, limits: Limits, words: &str) -> Result
     let bytes = maps_around(schema.alloc, &before, innermost, levels)?;
     let at_once = schema.decode(&bytes, limits);
     Ok(is_answered(schema.alloc, at_once, told)? && is_fed(schema, limits, b"", &bytes, 1, told)?)
+}
+
+/// The field 1 of T that many times, and then a record of number 0.
+fn records_before_fault(alloc: Global, count: u32) -> Result<Vec<u8>, Fail> {
+    let mut bytes = Vec::new(alloc);
+    for _ in 0..count {
+        bytes.extend_from_slice(b"\x08\x01")?;
+    }
+    bytes.extend_from_slice(b"\x00\x01")?;
+    Ok(bytes)
+}
+
+/// The record of the field 3 of T with these bytes.
+fn message_around(alloc: Global, inner: &[u8]) -> Result<Vec<u8>, Fail> {
+    let mut bytes = Vec::new(alloc);
+    bytes.push(0x1a)?;
+    bytes.extend_from_slice(put_varint(inner.len() as u64).as_slice())?;
+    bytes.extend_from_slice(inner)?;
+    Ok(bytes)
+}
+
+fn messages_around(alloc: Global, innermost: Vec<u8>, levels: u32) -> Result<Vec<u8>, Fail> {
+    let mut bytes = innermost;
+    for _ in 0..levels {
+        bytes = message_around(alloc, &bytes)?;
+    }
+    Ok(bytes)
+}
+
+/// Whether a decoder refuses messages in messages, given in one piece, for the fault after that many records in the innermost. A reader that read
+/// the records again at each level, or at each record, would take longer than a test may.
+pub(crate) fn is_refused_in_time(
+    schema: &Schema,
+    limits: Limits,
+    words: &str,
+) -> Result<bool, Fail> {
+    let (levels, count) = word(words);
+    let innermost = records_before_fault(schema.alloc, count.parse::<u32>()?)?;
+    let bytes = messages_around(schema.alloc, innermost, levels.parse::<u32>()?)?;
+    let mut decoder = schema.decoder(limits)?;
+    let answer = decoder.feed(&bytes);
+    Ok(matches!(
+        answer,
+        Err(DecodeError::Fault {
+            cause: Cause::NumberZero,
+            ..
+        })
+    ))
 }

@@ -1,7 +1,9 @@
 //! The tests: each reads its rows, in a pool of the sample's types.
 
 use super::devices::{is_framed, is_read};
-use super::hostile::{are_alive, are_falling, are_fronts, are_nested, is_repeated};
+use super::hostile::{
+    are_alive, are_falling, are_fronts, are_nested, is_refused_in_time, is_repeated,
+};
 use super::messages::{is_merged, is_put_onto};
 use super::pieces::is_pushed;
 use super::rows::{
@@ -12,6 +14,7 @@ use super::rows::{
 use super::sample::{Schema, sample};
 use super::words::{limits_of, word};
 use super::worked::{is_decoded, is_grown};
+use pb_wire::Limits;
 use std::alloc::Global;
 use std::test::Fail;
 
@@ -229,5 +232,13 @@ fn many_records(rt: HostRuntime) -> Result<(), Fail> {
 fn one_record(rt: HostRuntime) -> Result<(), Fail> {
     let wrong = wrong_row(rt.alloc(), "T", ONE_RECORD)?;
     assert!(rt; wrong.is_none(), "{wrong:?}");
+    Ok(())
+}
+
+/// The time limit of a test is what fails where bytes are read again.
+#[test]
+fn refused_in_time(rt: HostRuntime) -> Result<(), Fail> {
+    let schema = sample(rt.alloc(), "T")?;
+    assert!(rt; is_refused_in_time(&schema, Limits::FULL, "92 200000")?);
     Ok(())
 }
