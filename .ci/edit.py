@@ -1,11 +1,11 @@
-"""Wrong bodies, put into a copy of the tree."""
+"""Mutants, put into a copy of the tree."""
 import os
 import re
 import subprocess
 import sys
 
 TOP = os.path.dirname(os.path.dirname(os.path.realpath(__file__)))
-# The wrong bodies beside the gate; those of the gate stand in crates/NAME/must-fail.
+# The mutants beside the gate; those of the gate are in crates/NAME/must-fail.
 EDITS = f"{TOP}/.ci/edits"
 
 # A proof file that names what an edit took away, and what cites that proof: by itself it says little of a contract.

@@ -1,5 +1,4 @@
-// Counts the growths of memory of the program that it is loaded into, and refuses the one that REFUSED numbers, with all behind it where ONWARD is
-// set. The count goes to the file GROWTHS when the program ends. It takes no memory itself.
+// Counts the allocations of the program that it is loaded into, and refuses the one that REFUSED numbers, with all after it where ONWARD is set. The count goes to the file GROWTHS when the program ends. It takes no memory itself.
 #define _GNU_SOURCE
 #include <dlfcn.h>
 #include <errno.h>
