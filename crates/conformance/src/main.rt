@@ -11,7 +11,7 @@ mod testee;
 use crate::frames::serve;
 use crate::stop::Stop;
 use crate::testee::Testee;
-use pb_descr::read_set;
+use pb_descr::read_set_lenient;
 use pb_link::link;
 use pb_schema::Pool;
 use pb_wire::{Limits, ReadInput, WriteOutput, read_up_to};
@@ -46,6 +46,6 @@ fn read_pool(rt: &HostRuntime, path: &str) -> Result<Pool, Stop> {
     let mut file = ReadInput::new(fs::open(rt, path).map_err(|_| Stop::File)?);
     let most = Limits::FULL.max_bytes() as usize + 1;
     let set = read_up_to(rt.alloc(), &mut file, most).map_err(|_| Stop::File)?;
-    let files = read_set(rt.alloc(), &set).map_err(|_| Stop::Set)?;
-    link(rt.alloc(), &files).map_err(|_| Stop::Set)
+    let read = read_set_lenient(rt.alloc(), &set).map_err(|_| Stop::Set)?;
+    link(rt.alloc(), &read.files).map_err(|_| Stop::Set)
 }

@@ -30,6 +30,8 @@ pub mod WithoutLemmas
 pub mod OmittedLemmas
 -- for why sets are not read leniently
 pub mod LenientLemmas
+-- for the law that lenient reading is strict reading where nothing is left out
+pub mod NothingOmitted
 -- for the law that bytes are one set, or have one fault or first cause
 pub mod OneSet
 -- for files that are written as a set without a cause, as the declarations of a pool are

@@ -4,6 +4,7 @@ pub mod Contents
 pub mod ErrorNumber
 pub mod Held
 pub mod Lenient
+pub mod NothingOmitted
 pub mod Omitted
 pub mod OmittedName
 pub mod Pool

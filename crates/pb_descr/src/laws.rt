@@ -2,7 +2,7 @@
 
 ghost use Rattle.std.specs.Prelude.{◌≡◌, ℕ, [], List, All};
 ghost use Rattle.pb_wire.specs.Limits.{Bounds, full};
-ghost use Rattle.pb_wire.specs.Ranges.{IsByte};
+ghost use Rattle.pb_wire.specs.Ranges.{IsByte, AreBytes};
 ghost use Rattle.pb_schema.specs.Rules.{IsPool};
 ghost use Rattle.pb_decl.specs.Decls.{DeclaredFile};
 ghost use Rattle.pb_descr.specs.Pool.{descriptor_types};
@@ -10,6 +10,8 @@ ghost use Rattle.pb_descr.specs.Reading.{files_in};
 ghost use Rattle.pb_descr.specs.Causes.{set_causes};
 ghost use Rattle.pb_descr.specs.Writing.{set_body};
 ghost use Rattle.pb_descr.specs.Sets.{IsSetOf, HasSetFault, IsWritable, set_bytes};
+ghost use Rattle.pb_descr.specs.Lenient.{IsLenientSetOf};
+ghost use Rattle.pb_descr.specs.NothingOmitted.{HasNoSuchPart};
 ghost use Rattle.pb_decl.specs.One.{ExactlyOne};
 
 /// What files are written as declares these files. Where it can be written and shows no cause, its canonical bytes are a set of these
@@ -24,4 +26,11 @@ pub fn set_back()
 /// two, always one.
 pub fn one_set()
     ensures one { (limits : Bounds) (b : List ℕ) → All IsByte b → ExactlyOne (IsSetOf limits b) (HasSetFault limits b) }
+{}
+
+/// Where lenient reading leaves nothing out, it reads what strict reading reads; and a set that has no part for lenient reading to leave
+/// out is read leniently as it is read strictly.
+pub fn nothing_omitted()
+    ensures strictly { (b : List ℕ) (files : List DeclaredFile) → AreBytes b → IsLenientSetOf full b files [] → IsSetOf full b files }
+    ensures leniently { (b : List ℕ) (files : List DeclaredFile) → AreBytes b → HasNoSuchPart b → IsSetOf full b files → IsLenientSetOf full b files [] }
 {}

@@ -1,11 +1,12 @@
 // What libprotobuf makes of sets and messages: peer strip SET OUT, peer canon SET TYPE FILE, peer payloads SET TYPE FILE FOLDER.
 //
-// `strip` drops from a set what pbtool takes no set with: extensions and their ranges, the mark of message sets, defaults, that a field
-// is required, and maps whose values are of a closed enum. None of it changes how a message's other fields are written; the records of
-// extensions and of these maps are unknown ones then. It prints what it dropped. `canon` writes the deterministic serialization of a
+// `strip` drops from a set what pbtool's lenient reading leaves out: extensions and their ranges, defaults, that a field is required, and
+// the mark of the entries of maps whose values are of a closed enum, so that such a map is the list of its entries; and the mark of message
+// sets, since libprotobuf takes none without extensions. None of it changes how a message's other fields are written; the records of
+// extensions are unknown ones then. It prints what it dropped. `canon` writes the deterministic serialization of a
 // message to standard output. `payloads` writes each payload of a message of benchmarks.proto to a file in FOLDER, and prints the type
 // that the message names.
-#include "../texts/texts.h"
+#include "../../bench/texts/texts.h"
 
 #include <google/protobuf/descriptor.h>
 #include <google/protobuf/descriptor.pb.h>
@@ -42,21 +43,17 @@ static void closed_enums_of(const std::string& scope, const DescriptorProto& mes
     for (const DescriptorProto& inner : message.nested_type()) closed_enums_of(scope + "." + message.name(), inner, names);
 }
 
-static void strip_maps(const std::string& name, DescriptorProto* message, const Names& closed, Dropped* dropped) {
-    for (int k = message->nested_type_size() - 1; k >= 0; k--) {
-        const DescriptorProto& entry = message->nested_type(k);
+static void strip_maps(DescriptorProto* message, const Names& closed, Dropped* dropped) {
+    for (DescriptorProto& entry : *message->mutable_nested_type()) {
         if (!entry.options().map_entry() || !closed.count(entry.field(1).type_name())) continue;
-        std::string entry_name = name + "." + entry.name();
-        message->mutable_nested_type()->DeleteSubrange(k, 1);
-        for (int j = message->field_size() - 1; j >= 0; j--)
-            if (message->field(j).type_name() == entry_name) message->mutable_field()->DeleteSubrange(j, 1);
+        entry.clear_options();
         dropped->maps++;
     }
 }
 
 static void strip_message(const std::string& scope, DescriptorProto* message, const Names& closed, Dropped* dropped) {
     std::string name = scope + "." + message->name();
-    strip_maps(name, message, closed, dropped);
+    strip_maps(message, closed, dropped);
     dropped->extensions += message->extension_size();
     message->clear_extension();
     dropped->ranges += message->extension_range_size();
