@@ -1,4 +1,4 @@
--- Places at an index of the bytes, and what is told of tokens there.
+-- Places at an index of the bytes, and the tokens that are read there.
 use Rattle.std.proofs.Common.{◌≡◌, ℕ, ◌+◌, ◌-◌, ◌<◌, ◌≤◌, ◌^◌, List, [], length, take, drop, refl, sym, ap, subst, ◌∙◌, arith, length-drop, drop-drop, Option, Some, None, ◌++◌, append_assoc}
 use Rattle.std.specs.Prelude.{option_map}
 use Rattle.std.proofs.lemmas.List.{take_all, length-take-le, append-nil, take_at}
@@ -27,7 +27,7 @@ known_twice : (e : Option ℕ) (a b : ℕ) → option_map (λ (z : ℕ). z - b) 
 known_twice None a b = refl
 known_twice (Some e) a b = let same : (e - a) - b ≡ e - (a + b) = omega arith in ap (λ (z : ℕ). Some z) same
 
--- the place after so many bytes
+-- the place n bytes further
 pub here_passed : (b : List ℕ) (at n : ℕ) (to : Option ℕ) → passed (here b at to) n ≡ here b (at + n) to
 here_passed b at n to = same_parts (passed (here b at to) n) (here b (at + n) to) refl (known_twice to at n) (drop-drop n at b)
 

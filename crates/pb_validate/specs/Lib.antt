@@ -3,3 +3,4 @@ pub mod Here
 pub mod Numbers
 pub mod Payloads
 pub mod Judging
+pub mod Whole

@@ -20,6 +20,7 @@ use crate::payload::{list_end, text_end, unread_end};
 use crate::refusal::{Refusal, below, of_longer};
 use crate::step::step_after;
 use crate::tokens::{RecordTag, length_at, number_end, refused, tag_at};
+use crate::whole::are_whole;
 use pb_schema::{MessageId, Pool};
 use pb_wire::{Cause, Limits, PathStep, RawError};
 use std::alloc::Global;
@@ -266,8 +267,30 @@ pub fn judge(
     judge_within(alloc, pool, message_type, bytes, limits)
 }
 
-/// As `judge`, of what was answered.
+/// As `judge`, of what was answered. Whole messages are read once, by a pass that finds no faults.
 fn judge_within(
+    alloc: Global,
+    pool: &Pool,
+    message_type: MessageId,
+    bytes: &[u8],
+    limits: Limits,
+) -> Result<(), RawError>
+    requires rules { IsPool pool.now }
+    requires within { message_type.0 < length pool.now.messages }
+    ensures ok { IfOk result (λ _. IsSomeText (schema_of pool.now) (a_message message_type.0) limits bytes.now) }
+    ensures fault { IfErr result (λ e. IsRefusal e (HasFault (schema_of pool.now) (a_message message_type.0) limits bytes.now)) }
+{
+    if bytes.len() <= limits.max_bytes() as usize {
+        let context = Context::Message(message_type);
+        if are_whole(pool, context, limits.max_depth(), bytes) {
+            return Ok(());
+        }
+    }
+    find_fault(alloc, pool, message_type, bytes, limits)
+}
+
+/// As `judge_within`, by a pass that finds the fault and its path.
+fn find_fault(
     alloc: Global,
     pool: &Pool,
     message_type: MessageId,

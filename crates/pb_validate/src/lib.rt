@@ -12,5 +12,7 @@ mod payload;
 mod refusal;
 mod step;
 mod tokens;
+mod varints;
+mod whole;
 
 pub use judging::judge;

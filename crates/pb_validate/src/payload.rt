@@ -1,4 +1,4 @@
-//! Payloads behind their lengths that hold no records.
+//! Payloads that hold no records, each after its length.
 
 ghost use Rattle.std.specs.Prelude.{◌≡◌, ◌⊎◌, ◌≤◌, ◌-◌, ◌<◌, ◌^◌, ℕ, List, [], length, IfOk, IfErr, IsUtf8};
 ghost use Rattle.pb_wire.specs.Record.{len};
@@ -16,7 +16,11 @@ use pb_wire::{Cause, WireFault};
 
 /// The payload whose length begins at an index: the indexes where it begins and ends.
 #[inline(always)]
-fn payload_at(bytes: &[u8], at: usize, to: Option<u32>) -> Result<(usize, usize), WireFault>
+pub(crate) fn payload_at(
+    bytes: &[u8],
+    at: usize,
+    to: Option<u32>,
+) -> Result<(usize, usize), WireFault>
     requires { at ≤ length bytes.now }
     ensures within { IfOk result (λ r. (at < r.0) × (r.0 ≤ r.1) × (r.1 ≤ length bytes.now)) }
     ensures ok { IfOk result (λ r. HasLength (here bytes.now at to) (r.1 - r.0) (here bytes.now r.0 to)) }
