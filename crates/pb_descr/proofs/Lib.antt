@@ -11,6 +11,8 @@ pub mod WrittenFits
 pub mod DepthLemmas
 -- for that depth by how deep messages are declared in each other, in the crates above too
 pub mod NestLemmas
+-- for the law that real files within the limits can be written
+pub mod RangeLemmas
 -- for the law that what was written is read back as the declarations
 pub mod RoundTrip
 -- for `write_set`: why a set is refused

@@ -63,7 +63,7 @@ abbrev list_cause : Bool → Option ValueError → Option ValueError
 list_cause b c = or_else (or_else (or_else (unless b WrongKind) None) None) c
 
 -- of a kind that is no closed enum each number stands
-all_declared : (k : Kind) → closed_enum k ≡ None → (ds : List Datum) → datums_declared descriptor_types k (datums_of ds) ≡ true
+pub all_declared : (k : Kind) → closed_enum k ≡ None → (ds : List Datum) → datums_declared descriptor_types k (datums_of ds) ≡ true
 all_declared k never [] = refl
 all_declared k never (scalar x ∷ ds) = ap (λ o. declares_in descriptor_types o x && datums_declared descriptor_types k (datums_of ds)) never ∙ all_declared k never ds
 all_declared k never (one_message b ∷ ds) = all_declared k never ds

@@ -9,7 +9,9 @@ pub mod Omitted
 pub mod OmittedName
 pub mod Pool
 pub mod PoolRows
+pub mod Ranges
 pub mod Reading
 pub mod Sets
 pub mod Without
+pub mod Writable
 pub mod Writing

@@ -1,10 +1,11 @@
 //! Laws of descriptor sets.
 
-ghost use Rattle.std.specs.Prelude.{◌≡◌, ℕ, [], List, All};
+ghost use Rattle.std.specs.Prelude.{◌≡◌, ℕ, [], List, All, map};
 ghost use Rattle.pb_wire.specs.Limits.{Bounds, full};
 ghost use Rattle.pb_wire.specs.Ranges.{IsByte, AreBytes};
 ghost use Rattle.pb_schema.specs.Rules.{IsPool};
 ghost use Rattle.pb_decl.specs.Decls.{DeclaredFile};
+ghost use Rattle.pb_decl.specs.View.{file_view};
 ghost use Rattle.pb_descr.specs.Pool.{descriptor_types};
 ghost use Rattle.pb_descr.specs.Reading.{files_in};
 ghost use Rattle.pb_descr.specs.Causes.{set_causes};
@@ -12,7 +13,11 @@ ghost use Rattle.pb_descr.specs.Writing.{set_body};
 ghost use Rattle.pb_descr.specs.Sets.{IsSetOf, HasSetFault, IsWritable, set_bytes};
 ghost use Rattle.pb_descr.specs.Lenient.{IsLenientSetOf};
 ghost use Rattle.pb_descr.specs.NothingOmitted.{HasNoSuchPart};
+ghost use Rattle.pb_descr.specs.Writable.{IsWithinLimits};
 ghost use Rattle.pb_decl.specs.One.{ExactlyOne};
+
+use crate::ranges::read_files;
+use pb_decl::FileDecl;
 
 /// What files are written as declares these files. Where it can be written and shows no cause, its canonical bytes are a set of these
 /// files. The types of descriptor sets are a pool.
@@ -34,3 +39,12 @@ pub fn nothing_omitted()
     ensures strictly { (b : List ℕ) (files : List DeclaredFile) → AreBytes b → IsLenientSetOf full b files [] → IsSetOf full b files }
     ensures leniently { (b : List ℕ) (files : List DeclaredFile) → AreBytes b → HasNoSuchPart b → IsSetOf full b files → IsLenientSetOf full b files [] }
 {}
+
+/// The set of files can be written where it nests at most 100 levels deep and its bytes are fewer than 2^31.
+///
+/// In time by what the files declare, without memory: numbers fit 32 bits once they are read.
+pub fn writable(files: &[FileDecl])
+    ensures limits { IsWithinLimits (map file_view files.now) → IsWritable (map file_view files.now) }
+{
+    read_files(files);
+}

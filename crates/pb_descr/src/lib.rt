@@ -30,6 +30,7 @@ mod messages;
 mod omitted;
 mod omitting;
 mod pool;
+mod ranges;
 mod reading;
 mod stripping;
 mod writing;

@@ -15,7 +15,8 @@ ghost use Rattle.pb_schema.specs.Names.{name_at};
 ghost use Rattle.pb_schema.specs.Rules.{IsPool};
 ghost use Rattle.pb_decl.specs.View.{file_view};
 ghost use Rattle.pb_descr.specs.Causes.{set_causes};
-ghost use Rattle.pb_descr.specs.Sets.{IsSetOf, IsWritable, set_bytes};
+ghost use Rattle.pb_descr.specs.Sets.{IsSetOf, set_bytes};
+ghost use Rattle.pb_descr.specs.Writable.{IsWithinLimits};
 ghost use Rattle.pb_descr.specs.Writing.{set_body};
 ghost use Rattle.pb_rules.specs.declared.error.LinkError.TheVariants.{Memory};
 ghost use Rattle.pb_link.specs.Linking.{Links};
@@ -24,7 +25,7 @@ ghost use Rattle.pb_link.specs.Nested.{inside_view, inside_file};
 
 use crate::declaring::nesting::{Inside, nested};
 use pb_decl::FileDecl;
-use pb_descr::laws::set_back;
+use pb_descr::laws::{set_back, writable};
 use pb_rules::LinkError;
 use pb_schema::{FileInfo, Pool};
 use std::alloc::{AllocError, Global};
@@ -120,17 +121,18 @@ fn pool_decls(alloc: Global, pool: &Pool) -> Result<Vec<FileDecl>, AllocError>
 /// name full behind a dot, and entry messages and the oneofs of optional fields made anew.
 ///
 /// Every rule of linking holds of them, and linking them makes the pool's types again. Their set shows no cause, so that its canonical
-/// bytes, which `write_set` writes, are a set of them.
+/// bytes, which `write_set` writes, are a set of them where it nests at most 100 levels deep and has fewer than 2^31 bytes.
 ///
 /// In time and memory by the size of the pool and of the names that its fields mention.
 pub fn to_decls(alloc: Global, pool: &Pool) -> Result<Vec<FileDecl>, LinkError>
     ensures decls { IfOk result (λ v. map file_view v.items ≡ decls_of pool.now) }
     ensures linked { IfOk result (λ v. Links (map file_view v.items) pool.now) }
     ensures silent { IfOk result (λ v. set_causes (set_body (map file_view v.items)) ≡ []) }
-    ensures set { IfOk result (λ v. IsWritable (map file_view v.items) → IsSetOf full (set_bytes (map file_view v.items)) (map file_view v.items)) }
+    ensures set { IfOk result (λ v. IsWithinLimits (map file_view v.items) → IsSetOf full (set_bytes (map file_view v.items)) (map file_view v.items)) }
     ensures refused { IfErr result (λ e. e ≡ Memory) }
 {
     let decls = pool_decls(alloc, pool)?;
     set_back();
+    writable(&decls);
     Ok(decls)
 }

@@ -22,6 +22,6 @@ pub returns-clause-silent : goal.returns-clause-silent
 returns-clause-silent c = subst (λ files. set_causes (set_body files) ≡ []) (sym c.in_ok-decls.ensures.decls) (declared_silent c.args.pool.now c.in_ok-decls.ensures.rules)
 
 pub returns-clause-set : goal.returns-clause-set
-returns-clause-set c = λ writable.
-    c.set_back.ensures.bytes (map file_view c.in_ok-decls.decls.items) writable
+returns-clause-set c = λ within.
+    c.set_back.ensures.bytes (map file_view c.in_ok-decls.decls.items) (c.writable.ensures.limits within)
     (subst (λ files. set_causes (set_body files) ≡ []) (sym c.in_ok-decls.ensures.decls) (declared_silent c.args.pool.now c.in_ok-decls.ensures.rules))

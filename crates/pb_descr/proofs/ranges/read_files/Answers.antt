@@ -1,0 +1,12 @@
+use Rattle.std.proofs.Common.{◌≤◌}
+use Rattle.pb_decl.specs.Decls.{DeclaredFile}
+use Rattle.pb_decl.specs.Nests.{all_nest}
+use Rattle.pb_decl.specs.View.{file_view}
+use Rattle.pb_descr.specs.Ranges.{IsFileInRange}
+use Rattle.pb_descr.proofs.RangeLemmas.{go_on}
+use Rattle.pb_descr.proofs.ranges.read_files.Goals as goal
+
+pub loop-file-preserved : goal.loop-file-preserved
+loop-file-preserved c =
+    go_on (λ (f : DeclaredFile). all_nest f.messages ≤ 100 → IsFileInRange f) file_view c.args.files.now c.loop-file.file-index c.file-item.result c.loop-file-test.true c.file-item.is
+    c.loop-file.invariant c.read_file.ensures
