@@ -1,0 +1,4 @@
+pub mod ScalarAt
+pub mod View
+pub mod Found
+pub mod Loops

@@ -1,0 +1,45 @@
+//! The scalar at a path of field numbers, without a message.
+
+ghost use Rattle.std.specs.Prelude.{◌≡◌, ◌<◌, length, IfOk, IfErr, IsOkAnd};
+ghost use Rattle.pb_wire.specs.Fault.{Fault};
+ghost use Rattle.pb_value.specs.Data.{Message};
+ghost use Rattle.pb_value.specs.Derives.{Text};
+ghost use Rattle.pb_decode.specs.Reader.{IfFault};
+ghost use Rattle.pb_decode.specs.Push.{IsFaultOf, Tells};
+ghost use Rattle.pb_find.specs.ScalarAt.{scalar_at, message_of, IsFound};
+ghost use Rattle.pb_find.specs.View.{found_view};
+
+use crate::looking::found_in;
+use crate::scalar_ref::ScalarRef;
+use pb_decode::{DecodeError, validate};
+use pb_schema::{MessageId, Pool};
+use pb_wire::Limits;
+use std::alloc::Global;
+
+/// Finds the scalar that a message has at a path of field numbers: what `decode`, then `message` for each number but the last, and then
+/// `get` for the last would answer (encoding guide, "Last One Wins", "Oneofs").
+///
+/// The answer is `None` where the scalar is absent, and where the path names no field of one scalar. A string and bytes are slices of the
+/// input. What is no message of the type has the fault that `decode` reports. Nothing is built: memory is taken for the path of a fault
+/// alone. `message_type` is a type of the pool. The time is that of `validate`, and of a second pass over the records on the way.
+pub fn find<'a>(
+    alloc: Global,
+    pool: &Pool,
+    message_type: MessageId,
+    bytes: &'a [u8],
+    limits: Limits,
+    path: &[u32],
+) -> Result<Option<ScalarRef<'a>>, DecodeError>
+    requires { message_type.0 < length pool.now.messages }
+    ensures found { IfOk result (λ x. IsFound pool.now message_type.0 limits bytes.now path.now (found_view x)) }
+    ensures fault { IfErr result (λ e. IfFault e (IsFaultOf pool.now message_type.0 limits bytes.now)) }
+    ensures accepted { (v : Message) → Text pool.now message_type.0 limits bytes.now v
+        → IsOkAnd result (λ x. found_view x ≡ scalar_at path.now (message_of pool.now message_type.0 v)) }
+    ensures refused { (f : Fault) → IsFaultOf pool.now message_type.0 limits bytes.now f → Tells result f }
+{
+    let _most = limits.max_bytes();
+    let _depth = limits.max_depth();
+    let _types = pool.messages();
+    validate(alloc, pool, message_type, bytes, limits)?;
+    Ok(found_in(pool, message_type, bytes, path, None))
+}
