@@ -42,6 +42,7 @@ enum {
     MB_EMPTY = 3,       /* the handle holds nothing: nothing was linked into it, linking was refused, or it was freed */
     MB_BAD_NAME = 4,    /* the name of a source is not UTF-8, or there are not as many names as texts */
     MB_PART = 5,        /* the bytes end before their frame does: come again with more */
+    MB_ABSENT = 6,      /* the type has no such field */
     MB_FAULT = 13,      /* the bytes have a fault, which is told */
     MB_MEMORY = 14,     /* memory ran out: the same call may be made again */
     MB_TOO_LARGE = 31   /* what would be written has more than MB_MAX_BYTES bytes */
@@ -108,6 +109,13 @@ uint32_t mb_pool_link(const uint8_t *set, size_t set_len, struct mb_pool *pool,
                       struct mb_fault *fault, struct mb_step *path, size_t path_len,
                       struct mb_refusal *refusal, uint8_t *text, size_t text_len);
 
+/* As mb_pool_link, of the set without what that refuses in sets of proto2 and what it can't take of them: an extension and a range of them are left
+ * out, a required field counts as optional, a default value is left out, and a map of a closed enum loses its mark, so it is the list of its entries.
+ * For MB_DONE it is reported how many such parts were left out. Records of what is left out are unknown records of a message, and stay there. */
+uint32_t mb_pool_link_lenient(const uint8_t *set, size_t set_len, struct mb_pool *pool, size_t *left_out,
+                              struct mb_fault *fault, struct mb_step *path, size_t path_len,
+                              struct mb_refusal *refusal, uint8_t *text, size_t text_len);
+
 /* A text of the caller's. */
 struct mb_bytes {
     const uint8_t *at;
@@ -130,6 +138,18 @@ void mb_pool_free(struct mb_pool *pool);
 /* Tells the number of a message type by its full name, as in shop.Order. It is the number of that type in each handle that shares the pool, and says
  * nothing of other pools. */
 uint32_t mb_pool_type(struct mb_pool *pool, const uint8_t *name, size_t name_len, uint32_t *type);
+
+/* What a field is. The numbers of kinds are those of types in descriptor.proto: 5 for int32, 9 for string, 11 for a message, 14 for an enum. */
+struct mb_field {
+    uint32_t number;
+    uint32_t kind;   /* of its values, 1 to 18 */
+    uint32_t shape;  /* one value of implicit presence 0, of explicit presence 1, of a oneof 2; a list 3, a map 4 */
+    uint32_t key;    /* of a map the kind of its keys, else 0 */
+    size_t type_of;  /* the number of the message type, or of the enum, that the kind names, else 0 */
+};
+
+/* Reports what the field of a simple name is in the message type. */
+uint32_t mb_pool_field(struct mb_pool *pool, uint32_t type, const uint8_t *name, size_t name_len, struct mb_field *field);
 
 /* ---- Messages of a type ---- */
 
@@ -157,6 +177,34 @@ struct mb_frame {
  * more bytes are needed. A fault's byte counts from the first byte of the length. */
 uint32_t mb_frames(struct mb_pool *pool, uint32_t type, const uint8_t *bytes, size_t bytes_len, uint32_t max_bytes, uint8_t max_depth,
                    struct mb_frame *frame, struct mb_fault *fault, struct mb_step *path, size_t path_len);
+
+/* ---- A message that stays with the library ---- */
+
+/* A message with the pool of its type, or nothing: all zeros hold nothing. It stays on the thread that made it. */
+struct mb_message {
+    void *at;
+    bool full;
+};
+
+/* Makes an empty message of the type, in place of what the handle of the message held. The message holds the pool too: the pool is freed with the last
+ * handle that holds it. Where the answer is another than MB_DONE the handle of the message is as it was. */
+uint32_t mb_message_new(struct mb_pool *pool, uint32_t type, struct mb_message *message);
+
+/* Decodes the bytes as a message of the type, as mb_check checks them, in place of what the handle of the message held. */
+uint32_t mb_message_decode(struct mb_pool *pool, uint32_t type, const uint8_t *bytes, size_t bytes_len, uint32_t max_bytes, uint8_t max_depth,
+                           struct mb_message *message, struct mb_fault *fault, struct mb_step *path, size_t path_len);
+
+/* Writes the canonical bytes of the message. For MB_DONE their number is reported, and as many of them are written as the buffer holds. */
+uint32_t mb_message_encode(struct mb_message *message, uint8_t *out, size_t out_len, size_t *size);
+
+/* Reports how many canonical bytes the message has. It takes no memory. */
+uint32_t mb_message_encoded_length(struct mb_message *message, size_t *size);
+
+/* Writes the listing of the message, as `pbtool show` prints it, as mb_message_encode writes its bytes. */
+uint32_t mb_message_show(struct mb_message *message, uint8_t *out, size_t out_len, size_t *size);
+
+/* Frees what a handle holds. One that holds nothing stays as it is. */
+void mb_message_free(struct mb_message *message);
 
 #ifdef __cplusplus
 }

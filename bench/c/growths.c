@@ -1,6 +1,6 @@
-/* Refuses each growth of memory of each call in turn: growths SET TYPE MESSAGE SOURCE. The allocator is this program's own, over the archive of
- * the crate alone. A call must answer MB_MEMORY, have written nothing and hold nothing more than before, up to the first number of growths with
- * which it answers as with ample memory. */
+/* Refuses each growth of memory of each call in turn: growths SET TYPE MESSAGE SOURCE LENIENT, of which the last is a set of proto2. The allocator is
+ * this program's own, over the archive of the crate alone. A call must answer MB_MEMORY, have written nothing and hold nothing more than before, up to
+ * the first number of growths with which it answers as with ample memory. */
 #include "mabristu.h"
 
 #include <stdio.h>
@@ -46,14 +46,16 @@ struct told {
     struct mb_step path[MB_MAX_STEPS];
     struct mb_refusal refusal;
     struct mb_frame frame;
+    struct mb_field field;
     uint8_t text[256], out[4096];
     size_t size;
     uint32_t type;
 };
 
 static struct mb_pool pool, other;
+static struct mb_message held, made;
 static uint32_t type;
-static struct mb_bytes set, message, frame, name, source, source_name = {(const uint8_t *)"a.proto", 7};
+static struct mb_bytes set, message, frame, name, source, lenient, source_name = {(const uint8_t *)"a.proto", 7};
 
 #define LIMITS MB_MAX_BYTES, MB_MAX_DEPTH
 #define FAULT &told->fault, told->path, MB_MAX_STEPS
@@ -66,6 +68,8 @@ static uint32_t raw_short(struct told *told) { return mb_raw_short(message.at, m
 static uint32_t raw_short_cut(struct told *told) { return mb_raw_short(message.at, message.len - 1, LIMITS, OUT, FAULT); }
 static uint32_t link(struct told *told) { return mb_pool_link(set.at, set.len, &other, FAULT, REFUSAL); }
 static uint32_t link_cut(struct told *told) { return mb_pool_link(set.at, set.len - 1, &other, FAULT, REFUSAL); }
+static uint32_t link_lenient(struct told *told) { return mb_pool_link_lenient(lenient.at, lenient.len, &other, &told->size, FAULT, REFUSAL); }
+static uint32_t link_lenient_cut(struct told *told) { return mb_pool_link_lenient(lenient.at, lenient.len - 1, &other, &told->size, FAULT, REFUSAL); }
 static uint32_t compile(struct told *told) { return mb_pool_compile(&source_name, 1, &source, 1, &other, REFUSAL); }
 static uint32_t compile_cut(struct told *told)
 {
@@ -82,22 +86,34 @@ static uint32_t show(struct told *told) { return mb_show(&pool, type, message.at
 static uint32_t show_cut(struct told *told) { return mb_show(&pool, type, message.at, message.len - 1, LIMITS, OUT, FAULT); }
 static uint32_t frames(struct told *told) { return mb_frames(&pool, type, frame.at, frame.len, LIMITS, &told->frame, FAULT); }
 static uint32_t frames_cut(struct told *told) { return mb_frames(&pool, type, frame.at, frame.len - 1, LIMITS, &told->frame, FAULT); }
+static uint32_t no_field(struct told *told) { return mb_pool_field(&pool, type, (const uint8_t *)"none", 4, &told->field); }
+static uint32_t message_new(struct told *told) { (void)told; return mb_message_new(&pool, type, &made); }
+static uint32_t message_decode(struct told *told) { return mb_message_decode(&pool, type, message.at, message.len, LIMITS, &made, FAULT); }
+static uint32_t message_decode_cut(struct told *told) { return mb_message_decode(&pool, type, message.at, message.len - 1, LIMITS, &made, FAULT); }
+static uint32_t message_encode(struct told *told) { return mb_message_encode(&held, OUT); }
+static uint32_t message_length(struct told *told) { return mb_message_encoded_length(&held, &told->size); }
+static uint32_t message_show(struct told *told) { return mb_message_show(&held, OUT); }
 
 static const struct { const char *name; uint32_t (*call)(struct told *told); uint32_t answer; } calls[] = {
     {"mb_raw_check", raw_check, MB_DONE}, {"mb_raw_check of a cut message", raw_check_cut, MB_FAULT},
     {"mb_raw_short", raw_short, MB_DONE}, {"mb_raw_short of a cut message", raw_short_cut, MB_FAULT},
     {"mb_pool_link", link, MB_DONE}, {"mb_pool_link of a cut set", link_cut, MB_FAULT},
+    {"mb_pool_link_lenient", link_lenient, MB_DONE}, {"mb_pool_link_lenient of a cut set", link_lenient_cut, MB_FAULT},
     {"mb_pool_compile", compile, MB_DONE}, {"mb_pool_compile of a cut source", compile_cut, 65},
     {"mb_pool_share", share, MB_DONE}, {"mb_pool_type", find, MB_DONE},
     {"mb_check", check, MB_DONE}, {"mb_check of a cut message", check_cut, MB_FAULT},
     {"mb_canon", canon, MB_DONE}, {"mb_canon of a cut message", canon_cut, MB_FAULT},
     {"mb_show", show, MB_DONE}, {"mb_show of a cut message", show_cut, MB_FAULT},
     {"mb_frames", frames, MB_DONE}, {"mb_frames of a cut frame", frames_cut, MB_PART},
+    {"mb_pool_field of no field", no_field, MB_ABSENT}, {"mb_message_new", message_new, MB_DONE},
+    {"mb_message_decode", message_decode, MB_DONE}, {"mb_message_decode of a cut message", message_decode_cut, MB_FAULT},
+    {"mb_message_encode", message_encode, MB_DONE}, {"mb_message_encoded_length", message_length, MB_DONE},
+    {"mb_message_show", message_show, MB_DONE},
 };
 
 static struct mb_bytes read_file(const char *path)
 {
-    static uint8_t bytes[4][65536];
+    static uint8_t bytes[5][65536];
     static int count;
     FILE *file = fopen(path, "rb");
     if (file == NULL)
@@ -114,12 +130,13 @@ int main(int argc, char **argv)
     static uint8_t framed[65536];
     int wrong = 0;
 
-    if (argc != 5)
+    if (argc != 6)
         return 2;
     set = read_file(argv[1]);
     name = (struct mb_bytes){(const uint8_t *)argv[2], strlen(argv[2])};
     message = read_file(argv[3]);
     source = read_file(argv[4]);
+    lenient = read_file(argv[5]);
     /* A message of less than 128 bytes, behind its length. */
     framed[0] = (uint8_t)message.len;
     memcpy(framed + 1, message.at, message.len);
@@ -127,7 +144,8 @@ int main(int argc, char **argv)
     memset(&blank, 0xee, sizeof blank);
     granted = 1 << 30;
     if (mb_pool_link(set.at, set.len, &pool, &told.fault, told.path, 0, &told.refusal, NULL, 0) != MB_DONE ||
-        mb_pool_type(&pool, name.at, name.len, &type) != MB_DONE)
+        mb_pool_type(&pool, name.at, name.len, &type) != MB_DONE ||
+        mb_message_decode(&pool, type, message.at, message.len, LIMITS, &held, &told.fault, told.path, 0) != MB_DONE)
         return 2;
     for (size_t i = 0; i < sizeof calls / sizeof *calls; i++) {
         long before = live, number = -1;
@@ -139,6 +157,7 @@ int main(int argc, char **argv)
             answer = calls[i].call(&told);
             granted = 1 << 30;
             mb_pool_free(&other);
+            mb_message_free(&made);
             if (live != before || (answer == MB_MEMORY && memcmp(&told, &blank, sizeof told) != 0)) {
                 printf("%s with %ld growths: WRONG: answer %u, %ld blocks more\n", calls[i].name, number, answer, live - before);
                 wrong++;
@@ -148,6 +167,7 @@ int main(int argc, char **argv)
         wrong += answer != calls[i].answer;
     }
     mb_pool_free(&pool);
+    mb_message_free(&held);
     printf("%d wrong, %ld blocks left\n", wrong, live);
     return wrong != 0 || live != 0;
 }

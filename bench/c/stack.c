@@ -29,6 +29,7 @@ static struct mb_fault fault;
 static struct mb_step path[MB_MAX_STEPS];
 static struct mb_refusal refusal;
 static struct mb_frame frame;
+static struct mb_field field;
 static size_t size;
 
 #define FAULT &fault, path, MB_MAX_STEPS
@@ -52,6 +53,23 @@ static uint32_t check_turned_cut(void) { return mb_check(&pool, type, turned, tu
 static uint32_t show_turned(void) { return mb_show(&pool, type, turned, turned_len, LIMITS, OUT, FAULT); }
 static uint32_t check_turned_lone(void) { return mb_check(&pool, type, turned_lone, turned_lone_len, LIMITS, FAULT); }
 static uint32_t check_groups(void) { return mb_check(&pool, type, groups, sizeof groups, LIMITS, FAULT); }
+/* Decodes the turned maps, makes a call on the message, and frees it: a message stays on its thread. */
+static uint32_t on_message(uint32_t (*call)(struct mb_message *message))
+{
+    struct mb_message message = {0};
+    uint32_t answer = mb_message_decode(&pool, type, turned, turned_len, LIMITS, &message, FAULT);
+    if (answer == MB_DONE)
+        answer = call(&message);
+    mb_message_free(&message);
+    return answer;
+}
+static uint32_t encode_one(struct mb_message *message) { return mb_message_encode(message, OUT); }
+static uint32_t count_one(struct mb_message *message) { return mb_message_encoded_length(message, &size); }
+static uint32_t show_one(struct mb_message *message) { return mb_message_show(message, OUT); }
+static uint32_t encode_held(void) { return on_message(encode_one); }
+static uint32_t count_held(void) { return on_message(count_one); }
+static uint32_t show_held(void) { return on_message(show_one); }
+static uint32_t find_field(void) { return mb_pool_field(&pool, type, (const uint8_t *)"m", 1, &field); }
 static uint32_t canon(void) { return mb_canon(&pool, type, nested, nested_len, LIMITS, OUT, FAULT); }
 static uint32_t show(void) { return mb_show(&pool, type, nested, nested_len, LIMITS, OUT, FAULT); }
 static uint32_t frames(void) { return mb_frames(&pool, type, framed, framed_len, LIMITS, &frame, FAULT); }
@@ -70,6 +88,13 @@ static uint32_t link_set(void)
     mb_pool_free(&other);
     return answer;
 }
+static uint32_t link_lenient(void)
+{
+    struct mb_pool other = {0};
+    uint32_t answer = mb_pool_link_lenient(set, set_len, &other, &size, FAULT, &refusal, out, sizeof out);
+    mb_pool_free(&other);
+    return answer;
+}
 static uint32_t compile(void)
 {
     struct mb_pool other = {0};
@@ -80,7 +105,8 @@ static uint32_t compile(void)
 
 static const struct { const char *name; uint32_t (*call)(void); } calls[] = {
     {"mb_raw_check of groups", raw_check}, {"mb_raw_check of groups that are cut off", raw_check_cut}, {"mb_raw_short of groups", raw_short},
-    {"mb_pool_link, and mb_pool_free", link_set}, {"mb_pool_compile, and mb_pool_free", compile}, {"mb_pool_share, and mb_pool_free", share},
+    {"mb_pool_link, and mb_pool_free", link_set}, {"mb_pool_link_lenient, and mb_pool_free", link_lenient},
+    {"mb_pool_compile, and mb_pool_free", compile}, {"mb_pool_share, and mb_pool_free", share},
     {"mb_pool_type", find}, {"mb_check", check}, {"mb_check of a message that is cut off", check_cut}, {"mb_check of unknown groups", check_groups},
     {"mb_check of maps", check_maps}, {"mb_show of maps", show_maps}, {"mb_check of lone entries", check_lone},
     {"mb_check of lone entries that are cut off", check_lone_cut}, {"mb_show of lone entries", show_lone}, {"mb_canon of lone entries", canon_lone},
@@ -88,6 +114,9 @@ static const struct { const char *name; uint32_t (*call)(void); } calls[] = {
     {"mb_check of turned maps", check_turned}, {"mb_check of turned maps that are cut off", check_turned_cut},
     {"mb_show of turned maps", show_turned}, {"mb_check of turned lone entries", check_turned_lone},
     {"mb_canon", canon}, {"mb_show", show}, {"mb_frames", frames},
+    {"mb_message_decode of turned maps, mb_message_encoded_length and mb_message_free", count_held},
+    {"mb_message_decode of turned maps, mb_message_encode and mb_message_free", encode_held},
+    {"mb_message_decode of turned maps, mb_message_show and mb_message_free", show_held}, {"mb_pool_field", find_field},
 };
 
 /* Puts bytes before others. */

@@ -1,4 +1,4 @@
-/* check SET TYPE FILE: tells whether a file is a message of a type in a descriptor set, as `pbtool check` does. */
+/* check [--lenient] SET TYPE FILE: tells whether a file is a message of a type in a descriptor set, as `pbtool check` does. */
 #include "common.h"
 
 #include <stdlib.h>
@@ -8,11 +8,12 @@ int main(int argc, char **argv)
     struct mb_pool pool = {0};
     struct told told;
 
+    bool is_lenient = take_lenient(&argc, &argv);
     if (argc != 4 || mb_interface() != MB_INTERFACE) {
-        fprintf(stderr, "usage: check SET TYPE FILE, with a library of interface %d\n", MB_INTERFACE);
+        fprintf(stderr, "usage: check [--lenient] SET TYPE FILE, with a library of interface %d\n", MB_INTERFACE);
         return 2;
     }
-    uint32_t type = find_type(argv[1], argv[2], &pool);
+    uint32_t type = find_type(argv[1], argv[2], is_lenient, &pool);
     struct buffer file = read_file(argv[3]);
     uint32_t answer = mb_check(&pool, type, file.bytes, file.len, MB_MAX_BYTES, MB_MAX_DEPTH, &told.fault, told.path, MB_MAX_STEPS);
     free(file.bytes);

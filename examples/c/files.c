@@ -54,17 +54,30 @@ struct buffer read_file(const char *name)
     return buffer;
 }
 
-uint32_t find_type(const char *set_name, const char *type_name, struct mb_pool *pool)
+bool take_lenient(int *argc, char ***argv)
+{
+    if (*argc < 2 || strcmp((*argv)[1], "--lenient") != 0)
+        return false;
+    --*argc;
+    ++*argv;
+    return true;
+}
+
+uint32_t find_type(const char *set_name, const char *type_name, bool is_lenient, struct mb_pool *pool)
 {
     struct buffer set = read_file(set_name), text = {0};
     struct mb_refusal refusal = {0};
     struct told told;
+    size_t left_out;
     uint32_t answer, type;
 
     /* Where the names that are told are longer than the room, their lengths are told: link once more with that much. */
     do {
         grow(&text, refusal.file_len + refusal.name_len + 256);
-        answer = mb_pool_link(set.bytes, set.len, pool, &told.fault, told.path, MB_MAX_STEPS, &refusal, text.bytes, text.room);
+        if (is_lenient)
+            answer = mb_pool_link_lenient(set.bytes, set.len, pool, &left_out, &told.fault, told.path, MB_MAX_STEPS, &refusal, text.bytes, text.room);
+        else
+            answer = mb_pool_link(set.bytes, set.len, pool, &told.fault, told.path, MB_MAX_STEPS, &refusal, text.bytes, text.room);
     } while (answer != MB_DONE && refusal.file_len + refusal.name_len > text.room);
     if (answer != MB_DONE)
         exit(tell_link(answer, &told, &refusal, text.bytes));

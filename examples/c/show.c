@@ -1,4 +1,4 @@
-/* show SET TYPE FILE: lists the message that a file holds, as `pbtool show` does. */
+/* show [--lenient] SET TYPE FILE: lists the message that a file holds, as `pbtool show` does. */
 #include "common.h"
 
 #include <stdlib.h>
@@ -10,11 +10,12 @@ int main(int argc, char **argv)
     struct told told;
     uint32_t answer;
 
+    bool is_lenient = take_lenient(&argc, &argv);
     if (argc != 4 || mb_interface() != MB_INTERFACE) {
-        fprintf(stderr, "usage: show SET TYPE FILE, with a library of interface %d\n", MB_INTERFACE);
+        fprintf(stderr, "usage: show [--lenient] SET TYPE FILE, with a library of interface %d\n", MB_INTERFACE);
         return 2;
     }
-    uint32_t type = find_type(argv[1], argv[2], &pool);
+    uint32_t type = find_type(argv[1], argv[2], is_lenient, &pool);
     struct buffer file = read_file(argv[3]);
     /* Where the listing is longer than the room, its length is told: call again with that much. */
     do {

@@ -1,4 +1,4 @@
-/* walk SET TYPE FILE: lists a stream of messages, each behind its length, as `pbtool frames` does. FILE is read piece by piece, so it may be a
+/* walk [--lenient] SET TYPE FILE: lists a stream of messages, each behind its length, as `pbtool frames` does. FILE is read piece by piece, so it may be a
  * pipe, and not much more of it is held than one frame. */
 #include "common.h"
 
@@ -50,11 +50,12 @@ int main(int argc, char **argv)
     size_t number = 0, at = 0;
     uint32_t answer = MB_PART;
 
+    bool is_lenient = take_lenient(&argc, &argv);
     if (argc != 4 || mb_interface() != MB_INTERFACE) {
-        fprintf(stderr, "usage: walk SET TYPE FILE, with a library of interface %d\n", MB_INTERFACE);
+        fprintf(stderr, "usage: walk [--lenient] SET TYPE FILE, with a library of interface %d\n", MB_INTERFACE);
         return 2;
     }
-    uint32_t type = find_type(argv[1], argv[2], &pool);
+    uint32_t type = find_type(argv[1], argv[2], is_lenient, &pool);
     FILE *file = open_file(argv[3]);
     while (answer == MB_DONE || (answer == MB_PART && read_more(file, &held))) {
         answer = mb_frames(&pool, type, held.bytes + held.done, held.len - held.done, MB_MAX_BYTES, MB_MAX_DEPTH, &frame, &told.fault, told.path,

@@ -1,4 +1,7 @@
-"""The words of pbtool, by the library: tool.py check|show|canon|frames SET TYPE FILE, tool.py short FILE, tool.py compile ROOT FILE.."""
+"""The words of pbtool, by the library: tool.py check|show|canon|frames [--lenient] SET TYPE FILE, tool.py short FILE, tool.py compile ROOT FILE..
+Canonical bytes and listing once more, of a message that the library holds: tool.py encode|list [--lenient] SET TYPE FILE, and of an empty message:
+tool.py empty SET TYPE FILE. How many parts of a set lenient reading leaves out: tool.py omitted SET. What a
+field is: tool.py field SET TYPE NAME"""
 import sys
 
 import mabristu
@@ -24,9 +27,15 @@ def told(command, *words):
         yield mabristu.raw_short(data).hex() + "\n"
     elif command == "compile":
         mabristu.Pool.of_sources({name: read(f"{words[0]}/{name}") for name in words[1:]})
-    else:
+    elif command == "field":
         set_name, type_name, name = words
-        found = mabristu.Pool(read(set_name)).type(type_name)
+        field = mabristu.Pool(read(set_name)).type(type_name).field(name)
+        yield f"{field.number} {field.kind} {field.shape} {field.key} {field.type_of}\n"
+    elif command == "omitted":
+        yield f"{mabristu.Pool(read(words[0]), lenient=True).left_out}\n"
+    else:
+        *options, set_name, type_name, name = words
+        found = mabristu.Pool(read(set_name), lenient="--lenient" in options).type(type_name)
         if command == "check":
             found.check(read(name))
             yield "ok\n"
@@ -34,6 +43,13 @@ def told(command, *words):
             yield found.show(read(name))
         elif command == "canon":
             yield found.canon(read(name)).hex() + "\n"
+        elif command in ("encode", "empty"):
+            message = found.decode(read(name)) if command == "encode" else found.new()
+            encoded = message.encode()
+            assert message.encoded_length() == len(encoded)
+            yield encoded.hex() + "\n"
+        elif command == "list":
+            yield found.decode(read(name)).show()
         else:
             yield from frames(found, name)
 

@@ -8,20 +8,28 @@ pub mod Refusals
 pub mod Making
 -- the length before a text
 pub mod Lengths
+-- what begins with a frame is nothing else
+pub mod FrameLaws
 -- a seal, its parts and a box of a pool as one type
 pub mod AsBox
+-- the same of a message
+pub mod AsMessageBox
 -- an option that is there
 pub mod Filled
 -- full names of types as texts
 pub mod TypeNames
+-- simple names of fields as texts
+pub mod FieldNames
 -- what is told of declarations that make no pool
 pub mod LinkTelling
 -- the numbers of faults are none of the other answers
 pub mod AnswerNumbers
 -- how many steps are reported of a fault
 pub mod StepBounds
--- the bytes of a set make one pool, or have one fault
+-- the bytes of a set make one pool, or have one fault, however they are read
 pub mod OneSetPool
+-- bytes are one set that is read leniently, or have one fault
+pub mod OneLenientSet
 -- from one meaning or one fault to what is answered
 pub mod Exact
 -- sources that are parsed one after another

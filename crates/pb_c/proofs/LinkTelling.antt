@@ -4,6 +4,7 @@ use Rattle.std.specs.Prelude.{IfSome, string_bytes}
 use Rattle.pb_wire.specs.Limits.{full}
 use Rattle.pb_wire.specs.Fault.{fault}
 use Rattle.pb_decl.specs.Decls.{DeclaredFile}
+use Rattle.pb_descr.specs.Lenient.{IsUnreadLeniently}
 use Rattle.pb_descr.specs.Sets.{IsUnread}
 use Rattle.pb_descr.specs.declared.error.DescrError.{DescrError}
 use Rattle.pb_descr.specs.declared.error.DescrError.TheVariants as descr
@@ -15,7 +16,7 @@ use Rattle.pb_tokens.specs.declared.fault.SourceCause.{SourceCause}
 use Rattle.pb_c.specs.declared.pool.compile.Unparsed.{Unparsed}
 use Rattle.pb_c.specs.declared.pool.compile.Unparsed.TheVariants.{Source, Memory}
 use Rattle.pb_c.specs.PoolFault.{PoolFault, link_fault, set_fault}
-use Rattle.pb_c.specs.SetPool.{SetFails}
+use Rattle.pb_c.specs.SetPool.{LenientSetFails, SetFails}
 use Rattle.pb_c.specs.SourcePool.{Bytes, IsUnparsed, SourceFails, SourcesFail}
 
 -- of files that do not link the fault is told, where memory is there
@@ -25,13 +26,23 @@ pub unlinked : (files : List DeclaredFile) (e : LinkError) (Told : PoolFault →
 unlinked files (link.Fault file name c) Told answer is told memory other = (string_bytes file, string_bytes name, c, is, told)
 unlinked files link.Memory Told answer is told memory other = absurd (other (memory refl))
 
+-- why bytes are no set that is read strictly, or leniently
+pub strict : (set : List ℕ) (e : DescrError) → IsUnread full set e → IfSome (set_fault e) (SetFails set)
+strict set (descr.Fault byte path c) is = is
+strict set (descr.Decl i c) is = is
+strict set descr.Memory is = tt
+
+pub lenient : (set : List ℕ) (e : DescrError) → IsUnreadLeniently full set e → IfSome (set_fault e) (LenientSetFails set)
+lenient set (descr.Fault byte path c) is = is
+lenient set (descr.Decl i c) is = is
+lenient set descr.Memory is = tt
+
 -- of bytes that are no set the fault is told, where memory is there
-pub unread : (set : List ℕ) (e : DescrError) (Told : PoolFault → Type 0) (answer : ℕ)
-    → IsUnread full set e → IfSome (set_fault e) Told → (e ≡ descr.Memory → answer ≡ 14) → answer ≢ 14
-    → (w : PoolFault) × SetFails set w × Told w
-unread set (descr.Fault byte path c) Told answer is told memory other = (PoolFault.in_bytes (fault byte path.items c), is, told)
-unread set (descr.Decl i c) Told answer is told memory other = (PoolFault.in_file i c, is, told)
-unread set descr.Memory Told answer is told memory other = absurd (other (memory refl))
+pub unread : (e : DescrError) (Fails Told : PoolFault → Type 0) (answer : ℕ)
+    → IfSome (set_fault e) Fails → IfSome (set_fault e) Told → (e ≡ descr.Memory → answer ≡ 14) → answer ≢ 14 → (w : PoolFault) × Fails w × Told w
+unread (descr.Fault byte path c) Fails Told answer is told memory other = (PoolFault.in_bytes (fault byte path.items c), is, told)
+unread (descr.Decl i c) Fails Told answer is told memory other = (PoolFault.in_file i c, is, told)
+unread descr.Memory Fails Told answer is told memory other = absurd (other (memory refl))
 
 -- two facts of what is told of a set, as one
 pub told_together : (e : DescrError) (First Second Both : PoolFault → Type 0) → ((w : PoolFault) → First w → Second w → Both w)

@@ -1,17 +1,14 @@
--- The bytes of a set make one pool, or have one fault.
-use Rattle.std.proofs.Common.{◌≡◌, ℕ, List, All, ap, subst}
-use Rattle.pb_wire.specs.Limits.{full}
-use Rattle.pb_wire.specs.Ranges.{IsByte}
+-- The bytes of a set make one pool, or have one fault, however the set is read.
+use Rattle.std.proofs.Common.{◌≡◌, List, ap, subst}
 use Rattle.pb_schema.specs.Types.{Types}
 use Rattle.pb_decl.specs.Decls.{DeclaredFile}
 use Rattle.pb_decl.specs.One.{ExactlyOne}
-use Rattle.pb_descr.specs.Sets.{IsSetOf, SetFault, HasSetFault}
-use Rattle.pb_descr.proofs.OneSet.{one_set}
+use Rattle.pb_descr.specs.Sets.{SetFault}
 use Rattle.pb_link.specs.Linking.{Links}
 use Rattle.pb_link.proofs.OnePool.{one_pool}
 use Rattle.pb_rules.specs.Faults.{LinkFault, ToldFault}
 use Rattle.pb_c.specs.PoolFault.{PoolFault}
-use Rattle.pb_c.specs.SetPool.{SetFails, SetMakes}
+use Rattle.pb_c.specs.SetPool.{FilesFail, FilesMake}
 
 abbrev of_set : SetFault → PoolFault
 of_set (SetFault.of_bytes f) = PoolFault.in_bytes f
@@ -20,15 +17,12 @@ of_set (SetFault.of_file i c) = PoolFault.in_file i c
 abbrev pub of_files : ToldFault → PoolFault
 of_files t = PoolFault.in_link t.0 t.1 t.2
 
-module _ (set : List ℕ) (bytes : All IsByte set) where
-  reading : ExactlyOne (IsSetOf full set) (HasSetFault full set)
-  reading = one_set full set bytes
-
+module _ (AreFiles : List DeclaredFile → Type 0) (HasFault : SetFault → Type 0) (reading : ExactlyOne AreFiles HasFault) where
   -- a set that is read has no fault of its own
-  unread : (files : List DeclaredFile) → IsSetOf full set files → (s : SetFault) → HasSetFault full set s → ⊥
+  unread : (files : List DeclaredFile) → AreFiles files → (s : SetFault) → HasFault s → ⊥
   unread files is s fault = reading.not_both files s is fault
 
-  pub never_both : (ts : Types) (w : PoolFault) → SetMakes set ts → SetFails set w → ⊥
+  pub never_both : (ts : Types) (w : PoolFault) → FilesMake AreFiles ts → FilesFail AreFiles HasFault w → ⊥
   never_both ts (PoolFault.in_bytes f) makes fails = unread makes.files makes.is_set (SetFault.of_bytes f) fails
   never_both ts (PoolFault.in_file i c) makes fails = unread makes.files makes.is_set (SetFault.of_file i c) fails
   never_both ts (PoolFault.in_source i byte c) makes fails = fails
@@ -36,12 +30,12 @@ module _ (set : List ℕ) (bytes : All IsByte set) where
       let same : fails.0 ≡ makes.files = reading.one_meaning fails.0 makes.files fails.1 makes.is_set in
       (one_pool makes.files).not_both ts (file, name, c) makes.links (subst (λ files. LinkFault files file name c) same fails.2)
 
-  pub one_types : (ts us : Types) → SetMakes set ts → SetMakes set us → ts ≡ us
+  pub one_types : (ts us : Types) → FilesMake AreFiles ts → FilesMake AreFiles us → ts ≡ us
   one_types ts us first second =
       let same : first.files ≡ second.files = reading.one_meaning first.files second.files first.is_set second.is_set in
       (one_pool second.files).one_meaning ts us (subst (λ files. Links files ts) same first.links) second.links
 
-  pub one_fault : (v w : PoolFault) → SetFails set v → SetFails set w → v ≡ w
+  pub one_fault : (v w : PoolFault) → FilesFail AreFiles HasFault v → FilesFail AreFiles HasFault w → v ≡ w
   one_fault (PoolFault.in_bytes f) (PoolFault.in_bytes g) first second = ap of_set (reading.one_fault (SetFault.of_bytes f) (SetFault.of_bytes g) first second)
   one_fault (PoolFault.in_bytes f) (PoolFault.in_file i c) first second = ap of_set (reading.one_fault (SetFault.of_bytes f) (SetFault.of_file i c) first second)
   one_fault (PoolFault.in_bytes f) (PoolFault.in_source i byte c) first second = absurd second

@@ -2,7 +2,7 @@
 use Rattle.std.proofs.Common.{◌≡◌, ◌≤◌, ◌+◌, ◌*◌, ℕ, List, [], length, ap, arith, refl}
 use Rattle.pb_wire.specs.Fault.{Fault, fault, Place, VarintFault}
 use Rattle.pb_wire.specs.Grammar.{HasFault}
-use Rattle.pb_wire.specs.Limits.{Bounds}
+use Rattle.pb_wire.specs.Limits.{Bounds, full}
 use Rattle.pb_wire.specs.Reading.{IfRawFault}
 use Rattle.pb_wire.specs.Schema.{blank}
 use Rattle.pb_wire.specs.declared.fault.Cause.{Cause}
@@ -11,11 +11,13 @@ use Rattle.pb_wire.specs.declared.fault.RawError.TheVariants as raw
 use Rattle.pb_wire.proofs.PathBounds.{bounded, leveled, text_path}
 use Rattle.pb_schema.specs.Types.{Types}
 use Rattle.pb_schema.proofs.StepLemmas.{message_uses_levels, nests_once}
+use Rattle.pb_decl.specs.Decls.{DeclaredFile}
 use Rattle.pb_descr.specs.Pool.{descriptor_types, the_set}
+use Rattle.pb_descr.specs.Sets.{SetFault}
 use Rattle.pb_decode.specs.Push.{IsFaultOf}
 use Rattle.pb_stream.specs.Frame.{FrameFault}
 use Rattle.pb_c.specs.PoolFault.{PoolFault, TellsBytes, answer_of}
-use Rattle.pb_c.specs.SetPool.{SetFails}
+use Rattle.pb_c.specs.SetPool.{FilesFail}
 use Rattle.pb_c.specs.Told.{Tells}
 use Rattle.pb_c.specs.declared.told.FaultReport.{FaultReport}
 use Rattle.pb_c.specs.declared.told.Step.{Step}
@@ -58,12 +60,15 @@ of_frame is tells = of_path (frame_path is) tells
 
 -- of a descriptor set
 pub of_set :
-    (set : List ℕ) (old new : FaultReport) (old_path new_path : List Step) (w : PoolFault)
-    → SetFails set w → answer_of w ≡ 13 → TellsBytes w old new old_path new_path → new.steps ≤ 201
-of_set set old new old_path new_path (PoolFault.in_bytes f) fails is told = of_message descriptor_types the_set fails told
-of_set set old new old_path new_path (PoolFault.in_file i c) fails is told = let from = decl_from c in absurd (omega (arith, from, is))
-of_set set old new old_path new_path (PoolFault.in_source i byte c) fails is told = absurd fails
-of_set set old new old_path new_path (PoolFault.in_link file name c) fails is told = let from = link_from c in absurd (omega (arith, from, is))
+    (AreFiles : List DeclaredFile → Type 0) (HasFault : SetFault → Type 0) (set : List ℕ)
+    → ((f : Fault) → HasFault (SetFault.of_bytes f) → IsFaultOf descriptor_types the_set full set f)
+    → (old new : FaultReport) (old_path new_path : List Step) (w : PoolFault)
+    → FilesFail AreFiles HasFault w → answer_of w ≡ 13 → TellsBytes w old new old_path new_path → new.steps ≤ 201
+of_set AreFiles HasFault set is_fault old new old_path new_path (PoolFault.in_bytes f) fails is told = of_message descriptor_types the_set (is_fault f fails) told
+of_set AreFiles HasFault set is_fault old new old_path new_path (PoolFault.in_file i c) fails is told = let from = decl_from c in absurd (omega (arith, from, is))
+of_set AreFiles HasFault set is_fault old new old_path new_path (PoolFault.in_source i byte c) fails is told = absurd fails
+of_set AreFiles HasFault set is_fault old new old_path new_path (PoolFault.in_link file name c) fails is told =
+    let from = link_from c in absurd (omega (arith, from, is))
 
 -- of an error of the calls without a schema
 pub of_raw_error :

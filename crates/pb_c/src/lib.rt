@@ -2,6 +2,7 @@
 #![tactic(auto)]
 
 mod handle;
+mod message;
 mod pool;
 mod raw;
 mod told;
@@ -10,9 +11,19 @@ mod typed;
 pub use handle::PoolHandle;
 pub use handle::seal::Seal;
 pub use handle::shared::Shared;
+pub use message::decode::mb_message_decode;
+pub use message::encode::{mb_message_encode, mb_message_encoded_length};
+pub use message::free::mb_message_free;
+pub use message::handle::MessageHandle;
+pub use message::make::mb_message_new;
+pub use message::own::OwnMessage;
+pub use message::seal::MessageSeal;
+pub use message::show::mb_message_show;
 pub use pool::compile::mb_pool_compile;
+pub use pool::field::{FieldReport, mb_pool_field};
 pub use pool::free::mb_pool_free;
 pub use pool::link::mb_pool_link;
+pub use pool::link_lenient::mb_pool_link_lenient;
 pub use pool::refusal::Refusal;
 pub use pool::share::mb_pool_share;
 pub use pool::type_number::mb_pool_type;

@@ -21,6 +21,9 @@ pub const EMPTY: u32 = 3;
 /// The name of a source is not UTF-8, or there are not as many names as texts.
 pub const BAD_NAME: u32 = 4;
 
+/// The type has no such field.
+pub const ABSENT: u32 = 6;
+
 /// The bytes have a fault, which is told.
 pub const FAULT: u32 = 13;
 

@@ -27,7 +27,7 @@ pub const PART: u32 = 5;
 pub const TOO_LARGE: u32 = 31;
 
 /// The message type of a number, if the pool has one.
-fn type_numbered(pool: &Pool, number: u32) -> Option<MessageId>
+pub(crate) fn type_numbered(pool: &Pool, number: u32) -> Option<MessageId>
     ensures found { IfSome result (λ m. (m.0 ≡ number) × (number < length pool.now.messages)) }
     ensures none { IfNone result (length pool.now.messages ≤ number) }
 {
@@ -40,7 +40,7 @@ fn type_numbered(pool: &Pool, number: u32) -> Option<MessageId>
 }
 
 /// The message of the bytes, by its type's number. Where there is none, a fault is told, and the error is what a call answers.
-fn read_message<'p>(
+pub(crate) fn read_message<'p>(
     alloc: Global,
     pool: &'p Pool,
     number: u32,

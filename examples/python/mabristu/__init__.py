@@ -6,13 +6,13 @@
 What is refused raises Refused, an unknown type LookupError, and want of memory MemoryError.
 """
 import threading
-from ctypes import c_uint32
+from ctypes import c_size_t, c_uint32
 
 from . import calls as c
-from .messages import FULL, MessageType
+from .messages import FULL, Message, MessageType
 from .told import Refused, Told, judged, linked, written
 
-__all__ = ["FULL", "MessageType", "Pool", "Refused", "raw_check", "raw_short"]
+__all__ = ["FULL", "Message", "MessageType", "Pool", "Refused", "raw_check", "raw_short"]
 
 
 def raw_check(data, limits=FULL):
@@ -28,11 +28,14 @@ def raw_short(data, limits=FULL):
 class Pool:
     """Message types. One call at a time is made on a pool; for threads that are to run side by side, give each a share."""
 
-    def __init__(self, descriptor_set=None):
-        """Links a descriptor set, as `protoc --descriptor_set_out` or `pbtool compile` writes one."""
-        self._handle, self._turn = c.Handle(), threading.Lock()
+    def __init__(self, descriptor_set=None, lenient=False):
+        """Links a descriptor set, as `protoc --descriptor_set_out` or `pbtool compile` writes one: all of it, or leniently without what is refused in
+        sets of proto2. `left_out` is how many parts were left out."""
+        self._handle, self._turn, left_out = c.Handle(), threading.Lock(), c_size_t()
         if descriptor_set is not None:
-            linked(lambda told, refused: c.library.mb_pool_link(descriptor_set, len(descriptor_set), self._handle, *told, *refused))
+            call, counted = (c.library.mb_pool_link_lenient, [left_out]) if lenient else (c.library.mb_pool_link, [])
+            linked(lambda told, refused: call(descriptor_set, len(descriptor_set), self._handle, *counted, *told, *refused))
+        self.left_out = left_out.value
 
     @classmethod
     def of_sources(cls, sources):

@@ -1,4 +1,6 @@
 """Messages of a type."""
+from ctypes import c_size_t
+
 from . import calls as c
 from .told import Told, judged, written
 
@@ -27,6 +29,27 @@ class MessageType:
         """The listing of the message, as `pbtool show` prints it."""
         return written(self._call, c.library.mb_show, data, len(data), *limits).decode()
 
+    def field(self, name):
+        """What the field of a simple name is: `number`, `kind`, `shape`, `key` and `type_of`, as mabristu.h says."""
+        field, text = c.Field(), name.encode()
+        answer = self._call(c.library.mb_pool_field, text, len(text), field)
+        if answer == c.ABSENT:
+            raise LookupError(f"field {name} unknown")
+        Told().judge(answer)
+        return field
+
+    def new(self):
+        """An empty message."""
+        message = Message()
+        Told().judge(self._call(c.library.mb_message_new, message._handle))
+        return message
+
+    def decode(self, data, limits=FULL):
+        """The message that bytes are."""
+        message = Message()
+        judged(self._call, c.library.mb_message_decode, data, len(data), *limits, message._handle)
+        return message
+
     def frames(self, file, limits=FULL):
         """Reads a stream in which each message stands behind its length. Gives of each where its frame begins, its size, and the message."""
         held, at, number, told, frame = b"", 0, 0, Told(), c.Frame()
@@ -49,3 +72,30 @@ class MessageType:
             self._call(c.library.mb_check, held[begin:], len(held) - begin, *limits, *told.room)
             told.fault.byte += begin
             told.judge(c.FAULT, f"frame {number} ")
+
+
+class Message:
+    """A message that the library holds, with its pool. It stays on the thread that made it."""
+
+    def __init__(self):
+        self._handle = c.MessageHandle()
+
+    def _call(self, call, *given):
+        return call(self._handle, *given)
+
+    def encode(self):
+        """The canonical bytes."""
+        return written(self._call, c.library.mb_message_encode, faults=False)
+
+    def encoded_length(self):
+        """How many canonical bytes there are."""
+        size = c_size_t()
+        Told().judge(self._call(c.library.mb_message_encoded_length, size))
+        return size.value
+
+    def show(self):
+        """The listing, as `pbtool show` prints it."""
+        return written(self._call, c.library.mb_message_show, faults=False).decode()
+
+    def __del__(self):
+        c.library.mb_message_free(self._handle)

@@ -41,12 +41,13 @@ def judged(call, *given):
     told.judge(call(*given, *told.room))
 
 
-def written(call, *given):
-    """The bytes that a call writes. Where they are more than there is room for, it tells how many, and is made again."""
+def written(call, *given, faults=True):
+    """The bytes that a call writes, which reports faults too or does not. Where they are more than there is room for, it tells how many, and is made
+    again."""
     told, size, room = Told(), c_size_t(), 4096
     while True:
         out = (c_uint8 * room)()
-        told.judge(call(*given, out, room, size, *told.room))
+        told.judge(call(*given, out, room, size, *(told.room if faults else ())))
         if size.value <= room:
             return bytes(out[: size.value])
         room = size.value

@@ -1,11 +1,12 @@
 //! The numbers and calls of mabristu.h.
-use super::structs::{Bytes, Fault, Frame, Handle, Refusal, Step};
+use super::structs::{Bytes, Fault, Field, Frame, Handle, MessageHandle, Refusal, Step};
 
 pub const INTERFACE: u32 = 2;
 // What a call answers. Numbers from 50 on are the causes why declarations are refused.
 pub const DONE: u32 = 0;
 pub const NO_TYPE: u32 = 2;
 pub const PART: u32 = 5;
+pub const ABSENT: u32 = 6;
 pub const FAULT: u32 = 13;
 pub const MEMORY: u32 = 14;
 pub const TOO_LARGE: u32 = 31;
@@ -25,11 +26,14 @@ unsafe extern "C" {
         fault: &mut Fault, path: *mut Step, path_len: usize) -> u32;
     pub fn mb_pool_link(set: At, len: usize, pool: *mut Handle, fault: &mut Fault, path: *mut Step, path_len: usize,
         refusal: &mut Refusal, text: Out, text_len: usize) -> u32;
+    pub fn mb_pool_link_lenient(set: At, len: usize, pool: *mut Handle, left_out: &mut usize, fault: &mut Fault, path: *mut Step, path_len: usize,
+        refusal: &mut Refusal, text: Out, text_len: usize) -> u32;
     pub fn mb_pool_compile(names: *const Bytes, names_len: usize, texts: *const Bytes, texts_len: usize, pool: *mut Handle,
         refusal: &mut Refusal, text: Out, text_len: usize) -> u32;
     pub fn mb_pool_share(pool: *mut Handle, other: *mut Handle) -> u32;
     pub fn mb_pool_free(pool: *mut Handle);
     pub fn mb_pool_type(pool: *mut Handle, name: At, name_len: usize, number: &mut u32) -> u32;
+    pub fn mb_pool_field(pool: *mut Handle, number: u32, name: At, name_len: usize, field: &mut Field) -> u32;
     pub fn mb_check(pool: *mut Handle, number: u32, bytes: At, len: usize, max_bytes: u32, max_depth: u8,
         fault: &mut Fault, path: *mut Step, path_len: usize) -> u32;
     pub fn mb_canon(pool: *mut Handle, number: u32, bytes: At, len: usize, max_bytes: u32, max_depth: u8,
@@ -38,4 +42,11 @@ unsafe extern "C" {
         out: Out, out_len: usize, size: &mut usize, fault: &mut Fault, path: *mut Step, path_len: usize) -> u32;
     pub fn mb_frames(pool: *mut Handle, number: u32, bytes: At, len: usize, max_bytes: u32, max_depth: u8,
         frame: &mut Frame, fault: &mut Fault, path: *mut Step, path_len: usize) -> u32;
+    pub fn mb_message_new(pool: *mut Handle, number: u32, message: *mut MessageHandle) -> u32;
+    pub fn mb_message_decode(pool: *mut Handle, number: u32, bytes: At, len: usize, max_bytes: u32, max_depth: u8,
+        message: *mut MessageHandle, fault: &mut Fault, path: *mut Step, path_len: usize) -> u32;
+    pub fn mb_message_encode(message: *mut MessageHandle, out: Out, out_len: usize, size: &mut usize) -> u32;
+    pub fn mb_message_encoded_length(message: *mut MessageHandle, size: &mut usize) -> u32;
+    pub fn mb_message_show(message: *mut MessageHandle, out: Out, out_len: usize, size: &mut usize) -> u32;
+    pub fn mb_message_free(message: *mut MessageHandle);
 }

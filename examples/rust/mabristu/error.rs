@@ -29,6 +29,8 @@ pub enum Error {
     },
     /// The pool has no such message type.
     NoType,
+    /// The message type has no such field.
+    NoField,
     /// What would be written has more than 2^31 - 1 bytes.
     TooLarge,
     Memory,
@@ -66,6 +68,7 @@ impl fmt::Display for Error {
             Error::Source { file, byte, cause } => write!(f, "source {file} byte {byte} cause {}", cause_name(*cause)),
             Error::Link { file, name, cause } => write!(f, "link {} at {} cause {}", dash(file), dash(name), cause_name(*cause)),
             Error::NoType => f.write_str("type unknown"),
+            Error::NoField => f.write_str("field unknown"),
             Error::TooLarge => f.write_str("output cause TooLarge"),
             Error::Memory => f.write_str("memory"),
             Error::Answer(answer) => write!(f, "answer {answer}"),

@@ -1,14 +1,19 @@
 //! Types from a descriptor set or from sources, and messages of them checked, rewritten and listed, by the library libmabristu.
 pub mod calls;
 mod error;
+mod message;
 mod messages;
 pub mod structs;
 mod told;
 
 pub use error::Error;
+pub use message::Message;
 pub use messages::{Limits, raw_check, raw_short};
-use std::{cell::UnsafeCell, ptr};
-use structs::{Bytes, Handle};
+use std::{
+    cell::{Cell, UnsafeCell},
+    ptr,
+};
+use structs::{Bytes, Field, Handle};
 use told::{Told, linked};
 
 /// Message types. A clone holds the same ones and may go to another thread; one thread at a time uses a pool.
@@ -32,6 +37,19 @@ impl Pool {
             calls::mb_pool_link(set.as_ptr(), set.len(), pool.0.get(), fault, path, steps, refusal, text, room)
         })?;
         Ok(pool)
+    }
+
+    /// Links a descriptor set without what is refused in sets of proto2, and tells how many parts were left out.
+    pub fn link_lenient(set: &[u8]) -> Result<(Pool, usize), Error> {
+        let (pool, left_out) = (Pool::empty(), Cell::new(0));
+        linked(&[], |fault, path, steps, refusal, text, room| unsafe {
+            let mut count = 0;
+            let answer =
+                calls::mb_pool_link_lenient(set.as_ptr(), set.len(), pool.0.get(), &mut count, fault, path, steps, refusal, text, room);
+            left_out.set(count);
+            answer
+        })?;
+        Ok((pool, left_out.get()))
     }
 
     /// Links sources of proto3, each by its name, as imports name it, and its text.
@@ -59,6 +77,13 @@ impl Pool {
         let mut number = 0;
         Told::new().judge(unsafe { calls::mb_pool_type(self.0.get(), name.as_ptr(), name.len(), &mut number) })?;
         Ok(number)
+    }
+
+    /// What the field of a simple name is in the message type of a number.
+    pub fn field(&self, number: u32, name: &str) -> Result<Field, Error> {
+        let mut field = Field::default();
+        Told::new().judge(unsafe { calls::mb_pool_field(self.0.get(), number, name.as_ptr(), name.len(), &mut field) })?;
+        Ok(field)
     }
 }
 

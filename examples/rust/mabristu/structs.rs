@@ -22,6 +22,23 @@ pub struct Handle {
     pub full: bool,
 }
 
+/// What a field is: kinds by the numbers of types in descriptor.proto, the shape and the type by the numbers that mabristu.h tells.
+#[repr(C)]
+#[derive(Clone, Copy, Debug, Default, PartialEq, Eq)]
+pub struct Field {
+    pub number: u32,
+    pub kind: u32,
+    pub shape: u32,
+    pub key: u32,
+    pub type_of: usize,
+}
+
+#[repr(C)]
+pub struct MessageHandle {
+    pub at: *mut u8,
+    pub full: bool,
+}
+
 #[repr(C)]
 #[derive(Default)]
 pub struct Refusal {

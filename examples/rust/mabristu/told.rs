@@ -23,6 +23,7 @@ impl Told {
                 Error::Fault { byte, path: self.path[..steps.min(MAX_STEPS)].to_vec(), cause }
             }
             calls::NO_TYPE => Error::NoType,
+            calls::ABSENT => Error::NoField,
             calls::TOO_LARGE => Error::TooLarge,
             calls::MEMORY => Error::Memory,
             _ => Error::Answer(answer),

@@ -8,8 +8,8 @@ use std::marker::Model;
 
 /// What a box owns, with its pointer in sight.
 pub(crate) struct Parts<T, A: Allocator> {
-    pub(super) at: *mut T,
-    pub(super) alloc: A,
+    pub(crate) at: *mut T,
+    pub(crate) alloc: A,
     pub(crate) ghost value: { T },
 }
 

@@ -122,7 +122,7 @@ fn canon_message(
 }
 
 /// Writes the canonical bytes of a message.
-fn write_canonical(message: &DynamicMessage<'_>, out: &mut [u8], size: &mut usize) -> u32
+pub(crate) fn write_canonical(message: &DynamicMessage<'_>, out: &mut [u8], size: &mut usize) -> u32
     ensures written { result ≡ DONE → (length (bytes_of message.now) < 2 ^ 31) × IsLaid (bytes_of message.now) out.old out.new size.new }
     ensures too_large { result ≡ TOO_LARGE → 2 ^ 31 ≤ length (bytes_of message.now) }
     ensures unwritten { result ≢ DONE → (out.new ≡ out.old) × (size.new ≡ size.old) }

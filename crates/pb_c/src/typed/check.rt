@@ -12,7 +12,8 @@ ghost use Rattle.pb_c.specs.Typed.{HasType, LacksType};
 
 use crate::handle::{PoolHandle, put, take};
 use crate::told::{BAD_LIMITS, DONE, EMPTY, FAULT, FaultReport, MEMORY, NO_TYPE, Step};
-use crate::typed::read_message;
+use crate::typed::{tell_error, type_numbered};
+use pb_decode::validate;
 use pb_schema::Pool;
 use pb_wire::Limits;
 use std::alloc::Global;
@@ -22,7 +23,8 @@ use std::alloc::Global;
 ///
 /// Answers DONE where they are one; FAULT with the fault, and as many steps of its path as the buffer holds, of at most
 /// `2 * max_depth + 1`; BAD_LIMITS where a limit is above the greatest, EMPTY where the handle holds nothing, and NO_TYPE where its pool
-/// has no such type, judged in this order; or MEMORY. The fault and the path are written at FAULT alone, and the handle holds what it held.
+/// has no such type, judged in this order; or MEMORY, where there is none for the path of a fault: nothing else takes any. The fault and the
+/// path are written at FAULT alone, and the handle holds what it held.
 #[unsafe(no_mangle)]
 pub extern "C" fn mb_check(
     alloc: Global,
@@ -46,9 +48,9 @@ pub extern "C" fn mb_check(
     ensures answers { (result ≡ DONE) ⊎ (result ≡ BAD_LIMITS) ⊎ (result ≡ EMPTY) ⊎ (result ≡ NO_TYPE) ⊎ (result ≡ FAULT) ⊎ (result ≡ MEMORY) }
     ensures same { pool.new.seal.pool ≡ pool.old.seal.pool }
 
-    // Each text is accepted and each fault is told, unless memory runs out.
+    // Each message is accepted, also where no memory is left, and each fault is told, unless memory for its path runs out.
     ensures accepted { AreLimits max_bytes max_depth → (ts : Types) → HasType (types_held pool.old) message_type ts → (v : Message)
-        → Text ts message_type (bounds max_bytes max_depth) bytes.now v → (result ≡ DONE) ⊎ (result ≡ MEMORY) }
+        → Text ts message_type (bounds max_bytes max_depth) bytes.now v → result ≡ DONE }
     ensures refused { AreLimits max_bytes max_depth → (ts : Types) → HasType (types_held pool.old) message_type ts → (f : Fault)
         → IsFaultOf ts message_type (bounds max_bytes max_depth) bytes.now f → ((result ≡ FAULT) × Tells f fault.new path.old path.new) ⊎ (result ≡ MEMORY) }
 {
@@ -86,13 +88,15 @@ fn check_message(
     ensures untold { result ≢ FAULT → (fault.new ≡ fault.old) × (path.new ≡ path.old) }
     ensures no_type { result ≡ NO_TYPE ↔ length pool.now.messages ≤ number }
     ensures answers { (result ≡ DONE) ⊎ (result ≡ NO_TYPE) ⊎ (result ≡ FAULT) ⊎ (result ≡ MEMORY) }
-    ensures accepted { number < length pool.now.messages → (v : Message) → Text pool.now number limits bytes.now v
-        → (result ≡ DONE) ⊎ (result ≡ MEMORY) }
+    ensures accepted { number < length pool.now.messages → (v : Message) → Text pool.now number limits bytes.now v → result ≡ DONE }
     ensures refused { number < length pool.now.messages → (f : Fault) → IsFaultOf pool.now number limits bytes.now f
         → ((result ≡ FAULT) × Tells f fault.new path.old path.new) ⊎ (result ≡ MEMORY) }
 {
-    match read_message(alloc, pool, number, bytes, limits, fault, path) {
-        Ok(_) => DONE,
-        Err(answer) => answer,
+    let Some(message_type) = type_numbered(pool, number) else {
+        return NO_TYPE;
+    };
+    match validate(alloc, pool, message_type, bytes, limits) {
+        Ok(()) => DONE,
+        Err(error) => tell_error(&error, fault, path),
     }
 }

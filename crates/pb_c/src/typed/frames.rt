@@ -1,8 +1,7 @@
 //! A message behind its length.
 
-ghost use Rattle.std.specs.Prelude.{◌≡◌, ◌≢◌, ◌+◌, ◌*◌, ◌<◌, ◌≤◌, ◌++◌, ◌↔◌, ◌⊎◌, ℕ, List, None, length};
+ghost use Rattle.std.specs.Prelude.{◌≡◌, ◌≢◌, ◌+◌, ◌*◌, ◌<◌, ◌≤◌, ◌↔◌, ◌⊎◌, None, Some, length, IfSome};
 ghost use Rattle.pb_wire.specs.Fault.{Fault};
-ghost use Rattle.pb_wire.specs.Varint.{IsVarint};
 ghost use Rattle.pb_schema.specs.Types.{Types};
 ghost use Rattle.pb_c.specs.Held.{types_held};
 ghost use Rattle.pb_c.specs.Told.{AreLimits, Tells, bounds};
@@ -12,8 +11,8 @@ ghost use Rattle.pb_c.specs.Typed.Frames.{AnswersFault, IsFramed, IsNoFrame, IsP
 use crate::handle::{PoolHandle, put, take};
 use crate::told::{BAD_LIMITS, DONE, EMPTY, FAULT, FaultReport, MEMORY, NO_TYPE, Step};
 use crate::typed::{PART, tell_error, type_numbered};
-use pb_decode::DecodeError;
-use pb_schema::Pool;
+use pb_decode::{DecodeError, validate};
+use pb_schema::{MessageId, Pool};
 use pb_stream::read_delimited;
 use pb_wire::{Cause, FailurePlan, Limits, MemInput, read_varint};
 use std::alloc::Global;
@@ -61,9 +60,9 @@ pub extern "C" fn mb_frames(
         ⊎ (result ≡ FAULT) ⊎ (result ≡ MEMORY) }
     ensures same { pool.new.seal.pool ≡ pool.old.seal.pool }
 
-    // Each frame is accepted, and of all other bytes it is told what they are, unless memory runs out.
+    // Each frame is accepted, also where no memory is left, and of all other bytes it is told what they are, unless memory runs out.
     ensures accepted { AreLimits max_bytes max_depth → (ts : Types) → HasType (types_held pool.old) message_type ts → (r : FrameReport)
-        → IsFramed ts message_type (bounds max_bytes max_depth) bytes.now r → ((result ≡ DONE) × (frame.new ≡ r)) ⊎ (result ≡ MEMORY) }
+        → IsFramed ts message_type (bounds max_bytes max_depth) bytes.now r → (result ≡ DONE) × (frame.new ≡ r) }
     ensures parted { AreLimits max_bytes max_depth → (ts : Types) → HasType (types_held pool.old) message_type ts
         → IsPart ts message_type (bounds max_bytes max_depth) bytes.now → (result ≡ PART) ⊎ (result ≡ MEMORY) }
     ensures refused { AreLimits max_bytes max_depth → (ts : Types) → HasType (types_held pool.old) message_type ts → (f : Fault)
@@ -108,7 +107,7 @@ fn check_frame(
     ensures no_type { result ≡ NO_TYPE ↔ length pool.now.messages ≤ number }
     ensures answers { (result ≡ DONE) ⊎ (result ≡ PART) ⊎ (result ≡ NO_TYPE) ⊎ (result ≡ FAULT) ⊎ (result ≡ MEMORY) }
     ensures accepted { number < length pool.now.messages → (r : FrameReport) → IsFramed pool.now number limits bytes.now r
-        → ((result ≡ DONE) × (frame.new ≡ r)) ⊎ (result ≡ MEMORY) }
+        → (result ≡ DONE) × (frame.new ≡ r) }
     ensures parted { number < length pool.now.messages → IsPart pool.now number limits bytes.now → (result ≡ PART) ⊎ (result ≡ MEMORY) }
     ensures refused { number < length pool.now.messages → (f : Fault) → IsNoFrame pool.now number limits bytes.now f
         → ((result ≡ FAULT) × Tells f fault.new path.old path.new) ⊎ (result ≡ MEMORY) }
@@ -116,29 +115,63 @@ fn check_frame(
     let Some(message_type) = type_numbered(pool, number) else {
         return NO_TYPE;
     };
-    let mut input = MemInput::new(bytes, usize::MAX, FailurePlan::NEVER);
-    match read_delimited(alloc, pool, message_type, &mut input, limits) {
-        Ok(Some(_)) => {
-            *frame = place_behind_length(bytes);
-            DONE
-        }
-        Ok(None) => PART,
-        Err(error) => tell_frame_error(&error, fault, path),
+    if let Some(found) = find_frame(alloc, pool, message_type, bytes, limits) {
+        *frame = found;
+        return DONE;
+    }
+    tell_no_frame(alloc, pool, message_type, bytes, limits, fault, path)
+}
+
+/// Where the message of the frame stands that the bytes begin with, if they begin with one. The message is judged where it stands.
+fn find_frame(
+    alloc: Global,
+    pool: &Pool,
+    message_type: MessageId,
+    bytes: &[u8],
+    limits: Limits,
+) -> Option<FrameReport>
+    requires { message_type.0 < length pool.now.messages }
+    ensures framed { IfSome result (IsFramed pool.now message_type.0 limits bytes.now) }
+    ensures found { (r : FrameReport) → IsFramed pool.now message_type.0 limits bytes.now r → result ≡ Some r }
+{
+    let Ok((size, begin)) = read_varint(bytes) else {
+        return None;
+    };
+    if size > (bytes.len() - begin) as u64 {
+        return None;
+    }
+    let end = begin + size as usize;
+    match validate(alloc, pool, message_type, &bytes[begin..end], limits) {
+        Ok(()) => Some(FrameReport { begin, end }),
+        Err(_) => None,
     }
 }
 
-/// Where the message of the frame stands that the bytes begin with.
-fn place_behind_length(bytes: &[u8]) -> FrameReport
-    requires { (front : List ℕ) × (text : List ℕ) × (rest : List ℕ) × (bytes.now ≡ front ++ text ++ rest) × IsVarint (length text) front }
-    ensures { (front text rest : List ℕ) → bytes.now ≡ front ++ text ++ rest → IsVarint (length text) front
-        → result ≡ record { begin = length front; end = length (front ++ text) } }
+/// Tells what bytes are that begin with no frame: a part of one, or none whatever follows.
+fn tell_no_frame(
+    alloc: Global,
+    pool: &Pool,
+    message_type: MessageId,
+    bytes: &[u8],
+    limits: Limits,
+    fault: &mut FaultReport,
+    path: &mut [Step],
+) -> u32
+    requires within { message_type.0 < length pool.now.messages }
+    requires no_frame { (r : FrameReport) → ¬ IsFramed pool.now message_type.0 limits bytes.now r }
+    ensures part { result ≡ PART → IsPart pool.now message_type.0 limits bytes.now }
+    ensures fault { result ≡ FAULT → (f : Fault) × IsNoFrame pool.now message_type.0 limits bytes.now f × Tells f fault.new path.old path.new }
+    ensures untold { result ≢ FAULT → (fault.new ≡ fault.old) × (path.new ≡ path.old) }
+    ensures answers { (result ≡ PART) ⊎ (result ≡ FAULT) ⊎ (result ≡ MEMORY) }
+    ensures parted { IsPart pool.now message_type.0 limits bytes.now → (result ≡ PART) ⊎ (result ≡ MEMORY) }
+    ensures refused { (f : Fault) → IsNoFrame pool.now message_type.0 limits bytes.now f
+        → ((result ≡ FAULT) × Tells f fault.new path.old path.new) ⊎ (result ≡ MEMORY) }
 {
-    match read_varint(bytes) {
-        Ok((size, begin)) => FrameReport {
-            begin,
-            end: begin + size as usize,
-        },
-        Err(_) => unreachable!(),
+    let mut input = MemInput::new(bytes, usize::MAX, FailurePlan::NEVER);
+    match read_delimited(alloc, pool, message_type, &mut input, limits) {
+        Ok(Some(_)) => unreachable!(),
+        Ok(None) => PART,
+        Err(error) => tell_frame_error(&error, fault, path),
     }
 }
 

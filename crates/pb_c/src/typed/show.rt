@@ -110,7 +110,7 @@ fn show_message(
 }
 
 /// Writes the listing of a message. It is made in memory first, so nothing is written where that runs out.
-fn write_listing(
+pub(crate) fn write_listing(
     alloc: Global,
     message: &DynamicMessage<'_>,
     out: &mut [u8],

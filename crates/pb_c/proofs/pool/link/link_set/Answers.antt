@@ -2,7 +2,8 @@
 use Rattle.std.proofs.Common.{◌≡◌, ⊎_elim, List, ℕ, refl}
 use Rattle.pb_c.specs.PoolFault.{PoolFault, TellsBytes, TellsRefusal, TellsFault}
 use Rattle.pb_c.proofs.AnswerNumbers.{set_kept}
-use Rattle.pb_c.proofs.LinkTelling.{unread, told_together}
+use Rattle.pb_c.specs.SetPool.{SetFails}
+use Rattle.pb_c.proofs.LinkTelling.{strict, told_together, unread}
 use Rattle.pb_c.proofs.pool.link.link_set.Goals as goal
 
 pub returns-in-Err-clause-made : goal.returns-in-Err-clause-made
@@ -16,7 +17,7 @@ pub returns-in-Err-clause-refused : goal.returns-in-Err-clause-refused
 returns-in-Err-clause-refused c not_done not_memory =
     let a = c.args in let t = c.tell_set.new in
     let Both : PoolFault → Type 0 = λ w. TellsFault w c.tell_set.result a.fault.now t.fault a.path.now t.path a.refusal.now t.refusal a.text.now a.text.now in
-    unread a.set.now c.in-Err.error Both c.tell_set.result c.in-Err.ensures.refused
+    unread c.in-Err.error (SetFails a.set.now) Both c.tell_set.result (strict a.set.now c.in-Err.error c.in-Err.ensures.refused)
     (told_together c.in-Err.error (λ w. TellsBytes w a.fault.now t.fault a.path.now t.path) (λ w. (text : List ℕ) → TellsRefusal w c.tell_set.result a.refusal.now t.refusal text text) Both
     (λ w bytes refusal. record { bytes = bytes; refusal = refusal a.text.now }) c.tell_set.ensures.bytes c.tell_set.ensures.refusal)
     (λ is. (c.tell_set.ensures.memory is).0) not_memory

@@ -1,7 +1,10 @@
 -- A set makes one pool or has one fault, so what was answered is all that may be.
 use Rattle.std.proofs.Common.{All, arith, rules, sym, ◌∙◌}
 use Rattle.std.proofs.lemmas.List.Elements.{All-from_get_or}
+use Rattle.pb_wire.specs.Limits.{full}
 use Rattle.pb_wire.specs.Ranges.{IsByte}
+use Rattle.pb_descr.specs.Sets.{HasSetFault, IsSetOf}
+use Rattle.pb_descr.proofs.OneSet.{one_set}
 use Rattle.pb_c.specs.Held.{types_held}
 use Rattle.pb_c.specs.PoolFault.{TellsFault}
 use Rattle.pb_c.specs.SetPool.{SetFails, SetMakes}
@@ -14,19 +17,23 @@ pub returns-clause-accepted : goal.returns-clause-accepted
 returns-clause-accepted c =
     let set = c.args.set.now in
     let bytes : All IsByte set = All-from_get_or IsByte set 0 (λ i h. let fits = c.type_inv.set i in search (rules, fits)) in
-    accepted (SetMakes set) (SetFails set) (never_both set bytes) c.link_set.result (types_held c.link_set.new.pool)
+    let one = one_set full set bytes in
+    accepted (SetMakes set) (SetFails set) (never_both (IsSetOf full set) (HasSetFault full set) one) c.link_set.result (types_held c.link_set.new.pool)
     (λ w. TellsFault w c.link_set.result c.args.fault.now c.link_set.new.fault c.args.path.now c.link_set.new.path c.args.refusal.now c.link_set.new.refusal c.args.text.now c.link_set.new.text)
-    c.link_set.ensures.made c.link_set.ensures.refused (one_types set bytes)
+    c.link_set.ensures.made c.link_set.ensures.refused (one_types (IsSetOf full set) (HasSetFault full set) one)
 
 pub returns-clause-told : goal.returns-clause-told
 returns-clause-told c =
     let set = c.args.set.now in
     let bytes : All IsByte set = All-from_get_or IsByte set 0 (λ i h. let fits = c.type_inv.set i in search (rules, fits)) in
-    told (SetMakes set) (SetFails set) (never_both set bytes) c.link_set.result (types_held c.link_set.new.pool)
+    let one = one_set full set bytes in
+    told (SetMakes set) (SetFails set) (never_both (IsSetOf full set) (HasSetFault full set) one) c.link_set.result (types_held c.link_set.new.pool)
     (λ w. TellsFault w c.link_set.result c.args.fault.now c.link_set.new.fault c.args.path.now c.link_set.new.path c.args.refusal.now c.link_set.new.refusal c.args.text.now c.link_set.new.text)
-    c.link_set.ensures.made c.link_set.ensures.refused (one_fault set bytes)
+    c.link_set.ensures.made c.link_set.ensures.refused (one_fault (IsSetOf full set) (HasSetFault full set) one)
 
 pub returns-clause-steps : goal.returns-clause-steps
 returns-clause-steps c is =
+    let set = c.args.set.now in
     let bad = c.link_set.ensures.refused (λ done. omega (arith, is, done)) (λ memory. omega (arith, is, memory)) in
-    of_set c.args.set.now c.args.fault.now c.link_set.new.fault c.args.path.now c.link_set.new.path bad.0 bad.1 (sym bad.2.refusal.answer_is ∙ is) bad.2.bytes
+    of_set (IsSetOf full set) (HasSetFault full set) set (λ f h. h) c.args.fault.now c.link_set.new.fault c.args.path.now c.link_set.new.path bad.0 bad.1
+    (sym bad.2.refusal.answer_is ∙ is) bad.2.bytes

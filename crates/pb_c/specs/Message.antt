@@ -1,0 +1,2 @@
+-- Messages that handles hold.
+pub mod Seal

@@ -1,0 +1,10 @@
+//! Messages that stay with the library, each behind a handle of its own.
+
+pub(crate) mod decode;
+pub(crate) mod encode;
+pub(crate) mod free;
+pub(crate) mod handle;
+pub(crate) mod make;
+pub(crate) mod own;
+pub(crate) mod seal;
+pub(crate) mod show;

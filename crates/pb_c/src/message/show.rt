@@ -1,0 +1,52 @@
+//! The listing of a message that a handle holds.
+
+ghost use Rattle.std.specs.Prelude.{◌≡◌, ◌≢◌, ◌↔◌, ◌⊎◌, None, Some};
+ghost use Rattle.pb_value.specs.Dynamic.{Dynamic};
+ghost use Rattle.pb_listing.specs.Listing.{listing};
+ghost use Rattle.pb_c.specs.Told.{IsLaid};
+
+use super::handle::{MessageHandle, put, take};
+use super::own::OwnMessage;
+use crate::told::{DONE, EMPTY, MEMORY};
+use crate::typed::show::write_listing;
+use pb_value::parts::{empty_body, from_well_formed};
+use std::alloc::Global;
+use std::mem;
+
+/// Writes the listing of the message.
+fn show_own(alloc: Global, own: &mut OwnMessage, out: &mut [u8], size: &mut usize) -> u32
+    ensures written { result ≡ DONE → IsLaid (listing own.old) out.old out.new size.new }
+    ensures unwritten { result ≢ DONE → (out.new ≡ out.old) × (size.new ≡ size.old) }
+    ensures answers { (result ≡ DONE) ⊎ (result ≡ MEMORY) }
+    ensures same { own.new ≡ own.old }
+{
+    let body = mem::replace(&mut own.body, empty_body(alloc));
+    let message = from_well_formed(alloc, &own.pool, own.message_type, body);
+    let answer = write_listing(alloc, &message, out, size);
+    own.body = message.into_body();
+    answer
+}
+
+/// Writes the listing of the message, as `pbtool show` prints it, as much of it as the buffer holds, and reports its whole length.
+///
+/// Answers DONE; EMPTY where the handle holds nothing; or MEMORY. The listing and its length are written at DONE alone.
+#[unsafe(no_mangle)]
+pub extern "C" fn mb_message_show(
+    alloc: Global,
+    message: &mut MessageHandle,
+    out: &mut [u8],
+    size: &mut usize,
+) -> u32
+    ensures written { result ≡ DONE → (m : Dynamic) × (message.old.seal.message ≡ Some m) × IsLaid (listing m) out.old out.new size.new }
+    ensures unwritten { result ≢ DONE → (out.new ≡ out.old) × (size.new ≡ size.old) }
+    ensures empty { result ≡ EMPTY ↔ (message.old.seal.message ≡ None) }
+    ensures answers { (result ≡ DONE) ⊎ (result ≡ EMPTY) ⊎ (result ≡ MEMORY) }
+    ensures same { message.new.seal.message ≡ message.old.seal.message }
+{
+    let Some(mut own) = take(alloc, message) else {
+        return EMPTY;
+    };
+    let answer = show_own(alloc, &mut own, out, size);
+    put(message, own);
+    answer
+}

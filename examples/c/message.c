@@ -1,0 +1,94 @@
+/* message encode|list|empty [--lenient] SET TYPE FILE: decodes the message that a file holds, and prints its canonical bytes in hexadecimal digits, as
+ * `pbtool canon` does, or its listing, as `pbtool show` does; or prints the bytes of an empty message. The message stays with the library in between,
+ * behind a handle of its own, and the pool is freed before.
+ * message field SET TYPE NAME: prints what the field of this name is, by the numbers of struct mb_field. */
+#include "common.h"
+
+#include <inttypes.h>
+#include <stdlib.h>
+#include <string.h>
+
+static int tell_field(struct mb_pool *pool, uint32_t type, const char *name)
+{
+    struct mb_field field;
+    uint32_t answer = mb_pool_field(pool, type, (const uint8_t *)name, strlen(name), &field);
+
+    if (answer == MB_DONE)
+        printf("%" PRIu32 " %" PRIu32 " %" PRIu32 " %" PRIu32 " %zu\n", field.number, field.kind, field.shape, field.key, field.type_of);
+    else
+        fprintf(stderr, "field %s unknown\n", name);
+    return answer == MB_DONE ? 0 : 1;
+}
+
+/* Decodes a file, or makes an empty message for the word `empty`. */
+static uint32_t make_message(const char *word, const char *name, struct mb_pool *pool, uint32_t type, struct mb_message *message, struct told *told)
+{
+    struct buffer file = read_file(name);
+    uint32_t answer;
+
+    if (strcmp(word, "empty") == 0)
+        answer = mb_message_new(pool, type, message);
+    else
+        answer = mb_message_decode(pool, type, file.bytes, file.len, MB_MAX_BYTES, MB_MAX_DEPTH, message, &told->fault, told->path, MB_MAX_STEPS);
+    free(file.bytes);
+    return answer;
+}
+
+/* Prints the listing, in a buffer that grows where it was too small. */
+static uint32_t list(struct mb_message *message, struct buffer *out)
+{
+    uint32_t answer;
+
+    do {
+        grow(out, out->len + 256);
+        answer = mb_message_show(message, out->bytes, out->room, &out->len);
+    } while (answer == MB_DONE && out->len > out->room);
+    if (answer == MB_DONE)
+        fwrite(out->bytes, 1, out->len, stdout);
+    return answer;
+}
+
+/* Prints the canonical bytes, in a buffer of just their length. */
+static uint32_t encode(struct mb_message *message, struct buffer *out)
+{
+    uint32_t answer = mb_message_encoded_length(message, &out->len);
+
+    if (answer != MB_DONE)
+        return answer;
+    grow(out, out->len + 1);
+    answer = mb_message_encode(message, out->bytes, out->room, &out->len);
+    for (size_t i = 0; answer == MB_DONE && i < out->len; i++)
+        printf("%02x", out->bytes[i]);
+    if (answer == MB_DONE)
+        printf("\n");
+    return answer;
+}
+
+int main(int argc, char **argv)
+{
+    struct mb_pool pool = {0};
+    struct mb_message message = {0};
+    struct buffer out = {0};
+    struct told told;
+
+    const char *word = argc > 1 ? argv[1] : "";
+    argc--, argv++;
+    bool is_lenient = take_lenient(&argc, &argv);
+    if (argc != 4 || mb_interface() != MB_INTERFACE) {
+        fprintf(stderr, "usage: see the head of message.c; it wants a library of interface %d\n", MB_INTERFACE);
+        return 2;
+    }
+    uint32_t type = find_type(argv[1], argv[2], is_lenient, &pool);
+    if (strcmp(word, "field") == 0) {
+        int status = tell_field(&pool, type, argv[3]);
+        mb_pool_free(&pool);
+        return status;
+    }
+    uint32_t answer = make_message(word, argv[3], &pool, type, &message, &told);
+    mb_pool_free(&pool);
+    if (answer == MB_DONE)
+        answer = strcmp(word, "list") == 0 ? list(&message, &out) : encode(&message, &out);
+    free(out.bytes);
+    mb_message_free(&message);
+    return answer == MB_DONE ? 0 : tell(answer, &told);
+}
