@@ -5,14 +5,16 @@ use Rattle.pb_wire.specs.Fault.{Fault}
 use Rattle.pb_wire.specs.Limits.{full}
 use Rattle.pb_schema.specs.Types.{Types}
 use Rattle.pb_value.specs.Data.{Message}
-use Rattle.pb_command.specs.Answer.{Answer}
+use Rattle.pb_files.specs.Answer.{Answer}
 use Rattle.pb_command.specs.Answers.{Answers, AnyAnswers, AnyBegins, Begins, canonical_form}
-use Rattle.pb_command.specs.FileMap.{FileMap, IsHonest}
+use Rattle.pb_files.specs.FileMap.{FileMap, IsHonest}
 use Rattle.pb_command.specs.FramesAnswer.{FramesAnswer, AreFrames, none, ended, no_frame_there, input_failed}
 use Rattle.pb_command.specs.MessageAnswer.{MessageAnswer, faulty, read}
 use Rattle.pb_command.specs.RawAnswer.{RawAnswer}
-use Rattle.pb_command.specs.Steps.{BegunOf, IsReadOf, OfFiles, RightOf}
-use Rattle.pb_command.specs.TypeAnswer.{HasType, NoType, TypeAnswer, no_type, missing, opened}
+use Rattle.pb_files.specs.Known.{IsReadOf, OfFiles}
+use Rattle.pb_command.specs.Steps.{BegunOf, RightOf}
+use Rattle.pb_files.specs.SetFile.{HasType, NoType}
+use Rattle.pb_command.specs.TypeAnswer.{TypeAnswer, no_type, missing, opened}
 use Rattle.pb_command.specs.declared.command.Command.{Command}
 use Rattle.pb_command.specs.declared.command.Command.TheVariants.{Raw, Check, Show, Canon, Frames, Compile}
 use Rattle.pb_command.specs.declared.form.Form.{Form}

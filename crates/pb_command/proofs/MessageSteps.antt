@@ -5,16 +5,18 @@ use Rattle.pb_wire.specs.Limits.{full}
 use Rattle.pb_schema.specs.Types.{Types}
 use Rattle.pb_value.specs.Dynamic.{Dynamic}
 use Rattle.pb_value.specs.WellFormed.{IsWellFormed}
-use Rattle.pb_command.specs.Answer.{Answer, device_failed, refused}
+use Rattle.pb_files.specs.Answer.{Answer, device_failed, refused}
 use Rattle.pb_command.specs.Answers.{FaultAt, TextAt}
-use Rattle.pb_command.specs.FileMap.{FileMap, IsOpened, KeepsMap}
+use Rattle.pb_files.specs.FileMap.{FileMap, IsOpened, KeepsMap}
 use Rattle.pb_command.specs.MessageAnswer.{FormAnswer, faulty, read}
-use Rattle.pb_command.specs.Report.{fault_line}
-use Rattle.pb_command.specs.Steps.{IsReadOf, MessageAt, MessageOf, OfFiles, OfInput}
-use Rattle.pb_command.specs.TypeAnswer.{HasType, missing, opened}
+use Rattle.pb_files.specs.Report.{fault_line}
+use Rattle.pb_files.specs.Known.{IsReadOf, OfFiles, OfInput}
+use Rattle.pb_command.specs.Steps.{MessageAt, MessageOf}
+use Rattle.pb_files.specs.SetFile.{HasType}
+use Rattle.pb_command.specs.TypeAnswer.{missing, opened}
 use Rattle.pb_command.specs.declared.command.Source.{Source}
 use Rattle.pb_command.specs.declared.form.Form.{Form}
-use Rattle.pb_command.proofs.FileSteps.{of_later, opened_of}
+use Rattle.pb_files.proofs.KnownLemmas.{of_later, opened_of}
 use Rattle.pb_command.proofs.Honest.{message_map}
 
 -- why the message of an opened input is refused

@@ -9,8 +9,8 @@ use Rattle.pb_value.specs.Data.{Message}
 use Rattle.pb_decl.specs.Decls.{DeclaredFile}
 use Rattle.pb_descr.specs.Pool.{descriptor_types, the_set}
 use Rattle.pb_descr.specs.Sets.{IsSetOf, IsSetText}
-use Rattle.pb_command.specs.Answer.{Answer}
-use Rattle.pb_command.specs.TypeAnswer.{HasType, NoType, no_file, no_text, no_set, no_pool, no_name}
+use Rattle.pb_files.specs.Answer.{Answer}
+use Rattle.pb_files.specs.SetFile.{HasType, NoType, no_file, no_text, no_set, no_pool, no_name}
 use Rattle.pb_command.proofs.Judged.{front_whole, fault_whole, none_whole}
 
 set_text_whole : (b : List ℕ) (v : Message) → IsSetText full (take (full.bytes + 1) b) v → IsSetText full b v

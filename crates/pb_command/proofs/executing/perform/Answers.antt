@@ -1,4 +1,4 @@
-use Rattle.pb_command.specs.FileMap.{IsSaved, IsUnsaved}
+use Rattle.pb_files.specs.FileMap.{IsSaved, IsUnsaved}
 use Rattle.pb_command.specs.Steps.{IsNothing, RightOf}
 use Rattle.pb_command.specs.declared.command.Command.TheVariants.{Compile}
 use Rattle.pb_command.proofs.CompileSteps.{nothing_out}
