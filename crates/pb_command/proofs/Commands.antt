@@ -100,7 +100,7 @@ module _
 
 module _
     {F : Type 0} (contents : F → Option FileMap) (is_steady : F → Bool) (old mid : F) (s : Source) (set : List ℕ) (pool : Types) (m : ℕ)
-    (is_read : IsReadOf contents is_steady old (full.bytes + 1) s.set.now (Some set)) (has : HasType s.type_name.now set pool m)
+    (is_read : IsReadOf contents is_steady old (full.bytes + 1) s.set.now (Some set)) (has : HasType s.reading s.type_name.now set pool m)
     (kept : KeepsMap (contents old) (contents mid)) (steady : is_steady old ≡ true → is_steady mid ≡ true) where
   earlier : (P : Option (List ℕ) → Type 0) → OfFiles contents is_steady mid s.file.now P → OfFiles contents is_steady old s.file.now P
   earlier P of = of_later s.file.now P kept steady of

@@ -10,8 +10,6 @@ pub mod Coming
 pub mod FileSteps
 -- for the message of a file
 pub mod MessageSteps
--- for what a set declares
-pub mod TypesSteps
 -- for the loop of `frames`: the frames of a stream, one after another
 pub mod Streams
 -- for `raw`

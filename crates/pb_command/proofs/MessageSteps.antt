@@ -58,7 +58,7 @@ module _ {F : Type 0} (contents : F → Option FileMap) (is_steady : F → Bool)
 -- from the file to the set that has its type
 module _
     {F : Type 0} (contents : F → Option FileMap) (is_steady : F → Bool) (old mid : F) (form : Form) (s : Source) (set : List ℕ) (pool : Types) (m : ℕ)
-    (is_read : IsReadOf contents is_steady old (full.bytes + 1) s.set.now (Some set)) (has : HasType s.type_name.now set pool m)
+    (is_read : IsReadOf contents is_steady old (full.bytes + 1) s.set.now (Some set)) (has : HasType s.reading s.type_name.now set pool m)
     (kept : KeepsMap (contents old) (contents mid)) (steady : is_steady old ≡ true → is_steady mid ≡ true) where
   pub message_of : (a : Answer) → MessageAt contents is_steady mid form pool m s.file.now a → MessageOf contents is_steady old form s a
   message_of a (inl h) = missing is_read has (of_later s.file.now (λ content. content ≡ None) kept steady h.0) h.1

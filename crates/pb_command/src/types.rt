@@ -1,6 +1,6 @@
 //! What a descriptor set declares, and what reading left out of it.
 
-ghost use Rattle.std.specs.Prelude.{◌≡◌, ◌++◌, codes, map, option_map, true, MatchResult};
+ghost use Rattle.std.specs.Prelude.{◌≡◌, ◌<◌, map, option_map, true, length, MatchResult};
 ghost use Rattle.std.specs.List.{flat_map};
 ghost use Rattle.pb_descr.specs.Omitted.{omitted_view};
 ghost use Rattle.pb_listing.specs.TypesListing.{enum_lines_at, message_lines_at};
@@ -105,14 +105,25 @@ fn print_named<'a, O: Output>(pool: &Pool, name: &'a str, out: &mut O) -> Result
     ensures { Comes (Sent O.written O.failures out.old out.new) (Cut O.written O.failures out.old out.new) NoFile (λ _. ⊥)
         (NamedAnswer name.entry.now pool.now) IsNothing result }
 {
-    let shown = if let Some(message_type) = pool.message_by_name(name) {
-        write_message_type(pool, message_type, out)
-    } else if let Some(enum_type) = pool.enum_by_name(name) {
-        write_enum_type(pool, enum_type, out)
-    } else {
+    if let Some(message_type) = pool.message_by_name(name) {
+        return print_message_type(pool, message_type, out);
+    }
+    let Some(enum_type) = pool.enum_by_name(name) else {
         return Err(Refusal::UnknownType(name));
     };
-    match shown {
+    print_enum_type(pool, enum_type, out)
+}
+
+fn print_message_type<'a, O: Output>(
+    pool: &Pool,
+    message_type: MessageId,
+    out: &mut O,
+) -> Result<(), Refusal<'a>>
+    requires { message_type.0 < length pool.now.messages }
+    ensures { Comes (Sent O.written O.failures out.old out.new) (Cut O.written O.failures out.old out.new) NoFile (λ _. ⊥)
+        (λ a. a ≡ done (message_lines_at pool.now message_type.0)) IsNothing result }
+{
+    match write_message_type(pool, message_type, out) {
         Ok(()) => Ok(()),
         Err(_) => Err(Refusal::Device(OUTPUT)),
     }
@@ -130,6 +141,21 @@ fn write_message_type<O: Output>(
     let mut sink = Sink::new();
     put_message_type(&mut sink, out, pool, message_type);
     sink.finish(out)
+}
+
+fn print_enum_type<'a, O: Output>(
+    pool: &Pool,
+    enum_type: EnumId,
+    out: &mut O,
+) -> Result<(), Refusal<'a>>
+    requires { enum_type.0 < length pool.now.enums }
+    ensures { Comes (Sent O.written O.failures out.old out.new) (Cut O.written O.failures out.old out.new) NoFile (λ _. ⊥)
+        (λ a. a ≡ done (enum_lines_at pool.now enum_type.0)) IsNothing result }
+{
+    match write_enum_type(pool, enum_type, out) {
+        Ok(()) => Ok(()),
+        Err(_) => Err(Refusal::Device(OUTPUT)),
+    }
 }
 
 fn write_enum_type<O: Output>(

@@ -26,7 +26,7 @@ returns-in_err-pool-clause-comes g c =
     (StreamOf contents is_steady c.args.files.now source) (StreamBegun contents is_steady c.args.files.now source) c.in_err-pool.field-0.0
     (refl, Appends-nil (g.O.Output.written c.args.out.now)) c.in_err-pool.ensures.files (inl refl)
     (refuses_map
-    (λ a. (content : Option (List ℕ)) × IsReadOf contents is_steady c.args.files.now (full.bytes + 1) source.set.now content × NoType source.type_name.now source.set.now content a)
+    (λ a. (content : Option (List ℕ)) × IsReadOf contents is_steady c.args.files.now (full.bytes + 1) source.set.now content × NoType source.reading source.type_name.now source.set.now content a)
     (StreamOf contents is_steady c.args.files.now source) c.in_err-pool.field-0.0 (λ a h. no_type h.1 h.2) c.in_err-pool.ensures.refused))
 
 pub returns-clause-comes : goal.returns-clause-comes

@@ -22,7 +22,7 @@ returns-in_err-pool-clause-comes g c =
     (IsSaved g.F.Files.contents c.args.files.now c.find_type.new.files) (IsUnsaved g.F.Files.contents g.F.Files.failures c.args.files.now c.find_type.new.files) (MessageOf g.F.Files.contents g.F.Files.is_steady c.args.files.now c.args.form c.args.source.now) IsNothing c.in_err-pool.field-0.0
     (refl, Appends-nil (g.O.Output.written c.args.out.now)) c.in_err-pool.ensures.files refl
     (refuses_map (λ a. (content : Option (List ℕ)) × IsReadOf g.F.Files.contents g.F.Files.is_steady c.args.files.now (full.bytes + 1) c.args.source.now.set.now content
-    × NoType c.args.source.now.type_name.now c.args.source.now.set.now content a) (MessageOf g.F.Files.contents g.F.Files.is_steady c.args.files.now c.args.form c.args.source.now) c.in_err-pool.field-0.0 (λ a h. no_type h.1 h.2) c.in_err-pool.ensures.refused))
+    × NoType c.args.source.now.reading c.args.source.now.type_name.now c.args.source.now.set.now content a) (MessageOf g.F.Files.contents g.F.Files.is_steady c.args.files.now c.args.form c.args.source.now) c.in_err-pool.field-0.0 (λ a h. no_type h.1 h.2) c.in_err-pool.ensures.refused))
 
 pub returns-clause-comes : goal.returns-clause-comes
 returns-clause-comes g c =
