@@ -110,7 +110,8 @@ fn types<'a>(alloc: Global) -> Result<Command<'a>, AllocError>
     let command = Command::new(alloc, "types").about(
         "Print what a descriptor set declares, a line each",
     );
-    let with_lenient = command.arg(lenient_option(alloc))?;
+    let lenient = lenient_option(alloc);
+    let with_lenient = command.arg(lenient)?;
     let set = wanted(alloc, "SET", "The file with the descriptor set");
     let with_set = with_lenient.arg(set)?;
     let name = Arg::new(alloc, "NAME").help("Print only the message or enum of this full name");
@@ -154,7 +155,8 @@ fn with_source<'a>(alloc: Global, command: Command<'a>) -> Result<Command<'a>, A
     ensures app { (out-Command command.entry).has_globals ≡ false → IfOk result (λ c. app_of c ≡ of_source (app_of command.entry)) }
     ensures local { (out-Command command.entry).has_globals ≡ false → IfOk result (λ c. (out-Command c).has_globals ≡ false) }
 {
-    let with_lenient = command.arg(lenient_option(alloc))?;
+    let lenient = lenient_option(alloc);
+    let with_lenient = command.arg(lenient)?;
     let set = wanted(alloc, "SET", "The file with the descriptor set of the type");
     let with_set = with_lenient.arg(set)?;
     let name = wanted(alloc, "TYPE", "The full name of the message type");

@@ -100,20 +100,25 @@ fn read_set_by(alloc: Global, reading: Reading, set: &[u8]) -> Result<LenientSet
 {
     match reading {
         Reading::Strict => read_strictly(alloc, set),
-        Reading::Lenient => read_set_lenient(alloc, set),
+        Reading::Lenient => read_leniently(alloc, set),
     }
 }
 
-/// What a set declares, of which nothing is left out.
 fn read_strictly(alloc: Global, set: &[u8]) -> Result<LenientSet, DescrError>
     ensures declared { IfOk result (λ s. IsSetBy Reading.Strict set.now (map file_view s.files.items) (map omitted_view s.omitted.items)) }
     ensures refused { IfErr result (IsUnreadBy Reading.Strict set.now) }
 {
-    match read_set(alloc, set) {
-        Ok(files) => Ok(LenientSet {
-            files,
-            omitted: Vec::new(alloc),
-        }),
-        Err(error) => Err(error),
-    }
+    let files = read_set(alloc, set)?;
+    Ok(LenientSet {
+        files,
+        omitted: Vec::new(alloc),
+    })
+}
+
+fn read_leniently(alloc: Global, set: &[u8]) -> Result<LenientSet, DescrError>
+    ensures declared { IfOk result (λ s. IsSetBy Reading.Lenient set.now (map file_view s.files.items) (map omitted_view s.omitted.items)) }
+    ensures refused { IfErr result (IsUnreadBy Reading.Lenient set.now) }
+{
+    let read = read_set_lenient(alloc, set)?;
+    Ok(read)
 }
