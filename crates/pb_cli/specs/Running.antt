@@ -1,9 +1,9 @@
 -- What a run of the program comes to, by its words.
 use Rattle.std.specs.Prelude.{◌≡◌, ◌⊎◌, ℕ, List, [], Option, None}
 use Rattle.clap.specs.Words.{Text, subcommand_of}
-use Rattle.pb_command.specs.Answer.{RunsOut}
+use Rattle.pb_files.specs.Answer.{RunsOut}
 use Rattle.pb_command.specs.Answers.{Does}
-use Rattle.pb_command.specs.FileMap.{FileMap}
+use Rattle.pb_files.specs.FileMap.{FileMap}
 use Rattle.pb_command.specs.declared.command.Command.{Command}
 use Rattle.pb_cli.specs.Words.{IsMatched, tool}
 

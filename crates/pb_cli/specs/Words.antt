@@ -8,10 +8,12 @@ use Rattle.clap.specs.Words.{App, Row, Rule, Text, Shape, all_of, first_of, new_
 use Rattle.clap.specs.Simple.{on_top}
 use Rattle.clap.specs.declared.builder.ArgAction.TheVariants.{Append, Set, SetTrue}
 use Rattle.pb_command.specs.declared.command.Command.{Command}
-use Rattle.pb_command.specs.declared.command.Command.TheVariants.{Raw, Check, Show, Canon, Frames, Compile}
+use Rattle.pb_command.specs.declared.command.Command.TheVariants.{Raw, Check, Show, Canon, Frames, Types, Compile}
 use Rattle.pb_command.specs.declared.command.Roots.{Roots}
 use Rattle.pb_command.specs.declared.command.Source.{Source}
 use Rattle.pb_command.specs.CompileAnswer.{texts_of}
+use Rattle.pb_files.specs.declared.set_file.Reading.{Reading}
+use Rattle.pb_files.specs.declared.set_file.Reading.TheVariants.{Lenient, Strict}
 
 abbrev pub short_rule : Rule
 short_rule = record (new_rule (codes "short")) { long = Some (codes "short"); action = Some SetTrue }
@@ -24,9 +26,12 @@ wanted id = record (new_rule id) { required = true }
 abbrev pub raw_command : App
 raw_command = with_rule (with_rule (new_app (codes "raw")) short_rule) (wanted (codes "FILE"))
 
--- with `SET TYPE FILE`
+abbrev pub lenient_rule : Rule
+lenient_rule = record (new_rule (codes "lenient")) { long = Some (codes "lenient"); action = Some SetTrue }
+
+-- with `[--lenient] SET TYPE FILE`
 abbrev pub of_source : App → App
-of_source a = with_rule (with_rule (with_rule a (wanted (codes "SET"))) (wanted (codes "TYPE"))) (wanted (codes "FILE"))
+of_source a = with_rule (with_rule (with_rule (with_rule a lenient_rule) (wanted (codes "SET"))) (wanted (codes "TYPE"))) (wanted (codes "FILE"))
 
 abbrev pub check_command : App
 check_command = of_source (new_app (codes "check"))
@@ -37,12 +42,16 @@ show_command = of_source (new_app (codes "show"))
 abbrev pub out_rule : Rule
 out_rule = record (new_rule (codes "out")) { long = Some (codes "out"); action = Some Set }
 
--- `canon [--out OUT] SET TYPE FILE`
+-- `canon [--out OUT] [--lenient] SET TYPE FILE`
 abbrev pub canon_command : App
 canon_command = of_source (with_rule (new_app (codes "canon")) out_rule)
 
 abbrev pub frames_command : App
 frames_command = of_source (new_app (codes "frames"))
+
+-- `types [--lenient] SET [NAME]`
+abbrev pub types_command : App
+types_command = with_rule (with_rule (with_rule (new_app (codes "types")) lenient_rule) (wanted (codes "SET"))) (new_rule (codes "NAME"))
 
 -- `-I DIR`, any number of times
 abbrev pub directory_rule : Rule
@@ -68,11 +77,11 @@ tool_top = on_top wants_subcommand (on_top with_version (new_app (codes "pbtool"
 -- the whole command line
 abbrev pub tool : App
 tool =
-    with_subcommand (with_subcommand (with_subcommand (with_subcommand (with_subcommand (with_subcommand tool_top raw_command.top) check_command.top)
-    show_command.top) canon_command.top) frames_command.top) compile_command.top
+    with_subcommand (with_subcommand (with_subcommand (with_subcommand (with_subcommand (with_subcommand (with_subcommand tool_top raw_command.top)
+    check_command.top) show_command.top) canon_command.top) frames_command.top) types_command.top) compile_command.top
 
 abbrev pub tool_names : List Text
-tool_names = codes "raw" ∷ codes "check" ∷ codes "show" ∷ codes "canon" ∷ codes "frames" ∷ codes "compile" ∷ []
+tool_names = codes "raw" ∷ codes "check" ∷ codes "show" ∷ codes "canon" ∷ codes "frames" ∷ codes "types" ∷ codes "compile" ∷ []
 
 abbrev pub words_of : List (String Global) → List Text
 words_of = map string_bytes
@@ -93,10 +102,19 @@ values_of id rows = unwrap_or (all_of id rows) []
 abbrev pub option_of : Text → List Row → Option Text
 option_of id rows = first_of id rows
 
+-- how a set is read, by whether the flag is given
+abbrev pub reading_of : Bool → Reading
+reading_of true = Lenient
+reading_of false = Strict
+
+-- the set is read so by these words
+abbrev pub IsReading : List Row → Reading → Type 0
+IsReading rows r = r ≡ reading_of (flag_of (codes "lenient") rows)
+
 -- the values that name a message and its type
 abbrev pub IsSource : List Row → Source → Type 0
 IsSource rows s =
-    (s.set.now ≡ value_of (codes "SET") rows) × (s.type_name.now ≡ value_of (codes "TYPE") rows) × (s.file.now ≡ value_of (codes "FILE") rows)
+    IsReading rows s.reading × (s.set.now ≡ value_of (codes "SET") rows) × (s.type_name.now ≡ value_of (codes "TYPE") rows) × (s.file.now ≡ value_of (codes "FILE") rows)
 
 -- the values that name roots
 abbrev pub AreRoots : List Row → Roots → Type 0
@@ -110,6 +128,9 @@ IsNamed name rows (Show source) = (name ≡ codes "show") × IsSource rows sourc
 IsNamed name rows (Canon to source) =
     (name ≡ codes "canon") × (option_map (λ path. path.now) to ≡ option_of (codes "out") rows) × IsSource rows source
 IsNamed name rows (Frames source) = (name ≡ codes "frames") × IsSource rows source
+IsNamed name rows (Types reading set type_name) =
+    (name ≡ codes "types") × IsReading rows reading × (set.now ≡ value_of (codes "SET") rows)
+    × (option_map (λ n. n.now) type_name ≡ option_of (codes "NAME") rows)
 IsNamed name rows (Compile roots out names) =
     (name ≡ codes "compile") × AreRoots rows roots × (out.now ≡ value_of (codes "OUT") rows)
     × (texts_of names.now ≡ values_of (codes "FILE") rows)

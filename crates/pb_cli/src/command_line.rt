@@ -1,20 +1,20 @@
 //! From the words of the command line to the exit status.
 
-ghost use Rattle.std.specs.Prelude.{◌≡◌, ◌≢◌, ◌⊎◌, ℕ, List, [], true, false, Any, Some};
+ghost use Rattle.std.specs.Prelude.{◌≡◌, ◌≢◌, ◌⊎◌, ℕ, List, [], codes, true, false, Any, Some};
 ghost use Rattle.clap.specs.Words.{fault_of, found_of, is_simple_and_free, kind_of, rows_of, subcommand_name_of, subcommand_rows_of, takes};
 ghost use Rattle.pb_command.specs.Answers.{Does};
 ghost use Rattle.pb_command.specs.CompileAnswer.{texts_of};
-ghost use Rattle.pb_command.specs.FileMap.{IsHonest, IsSaved, IsUnsaved};
-ghost use Rattle.pb_command.specs.Report.{device_line, memory_line};
+ghost use Rattle.pb_files.specs.FileMap.{IsHonest, IsSaved, IsUnsaved};
+ghost use Rattle.pb_files.specs.Report.{device_line, memory_line};
 ghost use Rattle.pb_output.specs.Sending.{Cut, Sent, SentOrCut};
 ghost use Rattle.pb_cli.specs.Running.{DoesNamed, RefusesWords};
-ghost use Rattle.pb_cli.specs.Words.{AreRoots, IsMatched, IsSource, flag_of, value_of, values_of, tool, tool_names, words_of};
+ghost use Rattle.pb_cli.specs.Words.{AreRoots, IsMatched, IsSource, flag_of, reading_of, value_of, values_of, tool, tool_names, words_of};
 ghost use Rattle.pb_command.specs.declared.command.Command.{Command as Told};
 
 use crate::words::definition;
 use clap::error::ErrorKind;
 use clap::{ArgMatches, Error};
-use pb_command::{Afterwards, Command, Files, Refusal, Roots, Source, execute_then};
+use pb_command::{Afterwards, Command, Files, Reading, Refusal, Roots, Source, execute_then};
 use pb_wire::{Output, write_all};
 use std::alloc::Global;
 
@@ -167,6 +167,13 @@ fn command_of<'m>(matches: &'m ArgMatches<'_>) -> Command<'m>
             source: source(inner),
         };
     }
+    if let Some(inner) = matches.subcommand_matches("types") {
+        return Command::Types {
+            reading: reading(inner),
+            set: value(inner, "SET"),
+            name: inner.get_str("NAME"),
+        };
+    }
     if let Some(inner) = matches.subcommand_matches("compile") {
         return Command::Compile {
             roots: roots(inner),
@@ -182,9 +189,21 @@ fn source<'a>(matches: &ArgMatches<'a>) -> Source<'a>
     ensures { IsSource (rows_of (found_of matches.now)) result }
 {
     Source {
+        reading: reading(matches),
         set: value(matches, "SET"),
         type_name: value(matches, "TYPE"),
         file: value(matches, "FILE"),
+    }
+}
+
+/// How a set is read.
+fn reading(matches: &ArgMatches<'_>) -> Reading
+    ensures { result ≡ reading_of (flag_of (codes "lenient") (rows_of (found_of matches.now))) }
+{
+    if flag(matches, "lenient") {
+        Reading::Lenient
+    } else {
+        Reading::Strict
     }
 }
 

@@ -39,5 +39,6 @@ mod words;
 
 pub use command_line::{run, run_then};
 pub use pb_command::{
-    Afterwards, Command, Files, HostFiles, MemFiles, Refusal, Roots, Source, execute, execute_then,
+    Afterwards, Command, Files, HostFiles, MemFiles, Reading, Refusal, Roots, Source, execute,
+    execute_then,
 };

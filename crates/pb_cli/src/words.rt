@@ -2,8 +2,8 @@
 ghost use Rattle.std.specs.Prelude.{◌≡◌, false, IfOk};
 ghost use Rattle.clap.specs.Words.{app_of, rule_of};
 ghost use Rattle.clap.specs.declared.builder.command.Command.TheViews.{out-Command};
-ghost use Rattle.pb_cli.specs.Words.{canon_command, check_command, compile_command, frames_command, raw_command, show_command};
-ghost use Rattle.pb_cli.specs.Words.{directory_rule, of_source, tool, tool_top, wanted};
+ghost use Rattle.pb_cli.specs.Words.{canon_command, check_command, compile_command, frames_command, raw_command, show_command, types_command};
+ghost use Rattle.pb_cli.specs.Words.{directory_rule, lenient_rule, of_source, tool, tool_top, wanted};
 
 use clap::{Arg, ArgAction, Command};
 use std::alloc::{AllocError, Global};
@@ -22,7 +22,8 @@ pub fn definition<'a>(alloc: Global) -> Result<Command<'a>, AllocError>
     let with_show = with_check.subcommand(show(alloc)?)?;
     let with_canon = with_show.subcommand(canon(alloc)?)?;
     let with_frames = with_canon.subcommand(frames(alloc)?)?;
-    let whole = with_frames.subcommand(compile(alloc)?)?;
+    let with_types = with_frames.subcommand(types(alloc)?)?;
+    let whole = with_types.subcommand(compile(alloc)?)?;
     Ok(whole)
 }
 
@@ -102,6 +103,22 @@ fn frames<'a>(alloc: Global) -> Result<Command<'a>, AllocError>
     Ok(whole)
 }
 
+fn types<'a>(alloc: Global) -> Result<Command<'a>, AllocError>
+    ensures app { IfOk result (λ c. app_of c ≡ types_command) }
+    ensures local { IfOk result (λ c. (out-Command c).has_globals ≡ false) }
+{
+    let command = Command::new(alloc, "types").about(
+        "Print what a descriptor set declares, a line each",
+    );
+    let lenient = lenient_option(alloc);
+    let with_lenient = command.arg(lenient)?;
+    let set = wanted(alloc, "SET", "The file with the descriptor set");
+    let with_set = with_lenient.arg(set)?;
+    let name = Arg::new(alloc, "NAME").help("Print only the message or enum of this full name");
+    let whole = with_set.arg(name)?;
+    Ok(whole)
+}
+
 fn compile<'a>(alloc: Global) -> Result<Command<'a>, AllocError>
     ensures app { IfOk result (λ c. app_of c ≡ compile_command) }
     ensures local { IfOk result (λ c. (out-Command c).has_globals ≡ false) }
@@ -138,13 +155,26 @@ fn with_source<'a>(alloc: Global, command: Command<'a>) -> Result<Command<'a>, A
     ensures app { (out-Command command.entry).has_globals ≡ false → IfOk result (λ c. app_of c ≡ of_source (app_of command.entry)) }
     ensures local { (out-Command command.entry).has_globals ≡ false → IfOk result (λ c. (out-Command c).has_globals ≡ false) }
 {
+    let lenient = lenient_option(alloc);
+    let with_lenient = command.arg(lenient)?;
     let set = wanted(alloc, "SET", "The file with the descriptor set of the type");
-    let with_set = command.arg(set)?;
+    let with_set = with_lenient.arg(set)?;
     let name = wanted(alloc, "TYPE", "The full name of the message type");
     let with_type = with_set.arg(name)?;
     let file = wanted(alloc, "FILE", "The file with the bytes");
     let whole = with_type.arg(file)?;
     Ok(whole)
+}
+
+/// The flag for lenient reading of the set.
+fn lenient_option<'a>(alloc: Global) -> Arg<'a>
+    ensures rule { rule_of result ≡ lenient_rule }
+    ensures local { result.global ≡ false }
+{
+    Arg::new(alloc, "lenient")
+        .long("lenient")
+        .action(ArgAction::SetTrue)
+        .help("Leave out the extensions, required labels and default values of the set")
 }
 
 /// An argument that is required.

@@ -4,20 +4,22 @@ use Rattle.std.specs.Prelude.{Result, Ok, Err}
 use Rattle.pb_wire.specs.Limits.{full}
 use Rattle.pb_wire.specs.declared.device.DeviceFault.{DeviceFault}
 use Rattle.pb_schema.specs.Types.{Types}
-use Rattle.pb_command.specs.Answer.{Answer, done, stopped, broken, IsPrinted}
+use Rattle.pb_files.specs.Answer.{Answer, done, stopped, broken, IsPrinted}
 use Rattle.pb_command.specs.Answers.{FramesAt, FrameFaultAt, FramesBegunAt}
-use Rattle.pb_command.specs.FileMap.{FileMap, IsOpened, KeepsMap}
-use Rattle.pb_command.specs.Report.{output_name}
+use Rattle.pb_files.specs.FileMap.{FileMap, IsOpened, KeepsMap}
+use Rattle.pb_files.specs.Report.{output_name}
 use Rattle.pb_output.specs.Sending.{Cut, Sent}
 use Rattle.pb_output.specs.Sink.{Finishes, Puts}
-use Rattle.pb_command.specs.Steps.{Comes, FailsAt, IsReadOf, NoFile, OfFiles, OfInput, StreamAt, StreamBegun, StreamBegunAt, StreamOf}
+use Rattle.pb_files.specs.Known.{IsReadOf, OfFiles, OfInput}
+use Rattle.pb_command.specs.Steps.{Comes, FailsAt, NoFile, StreamAt, StreamBegun, StreamBegunAt, StreamOf}
 use Rattle.pb_command.specs.Streaming.{FramesBegunIn, FramesIn, PutsFrames}
-use Rattle.pb_command.specs.TypeAnswer.{HasType, missing, opened}
+use Rattle.pb_files.specs.SetFile.{HasType}
+use Rattle.pb_command.specs.TypeAnswer.{missing, opened}
 use Rattle.pb_output.specs.declared.sink.Sink.{Sink}
 use Rattle.pb_command.specs.declared.command.Source.{Source}
-use Rattle.pb_command.specs.declared.report.Refusal.{Refusal}
-use Rattle.pb_command.proofs.Coming.{by_refusal_any, by_refusal_map}
-use Rattle.pb_command.proofs.FileSteps.{of_later, opened_of}
+use Rattle.pb_files.specs.declared.report.Refusal.{Refusal}
+use Rattle.pb_files.proofs.RefusalLemmas.{by_refusal_any, by_refusal_map}
+use Rattle.pb_files.proofs.KnownLemmas.{of_later, opened_of}
 use Rattle.pb_command.proofs.Honest.{frames_map}
 use Rattle.pb_output.proofs.SinkLemmas.{finished}
 
@@ -98,7 +100,7 @@ module _
 
 module _
     {F : Type 0} (contents : F → Option FileMap) (is_steady : F → Bool) (old mid : F) (s : Source) (set : List ℕ) (pool : Types) (m : ℕ)
-    (is_read : IsReadOf contents is_steady old (full.bytes + 1) s.set.now (Some set)) (has : HasType s.type_name.now set pool m)
+    (is_read : IsReadOf contents is_steady old (full.bytes + 1) s.set.now (Some set)) (has : HasType s.reading s.type_name.now set pool m)
     (kept : KeepsMap (contents old) (contents mid)) (steady : is_steady old ≡ true → is_steady mid ≡ true) where
   earlier : (P : Option (List ℕ) → Type 0) → OfFiles contents is_steady mid s.file.now P → OfFiles contents is_steady old s.file.now P
   earlier P of = of_later s.file.now P kept steady of

@@ -12,16 +12,17 @@ use Rattle.pb_link.specs.Resolved.{Resolves}
 use Rattle.pb_rules.specs.declared.error.LinkError.{LinkError}
 use Rattle.pb_rules.specs.declared.error.LinkError.TheVariants as link
 use Rattle.pb_names.proofs.BehindLemmas.{all_append}
-use Rattle.pb_command.specs.Answer.{Answer, refused}
+use Rattle.pb_files.specs.Answer.{Answer, refused}
 use Rattle.pb_command.specs.CompileAnswer.{CompileAnswer, unlinked, too_large}
-use Rattle.pb_command.specs.FileMap.{FileMap, IsSaved, IsUnsaved, KeepsMap}
+use Rattle.pb_files.specs.FileMap.{FileMap, IsSaved, IsUnsaved, KeepsMap}
 use Rattle.pb_command.specs.Gathering.{Gathered, GathersUnder, Origin, Outcome, gathered, given, nothing_yet, none_left, known, left_out, read, refused_inside, refused_here}
-use Rattle.pb_command.specs.Refusal.{IsToldOfLink, Refuses}
-use Rattle.pb_command.specs.Report.{too_large_line}
+use Rattle.pb_files.specs.Refusal.{IsToldOfLink, Refuses}
+use Rattle.pb_files.specs.Report.{too_large_line}
 use Rattle.pb_output.specs.Sending.{Cut, Sent}
 use Rattle.pb_command.specs.Steps.{Comes}
-use Rattle.pb_command.specs.declared.report.Refusal.{Refusal}
-use Rattle.pb_command.proofs.Coming.{comes_map, refuses_map}
+use Rattle.pb_files.specs.declared.report.Refusal.{Refusal}
+use Rattle.pb_files.proofs.RefusalLemmas.{refuses_map}
+use Rattle.pb_command.proofs.Coming.{comes_map}
 use Rattle.pb_command.proofs.FileSteps.{saved_later, unsaved_later}
 use Rattle.pb_command.proofs.SetLevels.{HasSource, set_fits}
 

@@ -1,12 +1,12 @@
 -- How a run ends, from what its command came to and what was told.
 use Rattle.std.proofs.Common.{◌≡◌, ◌≢◌, ℕ, List, [], Option, None, false, refl, inl, inr, ap, sym, ◌∙◌, subst, arith}
 use Rattle.std.specs.Prelude.{Result, Ok, Err, MatchResult, string_bytes}
-use Rattle.pb_command.specs.Answer.{Answer, stopped, Ends, delivered, output_failed, file_failed, out_of_memory}
-use Rattle.pb_command.specs.Report.{device_line}
-use Rattle.pb_command.specs.Refusal.{names_device, refusal_line, refusal_status}
+use Rattle.pb_files.specs.Answer.{Answer, stopped, Ends, delivered, output_failed, file_failed, out_of_memory}
+use Rattle.pb_files.specs.Report.{device_line}
+use Rattle.pb_files.specs.Refusal.{names_device, refusal_line, refusal_status}
 use Rattle.pb_command.specs.Steps.{Comes, FailsAt}
-use Rattle.pb_command.specs.declared.report.Refusal.{Refusal}
-use Rattle.pb_command.specs.declared.report.Refusal.TheVariants.{Fault, Set, SetFile, Link, UnknownType, TooLarge, Frame, Source, Device, File, Memory}
+use Rattle.pb_files.specs.declared.report.Refusal.{Refusal}
+use Rattle.pb_files.specs.declared.report.Refusal.TheVariants.{Fault, Set, SetFile, Link, UnknownType, TooLarge, Frame, Source, Device, File, Memory}
 
 module _
     (Out Cut Told : List ℕ → Type 0) (Saved : Option (List ℕ × List ℕ) → Type 0) (Unsaved : List ℕ → Type 0) (status : ℕ)

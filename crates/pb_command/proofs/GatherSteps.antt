@@ -7,16 +7,16 @@ use Rattle.std.proofs.lemmas.List.{drop-map, drop_all, drop_more, map-append, re
 use Rattle.pb_decl.specs.Decls.{DeclaredFile}
 use Rattle.pb_decl.specs.View.{file_view}
 use Rattle.pb_decl.specs.declared.decl.FileDecl.{FileDecl}
-use Rattle.pb_command.specs.Answer.{Answer}
+use Rattle.pb_files.specs.Answer.{Answer}
 use Rattle.pb_command.specs.CompileAnswer.{texts_of, told_of}
-use Rattle.pb_command.specs.FileMap.{FileMap, KeepsMap}
+use Rattle.pb_files.specs.FileMap.{FileMap, KeepsMap}
 use Rattle.pb_command.specs.Gathering.{Gathered, Outcome, Trouble, gathered, given, imported, stopped_at, nothing_yet, with_file, with_name, is_known, known, none_left, read, refused_here, refused_inside}
 use Rattle.pb_command.specs.Reaching.{FindsImport, Moves, OpenFile, OpensFound, StopsInside, closed, passed, entered, opened, open_view, stack_of}
-use Rattle.pb_command.specs.Refusal.{Refuses}
+use Rattle.pb_files.specs.Refusal.{Refuses}
 use Rattle.pb_command.specs.Steps.{AbsentOf, DeclaredOf, GathersOf, StopsOf, TroubleOf}
 use Rattle.pb_command.specs.declared.gathering.Open.{Open}
-use Rattle.pb_command.specs.declared.report.Refusal.{Refusal}
-use Rattle.pb_command.proofs.Coming.{refuses_map}
+use Rattle.pb_files.specs.declared.report.Refusal.{Refusal}
+use Rattle.pb_files.proofs.RefusalLemmas.{refuses_map}
 use Rattle.pb_command.proofs.GatheringLemmas.{Rest, gathers_stop, gathers_then, moves_back, rest_closed, rest_stopped, stops_rest}
 use Rattle.pb_command.proofs.SourceSteps.{gathers_later, moves_later, trouble_later}
 use Rattle.pb_command.proofs.TextLists.{texts_more, texts_whole}

@@ -1,34 +1,31 @@
 -- Right answers of a command: over honest files those of their bytes, and over any files of the form of one.
-use Rattle.std.proofs.Common.{◌≡◌, ◌+◌, ℕ, List, [], Bool, Option, None, Some, take, refl, sym, inl, inr, subst}
+use Rattle.std.proofs.Common.{◌≡◌, ◌+◌, ℕ, List, [], Bool, Option, None, Some, refl, sym, inl, inr, subst}
 use Rattle.std.specs.Prelude.{option_map}
 use Rattle.pb_wire.specs.Fault.{Fault}
 use Rattle.pb_wire.specs.Limits.{full}
 use Rattle.pb_schema.specs.Types.{Types}
 use Rattle.pb_value.specs.Data.{Message}
-use Rattle.pb_command.specs.Answer.{Answer}
+use Rattle.pb_files.specs.Answer.{Answer}
 use Rattle.pb_command.specs.Answers.{Answers, AnyAnswers, AnyBegins, Begins, canonical_form}
-use Rattle.pb_command.specs.FileMap.{FileMap, IsHonest}
+use Rattle.pb_files.specs.FileMap.{FileMap, IsHonest}
 use Rattle.pb_command.specs.FramesAnswer.{FramesAnswer, AreFrames, none, ended, no_frame_there, input_failed}
 use Rattle.pb_command.specs.MessageAnswer.{MessageAnswer, faulty, read}
 use Rattle.pb_command.specs.RawAnswer.{RawAnswer}
-use Rattle.pb_command.specs.Steps.{BegunOf, IsReadOf, OfFiles, RightOf}
-use Rattle.pb_command.specs.TypeAnswer.{HasType, NoType, TypeAnswer, no_type, missing, opened}
+use Rattle.pb_files.specs.Known.{IsReadOf, OfFiles}
+use Rattle.pb_command.specs.Steps.{BegunOf, RightOf}
+use Rattle.pb_files.specs.SetFile.{NoPool, NoType}
+use Rattle.pb_files.specs.declared.set_file.Reading.{Reading}
+use Rattle.pb_command.specs.TypesAnswer.{TypesAnswer, no_types, shown}
+use Rattle.pb_command.specs.TypeAnswer.{TypeAnswer, no_type, missing, opened}
 use Rattle.pb_command.specs.declared.command.Command.{Command}
 use Rattle.pb_command.specs.declared.command.Command.TheVariants.{Raw, Check, Show, Canon, Frames, Compile}
+use Rattle.pb_command.specs.declared.command.Command.TheVariants as command
 use Rattle.pb_command.specs.declared.form.Form.{Form}
 use Rattle.pb_command.specs.declared.form.Form.TheVariants as form
 use Rattle.pb_command.proofs.Judged.{answer_whole}
-use Rattle.pb_command.proofs.SetWhole.{has_type_whole, no_type_whole}
+use Rattle.pb_command.proofs.SetWhole.{no_pool_whole, no_type_whole, pool_at, type_at}
 use Rattle.pb_command.proofs.SourceSteps.{compile_of_any, compile_of_map}
 use Rattle.pb_command.specs.CompileAnswer.{roots_of, texts_of}
-
--- a type of the first bytes of a set is one of the set
-type_at :
-    (name set : List ℕ) (pool : Types) (m : ℕ) (o : Option (List ℕ)) → Some set ≡ option_map (take (full.bytes + 1)) o → HasType name set pool m
-    → (b : List ℕ) × (Some b ≡ o) × HasType name b pool m
-type_at name set pool m None e has = absurd (cc)
-type_at name set pool m (Some b) e has =
-    let front : set ≡ take (full.bytes + 1) b = cc in (b, refl, has_type_whole name b pool m (subst (λ (x : List ℕ). HasType name x pool m) front has))
 
 pub message_map :
     (H H' : Types → ℕ → Fault → Type 0) (T T' : Types → ℕ → Message → Type 0) (form : Form) (pool : Types) (m : ℕ) (a : Answer)
@@ -46,44 +43,61 @@ frames_map A A' S S' B B' path pool m a all stops breaks (no_frame_there {count}
 frames_map A A' S S' B B' path pool m a all stops breaks (input_failed {text} h e) = input_failed (breaks text h) e
 
 type_any :
-    (A : Option (List ℕ) → Type 0) (M : Type 0) (C C' : Types → ℕ → Answer → Type 0) (name set_path path : List ℕ) (a : Answer)
-    → ((pool : Types) (m : ℕ) → C pool m a → C' pool m a) → TypeAnswer A M C name set_path path a
-    → TypeAnswer (λ o. Unit {0}) (Unit {0}) C' name set_path path a
-type_any A M C C' name set_path path a more (no_type is absent) = no_type tt absent
-type_any A M C C' name set_path path a more (missing {pool = pool} {m = m} is has absent e) = missing tt has tt e
-type_any A M C C' name set_path path a more (opened {pool = pool} {m = m} is has comes) = opened tt has (more pool m comes)
+    (A : Option (List ℕ) → Type 0) (M : Type 0) (C C' : Types → ℕ → Answer → Type 0) (reading : Reading) (name set_path path : List ℕ) (a : Answer)
+    → ((pool : Types) (m : ℕ) → C pool m a → C' pool m a) → TypeAnswer A M C reading name set_path path a
+    → TypeAnswer (λ o. Unit {0}) (Unit {0}) C' reading name set_path path a
+type_any A M C C' reading name set_path path a more (no_type is absent) = no_type tt absent
+type_any A M C C' reading name set_path path a more (missing {pool = pool} {m = m} is has absent e) = missing tt has tt e
+type_any A M C C' reading name set_path path a more (opened {pool = pool} {m = m} is has comes) = opened tt has (more pool m comes)
+
+types_any :
+    (A : Option (List ℕ) → Type 0) (reading : Reading) (path : List ℕ) (name : Option (List ℕ)) (a : Answer) → TypesAnswer A reading path name a
+    → TypesAnswer (λ o. Unit {0}) reading path name a
+types_any A reading path name a (no_types is absent) = no_types tt absent
+types_any A reading path name a (shown is has shows) = shown tt has shows
 
 module _ {F : Type 0} (contents : F → Option FileMap) (is_steady : F → Bool) (files : F) where
   module _ (map : FileMap) (honest : IsHonest contents is_steady files map) where
     type_of_map :
-        (C C' : Types → ℕ → Answer → Type 0) (name set_path path : List ℕ) (a : Answer) → ((pool : Types) (m : ℕ) → C pool m a → C' pool m a)
-        → TypeAnswer (IsReadOf contents is_steady files (full.bytes + 1) set_path) (OfFiles contents is_steady files path (λ o. o ≡ None)) C name set_path path a
-        → TypeAnswer (λ o. o ≡ map set_path) (map path ≡ None) C' name set_path path a
-    type_of_map C C' name set_path path a more (no_type {content} is absent) =
+        (C C' : Types → ℕ → Answer → Type 0) (reading : Reading) (name set_path path : List ℕ) (a : Answer)
+        → ((pool : Types) (m : ℕ) → C pool m a → C' pool m a)
+        → TypeAnswer (IsReadOf contents is_steady files (full.bytes + 1) set_path) (OfFiles contents is_steady files path (λ o. o ≡ None)) C reading name set_path path a
+        → TypeAnswer (λ o. o ≡ map set_path) (map path ≡ None) C' reading name set_path path a
+    type_of_map C C' reading name set_path path a more (no_type {content} is absent) =
         no_type {content = map set_path} refl
-        (no_type_whole name set_path (map set_path) a (subst (λ (o : Option (List ℕ)). NoType name set_path o a) (is map honest) absent))
-    type_of_map C C' name set_path path a more (missing {set} {pool} {m} is has absent e) =
-        let at = type_at name set pool m (map set_path) (is map honest) has in missing at.1 at.2 (absent map honest) e
-    type_of_map C C' name set_path path a more (opened {set} {pool} {m} is has comes) =
-        let at = type_at name set pool m (map set_path) (is map honest) has in opened at.1 at.2 (more pool m comes)
+        (no_type_whole reading name set_path (map set_path) a (subst (λ (o : Option (List ℕ)). NoType reading name set_path o a) (is map honest) absent))
+    type_of_map C C' reading name set_path path a more (missing {set} {pool} {m} is has absent e) =
+        let at = type_at reading name set pool m (map set_path) (is map honest) has in missing at.1 at.2 (absent map honest) e
+    type_of_map C C' reading name set_path path a more (opened {set} {pool} {m} is has comes) =
+        let at = type_at reading name set pool m (map set_path) (is map honest) has in opened at.1 at.2 (more pool m comes)
+
+    types_of_map :
+        (reading : Reading) (path : List ℕ) (name : Option (List ℕ)) (a : Answer)
+        → TypesAnswer (IsReadOf contents is_steady files (full.bytes + 1) path) reading path name a → TypesAnswer (λ o. o ≡ map path) reading path name a
+    types_of_map reading path name a (no_types {content} is absent) =
+        no_types {content = map path} refl
+        (no_pool_whole reading path (map path) a (subst (λ (o : Option (List ℕ)). NoPool reading path o a) (is map honest) absent))
+    types_of_map reading path name a (shown {set} {pool} {omitted} is has shows) =
+        let at = pool_at reading set pool omitted (map path) (is map honest) has in shown at.1 at.2 shows
 
     -- over honest files
     pub right_of_map : (command : Command) (a : Answer) → RightOf contents is_steady files command a → Answers map command a
     right_of_map (Raw short file) a h =
         answer_whole full short file.now (map file.now) a (subst (λ (o : Option (List ℕ)). RawAnswer full short file.now o a) (h.1 map honest) h.2)
     right_of_map (Check source) a h =
-        type_of_map _ _ source.type_name.now source.set.now source.file.now a
+        type_of_map _ _ source.reading source.type_name.now source.set.now source.file.now a
         (λ pool m. message_map _ _ _ _ form.Check pool m a (λ f known. known map honest) (λ v known. known.1 map honest)) h
     right_of_map (Show source) a h =
-        type_of_map _ _ source.type_name.now source.set.now source.file.now a
+        type_of_map _ _ source.reading source.type_name.now source.set.now source.file.now a
         (λ pool m. message_map _ _ _ _ form.Listing pool m a (λ f known. known map honest) (λ v known. known.1 map honest)) h
     right_of_map (Canon to source) a h =
-        type_of_map _ _ source.type_name.now source.set.now source.file.now a
+        type_of_map _ _ source.reading source.type_name.now source.set.now source.file.now a
         (λ pool m. message_map _ _ _ _ (canonical_form to) pool m a (λ f known. known map honest) (λ v known. known.1 map honest)) h
     right_of_map (Frames source) a h =
-        type_of_map _ _ source.type_name.now source.set.now source.file.now a
+        type_of_map _ _ source.reading source.type_name.now source.set.now source.file.now a
         (λ pool m. frames_map _ _ _ _ _ _ source.file.now pool m a (λ text known. known.1 map honest) (λ count text f known. known.1 map honest)
         (λ text known. known.1 map honest)) h
+    right_of_map (command.Types reading set name) a h = types_of_map reading set.now (option_map (λ n. n.now) name) a h
     right_of_map (Compile roots out names) a h = compile_of_map contents is_steady files (roots_of roots) out.now (texts_of names.now) a map honest h
 
     pub begun_of_map : (command : Command) (text : List ℕ) → BegunOf contents is_steady files command text → Begins map command text
@@ -91,27 +105,30 @@ module _ {F : Type 0} (contents : F → Option FileMap) (is_steady : F → Bool)
     begun_of_map (Check source) text h = h
     begun_of_map (Show source) text h = h
     begun_of_map (Canon to source) text h = h
+    begun_of_map (command.Types reading set name) text h = h
     begun_of_map (Compile roots out names) text h = h
     begun_of_map (Frames source) text (inl nothing) = inl nothing
     begun_of_map (Frames source) text (inr h) =
-        let at = type_at source.type_name.now h.0 h.1 h.2 (map source.set.now) (h.3 map honest) h.4 in
+        let at = type_at source.reading source.type_name.now h.0 h.1 h.2 (map source.set.now) (h.3 map honest) h.4 in
         inr (at.0, h.1, h.2, sym at.1, at.2, h.6 map honest)
 
   -- over any files
   pub right_of_any : (command : Command) (a : Answer) → RightOf contents is_steady files command a → AnyAnswers command a
   right_of_any (Raw short file) a h = (h.0, h.2)
   right_of_any (Check source) a h =
-      type_any _ _ _ _ source.type_name.now source.set.now source.file.now a
+      type_any _ _ _ _ source.reading source.type_name.now source.set.now source.file.now a
       (λ pool m. message_map _ _ _ _ form.Check pool m a (λ f known. tt) (λ v known. known.0)) h
   right_of_any (Show source) a h =
-      type_any _ _ _ _ source.type_name.now source.set.now source.file.now a
+      type_any _ _ _ _ source.reading source.type_name.now source.set.now source.file.now a
       (λ pool m. message_map _ _ _ _ form.Listing pool m a (λ f known. tt) (λ v known. known.0)) h
   right_of_any (Canon to source) a h =
-      type_any _ _ _ _ source.type_name.now source.set.now source.file.now a
+      type_any _ _ _ _ source.reading source.type_name.now source.set.now source.file.now a
       (λ pool m. message_map _ _ _ _ (canonical_form to) pool m a (λ f known. tt) (λ v known. known.0)) h
   right_of_any (Frames source) a h =
-      type_any _ _ _ _ source.type_name.now source.set.now source.file.now a
+      type_any _ _ _ _ source.reading source.type_name.now source.set.now source.file.now a
       (λ pool m. frames_map _ _ _ _ _ _ source.file.now pool m a (λ text known. known.0) (λ count text f known. known.0) (λ text known. known.0)) h
+  right_of_any (command.Types reading set name) a h =
+      types_any (IsReadOf contents is_steady files (full.bytes + 1) set.now) reading set.now (option_map (λ n. n.now) name) a h
   right_of_any (Compile roots out names) a h = compile_of_any contents is_steady files (roots_of roots) out.now (texts_of names.now) a h
 
   pub begun_of_any : (command : Command) (text : List ℕ) → BegunOf contents is_steady files command text → AnyBegins command text
@@ -119,6 +136,7 @@ module _ {F : Type 0} (contents : F → Option FileMap) (is_steady : F → Bool)
   begun_of_any (Check source) text h = h
   begun_of_any (Show source) text h = h
   begun_of_any (Canon to source) text h = h
+  begun_of_any (command.Types reading set name) text h = h
   begun_of_any (Compile roots out names) text h = h
   begun_of_any (Frames source) text (inl nothing) =
       (record { files = []; messages = []; enums = [] }, 0, (0, subst (λ (t : List ℕ). AreFrames (record { files = []; messages = []; enums = [] }) 0 0 t) (sym nothing) none))

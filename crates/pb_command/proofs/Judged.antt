@@ -7,9 +7,9 @@ use Rattle.pb_wire.specs.Fault.{Fault}
 use Rattle.pb_wire.specs.Schema.{Schema, blank}
 use Rattle.pb_wire.specs.Grammar.{IsText, HasFault, bad, bad_front, too_large}
 use Rattle.pb_wire.specs.Limits.{Bounds}
-use Rattle.pb_command.specs.Answer.{Answer, done, refused}
+use Rattle.pb_files.specs.Answer.{Answer, done, refused}
 use Rattle.pb_command.specs.RawAnswer.{RawAnswer, missing, shown, faulty, shown_as}
-use Rattle.pb_command.specs.Report.{fault_line}
+use Rattle.pb_files.specs.Report.{fault_line}
 
 -- the first bytes of a text within the limit are all of it
 pub front_whole : (m : ℕ) (b : List ℕ) → length (take (m + 1) b) ≤ m → take (m + 1) b ≡ b

@@ -1,8 +1,3 @@
--- ---- the lines of refusals
--- for the path in a line, step by step
-pub mod Paths
--- for the line that tells a fault of a source
-pub mod SourceLines
 -- ---- what was read
 -- for bytes that were read up to a limit: what the first of them answer, one more than the limit, all of them do
 pub mod Judged
@@ -11,10 +6,8 @@ pub mod SetWhole
 -- ---- what a command comes to, from what its steps leave
 -- for what follows from what is known of steps
 pub mod Coming
--- for files after something was opened
+-- for what comes of files after something was opened
 pub mod FileSteps
--- for a set that gives no type
-pub mod TypeSteps
 -- for the message of a file
 pub mod MessageSteps
 -- for the loop of `frames`: the frames of a stream, one after another

@@ -5,16 +5,18 @@ use Rattle.pb_wire.specs.Limits.{full}
 use Rattle.pb_schema.specs.Types.{Types}
 use Rattle.pb_value.specs.Dynamic.{Dynamic}
 use Rattle.pb_value.specs.WellFormed.{IsWellFormed}
-use Rattle.pb_command.specs.Answer.{Answer, device_failed, refused}
+use Rattle.pb_files.specs.Answer.{Answer, device_failed, refused}
 use Rattle.pb_command.specs.Answers.{FaultAt, TextAt}
-use Rattle.pb_command.specs.FileMap.{FileMap, IsOpened, KeepsMap}
+use Rattle.pb_files.specs.FileMap.{FileMap, IsOpened, KeepsMap}
 use Rattle.pb_command.specs.MessageAnswer.{FormAnswer, faulty, read}
-use Rattle.pb_command.specs.Report.{fault_line}
-use Rattle.pb_command.specs.Steps.{IsReadOf, MessageAt, MessageOf, OfFiles, OfInput}
-use Rattle.pb_command.specs.TypeAnswer.{HasType, missing, opened}
+use Rattle.pb_files.specs.Report.{fault_line}
+use Rattle.pb_files.specs.Known.{IsReadOf, OfFiles, OfInput}
+use Rattle.pb_command.specs.Steps.{MessageAt, MessageOf}
+use Rattle.pb_files.specs.SetFile.{HasType}
+use Rattle.pb_command.specs.TypeAnswer.{missing, opened}
 use Rattle.pb_command.specs.declared.command.Source.{Source}
 use Rattle.pb_command.specs.declared.form.Form.{Form}
-use Rattle.pb_command.proofs.FileSteps.{of_later, opened_of}
+use Rattle.pb_files.proofs.KnownLemmas.{of_later, opened_of}
 use Rattle.pb_command.proofs.Honest.{message_map}
 
 -- why the message of an opened input is refused
@@ -56,7 +58,7 @@ module _ {F : Type 0} (contents : F → Option FileMap) (is_steady : F → Bool)
 -- from the file to the set that has its type
 module _
     {F : Type 0} (contents : F → Option FileMap) (is_steady : F → Bool) (old mid : F) (form : Form) (s : Source) (set : List ℕ) (pool : Types) (m : ℕ)
-    (is_read : IsReadOf contents is_steady old (full.bytes + 1) s.set.now (Some set)) (has : HasType s.type_name.now set pool m)
+    (is_read : IsReadOf contents is_steady old (full.bytes + 1) s.set.now (Some set)) (has : HasType s.reading s.type_name.now set pool m)
     (kept : KeepsMap (contents old) (contents mid)) (steady : is_steady old ≡ true → is_steady mid ≡ true) where
   pub message_of : (a : Answer) → MessageAt contents is_steady mid form pool m s.file.now a → MessageOf contents is_steady old form s a
   message_of a (inl h) = missing is_read has (of_later s.file.now (λ content. content ≡ None) kept steady h.0) h.1

@@ -8,11 +8,11 @@ use Rattle.pb_wire.specs.Reading.{IfRawFault}
 use Rattle.pb_wire.specs.declared.fault.RawError.{RawError}
 use Rattle.pb_wire.specs.declared.fault.RawError.TheVariants as raw
 use Rattle.pb_wire.specs.Limits.{Bounds}
-use Rattle.pb_command.specs.Answer.{done}
+use Rattle.pb_files.specs.Answer.{done}
 use Rattle.pb_command.specs.RawAnswer.{RawAnswer, faulty, shown, shown_as}
-use Rattle.pb_command.specs.Refusal.{IsTold}
+use Rattle.pb_files.specs.Refusal.{IsTold}
 use Rattle.pb_command.specs.Steps.{Comes, IsNothing, Judges, NoFile}
-use Rattle.pb_command.specs.declared.report.Refusal.{Refusal}
+use Rattle.pb_files.specs.declared.report.Refusal.{Refusal}
 use Rattle.pb_command.proofs.Coming.{comes_map}
 
 -- the bytes that were read are refused

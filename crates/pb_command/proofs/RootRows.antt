@@ -1,6 +1,6 @@
 -- Where a source is looked for, in small cases.
 use Rattle.std.proofs.Common.{◌≡◌, ℕ, List, [], ◌∷◌, Option, Some, sym, ◌∙◌, inl, inr}
-use Rattle.pb_command.specs.FileMap.{FileMap}
+use Rattle.pb_files.specs.FileMap.{FileMap}
 use Rattle.pb_command.specs.Gathering.{IsReached, path_under}
 
 -- under one root there is one path

@@ -5,14 +5,14 @@ use Rattle.std.specs.Borrow.{Bor}
 use Rattle.pb_decl.specs.Decls.{DeclaredFile}
 use Rattle.pb_decl.specs.View.{file_view}
 use Rattle.pb_decl.specs.declared.decl.FileDecl.{FileDecl}
-use Rattle.pb_command.specs.Answer.{Answer}
+use Rattle.pb_files.specs.Answer.{Answer}
 use Rattle.pb_command.specs.CompileAnswer.{texts_of, told_of}
-use Rattle.pb_command.specs.FileMap.{FileMap, KeepsMap}
+use Rattle.pb_files.specs.FileMap.{FileMap, KeepsMap}
 use Rattle.pb_command.specs.Gathering.{DeclaresAt, HasTroubleAt, IsAbsentUnder, IsMissing, IsReached, Trouble, imported, path_under}
-use Rattle.pb_command.specs.Refusal.{Refuses}
+use Rattle.pb_files.specs.Refusal.{Refuses}
 use Rattle.pb_command.specs.Steps.{AbsentOf, DeclaredOf, Fails, IsAt, TroubleOf}
-use Rattle.pb_command.specs.declared.report.Refusal.{Refusal}
-use Rattle.pb_command.proofs.Coming.{refuses_map}
+use Rattle.pb_files.specs.declared.report.Refusal.{Refusal}
+use Rattle.pb_files.proofs.RefusalLemmas.{refuses_map}
 use Rattle.pb_command.proofs.SourceSteps.{absent_later, at_later, declared_later, source_later, trouble_at_later, trouble_later}
 use Rattle.pb_command.proofs.TextLists.{texts_more, texts_whole}
 

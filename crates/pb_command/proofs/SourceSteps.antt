@@ -8,19 +8,20 @@ use Rattle.pb_tokens.specs.declared.fault.SourceCause.{SourceCause}
 use Rattle.pb_tokens.specs.declared.fault.SourceCause.TheVariants as cause
 use Rattle.pb_tokens.specs.declared.fault.SourceFault.{SourceFault}
 use Rattle.pb_source.specs.Source.{IsSource, HasFault, too_large, bad_utf8, in_token, in_syntax}
-use Rattle.pb_command.specs.Answer.{Answer, device_failed, refused}
+use Rattle.pb_files.specs.Answer.{Answer, device_failed, refused}
 use Rattle.pb_command.specs.CompileAnswer.{CompileAnswer, untaken, unlinked, too_large as set_too_large, compiled, told_of}
-use Rattle.pb_command.specs.FileMap.{FileMap, IsHonest, IsOpened, KeepsMap}
+use Rattle.pb_files.specs.FileMap.{FileMap, IsHonest, IsOpened, KeepsMap}
 use Rattle.pb_command.specs.Gathering.{Gathered, GathersUnder, HasTroubleAt, HasTroubleUnder, IsAbsentUnder, IsMissing, IsReached, DeclaresAt, DeclaresUnder, IsFaultyAt, Origin, Outcome, Trouble}
 use Rattle.pb_command.specs.Gathering.{given, imported, unread, faulty, path_under}
 use Rattle.pb_command.specs.Reaching.{Moves, OpenFile}
-use Rattle.pb_command.specs.Refusal.{Refuses}
-use Rattle.pb_command.specs.Report.{source_line}
-use Rattle.pb_command.specs.Steps.{AbsentOf, CompileOf, DeclaredOf, Fails, GathersOf, IsAt, OfFiles, TroubleOf}
-use Rattle.pb_command.specs.declared.report.Refusal.{Refusal}
-use Rattle.pb_command.specs.declared.report.Refusal.TheVariants as refusal
-use Rattle.pb_command.proofs.Coming.{refuses_map}
-use Rattle.pb_command.proofs.FileSteps.{first_read, none_opened, nothing_read, of_later, opened_of}
+use Rattle.pb_files.specs.Refusal.{Refuses}
+use Rattle.pb_files.specs.Report.{source_line}
+use Rattle.pb_files.specs.Known.{OfFiles}
+use Rattle.pb_command.specs.Steps.{AbsentOf, CompileOf, DeclaredOf, Fails, GathersOf, IsAt, TroubleOf}
+use Rattle.pb_files.specs.declared.report.Refusal.{Refusal}
+use Rattle.pb_files.specs.declared.report.Refusal.TheVariants as refusal
+use Rattle.pb_files.proofs.RefusalLemmas.{refuses_map}
+use Rattle.pb_files.proofs.KnownLemmas.{first_read, none_opened, nothing_read, of_later, opened_of}
 use Rattle.pb_command.proofs.GatheringLemmas.{gathers_map, moves_map}
 use Rattle.pb_command.proofs.Judged.{front_long, front_whole, none_whole}
 

@@ -16,14 +16,14 @@ use Rattle.pb_decode.specs.declared.error.DecodeError.TheVariants as decode
 use Rattle.pb_stream.specs.Frame.{Frame, FrameFault}
 use Rattle.pb_stream.specs.Stream.{Stream}
 use Rattle.pb_stream.specs.Taking.{Counts, TakesNone}
-use Rattle.pb_command.specs.Answer.{done, stopped, broken}
+use Rattle.pb_files.specs.Answer.{done, stopped, broken}
 use Rattle.pb_command.specs.FramesAnswer.{AreFrames, none, one_more, BeginsWith, no_frame, frame_more, frame_lines, ended, no_frame_there, input_failed}
-use Rattle.pb_command.specs.Refusal.{ByRefusal}
+use Rattle.pb_files.specs.Refusal.{ByRefusal}
 use Rattle.pb_output.specs.Sink.{Puts}
 use Rattle.pb_command.specs.Streaming.{FramesBegunIn, FramesIn, IsToldOfFrame, PutsFrames, PutsNext, ReadsFrame, RefusesFrame, read_lines}
 use Rattle.pb_output.specs.declared.sink.Sink.{Sink}
 use Rattle.pb_command.specs.declared.frames.Next.{Next}
-use Rattle.pb_command.specs.declared.report.Refusal.{Refusal}
+use Rattle.pb_files.specs.declared.report.Refusal.{Refusal}
 use Rattle.pb_output.proofs.SinkLemmas.{puts_none, puts_then}
 
 -- SIZES

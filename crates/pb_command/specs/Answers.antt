@@ -1,5 +1,5 @@
 -- What each command comes to.
-use Rattle.std.specs.Prelude.{◌≡◌, ◌<◌, ◌^◌, ◌⊎◌, ⊤, ℕ, List, [], length, Option, None, Some}
+use Rattle.std.specs.Prelude.{◌≡◌, ◌<◌, ◌^◌, ◌⊎◌, ⊤, ℕ, List, [], length, Option, None, Some, option_map}
 use Rattle.std.specs.Borrow.{Bor}
 use Rattle.pb_wire.specs.Fault.{Fault}
 use Rattle.pb_wire.specs.Grammar.{HasFault}
@@ -10,15 +10,18 @@ use Rattle.pb_value.specs.Data.{Message}
 use Rattle.pb_value.specs.Derives.{Text}
 use Rattle.pb_value.specs.WellFormed.{IsWellFormed}
 use Rattle.pb_stream.specs.Frame.{FrameFault}
-use Rattle.pb_command.specs.Answer.{Answer, Ends}
+use Rattle.pb_files.specs.Answer.{Answer, Ends}
 use Rattle.pb_command.specs.CompileAnswer.{CompileAnswer, roots_of, texts_of}
-use Rattle.pb_command.specs.FileMap.{FileMap}
+use Rattle.pb_files.specs.FileMap.{FileMap}
 use Rattle.pb_command.specs.FramesAnswer.{AreFrames, BeginsWith, FramesAnswer}
 use Rattle.pb_command.specs.MessageAnswer.{MessageAnswer}
 use Rattle.pb_command.specs.RawAnswer.{RawAnswer}
-use Rattle.pb_command.specs.TypeAnswer.{HasType, TypeAnswer}
+use Rattle.pb_files.specs.SetFile.{HasType}
+use Rattle.pb_command.specs.TypeAnswer.{TypeAnswer}
+use Rattle.pb_command.specs.TypesAnswer.{TypesAnswer}
 use Rattle.pb_command.specs.declared.command.Command.{Command}
 use Rattle.pb_command.specs.declared.command.Command.TheVariants.{Raw, Check, Show, Canon, Frames, Compile}
+use Rattle.pb_command.specs.declared.command.Command.TheVariants as command
 use Rattle.pb_command.specs.declared.command.Source.{Source}
 use Rattle.pb_command.specs.declared.form.Form.{Form}
 use Rattle.pb_command.specs.declared.form.Form.TheVariants as form
@@ -59,13 +62,13 @@ module _ (map : FileMap) where
   abbrev pub MessageComesTo : Form → Source → Answer → Type 0
   MessageComesTo form s =
       TypeAnswer (λ content. content ≡ map s.set.now) (map s.file.now ≡ None)
-      (MessageAnswer (FaultAt (map s.file.now)) (TextAt (map s.file.now)) form) s.type_name.now s.set.now s.file.now
+      (MessageAnswer (FaultAt (map s.file.now)) (TextAt (map s.file.now)) form) s.reading s.type_name.now s.set.now s.file.now
 
   abbrev pub FramesComeTo : Source → Answer → Type 0
   FramesComeTo s =
       TypeAnswer (λ content. content ≡ map s.set.now) (map s.file.now ≡ None)
       (FramesAnswer (FramesAt (map s.file.now)) (FrameFaultAt (map s.file.now)) (λ pool m text. ⊥) s.file.now)
-      s.type_name.now s.set.now s.file.now
+      s.reading s.type_name.now s.set.now s.file.now
 
   abbrev pub Answers : Command → Answer → Type 0
   Answers (Raw short file) = RawAnswer full short file.now (map file.now)
@@ -73,6 +76,7 @@ module _ (map : FileMap) where
   Answers (Show source) = MessageComesTo form.Listing source
   Answers (Canon to source) = MessageComesTo (canonical_form to) source
   Answers (Frames source) = FramesComeTo source
+  Answers (command.Types reading set name) = TypesAnswer (λ content. content ≡ map set.now) reading set.now (option_map (λ n. n.now) name)
   Answers (Compile roots out names) = CompileAnswer (λ path content. content ≡ map path) (λ path. ⊥) (roots_of roots) out.now (texts_of names.now)
 
   -- what is printed before the answer is known: of frames those that were read, and else nothing
@@ -81,17 +85,18 @@ module _ (map : FileMap) where
   Begins (Check source) text = text ≡ []
   Begins (Show source) text = text ≡ []
   Begins (Canon to source) text = text ≡ []
+  Begins (command.Types reading set name) text = text ≡ []
   Begins (Compile roots out names) text = text ≡ []
   Begins (Frames source) text =
       (text ≡ [])
-      ⊎ ((set : List ℕ) × (pool : Types) × (m : ℕ) × (map source.set.now ≡ Some set) × HasType source.type_name.now set pool m
+      ⊎ ((set : List ℕ) × (pool : Types) × (m : ℕ) × (map source.set.now ≡ Some set) × HasType source.reading source.type_name.now set pool m
       × FramesBegunAt (map source.file.now) pool m text)
 
 -- OVER ANY FILES, also those that tell nothing of what they hold
 
 abbrev pub AnyMessage : Form → Source → Answer → Type 0
 AnyMessage form s =
-    TypeAnswer (λ content. ⊤) ⊤ (MessageAnswer (λ pool m f. ⊤) IsWellFormed form) s.type_name.now s.set.now s.file.now
+    TypeAnswer (λ content. ⊤) ⊤ (MessageAnswer (λ pool m f. ⊤) IsWellFormed form) s.reading s.type_name.now s.set.now s.file.now
 
 abbrev pub AnyFrames : Types → ℕ → List ℕ → Type 0
 AnyFrames pool m text = (count : ℕ) × AreFrames pool m count text
@@ -99,7 +104,7 @@ AnyFrames pool m text = (count : ℕ) × AreFrames pool m count text
 abbrev pub AnyStream : Source → Answer → Type 0
 AnyStream s =
     TypeAnswer (λ content. ⊤) ⊤ (FramesAnswer AnyFrames (λ pool m count text f. AreFrames pool m count text) AnyFrames s.file.now)
-    s.type_name.now s.set.now s.file.now
+    s.reading s.type_name.now s.set.now s.file.now
 
 -- the answer has the form of one: of raw records it is that of some bytes, of sources that of some at each path, and else of some set, and of some
 -- messages of the type
@@ -109,6 +114,7 @@ AnyAnswers (Check source) a = AnyMessage form.Check source a
 AnyAnswers (Show source) a = AnyMessage form.Listing source a
 AnyAnswers (Canon to source) a = AnyMessage (canonical_form to) source a
 AnyAnswers (Frames source) a = AnyStream source a
+AnyAnswers (command.Types reading set name) a = TypesAnswer (λ content. ⊤) reading set.now (option_map (λ n. n.now) name) a
 AnyAnswers (Compile roots out names) a = CompileAnswer (λ path content. ⊤) (λ path. ⊤) (roots_of roots) out.now (texts_of names.now) a
 
 abbrev pub AnyBegins : Command → List ℕ → Type 0
@@ -116,6 +122,7 @@ AnyBegins (Raw short file) text = text ≡ []
 AnyBegins (Check source) text = text ≡ []
 AnyBegins (Show source) text = text ≡ []
 AnyBegins (Canon to source) text = text ≡ []
+AnyBegins (command.Types reading set name) text = text ≡ []
 AnyBegins (Compile roots out names) text = text ≡ []
 AnyBegins (Frames source) text = (pool : Types) × (m : ℕ) × AnyFrames pool m text
 

@@ -6,9 +6,9 @@ use Rattle.pb_descr.specs.Sets.{set_bytes}
 use Rattle.pb_rules.specs.Faults.{LinkFault}
 use Rattle.pb_link.specs.Resolved.{Resolves}
 use Rattle.pb_rules.specs.declared.cause.LinkCause.{LinkCause}
-use Rattle.pb_command.specs.Answer.{Answer, saves, refused, device_failed}
+use Rattle.pb_files.specs.Answer.{Answer, saves, refused, device_failed}
 use Rattle.pb_command.specs.Gathering.{Gathered, GathersUnder, Trouble, unread, faulty, gathered, stopped_at, given, nothing_yet}
-use Rattle.pb_command.specs.Report.{link_line, source_line, too_large_line}
+use Rattle.pb_files.specs.Report.{link_line, source_line, too_large_line}
 use Rattle.pb_command.specs.declared.command.Roots.{Roots}
 
 -- the texts behind references

@@ -6,10 +6,10 @@ use Rattle.pb_schema.specs.Types.{Types}
 use Rattle.pb_value.specs.Data.{Message}
 use Rattle.pb_value.specs.WellFormed.{IsWellFormed}
 use Rattle.pb_stream.specs.Frame.{Frame}
-use Rattle.pb_command.specs.Answer.{Answer, done, stopped, broken}
+use Rattle.pb_files.specs.Answer.{Answer, done, stopped, broken}
 use Rattle.pb_listing.specs.Listing.{message_lines}
 use Rattle.pb_listing.specs.RawListing.{line}
-use Rattle.pb_command.specs.Report.{frame_fault_line}
+use Rattle.pb_files.specs.Report.{frame_fault_line}
 
 -- the lines of a frame: which one it is, where it begins and how many bytes it has, and its message one level in
 abbrev pub frame_lines : Types → ℕ → ℕ → ℕ → ℕ → Message → List ℕ

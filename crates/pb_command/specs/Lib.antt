@@ -1,11 +1,7 @@
-pub mod FileMap
-pub mod MemFiles
-pub mod Report
 pub mod Gathering
-pub mod Answer
-pub mod Refusal
 pub mod RawAnswer
 pub mod TypeAnswer
+pub mod TypesAnswer
 pub mod MessageAnswer
 pub mod FramesAnswer
 pub mod CompileAnswer

@@ -6,10 +6,10 @@ use Rattle.pb_schema.specs.Types.{Types}
 use Rattle.pb_value.specs.Data.{Message}
 use Rattle.pb_value.specs.Dynamic.{Dynamic}
 use Rattle.pb_encode.specs.Encoding.{bytes_of}
-use Rattle.pb_command.specs.Answer.{Answer, done, saves, refused}
+use Rattle.pb_files.specs.Answer.{Answer, done, saves, refused}
 use Rattle.pb_listing.specs.Listing.{listing}
 use Rattle.pb_listing.specs.RawListing.{line_feed}
-use Rattle.pb_command.specs.Report.{fault_line, too_large_line}
+use Rattle.pb_files.specs.Report.{fault_line, too_large_line}
 use Rattle.pb_command.specs.declared.form.Form.{Form}
 use Rattle.pb_command.specs.declared.form.Form.TheVariants.{Check, Listing, Canonical, CanonicalFile}
 

@@ -7,9 +7,9 @@ use Rattle.pb_wire.specs.Fault.{Fault}
 use Rattle.pb_wire.specs.Schema.{blank}
 use Rattle.pb_wire.specs.Grammar.{IsText, HasFault}
 use Rattle.pb_wire.specs.Limits.{Bounds}
-use Rattle.pb_command.specs.Answer.{Answer, done, refused, device_failed}
+use Rattle.pb_files.specs.Answer.{Answer, done, refused, device_failed}
 use Rattle.pb_listing.specs.RawListing.{line_feed, raw_listing}
-use Rattle.pb_command.specs.Report.{fault_line}
+use Rattle.pb_files.specs.Report.{fault_line}
 
 -- what is shown of records: their shortest spelling as a line of hexadecimal, or their listing
 abbrev pub shown_as : Bool → List Record → List ℕ

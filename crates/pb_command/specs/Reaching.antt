@@ -3,7 +3,7 @@ use Rattle.std.specs.Prelude.{◌≡◌, ◌⊎◌, ℕ, List, [], ◌∷◌, �
 use Rattle.pb_decl.specs.Decls.{DeclaredFile}
 use Rattle.pb_decl.specs.View.{file_view}
 use Rattle.pb_decl.specs.declared.decl.FileDecl.{FileDecl}
-use Rattle.pb_command.specs.Answer.{Answer}
+use Rattle.pb_files.specs.Answer.{Answer}
 use Rattle.pb_command.specs.CompileAnswer.{told_of}
 use Rattle.pb_command.specs.Gathering.{Gathered, Trouble, Origin, imported, IsTaken, IsLeftOut, is_known, with_name, with_file}
 use Rattle.pb_sets.specs.NameSets.{names_in}

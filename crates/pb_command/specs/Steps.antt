@@ -7,41 +7,28 @@ use Rattle.pb_wire.specs.Limits.{Bounds, full}
 use Rattle.pb_schema.specs.Types.{Types}
 use Rattle.pb_value.specs.WellFormed.{IsWellFormed}
 use Rattle.pb_decl.specs.Decls.{DeclaredFile}
-use Rattle.pb_command.specs.Answer.{Answer, stopped, broken, device_failed, IsPrinted}
+use Rattle.pb_files.specs.Answer.{Answer, stopped, broken, device_failed, IsPrinted}
 use Rattle.pb_command.specs.Answers.{FaultAt, TextAt, FramesAt, FrameFaultAt, FramesBegunAt, AnyFrames, canonical_form}
 use Rattle.pb_command.specs.CompileAnswer.{CompileAnswer, roots_of, texts_of, told_of}
-use Rattle.pb_command.specs.FileMap.{FileMap, IsHonest}
+use Rattle.pb_files.specs.FileMap.{FileMap, IsHonest}
 use Rattle.pb_command.specs.FramesAnswer.{AreFrames, FramesAnswer}
 use Rattle.pb_command.specs.Gathering.{Gathered, GathersUnder, HasTroubleUnder, IsAbsentUnder, DeclaresUnder, Origin, Outcome, Trouble, stopped_at}
 use Rattle.pb_command.specs.MessageAnswer.{MessageAnswer}
 use Rattle.pb_command.specs.RawAnswer.{RawAnswer}
-use Rattle.pb_command.specs.Refusal.{ByRefusal, Refuses}
-use Rattle.pb_command.specs.Report.{output_name}
-use Rattle.pb_command.specs.TypeAnswer.{HasType, TypeAnswer}
+use Rattle.pb_files.specs.Refusal.{ByRefusal, Refuses}
+use Rattle.pb_files.specs.Report.{output_name}
+use Rattle.pb_command.specs.TypeAnswer.{TypeAnswer}
+use Rattle.pb_command.specs.TypesAnswer.{TypesAnswer}
+use Rattle.pb_files.specs.Known.{IsReadOf, OfFiles}
+use Rattle.pb_files.specs.SetFile.{HasType}
+use Rattle.pb_files.specs.declared.set_file.Reading.{Reading}
 use Rattle.pb_command.specs.declared.command.Command.{Command}
 use Rattle.pb_command.specs.declared.command.Command.TheVariants.{Raw, Check, Show, Canon, Frames, Compile}
+use Rattle.pb_command.specs.declared.command.Command.TheVariants as command
 use Rattle.pb_command.specs.declared.command.Source.{Source}
 use Rattle.pb_command.specs.declared.form.Form.{Form}
 use Rattle.pb_command.specs.declared.form.Form.TheVariants as form
-use Rattle.pb_command.specs.declared.report.Refusal.{Refusal}
-
--- WHAT IS KNOWN OF FILES
-
--- this holds of what stands at a path, where the files are honest
-abbrev pub OfFiles : {F : Type 0} → (F → Option FileMap) → (F → Bool) → F → List ℕ → (Option (List ℕ) → Type 0) → Type 0
-OfFiles contents is_steady files path P = (map : FileMap) → IsHonest contents is_steady files map → P (map path)
-
--- this holds of the bytes that are left of an input, where it doesn't fail and tells them
-abbrev pub OfInput : {I : Type 0} → (I → Option (List ℕ)) → (I → Bool) → I → (Option (List ℕ) → Type 0) → Type 0
-OfInput left is_steady input P = (bytes : List ℕ) → is_steady input ≡ true → left input ≡ Some bytes → P (Some bytes)
-
--- what was read is what honest files have at the path, up to so many bytes
-abbrev pub IsReadOf : {F : Type 0} → (F → Option FileMap) → (F → Bool) → F → ℕ → List ℕ → Option (List ℕ) → Type 0
-IsReadOf contents is_steady files limit path read = OfFiles contents is_steady files path (λ content. read ≡ option_map (take limit) content)
-
--- the same of one input
-abbrev pub IsReadFrom : {I : Type 0} → (I → Option (List ℕ)) → (I → Bool) → I → ℕ → Option (List ℕ) → Type 0
-IsReadFrom left is_steady input limit read = OfInput left is_steady input (λ content. read ≡ option_map (take limit) content)
+use Rattle.pb_files.specs.declared.report.Refusal.{Refusal}
 
 -- RECORDS WITHOUT A SCHEMA
 
@@ -113,7 +100,7 @@ module _ {F : Type 0} (contents : F → Option FileMap) (is_steady : F → Bool)
       TypeAnswer (IsReadOf contents is_steady files (full.bytes + 1) s.set.now) (OfFiles contents is_steady files s.file.now (λ content. content ≡ None))
       (MessageAnswer (λ pool m f. OfFiles contents is_steady files s.file.now (λ content. FaultAt content pool m f))
       (λ pool m v. IsWellFormed pool m v × OfFiles contents is_steady files s.file.now (λ content. TextAt content pool m v)) form)
-      s.type_name.now s.set.now s.file.now
+      s.reading s.type_name.now s.set.now s.file.now
 
   -- what `frames` comes to
   abbrev pub StreamOf : Source → Answer → Type 0
@@ -122,14 +109,18 @@ module _ {F : Type 0} (contents : F → Option FileMap) (is_steady : F → Bool)
       (FramesAnswer (λ pool m text. AnyFrames pool m text × OfFiles contents is_steady files s.file.now (λ content. FramesAt content pool m text))
       (λ pool m count text f. AreFrames pool m count text × OfFiles contents is_steady files s.file.now (λ content. FrameFaultAt content pool m count text f))
       (λ pool m text. AnyFrames pool m text × OfFiles contents is_steady files s.file.now (λ content. ⊥)) s.file.now)
-      s.type_name.now s.set.now s.file.now
+      s.reading s.type_name.now s.set.now s.file.now
 
   -- what `frames` prints before that is known
   abbrev pub StreamBegun : Source → List ℕ → Type 0
   StreamBegun s text =
       (text ≡ [])
       ⊎ ((set : List ℕ) × (pool : Types) × (m : ℕ) × IsReadOf contents is_steady files (full.bytes + 1) s.set.now (Some set)
-      × HasType s.type_name.now set pool m × AnyFrames pool m text × OfFiles contents is_steady files s.file.now (λ content. FramesBegunAt content pool m text))
+      × HasType s.reading s.type_name.now set pool m × AnyFrames pool m text × OfFiles contents is_steady files s.file.now (λ content. FramesBegunAt content pool m text))
+
+  -- what `types` comes to
+  abbrev pub TypesOf : Reading → List ℕ → Option (List ℕ) → Answer → Type 0
+  TypesOf reading path name = TypesAnswer (IsReadOf contents is_steady files (full.bytes + 1) path) reading path name
 
   -- what stands at a path, and that reading there fails, which is never so of honest files
   abbrev pub IsAt : List ℕ → Option (List ℕ) → Type 0
@@ -167,6 +158,7 @@ module _ {F : Type 0} (contents : F → Option FileMap) (is_steady : F → Bool)
   RightOf (Show source) a = MessageOf form.Listing source a
   RightOf (Canon to source) a = MessageOf (canonical_form to) source a
   RightOf (Frames source) a = StreamOf source a
+  RightOf (command.Types reading set name) a = TypesOf reading set.now (option_map (λ n. n.now) name) a
   RightOf (Compile roots out names) a = CompileOf (roots_of roots) out.now (texts_of names.now) a
 
   abbrev pub BegunOf : Command → List ℕ → Type 0
@@ -175,4 +167,5 @@ module _ {F : Type 0} (contents : F → Option FileMap) (is_steady : F → Bool)
   BegunOf (Show source) text = IsNothing text
   BegunOf (Canon to source) text = IsNothing text
   BegunOf (Frames source) text = StreamBegun source text
+  BegunOf (command.Types reading set name) text = IsNothing text
   BegunOf (Compile roots out names) text = IsNothing text

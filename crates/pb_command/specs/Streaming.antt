@@ -10,17 +10,17 @@ use Rattle.pb_decode.specs.declared.error.DecodeError.TheVariants as decode
 use Rattle.pb_stream.specs.Frame.{Frame, FrameFault}
 use Rattle.pb_stream.specs.Stream.{Stream}
 use Rattle.pb_stream.specs.Taking.{Counts, TakesNone}
-use Rattle.pb_command.specs.Answer.{Answer, stopped, broken, done}
+use Rattle.pb_files.specs.Answer.{Answer, stopped, broken, done}
 use Rattle.pb_command.specs.Answers.{FramesAt, FrameFaultAt, FramesBegunAt, AnyFrames}
 use Rattle.pb_command.specs.FramesAnswer.{AreFrames, FramesAnswer, frame_lines}
-use Rattle.pb_command.specs.Refusal.{ByRefusal}
+use Rattle.pb_files.specs.Refusal.{ByRefusal}
 use Rattle.pb_output.specs.Sink.{Puts}
-use Rattle.pb_command.specs.Steps.{OfInput}
+use Rattle.pb_files.specs.Known.{OfInput}
 use Rattle.pb_output.specs.declared.sink.Sink.{Sink}
 use Rattle.pb_command.specs.declared.frames.Next.{Next}
 use Rattle.pb_command.specs.declared.frames.Next.TheVariants.{Put, End, Refused}
-use Rattle.pb_command.specs.declared.report.Refusal.{Refusal}
-use Rattle.pb_command.specs.declared.report.Refusal.TheVariants as refusal
+use Rattle.pb_files.specs.declared.report.Refusal.{Refusal}
+use Rattle.pb_files.specs.declared.report.Refusal.TheVariants as refusal
 
 -- why the frame of an index is refused
 abbrev pub IsToldOfFrame : ℕ → Bor (List ℕ) → DecodeError → Refusal → Type 0

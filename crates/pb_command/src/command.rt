@@ -1,9 +1,12 @@
 //! The commands.
 
+use pb_files::Reading;
+
 /// Where messages and their type are read: the file of the messages, and the type's name in the descriptor set of another
-/// file.
+/// file, which is read strictly or leniently.
 #[derive(Clone, Copy, Debug, PartialEq, Eq)]
 pub struct Source<'a> {
+    pub reading: Reading,
     pub set: &'a str,
     pub type_name: &'a str,
     pub file: &'a str,
@@ -40,6 +43,12 @@ pub enum Command<'a> {
     /// Shows the messages of a file, each behind its length.
     Frames {
         source: Source<'a>,
+    },
+    /// Shows what a descriptor set declares, and what reading left out of it: all of it, or the message type or enum of a name.
+    Types {
+        reading: Reading,
+        set: &'a str,
+        name: Option<&'a str>,
     },
     /// Writes the descriptor set of files, which are sources under roots, and of their imports to the file `out`.
     Compile {

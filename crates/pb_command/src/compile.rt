@@ -5,18 +5,17 @@ ghost use Rattle.pb_descr.specs.Sets.{set_bytes};
 ghost use Rattle.pb_decl.specs.View.{file_view};
 ghost use Rattle.pb_descr.specs.Writing.{set_body};
 ghost use Rattle.pb_value.specs.Data.{message_depth};
-ghost use Rattle.pb_command.specs.Answer.{refused};
+ghost use Rattle.pb_files.specs.Answer.{refused};
 ghost use Rattle.pb_command.specs.CompileAnswer.{roots_of, texts_of};
-ghost use Rattle.pb_command.specs.FileMap.{IsSaved, IsUnsaved};
-ghost use Rattle.pb_command.specs.Refusal.{KeepsFailures, Refuses};
-ghost use Rattle.pb_command.specs.Report.{too_large_line};
+ghost use Rattle.pb_files.specs.FileMap.{IsSaved, IsUnsaved};
+ghost use Rattle.pb_files.specs.Refusal.{KeepsFailures, Refuses};
+ghost use Rattle.pb_files.specs.Report.{too_large_line};
 ghost use Rattle.pb_command.specs.Steps.{Comes, CompileOf, IsNothing};
 
 use crate::command::Roots;
-use crate::files::Files;
 use crate::gathering::gather;
-use crate::report::Refusal;
 use pb_descr::{FileDecl, WriteSetError, write_set};
+use pb_files::{Files, Refusal};
 use pb_link::resolve;
 use std::alloc::Global;
 

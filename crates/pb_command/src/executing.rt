@@ -1,23 +1,23 @@
 //! What each command does.
 
 ghost use Rattle.std.specs.Prelude.{◌≡◌, ◌≢◌, ℕ, List, [], true, MatchResult};
-ghost use Rattle.pb_command.specs.Answer.{Ends};
+ghost use Rattle.pb_files.specs.Answer.{Ends};
 ghost use Rattle.pb_command.specs.Answers.{Answers, AnyAnswers, AnyBegins, Begins, Does, canonical_form};
-ghost use Rattle.pb_command.specs.FileMap.{FileMap, IsHonest, IsSaved, IsUnsaved};
-ghost use Rattle.pb_command.specs.Report.{device_line};
-ghost use Rattle.pb_command.specs.Refusal.{KeepsFailures, refusal_line, refusal_status};
+ghost use Rattle.pb_files.specs.FileMap.{FileMap, IsHonest, IsSaved, IsUnsaved};
+ghost use Rattle.pb_files.specs.Report.{device_line};
+ghost use Rattle.pb_files.specs.Refusal.{KeepsFailures, refusal_line, refusal_status};
 ghost use Rattle.pb_output.specs.Sending.{Cut, Sent, SentOrCut};
 ghost use Rattle.pb_command.specs.Steps.{BegunOf, Comes, RightOf};
 
 use crate::afterwards::Afterwards;
 use crate::command::Command;
 use crate::compile::compile;
-use crate::files::Files;
 use crate::form::Form;
 use crate::frames::frames;
 use crate::message::message;
 use crate::raw::raw;
-use crate::report::Refusal;
+use crate::types::types;
+use pb_files::{Files, Refusal};
 use pb_wire::{Limits, Output};
 use std::alloc::Global;
 
@@ -109,6 +109,9 @@ fn perform<'a, F: Files, O: Output>(
             out,
         ),
         Command::Frames { source } => frames(alloc, afterwards, source, files, out),
+        Command::Types { reading, set, name } => types(
+            alloc, afterwards, *reading, set, *name, files, out,
+        ),
         Command::Compile {
             roots,
             out: to,

@@ -3,19 +3,18 @@
 ghost use Rattle.std.specs.Prelude.{◌≡◌, ◌++◌, ◌<◌, ◌≤◌, ◌^◌, [], codes, length, IfOk, IfErr, MatchResult, true};
 ghost use Rattle.hex.specs.Hex.{encode_lower};
 ghost use Rattle.pb_encode.specs.Encoding.{bytes_of};
-ghost use Rattle.pb_command.specs.Answer.{done, saves, refused};
-ghost use Rattle.pb_command.specs.FileMap.{IsSaved, IsUnsaved};
+ghost use Rattle.pb_files.specs.Answer.{done, saves, refused};
+ghost use Rattle.pb_files.specs.FileMap.{IsSaved, IsUnsaved};
 ghost use Rattle.pb_listing.specs.Listing.{listing};
 ghost use Rattle.pb_command.specs.MessageAnswer.{CanonAnswer, FormAnswer};
 ghost use Rattle.pb_listing.specs.RawListing.{line_feed};
-ghost use Rattle.pb_command.specs.Refusal.{KeepsFailures, Refuses};
-ghost use Rattle.pb_command.specs.Report.{too_large_line};
+ghost use Rattle.pb_files.specs.Refusal.{KeepsFailures, Refuses};
+ghost use Rattle.pb_files.specs.Report.{too_large_line};
 ghost use Rattle.pb_output.specs.Sending.{Cut, Sent};
 ghost use Rattle.pb_command.specs.Steps.{Comes, IsNothing, NoFile};
 
-use crate::files::Files;
-use crate::report::{OUTPUT, Refusal};
 use pb_encode::{EncodeError, encode};
+use pb_files::{Files, OUTPUT, Refusal};
 use pb_listing::write_message;
 use pb_output::Sink;
 use pb_value::DynamicMessage;

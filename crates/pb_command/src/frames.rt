@@ -2,22 +2,19 @@
 
 ghost use Rattle.std.specs.Prelude.{◌≡◌, ◌++◌, ◌<◌, false, codes, decimal, length, true};
 ghost use Rattle.pb_wire.specs.Limits.{full};
-ghost use Rattle.pb_command.specs.FileMap.{IsSaved, IsUnsaved};
+ghost use Rattle.pb_files.specs.FileMap.{IsSaved, IsUnsaved};
 ghost use Rattle.pb_command.specs.FramesAnswer.{frame_lines};
 ghost use Rattle.pb_listing.specs.RawListing.{line};
 ghost use Rattle.pb_output.specs.Sending.{Cut, Sent};
 ghost use Rattle.pb_output.specs.Sink.{Puts};
 ghost use Rattle.pb_command.specs.Steps.{Comes, NoFile, StreamAt, StreamBegun, StreamBegunAt, StreamOf};
 ghost use Rattle.pb_command.specs.Streaming.{FramesBegunIn, FramesIn, IsToldOfFrame, PutsFrames, PutsNext};
-ghost use Rattle.pb_command.specs.Refusal.{KeepsFailures};
+ghost use Rattle.pb_files.specs.Refusal.{KeepsFailures};
 
 use crate::afterwards::{Afterwards, part_with};
-use crate::by_type::find_type;
 use crate::command::Source;
-use crate::files::Files;
-use crate::reading::open_file;
-use crate::report::{OUTPUT, Refusal};
 use pb_decode::DecodeError;
+use pb_files::{Files, OUTPUT, Refusal, find_type, open_file};
 use pb_listing::put_listing_at;
 use pb_output::Sink;
 use pb_schema::{MessageId, Pool};
@@ -51,7 +48,7 @@ pub fn frames<'a, F: Files, O: Output>(
     ensures kept { KeepsFailures F.failures files.old files.new result }
     ensures unfailing { F.is_steady files.old ≡ true → F.failures files.new ≡ F.failures files.old }
 {
-    let (pool, kind) = find_type(alloc, source, files)?;
+    let (pool, kind) = find_type(alloc, source.reading, source.set, source.type_name, files)?;
     let answer = frames_at(alloc, &pool, kind, source.file, files, out);
     part_with(pool, afterwards);
     answer

@@ -6,17 +6,16 @@ ghost use Rattle.std.specs.Str.{bytes_eq};
 ghost use Rattle.pb_sets.specs.NameSets.{names_in};
 ghost use Rattle.pb_decl.specs.View.{file_view};
 ghost use Rattle.pb_command.specs.CompileAnswer.{roots_of, texts_of, told_of};
-ghost use Rattle.pb_command.specs.FileMap.{KeepsMap};
+ghost use Rattle.pb_files.specs.FileMap.{KeepsMap};
 ghost use Rattle.pb_command.specs.Gathering.{Gathered, Trouble, gathered, given, imported, nothing_yet, with_file};
 ghost use Rattle.pb_command.specs.Reaching.{FindsImport, Moves, OpensFound, RefusesImport, StopsInside, open_view, reached, stack_of};
-ghost use Rattle.pb_command.specs.Refusal.{KeepsFailures, Refuses};
+ghost use Rattle.pb_files.specs.Refusal.{KeepsFailures, Refuses};
 ghost use Rattle.pb_command.specs.Steps.{AbsentOf, DeclaredOf, GathersOf, StopsOf, TroubleOf};
 
 use crate::command::Roots;
-use crate::files::Files;
-use crate::report::Refusal;
 use crate::sources::{leaves_root, read_given, read_source};
 use pb_descr::FileDecl;
+use pb_files::{Files, Refusal};
 use pb_sets::name_set::NameSet;
 use std::alloc::{AllocError, Global};
 

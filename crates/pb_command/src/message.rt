@@ -1,17 +1,16 @@
 //! The message of a file, by its type.
 
 ghost use Rattle.std.specs.Prelude.{◌≡◌, ◌<◌, length, true};
-ghost use Rattle.pb_command.specs.FileMap.{IsSaved, IsUnsaved};
+ghost use Rattle.pb_files.specs.FileMap.{IsSaved, IsUnsaved};
 ghost use Rattle.pb_output.specs.Sending.{Cut, Sent};
 ghost use Rattle.pb_command.specs.Steps.{Comes, IsNothing, MessageAt, MessageOf};
-ghost use Rattle.pb_command.specs.Refusal.{KeepsFailures};
+ghost use Rattle.pb_files.specs.Refusal.{KeepsFailures};
 
 use crate::afterwards::{Afterwards, part_with};
-use crate::by_type::{find_type, read_message};
+use crate::by_type::read_message;
 use crate::command::Source;
-use crate::files::Files;
 use crate::form::{Form, make};
-use crate::report::Refusal;
+use pb_files::{Files, Refusal, find_type};
 use pb_schema::{MessageId, Pool};
 use pb_wire::Output;
 use std::alloc::Global;
@@ -31,7 +30,7 @@ pub fn message<'a, F: Files, O: Output>(
     ensures kept { KeepsFailures F.failures files.old files.new result }
     ensures unfailing { F.is_steady files.old ≡ true → F.takes_writes files.old ≡ true → F.failures files.new ≡ F.failures files.old }
 {
-    let (pool, kind) = find_type(alloc, source, files)?;
+    let (pool, kind) = find_type(alloc, source.reading, source.set, source.type_name, files)?;
     let answer = message_at(
         alloc,
         afterwards,

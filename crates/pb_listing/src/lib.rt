@@ -11,4 +11,4 @@ mod values;
 pub use messages::{put_listing_at, write_message};
 pub use records::write_listing;
 pub use shortest::write_shortest;
-pub use types::{put_enum_type, put_message_type, put_types, write_types};
+pub use types::{file_name, put_enum_type, put_message_type, put_types, write_types};

@@ -132,7 +132,7 @@ fn put_head<O: Output>(
 }
 
 /// The name of the file at an index; of an index out of range nothing.
-fn file_name(pool: &Pool, file: usize) -> &[u8]
+pub fn file_name(pool: &Pool, file: usize) -> &[u8]
     ensures { result.now ≡ file_name_at pool.now file }
 {
     match pool.files().get(file) {

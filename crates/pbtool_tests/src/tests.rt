@@ -3,6 +3,7 @@
 
 mod calls;
 mod compiled;
+mod lenient;
 mod typed;
 
 use pb_cli::{Files, HostFiles, MemFiles, run};
@@ -259,6 +260,10 @@ const NO_COMMANDS: &[&[&str]] = &[
     &["show", "f", "T"],
     &["canon", "--out", "f", "T", "f"],
     &["frames", "--out", "g", "f", "T", "f"],
+    &["raw", "--lenient", "f"],
+    &["types"],
+    &["types", "f", "N", "g"],
+    &["types", "--lenient"],
     &["compile", "f", "g"],
     &["compile", "-I", "d", "f", "g"],
     &["compile", "f", "g", "h", "-I"],

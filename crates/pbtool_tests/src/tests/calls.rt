@@ -2,7 +2,7 @@
 //! rows of the command for the same bytes.
 
 use super::{FLAT, NONE, files_of};
-use pb_cli::{Afterwards, Command, Source, execute, execute_then, run_then};
+use pb_cli::{Afterwards, Command, Reading, Source, execute, execute_then, run_then};
 use pb_decode::decode;
 use pb_descr::{FileDecl, read_set};
 use pb_link::link;
@@ -119,6 +119,7 @@ fn is_done(
 fn commands(rt: HostRuntime) -> Result<(), Fail> {
     let alloc = rt.alloc();
     let source = Source {
+        reading: Reading::Strict,
         set: "s",
         type_name: "M",
         file: "f",
@@ -131,13 +132,21 @@ fn commands(rt: HostRuntime) -> Result<(), Fail> {
         type_name: "N",
         ..source
     };
-    let rows: [(Command<'_>, Comes); 6] = [
+    let rows: [(Command<'_>, Comes); 7] = [
         (Command::Show { source }, (0, b"a: 150\n", b"")),
         (Command::Check { source }, (0, b"ok\n", b"")),
         (Command::Canon { out: None, source }, (0, b"089601\n", b"")),
         (
             Command::Frames { source: frames },
             (0, b"frame 0 at 0 size 4\n  a: 150\n", b""),
+        ),
+        (
+            Command::Types {
+                reading: Reading::Lenient,
+                set: "s",
+                name: Some("M"),
+            },
+            (0, b"message M m.proto\nfield M.a 1 implicit int32\n", b""),
         ),
         (
             Command::Check { source: frames },

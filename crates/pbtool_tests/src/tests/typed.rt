@@ -194,7 +194,7 @@ fn lines_of(alloc: Global, lines: &str, are_told: bool) -> Result<String, Fail> 
 }
 
 /// Whether a run printed and told these lines, or none.
-fn is_told(alloc: Global, run: &Run, lines: Option<&str>) -> Result<bool, Fail> {
+pub fn is_told(alloc: Global, run: &Run, lines: Option<&str>) -> Result<bool, Fail> {
     let Some(lines) = lines else {
         return Ok(run.is(0, b"", b""));
     };
@@ -301,6 +301,8 @@ const UNOPENED: &[(&[&str], u64, &str)] = &[
     (&["check", "x", "M", "x"], 9, "device x\n"),
     (&["check", "s", "M", "x"], 9, "device x\n"),
     (&["show", "s", "M", "f"], 0, "device s\n"),
+    (&["types", "x"], 9, "device x\n"),
+    (&["types", "--lenient", "s", "M"], 0, "device s\n"),
     (&["frames", "s", "M", "f"], 1, "device f\n"),
     (&["canon", "s", "M", "f", "--out", "o"], 2, "device o\n"),
 ];

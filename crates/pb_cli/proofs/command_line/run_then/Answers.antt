@@ -3,7 +3,7 @@ use Rattle.std.proofs.KnownBytes.{Appends-nil}
 use Rattle.clap.specs.Words.{App, Row, Text, is_simple, is_simple_and_free, fault_of, kind_of, subcommand_of, takes}
 use Rattle.clap.specs.declared.error.kind.ErrorKind.TheVariants.{OutOfMemory}
 use Rattle.pb_cli.specs.Words.{IsMatched, tool, words_of}
-use Rattle.pb_command.proofs.FileSteps.{keeps_same}
+use Rattle.pb_files.proofs.KnownLemmas.{keeps_same}
 use Rattle.pb_cli.proofs.Matches.{subcommand_named}
 use Rattle.pb_cli.proofs.Refusals.{no_kind, not_true}
 use Rattle.pb_cli.proofs.command_line.run_then.Goals as goal

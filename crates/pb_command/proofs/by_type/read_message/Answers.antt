@@ -1,12 +1,12 @@
 use Rattle.std.proofs.Common.{◌≡◌, ◌⊎◌, ℕ, List, Option, None, inl}
 use Rattle.std.proofs.lemmas.Result.{err_from_is_err_and}
 use Rattle.pb_wire.specs.Fault.{Fault}
-use Rattle.pb_command.specs.Answer.{device_failed, refused}
+use Rattle.pb_files.specs.Answer.{device_failed, refused}
 use Rattle.pb_command.specs.Answers.{FaultAt, TextAt}
-use Rattle.pb_command.specs.Report.{fault_line}
-use Rattle.pb_command.specs.Steps.{OfFiles, OfInput}
-use Rattle.pb_command.proofs.Coming.{refuses_map}
-use Rattle.pb_command.proofs.FileSteps.{opened_of}
+use Rattle.pb_files.specs.Report.{fault_line}
+use Rattle.pb_files.specs.Known.{OfFiles, OfInput}
+use Rattle.pb_files.proofs.RefusalLemmas.{refuses_map}
+use Rattle.pb_files.proofs.KnownLemmas.{opened_of}
 use Rattle.pb_command.proofs.MessageSteps.{refused_of}
 use Rattle.pb_command.proofs.by_type.read_message.Goals as goal
 

@@ -4,11 +4,12 @@ use Rattle.pb_descr.specs.Sets.{set_bytes}
 use Rattle.pb_decl.specs.View.{file_view}
 use Rattle.pb_wire.specs.declared.device.DeviceFault.{DeviceFault}
 use Rattle.pb_command.specs.CompileAnswer.{compiled, roots_of, texts_of, untaken}
-use Rattle.pb_command.specs.FileMap.{IsSaved, IsUnsaved}
+use Rattle.pb_files.specs.FileMap.{IsSaved, IsUnsaved}
 use Rattle.pb_command.specs.Gathering.{given, nothing_yet}
 use Rattle.pb_command.specs.Steps.{CompileOf, Fails, IsAt, IsNothing, StopsOf}
-use Rattle.pb_command.specs.declared.report.Refusal.TheVariants.{Device}
-use Rattle.pb_command.proofs.Coming.{refused_comes, refuses_map, save_comes, unsaved_fails}
+use Rattle.pb_files.specs.declared.report.Refusal.TheVariants.{Device}
+use Rattle.pb_files.proofs.RefusalLemmas.{refuses_map}
+use Rattle.pb_command.proofs.Coming.{refused_comes, save_comes, unsaved_fails}
 use Rattle.pb_command.proofs.CompileSteps.{comes_later, set_within, told_too_large, told_unlinked}
 use Rattle.pb_command.proofs.compile.compile.Goals as goal
 

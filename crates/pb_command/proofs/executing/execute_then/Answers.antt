@@ -1,6 +1,6 @@
 use Rattle.std.proofs.Common.{[], inl}
 use Rattle.pb_command.specs.Answers.{Answers, AnyAnswers, AnyBegins, Begins}
-use Rattle.pb_command.specs.FileMap.{IsSaved, IsUnsaved}
+use Rattle.pb_files.specs.FileMap.{IsSaved, IsUnsaved}
 use Rattle.pb_output.specs.Sending.{Cut, Sent, SentOrCut}
 use Rattle.pb_command.specs.Steps.{BegunOf, RightOf}
 use Rattle.pb_command.proofs.Coming.{comes_map}

@@ -1,4 +1,4 @@
-use Rattle.pb_command.specs.FileMap.{IsSaved, IsUnsaved}
+use Rattle.pb_files.specs.FileMap.{IsSaved, IsUnsaved}
 use Rattle.pb_command.specs.Steps.{IsNothing, RightOf}
 use Rattle.pb_command.specs.declared.command.Command.TheVariants.{Compile}
 use Rattle.pb_command.proofs.CompileSteps.{nothing_out}
@@ -26,3 +26,6 @@ returns-in-Compile-clause-comes g c =
     (IsUnsaved g.F.Files.contents g.F.Files.failures c.args.files.now c.compile.new.files)
     (RightOf g.F.Files.contents g.F.Files.is_steady c.args.files.now (Compile c.in-Compile.roots c.in-Compile.to c.in-Compile.names)) IsNothing
     c.compile.result c.compile.ensures.comes)
+
+pub returns-in-Types-clause-comes : goal.returns-in-Types-clause-comes
+returns-in-Types-clause-comes g c = rw c.in-Types.is c.types.ensures.comes

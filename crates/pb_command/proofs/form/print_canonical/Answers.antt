@@ -1,7 +1,7 @@
 use Rattle.std.proofs.Common.{refl, inl, inr, ◌++◌}
 use Rattle.hex.specs.Hex.{encode_lower}
 use Rattle.pb_encode.specs.Encoding.{bytes_of}
-use Rattle.pb_command.specs.Answer.{done}
+use Rattle.pb_files.specs.Answer.{done}
 use Rattle.pb_command.specs.MessageAnswer.{fits}
 use Rattle.pb_listing.specs.RawListing.{line_feed}
 use Rattle.pb_command.proofs.form.print_canonical.Goals as goal

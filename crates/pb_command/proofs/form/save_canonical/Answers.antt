@@ -1,7 +1,7 @@
 use Rattle.std.proofs.Common.{◌≡◌, refl, []}
 use Rattle.pb_wire.specs.declared.device.DeviceFault.{DeviceFault}
 use Rattle.pb_encode.specs.Encoding.{bytes_of}
-use Rattle.pb_command.specs.Answer.{saves}
+use Rattle.pb_files.specs.Answer.{saves}
 use Rattle.pb_command.specs.MessageAnswer.{CanonAnswer, fits}
 use Rattle.pb_command.specs.Steps.{IsNothing}
 use Rattle.pb_command.proofs.Coming.{save_comes, unsaved_fails}

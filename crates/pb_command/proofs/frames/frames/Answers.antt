@@ -2,11 +2,14 @@ use Rattle.std.proofs.Common.{◌+◌, ℕ, List, Option, refl, inl}
 use Rattle.std.proofs.KnownBytes.{Appends-nil}
 use Rattle.std.proofs.lemmas.Result.{err_from_is_err_and}
 use Rattle.pb_wire.specs.Limits.{full}
-use Rattle.pb_command.specs.FileMap.{IsSaved, IsUnsaved}
+use Rattle.pb_files.specs.FileMap.{IsSaved, IsUnsaved}
 use Rattle.pb_output.specs.Sending.{Cut, Sent}
-use Rattle.pb_command.specs.Steps.{IsReadOf, StreamAt, StreamBegun, StreamBegunAt, StreamOf}
-use Rattle.pb_command.specs.TypeAnswer.{NoType, no_type}
-use Rattle.pb_command.proofs.Coming.{refused_comes, refuses_map}
+use Rattle.pb_files.specs.Known.{IsReadOf}
+use Rattle.pb_command.specs.Steps.{StreamAt, StreamBegun, StreamBegunAt, StreamOf}
+use Rattle.pb_files.specs.SetFile.{NoType}
+use Rattle.pb_command.specs.TypeAnswer.{no_type}
+use Rattle.pb_files.proofs.RefusalLemmas.{refuses_map}
+use Rattle.pb_command.proofs.Coming.{refused_comes}
 use Rattle.pb_command.proofs.Commands.{stream_begun_of, stream_of}
 use Rattle.pb_command.proofs.FileSteps.{later_comes}
 use Rattle.pb_command.proofs.frames.frames.Goals as goal
@@ -23,7 +26,7 @@ returns-in_err-pool-clause-comes g c =
     (StreamOf contents is_steady c.args.files.now source) (StreamBegun contents is_steady c.args.files.now source) c.in_err-pool.field-0.0
     (refl, Appends-nil (g.O.Output.written c.args.out.now)) c.in_err-pool.ensures.files (inl refl)
     (refuses_map
-    (λ a. (content : Option (List ℕ)) × IsReadOf contents is_steady c.args.files.now (full.bytes + 1) source.set.now content × NoType source.type_name.now source.set.now content a)
+    (λ a. (content : Option (List ℕ)) × IsReadOf contents is_steady c.args.files.now (full.bytes + 1) source.set.now content × NoType source.reading source.type_name.now source.set.now content a)
     (StreamOf contents is_steady c.args.files.now source) c.in_err-pool.field-0.0 (λ a h. no_type h.1 h.2) c.in_err-pool.ensures.refused))
 
 pub returns-clause-comes : goal.returns-clause-comes

@@ -1,12 +1,14 @@
 use Rattle.std.proofs.Common.{◌≡◌, None, refl, inl}
 use Rattle.std.proofs.KnownBytes.{Appends-nil}
 use Rattle.std.proofs.lemmas.Result.{err_from_is_err_and}
-use Rattle.pb_command.specs.Answer.{device_failed}
-use Rattle.pb_command.specs.FileMap.{IsSaved, IsUnsaved}
+use Rattle.pb_files.specs.Answer.{device_failed}
+use Rattle.pb_files.specs.FileMap.{IsSaved, IsUnsaved}
 use Rattle.pb_output.specs.Sending.{Cut, Sent}
-use Rattle.pb_command.specs.Steps.{NoFile, OfFiles, StreamAt, StreamBegunAt}
+use Rattle.pb_files.specs.Known.{OfFiles}
+use Rattle.pb_command.specs.Steps.{NoFile, StreamAt, StreamBegunAt}
 use Rattle.pb_command.specs.Streaming.{FramesBegunIn, FramesIn}
-use Rattle.pb_command.proofs.Coming.{comes_map, no_file_kept, refused_comes, refuses_map}
+use Rattle.pb_files.proofs.RefusalLemmas.{refuses_map}
+use Rattle.pb_command.proofs.Coming.{comes_map, no_file_kept, refused_comes}
 use Rattle.pb_command.proofs.Commands.{stream_begun, stream_right}
 use Rattle.pb_command.proofs.frames.frames_at.Goals as goal
 

@@ -9,7 +9,7 @@ use Rattle.pb_sets.specs.NameSets.{names_in}
 use Rattle.pb_command.specs.Gathering.{Gathered, gathered, given, none_left, nothing_yet}
 use Rattle.pb_command.specs.Reaching.{reached}
 use Rattle.pb_command.specs.Steps.{GathersOf}
-use Rattle.pb_command.proofs.FileSteps.{keeps_same, keeps_then}
+use Rattle.pb_files.proofs.KnownLemmas.{keeps_same, keeps_then}
 use Rattle.pb_command.proofs.GatherSteps.{given_more, given_stops, record_of}
 use Rattle.pb_command.proofs.gathering.gather.Goals as goal
 

@@ -1,6 +1,6 @@
 use Rattle.std.proofs.Common.{◌≡◌, take, true}
 use Rattle.pb_command.specs.CompileAnswer.{roots_of, texts_of}
-use Rattle.pb_command.specs.FileMap.{KeepsMap}
+use Rattle.pb_files.specs.FileMap.{KeepsMap}
 use Rattle.pb_command.specs.Gathering.{gathered, given, nothing_yet}
 use Rattle.pb_command.specs.Reaching.{reached}
 use Rattle.pb_command.specs.Steps.{GathersOf}

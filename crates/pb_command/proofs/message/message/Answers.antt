@@ -2,11 +2,14 @@ use Rattle.std.proofs.Common.{◌+◌, ℕ, List, Option, refl}
 use Rattle.std.proofs.KnownBytes.{Appends-nil}
 use Rattle.std.proofs.lemmas.Result.{err_from_is_err_and}
 use Rattle.pb_wire.specs.Limits.{full}
-use Rattle.pb_command.specs.FileMap.{IsSaved, IsUnsaved}
+use Rattle.pb_files.specs.FileMap.{IsSaved, IsUnsaved}
 use Rattle.pb_output.specs.Sending.{Cut, Sent}
-use Rattle.pb_command.specs.Steps.{IsNothing, IsReadOf, MessageAt, MessageOf}
-use Rattle.pb_command.specs.TypeAnswer.{NoType, no_type}
-use Rattle.pb_command.proofs.Coming.{refused_comes, refuses_map}
+use Rattle.pb_files.specs.Known.{IsReadOf}
+use Rattle.pb_command.specs.Steps.{IsNothing, MessageAt, MessageOf}
+use Rattle.pb_files.specs.SetFile.{NoType}
+use Rattle.pb_command.specs.TypeAnswer.{no_type}
+use Rattle.pb_files.proofs.RefusalLemmas.{refuses_map}
+use Rattle.pb_command.proofs.Coming.{refused_comes}
 use Rattle.pb_command.proofs.FileSteps.{later_comes}
 use Rattle.pb_command.proofs.MessageSteps.{message_of}
 use Rattle.pb_command.proofs.message.message.Goals as goal
@@ -19,7 +22,7 @@ returns-in_err-pool-clause-comes g c =
     (IsSaved g.F.Files.contents c.args.files.now c.find_type.new.files) (IsUnsaved g.F.Files.contents g.F.Files.failures c.args.files.now c.find_type.new.files) (MessageOf g.F.Files.contents g.F.Files.is_steady c.args.files.now c.args.form c.args.source.now) IsNothing c.in_err-pool.field-0.0
     (refl, Appends-nil (g.O.Output.written c.args.out.now)) c.in_err-pool.ensures.files refl
     (refuses_map (λ a. (content : Option (List ℕ)) × IsReadOf g.F.Files.contents g.F.Files.is_steady c.args.files.now (full.bytes + 1) c.args.source.now.set.now content
-    × NoType c.args.source.now.type_name.now c.args.source.now.set.now content a) (MessageOf g.F.Files.contents g.F.Files.is_steady c.args.files.now c.args.form c.args.source.now) c.in_err-pool.field-0.0 (λ a h. no_type h.1 h.2) c.in_err-pool.ensures.refused))
+    × NoType c.args.source.now.reading c.args.source.now.type_name.now c.args.source.now.set.now content a) (MessageOf g.F.Files.contents g.F.Files.is_steady c.args.files.now c.args.form c.args.source.now) c.in_err-pool.field-0.0 (λ a h. no_type h.1 h.2) c.in_err-pool.ensures.refused))
 
 pub returns-clause-comes : goal.returns-clause-comes
 returns-clause-comes g c =

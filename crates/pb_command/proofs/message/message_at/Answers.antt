@@ -1,11 +1,12 @@
 use Rattle.std.proofs.Common.{refl}
 use Rattle.std.proofs.KnownBytes.{Appends-nil}
 use Rattle.std.proofs.lemmas.Result.{err_from_is_err_and}
-use Rattle.pb_command.specs.FileMap.{IsSaved, IsUnsaved}
+use Rattle.pb_files.specs.FileMap.{IsSaved, IsUnsaved}
 use Rattle.pb_command.specs.MessageAnswer.{FormAnswer}
 use Rattle.pb_output.specs.Sending.{Cut, Sent}
 use Rattle.pb_command.specs.Steps.{IsNothing, MessageAt}
-use Rattle.pb_command.proofs.Coming.{refused_comes, refuses_map}
+use Rattle.pb_files.proofs.RefusalLemmas.{refuses_map}
+use Rattle.pb_command.proofs.Coming.{refused_comes}
 use Rattle.pb_command.proofs.FileSteps.{later_comes}
 use Rattle.pb_command.proofs.MessageSteps.{made_of, not_read}
 use Rattle.pb_command.proofs.message.message_at.Goals as goal

@@ -1,9 +1,10 @@
 use Rattle.std.proofs.Common.{◌+◌, ℕ, List, Option, Ok, Err, refl, arith}
 use Rattle.std.proofs.KnownBytes.{Appends-nil}
 use Rattle.std.proofs.lemmas.Result.{err_from_is_err_and}
-use Rattle.pb_command.specs.FileMap.{IsSaved, IsUnsaved}
+use Rattle.pb_files.specs.FileMap.{IsSaved, IsUnsaved}
 use Rattle.pb_output.specs.Sending.{Cut, Sent}
-use Rattle.pb_command.specs.Steps.{IsNothing, IsReadOf}
+use Rattle.pb_files.specs.Known.{IsReadOf}
+use Rattle.pb_command.specs.Steps.{IsNothing}
 use Rattle.pb_command.specs.RawAnswer.{RawAnswer}
 use Rattle.pb_listing.proofs.Borrowing.{text_in_full}
 use Rattle.pb_command.proofs.Coming.{refused_comes}

@@ -1,9 +1,9 @@
 use Rattle.std.proofs.Common.{◌≡◌, ◌+◌, ℕ, List, Option, None, refl}
 use Rattle.std.proofs.lemmas.Result.{err_from_is_err_and}
-use Rattle.pb_command.specs.Answer.{device_failed}
+use Rattle.pb_files.specs.Answer.{device_failed}
 use Rattle.pb_command.specs.RawAnswer.{RawAnswer, missing}
-use Rattle.pb_command.specs.Steps.{IsReadOf}
-use Rattle.pb_command.proofs.Coming.{refuses_map}
+use Rattle.pb_files.specs.Known.{IsReadOf}
+use Rattle.pb_files.proofs.RefusalLemmas.{refuses_map}
 use Rattle.pb_command.proofs.RawSteps.{told_judges}
 use Rattle.pb_command.proofs.raw.read_judged.Goals as goal
 

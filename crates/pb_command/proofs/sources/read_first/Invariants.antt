@@ -1,6 +1,6 @@
 use Rattle.std.proofs.Common.{◌≡◌, take, true}
 use Rattle.pb_command.specs.CompileAnswer.{texts_of}
-use Rattle.pb_command.specs.FileMap.{KeepsMap}
+use Rattle.pb_files.specs.FileMap.{KeepsMap}
 use Rattle.pb_command.specs.Steps.{AbsentOf}
 use Rattle.pb_command.proofs.sources.read_first.Given as goal
 

@@ -6,8 +6,8 @@ use Rattle.pb_command.specs.CompileAnswer.{roots_of}
 use Rattle.pb_command.specs.Gathering.{imported}
 use Rattle.pb_command.specs.Reaching.{StopsInside, opened, open_view, reached, stack_of}
 use Rattle.pb_command.specs.Steps.{StopsOf, TroubleOf}
-use Rattle.pb_command.proofs.Coming.{refuses_map}
-use Rattle.pb_command.proofs.FileSteps.{keeps_then}
+use Rattle.pb_files.proofs.RefusalLemmas.{refuses_map}
+use Rattle.pb_files.proofs.KnownLemmas.{keeps_then}
 use Rattle.pb_command.proofs.GatherSteps.{leads_closed, leads_more, leads_stop}
 use Rattle.pb_command.proofs.gathering.Gathering.close.Goals as goal
 

@@ -1,7 +1,7 @@
 use Rattle.std.proofs.Common.{◌≡◌, [], ◌∷◌, true}
 use Rattle.pb_decl.specs.View.{file_view}
 use Rattle.pb_command.specs.CompileAnswer.{roots_of}
-use Rattle.pb_command.specs.FileMap.{KeepsMap}
+use Rattle.pb_files.specs.FileMap.{KeepsMap}
 use Rattle.pb_command.specs.Reaching.{opened, reached, stack_of}
 use Rattle.pb_command.proofs.GatherSteps.{LeadsTo}
 use Rattle.pb_command.proofs.gathering.Gathering.close.Given as goal

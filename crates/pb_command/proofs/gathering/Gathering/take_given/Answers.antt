@@ -6,7 +6,7 @@ use Rattle.pb_command.specs.CompileAnswer.{roots_of}
 use Rattle.pb_command.specs.Gathering.{is_known}
 use Rattle.pb_sets.specs.NameSets.{names_in}
 use Rattle.pb_command.specs.Reaching.{reached}
-use Rattle.pb_command.proofs.FileSteps.{keeps_then}
+use Rattle.pb_files.proofs.KnownLemmas.{keeps_then}
 use Rattle.pb_command.proofs.GatherSteps.{given_inside, given_known, given_read, given_refused, name_reached}
 use Rattle.pb_command.proofs.gathering.Gathering.take_given.Goals as goal
 

@@ -1,4 +1,0 @@
-use Rattle.pb_command.proofs.report.put_refusal.Goals as goal
-
-pub returns-in-TooLarge : goal.returns-in-TooLarge
-returns-in-TooLarge g c = rw c.in-TooLarge.is c.put.ensures

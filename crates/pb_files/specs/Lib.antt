@@ -1,0 +1,7 @@
+pub mod FileMap
+pub mod MemFiles
+pub mod Report
+pub mod Answer
+pub mod Refusal
+pub mod Known
+pub mod SetFile

@@ -1,0 +1,124 @@
+//! Which pool the descriptor set in a file makes, and which type of it has a name: the set is read, is one, links, and has the type.
+
+ghost use Rattle.std.specs.Prelude.{◌≡◌, ◌+◌, ◌<◌, true, ℕ, List, Option, Some, length, map, IfOk, IfErr};
+ghost use Rattle.pb_wire.specs.Limits.{full};
+ghost use Rattle.pb_decl.specs.View.{file_view};
+ghost use Rattle.pb_descr.specs.Omitted.{omitted_view};
+ghost use Rattle.pb_files.specs.FileMap.{KeepsMap};
+ghost use Rattle.pb_files.specs.Known.{IsReadOf};
+ghost use Rattle.pb_files.specs.Refusal.{KeepsFailures, Refuses};
+ghost use Rattle.pb_files.specs.SetFile.{HasPool, HasType, IsSetBy, IsUnreadBy, NoPool, NoType};
+
+use crate::files::Files;
+use crate::reading::read_file;
+use crate::report::Refusal;
+use pb_descr::{DescrError, LenientSet, Omitted, read_set, read_set_lenient};
+use pb_link::link;
+use pb_schema::{MessageId, Pool};
+use pb_wire::Limits;
+use std::alloc::Global;
+
+/// How a descriptor set is read.
+#[derive(Clone, Copy, Debug, PartialEq, Eq)]
+pub enum Reading {
+    /// As it is.
+    Strict,
+    /// Without its extensions, the labels of required fields, default values and the marks of maps of closed enums.
+    Lenient,
+}
+
+/// The pool of a set, and what of the set was left out.
+#[derive(Drop)]
+pub struct LinkedSet {
+    pub pool: Pool,
+    pub omitted: Vec<Omitted>,
+}
+
+/// The pool of the set at a path and the type of a name in it.
+pub fn find_type<'a, F: Files>(
+    alloc: Global,
+    reading: Reading,
+    path: &'a str,
+    type_name: &'a str,
+    files: &mut F,
+) -> Result<(Pool, MessageId), Refusal<'a>>
+    ensures found { IfOk result (λ p. (set : List ℕ) × IsReadOf F.contents F.is_steady files.old (full.bytes + 1) path.entry.now (Some set)
+        × HasType reading type_name.entry.now set p.0 p.1.0) }
+    ensures within { IfOk result (λ p. p.1.0 < length p.0.messages) }
+    ensures refused { IfErr result (Refuses (λ a. (content : Option (List ℕ))
+        × IsReadOf F.contents F.is_steady files.old (full.bytes + 1) path.entry.now content
+        × NoType reading type_name.entry.now path.entry.now content a)) }
+    ensures kept { KeepsFailures F.failures files.old files.new result }
+    ensures steady { F.is_steady files.old ≡ true → F.is_steady files.new ≡ true }
+    ensures unfailing { F.is_steady files.old ≡ true → F.failures files.new ≡ F.failures files.old }
+    ensures takes_writes { F.takes_writes files.old ≡ true → F.takes_writes files.new ≡ true }
+    ensures files { KeepsMap (F.contents files.old) (F.contents files.new) }
+{
+    let set = pool_at(alloc, reading, path, files)?;
+    match set.pool.message_by_name(type_name) {
+        Some(message_type) => Ok((set.pool, message_type)),
+        None => Err(Refusal::UnknownType(type_name)),
+    }
+}
+
+/// The pool of the set at a path.
+pub fn pool_at<'a, F: Files>(
+    alloc: Global,
+    reading: Reading,
+    path: &'a str,
+    files: &mut F,
+) -> Result<LinkedSet, Refusal<'a>>
+    ensures made { IfOk result (λ s. (set : List ℕ) × IsReadOf F.contents F.is_steady files.old (full.bytes + 1) path.entry.now (Some set)
+        × HasPool reading set s.pool (map omitted_view s.omitted.items)) }
+    ensures refused { IfErr result (Refuses (λ a. (content : Option (List ℕ))
+        × IsReadOf F.contents F.is_steady files.old (full.bytes + 1) path.entry.now content × NoPool reading path.entry.now content a)) }
+    ensures kept { KeepsFailures F.failures files.old files.new result }
+    ensures steady { F.is_steady files.old ≡ true → F.is_steady files.new ≡ true }
+    ensures unfailing { F.is_steady files.old ≡ true → F.failures files.new ≡ F.failures files.old }
+    ensures takes_writes { F.takes_writes files.old ≡ true → F.takes_writes files.new ≡ true }
+    ensures files { KeepsMap (F.contents files.old) (F.contents files.new) }
+{
+    let set = read_file(alloc, Limits::FULL, path, files)?;
+    let linked = link_set(alloc, reading, &set)?;
+    Ok(linked)
+}
+
+/// The pool of a set.
+fn link_set<'a>(alloc: Global, reading: Reading, set: &[u8]) -> Result<LinkedSet, Refusal<'a>>
+    ensures made { IfOk result (λ s. HasPool reading set.now s.pool (map omitted_view s.omitted.items)) }
+    ensures refused { (path : List ℕ) → IfErr result (Refuses (NoPool reading path (Some set.now))) }
+{
+    let LenientSet { files, omitted } = read_set_by(alloc, reading, set)?;
+    let pool = link(alloc, &files)?;
+    Ok(LinkedSet { pool, omitted })
+}
+
+/// What a set declares, and what of it is left out.
+fn read_set_by(alloc: Global, reading: Reading, set: &[u8]) -> Result<LenientSet, DescrError>
+    ensures declared { IfOk result (λ s. IsSetBy reading set.now (map file_view s.files.items) (map omitted_view s.omitted.items)) }
+    ensures refused { IfErr result (IsUnreadBy reading set.now) }
+{
+    match reading {
+        Reading::Strict => read_strictly(alloc, set),
+        Reading::Lenient => read_leniently(alloc, set),
+    }
+}
+
+fn read_strictly(alloc: Global, set: &[u8]) -> Result<LenientSet, DescrError>
+    ensures declared { IfOk result (λ s. IsSetBy Reading.Strict set.now (map file_view s.files.items) (map omitted_view s.omitted.items)) }
+    ensures refused { IfErr result (IsUnreadBy Reading.Strict set.now) }
+{
+    let files = read_set(alloc, set)?;
+    Ok(LenientSet {
+        files,
+        omitted: Vec::new(alloc),
+    })
+}
+
+fn read_leniently(alloc: Global, set: &[u8]) -> Result<LenientSet, DescrError>
+    ensures declared { IfOk result (λ s. IsSetBy Reading.Lenient set.now (map file_view s.files.items) (map omitted_view s.omitted.items)) }
+    ensures refused { IfErr result (IsUnreadBy Reading.Lenient set.now) }
+{
+    let read = read_set_lenient(alloc, set)?;
+    Ok(read)
+}
