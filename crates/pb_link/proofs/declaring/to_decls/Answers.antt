@@ -1,6 +1,9 @@
-use Rattle.std.proofs.Common.{◌≡◌, [], map, sym, subst}
+use Rattle.std.proofs.Common.{◌≡◌, List, [], map, sym, subst}
 use Rattle.pb_decl.specs.View.{file_view}
+use Rattle.pb_decl.specs.declared.decl.FileDecl.{FileDecl}
 use Rattle.pb_descr.specs.Causes.{set_causes}
+use Rattle.pb_descr.specs.Sets.{IsWritable}
+use Rattle.pb_descr.specs.Writable.{IsWithinLimits}
 use Rattle.pb_descr.specs.Writing.{set_body}
 use Rattle.pb_link.specs.Linking.{Links}
 use Rattle.pb_link.specs.ToDecls.{decls_of}
@@ -23,5 +26,6 @@ returns-clause-silent c = subst (λ files. set_causes (set_body files) ≡ []) (
 
 pub returns-clause-set : goal.returns-clause-set
 returns-clause-set c = λ within.
-    c.set_back.ensures.bytes (map file_view c.in_ok-decls.decls.items) (c.writable.ensures.limits within)
+    let limits = subst (λ (files : List FileDecl). IsWithinLimits (map file_view files) → IsWritable (map file_view files)) c.deref.ensures.value c.writable.ensures.limits in
+    c.set_back.ensures.bytes (map file_view c.in_ok-decls.decls.items) (limits within)
     (subst (λ files. set_causes (set_body files) ≡ []) (sym c.in_ok-decls.ensures.decls) (declared_silent c.args.pool.now c.in_ok-decls.ensures.rules))
