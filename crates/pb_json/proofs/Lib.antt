@@ -1,0 +1,14 @@
+-- for bytes that are put part by part, of which it is said what they may be
+pub mod PrintLemmas
+-- for names without underscores
+pub mod NameLemmas
+-- for bytes in base64
+pub mod Base64Lemmas
+-- for floats
+pub mod FloatLemmas
+-- for the members and elements of a message's JSON
+pub mod MappingLemmas
+-- for what is refused
+pub mod RefusalLemmas
+-- messages as JSON, worked out by the definitions
+mod JsonRows

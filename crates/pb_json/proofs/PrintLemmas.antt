@@ -1,0 +1,89 @@
+-- Bytes that are put part by part, of which it is said what they may be.
+use Rattle.std.proofs.Common.{◌≡◌, ℕ, ◌+◌, ◌≤◌, max, List, [], ◌++◌, Option, refl, sym, subst, append_assoc, arith}
+use Rattle.pb_output.specs.declared.sink.Sink.{Sink}
+use Rattle.pb_output.specs.Sink.{Puts}
+use Rattle.pb_output.proofs.SinkLemmas.{puts_then}
+use Rattle.pb_json.specs.declared.form.Layout.{Layout}
+use Rattle.pb_json.specs.Json.{Json}
+use Rattle.pb_json.specs.JsonText.{IsJsonText}
+use Rattle.pb_json.specs.Answers.{Prints}
+
+-- A prefix of a whole is put, and it is known what may follow. What is left belongs to a message at a level, with some levels below.
+pub record IsLeft {D : Type 0} (written : D → Option (List ℕ)) (failures : D → ℕ) (old new : D) (a b : Sink) (level below : ℕ) (IsRest IsWhole : List ℕ → Type 0) : Type 0 where
+  pub within : level + below ≤ 101
+  pub prefix : List ℕ
+  pub joins : (rest : List ℕ) → IsRest rest → IsWhole (prefix ++ rest)
+  pub put : Puts written failures old new a b prefix
+
+-- bytes that begin so, and then are meant
+abbrev pub Begins : List ℕ → (List ℕ → Type 0) → List ℕ → Type 0
+Begins start IsMeant s = (rest : List ℕ) × (s ≡ start ++ rest) × IsMeant rest
+
+module _ {D : Type 0} {written : D → Option (List ℕ)} {failures : D → ℕ} where
+  -- bytes that are known
+  pub prints_known : {d0 d1 : D} {a b : Sink} {s : List ℕ} (IsMeant : List ℕ → Type 0) → IsMeant s → Puts written failures d0 d1 a b s → Prints written failures d0 d1 a b IsMeant
+  prints_known {s = s} IsMeant is put = record { bytes = s; is = is; puts = put }
+
+  -- what is meant otherwise
+  pub prints_as : {d0 d1 : D} {a b : Sink} (IsMeant IsOther : List ℕ → Type 0) → ((s : List ℕ) → IsMeant s → IsOther s) → Prints written failures d0 d1 a b IsMeant
+      → Prints written failures d0 d1 a b IsOther
+  prints_as IsMeant IsOther f p = record { bytes = p.bytes; is = f p.bytes p.is; puts = p.puts }
+
+  -- the same value
+  pub prints_same : {d0 d1 : D} {a b : Sink} (layout : Layout) (indent : ℕ) (j k : Json) → k ≡ j → Prints written failures d0 d1 a b (IsJsonText layout indent j)
+      → Prints written failures d0 d1 a b (IsJsonText layout indent k)
+  prints_same {d0} {d1} {a} {b} layout indent j k e p = subst (λ (x : Json). Prints written failures d0 d1 a b (IsJsonText layout indent x)) (sym e) p
+
+  -- nothing before others
+  pub prints_after_nothing : {d0 d1 d2 : D} {a b c : Sink} {IsMeant : List ℕ → Type 0} → Puts written failures d0 d1 a b [] → Prints written failures d1 d2 b c IsMeant
+      → Prints written failures d0 d2 a c IsMeant
+  prints_after_nothing nothing p = record { bytes = p.bytes; is = p.is; puts = puts_then nothing p.puts }
+
+  -- known bytes before others
+  pub prints_after : {d0 d1 d2 : D} {a b c : Sink} {start : List ℕ} (IsMeant : List ℕ → Type 0) → Puts written failures d0 d1 a b start → Prints written failures d1 d2 b c IsMeant
+      → Prints written failures d0 d2 a c (Begins start IsMeant)
+  prints_after {start = start} IsMeant first p = record { bytes = start ++ p.bytes; is = (p.bytes, refl, p.is); puts = puts_then first p.puts }
+
+  pub left_start : {d0 d1 : D} {a b : Sink} {start : List ℕ} (level below : ℕ) (IsRest : List ℕ → Type 0) → level + below ≤ 101 → Puts written failures d0 d1 a b start
+      → IsLeft written failures d0 d1 a b level below IsRest (Begins start IsRest)
+  left_start {start = start} level below IsRest within put = record { within = within; prefix = start; joins = λ rest h. (rest, refl, h); put = put }
+
+  -- the same where an iterator has all of it left
+  pub left_start_at : {X : Type 0} {d0 d1 : D} {a b : Sink} {start : List ℕ} (level : ℕ) (below : X → ℕ) (IsRest : X → List ℕ → Type 0) (left whole : X) → left ≡ whole
+      → level + below whole ≤ 101 → Puts written failures d0 d1 a b start → IsLeft written failures d0 d1 a b level (below left) (IsRest left) (Begins start (IsRest whole))
+  left_start_at {X} {d0} {d1} {a} {b} {start} level below IsRest left whole e within put =
+      subst (λ (x : X). IsLeft written failures d0 d1 a b level (below x) (IsRest x) (Begins start (IsRest whole))) (sym e) (left_start level (below whole) (IsRest whole) within put)
+
+  -- a part is put
+  pub left_more :
+      {d0 d1 d2 : D} {a b c : Sink} {level below : ℕ} {IsRest IsWhole : List ℕ → Type 0} (part_below rest_below : ℕ) (IsPart IsAfter : List ℕ → Type 0)
+      → IsLeft written failures d0 d1 a b level below IsRest IsWhole → below ≡ max part_below rest_below
+      → ((part after : List ℕ) → IsPart part → IsAfter after → IsRest (part ++ after))
+      → (level + part_below ≤ 101 → Prints written failures d1 d2 b c IsPart) → IsLeft written failures d0 d2 a c level rest_below IsAfter IsWhole
+  left_more {level = level} {IsWhole = IsWhole} part_below rest_below IsPart IsAfter h deep joins print =
+      let within = h.within in
+      let p = print (omega (arith, within, deep)) in record {
+        within = omega (arith, within, deep);
+        prefix = h.prefix ++ p.bytes;
+        joins = λ after is. subst IsWhole (sym (append_assoc h.prefix p.bytes after)) (h.joins (p.bytes ++ after) (joins p.bytes after p.is is));
+        put = puts_then h.put p.puts;
+      }
+
+  -- nothing is put
+  pub left_same :
+      {d0 d1 : D} {a b : Sink} {level below : ℕ} {IsRest IsWhole : List ℕ → Type 0} (part_below rest_below : ℕ) (IsAfter : List ℕ → Type 0)
+      → IsLeft written failures d0 d1 a b level below IsRest IsWhole → below ≡ max part_below rest_below
+      → ((after : List ℕ) → IsAfter after → IsRest after) → IsLeft written failures d0 d1 a b level rest_below IsAfter IsWhole
+  left_same {level = level} part_below rest_below IsAfter h deep joins =
+      let within = h.within in record {
+        within = omega (arith, within, deep);
+        prefix = h.prefix;
+        joins = λ after is. h.joins after (joins after is);
+        put = h.put;
+      }
+
+  -- the rest is put
+  pub left_done :
+      {d0 d1 d2 : D} {a b c : Sink} {level below : ℕ} {IsRest IsWhole : List ℕ → Type 0} {rest : List ℕ} → IsLeft written failures d0 d1 a b level below IsRest IsWhole
+      → IsRest rest → Puts written failures d1 d2 b c rest → Prints written failures d0 d2 a c IsWhole
+  left_done {rest = rest} h is put = record { bytes = h.prefix ++ rest; is = h.joins rest is; puts = puts_then h.put put }

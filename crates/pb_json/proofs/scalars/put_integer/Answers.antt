@@ -1,0 +1,9 @@
+use Rattle.std.proofs.Common.{◌≡◌, ◌++◌, refl, rules}
+use Rattle.std.specs.Fmt.{signed_decimal}
+use Rattle.pb_output.proofs.SinkLemmas.{puts_held, puts_then}
+use Rattle.pb_json.proofs.scalars.put_integer.Goals as goal
+
+pub returns : goal.returns
+returns g c =
+    let held : c.push_signed.new.self ≡ c.make_room.new.self.held ++ signed_decimal c.args.number = search rules in
+    puts_then c.make_room.ensures.kept (puts_held refl refl held)

@@ -1,0 +1,45 @@
+-- What the calls answer.
+use Rattle.std.specs.Prelude.{◌≡◌, ℕ, List, Option, Some, None, is_some, true, Result, Ok, Err}
+use Rattle.pb_output.specs.declared.sink.Sink.{Sink}
+use Rattle.pb_output.specs.Sending.{Sent, Cut}
+use Rattle.pb_output.specs.Sink.{Puts}
+use Rattle.pb_json.specs.declared.error.Refusal.{Refusal}
+use Rattle.pb_json.specs.declared.error.JsonError.{JsonError}
+use Rattle.pb_json.specs.declared.error.JsonError.TheVariants as error
+use Rattle.pb_value.specs.Dynamic.{Dynamic}
+use Rattle.pb_json.specs.declared.form.JsonForm.{JsonForm}
+use Rattle.pb_json.specs.JsonText.{IsJsonText}
+use Rattle.pb_json.specs.Mapping.{json_of}
+use Rattle.pb_json.specs.Refusals.{Refused, refused}
+
+abbrev pub refused_view : Refusal → Refused
+refused_view r = record { path = r.path.items; cause = r.cause }
+
+-- the error is this refusal, or that there was no memory for it
+abbrev pub RefusesWith : Option Refused → JsonError → Type 0
+RefusesWith r (error.Refused x) = r ≡ Some (refused_view x)
+RefusesWith r error.Memory = is_some r ≡ true
+RefusesWith r error.Output = ⊥
+
+-- Ok exactly where nothing is refused
+abbrev pub Judges : Option Refused → Result Unit JsonError → Type 0
+Judges r (Ok _) = r ≡ None
+Judges r (Err e) = RefusesWith r e
+
+-- one of the byte lists that are meant is put
+pub record Prints {D : Type 0} (written : D → Option (List ℕ)) (failures : D → ℕ) (old new : D) (a b : Sink) (IsMeant : List ℕ → Type 0) : Type 0 where
+  pub bytes : List ℕ
+  pub is : IsMeant bytes
+  pub puts : Puts written failures old new a b bytes
+
+module _ {D : Type 0} (written : D → Option (List ℕ)) (failures : D → ℕ) (old new : D) (form : JsonForm) (m : Dynamic) where
+  -- a JSON text of the message went out whole
+  abbrev pub Whole : Type 0
+  Whole = (text : List ℕ) × IsJsonText form.layout 0 (json_of form.names m) text × Sent written failures old new text
+
+  -- the output failed after a prefix of such a text, or a part of the message has no JSON form and nothing went out
+  abbrev pub FailsAs : JsonError → Type 0
+  FailsAs error.Output =
+      (refused m ≡ None) × ((text : List ℕ) × IsJsonText form.layout 0 (json_of form.names m) text × Cut written failures old new text)
+  FailsAs (error.Refused x) = (refused m ≡ Some (refused_view x)) × (new ≡ old)
+  FailsAs error.Memory = (is_some (refused m) ≡ true) × (new ≡ old)

@@ -1,0 +1,97 @@
+//! Why messages are not written.
+
+ghost use Rattle.std.specs.Prelude.{◌≡◌};
+ghost use Rattle.pb_json.specs.declared.error.JsonError.TheVariants.{Memory};
+
+use std::alloc::{AllocError, AllocFailed};
+use std::error::Error as StdError;
+use std::fmt;
+
+/// Why a message has no JSON form. A cause shows as its name.
+#[derive(Clone, Copy, Debug, PartialEq, Eq)]
+pub enum JsonCause {
+    /// A `google.protobuf.Value` holds nothing.
+    NoKind,
+    /// A `google.protobuf.Value` holds a NaN or an infinity.
+    NotFinite,
+    /// The form of the type is not written: `google.protobuf.Any`, `Timestamp`, `Duration` and `FieldMask`.
+    Unsupported,
+}
+
+impl JsonCause {
+    /// The cause's name.
+    pub fn name(self) -> &'static str {
+        match self {
+            JsonCause::NoKind => "NoKind",
+            JsonCause::NotFinite => "NotFinite",
+            JsonCause::Unsupported => "Unsupported",
+        }
+    }
+}
+
+impl fmt::Display for JsonCause {
+    fn fmt<W: fmt::Write>(&self, f: &mut fmt::Formatter<W>) -> fmt::Result {
+        f.write_str(self.name())
+    }
+}
+
+impl StdError for JsonCause {}
+
+/// The first part of a message that has no JSON form: why, and the numbers of the fields that lead to it.
+#[derive(Debug, Drop)]
+pub struct Refusal {
+    pub path: Vec<u32>,
+    pub cause: JsonCause,
+}
+
+/// Why a message is not written.
+#[derive(Debug, Drop)]
+pub enum JsonError {
+    /// A part of the message has no JSON form, and nothing was written.
+    Refused(Refusal),
+    /// There is no memory for the path of a part that has no JSON form, and nothing was written.
+    Memory,
+    /// The output failed, after a prefix of what was to be written.
+    Output,
+}
+
+impl From<AllocError> for JsonError {
+    ghost from_gives = { λ _ e. e ≡ Memory };
+
+    fn from(_e: AllocError) -> JsonError {
+        JsonError::Memory
+    }
+}
+
+impl Refusal {
+    ghost use Rattle.std.specs.Prelude.{Some};
+    ghost use Rattle.pb_json.specs.Answers.{RefusesWith, refused_view};
+    ghost use Rattle.pb_json.specs.Refusals.{below};
+
+    /// The error of a part, as that of the message that has the part at the field of a number.
+    fn below(mut self, number: u32) -> JsonError
+        ensures { RefusesWith (Some (below number (refused_view self))) result }
+    {
+        match self.path.insert(0, number) {
+            Ok(()) => JsonError::Refused(self),
+            Err(_) => JsonError::Memory,
+        }
+    }
+}
+
+impl JsonError {
+    ghost use Rattle.std.specs.Prelude.{Option, option_map};
+    ghost use Rattle.pb_json.specs.Answers.{RefusesWith};
+    ghost use Rattle.pb_json.specs.Refusals.{Refused, below};
+
+    /// The error of a part, as that of the message that has the part at the field of a number.
+    pub(crate) fn below(self, number: u32) -> JsonError
+        ensures { (r : Option Refused) → RefusesWith r self → RefusesWith (option_map (below number) r) result }
+    {
+        match self {
+            JsonError::Refused(refusal) => refusal.below(number),
+            JsonError::Memory => JsonError::Memory,
+            JsonError::Output => JsonError::Output,
+        }
+    }
+}

@@ -1,0 +1,16 @@
+//! Messages as JSON, by the ProtoJSON format.
+#![tactic(auto)]
+
+mod context;
+mod error;
+mod form;
+mod judging;
+mod messages;
+mod names;
+mod scalars;
+mod strings;
+mod well_known;
+
+pub use error::{JsonCause, JsonError, Refusal};
+pub use form::{JsonForm, Layout, Names};
+pub use messages::write_json;

@@ -1,0 +1,120 @@
+//! The names of members.
+
+ghost use Rattle.std.specs.Prelude.{◌≡◌, ◌==◌, ◌≤◌};
+ghost use Rattle.std.specs.List.{flat_map};
+ghost use Rattle.pb_value.specs.View.{key_view};
+ghost use Rattle.pb_json.specs.JsonNames.{camel_bytes, cased, lower_camel, member_name};
+ghost use Rattle.pb_json.specs.JsonText.{member_start, string_byte, string_text};
+ghost use Rattle.pb_json.specs.Mapping.{key_name};
+ghost use Rattle.pb_output.specs.Sink.{Puts};
+
+use crate::form::{JsonForm, Layout, Names};
+use crate::strings::{put_colon, put_line, put_separator, put_string, put_string_byte};
+use itoa::Buffer;
+use pb_output::Sink;
+use pb_value::MapKey;
+use pb_wire::Output;
+
+/// Puts what comes before the value of a field: a comma, a line, the name and a colon.
+pub(crate) fn put_field_start<O: Output>(
+    sink: &mut Sink,
+    out: &mut O,
+    form: JsonForm,
+    indent: usize,
+    is_first: bool,
+    name: &str,
+)
+    requires { indent ≤ 256 }
+    ensures { Puts O.written O.failures out.old out.new sink.old sink.new
+        (member_start form.layout indent is_first (member_name form.names name.now)) }
+{
+    put_separator(sink, out, is_first);
+    put_line(sink, out, form.layout, indent);
+    put_name(sink, out, form.names, name.as_bytes());
+    put_colon(sink, out, form.layout);
+}
+
+/// The name of a field, in quotes.
+fn put_name<O: Output>(sink: &mut Sink, out: &mut O, names: Names, name: &[u8])
+    ensures { Puts O.written O.failures out.old out.new sink.old sink.new (string_text (member_name names name.now)) }
+{
+    match names {
+        Names::LowerCamel => put_camel(sink, out, name),
+        Names::Declared => put_string(sink, out, name),
+    }
+}
+
+/// A name without underscores, in quotes.
+fn put_camel<O: Output>(sink: &mut Sink, out: &mut O, name: &[u8])
+    ensures { Puts O.written O.failures out.old out.new sink.old sink.new (string_text (lower_camel name.now)) }
+{
+    sink.put(out, b"\"");
+    put_camel_bytes(sink, out, name);
+    sink.put(out, b"\"");
+}
+
+fn put_camel_bytes<O: Output>(sink: &mut Sink, out: &mut O, name: &[u8])
+    ensures { Puts O.written O.failures out.old out.new sink.old sink.new (flat_map string_byte (lower_camel name.now)) }
+{
+    let mut raised = false;
+    for byte in name {
+        raised = put_camel_byte(sink, out, raised, *byte);
+    }
+}
+
+/// A byte of a name, but for an underscore. The answer is whether it was one.
+fn put_camel_byte<O: Output>(sink: &mut Sink, out: &mut O, raised: bool, byte: u8) -> bool
+    ensures puts { Puts O.written O.failures out.old out.new sink.old sink.new (camel_bytes raised byte) }
+    ensures underscore { result ≡ (byte == 95) }
+{
+    if byte == b'_' {
+        return true;
+    }
+    put_string_byte(sink, out, cased(raised, byte));
+    false
+}
+
+/// A letter, in upper case where it is raised.
+fn cased(raised: bool, byte: u8) -> u8
+    ensures { result ≡ cased raised byte }
+{
+    if raised {
+        byte.to_ascii_uppercase()
+    } else {
+        byte
+    }
+}
+
+/// Puts what comes before the value of an entry.
+pub(crate) fn put_entry_start<O: Output>(
+    sink: &mut Sink,
+    out: &mut O,
+    layout: Layout,
+    indent: usize,
+    is_first: bool,
+    key: &MapKey,
+)
+    requires { indent ≤ 256 }
+    ensures { Puts O.written O.failures out.old out.new sink.old sink.new
+        (member_start layout indent is_first (key_name (key_view key.now))) }
+{
+    put_separator(sink, out, is_first);
+    put_line(sink, out, layout, indent);
+    put_key(sink, out, key);
+    put_colon(sink, out, layout);
+}
+
+/// A map's key as a string.
+fn put_key<O: Output>(sink: &mut Sink, out: &mut O, key: &MapKey)
+    ensures { Puts O.written O.failures out.old out.new sink.old sink.new (string_text (key_name (key_view key.now))) }
+{
+    match key {
+        MapKey::I32(number) => put_string(sink, out, Buffer::new().format(*number).as_bytes()),
+        MapKey::I64(number) => put_string(sink, out, Buffer::new().format(*number).as_bytes()),
+        MapKey::U32(number) => put_string(sink, out, Buffer::new().format(*number).as_bytes()),
+        MapKey::U64(number) => put_string(sink, out, Buffer::new().format(*number).as_bytes()),
+        MapKey::Bool(true) => put_string(sink, out, b"true"),
+        MapKey::Bool(false) => put_string(sink, out, b"false"),
+        MapKey::Text(text) => put_string(sink, out, text.as_str().as_bytes()),
+    }
+}
