@@ -1,5 +1,5 @@
 -- What clap's matches name.
-use Rattle.std.proofs.Common.{◌≡◌, ℕ, Bool, true, false, List, [], ◌∷◌, ◌⊎◌, Option, Some, None, option_map, inl, inr, suc, arith, refl, sym, ap, subst}
+use Rattle.std.proofs.Common.{◌≡◌, ◌<◌, ℕ, Bool, true, false, List, [], ◌∷◌, ◌⊎◌, Option, Some, None, option_map, inl, inr, zero, suc, length, codes, arith, refl, sym, ap, ◌∙◌, slice_index_or, subst}
 use Rattle.std.specs.Prelude.{Any, find, is_some, map, unwrap_or, if◌then◌else◌}
 use Rattle.std.specs.Borrow.{Bor}
 use Rattle.clap.specs.Walk.{stop_after, rows_of}
@@ -91,3 +91,35 @@ subcommand_named m words = by_rows (out-ArgMatches m).subcommand
         some_names (out-SubCommand (box_value b)).name.now tool_names
         (entered_named (stop_after (built tool).top.rules (names_of (built tool)) (argument_words tool words))
         ((out-SubCommand (box_value b)).name.now, rows_of (found_of (out-SubCommand (box_value b)).matches)) (sym rows))
+
+-- WHERE NO SUBCOMMAND'S NAME WAS MET
+
+abbrev IsOneOf : Option Text → List Text → Type 0
+IsOneOf s [] = ⊥
+IsOneOf s (n ∷ ns) = (s ≡ Some n) ⊎ IsOneOf s ns
+
+at_index :
+    (s : Option Text) (names : List Text) (k : ℕ) (x : Text) → k < length names → slice_index_or names k x ≡ x → s ≡ Some x → IsOneOf s names
+at_index s [] k x below at is = absurd (omega (arith, below))
+at_index s (n ∷ ns) zero x below at is = inl (is ∙ ap (λ (t : Text). Some t) (sym at))
+at_index s (n ∷ ns) (suc k) x below at is = inr (at_index s ns k x (omega (arith, below)) at is)
+
+never : false ≡ true → ⊥
+never e = cc
+
+-- a name of the tool's was met, and none of them in turn
+pub no_name_left :
+    (s : Option Text) → (s ≡ Some (codes "raw") → false ≡ true) → (s ≡ Some (codes "check") → false ≡ true) → (s ≡ Some (codes "show") → false ≡ true)
+    → (s ≡ Some (codes "canon") → false ≡ true) → (s ≡ Some (codes "frames") → false ≡ true) → (s ≡ Some (codes "types") → false ≡ true)
+    → (s ≡ Some (codes "compile") → false ≡ true) → Any (λ n. s ≡ Some n) tool_names → ⊥
+no_name_left s raw check show canon frames types compile has = by (at_index s tool_names has.0 has.1 has.2 has.3 has.4)
+  where
+    by : IsOneOf s tool_names → ⊥
+    by (inl is) = never (raw is)
+    by (inr (inl is)) = never (check is)
+    by (inr (inr (inl is))) = never (show is)
+    by (inr (inr (inr (inl is)))) = never (canon is)
+    by (inr (inr (inr (inr (inl is))))) = never (frames is)
+    by (inr (inr (inr (inr (inr (inl is)))))) = never (types is)
+    by (inr (inr (inr (inr (inr (inr (inl is))))))) = never (compile is)
+    by (inr (inr (inr (inr (inr (inr (inr nothing))))))) = nothing
