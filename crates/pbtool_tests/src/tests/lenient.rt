@@ -116,21 +116,22 @@ fn rows(rt: HostRuntime) -> Result<(), Fail> {
 /// What `types` prints of the enum.
 const ENUM: &[u8] = b"enum shop.Size a.proto\nvalue shop.Size SMALL 0\nvalue shop.Size LARGE 1\n";
 
-/// Whether what went out before a write failed stands, and the device is told.
-fn is_cut(alloc: Global, count: usize) -> Result<bool, Fail> {
+/// Whether a prefix goes out where the next write fails, and the failure is reported.
+fn is_cut(alloc: Global, prefix: &[u8]) -> Result<bool, Fail> {
     let out = Failures {
-        out: after(count as u64),
+        out: after(prefix.len() as u64),
         ..NONE
     };
     let run = run_over_all(alloc, "types --lenient s shop.Size", out)?;
-    Ok(run.is(3, &ENUM[..count], b"device -\n"))
+    Ok(run.is(3, prefix, b"device -\n"))
 }
 
 // Each write of standard output fails in turn.
 #[test]
 fn outputs_fail(rt: HostRuntime) -> Result<(), Fail> {
-    for count in 0..ENUM.len() {
-        assert!(rt; is_cut(rt.alloc(), count)?, "{count}");
+    let printed = ENUM;
+    for count in 0..printed.len() {
+        assert!(rt; is_cut(rt.alloc(), &printed[..count])?, "{count}");
     }
     Ok(())
 }
