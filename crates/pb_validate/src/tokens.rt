@@ -126,7 +126,7 @@ pub(crate) fn tag_at(
     })
 }
 
-/// Says that a payload of this size goes past the known end.
+/// Whether a payload of this size goes past the known end.
 #[inline(always)]
 fn passes_end(size: u64, left: Option<u32>) -> bool
     ensures yes { result ≡ true → MatchOption left (Unit {0}) (λ e. size ≤ e) → ⊥ }

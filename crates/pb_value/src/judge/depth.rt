@@ -10,8 +10,8 @@ use crate::body::{Body, Content, MapKey, Value};
 use pb_wire::Unknown;
 use std::collections::BTreeMap;
 
-/// The most levels that stand below a message.
-pub(crate) const MAX_LEVELS: u8 = 100;
+/// The most levels that are nested below a message.
+pub const MAX_LEVELS: u8 = 100;
 
 /// Whether the groups in some records nest at most `limit` deep.
 #[cycle(records_within)]
@@ -49,8 +49,9 @@ pub(crate) fn message_within(message: &Body, limit: u8) -> bool
     records_within(&message.unknown, limit)
 }
 
+/// Whether at most `limit` levels are nested below what a field holds.
 #[cycle(within)]
-pub(crate) fn content_within(content: &Content, limit: u8) -> bool
+pub fn content_within(content: &Content, limit: u8) -> bool
     ensures { IsTrue result ↔ (holding_depth (content_view content.now) ≤ limit) }
 {
     match content {
@@ -60,8 +61,9 @@ pub(crate) fn content_within(content: &Content, limit: u8) -> bool
     }
 }
 
+/// Whether at most `limit` levels are nested below a value, the level of a message value itself among them.
 #[cycle(within)]
-pub(crate) fn value_within(value: &Value, limit: u8) -> bool
+pub fn value_within(value: &Value, limit: u8) -> bool
     ensures { IsTrue result ↔ (levels_of (value_view value.now) ≤ limit) }
 {
     match value {
@@ -94,8 +96,9 @@ fn entries_within(entries: &BTreeMap<MapKey, Value>, limit: u8) -> bool
     true
 }
 
+/// Whether at most `limit` levels are nested below a map field by an entry with this value, the level of the entry itself among them.
 #[cycle(within)]
-pub(crate) fn entry_within(value: &Value, limit: u8) -> bool
+pub fn entry_within(value: &Value, limit: u8) -> bool
     ensures { IsTrue result ↔ (suc (levels_in_entry (value_view value.now)) ≤ limit) }
 {
     match value {
