@@ -150,7 +150,7 @@ part_added b at end old new short h adds =
     (subst (λ (l : List ℕ). IsSetOf full l (old ++ added.0)) (sym both) (set_joined (take at b) (take end (drop at b)) old added.0 size h added.1))
 
 -- bytes are the text of one set
-same_set : {limits : Bounds} {b : List ℕ} {s t : Message} → IsSetText limits b s → IsSetText limits b t → s ≡ t
+pub same_set : {limits : Bounds} {b : List ℕ} {s t : Message} → IsSetText limits b s → IsSetText limits b t → s ≡ t
 same_set {limits} {b} {s} {t} h g =
     h.derives.valued ∙ ap (value descriptor_types the_set) (same_records h.derives.records g.derives.records b h.derives.spelled g.derives.spelled) ∙ sym g.derives.valued
 

@@ -34,6 +34,8 @@ pub mod OmittedLemmas
 pub mod LenientLemmas
 -- for the law that lenient reading is strict reading where nothing is left out
 pub mod NothingOmitted
+-- for the law that lenient reading is strict reading of the bytes of the set without its parts: that set is well formed
+pub mod LenientStrict
 -- for the law that bytes are one set, or have one fault or first cause
 pub mod OneSet
 -- for files that are written as a set without a cause, as the declarations of a pool are

@@ -125,7 +125,7 @@ abbrev depth_of : Option Holding → ℕ
 depth_of None = 0
 depth_of (Some h) = holding_depth h
 
-field_depth : (n : ℕ) (h : Holding) (fs : Fields) → get_field n fs ≡ Some h → holding_depth h ≤ fields_depth fs
+pub field_depth : (n : ℕ) (h : Holding) (fs : Fields) → get_field n fs ≡ Some h → holding_depth h ≤ fields_depth fs
 field_depth n h no_fields e = absurd (cc)
 field_depth n h (field k g fs) e = by_order (nat_cmp n k) (λ q. field_depth n h fs q) e
   where

@@ -13,5 +13,6 @@ pub mod Ranges
 pub mod Reading
 pub mod Sets
 pub mod Without
+pub mod WithoutBytes
 pub mod Writable
 pub mod Writing

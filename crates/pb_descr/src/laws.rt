@@ -1,6 +1,6 @@
 //! Laws of descriptor sets.
 
-ghost use Rattle.std.specs.Prelude.{◌≡◌, ℕ, [], List, All, map};
+ghost use Rattle.std.specs.Prelude.{◌≡◌, ◌↔◌, ℕ, [], List, All, map};
 ghost use Rattle.pb_wire.specs.Limits.{Bounds, full};
 ghost use Rattle.pb_wire.specs.Ranges.{IsByte, AreBytes};
 ghost use Rattle.pb_schema.specs.Rules.{IsPool};
@@ -10,10 +10,14 @@ ghost use Rattle.pb_descr.specs.Pool.{descriptor_types};
 ghost use Rattle.pb_descr.specs.Reading.{files_in};
 ghost use Rattle.pb_descr.specs.Causes.{set_causes};
 ghost use Rattle.pb_descr.specs.Writing.{set_body};
-ghost use Rattle.pb_descr.specs.Sets.{IsSetOf, HasSetFault, IsWritable, set_bytes};
-ghost use Rattle.pb_descr.specs.Lenient.{IsLenientSetOf};
+ghost use Rattle.pb_descr.specs.Sets.{IsSetOf, HasSetFault, IsWritable, set_bytes, IsUnread};
+ghost use Rattle.pb_descr.specs.Omitted.{OmittedView};
+ghost use Rattle.pb_descr.specs.Lenient.{IsLenientSetOf, IsUnreadLeniently};
+ghost use Rattle.pb_descr.specs.WithoutBytes.{AreWithoutParts};
 ghost use Rattle.pb_descr.specs.NothingOmitted.{HasNoSuchPart};
 ghost use Rattle.pb_descr.specs.Writable.{IsWithinLimits};
+ghost use Rattle.pb_descr.specs.declared.cause.DeclCause.{DeclCause};
+ghost use Rattle.pb_descr.specs.declared.error.DescrError.TheVariants as descr;
 ghost use Rattle.pb_decl.specs.One.{ExactlyOne};
 
 use crate::ranges::read_files;
@@ -38,6 +42,15 @@ pub fn one_set()
 pub fn nothing_omitted()
     ensures strictly { (b : List ℕ) (files : List DeclaredFile) → AreBytes b → IsLenientSetOf full b files [] → IsSetOf full b files }
     ensures leniently { (b : List ℕ) (files : List DeclaredFile) → AreBytes b → HasNoSuchPart b → IsSetOf full b files → IsLenientSetOf full b files [] }
+{}
+
+/// The encoding of a set is read leniently as the canonical bytes of the set without its parts are read strictly: as the same files, or
+/// refused for the same cause of the same file. These bytes must be fewer than 2^31.
+pub fn lenient_is_strict()
+    ensures read { (b without : List ℕ) (files : List DeclaredFile) → AreBytes b → AreWithoutParts b without
+        → IsSetOf full without files ↔ ((omitted : List OmittedView) × IsLenientSetOf full b files omitted) }
+    ensures refused { (b without : List ℕ) (i : ℕ) (c : DeclCause) → AreBytes b → AreWithoutParts b without
+        → IsUnread full without (descr.Decl i c) ↔ IsUnreadLeniently full b (descr.Decl i c) }
 {}
 
 /// The set of files can be written where it nests at most 100 levels deep and its bytes are fewer than 2^31.
