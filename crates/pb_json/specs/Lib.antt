@@ -6,5 +6,6 @@ pub mod JsonNames
 pub mod WellKnown
 pub mod Mapping
 pub mod Refusals
+pub mod CauseName
 -- ---- what the calls answer
 pub mod Answers

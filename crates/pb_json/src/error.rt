@@ -1,6 +1,7 @@
 //! Why messages are not written.
 
 ghost use Rattle.std.specs.Prelude.{◌≡◌};
+ghost use Rattle.pb_json.specs.CauseName.{cause_name};
 ghost use Rattle.pb_json.specs.declared.error.JsonError.TheVariants.{Memory};
 
 use std::alloc::{AllocError, AllocFailed};
@@ -20,7 +21,9 @@ pub enum JsonCause {
 
 impl JsonCause {
     /// The cause's name.
-    pub fn name(self) -> &'static str {
+    pub fn name(self) -> &'static str
+        ensures { result.now ≡ cause_name self }
+    {
         match self {
             JsonCause::NoKind => "NoKind",
             JsonCause::NotFinite => "NotFinite",
