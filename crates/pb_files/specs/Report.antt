@@ -61,7 +61,7 @@ fields_text (n ∷ ns) = decimal n ++ flat_map (λ k. codes "." ++ decimal k) ns
 
 -- which part of a message has no JSON form, by the fields that lead to it
 abbrev pub json_line : List ℕ → JsonCause → List ℕ
-json_line path c = codes "json path " ++ fields_text path ++ cause_end (json.cause_name c)
+json_line path c = codes "json path " ++ fields_text path ++ cause_end (json.name_of c)
 
 -- a device failed, or a file is not there
 abbrev pub device_line : List ℕ → List ℕ

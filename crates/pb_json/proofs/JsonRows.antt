@@ -1,6 +1,7 @@
 -- Worked rows: what some messages are as JSON, computed.
-use Rattle.std.proofs.Common.{◌≡◌, ℕ, List, [], ◌∷◌, ◌++◌, refl, codes}
-use Rattle.std.specs.Prelude.{pos, true, false, None, Some}
+use Rattle.std.proofs.Common.{◌≡◌, ℕ, List, [], ◌∷◌, ◌++◌, refl, codes, arith, rules}
+use Rattle.std.specs.Prelude.{pos, neg_ℤ, true, false, None, Some}
+use Rattle.jiff_core.specs.Calendar.{day_count, days_from_civil, days_of_months, days_of_years}
 use Rattle.std.specs.Fmt.{digits}
 use Rattle.hex.specs.Hex.{encode_with}
 use Rattle.pb_wire.specs.Inside.{records_spelled, front_within, first_varint, after_varint, named_length}
@@ -17,7 +18,9 @@ use Rattle.pb_json.specs.Json.{Json, null, truth, number, plain, string, array, 
 use Rattle.pb_json.specs.JsonNames.{lower_camel}
 use Rattle.pb_json.specs.JsonText.{IsJsonText, string_text}
 use Rattle.pb_json.specs.Mapping.{json_of}
+use Rattle.pb_json.specs.Masks.{is_path, mask_text}
 use Rattle.pb_json.specs.Refusals.{refused}
+use Rattle.pb_json.specs.Times.{IsInstantText, is_instant, is_span, span_text}
 
 -- NAMES AND STRINGS
 
@@ -136,3 +139,61 @@ on_lines = (
     (codes "{}", codes "\n}", refl, (codes "}", refl, refl), refl),
   ),
 )
+
+-- POINTS IN TIME
+
+-- 0001-01-01, 1900-03-01, 1970-01-01, 2000-02-29 and 9999-12-31, by their days from 1970-01-01
+days : (days_from_civil (pos 1) 1 1 ≡ neg_ℤ (pos 719_162)) × (days_from_civil (pos 1900) 3 1 ≡ neg_ℤ (pos 25_508)) × (days_from_civil (pos 1970) 1 1 ≡ pos 0)
+    × (days_from_civil (pos 2000) 2 29 ≡ pos 11_016) × (days_from_civil (pos 9999) 12 31 ≡ pos 2_932_896)
+unfolding days_from_civil day_count days_of_years days_of_months
+days = (refl, refl, refl, refl, refl)
+
+-- a leap day
+leap_day : IsInstantText (pos 951_825_599) 120_034_000 (codes "2000-02-29T11:59:59.120034Z")
+unfolding days_from_civil day_count days_of_years days_of_months
+leap_day = record {
+  days = pos 11_016;
+  second = 43_199;
+  within = omega arith;
+  counted = refl;
+  date = codes "2000-02-29";
+  is_date = record {
+    year = 2000;
+    month = 2;
+    day = 29;
+    since_year_one = omega arith;
+    on_calendar = search rules;
+    counted = refl;
+    text = refl;
+  };
+  text = refl;
+}
+
+ranges :
+    (is_instant (neg_ℤ (pos 62_135_596_800)) (pos 0) ≡ true) × (is_instant (neg_ℤ (pos 62_135_596_801)) (pos 0) ≡ false)
+    × (is_instant (pos 253_402_300_799) (pos 999_999_999) ≡ true) × (is_instant (pos 253_402_300_800) (pos 0) ≡ false)
+    × (is_instant (pos 0) (pos 1_000_000_000) ≡ false) × (is_instant (pos 0) (neg_ℤ (pos 1)) ≡ false)
+ranges = (refl, refl, refl, refl, refl, refl)
+
+-- LENGTHS OF TIME
+
+spans :
+    (span_text (pos 3) (pos 0) ≡ codes "3s") × (span_text (neg_ℤ (pos 12)) (neg_ℤ (pos 340_000_000)) ≡ codes "-12.340s")
+    × (span_text (pos 0) (neg_ℤ (pos 1_000)) ≡ codes "-0.000001s") × (span_text (pos 1) (pos 1) ≡ codes "1.000000001s")
+unfolding digits
+spans = (refl, refl, refl, refl)
+
+span_ranges :
+    (is_span (neg_ℤ (pos 315_576_000_000)) (neg_ℤ (pos 999_999_999)) ≡ true) × (is_span (pos 315_576_000_001) (pos 0) ≡ false)
+    × (is_span (pos 1) (neg_ℤ (pos 1)) ≡ false) × (is_span (neg_ℤ (pos 1)) (pos 1) ≡ false) × (is_span (pos 0) (pos 1_000_000_000) ≡ false)
+span_ranges = (refl, refl, refl, refl, refl)
+
+-- FIELD MASKS
+
+masks : mask_text (codes "user.display_name" ∷ codes "photo" ∷ []) ≡ codes "user.displayName,photo"
+masks = refl
+
+paths :
+    (is_path (codes "foo_bar.baz") ≡ true) × (is_path (codes "_a9") ≡ true) × (is_path (codes "fooBar") ≡ false) × (is_path (codes "foo__bar") ≡ false)
+    × (is_path (codes "foo_3") ≡ false) × (is_path (codes "foo_") ≡ false) × (is_path (codes "a,b") ≡ false) × (is_path [] ≡ false)
+paths = (refl, refl, refl, refl, refl, refl, refl, refl)

@@ -8,6 +8,10 @@ pub mod Base64Lemmas
 pub mod FloatLemmas
 -- for the members and elements of a message's JSON
 pub mod MappingLemmas
+-- for what types with a form of their own hold
+pub mod HeldLemmas
+pub mod PathLemmas
+pub mod TimeLemmas
 -- for what is refused
 pub mod RefusalLemmas
 -- messages as JSON, worked out by the definitions

@@ -1,6 +1,6 @@
 -- The members and elements of a message's JSON, one by one.
-use Rattle.std.proofs.Common.{◌≡◌, ℕ, suc, ◌+◌, ◌<◌, ◌≤◌, max, List, [], ◌∷◌, ◌++◌, length, drop, get_or, Option, None, Some, refl, rules, sym, ap, ◌∙◌, subst, arith}
-use Rattle.std.specs.Prelude.{Bool, true, false, option_map, ℤ}
+use Rattle.std.proofs.Common.{◌≡◌, ℕ, suc, ◌+◌, ◌<◌, ◌≤◌, max, List, [], ◌∷◌, ◌++◌, length, drop, get_or, Option, None, Some, rules, sym, ap, ◌∙◌, subst, arith}
+use Rattle.std.specs.Prelude.{Bool, false, option_map, ℤ}
 use Rattle.std.specs.Option.{option_map_or}
 use Rattle.std.proofs.lemmas.List.{drop_more}
 use Rattle.pb_schema.specs.declared.types.Kind.{Kind}
@@ -15,17 +15,17 @@ use Rattle.pb_value.specs.declared.body.Value.TheVariants as value
 use Rattle.pb_schema.specs.Scalar.{enum}
 use Rattle.pb_json.specs.declared.form.Layout.{Layout}
 use Rattle.pb_json.specs.declared.form.Names.{Names}
-use Rattle.pb_json.specs.Json.{Json, null, object, Elements, element, Members, member}
+use Rattle.pb_json.specs.Json.{Json, null, Elements, element, Members, member}
 use Rattle.pb_json.specs.JsonNames.{member_name}
 use Rattle.pb_json.specs.JsonText.{IsJsonText, AreElements, AreMembers, separator, new_line, member_start}
 use Rattle.pb_json.specs.declared.well_known.WellKnown.{WellKnown}
-use Rattle.pb_json.specs.declared.well_known.WellKnown.TheVariants.{Other, Wrapper, Struct, ListValue, Value, Unsupported}
+use Rattle.pb_json.specs.declared.well_known.WellKnown.TheVariants.{Timestamp, Duration}
 use Rattle.pb_json.specs.WellKnown.{well_known}
 use Rattle.pb_value.specs.Data.{Message, message_depth}
 use Rattle.pb_value.specs.View.{body_view}
 use Rattle.pb_value.specs.declared.body.Body.{Body}
 use Rattle.pb_value.proofs.Views.{body_view-out}
-use Rattle.pb_json.specs.Mapping.{absent_json, in_form, message_json, only_json, datum_json, elements_json, entries_json, fields_json, holding_json, key_name, maybe_member}
+use Rattle.pb_json.specs.Mapping.{absent_json, in_form, timestamp_json, duration_json, message_json, only_json, datum_json, elements_json, entries_json, fields_json, holding_json, key_name, maybe_member}
 use Rattle.pb_json.proofs.PrintLemmas.{Begins}
 
 -- the elements from an index on, by the one at the index
@@ -107,44 +107,22 @@ fields_deep before after n h split = ap (λ (fs : List (ℕ × Content)). fields
 in_its_form :
     (pool : Types) (names : Names) (m : ℕ) (b : Body) (w : WellKnown) → well_known pool m ≡ w
     → message_json pool names m (body_view b)
-    ≡ in_form w (fields_json pool names (message_fields pool m) (fields_view b.fields.entries)) (only_json pool names w (message_fields pool m) (fields_view b.fields.entries))
+    ≡ in_form w (fields_view b.fields.entries) (fields_json pool names (message_fields pool m) (fields_view b.fields.entries))
+    (only_json pool names w (message_fields pool m) (fields_view b.fields.entries))
 in_its_form pool names m b w e =
     ap (λ (x : Message). message_json pool names m x) (body_view-out b)
-    ∙ ap (λ (x : WellKnown). in_form x (fields_json pool names (message_fields pool m) (fields_view b.fields.entries))
+    ∙ ap (λ (x : WellKnown). in_form x (fields_view b.fields.entries) (fields_json pool names (message_fields pool m) (fields_view b.fields.entries))
     (only_json pool names x (message_fields pool m) (fields_view b.fields.entries))) e
 
-pub as_object :
-    (pool : Types) (names : Names) (m : ℕ) (b : Body) → well_known pool m ≡ Other
-    → message_json pool names m (body_view b) ≡ object (fields_json pool names (message_fields pool m) (fields_view b.fields.entries))
-as_object pool names m b e = in_its_form pool names m b Other e
+pub as_timestamp :
+    (pool : Types) (names : Names) (m : ℕ) (b : Body) → well_known pool m ≡ Timestamp
+    → message_json pool names m (body_view b) ≡ timestamp_json (fields_view b.fields.entries)
+as_timestamp pool names m b e = in_its_form pool names m b Timestamp e
 
-pub as_null : (pool : Types) (names : Names) (m : ℕ) (b : Body) → well_known pool m ≡ Unsupported → message_json pool names m (body_view b) ≡ null
-as_null pool names m b e = in_its_form pool names m b Unsupported e
-
--- the form is that of what the first field holds
-abbrev pub is_of_one : WellKnown → Bool
-is_of_one Other = false
-is_of_one Unsupported = false
-is_of_one Wrapper = true
-is_of_one Struct = true
-is_of_one ListValue = true
-is_of_one Value = true
-
-pub as_only :
-    (pool : Types) (names : Names) (m : ℕ) (b : Body) (w : WellKnown) → well_known pool m ≡ w → is_of_one w ≡ true
-    → message_json pool names m (body_view b) ≡ only_json pool names (well_known pool m) (message_fields pool m) (fields_view b.fields.entries)
-as_only pool names m b w e one = in_its_form pool names m b w e ∙ by w one ∙ ap (λ (x : WellKnown). only_json pool names x (message_fields pool m) (fields_view b.fields.entries)) (sym e)
-  where
-    by :
-        (w : WellKnown) → is_of_one w ≡ true
-        → in_form w (fields_json pool names (message_fields pool m) (fields_view b.fields.entries)) (only_json pool names w (message_fields pool m) (fields_view b.fields.entries))
-        ≡ only_json pool names w (message_fields pool m) (fields_view b.fields.entries)
-    by Other h = absurd (cc)
-    by Unsupported h = absurd (cc)
-    by Wrapper h = refl
-    by Struct h = refl
-    by ListValue h = refl
-    by Value h = refl
+pub as_duration :
+    (pool : Types) (names : Names) (m : ℕ) (b : Body) → well_known pool m ≡ Duration
+    → message_json pool names m (body_view b) ≡ duration_json (fields_view b.fields.entries)
+as_duration pool names m b e = in_its_form pool names m b Duration e
 
 pub fields_within : (b : Body) → fields_depth (fields_view b.fields.entries) ≤ message_depth (body_view b)
 fields_within b = rw (body_view-out b) (omega arith)

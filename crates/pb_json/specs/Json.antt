@@ -1,5 +1,5 @@
 -- JSON values (RFC 8259).
-use Rattle.std.specs.Prelude.{List, ℕ, Bool}
+use Rattle.std.specs.Prelude.{List, ℕ, ℤ, Bool}
 use Rattle.std.specs.Float.{Float, Format}
 
 mutual
@@ -14,6 +14,8 @@ mutual
     plain : List ℕ → Json
     -- a string by the bytes of its characters
     string : List ℕ → Json
+    -- a string that is a point in time: seconds since 1970-01-01T00:00:00Z, and nanoseconds after these
+    instant : ℤ → ℤ → Json
     array : Elements → Json
     object : Members → Json
 

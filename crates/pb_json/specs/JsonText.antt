@@ -1,13 +1,14 @@
 -- What a JSON value is written as (RFC 8259): on one line without blanks, or with each element and each member on a line of its own, two blanks
 -- deeper than what holds it.
-use Rattle.std.specs.Prelude.{◌≡◌, ℕ, ◌+◌, ◌*◌, List, [], ◌∷◌, ◌++◌, Bool, true, false, ◌==◌, nat_lt, Option, Some, None, codes, replicate, if◌then◌else◌}
+use Rattle.std.specs.Prelude.{◌≡◌, ℕ, ◌+◌, ◌*◌, List, [], ◌∷◌, ◌++◌, Bool, true, false, ◌==◌, nat_lt, unsigned_abs, Option, Some, None, codes, replicate, if◌then◌else◌}
 use Rattle.std.specs.List.{flat_map}
 use Rattle.hex.specs.Hex.{encode_lower}
 use Rattle.ryu.specs.Parse.{parse_float}
 use Rattle.ryu.specs.Plain.{IsPlainNumber}
+use Rattle.pb_json.specs.Times.{IsInstantText}
 use Rattle.pb_json.specs.declared.form.Layout.{Layout}
 use Rattle.pb_json.specs.declared.form.Layout.TheVariants.{Compact, Indented}
-use Rattle.pb_json.specs.Json.{Json, null, truth, number, real, plain, string, array, object, Elements, no_elements, element, Members, no_members, member}
+use Rattle.pb_json.specs.Json.{Json, null, truth, number, real, plain, string, instant, array, object, Elements, no_elements, element, Members, no_members, member}
 
 -- STRINGS (RFC 8259, section 7)
 
@@ -73,6 +74,7 @@ module _ (layout : Layout) where
     IsJsonText indent (real f x) s = IsPlainNumber s × (parse_float f s ≡ Some x)
     IsJsonText indent (plain c) s = s ≡ in_quotes c
     IsJsonText indent (string c) s = s ≡ string_text c
+    IsJsonText indent (instant z n) s = (t : List ℕ) × (s ≡ in_quotes t) × IsInstantText z (unsigned_abs n) t
     IsJsonText indent (array js) s = (rest : List ℕ) × (s ≡ codes "[" ++ rest) × AreElements indent true js rest
     IsJsonText indent (object ms) s = (rest : List ℕ) × (s ≡ codes "{" ++ rest) × AreMembers indent true ms rest
 

@@ -1,11 +1,14 @@
 -- ---- JSON, apart from messages
 pub mod Json
+pub mod Times
 pub mod JsonText
 pub mod JsonNames
+pub mod Masks
 -- ---- what messages are as JSON
 pub mod WellKnown
+pub mod Held
 pub mod Mapping
 pub mod Refusals
-pub mod CauseName
 -- ---- what the calls answer
+pub mod CauseName
 pub mod Answers

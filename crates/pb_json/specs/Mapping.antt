@@ -17,11 +17,14 @@ use Rattle.pb_value.specs.Dynamic.{Dynamic}
 use Rattle.pb_value.specs.Oneof.{default_value}
 use Rattle.pb_json.specs.declared.form.Names.{Names}
 use Rattle.pb_json.specs.declared.well_known.WellKnown.{WellKnown}
-use Rattle.pb_json.specs.declared.well_known.WellKnown.TheVariants.{Other, Wrapper, Struct, ListValue, Value, Unsupported}
-use Rattle.pb_json.specs.Json.{Json, null, truth, number, real, plain, string, array, object, Elements, no_elements, element, Members, no_members, member}
+use Rattle.pb_json.specs.declared.well_known.WellKnown.TheVariants.{Other, Wrapper, Struct, ListValue, Value, Timestamp, Duration, FieldMask, Unsupported}
+use Rattle.pb_json.specs.Json.{Json, null, truth, number, real, plain, string, instant, array, object, Elements, no_elements, element, Members, no_members, member}
 use Rattle.pb_json.specs.JsonNames.{member_name}
 use Rattle.pb_json.specs.JsonText.{bool_text}
 use Rattle.pb_json.specs.WellKnown.{well_known, is_null_enum}
+use Rattle.pb_json.specs.Held.{integer_at, strings_at}
+use Rattle.pb_json.specs.Times.{is_instant, is_span, span_text}
+use Rattle.pb_json.specs.Masks.{mask_text}
 
 -- SCALARS
 
@@ -94,6 +97,9 @@ absent_json pool Wrapper all = wrapper_default pool all
 absent_json pool Struct all = object no_members
 absent_json pool ListValue all = array no_elements
 absent_json pool Value all = null
+absent_json pool Timestamp all = null
+absent_json pool Duration all = null
+absent_json pool FieldMask all = null
 absent_json pool Unsupported all = null
 absent_json pool Other all = null
 
@@ -102,14 +108,34 @@ abbrev pub maybe_member : Option (List ℕ × Json) → Members → Members
 maybe_member None ms = ms
 maybe_member (Some m) ms = member m.0 m.1 ms
 
--- a message of a form, by its fields as members and by what its first field holds
-abbrev pub in_form : WellKnown → Members → Json → Json
-in_form Other ms only = object ms
-in_form Wrapper ms only = only
-in_form Struct ms only = only
-in_form ListValue ms only = only
-in_form Value ms only = only
-in_form Unsupported ms only = null
+-- seconds and nanoseconds as a point in time; nothing out of range
+abbrev pub instant_json : ℤ → ℤ → Json
+instant_json s n = if is_instant s n then instant s n else null
+
+-- as a length of time
+abbrev pub span_json : ℤ → ℤ → Json
+span_json s n = if is_span s n then plain (span_text s n) else null
+
+abbrev pub timestamp_json : Fields → Json
+timestamp_json fs = instant_json (integer_at 1 fs) (integer_at 2 fs)
+
+abbrev pub duration_json : Fields → Json
+duration_json fs = span_json (integer_at 1 fs) (integer_at 2 fs)
+
+abbrev pub mask_json : Fields → Json
+mask_json fs = string (mask_text (strings_at 1 fs))
+
+-- a message of a form, by its fields, by these as members and by what the first of them holds
+abbrev pub in_form : WellKnown → Fields → Members → Json → Json
+in_form Other fs ms only = object ms
+in_form Wrapper fs ms only = only
+in_form Struct fs ms only = only
+in_form ListValue fs ms only = only
+in_form Value fs ms only = only
+in_form Timestamp fs ms only = timestamp_json fs
+in_form Duration fs ms only = duration_json fs
+in_form FieldMask fs ms only = mask_json fs
+in_form Unsupported fs ms only = null
 
 module _ (pool : Types) (names : Names) where
   abbrev mutual
@@ -144,7 +170,7 @@ module _ (pool : Types) (names : Names) where
     -- a message of a type
     pub message_json : ℕ → Message → Json
     message_json m (body fs us) =
-        in_form (well_known pool m) (fields_json (message_fields pool m) fs) (only_json (well_known pool m) (message_fields pool m) fs)
+        in_form (well_known pool m) fs (fields_json (message_fields pool m) fs) (only_json (well_known pool m) (message_fields pool m) fs)
 
 abbrev pub json_of : Names → Dynamic → Json
 json_of names m = message_json m.pool names m.kind m.body

@@ -1,5 +1,5 @@
 -- Which messages have no JSON form: why, and the numbers of the fields that lead to what has none.
-use Rattle.std.specs.Prelude.{ℕ, List, [], ◌∷◌, Option, Some, None, option_map, from_bits, if◌then◌else◌}
+use Rattle.std.specs.Prelude.{ℕ, List, [], ◌∷◌, Bool, Option, Some, None, option_map, from_bits, if◌then◌else◌}
 use Rattle.std.specs.Float.{binary64, float_is_finite}
 use Rattle.std.specs.Option.{option_map_or, option_or}
 use Rattle.pb_schema.specs.declared.types.Kind.{Kind}
@@ -10,10 +10,13 @@ use Rattle.pb_value.specs.Data.{Datum, scalar, message, Datums, no_datums, datum
 use Rattle.pb_value.specs.Data.{Holding, one, list, map, Fields, no_fields, field, Message, body}
 use Rattle.pb_value.specs.Dynamic.{Dynamic}
 use Rattle.pb_json.specs.declared.well_known.WellKnown.{WellKnown}
-use Rattle.pb_json.specs.declared.well_known.WellKnown.TheVariants.{Other, Wrapper, Struct, ListValue, Value, Unsupported}
+use Rattle.pb_json.specs.declared.well_known.WellKnown.TheVariants.{Other, Wrapper, Struct, ListValue, Value, Timestamp, Duration, FieldMask, Unsupported}
 use Rattle.pb_json.specs.declared.error.JsonCause.{JsonCause}
 use Rattle.pb_json.specs.declared.error.JsonCause.TheVariants as cause
 use Rattle.pb_json.specs.WellKnown.{well_known}
+use Rattle.pb_json.specs.Held.{integer_at, strings_at}
+use Rattle.pb_json.specs.Times.{is_instant, is_span}
+use Rattle.pb_json.specs.Masks.{are_paths}
 
 pub record Refused : Type 0 where
   pub path : List ℕ
@@ -56,9 +59,24 @@ abbrev pub value_cause : Fields → Option JsonCause
 value_cause no_fields = Some cause.NoKind
 value_cause (field n h fs) = held_cause h
 
+abbrev pub unless : Bool → JsonCause → Option JsonCause
+unless good c = if good then None else Some c
+
+abbrev pub timestamp_cause : Fields → Option JsonCause
+timestamp_cause fs = unless (is_instant (integer_at 1 fs) (integer_at 2 fs)) cause.OutOfRange
+
+abbrev pub duration_cause : Fields → Option JsonCause
+duration_cause fs = unless (is_span (integer_at 1 fs) (integer_at 2 fs)) cause.OutOfRange
+
+abbrev pub mask_cause : Fields → Option JsonCause
+mask_cause fs = unless (are_paths (strings_at 1 fs)) cause.BadPath
+
 -- what is wrong with a message itself
 abbrev pub own_cause : WellKnown → Fields → Option JsonCause
 own_cause Value fs = value_cause fs
+own_cause Timestamp fs = timestamp_cause fs
+own_cause Duration fs = duration_cause fs
+own_cause FieldMask fs = mask_cause fs
 own_cause Unsupported fs = Some cause.Unsupported
 own_cause Other fs = None
 own_cause Wrapper fs = None

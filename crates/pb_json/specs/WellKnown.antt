@@ -7,7 +7,7 @@ use Rattle.pb_schema.specs.Types.{Types}
 use Rattle.pb_schema.specs.Kinds.{enum_of_kind}
 use Rattle.pb_schema.specs.Names.{message_names, enum_names, name_at}
 use Rattle.pb_json.specs.declared.well_known.WellKnown.{WellKnown}
-use Rattle.pb_json.specs.declared.well_known.WellKnown.TheVariants.{Other, Wrapper, Struct, ListValue, Value, Unsupported}
+use Rattle.pb_json.specs.declared.well_known.WellKnown.TheVariants.{Other, Wrapper, Struct, ListValue, Value, Timestamp, Duration, FieldMask, Unsupported}
 
 abbrev pub is_wrapper_name : List ℕ → Bool
 is_wrapper_name name =
@@ -17,17 +17,14 @@ is_wrapper_name name =
     || bytes_eq name (codes "google.protobuf.BoolValue") || bytes_eq name (codes "google.protobuf.StringValue")
     || bytes_eq name (codes "google.protobuf.BytesValue")
 
--- types with a form that isn't written yet
-abbrev pub is_unsupported_name : List ℕ → Bool
-is_unsupported_name name =
-    bytes_eq name (codes "google.protobuf.Any") || bytes_eq name (codes "google.protobuf.Timestamp")
-    || bytes_eq name (codes "google.protobuf.Duration") || bytes_eq name (codes "google.protobuf.FieldMask")
-
+-- the form of `google.protobuf.Any` is not written
 abbrev pub well_known_named : List ℕ → WellKnown
 well_known_named name =
     if is_wrapper_name name then Wrapper else if bytes_eq name (codes "google.protobuf.Struct") then Struct
     else if bytes_eq name (codes "google.protobuf.ListValue") then ListValue else if bytes_eq name (codes "google.protobuf.Value") then Value
-    else if is_unsupported_name name then Unsupported else Other
+    else if bytes_eq name (codes "google.protobuf.Timestamp") then Timestamp else if bytes_eq name (codes "google.protobuf.Duration") then Duration
+    else if bytes_eq name (codes "google.protobuf.FieldMask") then FieldMask else if bytes_eq name (codes "google.protobuf.Any") then Unsupported
+    else Other
 
 -- what form the message type at an index has
 abbrev pub well_known : Types → ℕ → WellKnown

@@ -1,7 +1,7 @@
 //! Why messages are not written.
 
 ghost use Rattle.std.specs.Prelude.{◌≡◌};
-ghost use Rattle.pb_json.specs.CauseName.{cause_name};
+ghost use Rattle.pb_json.specs.CauseName.{name_of};
 ghost use Rattle.pb_json.specs.declared.error.JsonError.TheVariants.{Memory};
 
 use std::alloc::{AllocError, AllocFailed};
@@ -15,24 +15,34 @@ pub enum JsonCause {
     NoKind,
     /// A `google.protobuf.Value` holds a NaN or an infinity.
     NotFinite,
-    /// The form of the type is not written: `google.protobuf.Any`, `Timestamp`, `Duration` and `FieldMask`.
+    /// A `google.protobuf.Timestamp` or `Duration` is out of the range that its file gives.
+    OutOfRange,
+    /// A path of a `google.protobuf.FieldMask` would not be read back from lowerCamelCase.
+    BadPath,
+    /// The form of the type is not written: `google.protobuf.Any`.
     Unsupported,
 }
 
 impl JsonCause {
     /// The cause's name.
     pub fn name(self) -> &'static str
-        ensures { result.now ≡ cause_name self }
+        ensures { result.now ≡ name_of self }
     {
         match self {
             JsonCause::NoKind => "NoKind",
             JsonCause::NotFinite => "NotFinite",
+            JsonCause::OutOfRange => "OutOfRange",
+            JsonCause::BadPath => "BadPath",
             JsonCause::Unsupported => "Unsupported",
         }
     }
 }
 
 impl fmt::Display for JsonCause {
+    ghost use Rattle.std.specs.Prelude.{Some};
+
+    ghost output = { λ cause. Some (name_of cause) };
+
     fn fmt<W: fmt::Write>(&self, f: &mut fmt::Formatter<W>) -> fmt::Result {
         f.write_str(self.name())
     }

@@ -13,6 +13,8 @@ ghost use Rattle.pb_json.specs.Refusals.{held_cause, holding_refused, message_re
 ghost use Rattle.pb_json.specs.WellKnown.{well_known as form_of};
 
 use crate::error::{JsonCause, JsonError, Refusal};
+use crate::masks::mask_cause;
+use crate::times::{duration_cause, timestamp_cause};
 use crate::well_known::{WellKnown, well_known};
 use pb_schema::{Kind, MessageId, Pool};
 use pb_value::{Body, Content, MapKey, Value};
@@ -172,6 +174,9 @@ fn own_cause(form: WellKnown, fields: &BTreeMap<u32, Content>) -> Option<JsonCau
 {
     match form {
         WellKnown::Value => value_cause(fields),
+        WellKnown::Timestamp => timestamp_cause(fields),
+        WellKnown::Duration => duration_cause(fields),
+        WellKnown::FieldMask => mask_cause(fields),
         WellKnown::Unsupported => Some(JsonCause::Unsupported),
         WellKnown::Other | WellKnown::Wrapper | WellKnown::Struct | WellKnown::ListValue => None,
     }

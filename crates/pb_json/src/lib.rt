@@ -4,11 +4,14 @@
 mod context;
 mod error;
 mod form;
+mod held;
 mod judging;
+mod masks;
 mod messages;
 mod names;
 mod scalars;
 mod strings;
+mod times;
 mod well_known;
 
 pub use error::{JsonCause, JsonError, Refusal};

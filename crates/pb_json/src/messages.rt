@@ -10,7 +10,8 @@ ghost use Rattle.pb_value.specs.View.{body_view, content_view, entries_view, fie
 ghost use Rattle.pb_json.specs.Answers.{FailsAs, Prints, Whole};
 ghost use Rattle.pb_json.specs.Json.{null, array, object};
 ghost use Rattle.pb_json.specs.JsonText.{IsJsonText};
-ghost use Rattle.pb_json.specs.Mapping.{absent_json, datum_json, elements_json, entries_json, fields_json, holding_json, message_json, only_json, wrapper_default};
+ghost use Rattle.pb_json.specs.Mapping.{absent_json, datum_json, elements_json, entries_json, fields_json, holding_json, message_json};
+ghost use Rattle.pb_json.specs.Mapping.{only_json, wrapper_default};
 ghost use Rattle.pb_json.specs.Refusals.{refused};
 ghost use Rattle.pb_json.specs.WellKnown.{well_known as form_of};
 
@@ -18,9 +19,11 @@ use crate::context::Context;
 use crate::error::JsonError;
 use crate::form::JsonForm;
 use crate::judging::{DEEPEST, judge_message};
+use crate::masks::put_mask;
 use crate::names::{put_entry_start, put_field_start};
 use crate::scalars::put_scalar;
 use crate::strings::{put_closing, put_line, put_separator};
+use crate::times::{put_duration, put_timestamp};
 use crate::well_known::{WellKnown, well_known};
 use pb_output::Sink;
 use pb_schema::{Kind, MessageId};
@@ -72,6 +75,9 @@ fn put_message<O: Output>(
 {
     match well_known(context.pool, id) {
         WellKnown::Other => put_object(sink, out, context, level, indent, id, &body.fields),
+        WellKnown::Timestamp => put_timestamp(sink, out, &body.fields),
+        WellKnown::Duration => put_duration(sink, out, &body.fields),
+        WellKnown::FieldMask => put_mask(sink, out, &body.fields),
         WellKnown::Unsupported => sink.put(out, b"null"),
         WellKnown::Wrapper | WellKnown::Struct | WellKnown::ListValue | WellKnown::Value => {
             put_only(sink, out, context, level, indent, id, &body.fields)
@@ -161,6 +167,7 @@ fn put_absent<O: Output>(
         WellKnown::Struct => sink.put(out, b"{}"),
         WellKnown::ListValue => sink.put(out, b"[]"),
         WellKnown::Value | WellKnown::Other | WellKnown::Unsupported => sink.put(out, b"null"),
+        WellKnown::Timestamp | WellKnown::Duration | WellKnown::FieldMask => sink.put(out, b"null"),
     }
 }
 
@@ -254,7 +261,8 @@ fn put_entries<O: Output>(
     requires line { indent ≤ 2 * level + 1 }
     requires kind { NamesType (length context.now.pool.now.messages) (length context.now.pool.now.enums) kind }
     ensures { level + entries_depth (entries_view entries.now.entries) ≤ 101 → Prints O.written O.failures out.old out.new sink.old sink.new
-        (IsJsonText context.now.form.layout indent (object (entries_json context.now.pool.now context.now.form.names kind (entries_view entries.now.entries)))) }
+        (IsJsonText context.now.form.layout indent
+        (object (entries_json context.now.pool.now context.now.form.names kind (entries_view entries.now.entries)))) }
 {
     let layout = context.form.layout;
     sink.put(out, b"{");

@@ -53,7 +53,8 @@ fn put_camel<O: Output>(sink: &mut Sink, out: &mut O, name: &[u8])
     sink.put(out, b"\"");
 }
 
-fn put_camel_bytes<O: Output>(sink: &mut Sink, out: &mut O, name: &[u8])
+/// A name without underscores.
+pub(crate) fn put_camel_bytes<O: Output>(sink: &mut Sink, out: &mut O, name: &[u8])
     ensures { Puts O.written O.failures out.old out.new sink.old sink.new (flat_map string_byte (lower_camel name.now)) }
 {
     let mut raised = false;

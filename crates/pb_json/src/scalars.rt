@@ -57,7 +57,7 @@ pub(crate) fn put_scalar<O: Output>(
     }
 }
 
-fn put_natural<O: Output>(sink: &mut Sink, out: &mut O, number: u64)
+pub(crate) fn put_natural<O: Output>(sink: &mut Sink, out: &mut O, number: u64)
     ensures { Puts O.written O.failures out.old out.new sink.old sink.new (decimal number) }
 {
     sink.make_room(out, 20);

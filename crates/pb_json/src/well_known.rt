@@ -2,7 +2,7 @@
 
 ghost use Rattle.std.specs.Prelude.{◌≡◌, ◌<◌, length};
 ghost use Rattle.pb_schema.specs.Rules.{NamesType};
-ghost use Rattle.pb_json.specs.WellKnown.{is_null_enum, is_unsupported_name, is_wrapper_name, well_known, well_known_named};
+ghost use Rattle.pb_json.specs.WellKnown.{is_null_enum, is_wrapper_name, well_known, well_known_named};
 
 use pb_schema::{Kind, MessageId, Pool};
 
@@ -19,6 +19,12 @@ pub(crate) enum WellKnown {
     ListValue,
     /// What its one member holds.
     Value,
+    /// A string that is a point in time.
+    Timestamp,
+    /// A string that is a length of time.
+    Duration,
+    /// A string of the paths.
+    FieldMask,
     /// A form that is not written.
     Unsupported,
 }
@@ -42,7 +48,13 @@ fn well_known_named(name: &[u8]) -> WellKnown
         WellKnown::ListValue
     } else if name == b"google.protobuf.Value".as_slice() {
         WellKnown::Value
-    } else if is_unsupported_name(name) {
+    } else if name == b"google.protobuf.Timestamp".as_slice() {
+        WellKnown::Timestamp
+    } else if name == b"google.protobuf.Duration".as_slice() {
+        WellKnown::Duration
+    } else if name == b"google.protobuf.FieldMask".as_slice() {
+        WellKnown::FieldMask
+    } else if name == b"google.protobuf.Any".as_slice() {
         WellKnown::Unsupported
     } else {
         WellKnown::Other
@@ -61,15 +73,6 @@ fn is_wrapper_name(name: &[u8]) -> bool
         || name == b"google.protobuf.BoolValue".as_slice()
         || name == b"google.protobuf.StringValue".as_slice()
         || name == b"google.protobuf.BytesValue".as_slice()
-}
-
-fn is_unsupported_name(name: &[u8]) -> bool
-    ensures { result ≡ is_unsupported_name name.now }
-{
-    name == b"google.protobuf.Any".as_slice()
-        || name == b"google.protobuf.Timestamp".as_slice()
-        || name == b"google.protobuf.Duration".as_slice()
-        || name == b"google.protobuf.FieldMask".as_slice()
 }
 
 /// Whether a kind is the enum whose one value means null.

@@ -58,6 +58,26 @@ fa0100 | {\"emptyValue\":{}} | Empty
 a20209110000000000000c40a202022000 | {\"values\":[3.5,false]} | Values
 7009a2010b01ffffffffffffffffff01 | {\"colorT\":9,\"colorsZ\":[\"RED\",-1]} | an enum's number without a name
 0801a03e05 | {\"intA\":1} | an unknown record
+820200 | {\"time\":\"1970-01-01T00:00:00Z\"} | the first second of 1970
+82020b088092b8c398feffffff01 | {\"time\":\"0001-01-01T00:00:00Z\"} | the first second
+82020d08ff82d1ffaf0710ff93ebdc03 | {\"time\":\"9999-12-31T23:59:59.999999999Z\"} | the last nanosecond
+82021108ffffffffffffffffff011080cab5ee01 | {\"time\":\"1969-12-31T23:59:59.500Z\"} | the second before 1970
+82020b088098ecc50310c09fab03 | {\"time\":\"2000-02-29T00:00:00.007Z\"} | milliseconds
+82020b08bfe9eec50310d0a59e39 | {\"time\":\"2000-02-29T11:59:59.120034Z\"} | microseconds
+82020b0880bbf1c5031081c2d72f | {\"time\":\"2000-03-01T00:00:00.100000001Z\"} | nanoseconds
+ca020608ff97ecc503ca0206088098ecc503ca02060880bbf1c503ca020b08f0d28ae5f7ffffffff01ca020b0880948de5f7ffffffff01ca0206088bafffae06ca020608ff80c8ac06ca02060880bfd0a60fca020b0880a2b4c6c7feffffff01ca020b0880c5b9c6c7feffffff01ca020b0880d6b7d298feffffff01ca020708809cccf0af07 | {\"times\":[\"2000-02-28T23:59:59Z\",\"2000-02-29T00:00:00Z\",\"2000-03-01T00:00:00Z\",\"1900-02-28T12:34:56Z\",\"1900-03-01T00:00:00Z\",\"2024-02-29T01:02:03Z\",\"2023-12-31T23:59:59Z\",\"2100-03-01T00:00:00Z\",\"0400-12-31T00:00:00Z\",\"0401-01-01T00:00:00Z\",\"0001-12-31T00:00:00Z\",\"9999-01-01T00:00:00Z\"]} | days around leap days
+8a0200 | {\"span\":\"0s\"} | no time
+8a02020803 | {\"span\":\"3s\"} | a span
+8a020d0880bcaece970910ff93ebdc03 | {\"span\":\"315576000000.999999999s\"} | a longest span
+8a02160880c4d1b1e8f6ffffff011081ec94a3fcffffffff01 | {\"span\":\"-315576000000.999999999s\"} | a longest negative span
+8a02061080cab5ee01 | {\"span\":\"0.500s\"} | less than a second
+8a020b1098f8ffffffffffffff01 | {\"span\":\"-0.000001s\"} | less than a second, negative
+8a021608f4ffffffffffffffff01108086f0ddfeffffffff01 | {\"span\":\"-12.340s\"} | seconds and milliseconds
+8a020408011001 | {\"span\":\"1.000000001s\"} | a nanosecond
+920200 | {\"mask\":\"\"} | no paths
+9202130a11757365722e646973706c61795f6e616d65 | {\"mask\":\"user.displayName\"} | a path
+9202180a01610a0f666f6f5f6261722e62617a5f7175780a027839 | {\"mask\":\"a,fooBar.bazQux,x9\"} | paths
+92020c0a046122620a0a04c3a95f61 | {\"mask\":\"a\\\"b\\n,éA\"} | a path that is no name
 ";
 
 /// A message of each shape, as one indented value with the names that are declared.

@@ -12,7 +12,7 @@ use Rattle.pb_json.specs.Mapping.{datum_json, elements_json, entries_json, field
 use Rattle.pb_json.specs.WellKnown.{well_known}
 use Rattle.pb_json.specs.Json.{Json}
 use Rattle.pb_json.proofs.MappingLemmas.{element_joins, member_joins, elements_next, entries_next, entries_deep, entry_deep, fields_next, fields_skip, fields_deep}
-use Rattle.pb_json.proofs.MappingLemmas.{first_within, only_absent, only_first}
+use Rattle.pb_json.proofs.MappingLemmas.{as_duration, as_timestamp, first_within, only_absent, only_first}
 use Rattle.pb_json.proofs.PrintLemmas.{left_done, left_more, left_same, left_start, left_start_at, prints_after, prints_after_nothing, prints_known, prints_same}
 use Rattle.pb_output.proofs.SinkLemmas.{puts_none, puts_then}
 use Rattle.pb_json.proofs.messages.+json.Goals as goal
@@ -136,3 +136,17 @@ put_only-returns g t c = λ within.
     (prints_same form.layout c.args.indent _ _
     (only_absent c.args.context.now.pool.now form.names (well_known c.args.context.now.pool.now c.args.id.0) (message_fields c.args.context.now.pool.now c.args.id.0)
     c.args.fields.now.entries (sym c.loop-number.invariant.0 ∙ end)) c.put_absent.ensures)
+
+pub put_message-returns-in-Timestamp : goal.put_message-returns-in-Timestamp
+put_message-returns-in-Timestamp g t c = λ within.
+    let form = c.args.context.now.form in
+    prints_same form.layout c.args.indent _ _
+    (as_timestamp c.args.context.now.pool.now form.names c.args.id.0 c.args.body.now (sym c.well_known.ensures ∙ c.in-Timestamp.is))
+    (c.put_timestamp.ensures form.layout c.args.indent)
+
+pub put_message-returns-in-Duration : goal.put_message-returns-in-Duration
+put_message-returns-in-Duration g t c = λ within.
+    let form = c.args.context.now.form in
+    prints_same form.layout c.args.indent _ _
+    (as_duration c.args.context.now.pool.now form.names c.args.id.0 c.args.body.now (sym c.well_known.ensures ∙ c.in-Duration.is))
+    (c.put_duration.ensures form.layout c.args.indent)
