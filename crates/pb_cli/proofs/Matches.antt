@@ -110,16 +110,17 @@ never e = cc
 -- a name of the tool's was met, and none of them in turn
 pub no_name_left :
     (s : Option Text) → (s ≡ Some (codes "raw") → false ≡ true) → (s ≡ Some (codes "check") → false ≡ true) → (s ≡ Some (codes "show") → false ≡ true)
-    → (s ≡ Some (codes "canon") → false ≡ true) → (s ≡ Some (codes "frames") → false ≡ true) → (s ≡ Some (codes "types") → false ≡ true)
-    → (s ≡ Some (codes "compile") → false ≡ true) → Any (λ n. s ≡ Some n) tool_names → ⊥
-no_name_left s raw check show canon frames types compile has = by (at_index s tool_names has.0 has.1 has.2 has.3 has.4)
+    → (s ≡ Some (codes "canon") → false ≡ true) → (s ≡ Some (codes "json") → false ≡ true) → (s ≡ Some (codes "frames") → false ≡ true)
+    → (s ≡ Some (codes "types") → false ≡ true) → (s ≡ Some (codes "compile") → false ≡ true) → Any (λ n. s ≡ Some n) tool_names → ⊥
+no_name_left s raw check show canon json frames types compile has = by (at_index s tool_names has.0 has.1 has.2 has.3 has.4)
   where
     by : IsOneOf s tool_names → ⊥
     by (inl is) = never (raw is)
     by (inr (inl is)) = never (check is)
     by (inr (inr (inl is))) = never (show is)
     by (inr (inr (inr (inl is)))) = never (canon is)
-    by (inr (inr (inr (inr (inl is))))) = never (frames is)
-    by (inr (inr (inr (inr (inr (inl is)))))) = never (types is)
-    by (inr (inr (inr (inr (inr (inr (inl is))))))) = never (compile is)
-    by (inr (inr (inr (inr (inr (inr (inr nothing))))))) = nothing
+    by (inr (inr (inr (inr (inl is))))) = never (json is)
+    by (inr (inr (inr (inr (inr (inl is)))))) = never (frames is)
+    by (inr (inr (inr (inr (inr (inr (inl is))))))) = never (types is)
+    by (inr (inr (inr (inr (inr (inr (inr (inl is)))))))) = never (compile is)
+    by (inr (inr (inr (inr (inr (inr (inr (inr nothing)))))))) = nothing

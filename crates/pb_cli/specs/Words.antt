@@ -8,10 +8,12 @@ use Rattle.clap.specs.Words.{App, Row, Rule, Text, Shape, all_of, first_of, new_
 use Rattle.clap.specs.Simple.{on_top}
 use Rattle.clap.specs.declared.builder.ArgAction.TheVariants.{Append, Set, SetTrue}
 use Rattle.pb_command.specs.declared.command.Command.{Command}
-use Rattle.pb_command.specs.declared.command.Command.TheVariants.{Raw, Check, Show, Canon, Frames, Types, Compile}
+use Rattle.pb_command.specs.declared.command.Command.TheVariants.{Raw, Check, Show, Canon, Json, Frames, Types, Compile}
 use Rattle.pb_command.specs.declared.command.Roots.{Roots}
 use Rattle.pb_command.specs.declared.command.Source.{Source}
 use Rattle.pb_command.specs.CompileAnswer.{texts_of}
+use Rattle.pb_json.specs.declared.form.Layout.{Layout}
+use Rattle.pb_json.specs.declared.form.Layout.TheVariants.{Compact, Indented}
 use Rattle.pb_files.specs.declared.set_file.Reading.{Reading}
 use Rattle.pb_files.specs.declared.set_file.Reading.TheVariants.{Lenient, Strict}
 
@@ -46,6 +48,13 @@ out_rule = record (new_rule (codes "out")) { long = Some (codes "out"); action =
 abbrev pub canon_command : App
 canon_command = of_source (with_rule (new_app (codes "canon")) out_rule)
 
+abbrev pub pretty_rule : Rule
+pretty_rule = record (new_rule (codes "pretty")) { long = Some (codes "pretty"); action = Some SetTrue }
+
+-- `json [--pretty] [--lenient] SET TYPE FILE`
+abbrev pub json_command : App
+json_command = of_source (with_rule (new_app (codes "json")) pretty_rule)
+
 abbrev pub frames_command : App
 frames_command = of_source (new_app (codes "frames"))
 
@@ -77,11 +86,11 @@ tool_top = on_top wants_subcommand (on_top with_version (new_app (codes "pbtool"
 -- the whole command line
 abbrev pub tool : App
 tool =
-    with_subcommand (with_subcommand (with_subcommand (with_subcommand (with_subcommand (with_subcommand (with_subcommand tool_top raw_command.top)
-    check_command.top) show_command.top) canon_command.top) frames_command.top) types_command.top) compile_command.top
+    with_subcommand (with_subcommand (with_subcommand (with_subcommand (with_subcommand (with_subcommand (with_subcommand (with_subcommand tool_top raw_command.top)
+    check_command.top) show_command.top) canon_command.top) json_command.top) frames_command.top) types_command.top) compile_command.top
 
 abbrev pub tool_names : List Text
-tool_names = codes "raw" ∷ codes "check" ∷ codes "show" ∷ codes "canon" ∷ codes "frames" ∷ codes "types" ∷ codes "compile" ∷ []
+tool_names = codes "raw" ∷ codes "check" ∷ codes "show" ∷ codes "canon" ∷ codes "json" ∷ codes "frames" ∷ codes "types" ∷ codes "compile" ∷ []
 
 abbrev pub words_of : List (String Global) → List Text
 words_of = map string_bytes
@@ -111,6 +120,11 @@ reading_of false = Strict
 abbrev pub IsReading : List Row → Reading → Type 0
 IsReading rows r = r ≡ reading_of (flag_of (codes "lenient") rows)
 
+-- how JSON is laid out, by whether the flag is given
+abbrev pub layout_of : Bool → Layout
+layout_of true = Indented
+layout_of false = Compact
+
 -- the values that name a message and its type
 abbrev pub IsSource : List Row → Source → Type 0
 IsSource rows s =
@@ -127,6 +141,8 @@ IsNamed name rows (Check source) = (name ≡ codes "check") × IsSource rows sou
 IsNamed name rows (Show source) = (name ≡ codes "show") × IsSource rows source
 IsNamed name rows (Canon to source) =
     (name ≡ codes "canon") × (option_map (λ path. path.now) to ≡ option_of (codes "out") rows) × IsSource rows source
+IsNamed name rows (Json layout source) =
+    (name ≡ codes "json") × (layout ≡ layout_of (flag_of (codes "pretty") rows)) × IsSource rows source
 IsNamed name rows (Frames source) = (name ≡ codes "frames") × IsSource rows source
 IsNamed name rows (Types reading set type_name) =
     (name ≡ codes "types") × IsReading rows reading × (set.now ≡ value_of (codes "SET") rows)

@@ -8,13 +8,15 @@ ghost use Rattle.pb_files.specs.FileMap.{IsHonest, IsSaved, IsUnsaved};
 ghost use Rattle.pb_files.specs.Report.{device_line, memory_line};
 ghost use Rattle.pb_output.specs.Sending.{Cut, Sent, SentOrCut};
 ghost use Rattle.pb_cli.specs.Running.{DoesNamed, RefusesWords};
-ghost use Rattle.pb_cli.specs.Words.{AreRoots, IsMatched, IsSource, flag_of, reading_of, value_of, values_of, tool, tool_names, words_of};
+ghost use Rattle.pb_cli.specs.Words.{AreRoots, IsMatched, IsSource, flag_of, layout_of, reading_of, value_of, values_of, tool, tool_names, words_of};
 ghost use Rattle.pb_command.specs.declared.command.Command.{Command as Told};
 
 use crate::words::definition;
 use clap::error::ErrorKind;
 use clap::{ArgMatches, Error};
-use pb_command::{Afterwards, Command, Files, Reading, Refusal, Roots, Source, execute_then};
+use pb_command::{
+    Afterwards, Command, Files, Layout, Reading, Refusal, Roots, Source, execute_then,
+};
 use pb_wire::{Output, write_all};
 use std::alloc::Global;
 
@@ -162,6 +164,12 @@ fn command_of<'m>(matches: &'m ArgMatches<'_>) -> Command<'m>
             source: source(inner),
         };
     }
+    if let Some(inner) = matches.subcommand_matches("json") {
+        return Command::Json {
+            layout: layout(inner),
+            source: source(inner),
+        };
+    }
     if let Some(inner) = matches.subcommand_matches("frames") {
         return Command::Frames {
             source: source(inner),
@@ -204,6 +212,17 @@ fn reading(matches: &ArgMatches<'_>) -> Reading
         Reading::Lenient
     } else {
         Reading::Strict
+    }
+}
+
+/// How JSON is laid out.
+fn layout(matches: &ArgMatches<'_>) -> Layout
+    ensures { result ≡ layout_of (flag_of (codes "pretty") (rows_of (found_of matches.now))) }
+{
+    if flag(matches, "pretty") {
+        Layout::Indented
+    } else {
+        Layout::Compact
     }
 }
 

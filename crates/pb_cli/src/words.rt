@@ -2,7 +2,7 @@
 ghost use Rattle.std.specs.Prelude.{◌≡◌, false, IfOk};
 ghost use Rattle.clap.specs.Words.{app_of, rule_of};
 ghost use Rattle.clap.specs.declared.builder.command.Command.TheViews.{out-Command};
-ghost use Rattle.pb_cli.specs.Words.{canon_command, check_command, compile_command, frames_command, raw_command, show_command, types_command};
+ghost use Rattle.pb_cli.specs.Words.{canon_command, check_command, compile_command, frames_command, json_command, raw_command, show_command, types_command};
 ghost use Rattle.pb_cli.specs.Words.{directory_rule, lenient_rule, of_source, tool, tool_top, wanted};
 
 use clap::{Arg, ArgAction, Command};
@@ -21,7 +21,8 @@ pub fn definition<'a>(alloc: Global) -> Result<Command<'a>, AllocError>
     let with_check = with_raw.subcommand(check(alloc)?)?;
     let with_show = with_check.subcommand(show(alloc)?)?;
     let with_canon = with_show.subcommand(canon(alloc)?)?;
-    let with_frames = with_canon.subcommand(frames(alloc)?)?;
+    let with_json = with_canon.subcommand(json(alloc)?)?;
+    let with_frames = with_json.subcommand(frames(alloc)?)?;
     let with_types = with_frames.subcommand(types(alloc)?)?;
     let whole = with_types.subcommand(compile(alloc)?)?;
     Ok(whole)
@@ -89,6 +90,20 @@ fn canon<'a>(alloc: Global) -> Result<Command<'a>, AllocError>
     );
     let with_out = command.arg(out)?;
     let whole = with_source(alloc, with_out)?;
+    Ok(whole)
+}
+
+fn json<'a>(alloc: Global) -> Result<Command<'a>, AllocError>
+    ensures app { IfOk result (λ c. app_of c ≡ json_command) }
+    ensures local { IfOk result (λ c. (out-Command c).has_globals ≡ false) }
+{
+    let pretty = Arg::new(alloc, "pretty")
+        .long("pretty")
+        .action(ArgAction::SetTrue)
+        .help("Put each member and each element on its own line");
+    let command = Command::new(alloc, "json").about("Print a message as JSON");
+    let with_pretty = command.arg(pretty)?;
+    let whole = with_source(alloc, with_pretty)?;
     Ok(whole)
 }
 

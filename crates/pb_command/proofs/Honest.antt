@@ -18,7 +18,7 @@ use Rattle.pb_files.specs.declared.set_file.Reading.{Reading}
 use Rattle.pb_command.specs.TypesAnswer.{TypesAnswer, no_types, shown}
 use Rattle.pb_command.specs.TypeAnswer.{TypeAnswer, no_type, missing, opened}
 use Rattle.pb_command.specs.declared.command.Command.{Command}
-use Rattle.pb_command.specs.declared.command.Command.TheVariants.{Raw, Check, Show, Canon, Frames, Compile}
+use Rattle.pb_command.specs.declared.command.Command.TheVariants.{Raw, Check, Show, Canon, Json, Frames, Compile}
 use Rattle.pb_command.specs.declared.command.Command.TheVariants as command
 use Rattle.pb_command.specs.declared.form.Form.{Form}
 use Rattle.pb_command.specs.declared.form.Form.TheVariants as form
@@ -93,6 +93,9 @@ module _ {F : Type 0} (contents : F → Option FileMap) (is_steady : F → Bool)
     right_of_map (Canon to source) a h =
         type_of_map _ _ source.reading source.type_name.now source.set.now source.file.now a
         (λ pool m. message_map _ _ _ _ (canonical_form to) pool m a (λ f known. known map honest) (λ v known. known.1 map honest)) h
+    right_of_map (Json layout source) a h =
+        type_of_map _ _ source.reading source.type_name.now source.set.now source.file.now a
+        (λ pool m. message_map _ _ _ _ (form.Json layout) pool m a (λ f known. known map honest) (λ v known. known.1 map honest)) h
     right_of_map (Frames source) a h =
         type_of_map _ _ source.reading source.type_name.now source.set.now source.file.now a
         (λ pool m. frames_map _ _ _ _ _ _ source.file.now pool m a (λ text known. known.1 map honest) (λ count text f known. known.1 map honest)
@@ -105,6 +108,7 @@ module _ {F : Type 0} (contents : F → Option FileMap) (is_steady : F → Bool)
     begun_of_map (Check source) text h = h
     begun_of_map (Show source) text h = h
     begun_of_map (Canon to source) text h = h
+    begun_of_map (Json layout source) text h = h
     begun_of_map (command.Types reading set name) text h = h
     begun_of_map (Compile roots out names) text h = h
     begun_of_map (Frames source) text (inl nothing) = inl nothing
@@ -124,6 +128,9 @@ module _ {F : Type 0} (contents : F → Option FileMap) (is_steady : F → Bool)
   right_of_any (Canon to source) a h =
       type_any _ _ _ _ source.reading source.type_name.now source.set.now source.file.now a
       (λ pool m. message_map _ _ _ _ (canonical_form to) pool m a (λ f known. tt) (λ v known. known.0)) h
+  right_of_any (Json layout source) a h =
+      type_any _ _ _ _ source.reading source.type_name.now source.set.now source.file.now a
+      (λ pool m. message_map _ _ _ _ (form.Json layout) pool m a (λ f known. tt) (λ v known. known.0)) h
   right_of_any (Frames source) a h =
       type_any _ _ _ _ source.reading source.type_name.now source.set.now source.file.now a
       (λ pool m. frames_map _ _ _ _ _ _ source.file.now pool m a (λ text known. known.0) (λ count text f known. known.0) (λ text known. known.0)) h
@@ -136,6 +143,7 @@ module _ {F : Type 0} (contents : F → Option FileMap) (is_steady : F → Bool)
   begun_of_any (Check source) text h = h
   begun_of_any (Show source) text h = h
   begun_of_any (Canon to source) text h = h
+  begun_of_any (Json layout source) text h = h
   begun_of_any (command.Types reading set name) text h = h
   begun_of_any (Compile roots out names) text h = h
   begun_of_any (Frames source) text (inl nothing) =

@@ -10,6 +10,8 @@ pub mod Coming
 pub mod FileSteps
 -- for the message of a file
 pub mod MessageSteps
+-- for a line of JSON: a text and then a line feed
+pub mod JsonSteps
 -- for the loop of `frames`: the frames of a stream, one after another
 pub mod Streams
 -- for `raw`

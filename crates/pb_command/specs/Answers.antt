@@ -20,7 +20,7 @@ use Rattle.pb_files.specs.SetFile.{HasType}
 use Rattle.pb_command.specs.TypeAnswer.{TypeAnswer}
 use Rattle.pb_command.specs.TypesAnswer.{TypesAnswer}
 use Rattle.pb_command.specs.declared.command.Command.{Command}
-use Rattle.pb_command.specs.declared.command.Command.TheVariants.{Raw, Check, Show, Canon, Frames, Compile}
+use Rattle.pb_command.specs.declared.command.Command.TheVariants.{Raw, Check, Show, Canon, Json, Frames, Compile}
 use Rattle.pb_command.specs.declared.command.Command.TheVariants as command
 use Rattle.pb_command.specs.declared.command.Source.{Source}
 use Rattle.pb_command.specs.declared.form.Form.{Form}
@@ -75,6 +75,7 @@ module _ (map : FileMap) where
   Answers (Check source) = MessageComesTo form.Check source
   Answers (Show source) = MessageComesTo form.Listing source
   Answers (Canon to source) = MessageComesTo (canonical_form to) source
+  Answers (Json layout source) = MessageComesTo (form.Json layout) source
   Answers (Frames source) = FramesComeTo source
   Answers (command.Types reading set name) = TypesAnswer (λ content. content ≡ map set.now) reading set.now (option_map (λ n. n.now) name)
   Answers (Compile roots out names) = CompileAnswer (λ path content. content ≡ map path) (λ path. ⊥) (roots_of roots) out.now (texts_of names.now)
@@ -85,6 +86,7 @@ module _ (map : FileMap) where
   Begins (Check source) text = text ≡ []
   Begins (Show source) text = text ≡ []
   Begins (Canon to source) text = text ≡ []
+  Begins (Json layout source) text = text ≡ []
   Begins (command.Types reading set name) text = text ≡ []
   Begins (Compile roots out names) text = text ≡ []
   Begins (Frames source) text =
@@ -113,6 +115,7 @@ AnyAnswers (Raw short file) a = (content : Option (List ℕ)) × RawAnswer full 
 AnyAnswers (Check source) a = AnyMessage form.Check source a
 AnyAnswers (Show source) a = AnyMessage form.Listing source a
 AnyAnswers (Canon to source) a = AnyMessage (canonical_form to) source a
+AnyAnswers (Json layout source) a = AnyMessage (form.Json layout) source a
 AnyAnswers (Frames source) a = AnyStream source a
 AnyAnswers (command.Types reading set name) a = TypesAnswer (λ content. ⊤) reading set.now (option_map (λ n. n.now) name) a
 AnyAnswers (Compile roots out names) a = CompileAnswer (λ path content. ⊤) (λ path. ⊤) (roots_of roots) out.now (texts_of names.now) a
@@ -122,6 +125,7 @@ AnyBegins (Raw short file) text = text ≡ []
 AnyBegins (Check source) text = text ≡ []
 AnyBegins (Show source) text = text ≡ []
 AnyBegins (Canon to source) text = text ≡ []
+AnyBegins (Json layout source) text = text ≡ []
 AnyBegins (command.Types reading set name) text = text ≡ []
 AnyBegins (Compile roots out names) text = text ≡ []
 AnyBegins (Frames source) text = (pool : Types) × (m : ℕ) × AnyFrames pool m text

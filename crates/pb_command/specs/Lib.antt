@@ -2,6 +2,7 @@ pub mod Gathering
 pub mod RawAnswer
 pub mod TypeAnswer
 pub mod TypesAnswer
+pub mod JsonAnswer
 pub mod MessageAnswer
 pub mod FramesAnswer
 pub mod CompileAnswer

@@ -10,8 +10,9 @@ use Rattle.pb_files.specs.Answer.{Answer, done, saves, refused}
 use Rattle.pb_listing.specs.Listing.{listing}
 use Rattle.pb_listing.specs.RawListing.{line_feed}
 use Rattle.pb_files.specs.Report.{fault_line, too_large_line}
+use Rattle.pb_command.specs.JsonAnswer.{JsonAnswer}
 use Rattle.pb_command.specs.declared.form.Form.{Form}
-use Rattle.pb_command.specs.declared.form.Form.TheVariants.{Check, Listing, Canonical, CanonicalFile}
+use Rattle.pb_command.specs.declared.form.Form.TheVariants.{Check, Listing, Json, Canonical, CanonicalFile}
 
 -- an encoding has at most 2^31 - 1 bytes, or none is made
 pub data CanonAnswer (bytes : List ℕ) (made answer : Answer) : Type 0 where
@@ -22,6 +23,7 @@ pub data CanonAnswer (bytes : List ℕ) (made answer : Answer) : Type 0 where
 abbrev pub FormAnswer : Form → Dynamic → Answer → Type 0
 FormAnswer Check m answer = answer ≡ done (codes "ok\n")
 FormAnswer Listing m answer = answer ≡ done (listing m)
+FormAnswer (Json layout) m answer = JsonAnswer layout m answer
 FormAnswer Canonical m answer = CanonAnswer (bytes_of m) (done (encode_lower (bytes_of m) ++ line_feed)) answer
 FormAnswer (CanonicalFile path) m answer = CanonAnswer (bytes_of m) (saves path.now (bytes_of m)) answer
 

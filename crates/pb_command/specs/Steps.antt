@@ -5,7 +5,13 @@ use Rattle.pb_wire.specs.Schema.{blank}
 use Rattle.pb_wire.specs.Exact.{IsSomeText}
 use Rattle.pb_wire.specs.Limits.{Bounds, full}
 use Rattle.pb_schema.specs.Types.{Types}
+use Rattle.pb_value.specs.Dynamic.{Dynamic}
 use Rattle.pb_value.specs.WellFormed.{IsWellFormed}
+use Rattle.pb_json.specs.Answers.{refused_view}
+use Rattle.pb_json.specs.Refusals as json
+use Rattle.pb_json.specs.declared.error.JsonError.{JsonError}
+use Rattle.pb_json.specs.declared.error.JsonError.TheVariants as json_error
+use Rattle.pb_json.specs.declared.form.Layout.{Layout}
 use Rattle.pb_decl.specs.Decls.{DeclaredFile}
 use Rattle.pb_files.specs.Answer.{Answer, stopped, broken, device_failed, IsPrinted}
 use Rattle.pb_command.specs.Answers.{FaultAt, TextAt, FramesAt, FrameFaultAt, FramesBegunAt, AnyFrames, canonical_form}
@@ -17,13 +23,15 @@ use Rattle.pb_command.specs.MessageAnswer.{MessageAnswer}
 use Rattle.pb_command.specs.RawAnswer.{RawAnswer}
 use Rattle.pb_files.specs.Refusal.{ByRefusal, Refuses}
 use Rattle.pb_files.specs.Report.{output_name}
+use Rattle.pb_output.specs.Sending.{Cut, Sent}
 use Rattle.pb_command.specs.TypeAnswer.{TypeAnswer}
 use Rattle.pb_command.specs.TypesAnswer.{TypesAnswer}
+use Rattle.pb_command.specs.JsonAnswer.{IsJsonLine}
 use Rattle.pb_files.specs.Known.{IsReadOf, OfFiles}
 use Rattle.pb_files.specs.SetFile.{HasType}
 use Rattle.pb_files.specs.declared.set_file.Reading.{Reading}
 use Rattle.pb_command.specs.declared.command.Command.{Command}
-use Rattle.pb_command.specs.declared.command.Command.TheVariants.{Raw, Check, Show, Canon, Frames, Compile}
+use Rattle.pb_command.specs.declared.command.Command.TheVariants.{Raw, Check, Show, Canon, Json, Frames, Compile}
 use Rattle.pb_command.specs.declared.command.Command.TheVariants as command
 use Rattle.pb_command.specs.declared.command.Source.{Source}
 use Rattle.pb_command.specs.declared.form.Form.{Form}
@@ -64,6 +72,16 @@ IsNothing text = text ≡ []
 -- no file is written
 abbrev pub NoFile : Option (List ℕ × List ℕ) → Type 0
 NoFile saved = saved ≡ None
+
+-- A MESSAGE AS JSON
+
+module _ {D : Type 0} (written : D → Option (List ℕ)) (failures : D → ℕ) (old new : D) (layout : Layout) (m : Dynamic) where
+  -- its line went out whole, or a prefix of it before the output failed; or there is none, and nothing went out
+  abbrev pub WritesLine : Result Unit JsonError → Type 0
+  WritesLine (Ok u) = (json.refused m ≡ None) × ((line : List ℕ) × IsJsonLine layout m line × Sent written failures old new line)
+  WritesLine (Err json_error.Output) = (json.refused m ≡ None) × ((line : List ℕ) × IsJsonLine layout m line × Cut written failures old new line)
+  WritesLine (Err (json_error.Refused x)) = (json.refused m ≡ Some (refused_view x)) × (new ≡ old)
+  WritesLine (Err json_error.Memory) = new ≡ old
 
 module _ {F : Type 0} (contents : F → Option FileMap) (is_steady : F → Bool) (files : F) where
   -- WHERE A TYPE IS KNOWN: what comes of the file of its messages, that at a path
@@ -157,6 +175,7 @@ module _ {F : Type 0} (contents : F → Option FileMap) (is_steady : F → Bool)
   RightOf (Check source) a = MessageOf form.Check source a
   RightOf (Show source) a = MessageOf form.Listing source a
   RightOf (Canon to source) a = MessageOf (canonical_form to) source a
+  RightOf (Json layout source) a = MessageOf (form.Json layout) source a
   RightOf (Frames source) a = StreamOf source a
   RightOf (command.Types reading set name) a = TypesOf reading set.now (option_map (λ n. n.now) name) a
   RightOf (Compile roots out names) a = CompileOf (roots_of roots) out.now (texts_of names.now) a
@@ -166,6 +185,7 @@ module _ {F : Type 0} (contents : F → Option FileMap) (is_steady : F → Bool)
   BegunOf (Check source) text = IsNothing text
   BegunOf (Show source) text = IsNothing text
   BegunOf (Canon to source) text = IsNothing text
+  BegunOf (Json layout source) text = IsNothing text
   BegunOf (Frames source) text = StreamBegun source text
   BegunOf (command.Types reading set name) text = IsNothing text
   BegunOf (Compile roots out names) text = IsNothing text

@@ -1,6 +1,7 @@
 //! The commands.
 
 use pb_files::Reading;
+use pb_json::Layout;
 
 /// Where messages and their type are read: the file of the messages, and the type's name in the descriptor set of another
 /// file, which is read strictly or leniently.
@@ -38,6 +39,11 @@ pub enum Command<'a> {
     /// Writes the canonical bytes of a file's message: as a line of hexadecimal, or to the file `out`.
     Canon {
         out: Option<&'a str>,
+        source: Source<'a>,
+    },
+    /// Writes the message of a file as JSON.
+    Json {
+        layout: Layout,
         source: Source<'a>,
     },
     /// Shows the messages of a file, each behind its length.

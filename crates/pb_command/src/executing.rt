@@ -108,6 +108,14 @@ fn perform<'a, F: Files, O: Output>(
             files,
             out,
         ),
+        Command::Json { layout, source } => message(
+            alloc,
+            afterwards,
+            Form::Json(*layout),
+            source,
+            files,
+            out,
+        ),
         Command::Frames { source } => frames(alloc, afterwards, source, files, out),
         Command::Types { reading, set, name } => types(
             alloc, afterwards, *reading, set, *name, files, out,

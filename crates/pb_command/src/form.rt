@@ -6,15 +6,17 @@ ghost use Rattle.pb_encode.specs.Encoding.{bytes_of};
 ghost use Rattle.pb_files.specs.Answer.{done, saves, refused};
 ghost use Rattle.pb_files.specs.FileMap.{IsSaved, IsUnsaved};
 ghost use Rattle.pb_listing.specs.Listing.{listing};
+ghost use Rattle.pb_command.specs.JsonAnswer.{JsonAnswer};
 ghost use Rattle.pb_command.specs.MessageAnswer.{CanonAnswer, FormAnswer};
 ghost use Rattle.pb_listing.specs.RawListing.{line_feed};
 ghost use Rattle.pb_files.specs.Refusal.{KeepsFailures, Refuses};
 ghost use Rattle.pb_files.specs.Report.{too_large_line};
 ghost use Rattle.pb_output.specs.Sending.{Cut, Sent};
-ghost use Rattle.pb_command.specs.Steps.{Comes, IsNothing, NoFile};
+ghost use Rattle.pb_command.specs.Steps.{Comes, IsNothing, NoFile, WritesLine};
 
 use pb_encode::{EncodeError, encode};
 use pb_files::{Files, OUTPUT, Refusal};
+use pb_json::{JsonError, JsonForm, Layout, Names, write_json};
 use pb_listing::write_message;
 use pb_output::Sink;
 use pb_value::DynamicMessage;
@@ -26,6 +28,8 @@ pub enum Form<'a> {
     /// A line that says that it is one.
     Check,
     Listing,
+    /// Its JSON text, and a line feed.
+    Json(Layout),
     /// Its canonical bytes, as a line of hexadecimal.
     Canonical,
     /// Its canonical bytes, in the file of a path.
@@ -48,6 +52,7 @@ pub fn make<'a, F: Files, O: Output>(
     match form {
         Form::Check => print_ok(out),
         Form::Listing => print_listing(message, out),
+        Form::Json(layout) => print_json(layout, message, out),
         Form::Canonical => print_canonical(message, out),
         Form::CanonicalFile(path) => save_canonical(message, path, files),
     }
@@ -73,6 +78,46 @@ fn print_listing<'a, O: Output>(
     match write_message(out, message) {
         Ok(()) => Ok(()),
         Err(_) => Err(Refusal::Device(OUTPUT)),
+    }
+}
+
+fn print_json<'a, O: Output>(
+    layout: Layout,
+    message: &DynamicMessage<'_>,
+    out: &mut O,
+) -> Result<(), Refusal<'a>>
+    ensures { Comes (Sent O.written O.failures out.old out.new) (Cut O.written O.failures out.old out.new) NoFile (λ _. ⊥)
+        (JsonAnswer layout message.now) IsNothing result }
+{
+    match write_json_line(layout, message, out) {
+        Ok(()) => Ok(()),
+        Err(JsonError::Refused(refusal)) => Err(Refusal::Json {
+            path: refusal.path,
+            cause: refusal.cause,
+        }),
+        Err(JsonError::Memory) => Err(Refusal::Memory),
+        Err(JsonError::Output) => Err(Refusal::Device(OUTPUT)),
+    }
+}
+
+/// The JSON text of a message, and a line feed.
+fn write_json_line<O: Output>(
+    layout: Layout,
+    message: &DynamicMessage<'_>,
+    out: &mut O,
+) -> Result<(), JsonError>
+    ensures { WritesLine O.written O.failures out.old out.new layout message.now result }
+{
+    let form = JsonForm {
+        names: Names::LowerCamel,
+        layout,
+    };
+    if let Err(error) = write_json(out, message.alloc(), &message.view(), form) {
+        return Err(error);
+    }
+    match write_all(out, b"\n") {
+        Ok(()) => Ok(()),
+        Err(_) => Err(JsonError::Output),
     }
 }
 

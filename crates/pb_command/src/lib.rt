@@ -18,3 +18,4 @@ pub use afterwards::Afterwards;
 pub use command::{Command, Roots, Source};
 pub use executing::{execute, execute_then};
 pub use pb_files::{Files, HostFiles, MemFiles, Reading, Refusal};
+pub use pb_json::Layout;

@@ -9,9 +9,9 @@ use Rattle.pb_rules.specs.declared.error.LinkError.{LinkError}
 use Rattle.pb_rules.specs.declared.error.LinkError.TheVariants as link
 use Rattle.pb_files.specs.Answer.{Answer, refused, device_failed}
 use Rattle.pb_files.specs.Report.{fault_line, set_fault_line, set_cause_line, link_line, type_line, too_large_line}
-use Rattle.pb_files.specs.Report.{frame_fault_line, source_line, device_line, memory_line}
+use Rattle.pb_files.specs.Report.{frame_fault_line, source_line, json_line, device_line, memory_line}
 use Rattle.pb_files.specs.declared.report.Refusal.{Refusal}
-use Rattle.pb_files.specs.declared.report.Refusal.TheVariants.{Fault, Set, SetFile, Link, UnknownType, TooLarge, Frame, Source, Device, File, Memory}
+use Rattle.pb_files.specs.declared.report.Refusal.TheVariants.{Fault, Set, SetFile, Link, UnknownType, TooLarge, Frame, Source, Json, Device, File, Memory}
 
 abbrev pub refusal_line : Refusal → List ℕ
 refusal_line (Fault byte path cause) = fault_line (fault byte path.items cause)
@@ -22,6 +22,7 @@ refusal_line (UnknownType name) = type_line name.now
 refusal_line TooLarge = too_large_line
 refusal_line (Frame index byte path cause) = frame_fault_line index (fault byte path.items cause)
 refusal_line (Source file byte cause) = source_line (string_bytes file) byte cause
+refusal_line (Json path cause) = json_line path.items cause
 refusal_line (Device path) = device_line path.now
 refusal_line (File path) = device_line (string_bytes path)
 refusal_line Memory = memory_line
@@ -36,6 +37,7 @@ refusal_status (UnknownType name) = 1
 refusal_status TooLarge = 1
 refusal_status (Frame index byte path cause) = 1
 refusal_status (Source file byte cause) = 1
+refusal_status (Json path cause) = 1
 refusal_status (Device path) = 3
 refusal_status (File path) = 3
 refusal_status Memory = 3
@@ -50,6 +52,7 @@ names_device (UnknownType name) = false
 names_device TooLarge = false
 names_device (Frame index byte path cause) = false
 names_device (Source file byte cause) = false
+names_device (Json path cause) = false
 names_device (Device path) = true
 names_device (File path) = true
 names_device Memory = false
@@ -68,6 +71,7 @@ ByRefusal Input Failed OutOfMemory (UnknownType name) = Input (type_line name.no
 ByRefusal Input Failed OutOfMemory TooLarge = Input too_large_line
 ByRefusal Input Failed OutOfMemory (Frame index byte path cause) = Input (frame_fault_line index (fault byte path.items cause))
 ByRefusal Input Failed OutOfMemory (Source file byte cause) = Input (source_line (string_bytes file) byte cause)
+ByRefusal Input Failed OutOfMemory (Json path cause) = Input (json_line path.items cause)
 ByRefusal Input Failed OutOfMemory (Device path) = Failed path.now
 ByRefusal Input Failed OutOfMemory (File path) = Failed (string_bytes path)
 ByRefusal Input Failed OutOfMemory Memory = OutOfMemory

@@ -1,5 +1,5 @@
 -- The lines that tell why a command was refused.
-use Rattle.std.specs.Prelude.{ℕ, List, [], ◌∷◌, ◌++◌, codes, decimal}
+use Rattle.std.specs.Prelude.{ℕ, List, [], ◌∷◌, ◌++◌, codes, decimal, flat_map}
 use Rattle.pb_wire.specs.Fault.{Fault}
 use Rattle.pb_wire.specs.CauseName.{name_of}
 use Rattle.pb_wire.specs.PathText.{path_text}
@@ -7,6 +7,8 @@ use Rattle.pb_descr.specs.CauseName as descr
 use Rattle.pb_descr.specs.declared.cause.DeclCause.{DeclCause}
 use Rattle.pb_rules.specs.CauseName.{cause_name}
 use Rattle.pb_rules.specs.declared.cause.LinkCause.{LinkCause}
+use Rattle.pb_json.specs.CauseName as json
+use Rattle.pb_json.specs.declared.error.JsonCause.{JsonCause}
 use Rattle.pb_tokens.specs.CauseName as source
 use Rattle.pb_tokens.specs.declared.fault.SourceCause.{SourceCause}
 
@@ -51,6 +53,15 @@ too_large_line = codes "output cause TooLarge\n"
 -- where a stream is refused, behind so many frames
 abbrev pub frame_fault_line : ℕ → Fault → List ℕ
 frame_fault_line index f = codes "frame " ++ decimal index ++ codes " " ++ fault_line f
+
+-- the numbers of fields, outermost first, joined by dots, or `-` where there are none
+abbrev pub fields_text : List ℕ → List ℕ
+fields_text [] = codes "-"
+fields_text (n ∷ ns) = decimal n ++ flat_map (λ k. codes "." ++ decimal k) ns
+
+-- which part of a message has no JSON form, by the fields that lead to it
+abbrev pub json_line : List ℕ → JsonCause → List ℕ
+json_line path c = codes "json path " ++ fields_text path ++ cause_end (json.name_of c)
 
 -- a device failed, or a file is not there
 abbrev pub device_line : List ℕ → List ℕ

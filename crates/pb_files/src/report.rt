@@ -1,15 +1,16 @@
 //! Why a command is refused, and the line that tells it.
 
-ghost use Rattle.std.specs.Prelude.{◌≡◌, ◌≤◌, ◌++◌, codes, decimal, length, MatchResult};
+ghost use Rattle.std.specs.Prelude.{◌≡◌, ◌≤◌, ◌++◌, codes, decimal, flat_map, length, MatchResult};
 ghost use Rattle.pb_wire.specs.Fault.{fault};
 ghost use Rattle.pb_wire.specs.PathText.{dotted, path_text, step_text};
-ghost use Rattle.pb_files.specs.Report.{cause_end, device_line, fault_line, frame_fault_line, link_line};
+ghost use Rattle.pb_files.specs.Report.{cause_end, device_line, fault_line, fields_text, frame_fault_line, json_line, link_line};
 ghost use Rattle.pb_files.specs.Report.{set_cause_line, set_fault_line, shown_name, source_line, type_line};
 ghost use Rattle.pb_files.specs.Refusal.{refusal_line, refusal_status};
 ghost use Rattle.pb_output.specs.Sending.{Cut, Sent, SentOrCut};
 ghost use Rattle.pb_output.specs.Sink.{Puts};
 
 use pb_descr::{DeclCause, DescrError};
+use pb_json::JsonCause;
 use pb_link::{LinkCause, LinkError};
 use pb_output::Sink;
 use pb_tokens::SourceCause;
@@ -61,6 +62,11 @@ pub enum Refusal<'a> {
         file: String,
         byte: u64,
         cause: SourceCause,
+    },
+    /// The first part of a message that has no JSON form: the numbers of the fields that lead to it, outermost first, and why.
+    Json {
+        path: Vec<u32>,
+        cause: JsonCause,
     },
     /// The device of this path failed, or the file is not there.
     Device(&'a str),
@@ -151,7 +157,8 @@ impl Refusal<'_> {
             | Refusal::UnknownType(_)
             | Refusal::TooLarge
             | Refusal::Frame { .. }
-            | Refusal::Source { .. } => 1,
+            | Refusal::Source { .. }
+            | Refusal::Json { .. } => 1,
             Refusal::Device(_) | Refusal::File(_) | Refusal::Memory => 3,
         }
     }
@@ -202,6 +209,7 @@ fn put_refusal<O: Output>(sink: &mut Sink, out: &mut O, refusal: &Refusal<'_>)
             *byte,
             *cause,
         ),
+        Refusal::Json { path, cause } => put_json(sink, out, path, *cause),
         Refusal::Device(path) => put_device(sink, out, path),
         Refusal::File(path) => put_device(sink, out, path.as_str()),
         Refusal::Memory => sink.put(out, b"memory\n"),
@@ -356,6 +364,44 @@ fn put_step<O: Output>(sink: &mut Sink, out: &mut O, separator: &[u8], step: Pat
     sink.held.push(b"[");
     sink.held.push_decimal(u64::from(step.occurrence));
     sink.held.push(b"]");
+}
+
+fn put_json<O: Output>(sink: &mut Sink, out: &mut O, path: &[u32], cause: JsonCause)
+    ensures { Puts O.written O.failures out.old out.new sink.old sink.new (json_line path.now cause) }
+{
+    sink.put(out, b"json path ");
+    put_fields(sink, out, path);
+    put_cause(sink, out, cause.name());
+}
+
+/// The numbers of fields joined by dots, or `-` where there are none.
+fn put_fields<O: Output>(sink: &mut Sink, out: &mut O, path: &[u32])
+    ensures { Puts O.written O.failures out.old out.new sink.old sink.new (fields_text path.now) }
+{
+    let Some((first, others)) = path.split_first() else {
+        sink.put(out, b"-");
+        return;
+    };
+    put_number(sink, out, b"", *first);
+    put_numbers(sink, out, others);
+}
+
+/// Each number after a dot.
+fn put_numbers<O: Output>(sink: &mut Sink, out: &mut O, numbers: &[u32])
+    ensures { Puts O.written O.failures out.old out.new sink.old sink.new (flat_map (λ k. codes "." ++ decimal k) numbers.now) }
+{
+    for number in numbers {
+        put_number(sink, out, b".", *number);
+    }
+}
+
+fn put_number<O: Output>(sink: &mut Sink, out: &mut O, separator: &[u8], number: u32)
+    requires { length separator.now ≤ 1 }
+    ensures { Puts O.written O.failures out.old out.new sink.old sink.new (separator.now ++ decimal number) }
+{
+    sink.make_room(out, 32);
+    sink.held.push(separator);
+    sink.held.push_decimal(u64::from(number));
 }
 
 fn put_device<O: Output>(sink: &mut Sink, out: &mut O, path: &str)

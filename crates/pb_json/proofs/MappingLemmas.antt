@@ -1,6 +1,6 @@
 -- The members and elements of a message's JSON, one by one.
-use Rattle.std.proofs.Common.{◌≡◌, ℕ, suc, ◌+◌, ◌<◌, ◌≤◌, max, List, [], ◌∷◌, ◌++◌, length, drop, get_or, Option, None, Some, refl, rules, sym, ap, ◌∙◌, subst, arith}
-use Rattle.std.specs.Prelude.{Bool, true, false, option_map, ℤ}
+use Rattle.std.proofs.Common.{◌≡◌, ℕ, suc, ◌+◌, ◌<◌, ◌≤◌, max, List, [], ◌∷◌, ◌++◌, length, drop, get_or, Option, None, Some, rules, sym, ap, ◌∙◌, subst, arith}
+use Rattle.std.specs.Prelude.{Bool, false, option_map, ℤ}
 use Rattle.std.specs.Option.{option_map_or}
 use Rattle.std.proofs.lemmas.List.{drop_more}
 use Rattle.pb_schema.specs.declared.types.Kind.{Kind}
@@ -15,7 +15,7 @@ use Rattle.pb_value.specs.declared.body.Value.TheVariants as value
 use Rattle.pb_schema.specs.Scalar.{enum}
 use Rattle.pb_json.specs.declared.form.Layout.{Layout}
 use Rattle.pb_json.specs.declared.form.Names.{Names}
-use Rattle.pb_json.specs.Json.{Json, null, object, Elements, element, Members, member}
+use Rattle.pb_json.specs.Json.{Json, null, Elements, element, Members, member}
 use Rattle.pb_json.specs.JsonNames.{member_name}
 use Rattle.pb_json.specs.JsonText.{IsJsonText, AreElements, AreMembers, separator, new_line, member_start}
 use Rattle.pb_json.specs.declared.well_known.WellKnown.{WellKnown}

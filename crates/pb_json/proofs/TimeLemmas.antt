@@ -1,6 +1,6 @@
 -- Days and seconds of the calendar.
 use Rattle.std.proofs.Common.{◌≡◌, ℕ, ◌+◌, ◌*◌, ◌<◌, List, ◌∷◌, ◌++◌, refl, sym, ap, ◌∙◌, subst, arith, append_assoc, codes}
-use Rattle.std.specs.Prelude.{Bool, ◌||◌, decimal, int_lt, ℤ, pos, neg_ℤ, ◌+ℤ◌, ◌-ℤ◌, ◌*ℤ◌, ◌≤ℤ◌, ◌<ℤ◌, unsigned_abs}
+use Rattle.std.specs.Prelude.{Bool, ◌||◌, decimal, int_lt, ℤ, pos, ◌+ℤ◌, ◌-ℤ◌, ◌*ℤ◌, ◌≤ℤ◌, unsigned_abs}
 use Rattle.std.proofs.lemmas.Int.{by_lt_z, ints}
 use Rattle.jiff_core.specs.declared.civil.date.Date.{Date}
 use Rattle.jiff_core.specs.Calendar.{IsCivilDate, days_from_civil, day_count, days_of_years, days_of_months}
@@ -9,7 +9,7 @@ use Rattle.jiff_core.proofs.CalendarLemmas.{day_count-lt_year, days_from_civil-d
 use Rattle.jiff_core.proofs.DateLemmas.{civil}
 use Rattle.pb_json.specs.Json.{instant}
 use Rattle.pb_json.specs.JsonText.{IsJsonText, in_quotes}
-use Rattle.pb_json.specs.Times.{IsDateText, IsInstantText, date_text, fraction, sign, span_text, time_text}
+use Rattle.pb_json.specs.Times.{IsDateText, date_text, fraction, sign, span_text, time_text}
 use Rattle.pb_json.specs.declared.form.Layout.{Layout}
 
 -- DATES

@@ -3,6 +3,7 @@
 
 mod calls;
 mod compiled;
+mod json;
 mod lenient;
 mod typed;
 
@@ -260,6 +261,9 @@ const NO_COMMANDS: &[&[&str]] = &[
     &["show", "f", "T"],
     &["canon", "--out", "f", "T", "f"],
     &["frames", "--out", "g", "f", "T", "f"],
+    &["json", "f", "T"],
+    &["json", "--pretty", "--short", "f", "T", "f"],
+    &["show", "--pretty", "f", "T", "f"],
     &["raw", "--lenient", "f"],
     &["types"],
     &["types", "f", "N", "g"],

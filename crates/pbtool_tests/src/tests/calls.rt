@@ -2,7 +2,7 @@
 //! rows of the command for the same bytes.
 
 use super::{FLAT, NONE, files_of};
-use pb_cli::{Afterwards, Command, Reading, Source, execute, execute_then, run_then};
+use pb_cli::{Afterwards, Command, Layout, Reading, Source, execute, execute_then, run_then};
 use pb_decode::decode;
 use pb_descr::{FileDecl, read_set};
 use pb_link::link;
@@ -132,10 +132,17 @@ fn commands(rt: HostRuntime) -> Result<(), Fail> {
         type_name: "N",
         ..source
     };
-    let rows: [(Command<'_>, Comes); 7] = [
+    let rows: [(Command<'_>, Comes); 8] = [
         (Command::Show { source }, (0, b"a: 150\n", b"")),
         (Command::Check { source }, (0, b"ok\n", b"")),
         (Command::Canon { out: None, source }, (0, b"089601\n", b"")),
+        (
+            Command::Json {
+                layout: Layout::Indented,
+                source,
+            },
+            (0, b"{\n  \"a\": 150\n}\n", b""),
+        ),
         (
             Command::Frames { source: frames },
             (0, b"frame 0 at 0 size 4\n  a: 150\n", b""),

@@ -42,11 +42,13 @@ const ROWS: &str = r#"
 check s shop.Item m|!set file 0 cause Extension
 show s shop.Item m|!set file 0 cause Extension
 canon s shop.Item m|!set file 0 cause Extension
+json s shop.Item m|!set file 0 cause Extension
 frames s shop.Item f|!set file 0 cause Extension
 types s|!set file 0 cause Extension
 check --lenient s shop.Item m|ok
 show --lenient s shop.Item m|id: 5|name: "x"|sizes {|  key: "a"|  value: LARGE|}|? 100 len 2 6869|? 101 varint 7
 canon --lenient s shop.Item m|08051201781a050a01611001a206026869a80607
+json --lenient s shop.Item m|{"id":5,"name":"x","sizes":[{"key":"a","value":"LARGE"}]}
 frames --lenient s shop.Item f|frame 0 at 0 size 21|  id: 5|  name: "x"|  sizes {|    key: "a"|    value: LARGE|  }|  ? 100 len 2 6869|  ? 101 varint 7|frame 1 at 21 size 1
 show --lenient s shop.Item u|sizes {|  key: "b"|  ? 2 varint 9|}
 canon --lenient s shop.Item u|1a050a01621009

@@ -16,6 +16,9 @@ returns-in-Show-clause-comes g c = rw c.in-Show.is c.message-in-Show.ensures.com
 pub returns-in-Canon-clause-comes : goal.returns-in-Canon-clause-comes
 returns-in-Canon-clause-comes g c = rw c.in-Canon.is (rw c.form_of.ensures at c.message-in-Canon.ensures.comes)
 
+pub returns-in-Json-clause-comes : goal.returns-in-Json-clause-comes
+returns-in-Json-clause-comes g c = rw c.in-Json.is c.message-in-Json.ensures.comes
+
 pub returns-in-Frames-clause-comes : goal.returns-in-Frames-clause-comes
 returns-in-Frames-clause-comes g c = rw c.in-Frames.is c.frames.ensures.comes
 

@@ -1,4 +1,4 @@
-use Rattle.std.proofs.Common.{◌≡◌, ap, List, ℕ, subst}
+use Rattle.std.proofs.Common.{List, ℕ, subst}
 use Rattle.std.specs.List.{flat_map}
 use Rattle.pb_value.proofs.FieldViews.{get_field-found}
 use Rattle.pb_output.proofs.SinkLemmas.{puts_none}

@@ -1,4 +1,4 @@
-use Rattle.std.proofs.Common.{[], drop_of_length-le, refl}
+use Rattle.std.proofs.Common.{[], refl}
 use Rattle.pb_json.proofs.NameLemmas.{letters_joined}
 use Rattle.pb_json.proofs.PathLemmas.{next_path}
 use Rattle.pb_output.proofs.SinkLemmas.{puts_none, puts_then}
