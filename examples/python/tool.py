@@ -1,4 +1,4 @@
-"""The words of pbtool, by the library: tool.py check|show|canon|frames [--lenient] SET TYPE FILE, tool.py short FILE, tool.py compile ROOT FILE..
+"""The words of pbtool, by the package mabristu: tool.py check|show|canon|frames [--lenient] SET TYPE FILE, tool.py short FILE, tool.py compile ROOT FILE..
 Canonical bytes and listing once more, of a message that the library holds: tool.py encode|list [--lenient] SET TYPE FILE, and of an empty message:
 tool.py empty SET TYPE FILE. How many parts of a set lenient reading leaves out: tool.py omitted SET. What a
 field is: tool.py field SET TYPE NAME"""
@@ -14,9 +14,9 @@ def read(name):
 
 def frames(order, name):
     with open(name, "rb") as file:
-        for number, (at, size, message) in enumerate(order.frames(file)):
-            yield f"frame {number} at {at} size {size}\n"
-            yield "".join(f"  {line}\n" for line in order.show(message).split("\n")[:-1])
+        for number, frame in enumerate(order.frames(file)):
+            yield f"frame {number} at {frame.at} size {frame.size}\n"
+            yield "".join(f"  {line}\n" for line in order.listing(frame.data).split("\n")[:-1])
 
 
 def told(command, *words):
@@ -29,27 +29,26 @@ def told(command, *words):
         mabristu.Pool.of_sources({name: read(f"{words[0]}/{name}") for name in words[1:]})
     elif command == "field":
         set_name, type_name, name = words
-        field = mabristu.Pool(read(set_name)).type(type_name).field(name)
-        yield f"{field.number} {field.kind} {field.shape} {field.key} {field.type_of}\n"
+        yield " ".join(map(str, mabristu.Pool(read(set_name))[type_name].field(name).numbers)) + "\n"
     elif command == "omitted":
         yield f"{mabristu.Pool(read(words[0]), lenient=True).left_out}\n"
     else:
         *options, set_name, type_name, name = words
-        found = mabristu.Pool(read(set_name), lenient="--lenient" in options).type(type_name)
+        found = mabristu.Pool(read(set_name), lenient="--lenient" in options)[type_name]
         if command == "check":
             found.check(read(name))
             yield "ok\n"
         elif command == "show":
-            yield found.show(read(name))
+            yield found.listing(read(name))
         elif command == "canon":
-            yield found.canon(read(name)).hex() + "\n"
+            yield found.canonical(read(name)).hex() + "\n"
         elif command in ("encode", "empty"):
             message = found.decode(read(name)) if command == "encode" else found.new()
             encoded = message.encode()
             assert message.encoded_length() == len(encoded)
             yield encoded.hex() + "\n"
         elif command == "list":
-            yield found.decode(read(name)).show()
+            yield found.decode(read(name)).listing()
         else:
             yield from frames(found, name)
 
@@ -59,8 +58,11 @@ def main(words):
         for part in told(*words):
             sys.stdout.write(part)
         return 0
-    except (mabristu.Refused, LookupError) as refused:
-        print(refused.args[0], file=sys.stderr)
+    except mabristu.Refused as refused:
+        print(refused, file=sys.stderr)
+        return 1
+    except LookupError as unknown:
+        print(unknown.args[0], file=sys.stderr)
         return 1
     except OSError as failure:
         print(f"device {failure.filename}", file=sys.stderr)

@@ -476,7 +476,8 @@ static PyObject *type_find(PyObject *self, PyObject *args, PyObject *kwargs)
     struct mb_field last;
     struct mb_value value = {0, 0};
     struct call call;
-    size_t at = 0;
+    uint8_t small[256], *out = small;
+    size_t out_len = sizeof small;
     PyObject *none, *answer = NULL;
 
     if (kwargs != NULL) {
@@ -490,9 +491,22 @@ static PyObject *type_find(PyObject *self, PyObject *args, PyObject *kwargs)
     count = find_path(call.type, args, numbers, &last);
     if (count < 0 || !set_limits(max_bytes, max_depth, &call.limits) || !take_input(PyTuple_GetItem(args, 0), &call.in))
         return NULL;
-    RUN(&call, is_long(&call), CALL(&call, mb_find, numbers, (size_t)count, &value, &at));
+    for (;;) {
+        RUN(&call, is_long(&call), CALL(&call, mb_find, numbers, (size_t)count, &value, out, out_len));
+        if (call.answer != MB_DONE || (value.kind != MB_STRING && value.kind != MB_BYTES) || value.number <= out_len)
+            break;
+        out_len = (size_t)value.number;
+        out = PyMem_Malloc(out_len);
+        if (out == NULL) {
+            out = small;
+            call.answer = MB_MEMORY;
+            break;
+        }
+    }
     if (call.answer == MB_DONE)
-        answer = found_value(&value, call.in.at + at);
+        answer = found_value(&value, out);
+    if (out != small)
+        PyMem_Free(out);
     if (call.answer == MB_ABSENT) {
         call.answer = MB_DONE;
         answer = default_of(&last);

@@ -60,3 +60,11 @@ pub struct Frame {
     pub begin: usize,
     pub end: usize,
 }
+
+#[cfg(any(mb_find, mb_message_get))]
+#[repr(C)]
+#[derive(Clone, Copy, Debug, Default, PartialEq, Eq)]
+pub struct Value {
+    pub kind: u32,
+    pub number: u64,
+}

@@ -1,7 +1,7 @@
 //! From what a call answers to a result.
-use super::calls::{self, MAX_STEPS};
-use super::error::Error;
-use super::structs::{Fault, Refusal, Step};
+use crate::calls::{self, MAX_STEPS};
+use crate::structs::{Fault, Refusal, Step};
+use crate::{Cause, Error};
 
 /// Room for a fault and its whole path.
 pub struct Told {
@@ -20,8 +20,9 @@ impl Told {
             calls::DONE => return Ok(()),
             calls::FAULT => {
                 let Fault { byte, steps, cause } = self.fault;
-                Error::Fault { byte, path: self.path[..steps.min(MAX_STEPS)].to_vec(), cause }
+                Error::Fault { byte, path: self.path[..steps.min(MAX_STEPS)].to_vec(), cause: Cause(cause) }
             }
+            calls::BAD_LIMITS => Error::BadLimits,
             calls::NO_TYPE => Error::NoType,
             calls::ABSENT => Error::NoField,
             calls::TOO_LARGE => Error::TooLarge,
@@ -34,25 +35,29 @@ impl Told {
     pub fn judge_link(&self, answer: u32, refusal: &Refusal, text: &[u8], names: &[&str]) -> Result<(), Error> {
         let &Refusal { file, byte, file_len, name_len } = refusal;
         let name = |from: usize, len: usize| String::from_utf8_lossy(&text[from..from + len]).into_owned();
+        let cause = Cause(answer);
         match answer {
-            71.. => Err(Error::Link { file: name(0, file_len), name: name(file_len, name_len), cause: answer }),
-            50 | 61.. => Err(Error::Source { file: names[file].to_owned(), byte, cause: answer }),
-            52.. => Err(Error::Set { file, cause: answer }),
+            71.. => Err(Error::Link { file: name(0, file_len), name: name(file_len, name_len), cause }),
+            50 | 61.. => Err(Error::Source { file: names[file].to_owned(), byte, cause }),
+            52.. => Err(Error::Set { file, cause }),
             _ => self.judge(answer),
         }
     }
 }
 
-/// Makes a call that tells a fault and nothing else.
+/// Makes a call that reports a fault and nothing else.
 pub fn judged(call: impl FnOnce(&mut Fault, *mut Step, usize) -> u32) -> Result<(), Error> {
     let mut told = Told::new();
     let answer = call(&mut told.fault, told.path.as_mut_ptr(), MAX_STEPS);
     told.judge(answer)
 }
 
-/// What a call writes. Where it is more than there is room for, the call tells how much it is, and is made again.
-pub fn written(call: impl Fn(*mut u8, usize, &mut usize, &mut Fault, *mut Step, usize) -> u32) -> Result<Vec<u8>, Error> {
-    let (mut out, mut size) = (vec![0; 4096], 0);
+/// What a call writes, into a buffer of the length that it should have. Where it is longer, the call reports that, and is made again.
+pub fn written(
+    expected: usize,
+    mut call: impl FnMut(*mut u8, usize, &mut usize, &mut Fault, *mut Step, usize) -> u32,
+) -> Result<Vec<u8>, Error> {
+    let (mut out, mut size) = (vec![0; expected.clamp(256, 1 << 24)], 0);
     loop {
         judged(|fault, path, steps| call(out.as_mut_ptr(), out.len(), &mut size, fault, path, steps))?;
         let is_whole = size <= out.len();
@@ -63,7 +68,12 @@ pub fn written(call: impl Fn(*mut u8, usize, &mut usize, &mut Fault, *mut Step, 
     }
 }
 
-/// Makes a call that links types. Where the names that it tells are longer than the room, it is made again.
+/// The same of a call that reports no fault.
+pub fn written_alone(mut call: impl FnMut(*mut u8, usize, &mut usize) -> u32) -> Result<Vec<u8>, Error> {
+    written(4096, |out, room, size, _, _, _| call(out, room, size))
+}
+
+/// Makes a call that links types. Where the names that it reports are longer than the buffer for them, it is made again.
 pub fn linked(names: &[&str], call: impl Fn(&mut Fault, *mut Step, usize, &mut Refusal, *mut u8, usize) -> u32) -> Result<(), Error> {
     let (mut text, mut refusal, mut told) = (vec![0; 256], Refusal::default(), Told::new());
     loop {
