@@ -30,6 +30,18 @@ pub enum Shape {
     Map,
 }
 
+impl Shape {
+    pub fn name(self) -> &'static str {
+        match self {
+            Shape::Implicit => "implicit",
+            Shape::Optional => "optional",
+            Shape::Oneof => "oneof",
+            Shape::List => "list",
+            Shape::Map => "map",
+        }
+    }
+}
+
 /// What a field is.
 #[derive(Clone, Copy, Debug, PartialEq, Eq)]
 pub struct Field {
@@ -41,6 +53,17 @@ pub struct Field {
     pub key: Option<u32>,
     /// The number of the message type, or of the enum, that the kind names, else 0.
     pub type_of: usize,
+}
+
+#[rustfmt::skip]
+const KINDS: [&str; 18] = ["double", "float", "int64", "uint64", "int32", "fixed64", "fixed32", "bool", "string", "group", "message", "bytes", "uint32",
+    "enum", "sfixed32", "sfixed64", "sint32", "sint64"];
+
+impl Field {
+    /// The kind of its values, as a source writes it, or `message` and `enum`.
+    pub fn kind_name(&self) -> &'static str {
+        (self.kind as usize).checked_sub(1).and_then(|kind| KINDS.get(kind)).unwrap_or(&"?")
+    }
 }
 
 /// A message type of a pool, with the limits of its calls. It may go to another thread, and a clone is cheap.
