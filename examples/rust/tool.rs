@@ -1,7 +1,11 @@
 //! The words of pbtool, by the crate mabristu: tool check|show|canon|frames [--lenient] SET TYPE FILE, tool short FILE, tool compile ROOT FILE..
 //! Canonical bytes and listing once more, of a message that the library holds: tool encode|list [--lenient] SET TYPE FILE, and of an empty message: tool empty
-//! SET TYPE FILE. How many parts of a set lenient reading leaves out: tool omitted SET. What a field is: tool field SET TYPE NAME
+//! SET TYPE FILE. How many parts of a set lenient reading leaves out: tool omitted SET. What a field is: tool field SET TYPE NAME. What a message has, a
+//! place a line: tool read [--lenient] SET TYPE FILE, as read.c prints it. The scalar at a path of field numbers, such as 3.1: tool find [--lenient] SET TYPE
+//! FILE PATH
 mod files;
+#[cfg(all(mb_find, mb_message_get))]
+mod values;
 
 use files::{failure, hexadecimal, print, read, refused, Failure};
 use mabristu::{raw_check, raw_short, Error, Field, Limits, Message, MessageType, Pool, StreamError};
@@ -63,6 +67,12 @@ fn run(words: &[&str]) -> Result<(), Failure> {
     if let ["field", set, type_name, name] = words {
         return field(&message_type(&Pool::link(&read(set)?).map_err(of_set)?, type_name)?, name);
     }
+    #[cfg(all(mb_find, mb_message_get))]
+    if let ["find", options @ .., set, name, file, path] = words {
+        let set = read(set)?;
+        let pool = if options.is_empty() { Pool::link(&set) } else { Pool::link_lenient(&set) };
+        return print(values::found(&message_type(&pool.map_err(of_set)?, name)?, &read(file)?, path)?.as_bytes());
+    }
     let (command, pool, name, file) = match words {
         [command, "--lenient", set, name, file] => (command, Pool::link_lenient(&read(set)?), name, file),
         [command, set, name, file] => (command, Pool::link(&read(set)?), name, file),
@@ -77,6 +87,8 @@ fn run(words: &[&str]) -> Result<(), Failure> {
         "encode" => encode(found.decode(&bytes)),
         "empty" => encode(found.empty()),
         "list" => print(found.decode(&bytes).and_then(|message| message.listing()).map_err(refused)?.as_bytes()),
+        #[cfg(all(mb_find, mb_message_get))]
+        "read" => print(values::places(&found.decode(&bytes).map_err(refused)?.whole(), "").map_err(refused)?.as_bytes()),
         _ => frames(&found, &bytes),
     }
 }

@@ -369,10 +369,59 @@ static PyObject *inner(Node *node, struct mb_value step, PyObject *key, uint32_t
     return result;
 }
 
-/* Whether an argument is a field, or the name of one, of the type of a message. */
+PyDoc_STRVAR(read_doc,
+"_read([kind, number, key])\n--\n\nWhat is here, or one step further in, as the library reports it: kind, number, and the bytes, the part, or None.");
+
+static PyObject *node_read(PyObject *self, PyObject *args)
+{
+    Node *node = (Node *)self, *part;
+    struct mb_message *handle = handle_of(node);
+    unsigned kind = 0;
+    unsigned long long number = 0;
+    PyObject *key = NULL, *found = NULL;
+    struct mb_value value = {0, 0};
+    uint32_t answer;
+
+    if (handle == NULL || !PyArg_ParseTuple(args, "|IKS", &kind, &number, &key))
+        return NULL;
+    if (kind == 0) {
+        Py_INCREF(node);
+        part = node;
+    } else {
+        struct mb_value step = {kind, number};
+        part = part_of(node, list_type, step, key);
+        if (part == NULL)
+            return NULL;
+    }
+    answer = mb_message_get(handle, PLACE(part), &value);
+    if (answer != MB_DONE) {
+        Py_DECREF(part);
+        return nothing_there(answer);
+    }
+    if (value.kind == MB_STRING || value.kind == MB_BYTES) {
+        found = read_bytes(part, handle, (size_t)value.number, false);
+    } else if (kind != 0 && (value.kind == MB_LIST || value.kind == MB_MAP || value.kind == MB_MESSAGE)) {
+        struct mb_value step = {kind, number};
+        found = inner(node, step, key, 0);
+    } else {
+        Py_INCREF(found = Py_None);
+    }
+    Py_DECREF(part);
+    return found == NULL ? NULL : Py_BuildValue("IKN", value.kind, (unsigned long long)value.number, found);
+}
+
+/* Whether an argument is a field, or the name or the number of one, of the type of a message. Of a number nothing else is known. */
 static bool field_of(Node *node, PyObject *name, struct mb_field *field)
 {
     Field *found;
+
+    if (PyLong_Check(name) && !PyBool_Check(name)) {
+        unsigned long number = PyLong_AsUnsignedLong(name);
+        if (PyErr_Occurred())
+            return false;
+        *field = (struct mb_field){number <= UINT32_MAX ? (uint32_t)number : 0, 0, 1, 0, 0};
+        return true;
+    }
 
     if (Py_TYPE(name) == (PyTypeObject *)field_type) {
         *field = ((Field *)name)->is;
@@ -552,13 +601,24 @@ static PyObject *list_subscript(PyObject *self, PyObject *index)
 
 /* ---- Maps ---- */
 
+/* The kind of the keys of a map: of one that was reached by a number it is that of the first key. */
+static uint32_t kind_of_keys(Node *node)
+{
+    struct mb_message *handle = node->key == 0 ? handle_of(node) : NULL;
+    struct mb_value key = {0, 0};
+
+    if (handle != NULL && mb_message_key(handle, PLACE(node), 0, &key, NULL, 0) == MB_DONE)
+        node->key = key.kind;
+    return node->key;
+}
+
 /* The step of a key, and its bytes where it is a string. Returns whether the object can be a key: without an exception where it is of another type. */
 static bool step_of_key(Node *node, PyObject *key, struct mb_value *step, PyObject **bytes)
 {
     int is_too_large = 0;
 
     *bytes = NULL;
-    step->kind = node->key;
+    step->kind = kind_of_keys(node);
     if (node->key == MB_STRING) {
         *bytes = PyUnicode_Check(key) ? PyUnicode_AsUTF8String(key) : NULL;
         return *bytes != NULL;
@@ -655,6 +715,36 @@ static PyObject *nth_key(Node *node, struct mb_message *handle, size_t index)
     return result;
 }
 
+PyDoc_STRVAR(key_doc, "_key(index)\n--\n\nThe key at an index, as the library reports it: kind, number, and the bytes of a string, or None.");
+
+static PyObject *map_key(PyObject *self, PyObject *index)
+{
+    Node *node = (Node *)self;
+    struct mb_message *handle = handle_of(node);
+    struct mb_value key = {0, 0};
+    size_t at = handle == NULL ? 0 : PyLong_AsSize_t(index);
+    PyObject *name = NULL;
+
+    if (handle == NULL || PyErr_Occurred())
+        return NULL;
+    uint32_t answer = mb_message_key(handle, PLACE(node), at, &key, NULL, 0);
+    if (answer != MB_DONE)
+        return nothing_there(answer);
+    if (key.kind == MB_STRING) {
+        name = PyBytes_FromStringAndSize(NULL, (Py_ssize_t)key.number);
+        if (name == NULL)
+            return NULL;
+        answer = mb_message_key(handle, PLACE(node), at, &key, (uint8_t *)PyBytes_AsString(name), (size_t)key.number);
+        if (answer != MB_DONE) {
+            Py_DECREF(name);
+            return nothing_there(answer);
+        }
+    } else {
+        Py_INCREF(name = Py_None);
+    }
+    return Py_BuildValue("IKN", key.kind, (unsigned long long)key.number, name);
+}
+
 PyDoc_STRVAR(keys_doc, "keys()\n--\n\nThe keys as a list, in order.");
 
 static PyObject *map_keys(PyObject *self, PyObject *Py_UNUSED(ignored))
@@ -724,12 +814,19 @@ static PyObject *map_items(PyObject *self, PyObject *Py_UNUSED(ignored))
 
 static PyObject *made_list_type(void)
 {
+#ifdef HAVE_MB_MESSAGE_GET
+    static PyMethodDef methods[] = {
+        {"_read", node_read, METH_VARARGS, read_doc},
+        {NULL, NULL, 0, NULL},
+    };
+#endif
     static PyType_Slot slots[] = {
         {Py_tp_doc, "A list in a message."},
         {Py_tp_new, no_new},
         {Py_tp_dealloc, node_dealloc},
         {Py_tp_repr, part_repr},
 #ifdef HAVE_MB_MESSAGE_GET
+        {Py_tp_methods, methods},
         {Py_sq_length, part_length},
         {Py_sq_item, list_item},
         {Py_mp_length, part_length},
@@ -749,6 +846,8 @@ static PyObject *made_map_type(void)
         {"keys", map_keys, METH_NOARGS, keys_doc},
         {"values", map_values, METH_NOARGS, values_doc},
         {"items", map_items, METH_NOARGS, items_doc},
+        {"_key", map_key, METH_O, key_doc},
+        {"_read", node_read, METH_VARARGS, read_doc},
         {NULL, NULL, 0, NULL},
     };
 #endif
@@ -780,6 +879,7 @@ static PyObject *made_message_type(void)
 #ifdef HAVE_MB_MESSAGE_GET
         {"get", message_get, METH_VARARGS, get_doc},
         {"numbers", message_numbers, METH_NOARGS, numbers_doc},
+        {"_read", node_read, METH_VARARGS, read_doc},
 #endif
         {NULL, NULL, 0, NULL},
     };

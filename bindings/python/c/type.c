@@ -437,6 +437,20 @@ static PyObject *found_value(const struct mb_value *value, const uint8_t *at)
     }
 }
 
+/* Reads the numbers of fields after the first argument. Returns how many, or -1. */
+static Py_ssize_t find_numbers(PyObject *args, uint32_t *numbers)
+{
+    Py_ssize_t count = PyTuple_Size(args) - 1;
+
+    for (Py_ssize_t i = 0; i < count; i++) {
+        unsigned long number = PyLong_AsUnsignedLong(PyTuple_GetItem(args, i + 1));
+        if (PyErr_Occurred())
+            return -1;
+        numbers[i] = number <= UINT32_MAX ? (uint32_t)number : 0;
+    }
+    return count;
+}
+
 /* Reads the names of fields after the first argument: the last one's declaration, and the number of each. Returns how many, or -1. */
 static Py_ssize_t find_path(MessageType *type, PyObject *args, uint32_t *numbers, struct mb_field *last)
 {
@@ -446,6 +460,9 @@ static Py_ssize_t find_path(MessageType *type, PyObject *args, uint32_t *numbers
         PyErr_SetString(PyExc_TypeError, "find takes the bytes and the names of fields, from the outermost on");
         return -1;
     }
+    *last = (struct mb_field){0, 0, 1, 0, 0};
+    if (PyLong_Check(PyTuple_GetItem(args, 1)))
+        return find_numbers(args, numbers);
     Py_INCREF(type);
     for (Py_ssize_t i = 0; i < count; i++) {
         Field *field = type == NULL ? NULL : field_by_name(type, PyTuple_GetItem(args, i + 1));
@@ -464,11 +481,15 @@ static Py_ssize_t find_path(MessageType *type, PyObject *args, uint32_t *numbers
     return PyErr_Occurred() ? -1 : count;
 }
 
-PyDoc_STRVAR(find_doc,
-"find(data, *names, max_bytes=MAX_BYTES, max_depth=MAX_DEPTH)\n--\n\nThe value of one field, read from the bytes of a message without building it, which are checked"
-"\nas check does: find(data, \"number\"), find(data, \"invoice\", \"address\"). None, or the default of an implicit field, where it is not set.");
+/* What was found, with its kind, as the library reports it. */
+static PyObject *found_reported(const struct mb_value *value, const uint8_t *at)
+{
+    if (value->kind == MB_STRING || value->kind == MB_BYTES)
+        return Py_BuildValue("IN", value->kind, as_bytes(at, (size_t)value->number));
+    return Py_BuildValue("IK", value->kind, (unsigned long long)value->number);
+}
 
-static PyObject *type_find(PyObject *self, PyObject *args, PyObject *kwargs)
+static PyObject *find(PyObject *self, PyObject *args, PyObject *kwargs, PyObject *(*made)(const struct mb_value *, const uint8_t *))
 {
     static char *names[] = {"max_bytes", "max_depth", NULL};
     Py_ssize_t max_bytes = MB_MAX_BYTES, max_depth = MB_MAX_DEPTH, count;
@@ -504,7 +525,7 @@ static PyObject *type_find(PyObject *self, PyObject *args, PyObject *kwargs)
         }
     }
     if (call.answer == MB_DONE)
-        answer = found_value(&value, out);
+        answer = made(&value, out);
     if (out != small)
         PyMem_Free(out);
     if (call.answer == MB_ABSENT) {
@@ -512,6 +533,23 @@ static PyObject *type_find(PyObject *self, PyObject *args, PyObject *kwargs)
         answer = default_of(&last);
     }
     return end(&call, answer);
+}
+
+PyDoc_STRVAR(find_doc,
+"find(data, *names, max_bytes=MAX_BYTES, max_depth=MAX_DEPTH)\n--\n\nThe value of one field, read from the bytes of a message without building it, which are checked"
+"\nas check does: find(data, \"number\"), find(data, \"invoice\", \"address\"), or find(data, 6, 1) by numbers. None, or the default of an implicit field"
+"\nthat is named, where it is not set.");
+
+static PyObject *type_find(PyObject *self, PyObject *args, PyObject *kwargs)
+{
+    return find(self, args, kwargs, found_value);
+}
+
+PyDoc_STRVAR(find_reported_doc, "_find(data, *numbers)\n--\n\nAs find, with the kind and the number of the value, or its bytes.");
+
+static PyObject *type_find_reported(PyObject *self, PyObject *args, PyObject *kwargs)
+{
+    return find(self, args, kwargs, found_reported);
 }
 #endif
 
@@ -564,6 +602,7 @@ PyObject *make_message_type_type(void)
         {"decode", KEYWORDS(type_decode), METH_VARARGS | METH_KEYWORDS, decode_doc},
 #ifdef HAVE_MB_FIND
         {"find", KEYWORDS(type_find), METH_VARARGS | METH_KEYWORDS, find_doc},
+        {"_find", KEYWORDS(type_find_reported), METH_VARARGS | METH_KEYWORDS, find_reported_doc},
 #endif
         {"new", type_empty, METH_NOARGS, new_doc},
         {"field", type_field, METH_O, field_doc},

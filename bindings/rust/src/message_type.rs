@@ -80,6 +80,11 @@ impl MessageType {
         MessageType { limits, ..self }
     }
 
+    /// The number of the type in its pool.
+    pub fn number(&self) -> u32 {
+        self.number
+    }
+
     /// The pool of the type.
     pub fn pool(&self) -> &Pool {
         &self.pool
@@ -181,6 +186,12 @@ impl MessageType {
             numbers.push(field.number);
             at = at.inner(&field).unwrap_or(at);
         }
+        self.find_numbers(bytes, &numbers)
+    }
+
+    /// As [`MessageType::find`], by the numbers of the fields.
+    #[cfg(mb_find)]
+    pub fn find_numbers(&self, bytes: &[u8], numbers: &[u32]) -> Result<Option<crate::Value>, Error> {
         let Limits { max_bytes, max_depth } = self.limits;
         let mut value = crate::structs::Value::default();
         let mut is_absent = false;

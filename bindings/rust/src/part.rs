@@ -59,9 +59,25 @@ impl<'a> Part<'a> {
         part
     }
 
+    /// The type of the message that is here, or of those in the list or map that is here.
+    fn message_type(&self) -> Result<MessageType, Error> {
+        if let Some(message_type) = &self.message_type {
+            return Ok(message_type.clone());
+        }
+        match self.reported()? {
+            Some(Reported { kind: 11, number }) => Ok(MessageType { number: number as u32, ..self.message.message_type().clone() }),
+            _ => Err(Error::NoField),
+        }
+    }
+
+    /// The field of a number of the message that is here.
+    pub fn number(&self, number: u32) -> Part<'a> {
+        Part { message_type: None, ..self.step(FIELD, u64::from(number)) }
+    }
+
     /// A field of the message that is here.
     pub fn field(&self, name: &str) -> Result<Part<'a>, Error> {
-        let message_type = self.message_type.as_ref().ok_or(Error::NoField)?;
+        let message_type = self.message_type()?;
         let field = message_type.field(name)?;
         Ok(Part { message_type: message_type.inner(&field), ..self.step(FIELD, u64::from(field.number)) })
     }

@@ -16,8 +16,8 @@ pub enum Value {
     Bytes(Vec<u8>),
     /// The number of an enum's value.
     Enum(i32),
-    /// A message.
-    Message,
+    /// A message, by the number of its type ([`crate::MessageType::number`]).
+    Message(u32),
     /// A list of so many values.
     List(usize),
     /// A map of so many entries.
@@ -43,7 +43,7 @@ pub(crate) fn scalar(&Reported { kind, number }: &Reported, bytes: Vec<u8>) -> O
         5 => Value::Int32(number as i32),
         8 => Value::Bool(number != 0),
         9 => Value::String(String::from_utf8(bytes).ok()?),
-        11 => Value::Message,
+        11 => Value::Message(number as u32),
         12 => Value::Bytes(bytes),
         13 => Value::Uint32(number as u32),
         14 => Value::Enum(number as i32),

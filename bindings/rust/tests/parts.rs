@@ -34,9 +34,12 @@ fn reads_lists_maps_and_messages() -> Result<(), Error> {
     assert_eq!(discounts.keys()?, [Key::from("loyal"), Key::from("spring")]);
     assert_eq!((discounts.key("loyal").get()?, discounts.key("none").get()?), (Some(Value::Int32(3)), None));
     let invoice = order.field("invoice")?;
-    assert_eq!((invoice.get()?, invoice.numbers()?), (Some(Value::Message), vec![1, 2]));
+    assert_eq!((invoice.get()?, invoice.numbers()?), (Some(Value::Message(2)), vec![1, 2]));
     assert_eq!(invoice.field("signature")?.get()?, Some(Value::Bytes(vec![1, 255])));
     assert_eq!(order.whole().numbers()?, [1, 2, 3, 4, 6, 7, 8, 9]);
+    assert_eq!(order.whole().number(6).field("address")?.get()?, Some(Value::String("Main Street 1".to_owned())));
+    assert_eq!(order.whole().number(3).index(1).number(2).get()?, Some(Value::Int32(1)));
+    assert_eq!(order.whole().number(99).get()?, None);
     assert!(order.field("card")?.is_empty()? && !order.field("card")?.is_set()?);
     Ok(())
 }
@@ -49,6 +52,7 @@ fn finds_in_bytes() {
     assert_eq!(order.find(&bytes, &["number"]), Ok(Some(Value::Uint64(4711))));
     assert_eq!(order.find(&bytes, &["invoice", "address"]), Ok(Some(Value::String("Main Street 1".to_owned()))));
     assert_eq!(order.find(&bytes, &["card"]), Ok(None));
+    assert_eq!(order.find_numbers(&bytes, &[6, 2]), Ok(Some(Value::Bytes(vec![1, 255]))));
     assert_eq!(order.find(&bytes[..50], &["number"]).unwrap_err().to_string(), "byte 50 path 3[1].1[0] cause Truncated");
     let long = [&[0x12, 0xb8, 0x17][..], &[b'a'; 3000]].concat();
     assert_eq!(order.find(&long, &["placed_on"]), Ok(Some(Value::String("a".repeat(3000)))));
