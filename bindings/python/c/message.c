@@ -237,6 +237,49 @@ static PyObject *message_get_type(PyObject *self, void *Py_UNUSED(which))
 
 #define PLACE(node) (node)->place, (node)->place_len, (node)->keys, (node)->keys_len
 
+/* A place one step further in than a node: on the stack where it is short. A string as a key is kept by whoever gave it. */
+struct reached {
+    struct mb_value *place;
+    struct mb_bytes *keys;
+    size_t place_len, keys_len;
+    struct mb_value short_place[16];
+    struct mb_bytes short_keys[8];
+};
+
+static void leave(struct reached *reached)
+{
+    if (reached->place != reached->short_place)
+        PyMem_Free(reached->place);
+    if (reached->keys != reached->short_keys)
+        PyMem_Free(reached->keys);
+}
+
+/* Goes one step further. Returns whether there was memory for it; else an exception is set. */
+static bool reach(const Node *node, struct mb_value step, PyObject *key, struct reached *reached)
+{
+    size_t len = node->place_len + 1, keys_len = node->keys_len + (key != NULL);
+
+    reached->place = len <= 16 ? reached->short_place : PyMem_Malloc(len * sizeof *reached->place);
+    reached->keys = keys_len <= 8 ? reached->short_keys : PyMem_Malloc(keys_len * sizeof *reached->keys);
+    if (reached->place == NULL || reached->keys == NULL) {
+        leave(reached);
+        PyErr_NoMemory();
+        return false;
+    }
+    for (size_t i = 0; i < node->place_len; i++)
+        reached->place[i] = node->place[i];
+    for (size_t i = 0; i < node->keys_len; i++)
+        reached->keys[i] = node->keys[i];
+    if (key != NULL) {
+        step.number = node->keys_len;
+        reached->keys[node->keys_len] = (struct mb_bytes){(const uint8_t *)PyBytes_AsString(key), (size_t)PyBytes_Size(key)};
+    }
+    reached->place[node->place_len] = step;
+    reached->place_len = len;
+    reached->keys_len = keys_len;
+    return true;
+}
+
 /* A part one step further in than a node, with the key of that step where it has one. */
 static Node *part_of(Node *node, PyObject *of, struct mb_value step, PyObject *key)
 {
@@ -249,14 +292,14 @@ static Node *part_of(Node *node, PyObject *of, struct mb_value step, PyObject *k
     Py_INCREF(part->root);
     part->place = PyMem_Malloc((node->place_len + 1) * sizeof *part->place);
     part->keys = keys == 0 ? NULL : PyMem_Malloc(keys * sizeof *part->keys);
-    part->key_objects = PyTuple_New((Py_ssize_t)keys);
-    if (part->place == NULL || (keys > 0 && part->keys == NULL) || part->key_objects == NULL) {
+    part->key_objects = keys == 0 ? NULL : PyTuple_New((Py_ssize_t)keys);
+    if (part->place == NULL || (keys > 0 && (part->keys == NULL || part->key_objects == NULL))) {
         Py_DECREF(part);
         PyErr_NoMemory();
         return NULL;
     }
-    if (node->place_len > 0)
-        memcpy(part->place, node->place, node->place_len * sizeof *part->place);
+    for (size_t i = 0; i < node->place_len; i++)
+        part->place[i] = node->place[i];
     for (size_t i = 0; i < keys; i++) {
         PyObject *object = i < node->keys_len ? PyTuple_GetItem(node->key_objects, (Py_ssize_t)i) : key;
         Py_INCREF(object);
@@ -279,8 +322,8 @@ static PyObject *nothing_there(uint32_t answer)
     return NULL;
 }
 
-/* The string or the bytes where a node is, of a length that was reported. */
-static PyObject *read_bytes(Node *node, struct mb_message *handle, size_t size, bool is_text)
+/* The string or the bytes at a place, of a length that was reported. */
+static PyObject *read_bytes(const struct reached *place, struct mb_message *handle, size_t size, bool is_text)
 {
     uint8_t small[256], *out = small;
     uint32_t answer;
@@ -290,7 +333,7 @@ static PyObject *read_bytes(Node *node, struct mb_message *handle, size_t size, 
         result = PyBytes_FromStringAndSize(NULL, (Py_ssize_t)size);
         if (result == NULL)
             return NULL;
-        answer = mb_message_read(handle, PLACE(node), (uint8_t *)PyBytes_AsString(result), size, &size);
+        answer = mb_message_read(handle, PLACE(place), (uint8_t *)PyBytes_AsString(result), size, &size);
         if (answer != MB_DONE) {
             Py_DECREF(result);
             return nothing_there(answer);
@@ -299,15 +342,15 @@ static PyObject *read_bytes(Node *node, struct mb_message *handle, size_t size, 
     }
     if (size > sizeof small && (out = PyMem_Malloc(size)) == NULL)
         return PyErr_NoMemory();
-    answer = mb_message_read(handle, PLACE(node), out, size, &size);
+    answer = mb_message_read(handle, PLACE(place), out, size, &size);
     result = answer == MB_DONE ? as_str(out, size) : nothing_there(answer);
     if (out != small)
         PyMem_Free(out);
     return result;
 }
 
-/* A value as Python's. The node leads to it, one step further in than another. */
-static PyObject *value_at(Node *node, struct mb_message *handle, const struct mb_value *value)
+/* A value at a place as Python's. */
+static PyObject *value_at(const struct reached *place, struct mb_message *handle, const struct mb_value *value)
 {
     double number;
     float half;
@@ -326,10 +369,32 @@ static PyObject *value_at(Node *node, struct mb_message *handle, const struct mb
     case MB_UINT32: case MB_UINT64:
         return PyLong_FromUnsignedLongLong(value->number);
     case MB_STRING: case MB_BYTES:
-        return read_bytes(node, handle, (size_t)value->number, value->kind == MB_STRING);
+        return read_bytes(place, handle, (size_t)value->number, value->kind == MB_STRING);
     default:
         return PyLong_FromLongLong((long long)value->number);
     }
+}
+
+/* The list, map or message one step further in than a node, as a part. */
+static PyObject *inner_part(Node *node, struct mb_value step, PyObject *key, const struct mb_value *value, uint32_t kind_of_keys)
+{
+    Node *root = node->root == NULL ? node : node->root;
+    Node *part = part_of(node, value->kind == MB_LIST ? list_type : value->kind == MB_MAP ? map_type : message_type, step, key);
+
+    if (part == NULL)
+        return NULL;
+    part->key = kind_of_keys;
+    if (value->kind == MB_MESSAGE) {
+        part->type = type_by_number(root->type->pool, (uint32_t)value->number, NULL);
+        if (part->type == NULL)
+            Py_CLEAR(part);
+    }
+    return (PyObject *)part;
+}
+
+static bool is_part(const struct mb_value *value)
+{
+    return value->kind == MB_LIST || value->kind == MB_MAP || value->kind == MB_MESSAGE;
 }
 
 /* What is one step further in, or NULL: with an exception, or without one where nothing is there. */
@@ -337,35 +402,18 @@ static PyObject *inner(Node *node, struct mb_value step, PyObject *key, uint32_t
 {
     struct mb_message *handle = handle_of(node);
     struct mb_value value = {0, 0};
-    Node *part;
-    PyObject *result;
+    struct reached place;
+    PyObject *result = NULL;
     uint32_t answer;
 
-    if (handle == NULL || (part = part_of(node, list_type, step, key)) == NULL)
+    if (handle == NULL || !reach(node, step, key, &place))
         return NULL;
-    answer = mb_message_get(handle, PLACE(part), &value);
-    if (answer != MB_DONE) {
-        Py_DECREF(part);
-        return answer == MB_ABSENT || answer == MB_BAD_PLACE ? NULL : refuse(answer, NULL);
-    }
-    if (value.kind == MB_LIST)
-        return (PyObject *)part;
-    if (value.kind == MB_MAP || value.kind == MB_MESSAGE) {
-        Node *other = part_of(node, value.kind == MB_MAP ? map_type : message_type, step, key);
-        Py_DECREF(part);
-        if (other == NULL)
-            return NULL;
-        other->key = kind_of_keys;
-        if (value.kind == MB_MESSAGE) {
-            Node *root = node->root == NULL ? node : node->root;
-            other->type = type_by_number(root->type->pool, (uint32_t)value.number, NULL);
-            if (other->type == NULL)
-                Py_CLEAR(other);
-        }
-        return (PyObject *)other;
-    }
-    result = value_at(part, handle, &value);
-    Py_DECREF(part);
+    answer = mb_message_get(handle, PLACE(&place), &value);
+    if (answer == MB_DONE)
+        result = is_part(&value) ? inner_part(node, step, key, &value, kind_of_keys) : value_at(&place, handle, &value);
+    else if (answer != MB_ABSENT && answer != MB_BAD_PLACE)
+        refuse(answer, NULL);
+    leave(&place);
     return result;
 }
 
@@ -374,40 +422,37 @@ PyDoc_STRVAR(read_doc,
 
 static PyObject *node_read(PyObject *self, PyObject *args)
 {
-    Node *node = (Node *)self, *part;
+    Node *node = (Node *)self;
     struct mb_message *handle = handle_of(node);
     unsigned kind = 0;
     unsigned long long number = 0;
     PyObject *key = NULL, *found = NULL;
     struct mb_value value = {0, 0};
+    struct reached place;
     uint32_t answer;
 
     if (handle == NULL || !PyArg_ParseTuple(args, "|IKS", &kind, &number, &key))
         return NULL;
-    if (kind == 0) {
-        Py_INCREF(node);
-        part = node;
+    struct mb_value step = {key == NULL ? kind : MB_STRING, number};
+    if (kind == 0 && key == NULL) {
+        answer = mb_message_get(handle, PLACE(node), &value);
     } else {
-        struct mb_value step = {kind, number};
-        part = part_of(node, list_type, step, key);
-        if (part == NULL)
+        if (!reach(node, step, key, &place))
             return NULL;
+        answer = mb_message_get(handle, PLACE(&place), &value);
+        if (answer == MB_DONE && (value.kind == MB_STRING || value.kind == MB_BYTES))
+            found = read_bytes(&place, handle, (size_t)value.number, false);
+        else if (answer == MB_DONE && is_part(&value))
+            found = inner_part(node, step, key, &value, 0);
+        leave(&place);
     }
-    answer = mb_message_get(handle, PLACE(part), &value);
-    if (answer != MB_DONE) {
-        Py_DECREF(part);
+    if (answer != MB_DONE)
         return nothing_there(answer);
-    }
-    if (value.kind == MB_STRING || value.kind == MB_BYTES) {
-        found = read_bytes(part, handle, (size_t)value.number, false);
-    } else if (kind != 0 && (value.kind == MB_LIST || value.kind == MB_MAP || value.kind == MB_MESSAGE)) {
-        struct mb_value step = {kind, number};
-        found = inner(node, step, key, 0);
-    } else {
+    if (PyErr_Occurred())
+        return NULL;
+    if (found == NULL)
         Py_INCREF(found = Py_None);
-    }
-    Py_DECREF(part);
-    return found == NULL ? NULL : Py_BuildValue("IKN", value.kind, (unsigned long long)value.number, found);
+    return Py_BuildValue("IKN", value.kind, (unsigned long long)value.number, found);
 }
 
 /* Whether an argument is a field, or the name or the number of one, of the type of a message. Of a number nothing else is known. */
@@ -465,11 +510,11 @@ static int message_contains(PyObject *self, PyObject *name)
     if (handle == NULL || !field_of(node, name, &field))
         return -1;
     struct mb_value step = {MB_FIELD, field.number};
-    Node *part = part_of(node, list_type, step, NULL);
-    if (part == NULL)
+    struct reached place;
+    if (!reach(node, step, NULL, &place))
         return -1;
-    uint32_t answer = mb_message_get(handle, PLACE(part), &value);
-    Py_DECREF(part);
+    uint32_t answer = mb_message_get(handle, PLACE(&place), &value);
+    leave(&place);
     if (answer == MB_MEMORY) {
         PyErr_NoMemory();
         return -1;
@@ -709,7 +754,7 @@ static PyObject *nth_key(Node *node, struct mb_message *handle, size_t index)
     else if (key.kind == MB_STRING)
         result = as_str(out, (size_t)key.number);
     else
-        result = value_at(node, handle, &key);
+        result = value_at(NULL, handle, &key);
     if (out != small)
         PyMem_Free(out);
     return result;
