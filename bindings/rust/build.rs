@@ -5,7 +5,8 @@ use std::{env, fs};
 
 fn folder(name: &str, default: &str) -> PathBuf {
     println!("cargo:rerun-if-env-changed={name}");
-    let folder = env::var_os(name).map_or_else(|| PathBuf::from(env::var_os("CARGO_MANIFEST_DIR").unwrap()).join("../..").join(default), PathBuf::from);
+    let folder = env::var_os(name)
+        .map_or_else(|| PathBuf::from(env::var_os("CARGO_MANIFEST_DIR").unwrap()).join("../..").join(default), PathBuf::from);
     folder.canonicalize().unwrap_or(folder)
 }
 
@@ -13,7 +14,8 @@ fn main() {
     let (library, include) = (folder("MABRISTU_LIB", "dist"), folder("MABRISTU_INCLUDE", "include"));
     let (archive, header) = (library.join("libmabristu.a"), include.join("mabristu.h"));
     assert!(archive.is_file(), "{} is not there: MABRISTU_LIB names its folder", archive.display());
-    let text = fs::read_to_string(&header).unwrap_or_else(|_| panic!("{} is not there: MABRISTU_INCLUDE names its folder", header.display()));
+    let text =
+        fs::read_to_string(&header).unwrap_or_else(|_| panic!("{} is not there: MABRISTU_INCLUDE names its folder", header.display()));
     for call in ["mb_find", "mb_message_get"] {
         println!("cargo:rustc-check-cfg=cfg({call})");
         if text.contains(&format!("{call}(")) {

@@ -1,9 +1,12 @@
 """The order of the shop: its bytes, listing and types are those of examples/, and the records written here are made by hand."""
 import array
+import ast
 import gc
+import inspect
 import io
 import mmap
 import os
+import sys
 import tempfile
 import threading
 import unittest
@@ -93,6 +96,30 @@ class Messages(Shop):
         self.assertEqual([field("lines").name, field("lines").number, field("number").type], ["lines", 3, None])
         self.assertEqual(field("lines").type.field("price").kind, "double")
         self.assertRaises(KeyError, field, "nothing")
+
+
+class Stubs(unittest.TestCase):
+    def test_names(self):
+        """The stub declares what the module has, but for what needs calls that the library lacks."""
+        module = sys.modules["mabristu._mabristu"]
+        with open(os.path.join(os.path.dirname(mabristu.__file__), "_mabristu.pyi"), encoding="utf-8") as it:
+            tree = ast.parse(it.read())
+        defined = lambda body: {it.name for it in body if isinstance(it, (ast.FunctionDef, ast.ClassDef))}
+        constants = {it.target.id for it in tree.body if isinstance(it, ast.AnnAssign)}
+        self.assertEqual(defined(tree.body) | constants, {it for it in dir(module) if not it.startswith("_")})
+        for stub in (it for it in tree.body if isinstance(it, ast.ClassDef)):
+            names = defined(stub.body) | {it.target.id for it in stub.body if isinstance(it, ast.AnnAssign)}
+            found = {it for it in vars(getattr(module, stub.name)) if not it.startswith("_")}
+            self.assertLessEqual(found, names)
+            if hasattr(mabristu.Message, "get") and hasattr(mabristu.MessageType, "find"):
+                self.assertLessEqual({it for it in names if not it.startswith("_")}, found)
+
+    def test_docs(self):
+        for it in (mabristu.Pool, mabristu.MessageType, mabristu.Message, mabristu.Field, mabristu.List, mabristu.Map):
+            self.assertTrue(it.__doc__)
+            for name, member in vars(it).items():
+                self.assertTrue(name.startswith("__") or member.__doc__, f"{it.__name__}.{name} has no docstring")
+        self.assertEqual(inspect.signature(mabristu.raw_check).parameters.keys(), {"data", "max_bytes", "max_depth"})
 
 
 class Inputs(Shop):

@@ -1,7 +1,7 @@
 //! The numbers and calls of mabristu.h.
-use crate::structs::{Bytes, Fault, Field, Frame, Handle, MessageHandle, Refusal, Step};
 #[cfg(any(mb_find, mb_message_get))]
 use crate::structs::Value;
+use crate::structs::{Bytes, Fault, Field, Frame, Handle, MessageHandle, Refusal, Step};
 
 pub const INTERFACE: u32 = 2;
 // What a call answers. Numbers from 50 on are the causes why declarations are refused.

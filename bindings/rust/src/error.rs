@@ -104,7 +104,11 @@ impl error::Error for Error {}
 pub enum StreamError {
     Io(io::Error),
     /// The frame of an index, which begins at a byte of the stream. The byte of a fault counts from there.
-    Refused { index: usize, at: u64, error: Error },
+    Refused {
+        index: usize,
+        at: u64,
+        error: Error,
+    },
 }
 
 impl From<io::Error> for StreamError {

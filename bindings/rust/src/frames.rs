@@ -112,7 +112,9 @@ impl<'a, R: Read> Frames<'a, R> {
                     self.end();
                     return Err(placed);
                 }
-                Err(Error::Memory) => return Err(StreamError::Refused { index: self.index, at: self.before + self.at as u64, error: Error::Memory }),
+                Err(Error::Memory) => {
+                    return Err(StreamError::Refused { index: self.index, at: self.before + self.at as u64, error: Error::Memory })
+                }
                 Err(refused) => {
                     let placed = self.placed(refused);
                     self.pass()?;

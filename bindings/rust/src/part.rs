@@ -178,8 +178,7 @@ impl<'a> Part<'a> {
         let keys: Vec<Bytes> = self.keys.iter().map(|key| Bytes { at: key.as_ptr(), len: key.len() }).collect();
         let (place, steps) = (self.steps.as_ptr(), self.steps.len());
         let out = written_alone(|out, room, size| unsafe {
-            let answer =
-                calls::mb_message_key(self.message.handle(), place, steps, keys.as_ptr(), keys.len(), index, &mut key, out, room);
+            let answer = calls::mb_message_key(self.message.handle(), place, steps, keys.as_ptr(), keys.len(), index, &mut key, out, room);
             *size = crate::value::size(&key);
             answer
         })?;

@@ -49,18 +49,8 @@ impl Pool {
         let (mut pool, left_out) = (Pool::empty(), Cell::new(0));
         linked(&[], |fault, path, steps, refusal, text, room| unsafe {
             let mut count = 0;
-            let answer = calls::mb_pool_link_lenient(
-                set.as_ptr(),
-                set.len(),
-                pool.handle(),
-                &mut count,
-                fault,
-                path,
-                steps,
-                refusal,
-                text,
-                room,
-            );
+            let answer =
+                calls::mb_pool_link_lenient(set.as_ptr(), set.len(), pool.handle(), &mut count, fault, path, steps, refusal, text, room);
             left_out.set(count);
             answer
         })?;

@@ -110,7 +110,8 @@ fn reads_long_frames_by_pieces() {
     let length = [0xc5, 0x9a, 0x0c];
     let stream = [&length[..], &long, &length, &[0x0f], &long[1..], &length, &long].concat();
     let order = order();
-    let found: Vec<_> = order.frames(Slow(&stream)).map(|it| it.map(|frame| frame.data == long).map_err(|error| error.to_string())).collect();
+    let found: Vec<_> =
+        order.frames(Slow(&stream)).map(|it| it.map(|frame| frame.data == long).map_err(|error| error.to_string())).collect();
     assert_eq!(found, [Ok(true), Err("frame 1 byte 3 path - cause BadType".to_owned()), Ok(true)]);
 }
 
