@@ -73,8 +73,9 @@ static void answer(struct mb_pool *pool, const uint8_t *bytes, size_t len)
         respond(SKIPPED, (const uint8_t *)"other", 5);
         return;
     }
-    if (mb_message_decode(pool, type, asked.payload, asked.payload_len, MB_MAX_BYTES, MB_MAX_DEPTH, &message, &told.fault, told.path, MB_MAX_STEPS) == MB_DONE &&
-        mb_message_encoded_length(&message, &out.len) == MB_DONE) {
+    uint32_t decoded = mb_message_decode(pool, type, asked.payload, asked.payload_len, MB_MAX_BYTES, MB_MAX_DEPTH, &message, &told.fault, told.path,
+                                         MB_MAX_STEPS);
+    if (decoded == MB_DONE && mb_message_encoded_length(&message, &out.len) == MB_DONE) {
         grow(&out, out.len + 1);
         mb_message_encode(&message, out.bytes, out.room, &out.len);
         respond(WRITTEN, out.bytes, out.len);

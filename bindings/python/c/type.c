@@ -77,8 +77,8 @@ static PyObject *type_check(PyObject *self, PyObject *args, PyObject *kwargs)
 }
 
 /* A call that writes, as mb_canon does. */
-typedef uint32_t writer(struct mb_pool *, uint32_t, const uint8_t *, size_t, uint32_t, uint8_t, uint8_t *, size_t, size_t *, struct mb_fault *, struct mb_step *,
-                        size_t);
+typedef uint32_t writer(struct mb_pool *, uint32_t, const uint8_t *, size_t, uint32_t, uint8_t, uint8_t *, size_t, size_t *, struct mb_fault *,
+                        struct mb_step *, size_t);
 
 /* What a call writes: to the stack where it should be little, else to memory of the length that it should have, and once more where it is longer. */
 static PyObject *written(PyObject *self, PyObject *args, PyObject *kwargs, writer *write, size_t times, PyObject *(*made)(const uint8_t *, size_t))
@@ -175,7 +175,8 @@ static PyObject *type_call(PyObject *self, PyObject *args, PyObject *kwargs)
 }
 
 PyDoc_STRVAR(frame_doc,
-"_frame(data, at, max_bytes, max_depth)\n--\n\nThe frame that begins at an index of the bytes: where its message begins and ends, or None where it ends too late.");
+"_frame(data, at, max_bytes, max_depth)\n--\n\nThe frame that begins at an index of the bytes: where its message begins and ends, or None where the bytes"
+"\nend before it does.");
 
 static PyObject *type_frame(PyObject *self, PyObject *args)
 {
@@ -308,10 +309,16 @@ static PyObject *field_get_key(PyObject *self, void *Py_UNUSED(which))
     return PyUnicode_FromString(kinds[key]);
 }
 
+/* Whether its values are messages; those of the kind 10 are written as groups. */
+static bool is_message(const Field *field)
+{
+    return field->is.kind == 10 || field->is.kind == 11;
+}
+
 static PyObject *field_get_type(PyObject *self, void *Py_UNUSED(which))
 {
     Field *field = (Field *)self;
-    if (field->is.kind != 10 && field->is.kind != 11)
+    if (!is_message(field))
         Py_RETURN_NONE;
     return (PyObject *)type_by_number(field->pool, (uint32_t)field->is.type_of, NULL);
 }
@@ -470,7 +477,8 @@ static Py_ssize_t find_path(MessageType *type, PyObject *args, uint32_t *numbers
         if (field != NULL) {
             numbers[i] = field->is.number;
             *last = field->is;
-            inner = i + 1 == count ? NULL : field->is.kind == 11 || field->is.kind == 10 ? type_by_number(field->pool, (uint32_t)field->is.type_of, NULL) : NULL;
+            if (i + 1 < count && is_message(field))
+                inner = type_by_number(field->pool, (uint32_t)field->is.type_of, NULL);
             if (i + 1 < count && inner == NULL && !PyErr_Occurred())
                 PyErr_Format(PyExc_TypeError, "field %U is no message", field->name);
         }
@@ -536,9 +544,9 @@ static PyObject *find(PyObject *self, PyObject *args, PyObject *kwargs, PyObject
 }
 
 PyDoc_STRVAR(find_doc,
-"find(data, *names, max_bytes=MAX_BYTES, max_depth=MAX_DEPTH)\n--\n\nThe value of one field, read from the bytes of a message without building it, which are checked"
-"\nas check does: find(data, \"number\"), find(data, \"invoice\", \"address\"), or find(data, 6, 1) by numbers. None, or the default of an implicit field"
-"\nthat is named, where it is not set.");
+"find(data, *names, max_bytes=MAX_BYTES, max_depth=MAX_DEPTH)\n--\n\nThe value of one field, read from the bytes of a message without building it, which are"
+"\nchecked as check does: find(data, \"number\"), find(data, \"invoice\", \"address\"), or find(data, 6, 1) by numbers. None, or the default of an"
+"\nimplicit field that is named, where it is not set.");
 
 static PyObject *type_find(PyObject *self, PyObject *args, PyObject *kwargs)
 {
