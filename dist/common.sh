@@ -84,3 +84,8 @@ has_binutils() {
 interface() {
     sed -n 's/^#define MB_INTERFACE //p' "$top/include/mabristu.h"
 }
+
+# The version of the program and of the packages.
+version() {
+    sed -n 's/^const VERSION: &str = "\(.*\)";$/\1/p' "$top/crates/pb_cli/src/words.rt"
+}

@@ -1,6 +1,6 @@
-"""Compares the library, by examples/python, with pbtool on mutated messages, streams, sets and sources: mutate.py PBTOOL [SECONDS [SEED]]
+"""Compares the library, by the package for Python, with pbtool on mutated messages, streams, sets and sources: mutate.py PBTOOL [SECONDS [SEED]]
 
-MABRISTU names the shared object. What is printed and told has to be the same word for word. It ends at the first difference, whose files it leaves."""
+The package mabristu is found by PYTHONPATH. What is printed has to be the same word for word. It ends at the first difference, whose files it leaves."""
 import collections
 import io
 import os

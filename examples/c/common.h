@@ -1,4 +1,4 @@
-/* What check.c, show.c, walk.c, message.c and sources.c share: the line of each refusal, as pbtool tells it (told.c); files, and a type of a set (files.c). */
+/* What the programs beside it share: the line of each refusal, as pbtool tells it (told.c); files, and a type of a set (files.c). */
 #ifndef COMMON_H
 #define COMMON_H
 
@@ -17,6 +17,9 @@ struct buffer {
     uint8_t *bytes;
     size_t done, len, room;
 };
+
+/* Prints the steps of a fault's path, and its cause. */
+void print_path(FILE *out, const char *before, const struct told *told, const char *between);
 
 /* Tells on standard error why a call on a message did not answer MB_DONE. Returns the status to exit with: 1 for a refusal, 3 for memory. */
 int tell(uint32_t answer, const struct told *told);
@@ -39,6 +42,13 @@ bool read_more(FILE *file, struct buffer *buffer);
 
 /* The bytes of a file. */
 struct buffer read_file(const char *name);
+
+/* Reports, in place of MB_PART, the fault of the frame that a stream ends in: what there is of its message has one there, or it is whole records, and ends
+ * too early. */
+void cut_frame(struct mb_pool *pool, uint32_t type, const uint8_t *bytes, size_t len, struct told *told);
+
+/* How many bytes the frame has that the bytes begin with, or 0 where its length does not end there. */
+size_t frame_size(const uint8_t *bytes, size_t len);
 
 /* Takes the word --lenient from the words of the command line, if it is the first of them. Returns whether it was. */
 bool take_lenient(int *argc, char ***argv);

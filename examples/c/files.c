@@ -54,6 +54,29 @@ struct buffer read_file(const char *name)
     return buffer;
 }
 
+void cut_frame(struct mb_pool *pool, uint32_t type, const uint8_t *bytes, size_t len, struct told *told)
+{
+    size_t begin = 0;
+
+    while (begin < len && bytes[begin++] >= 0x80)
+        ;
+    told->fault = (struct mb_fault){.byte = len - begin, .cause = MB_TRUNCATED};
+    mb_check(pool, type, bytes + begin, len - begin, MB_MAX_BYTES, MB_MAX_DEPTH, &told->fault, told->path, MB_MAX_STEPS);
+    told->fault.byte += begin;
+}
+
+size_t frame_size(const uint8_t *bytes, size_t len)
+{
+    uint64_t size = 0;
+
+    for (size_t i = 0; i < len && i < 10; i++) {
+        size |= (uint64_t)(bytes[i] & 0x7f) << 7 * i;
+        if (bytes[i] < 0x80)
+            return size <= MB_MAX_BYTES ? (size_t)size + i + 1 : 0;
+    }
+    return 0;
+}
+
 bool take_lenient(int *argc, char ***argv)
 {
     if (*argc < 2 || strcmp((*argv)[1], "--lenient") != 0)

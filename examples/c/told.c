@@ -12,16 +12,22 @@ static const char *const cause_names[90] = {
     "BadNumber", "NumberTaken", "Reserved", "BadOneof", "BadMap", "BadPacked", "BadEnum", "KindMismatch", "BadRange", [89] = "ClosedEnum",
 };
 
+void print_path(FILE *out, const char *before, const struct told *told, const char *between)
+{
+    fprintf(out, "%s%s", before, told->fault.steps == 0 ? "-" : "");
+    for (size_t i = 0; i < told->fault.steps && i < MB_MAX_STEPS; i++)
+        fprintf(out, "%s%" PRIu32 "[%" PRIu32 "]", i == 0 ? "" : ".", told->path[i].number, told->path[i].before);
+    fprintf(out, "%s%s\n", between, cause_names[told->fault.cause]);
+}
+
 int tell(uint32_t answer, const struct told *told)
 {
     if (answer != MB_FAULT) {
         fprintf(stderr, answer == MB_TOO_LARGE ? "output cause TooLarge\n" : "memory\n");
         return answer == MB_TOO_LARGE ? 1 : 3;
     }
-    fprintf(stderr, "byte %" PRIu64 " path %s", told->fault.byte, told->fault.steps == 0 ? "-" : "");
-    for (size_t i = 0; i < told->fault.steps && i < MB_MAX_STEPS; i++)
-        fprintf(stderr, "%s%" PRIu32 "[%" PRIu32 "]", i == 0 ? "" : ".", told->path[i].number, told->path[i].before);
-    fprintf(stderr, " cause %s\n", cause_names[told->fault.cause]);
+    fprintf(stderr, "byte %" PRIu64, told->fault.byte);
+    print_path(stderr, " path ", told, " cause ");
     return 1;
 }
 

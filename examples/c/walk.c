@@ -22,18 +22,11 @@ static uint32_t list(struct mb_pool *pool, uint32_t type, const uint8_t *bytes, 
     return answer;
 }
 
-/* Tells why the bytes begin with no frame, and returns the status to exit with. For MB_PART the file ends in it: what there is of its message
- * has a fault there, or it is whole records, and ends too early. */
+/* Tells why the bytes begin with no frame, and returns the status to exit with. For MB_PART the file ends in it. */
 static int tell_frame(uint32_t answer, struct mb_pool *pool, uint32_t type, const uint8_t *bytes, size_t len, size_t number, struct told *told)
 {
-    size_t begin = 0;
-
     if (answer == MB_PART) {
-        while (begin < len && bytes[begin++] >= 0x80)
-            ;
-        told->fault = (struct mb_fault){.byte = len - begin, .cause = MB_TRUNCATED};
-        mb_check(pool, type, bytes + begin, len - begin, MB_MAX_BYTES, MB_MAX_DEPTH, &told->fault, told->path, MB_MAX_STEPS);
-        told->fault.byte += begin;
+        cut_frame(pool, type, bytes, len, told);
         answer = MB_FAULT;
     }
     if (answer == MB_FAULT)

@@ -1,10 +1,15 @@
-"""The words of pbtool, by the library: tool.py check|show|canon|frames [--lenient] SET TYPE FILE, tool.py short FILE, tool.py compile ROOT FILE..
+"""The words of pbtool, by the package mabristu: tool.py check|show|canon|frames [--lenient] SET TYPE FILE, tool.py short FILE, tool.py compile ROOT FILE..
 Canonical bytes and listing once more, of a message that the library holds: tool.py encode|list [--lenient] SET TYPE FILE, and of an empty message:
 tool.py empty SET TYPE FILE. How many parts of a set lenient reading leaves out: tool.py omitted SET. What a
-field is: tool.py field SET TYPE NAME"""
+field is: tool.py field SET TYPE NAME. What a message has, a place a line: tool.py read [--lenient] SET TYPE FILE, as read.c prints it. The
+scalar at a path of field numbers, such as 3.1: tool.py find [--lenient] SET TYPE FILE PATH"""
 import sys
 
 import mabristu
+
+# Kinds of values, and the steps of places that are no keys, by the numbers of mabristu.h.
+STRING, MESSAGE, BYTES, LIST, MAP, FIELD, INDEX = 9, 11, 12, 19, 20, 21, 22
+SIGNED = 3, 5, 14
 
 
 def read(name):
@@ -14,9 +19,28 @@ def read(name):
 
 def frames(order, name):
     with open(name, "rb") as file:
-        for number, (at, size, message) in enumerate(order.frames(file)):
-            yield f"frame {number} at {at} size {size}\n"
-            yield "".join(f"  {line}\n" for line in order.show(message).split("\n")[:-1])
+        for number, frame in enumerate(order.frames(file)):
+            yield f"frame {number} at {frame.at} size {frame.size}\n"
+            yield "".join(f"  {line}\n" for line in order.listing(frame.data).split("\n")[:-1])
+
+
+def signed(kind, number):
+    return number - (1 << 64) if kind in SIGNED and number >> 63 else number
+
+
+def places(kind, number, inner, at=""):
+    """What is at a place and inside, a line for each."""
+    yield f"{at} {kind} {inner.hex() if kind in (STRING, BYTES) else signed(kind, number)}\n"
+    if kind == MESSAGE:
+        for field in inner.numbers():
+            yield from places(*inner._read(FIELD, field), f"{at}.{field}")
+    elif kind == LIST:
+        for index in range(number):
+            yield from places(*inner._read(INDEX, index), f"{at}[{index}]")
+    elif kind == MAP:
+        for of, key, name in map(inner._key, range(number)):
+            found = inner._read(of, key) if name is None else inner._read(of, 0, name)
+            yield from places(*found, f"{at}{{{of}:{signed(of, key) if name is None else name.hex()}}}")
 
 
 def told(command, *words):
@@ -29,27 +53,35 @@ def told(command, *words):
         mabristu.Pool.of_sources({name: read(f"{words[0]}/{name}") for name in words[1:]})
     elif command == "field":
         set_name, type_name, name = words
-        field = mabristu.Pool(read(set_name)).type(type_name).field(name)
-        yield f"{field.number} {field.kind} {field.shape} {field.key} {field.type_of}\n"
+        yield " ".join(map(str, mabristu.Pool(read(set_name))[type_name].field(name).numbers)) + "\n"
     elif command == "omitted":
         yield f"{mabristu.Pool(read(words[0]), lenient=True).left_out}\n"
+    elif command == "find":
+        *options, set_name, type_name, name, path = words
+        found = mabristu.Pool(read(set_name), lenient="--lenient" in options)[type_name]
+        value = found._find(read(name), *map(int, path.split(".")))
+        yield "absent\n" if value is None else f"{value[0]} {value[1].hex() if isinstance(value[1], bytes) else signed(*value)}\n"
     else:
         *options, set_name, type_name, name = words
-        found = mabristu.Pool(read(set_name), lenient="--lenient" in options).type(type_name)
+        found = mabristu.Pool(read(set_name), lenient="--lenient" in options)[type_name]
         if command == "check":
             found.check(read(name))
             yield "ok\n"
         elif command == "show":
-            yield found.show(read(name))
+            yield found.listing(read(name))
         elif command == "canon":
-            yield found.canon(read(name)).hex() + "\n"
+            yield found.canonical(read(name)).hex() + "\n"
         elif command in ("encode", "empty"):
             message = found.decode(read(name)) if command == "encode" else found.new()
             encoded = message.encode()
             assert message.encoded_length() == len(encoded)
             yield encoded.hex() + "\n"
+        elif command == "read":
+            message = found.decode(read(name))
+            kind, number, _ = message._read()
+            yield from places(kind, number, message)
         elif command == "list":
-            yield found.decode(read(name)).show()
+            yield found.decode(read(name)).listing()
         else:
             yield from frames(found, name)
 
@@ -59,8 +91,11 @@ def main(words):
         for part in told(*words):
             sys.stdout.write(part)
         return 0
-    except (mabristu.Refused, LookupError) as refused:
-        print(refused.args[0], file=sys.stderr)
+    except mabristu.Refused as refused:
+        print(refused, file=sys.stderr)
+        return 1
+    except LookupError as unknown:
+        print(unknown.args[0], file=sys.stderr)
         return 1
     except OSError as failure:
         print(f"device {failure.filename}", file=sys.stderr)

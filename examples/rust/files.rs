@@ -1,5 +1,5 @@
 //! Files in, lines out, and the line of a failure.
-use crate::mabristu::Error;
+use mabristu::Error;
 use std::io::Write;
 
 /// A line for standard error, and the status to exit with.

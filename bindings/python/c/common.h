@@ -1,0 +1,125 @@
+/* What the files of the extension module share. The module is built against the stable ABI of Python 3.9, so one file serves every later Python too.
+ * A call of the library that the header lacks is left out: the build defines HAVE_MB_FIND and its like for those that are there. */
+#ifndef COMMON_H
+#define COMMON_H
+
+#define PY_SSIZE_T_CLEAN
+#define Py_LIMITED_API 0x03090000
+#include <Python.h>
+#include <stdbool.h>
+#include <string.h>
+
+#include "mabristu.h"
+
+/* With fewer bytes than this a call keeps the global lock: to give it up and take it again costs more than the call. */
+#define LONG_INPUT 16384
+/* Output of up to this many bytes is written to the stack first. */
+#define SMALL_OUTPUT 4096
+
+/* ---- Input, output, refusals (input.c, refused.c) ---- */
+
+/* The bytes of an argument, and what keeps them where they are. Those that are fixed can't be changed by any other thread. */
+struct input {
+    const uint8_t *at;
+    size_t len;
+    PyObject *held;
+    bool is_fixed;
+};
+
+/* The limits of a call. */
+struct limits {
+    uint32_t max_bytes;
+    uint8_t max_depth;
+};
+
+/* A fault, and its whole path. */
+struct report {
+    struct mb_fault fault;
+    struct mb_step path[MB_MAX_STEPS];
+};
+
+/* Takes anything with the buffer protocol. Returns whether it was taken; else an exception is set. */
+bool take_input(PyObject *object, struct input *input);
+void drop_input(struct input *input);
+
+/* Reads the arguments (data, *, max_bytes, max_depth) of a method. */
+bool take_data(PyObject *args, PyObject *kwargs, PyObject **data, struct limits *limits);
+bool set_limits(Py_ssize_t max_bytes, Py_ssize_t max_depth, struct limits *limits);
+
+/* Sets the exception for an answer that is not MB_DONE. All return NULL. */
+PyObject *refuse(uint32_t answer, const struct report *report);
+PyObject *refuse_link(uint32_t answer, const struct report *report, const struct mb_refusal *refusal, const uint8_t *text, PyObject *names);
+
+/* What mabristu/_refused.py and mabristu/_frames.py define. */
+extern PyObject *make_fault, *make_link, *frames_class;
+
+/* The written bytes as str or bytes. */
+PyObject *as_bytes(const uint8_t *at, size_t len);
+PyObject *as_str(const uint8_t *at, size_t len);
+
+/* ---- Types (pool.c, type.c, message.c) ---- */
+
+typedef struct {
+    PyObject_HEAD
+    struct mb_pool handle;
+    Py_ssize_t left_out;
+    PyObject *names;    /* types by their full names */
+    PyObject *numbers;  /* types by their numbers */
+} Pool;
+
+typedef struct {
+    PyObject_HEAD
+    Pool *pool;
+    uint32_t number;
+    PyObject *name;    /* None where the type was reached by its number alone, and the library can't tell its name */
+    PyObject *fields;  /* fields by their names, as they were asked for */
+} MessageType;
+
+typedef struct {
+    PyObject_HEAD
+    Pool *pool;
+    PyObject *name;
+    struct mb_field is;
+} Field;
+
+/* A message, or a part of one: a list, a map, a message inside. Of a part, root is the message that holds it, and place says where. */
+typedef struct node {
+    PyObject_HEAD
+    struct mb_message handle;
+    unsigned long long thread;
+    size_t hint;       /* about how many bytes it has */
+    struct node *root; /* none of a message that holds itself */
+    MessageType *type; /* of a message */
+#ifdef HAVE_MB_MESSAGE_GET
+    uint32_t key;      /* of a map, the kind of its keys */
+    struct mb_value *place;
+    size_t place_len;
+    struct mb_bytes *keys;
+    size_t keys_len;
+    PyObject *key_objects; /* a tuple of bytes, which the keys point to */
+#endif
+} Node;
+
+extern PyObject *pool_type, *message_type_type, *field_type, *message_type, *list_type, *map_type;
+PyObject *make_pool_type(void);
+PyObject *make_message_type_type(void);
+PyObject *make_field_type(void);
+bool make_message_types(void);
+
+/* The type of a number; the name may be None. */
+MessageType *type_by_number(Pool *pool, uint32_t number, PyObject *name);
+/* The field of a name, or NULL with KeyError. The reference is borrowed. */
+Field *field_by_name(MessageType *type, PyObject *name);
+/* What an unset field reads as. */
+PyObject *default_of(const struct mb_field *field);
+
+/* A message of a type that holds nothing yet. */
+Node *new_message(MessageType *type);
+
+/* What makes an object of a type that only the library's calls make: TypeError. */
+PyObject *no_new(PyTypeObject *type, PyObject *args, PyObject *kwargs);
+
+/* Another handle of the pool, for a call that gives up the global lock. */
+bool share(Pool *pool, struct mb_pool *other);
+
+#endif

@@ -1,0 +1,72 @@
+/* From what a call answers to an exception. */
+#include "common.h"
+
+PyObject *make_fault, *make_link, *frames_class;
+
+/* Raises what a function of _refused.py makes. */
+static PyObject *raise_made(PyObject *made)
+{
+    if (made != NULL) {
+        PyErr_SetObject((PyObject *)Py_TYPE(made), made);
+        Py_DECREF(made);
+    }
+    return NULL;
+}
+
+static PyObject *path_of(const struct report *report)
+{
+    size_t steps = report->fault.steps < MB_MAX_STEPS ? report->fault.steps : MB_MAX_STEPS;
+    PyObject *path = PyTuple_New((Py_ssize_t)steps);
+
+    for (size_t i = 0; path != NULL && i < steps; i++) {
+        PyObject *step = Py_BuildValue("(II)", report->path[i].number, report->path[i].before);
+        if (step == NULL)
+            Py_CLEAR(path);
+        else
+            PyTuple_SetItem(path, (Py_ssize_t)i, step);
+    }
+    return path;
+}
+
+/* A fault of bytes, with words before it. */
+static PyObject *refuse_fault(const struct report *report, const char *before)
+{
+    PyObject *path = path_of(report);
+
+    if (path == NULL)
+        return NULL;
+    return raise_made(PyObject_CallFunction(make_fault, "KNIs", (unsigned long long)report->fault.byte, path, report->fault.cause, before));
+}
+
+PyObject *refuse(uint32_t answer, const struct report *report)
+{
+    switch (answer) {
+    case MB_FAULT:
+        return refuse_fault(report, "");
+    case MB_MEMORY:
+        return PyErr_NoMemory();
+    case MB_TOO_LARGE:
+        return raise_made(PyObject_CallFunction(make_link, "sI", "output", answer));
+    case MB_BAD_NAME:
+        PyErr_SetString(PyExc_ValueError, "the name of a source is not UTF-8");
+        return NULL;
+    default:
+        PyErr_Format(PyExc_SystemError, "mabristu answers %u", (unsigned)answer);
+        return NULL;
+    }
+}
+
+PyObject *refuse_link(uint32_t answer, const struct report *report, const struct mb_refusal *refusal, const uint8_t *text, PyObject *names)
+{
+    if (answer == MB_FAULT)
+        return refuse_fault(report, "set ");
+    if (answer < 50)
+        return refuse(answer, report);
+    if (answer >= 71)
+        return raise_made(PyObject_CallFunction(make_link, "sIy#y#", "link", answer, (const char *)text, (Py_ssize_t)refusal->file_len,
+                                                (const char *)text + refusal->file_len, (Py_ssize_t)refusal->name_len));
+    if (answer >= 52 && answer <= 60)
+        return raise_made(PyObject_CallFunction(make_link, "sIn", "set", answer, (Py_ssize_t)refusal->file));
+    PyObject *name = names == NULL ? NULL : PyList_GetItem(names, (Py_ssize_t)refusal->file);
+    return raise_made(name == NULL ? NULL : PyObject_CallFunction(make_link, "sIOK", "source", answer, name, (unsigned long long)refusal->byte));
+}

@@ -1,0 +1,18 @@
+"""Protocol Buffers messages of types that are known only at run time, read, checked and written by proved code.
+
+    import mabristu
+
+    pool = mabristu.Pool(open("shop.set", "rb").read())
+    Order = pool["shop.Order"]
+    order = Order.decode(open("shop_order.bin", "rb").read())
+    print(order)
+
+What is refused raises Refused, with the byte, the path and the cause; an unknown name KeyError; and when memory runs out MemoryError.
+"""
+from ._frames import Frame, Frames
+from ._mabristu import INTERFACE, MAX_BYTES, MAX_DEPTH, Field, List, Map, Message, MessageType, Pool, raw_check, raw_short
+from ._refused import CAUSES, Refused
+
+__version__ = "0.1.0"
+__all__ = ["CAUSES", "Field", "Frame", "Frames", "INTERFACE", "List", "MAX_BYTES", "MAX_DEPTH", "Map", "Message", "MessageType", "Pool", "Refused",
+           "raw_check", "raw_short"]

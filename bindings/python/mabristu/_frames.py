@@ -1,0 +1,116 @@
+"""Streams of messages, each after its length."""
+from ._refused import Refused, fault
+
+FULL = 0x7FFFFFFF, 100
+BLOCK = 65536
+TRUNCATED = 1
+
+
+class Frame:
+    """A message in a stream: at, where its frame begins, size, how many bytes that has with its length, and data, the bytes of the message."""
+
+    __slots__ = ("at", "size", "data")
+
+    def __init__(self, at, size, data):
+        self.at, self.size, self.data = at, size, data
+
+    def __repr__(self):
+        return f"<mabristu.Frame at {self.at} size {self.size}>"
+
+
+def length_at(held, at):
+    """The length that bytes begin with at an index, and where it ends; or None where it does not end there."""
+    length = shift = 0
+    for end in range(at, min(len(held), at + 10)):
+        length |= (held[end] & 127) << shift
+        shift += 7
+        if held[end] < 128:
+            return length, end + 1
+    return None
+
+
+class Frames:
+    """Reads the frames of a stream. Where one is refused and its end is known, reading goes on after it: with `skip`, or by the next call of next()."""
+
+    def __init__(self, message_type, source, *, skip=None, max_bytes=FULL[0], max_depth=FULL[1]):
+        self._type, self._skip, self._limits = message_type, skip, (max_bytes, max_depth)
+        self._read = getattr(source, "read", None)
+        self._held = b"" if self._read else source if isinstance(source, bytes) else bytes(source)
+        self._at = self._before = self._index = 0
+
+    def __iter__(self):
+        return self
+
+    def __next__(self):
+        while True:
+            try:
+                return self._next()
+            except Refused as refused:
+                if self._skip is None:
+                    raise
+                self._skip(refused)
+
+    def _next(self):
+        while True:
+            try:
+                found = self._type._frame(self._held, self._at, *self._limits)
+            except Refused as refused:
+                raise self._passed(refused) from None
+            if found:
+                begin, end = found
+                frame = Frame(self._before + self._at, end - self._at, self._held[begin:end])
+                self._at, self._index = end, self._index + 1
+                return frame
+            if not self._more():
+                break
+        if self._at == len(self._held):
+            raise StopIteration
+        raise self._cut()
+
+    def _more(self):
+        """Reads on, at least as much again as is held, so that a large frame is tried but a few times. Whether there was more."""
+        rest = self._held[self._at :]
+        more = self._read(max(BLOCK, len(rest))) if self._read else b""
+        self._before += self._at
+        self._held, self._at = (rest + more if more else rest), 0
+        return bool(more)
+
+    def _placed(self, refused):
+        refused.frame, refused.at = self._index, self._before + self._at
+        self._index += 1
+        return refused
+
+    def _passed(self, refused):
+        """Goes to the end of a frame that is refused, or of the stream where its length can't be read."""
+        placed, found = self._placed(refused), length_at(self._held, self._at)
+        if found is None or found[0] > FULL[0]:
+            self._end()
+        else:
+            self._go_to(sum(found))
+        return placed
+
+    def _go_to(self, at):
+        """Goes on at an index of what is held, or beyond that."""
+        while at > len(self._held):
+            at -= len(self._held)
+            self._before += len(self._held)
+            self._held = self._read(min(at, 1 << 20)) if self._read else b""
+            if not self._held:
+                at = 0
+        self._at = at
+
+    def _end(self):
+        self._at, self._read = len(self._held), None
+
+    def _cut(self):
+        """The fault of the frame that the stream ends in: what there is of its message has one there, or it is whole records, and ends too early."""
+        found = length_at(self._held, self._at)
+        begin = found[1] if found else len(self._held)
+        refused = fault(len(self._held) - self._at, (), TRUNCATED)
+        try:
+            self._type.check(self._held[begin:], max_bytes=self._limits[0], max_depth=self._limits[1])
+        except Refused as inner:
+            refused = fault(inner.byte + begin - self._at, inner.path, inner.number)
+        placed = self._placed(refused)
+        self._end()
+        return placed

@@ -1,0 +1,57 @@
+"""Why a call did not do what was asked."""
+
+__all__ = ["CAUSES", "Refused"]
+
+#: The names of causes, by their numbers, as docs/ERRORS.md lists them.
+CAUSES = {}
+for _first, _names in (
+    (1, "Truncated PastEnd VarintTooLong TagTooLarge NumberZero BadType StrayEnd WrongEnd LengthTooLarge BadText TooDeep InputTooLarge"),
+    (31, "TooLarge"),
+    (50, "SourceTooLarge"),
+    (52, "MissingName BadLabel BadTypeNumber Extension NotProto3 Required Group"),
+    (60, "DefaultValue BadUtf8 BadToken OpenComment OpenText Unexpected NumberTooLarge CustomOption NotProto3 NestedTooDeep"),
+    (71, "TwoFiles MissingImport ImportCycle BadName NameTaken NotFound NotVisible NotAType BadNumber NumberTaken Reserved BadOneof BadMap"),
+    (84, "BadPacked BadEnum KindMismatch BadRange"),
+    (89, "ClosedEnum"),
+):
+    CAUSES.update(enumerate(_names.split(), _first))
+
+
+class Refused(ValueError):
+    """Bytes, a descriptor set or sources that are refused. Its text is the line that pbtool prints.
+
+    cause is the name of the cause, and number its number. byte, path, file and name say where, or are None: path is a tuple of steps
+    (number, before), outermost first, each the record of a field number with so many whole records of that number before it in its parent;
+    file is the name of a source or of a file that does not link, or the index of a file of a set; name is that of a declaration. Of a frame of a
+    stream, frame is its index and at where it begins; then byte counts from there.
+    """
+
+    def __init__(self, where, cause, byte=None, path=None, file=None, name=None):
+        self.where, self.number, self.cause = where, cause, CAUSES.get(cause, "?")
+        self.byte, self.path, self.file, self.name = byte, path, file, name
+        self.frame = self.at = None
+        super().__init__(where, cause)
+
+    def __str__(self):
+        before = "" if self.frame is None else f"frame {self.frame} "
+        return f"{before}{self.where} cause {self.cause}"
+
+
+def fault(byte, path, cause, before=""):
+    """A fault of bytes."""
+    steps = ".".join(f"{number}[{count}]" for number, count in path) or "-"
+    return Refused(f"{before}byte {byte} path {steps}", cause, byte=byte, path=path)
+
+
+def refused(what, cause, *where):
+    """A refusal of anything else than bytes."""
+    if what == "link":
+        file, name = (it.decode(errors="replace") for it in where)
+        return Refused(f"link {file or '-'} at {name or '-'}", cause, file=file, name=name)
+    if what == "source":
+        name, byte = where
+        name = name.decode(errors="replace") if isinstance(name, bytes) else name
+        return Refused(f"source {name} byte {byte}", cause, byte=byte, file=name)
+    if what == "set":
+        return Refused(f"set file {where[0]}", cause, file=where[0])
+    return Refused(what, cause)

@@ -1,0 +1,332 @@
+"""The order of the shop: its bytes, listing and types are those of examples/, and the records written here are made by hand."""
+import array
+import ast
+import gc
+import inspect
+import io
+import mmap
+import os
+import sys
+import tempfile
+import threading
+import unittest
+from concurrent.futures import ThreadPoolExecutor
+
+import mabristu
+from mabristu import Pool, Refused
+
+EXAMPLES = os.environ.get("EXAMPLES", os.path.join(os.path.dirname(os.path.realpath(__file__)), "../../../examples"))
+
+
+def example(name):
+    with open(f"{EXAMPLES}/{name}", "rb") as it:
+        return it.read()
+
+
+def framed(message):
+    """A varint of one byte, then the message."""
+    return bytes([len(message)]) + message
+
+
+class Shop(unittest.TestCase):
+    @classmethod
+    def setUpClass(cls):
+        cls.pool = Pool(example("shop.set"))
+        cls.order, cls.data, cls.listed = cls.pool["shop.Order"], example("shop_order.bin"), example("shop_order.show.txt").decode()
+
+    def refused(self, call, *given, **named):
+        with self.assertRaises(Refused) as it:
+            call(*given, **named)
+        return it.exception
+
+
+class Messages(Shop):
+    def test_listing(self):
+        message = self.order.decode(self.data)
+        self.assertEqual([repr(message), str(message), message.listing(), self.order.listing(self.data)], [self.listed] * 4)
+
+    def test_canonical_bytes(self):
+        # Number 1 with an overlong varint.
+        message = self.order.decode(b"\x08\x85\x00")
+        self.assertEqual([message.encode(), bytes(message), self.order.canonical(b"\x08\x85\x00")], [b"\x08\x05"] * 3)
+        self.assertEqual(message.encoded_length(), 2)
+        self.assertEqual(mabristu.raw_short(b"\x08\x85\x00"), b"\x08\x05")
+
+    def test_empty_messages(self):
+        self.assertEqual([self.order.new().encode(), self.order().encode(), self.order.decode(b"").encode()], [b""] * 3)
+        self.assertRaises(TypeError, self.order, 1)
+
+    def test_equality(self):
+        decode = self.order.decode
+        self.assertEqual(decode(b"\x08\x85\x00"), decode(b"\x08\x05"))
+        self.assertNotEqual(decode(b"\x08\x05"), decode(b"\x08\x06"))
+        self.assertNotEqual(decode(b""), self.pool["shop.Line"].decode(b""))
+        self.assertNotEqual(decode(b""), b"")
+        self.assertRaises(TypeError, hash, decode(b""))
+
+    def test_long_messages(self):
+        # A line of 200,000 bytes, and 20,000 lines.
+        for data in (b"\x1a\xc4\x9a\x0c\x0a\xc0\x9a\x0c" + 200_000 * b"a", 20_000 * (b"\x1a\x09\x0a\x07bolt M8")):
+            message = self.order.decode(data)
+            self.assertEqual([message.encode(), self.order.canonical(data)], [data, data])
+            self.assertEqual(message.encoded_length(), len(data))
+            self.assertEqual(message.listing(), self.order.listing(data))
+            self.order.check(data)
+
+    def test_types(self):
+        self.assertIs(self.order.decode(b"").type, self.order)
+        self.assertIs(self.order.pool, self.pool)
+        self.assertIs(self.pool["shop.Order"], self.order)
+        self.assertEqual([self.order.name, "shop.Line" in self.pool, "shop.Nothing" in self.pool], ["shop.Order", True, False])
+        with self.assertRaises(KeyError) as it:
+            self.pool["shop.Nothing"]
+        self.assertEqual(it.exception.args, ("type shop.Nothing unknown",))
+        for it in (mabristu.Message, mabristu.MessageType, mabristu.Field, mabristu.List, mabristu.Map):
+            self.assertRaises(TypeError, it)
+
+    def test_fields(self):
+        field = self.order.field
+        shapes = {it: field(it).shape for it in ("number", "gift", "card", "lines", "discounts")}
+        self.assertEqual(shapes, {"number": "implicit", "gift": "optional", "card": "oneof", "lines": "list", "discounts": "map"})
+        kinds = {it: field(it).kind for it in ("number", "placed_on", "lines", "discounts", "state", "corrections", "gift")}
+        expected = "uint64 string message int32 enum sint32 bool".split()
+        self.assertEqual(kinds, dict(zip(("number", "placed_on", "lines", "discounts", "state", "corrections", "gift"), expected)))
+        self.assertEqual([field("discounts").key, field("lines").key], ["string", None])
+        self.assertIs(field("lines").type, self.pool["shop.Line"])
+        self.assertEqual([field("lines").name, field("lines").number, field("number").type], ["lines", 3, None])
+        self.assertEqual(field("lines").type.field("price").kind, "double")
+        self.assertRaises(KeyError, field, "nothing")
+
+
+class Stubs(unittest.TestCase):
+    def test_names(self):
+        """The stub declares what the module has, but for what needs calls that the library lacks."""
+        module = sys.modules["mabristu._mabristu"]
+        with open(os.path.join(os.path.dirname(mabristu.__file__), "_mabristu.pyi"), encoding="utf-8") as it:
+            tree = ast.parse(it.read())
+        defined = lambda body: {it.name for it in body if isinstance(it, (ast.FunctionDef, ast.ClassDef))}
+        constants = {it.target.id for it in tree.body if isinstance(it, ast.AnnAssign)}
+        self.assertEqual(defined(tree.body) | constants, {it for it in dir(module) if not it.startswith("_")})
+        for stub in (it for it in tree.body if isinstance(it, ast.ClassDef)):
+            names = defined(stub.body) | {it.target.id for it in stub.body if isinstance(it, ast.AnnAssign)}
+            found = {it for it in vars(getattr(module, stub.name)) if not it.startswith("_")}
+            self.assertLessEqual(found, names)
+            if hasattr(mabristu.Message, "get") and hasattr(mabristu.MessageType, "find"):
+                self.assertLessEqual({it for it in names if not it.startswith("_")}, found)
+
+    def test_docs(self):
+        for it in (mabristu.Pool, mabristu.MessageType, mabristu.Message, mabristu.Field, mabristu.List, mabristu.Map):
+            self.assertTrue(it.__doc__)
+            for name, member in vars(it).items():
+                self.assertTrue(name.startswith("__") or member.__doc__, f"{it.__name__}.{name} has no docstring")
+        self.assertEqual(inspect.signature(mabristu.raw_check).parameters.keys(), {"data", "max_bytes", "max_depth"})
+
+
+class Inputs(Shop):
+    def test_buffers(self):
+        with tempfile.TemporaryFile() as file:
+            file.write(self.data)
+            file.flush()
+            with mmap.mmap(file.fileno(), 0, access=mmap.ACCESS_READ) as mapped:
+                for it in (bytearray(self.data), memoryview(self.data), array.array("B", self.data), mapped):
+                    self.order.check(it)
+                    self.assertEqual(self.order.decode(it).listing(), self.listed)
+        self.assertEqual(Pool(bytearray(example("shop.set")))["shop.Order"].canonical(self.data), self.order.canonical(self.data))
+
+    def test_what_is_no_buffer(self):
+        for it in ("text", 7, None, [1]):
+            self.assertRaises(TypeError, self.order.check, it)
+        self.assertRaises(BufferError, self.order.check, memoryview(bytes(8))[::2])
+        self.assertRaises(TypeError, self.order.check)
+        self.assertRaises(TypeError, Pool)
+
+    def test_a_buffer_is_given_back(self):
+        data = bytearray(self.data)
+        self.order.check(data)
+        data.append(0)
+
+    def test_limits(self):
+        check = self.order.check
+        self.assertEqual(str(self.refused(check, self.data, max_bytes=3)), "byte 3 path - cause InputTooLarge")
+        self.assertEqual(self.refused(check, b"\x1a\x00", max_depth=0).cause, "TooDeep")
+        check(b"\x1a\x00", max_depth=1, max_bytes=2)
+        for limits in ({"max_depth": 101}, {"max_bytes": 1 << 31}, {"max_bytes": -1}):
+            self.assertRaises(ValueError, check, b"", **limits)
+        self.assertEqual([mabristu.MAX_BYTES, mabristu.MAX_DEPTH], [2**31 - 1, 100])
+
+
+class Refusals(Shop):
+    def test_fault(self):
+        # In the second of two lines (3) the article (1) is longer than the line.
+        data = b"\x1a\x00\x1a\x02\x0a\x05"
+        for call in (self.order.check, self.order.decode, self.order.canonical, self.order.listing):
+            refused = self.refused(call, data)
+            self.assertEqual((refused.byte, refused.path, refused.cause, refused.number), (5, ((3, 1), (1, 0)), "PastEnd", 2))
+            self.assertEqual(str(refused), "byte 5 path 3[1].1[0] cause PastEnd")
+        self.assertEqual(self.refused(mabristu.raw_check, b"\x0f").cause, "BadType")
+        self.assertIsInstance(refused, ValueError)
+
+    def test_sets(self):
+        self.assertEqual(str(self.refused(Pool, b"\x0a")), "set byte 1 path 1[0] cause Truncated")
+        # A file with an extension (7) and the syntax proto2 (12).
+        data = b"\x0a\x19\x0a\x01f\x3a\x0c\x0a\x01x\x12\x01T\x18\x64\x20\x01\x28\x05\x62\x06proto2"
+        refused = self.refused(Pool, data)
+        self.assertEqual((str(refused), refused.file), ("set file 0 cause Extension", 0))
+        self.assertEqual([Pool(data, lenient=True).left_out, self.pool.left_out], [1, 0])
+
+    def test_sources(self):
+        of = lambda text: Pool.of_sources({"a.proto": 'syntax = "proto3"; ' + text})
+        refused = self.refused(of, "message A { B b = 1; }")
+        self.assertEqual((str(refused), refused.file, refused.name), ("link a.proto at A.b cause NotFound", "a.proto", "A.b"))
+        refused = self.refused(of, "message A { int32 b = 1 }")
+        self.assertEqual((str(refused), refused.file, refused.byte), ("source a.proto byte 43 cause Unexpected", "a.proto", 43))
+        long_name = 1000 * "N"
+        refused = self.refused(of, f"message {long_name} {{ B b = 1; }}")
+        self.assertEqual(refused.name, f"{long_name}.b")
+        self.assertEqual(of("message A { int32 b = 1; }")["A"].listing(b"\x08\x07"), "b: 7\n")
+        pool = Pool.of_sources({"shop.proto": example("shop.proto"), "b.proto": 'syntax = "proto3"; import "shop.proto"; message B { shop.Order o = 1; }'})
+        self.assertEqual(pool["B"].field("o").type.canonical(self.data), self.order.canonical(self.data))
+        self.assertRaises(TypeError, Pool.of_sources, {"a.proto": 7})
+        self.assertRaises(ValueError, Pool.of_sources, {b"\xff": ""})
+        Pool.of_sources({})
+
+
+class Streams(Shop):
+    def test_frames(self):
+        stream = 3 * framed(self.data) + framed(b"")
+        for source in (stream, bytearray(stream), io.BytesIO(stream)):
+            found = [(it.at, it.size, it.data) for it in self.order.frames(source)]
+            self.assertEqual(found, [(0, 119, self.data), (119, 119, self.data), (238, 119, self.data), (357, 1, b"")])
+        self.assertEqual(list(self.order.frames(b"")), [])
+
+    def test_bad_frames_are_skipped(self):
+        stream = framed(self.data) + b"\x03\x1a\x09\x09" + framed(b"") + framed(self.data)[:40]
+        for source in (stream, io.BytesIO(stream)):
+            bad = []
+            self.assertEqual([it.at for it in self.order.frames(source, skip=bad.append)], [0, 123])
+            self.assertEqual([str(it) for it in bad], ["frame 1 byte 2 path 3[0] cause PastEnd", "frame 3 byte 40 path 3[1] cause Truncated"])
+            self.assertEqual([(it.frame, it.at, it.byte) for it in bad], [(1, 119, 2), (3, 124, 40)])
+
+    def test_reading_goes_on_after_a_refusal(self):
+        frames = self.order.frames(framed(self.data) + b"\x03\x1a\x09\x09" + framed(b""))
+        self.assertEqual(next(frames).at, 0)
+        self.assertRaises(Refused, next, frames)
+        self.assertEqual([it.at for it in frames], [123])
+
+    def test_long_frames_by_pieces(self):
+        class Slow(io.BytesIO):
+            def read(self, size=-1):
+                return super().read(min(size, 1000))
+
+        # Two messages of an unknown record of 200,000 bytes, and one between whose length says so many, and that is no message.
+        long = b"\xfa\x06\xc0\x9a\x0c" + 200_000 * b"\x07"
+        length = b"\xc5\x9a\x0c"
+        bad = []
+        found = [it.data == long for it in self.order.frames(Slow(length + long + length + b"\x0f" + long[1:] + length + long), skip=bad.append)]
+        self.assertEqual((found, [str(it) for it in bad]), ([True, True], ["frame 1 byte 3 path - cause BadType"]))
+
+    def test_a_length_that_is_none(self):
+        self.assertEqual(self.refused(lambda: list(self.order.frames(11 * b"\x80"))).at, 0)
+        bad = []
+        self.assertEqual(list(self.order.frames(11 * b"\x80" + framed(b""), skip=bad.append)), [])
+        self.assertEqual(len(bad), 1)
+
+
+class Threads(Shop):
+    def test_one_pool(self):
+        data = 20_000 * (b"\x1a\x09\x0a\x07bolt M8")
+        expected = self.order.canonical(data)
+        with ThreadPoolExecutor(4) as pool:
+            self.assertEqual(set(pool.map(self.order.canonical, 12 * [data])), {expected})
+            self.assertEqual(set(pool.map(lambda it: self.order.decode(it).encode(), 12 * [data])), {expected})
+
+    def test_a_message_stays_on_its_thread(self):
+        message, found = self.order.decode(self.data), []
+
+        def other():
+            try:
+                message.encode()
+            except RuntimeError as refused:
+                found.append(refused)
+
+        thread = threading.Thread(target=other)
+        thread.start()
+        thread.join()
+        self.assertEqual(len(found), 1)
+        self.assertEqual(message.listing(), self.listed)
+
+    def test_messages_dropped_by_another_thread(self):
+        messages = [self.order.decode(self.data) for _ in range(100)]
+        thread = threading.Thread(target=messages.clear)
+        thread.start()
+        thread.join()
+        self.assertEqual(self.order.decode(self.data).listing(), self.listed)
+
+    def test_pools_are_collected(self):
+        count = lambda: (gc.collect(), sum(isinstance(it, Pool) for it in gc.get_objects()))[1]
+        before = count()
+        for _ in range(100):
+            pool = Pool(example("shop.set"))
+            message = pool["shop.Order"].field("lines").type.decode(b"")
+            del pool
+            self.assertEqual(message.encode(), b"")
+        del message
+        self.assertEqual(count(), before)
+
+
+@unittest.skipUnless(hasattr(mabristu.Message, "get"), "the library can't read fields")
+class Parts(Shop):
+    def test_fields(self):
+        order = self.order.decode(self.data)
+        self.assertEqual([order[it] for it in ("number", "placed_on", "state", "gift", "card")], [4711, "2024-05-17", 1, False, None])
+        self.assertEqual([order["lines"][1]["article"], order["lines"][-2]["price"], len(order["lines"])], ["torque wrench", 0.35, 2])
+        self.assertEqual([it["pieces"] for it in order["lines"]], [200, 1])
+        self.assertEqual([it["pieces"] for it in order["lines"][::-1]], [1, 200])
+        self.assertEqual(order["discounts"].items(), [("loyal", 3), ("spring", 5)])
+        self.assertEqual([list(order["discounts"]), order["discounts"].values(), order["discounts"]["loyal"]], [["loyal", "spring"], [3, 5], 3])
+        self.assertEqual([order["invoice"]["address"], order["invoice"]["signature"]], ["Main Street 1", b"\x01\xff"])
+        self.assertEqual(list(order["corrections"]), [-1, 2])
+        self.assertEqual([it in order for it in ("gift", "card", "lines")], [True, False, True])
+        self.assertEqual([order.numbers(), order["invoice"].numbers()], [[1, 2, 3, 4, 6, 7, 8, 9], [1, 2]])
+        self.assertEqual([order.get("card", 5), order.get("number", 5), order[self.order.field("number")]], [5, 4711, 4711])
+
+    def test_unset_fields(self):
+        order = self.order()
+        self.assertEqual([order[it] for it in ("number", "placed_on", "state", "gift", "card", "invoice")], [0, "", 0, None, None, None])
+        self.assertEqual([len(order["lines"]), list(order["lines"]), len(order["discounts"]), order["discounts"].items()], [0, [], 0, []])
+        self.assertEqual([order["discounts"].get("x"), order.numbers(), "number" in order], [None, [], False])
+
+    def test_refusals(self):
+        order = self.order.decode(self.data)
+        self.assertRaises(KeyError, lambda: order["nothing"])
+        self.assertRaises(IndexError, lambda: order["lines"][2])
+        self.assertRaises(IndexError, lambda: order["lines"][-3])
+        self.assertRaises(KeyError, lambda: order["discounts"]["nothing"])
+        self.assertRaises(TypeError, lambda: order["lines"]["a"])
+        self.assertFalse(5 in order["discounts"])
+
+    def test_parts_keep_their_message(self):
+        line = self.order.decode(self.data)["lines"][0]
+        gc.collect()
+        self.assertEqual(line["article"], "bolt M8")
+
+
+@unittest.skipUnless(hasattr(mabristu.MessageType, "find"), "the library has no mb_find")
+class Find(Shop):
+    def test_values(self):
+        find = lambda *names: self.order.find(self.data, *names)
+        self.assertEqual([find("number"), find("placed_on"), find("invoice", "signature"), find("gift"), find("card")],
+                         [4711, "2024-05-17", b"\x01\xff", False, None])
+        self.assertEqual([self.order.find(b"", "number"), self.order.find(b"", "gift")], [0, None])
+        long = 3000 * "a"
+        self.assertEqual(self.order.find(b"\x12\xb8\x17" + long.encode(), "placed_on"), long)
+
+    def test_refusals(self):
+        self.assertEqual(self.refused(self.order.find, self.data[:50], "number").cause, "Truncated")
+        self.assertRaises(TypeError, self.order.find, self.data)
+        self.assertRaises(TypeError, self.order.find, self.data, "number", "number")
+        self.assertRaises(KeyError, self.order.find, self.data, "nothing")
+
+
+if __name__ == "__main__":
+    unittest.main()

@@ -1,0 +1,74 @@
+//! The numbers and calls of mabristu.h.
+#[cfg(any(mb_find, mb_message_get))]
+use crate::structs::Value;
+use crate::structs::{Bytes, Fault, Field, Frame, Handle, MessageHandle, Refusal, Step};
+
+pub const INTERFACE: u32 = 2;
+// What a call answers. Numbers from 50 on are the causes why declarations are refused.
+pub const DONE: u32 = 0;
+pub const BAD_LIMITS: u32 = 1;
+pub const NO_TYPE: u32 = 2;
+pub const PART: u32 = 5;
+pub const ABSENT: u32 = 6;
+pub const FAULT: u32 = 13;
+pub const MEMORY: u32 = 14;
+pub const TOO_LARGE: u32 = 31;
+pub const TRUNCATED: u32 = 1;
+pub const MAX_BYTES: u32 = 0x7fff_ffff;
+pub const MAX_DEPTH: u8 = 100;
+pub const MAX_STEPS: usize = 201;
+
+type At = *const u8;
+type Out = *mut u8;
+#[rustfmt::skip]
+extern "C" {
+    pub fn mb_interface() -> u32;
+    pub fn mb_raw_check(bytes: At, len: usize, max_bytes: u32, max_depth: u8, fault: &mut Fault, path: *mut Step, path_len: usize) -> u32;
+    pub fn mb_raw_short(bytes: At, len: usize, max_bytes: u32, max_depth: u8, out: Out, out_len: usize, size: &mut usize,
+        fault: &mut Fault, path: *mut Step, path_len: usize) -> u32;
+    pub fn mb_pool_link(set: At, len: usize, pool: *mut Handle, fault: &mut Fault, path: *mut Step, path_len: usize,
+        refusal: &mut Refusal, text: Out, text_len: usize) -> u32;
+    pub fn mb_pool_link_lenient(set: At, len: usize, pool: *mut Handle, left_out: &mut usize, fault: &mut Fault, path: *mut Step, path_len: usize,
+        refusal: &mut Refusal, text: Out, text_len: usize) -> u32;
+    pub fn mb_pool_compile(names: *const Bytes, names_len: usize, texts: *const Bytes, texts_len: usize, pool: *mut Handle,
+        refusal: &mut Refusal, text: Out, text_len: usize) -> u32;
+    pub fn mb_pool_share(pool: *mut Handle, other: *mut Handle) -> u32;
+    pub fn mb_pool_free(pool: *mut Handle);
+    pub fn mb_pool_type(pool: *mut Handle, name: At, name_len: usize, number: &mut u32) -> u32;
+    pub fn mb_pool_field(pool: *mut Handle, number: u32, name: At, name_len: usize, field: &mut Field) -> u32;
+    pub fn mb_check(pool: *mut Handle, number: u32, bytes: At, len: usize, max_bytes: u32, max_depth: u8,
+        fault: &mut Fault, path: *mut Step, path_len: usize) -> u32;
+    pub fn mb_canon(pool: *mut Handle, number: u32, bytes: At, len: usize, max_bytes: u32, max_depth: u8,
+        out: Out, out_len: usize, size: &mut usize, fault: &mut Fault, path: *mut Step, path_len: usize) -> u32;
+    pub fn mb_show(pool: *mut Handle, number: u32, bytes: At, len: usize, max_bytes: u32, max_depth: u8,
+        out: Out, out_len: usize, size: &mut usize, fault: &mut Fault, path: *mut Step, path_len: usize) -> u32;
+    pub fn mb_frames(pool: *mut Handle, number: u32, bytes: At, len: usize, max_bytes: u32, max_depth: u8,
+        frame: &mut Frame, fault: &mut Fault, path: *mut Step, path_len: usize) -> u32;
+    pub fn mb_message_new(pool: *mut Handle, number: u32, message: *mut MessageHandle) -> u32;
+    pub fn mb_message_decode(pool: *mut Handle, number: u32, bytes: At, len: usize, max_bytes: u32, max_depth: u8,
+        message: *mut MessageHandle, fault: &mut Fault, path: *mut Step, path_len: usize) -> u32;
+    pub fn mb_message_encode(message: *mut MessageHandle, out: Out, out_len: usize, size: &mut usize) -> u32;
+    pub fn mb_message_encoded_length(message: *mut MessageHandle, size: &mut usize) -> u32;
+    pub fn mb_message_show(message: *mut MessageHandle, out: Out, out_len: usize, size: &mut usize) -> u32;
+    pub fn mb_message_free(message: *mut MessageHandle);
+}
+
+// What the library has once its header declares it (build.rs).
+#[cfg(mb_message_get)]
+#[rustfmt::skip]
+extern "C" {
+    pub fn mb_message_get(message: *mut MessageHandle, place: *const Value, place_len: usize, keys: *const Bytes, keys_len: usize, value: &mut Value) -> u32;
+    pub fn mb_message_read(message: *mut MessageHandle, place: *const Value, place_len: usize, keys: *const Bytes, keys_len: usize,
+        out: Out, out_len: usize, size: &mut usize) -> u32;
+    pub fn mb_message_fields(message: *mut MessageHandle, place: *const Value, place_len: usize, keys: *const Bytes, keys_len: usize,
+        numbers: *mut u32, numbers_len: usize, count: &mut usize) -> u32;
+    pub fn mb_message_key(message: *mut MessageHandle, place: *const Value, place_len: usize, keys: *const Bytes, keys_len: usize,
+        index: usize, key: &mut Value, out: Out, out_len: usize) -> u32;
+}
+
+#[cfg(mb_find)]
+#[rustfmt::skip]
+extern "C" {
+    pub fn mb_find(pool: *mut Handle, number: u32, bytes: At, len: usize, max_bytes: u32, max_depth: u8, numbers: *const u32, numbers_len: usize,
+        value: &mut Value, out: Out, out_len: usize, fault: &mut Fault, path: *mut Step, path_len: usize) -> u32;
+}

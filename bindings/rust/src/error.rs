@@ -1,0 +1,136 @@
+//! Why a call did not do what was asked.
+use crate::calls;
+use std::{error, fmt, io};
+
+pub use crate::structs::Step;
+
+/// The cause of a refusal. docs/ERRORS.md says of each what it means.
+#[derive(Clone, Copy, Debug, PartialEq, Eq, Hash)]
+pub struct Cause(pub(crate) u32);
+
+impl Cause {
+    pub fn number(self) -> u32 {
+        self.0
+    }
+
+    pub fn name(self) -> &'static str {
+        let named = |&(first, names): &(u32, &'static str)| names.split(' ').nth(self.0.checked_sub(first)? as usize);
+        CAUSES.iter().find_map(named).unwrap_or("?")
+    }
+}
+
+impl fmt::Display for Cause {
+    fn fmt(&self, f: &mut fmt::Formatter<'_>) -> fmt::Result {
+        f.write_str(self.name())
+    }
+}
+
+/// A refusal, or why else nothing was done. It prints as the line of pbtool, but for what that prints before the fault of a set.
+#[derive(Clone, Debug, PartialEq, Eq)]
+#[non_exhaustive]
+pub enum Error {
+    /// Bytes are refused: a message, or a descriptor set. The path is outermost first.
+    Fault { byte: u64, path: Vec<Step>, cause: Cause },
+    /// A file of a set is refused, by its index.
+    Set { file: usize, cause: Cause },
+    /// A source is refused.
+    Source { file: String, byte: u64, cause: Cause },
+    /// Declarations do not link.
+    Link { file: String, name: String, cause: Cause },
+    /// A limit is above the greatest.
+    BadLimits,
+    /// The pool has no such message type.
+    NoType,
+    /// The message type has no such field.
+    NoField,
+    /// What would be written has more than 2^31 - 1 bytes.
+    TooLarge,
+    /// Memory ran out.
+    Memory,
+    /// An answer that these calls do not lead to.
+    Answer(u32),
+}
+
+impl Error {
+    /// The cause of a refusal, if it has one.
+    pub fn cause(&self) -> Option<Cause> {
+        match self {
+            Error::Fault { cause, .. } | Error::Set { cause, .. } | Error::Source { cause, .. } | Error::Link { cause, .. } => Some(*cause),
+            Error::TooLarge => Some(Cause(calls::TOO_LARGE)),
+            _ => None,
+        }
+    }
+}
+
+/// The names of causes, from a first number on.
+#[rustfmt::skip]
+const CAUSES: [(u32, &str); 8] = [
+    (1, "Truncated PastEnd VarintTooLong TagTooLarge NumberZero BadType StrayEnd WrongEnd LengthTooLarge BadText TooDeep InputTooLarge"),
+    (31, "TooLarge"),
+    (50, "SourceTooLarge"),
+    (52, "MissingName BadLabel BadTypeNumber Extension NotProto3 Required Group"),
+    (60, "DefaultValue BadUtf8 BadToken OpenComment OpenText Unexpected NumberTooLarge CustomOption NotProto3 NestedTooDeep"),
+    (71, "TwoFiles MissingImport ImportCycle BadName NameTaken NotFound NotVisible NotAType BadNumber NumberTaken Reserved BadOneof BadMap"),
+    (84, "BadPacked BadEnum KindMismatch BadRange"),
+    (89, "ClosedEnum"),
+];
+
+impl fmt::Display for Error {
+    fn fmt(&self, f: &mut fmt::Formatter<'_>) -> fmt::Result {
+        let dash = |name: &str| if name.is_empty() { "-".to_owned() } else { name.to_owned() };
+        match self {
+            Error::Fault { byte, path, cause } => {
+                let steps: Vec<String> = path.iter().map(|step| format!("{}[{}]", step.number, step.before)).collect();
+                write!(f, "byte {byte} path {} cause {cause}", dash(&steps.join(".")))
+            }
+            Error::Set { file, cause } => write!(f, "set file {file} cause {cause}"),
+            Error::Source { file, byte, cause } => write!(f, "source {file} byte {byte} cause {cause}"),
+            Error::Link { file, name, cause } => write!(f, "link {} at {} cause {cause}", dash(file), dash(name)),
+            Error::BadLimits => f.write_str("a limit is above the greatest"),
+            Error::NoType => f.write_str("type unknown"),
+            Error::NoField => f.write_str("field unknown"),
+            Error::TooLarge => f.write_str("output cause TooLarge"),
+            Error::Memory => f.write_str("memory"),
+            Error::Answer(answer) => write!(f, "answer {answer}"),
+        }
+    }
+}
+
+impl error::Error for Error {}
+
+/// Why there is no next frame of a stream.
+#[derive(Debug)]
+#[non_exhaustive]
+pub enum StreamError {
+    Io(io::Error),
+    /// The frame of an index, which begins at a byte of the stream. The byte of a fault counts from there.
+    Refused {
+        index: usize,
+        at: u64,
+        error: Error,
+    },
+}
+
+impl From<io::Error> for StreamError {
+    fn from(failure: io::Error) -> StreamError {
+        StreamError::Io(failure)
+    }
+}
+
+impl fmt::Display for StreamError {
+    fn fmt(&self, f: &mut fmt::Formatter<'_>) -> fmt::Result {
+        match self {
+            StreamError::Io(failure) => failure.fmt(f),
+            StreamError::Refused { index, error, .. } => write!(f, "frame {index} {error}"),
+        }
+    }
+}
+
+impl error::Error for StreamError {
+    fn source(&self) -> Option<&(dyn error::Error + 'static)> {
+        match self {
+            StreamError::Io(failure) => Some(failure),
+            StreamError::Refused { error, .. } => Some(error),
+        }
+    }
+}

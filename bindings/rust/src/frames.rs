@@ -1,0 +1,134 @@
+//! Streams of messages, each after its length.
+use crate::calls;
+use crate::{Cause, Error, MessageType, StreamError};
+use std::io::Read;
+
+const BLOCK: usize = 65536;
+
+/// A message in a stream.
+#[derive(Clone, Debug, PartialEq, Eq)]
+pub struct Frame {
+    /// Where its frame begins in the stream.
+    pub at: u64,
+    /// How many bytes the frame has, with its length.
+    pub size: usize,
+    /// The bytes of the message.
+    pub data: Vec<u8>,
+}
+
+/// The frames of a stream. After a frame that is refused it goes on with the next one, where its end is known; else it ends.
+pub struct Frames<'a, R> {
+    message_type: &'a MessageType,
+    stream: Option<R>,
+    held: Vec<u8>,
+    at: usize,
+    before: u64,
+    index: usize,
+}
+
+/// The length that bytes begin with, and how many bytes it has, or None where it does not end there.
+fn length(bytes: &[u8]) -> Option<(u64, usize)> {
+    let end = bytes.iter().take(10).position(|&byte| byte < 0x80)?;
+    let bits = bytes[..=end].iter().enumerate();
+    Some((bits.fold(0, |sum, (place, &byte)| sum | u64::from(byte & 0x7f).wrapping_shl(7 * place as u32)), end + 1))
+}
+
+impl<'a, R: Read> Frames<'a, R> {
+    pub(crate) fn new(message_type: &'a MessageType, stream: R) -> Frames<'a, R> {
+        Frames { message_type, stream: Some(stream), held: vec![], at: 0, before: 0, index: 0 }
+    }
+
+    /// Forgets what is done with, and reads on, at least as much again as is held. Whether there was more.
+    fn more(&mut self, wanted: usize) -> std::io::Result<bool> {
+        self.held.drain(..self.at);
+        self.before += self.at as u64;
+        self.at = 0;
+        let Some(stream) = &mut self.stream else { return Ok(false) };
+        let count = stream.by_ref().take(wanted as u64).read_to_end(&mut self.held)?;
+        Ok(count > 0)
+    }
+
+    fn placed(&mut self, error: Error) -> StreamError {
+        let placed = StreamError::Refused { index: self.index, at: self.before + self.at as u64, error };
+        self.index += 1;
+        placed
+    }
+
+    fn end(&mut self) {
+        self.at = self.held.len();
+        self.stream = None;
+    }
+
+    /// Goes to the end of a frame that is refused, or of the stream where its length can't be read.
+    fn pass(&mut self) -> std::io::Result<()> {
+        match length(&self.held[self.at..]) {
+            Some((length, begin)) if length <= u64::from(calls::MAX_BYTES) => {
+                let mut left = length as usize + begin;
+                while left > self.held.len() - self.at {
+                    left -= self.held.len() - self.at;
+                    self.at = self.held.len();
+                    if !self.more(left.min(1 << 20))? {
+                        left = 0;
+                    }
+                }
+                self.at += left;
+            }
+            _ => self.end(),
+        }
+        Ok(())
+    }
+
+    /// The fault of the frame that the stream ends in: what there is of its message has one there, or it is whole records, and ends too early.
+    fn cut(&self) -> Error {
+        let bytes = &self.held[self.at..];
+        let begin = length(bytes).map_or(bytes.len(), |(_, begin)| begin);
+        match self.message_type.check(&bytes[begin..]) {
+            Err(Error::Fault { byte, path, cause }) => Error::Fault { byte: byte + begin as u64, path, cause },
+            Err(error) => error,
+            Ok(()) => Error::Fault { byte: bytes.len() as u64, path: vec![], cause: Cause(calls::TRUNCATED) },
+        }
+    }
+
+    fn read(&mut self) -> Result<Option<Frame>, StreamError> {
+        loop {
+            let held = &self.held[self.at..];
+            match self.message_type.frame(held) {
+                Ok(Some((begin, end))) => {
+                    let frame = Frame { at: self.before + self.at as u64, size: end, data: held[begin..end].to_vec() };
+                    self.at += end;
+                    self.index += 1;
+                    return Ok(Some(frame));
+                }
+                Ok(None) => {
+                    let wanted = BLOCK.max(held.len());
+                    if self.more(wanted)? {
+                        continue;
+                    }
+                    if self.held.is_empty() {
+                        return Ok(None);
+                    }
+                    let refused = self.cut();
+                    let placed = self.placed(refused);
+                    self.end();
+                    return Err(placed);
+                }
+                Err(Error::Memory) => {
+                    return Err(StreamError::Refused { index: self.index, at: self.before + self.at as u64, error: Error::Memory })
+                }
+                Err(refused) => {
+                    let placed = self.placed(refused);
+                    self.pass()?;
+                    return Err(placed);
+                }
+            }
+        }
+    }
+}
+
+impl<R: Read> Iterator for Frames<'_, R> {
+    type Item = Result<Frame, StreamError>;
+
+    fn next(&mut self) -> Option<Self::Item> {
+        self.read().transpose()
+    }
+}

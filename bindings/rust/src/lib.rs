@@ -1,0 +1,40 @@
+//! Protocol Buffers messages of types that are known only at run time, read, checked and written by proved code.
+//!
+//! ```
+//! use mabristu::Pool;
+//!
+//! # fn main() -> Result<(), mabristu::Error> {
+//! let pool = Pool::of_sources([("note.proto", "syntax = \"proto3\"; message Note { string text = 1; }")])?;
+//! let note = pool.message_type("Note")?.decode(b"\x0a\x05hello")?;
+//! assert_eq!(note.to_string(), "text: \"hello\"\n");
+//! assert_eq!(note.encode()?, b"\x0a\x05hello");
+//! # Ok(())
+//! # }
+//! ```
+//!
+//! Types come from a descriptor set ([`Pool::link`]) or from sources of proto3 ([`Pool::of_sources`]). A [`MessageType`] checks, rewrites and lists bytes,
+//! splits streams, and decodes a [`Message`]. What is refused is an [`Error`] with the byte, the path and the cause.
+//!
+//! A [`Pool`] and a [`MessageType`] may go to another thread, and a clone of them is cheap; a [`Message`] stays on its thread.
+mod calls;
+mod error;
+mod frames;
+mod message;
+mod message_type;
+#[cfg(mb_message_get)]
+mod part;
+mod pool;
+mod structs;
+mod told;
+#[cfg(any(mb_find, mb_message_get))]
+mod value;
+
+pub use error::{Cause, Error, Step, StreamError};
+pub use frames::{Frame, Frames};
+pub use message::Message;
+pub use message_type::{raw_check, raw_short, Field, Limits, MessageType, Shape};
+#[cfg(mb_message_get)]
+pub use part::{Key, Part};
+pub use pool::Pool;
+#[cfg(any(mb_find, mb_message_get))]
+pub use value::Value;

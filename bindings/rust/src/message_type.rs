@@ -1,0 +1,230 @@
+//! Message types, and calls on the bytes of messages.
+use crate::calls;
+use crate::structs::{Field as FieldReport, Frame as FrameReport};
+use crate::told::{judged, written, Told};
+use crate::{Error, Frames, Message, Pool};
+use std::io::Read;
+
+/// How many bytes a message may have, and how deep it may nest.
+#[derive(Clone, Copy, Debug, PartialEq, Eq)]
+pub struct Limits {
+    pub max_bytes: u32,
+    pub max_depth: u8,
+}
+
+impl Limits {
+    /// The greatest limits, 2^31 - 1 bytes and 100 levels.
+    pub const FULL: Limits = Limits { max_bytes: calls::MAX_BYTES, max_depth: calls::MAX_DEPTH };
+}
+
+/// How a field holds its values.
+#[derive(Clone, Copy, Debug, PartialEq, Eq)]
+pub enum Shape {
+    /// One value, which is unset while it is the default.
+    Implicit,
+    /// One value, set or not.
+    Optional,
+    /// One value, a member of a oneof.
+    Oneof,
+    List,
+    Map,
+}
+
+impl Shape {
+    pub fn name(self) -> &'static str {
+        match self {
+            Shape::Implicit => "implicit",
+            Shape::Optional => "optional",
+            Shape::Oneof => "oneof",
+            Shape::List => "list",
+            Shape::Map => "map",
+        }
+    }
+}
+
+/// What a field is.
+#[derive(Clone, Copy, Debug, PartialEq, Eq)]
+pub struct Field {
+    pub number: u32,
+    /// The kind of its values, by the numbers of types in descriptor.proto: 5 for int32, 9 for string, 11 for a message, 14 for an enum.
+    pub kind: u32,
+    pub shape: Shape,
+    /// Of a map the kind of its keys.
+    pub key: Option<u32>,
+    /// The number of the message type, or of the enum, that the kind names, else 0.
+    pub type_of: usize,
+}
+
+#[rustfmt::skip]
+const KINDS: [&str; 18] = ["double", "float", "int64", "uint64", "int32", "fixed64", "fixed32", "bool", "string", "group", "message", "bytes", "uint32",
+    "enum", "sfixed32", "sfixed64", "sint32", "sint64"];
+
+impl Field {
+    /// The kind of its values, as a source writes it, or `message` and `enum`.
+    pub fn kind_name(&self) -> &'static str {
+        (self.kind as usize).checked_sub(1).and_then(|kind| KINDS.get(kind)).unwrap_or(&"?")
+    }
+}
+
+/// A message type of a pool, with the limits of its calls. It may go to another thread, and a clone is cheap.
+#[derive(Clone)]
+pub struct MessageType {
+    pub(crate) pool: Pool,
+    pub(crate) number: u32,
+    pub(crate) limits: Limits,
+}
+
+impl MessageType {
+    /// The same type with other limits for its calls.
+    pub fn with_limits(self, limits: Limits) -> MessageType {
+        MessageType { limits, ..self }
+    }
+
+    /// The number of the type in its pool.
+    pub fn number(&self) -> u32 {
+        self.number
+    }
+
+    /// The pool of the type.
+    pub fn pool(&self) -> &Pool {
+        &self.pool
+    }
+
+    /// Checks bytes as a message of the type. It builds nothing.
+    pub fn check(&self, bytes: &[u8]) -> Result<(), Error> {
+        let Limits { max_bytes, max_depth } = self.limits;
+        judged(|fault, path, steps| unsafe {
+            calls::mb_check(self.pool.handle(), self.number, bytes.as_ptr(), bytes.len(), max_bytes, max_depth, fault, path, steps)
+        })
+    }
+
+    /// The canonical bytes of a message.
+    pub fn canonical(&self, bytes: &[u8]) -> Result<Vec<u8>, Error> {
+        let Limits { max_bytes, max_depth } = self.limits;
+        written(bytes.len(), |out, room, size, fault, path, steps| unsafe {
+            let (at, len) = (bytes.as_ptr(), bytes.len());
+            calls::mb_canon(self.pool.handle(), self.number, at, len, max_bytes, max_depth, out, room, size, fault, path, steps)
+        })
+    }
+
+    /// The listing of a message, as `pbtool show` prints it.
+    pub fn listing(&self, bytes: &[u8]) -> Result<String, Error> {
+        let Limits { max_bytes, max_depth } = self.limits;
+        let listing = written(5 * bytes.len(), |out, room, size, fault, path, steps| unsafe {
+            let (at, len) = (bytes.as_ptr(), bytes.len());
+            calls::mb_show(self.pool.handle(), self.number, at, len, max_bytes, max_depth, out, room, size, fault, path, steps)
+        })?;
+        Ok(text(listing))
+    }
+
+    /// What the field of a simple name is.
+    pub fn field(&self, name: &str) -> Result<Field, Error> {
+        let mut field = FieldReport::default();
+        Told::new().judge(unsafe { calls::mb_pool_field(self.pool.handle(), self.number, name.as_ptr(), name.len(), &mut field) })?;
+        let FieldReport { number, kind, shape, key, type_of } = field;
+        let shape = match shape {
+            0 => Shape::Implicit,
+            1 => Shape::Optional,
+            2 => Shape::Oneof,
+            3 => Shape::List,
+            _ => Shape::Map,
+        };
+        Ok(Field { number, kind, shape, key: (key != 0).then_some(key), type_of })
+    }
+
+    /// The message type of the values of a field, if they are messages.
+    pub fn inner(&self, field: &Field) -> Option<MessageType> {
+        let number = u32::try_from(field.type_of).ok()?;
+        matches!(field.kind, 10 | 11).then(|| MessageType { number, ..self.clone() })
+    }
+
+    /// An empty message.
+    pub fn empty(&self) -> Result<Message, Error> {
+        let message = Message::none(self);
+        Told::new().judge(unsafe { calls::mb_message_new(self.pool.handle(), self.number, message.handle()) })?;
+        Ok(message)
+    }
+
+    /// The message that bytes are.
+    pub fn decode(&self, bytes: &[u8]) -> Result<Message, Error> {
+        let (message, Limits { max_bytes, max_depth }) = (Message::none(self), self.limits);
+        judged(|fault, path, steps| unsafe {
+            let (at, len, held) = (bytes.as_ptr(), bytes.len(), message.handle());
+            calls::mb_message_decode(self.pool.handle(), self.number, at, len, max_bytes, max_depth, held, fault, path, steps)
+        })?;
+        Ok(message)
+    }
+
+    /// Reads a stream of messages, each after its length. After a frame that is refused it goes on with the next one.
+    pub fn frames<R: Read>(&self, stream: R) -> Frames<'_, R> {
+        Frames::new(self, stream)
+    }
+
+    /// Where the message of the frame that the bytes begin with begins and ends, or None where the bytes end before it does.
+    pub(crate) fn frame(&self, bytes: &[u8]) -> Result<Option<(usize, usize)>, Error> {
+        let (mut frame, mut is_part, Limits { max_bytes, max_depth }) = (FrameReport::default(), false, self.limits);
+        judged(|fault, path, steps| unsafe {
+            let (at, len) = (bytes.as_ptr(), bytes.len());
+            let answer = calls::mb_frames(self.pool.handle(), self.number, at, len, max_bytes, max_depth, &mut frame, fault, path, steps);
+            is_part = answer == calls::PART;
+            if is_part {
+                calls::DONE
+            } else {
+                answer
+            }
+        })?;
+        Ok((!is_part).then_some((frame.begin, frame.end)))
+    }
+
+    /// The value of one field of one scalar, read from the bytes of a message without building it, which are checked as by [`MessageType::check`]. The
+    /// names lead to it from the outermost message on. None where it is not set.
+    #[cfg(mb_find)]
+    pub fn find(&self, bytes: &[u8], names: &[&str]) -> Result<Option<crate::Value>, Error> {
+        let (mut numbers, mut at) = (Vec::with_capacity(names.len()), self.clone());
+        for name in names {
+            let field = at.field(name)?;
+            numbers.push(field.number);
+            at = at.inner(&field).unwrap_or(at);
+        }
+        self.find_numbers(bytes, &numbers)
+    }
+
+    /// As [`MessageType::find`], by the numbers of the fields.
+    #[cfg(mb_find)]
+    pub fn find_numbers(&self, bytes: &[u8], numbers: &[u32]) -> Result<Option<crate::Value>, Error> {
+        let Limits { max_bytes, max_depth } = self.limits;
+        let mut value = crate::structs::Value::default();
+        let mut is_absent = false;
+        let out = written(256, |out, room, size, fault, path, steps| unsafe {
+            let (at, len, handle) = (bytes.as_ptr(), bytes.len(), self.pool.handle());
+            let (of, count) = (numbers.as_ptr(), numbers.len());
+            let answer =
+                calls::mb_find(handle, self.number, at, len, max_bytes, max_depth, of, count, &mut value, out, room, fault, path, steps);
+            is_absent = answer == calls::ABSENT;
+            *size = if answer == calls::DONE { crate::value::size(&value) } else { 0 };
+            if is_absent {
+                calls::DONE
+            } else {
+                answer
+            }
+        })?;
+        Ok(if is_absent { None } else { crate::value::scalar(&value, out) })
+    }
+}
+
+/// A listing is ASCII but for strings, which are UTF-8.
+pub(crate) fn text(listing: Vec<u8>) -> String {
+    String::from_utf8(listing).unwrap_or_else(|refused| String::from_utf8_lossy(refused.as_bytes()).into_owned())
+}
+
+/// Checks bytes as records, without a schema.
+pub fn raw_check(bytes: &[u8], Limits { max_bytes, max_depth }: Limits) -> Result<(), Error> {
+    judged(|fault, path, steps| unsafe { calls::mb_raw_check(bytes.as_ptr(), bytes.len(), max_bytes, max_depth, fault, path, steps) })
+}
+
+/// The shortest spelling of the records that bytes are.
+pub fn raw_short(bytes: &[u8], Limits { max_bytes, max_depth }: Limits) -> Result<Vec<u8>, Error> {
+    written(bytes.len(), |out, room, size, fault, path, steps| unsafe {
+        calls::mb_raw_short(bytes.as_ptr(), bytes.len(), max_bytes, max_depth, out, room, size, fault, path, steps)
+    })
+}

@@ -1,0 +1,195 @@
+//! Parts of a message.
+use crate::structs::{Bytes, Value as Reported};
+use crate::told::{written_alone, Told};
+use crate::value::{scalar, size};
+use crate::{calls, Error, Message, MessageType, Value};
+
+const FIELD: u32 = 21;
+const INDEX: u32 = 22;
+const ABSENT: Error = Error::NoField;
+
+/// A key of a map.
+#[derive(Clone, Debug, PartialEq, Eq, PartialOrd, Ord)]
+pub enum Key {
+    Int32(i32),
+    Int64(i64),
+    Uint32(u32),
+    Uint64(u64),
+    Bool(bool),
+    String(String),
+}
+
+impl From<&str> for Key {
+    fn from(key: &str) -> Key {
+        Key::String(key.to_owned())
+    }
+}
+
+/// A place in a message: `message.field("lines")?.index(2).field("price")?`. It leads there whether or not anything is set.
+#[derive(Clone)]
+pub struct Part<'a> {
+    message: &'a Message,
+    /// The type of what is there, if that is a message, or of the messages in a list or map.
+    message_type: Option<MessageType>,
+    steps: Vec<Reported>,
+    keys: Vec<Vec<u8>>,
+}
+
+impl Message {
+    /// The message itself, as a part.
+    pub fn whole(&self) -> Part<'_> {
+        Part { message: self, message_type: Some(self.message_type().clone()), steps: vec![], keys: vec![] }
+    }
+
+    /// The place of a field, by its simple name.
+    pub fn field(&self, name: &str) -> Result<Part<'_>, Error> {
+        self.whole().field(name)
+    }
+
+    /// The value of a field, by its simple name, or None where it is not set.
+    pub fn get(&self, name: &str) -> Result<Option<Value>, Error> {
+        self.field(name)?.get()
+    }
+}
+
+impl<'a> Part<'a> {
+    fn step(&self, kind: u32, number: u64) -> Part<'a> {
+        let mut part = self.clone();
+        part.steps.push(Reported { kind, number });
+        part
+    }
+
+    /// The type of the message that is here, or of those in the list or map that is here.
+    fn message_type(&self) -> Result<MessageType, Error> {
+        if let Some(message_type) = &self.message_type {
+            return Ok(message_type.clone());
+        }
+        match self.reported()? {
+            Some(Reported { kind: 11, number }) => Ok(MessageType { number: number as u32, ..self.message.message_type().clone() }),
+            _ => Err(Error::NoField),
+        }
+    }
+
+    /// The field of a number of the message that is here.
+    pub fn number(&self, number: u32) -> Part<'a> {
+        Part { message_type: None, ..self.step(FIELD, u64::from(number)) }
+    }
+
+    /// A field of the message that is here.
+    pub fn field(&self, name: &str) -> Result<Part<'a>, Error> {
+        let message_type = self.message_type()?;
+        let field = message_type.field(name)?;
+        Ok(Part { message_type: message_type.inner(&field), ..self.step(FIELD, u64::from(field.number)) })
+    }
+
+    /// The value at an index, counted from 0, of the list that is here.
+    pub fn index(&self, index: usize) -> Part<'a> {
+        self.step(INDEX, index as u64)
+    }
+
+    /// What is under a key of the map that is here.
+    pub fn key(&self, key: impl Into<Key>) -> Part<'a> {
+        match key.into() {
+            Key::Int32(key) => self.step(5, i64::from(key) as u64),
+            Key::Int64(key) => self.step(3, key as u64),
+            Key::Uint32(key) => self.step(13, u64::from(key)),
+            Key::Uint64(key) => self.step(4, key),
+            Key::Bool(key) => self.step(8, u64::from(key)),
+            Key::String(key) => {
+                let mut part = self.step(9, self.keys.len() as u64);
+                part.keys.push(key.into_bytes());
+                part
+            }
+        }
+    }
+
+    fn call(&self, call: impl FnOnce(*const Reported, usize, *const Bytes, usize) -> u32) -> Result<(), Error> {
+        let keys: Vec<Bytes> = self.keys.iter().map(|key| Bytes { at: key.as_ptr(), len: key.len() }).collect();
+        Told::new().judge(call(self.steps.as_ptr(), self.steps.len(), keys.as_ptr(), keys.len()))
+    }
+
+    fn reported(&self) -> Result<Option<Reported>, Error> {
+        let mut value = Reported::default();
+        let found = self.call(|place, steps, keys, count| unsafe {
+            calls::mb_message_get(self.message.handle(), place, steps, keys, count, &mut value)
+        });
+        match found {
+            Ok(()) => Ok(Some(value)),
+            Err(ABSENT) => Ok(None),
+            Err(error) => Err(error),
+        }
+    }
+
+    /// What is here, or None.
+    pub fn get(&self) -> Result<Option<Value>, Error> {
+        let Some(value) = self.reported()? else { return Ok(None) };
+        let mut out = vec![0; size(&value)];
+        if matches!(value.kind, 9 | 12) {
+            let mut len = 0;
+            self.call(|place, steps, keys, count| unsafe {
+                calls::mb_message_read(self.message.handle(), place, steps, keys, count, out.as_mut_ptr(), out.len(), &mut len)
+            })?;
+        }
+        Ok(scalar(&value, out))
+    }
+
+    /// Whether anything is here.
+    pub fn is_set(&self) -> Result<bool, Error> {
+        Ok(self.reported()?.is_some())
+    }
+
+    /// How many values or entries the list or map that is here has: 0 where it is not set.
+    pub fn len(&self) -> Result<usize, Error> {
+        Ok(self.reported()?.map_or(0, |value| if matches!(value.kind, 19 | 20) { value.number as usize } else { 0 }))
+    }
+
+    /// Whether the list or map that is here has no values.
+    pub fn is_empty(&self) -> Result<bool, Error> {
+        Ok(self.len()? == 0)
+    }
+
+    /// The places of the values of the list that is here.
+    pub fn values(&self) -> Result<impl Iterator<Item = Part<'a>> + '_, Error> {
+        Ok((0..self.len()?).map(|index| self.index(index)))
+    }
+
+    /// The numbers of the fields that are set in the message that is here, rising.
+    pub fn numbers(&self) -> Result<Vec<u32>, Error> {
+        let (mut numbers, mut count) = (vec![0; 64], 0);
+        loop {
+            self.call(|place, steps, keys, of| unsafe {
+                calls::mb_message_fields(self.message.handle(), place, steps, keys, of, numbers.as_mut_ptr(), numbers.len(), &mut count)
+            })?;
+            let is_whole = count <= numbers.len();
+            numbers.resize(count, 0);
+            if is_whole {
+                return Ok(numbers);
+            }
+        }
+    }
+
+    /// The keys of the map that is here, in order.
+    pub fn keys(&self) -> Result<Vec<Key>, Error> {
+        (0..self.len()?).map(|index| self.nth_key(index)).collect()
+    }
+
+    fn nth_key(&self, index: usize) -> Result<Key, Error> {
+        let mut key = Reported::default();
+        let keys: Vec<Bytes> = self.keys.iter().map(|key| Bytes { at: key.as_ptr(), len: key.len() }).collect();
+        let (place, steps) = (self.steps.as_ptr(), self.steps.len());
+        let out = written_alone(|out, room, size| unsafe {
+            let answer = calls::mb_message_key(self.message.handle(), place, steps, keys.as_ptr(), keys.len(), index, &mut key, out, room);
+            *size = crate::value::size(&key);
+            answer
+        })?;
+        Ok(match scalar(&key, out) {
+            Some(Value::Int32(key)) => Key::Int32(key),
+            Some(Value::Int64(key)) => Key::Int64(key),
+            Some(Value::Uint32(key)) => Key::Uint32(key),
+            Some(Value::Uint64(key)) => Key::Uint64(key),
+            Some(Value::Bool(key)) => Key::Bool(key),
+            Some(Value::String(key)) => Key::String(key),
+            _ => return Err(Error::Answer(key.kind)),
+        })
+    }
+}

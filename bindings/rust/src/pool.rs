@@ -1,0 +1,107 @@
+//! Pools of types.
+use crate::structs::{Bytes, Handle};
+use crate::told::{linked, Told};
+use crate::{calls, Error, Limits, MessageType};
+use std::cell::{Cell, UnsafeCell};
+use std::ptr;
+
+/// The message types of a descriptor set, or of sources. A clone holds the same ones, at the cost of a small allocation.
+///
+/// It may go to another thread. It is not `Sync`: one thread at a time uses a pool, and each has a clone of its own.
+///
+/// ```compile_fail
+/// fn shared<T: Sync>() {}
+/// shared::<mabristu::Pool>();
+/// ```
+pub struct Pool {
+    handle: UnsafeCell<Handle>,
+    left_out: usize,
+}
+
+// SAFETY: what handles share is counted and never changed, so they may be on different threads. By UnsafeCell a pool is not Sync.
+unsafe impl Send for Pool {}
+
+// SAFETY, of each call in this crate: a pointer goes with the length of what it points to, and nothing that is written overlaps another. No two calls
+// use a handle at once, since its owner is not Sync and no call calls back.
+impl Pool {
+    fn empty() -> Pool {
+        // A library with another interface would have other calls.
+        assert_eq!(unsafe { calls::mb_interface() }, calls::INTERFACE);
+        Pool { handle: UnsafeCell::new(Handle { at: ptr::null_mut(), full: false }), left_out: 0 }
+    }
+
+    pub(crate) fn handle(&self) -> *mut Handle {
+        self.handle.get()
+    }
+
+    /// Links a descriptor set, as `protoc --include_imports --descriptor_set_out` or `pbtool compile` writes one.
+    pub fn link(set: &[u8]) -> Result<Pool, Error> {
+        let pool = Pool::empty();
+        linked(&[], |fault, path, steps, refusal, text, room| unsafe {
+            calls::mb_pool_link(set.as_ptr(), set.len(), pool.handle(), fault, path, steps, refusal, text, room)
+        })?;
+        Ok(pool)
+    }
+
+    /// Links a descriptor set without what is refused in sets of proto2: extensions, required labels, default values and the marks of maps of closed
+    /// enums. [`Pool::left_out`] is how many parts were left out.
+    pub fn link_lenient(set: &[u8]) -> Result<Pool, Error> {
+        let (mut pool, left_out) = (Pool::empty(), Cell::new(0));
+        linked(&[], |fault, path, steps, refusal, text, room| unsafe {
+            let mut count = 0;
+            let answer =
+                calls::mb_pool_link_lenient(set.as_ptr(), set.len(), pool.handle(), &mut count, fault, path, steps, refusal, text, room);
+            left_out.set(count);
+            answer
+        })?;
+        pool.left_out = left_out.get();
+        Ok(pool)
+    }
+
+    /// Links sources of proto3, each by its name, as imports name it, and its text. What they import has to be among them.
+    pub fn of_sources<N: AsRef<str>, T: AsRef<[u8]>>(sources: impl IntoIterator<Item = (N, T)>) -> Result<Pool, Error> {
+        let (pool, sources) = (Pool::empty(), sources.into_iter().collect::<Vec<_>>());
+        let listed = |bytes: &[u8]| Bytes { at: bytes.as_ptr(), len: bytes.len() };
+        let names: Vec<&str> = sources.iter().map(|(name, _)| name.as_ref()).collect();
+        let name_bytes: Vec<Bytes> = names.iter().map(|name| listed(name.as_bytes())).collect();
+        let text_bytes: Vec<Bytes> = sources.iter().map(|(_, text)| listed(text.as_ref())).collect();
+        linked(&names, |_, _, _, refusal, text, room| unsafe {
+            let (names, texts) = (name_bytes.as_ptr(), text_bytes.as_ptr());
+            calls::mb_pool_compile(names, name_bytes.len(), texts, text_bytes.len(), pool.handle(), refusal, text, room)
+        })?;
+        Ok(pool)
+    }
+
+    /// How many parts of the set lenient reading left out.
+    pub fn left_out(&self) -> usize {
+        self.left_out
+    }
+
+    /// A clone, or an error where memory runs out.
+    pub fn try_clone(&self) -> Result<Pool, Error> {
+        let mut other = Pool::empty();
+        other.left_out = self.left_out;
+        Told::new().judge(unsafe { calls::mb_pool_share(self.handle(), other.handle()) })?;
+        Ok(other)
+    }
+
+    /// The message type of a full name, as `shop.Order`.
+    pub fn message_type(&self, name: &str) -> Result<MessageType, Error> {
+        let mut number = 0;
+        Told::new().judge(unsafe { calls::mb_pool_type(self.handle(), name.as_ptr(), name.len(), &mut number) })?;
+        Ok(MessageType { pool: self.try_clone()?, number, limits: Limits::FULL })
+    }
+}
+
+impl Clone for Pool {
+    /// Panics where memory runs out.
+    fn clone(&self) -> Pool {
+        self.try_clone().expect("there is memory for a handle")
+    }
+}
+
+impl Drop for Pool {
+    fn drop(&mut self) {
+        unsafe { calls::mb_pool_free(self.handle()) }
+    }
+}

@@ -1,0 +1,70 @@
+//! The structs of mabristu.h.
+
+#[repr(C)]
+#[derive(Default)]
+pub struct Fault {
+    pub byte: u64,
+    pub steps: usize,
+    pub cause: u32,
+}
+
+/// A record, by its number and by how many whole records of that number stand before it in what holds it.
+#[repr(C)]
+#[derive(Clone, Copy, Debug, Default, PartialEq, Eq)]
+pub struct Step {
+    pub number: u32,
+    pub before: u32,
+}
+
+#[repr(C)]
+pub struct Handle {
+    pub at: *mut u8,
+    pub full: bool,
+}
+
+/// What a field is: kinds by the numbers of types in descriptor.proto, the shape and the type by the numbers that mabristu.h tells.
+#[repr(C)]
+#[derive(Clone, Copy, Debug, Default, PartialEq, Eq)]
+pub struct Field {
+    pub number: u32,
+    pub kind: u32,
+    pub shape: u32,
+    pub key: u32,
+    pub type_of: usize,
+}
+
+#[repr(C)]
+pub struct MessageHandle {
+    pub at: *mut u8,
+    pub full: bool,
+}
+
+#[repr(C)]
+#[derive(Default)]
+pub struct Refusal {
+    pub file: usize,
+    pub byte: u64,
+    pub file_len: usize,
+    pub name_len: usize,
+}
+
+#[repr(C)]
+pub struct Bytes {
+    pub at: *const u8,
+    pub len: usize,
+}
+
+#[repr(C)]
+#[derive(Default)]
+pub struct Frame {
+    pub begin: usize,
+    pub end: usize,
+}
+
+#[cfg(any(mb_find, mb_message_get))]
+#[repr(C)]
+#[derive(Clone, Copy, Debug, Default, PartialEq, Eq)]
+pub struct Value {
+    pub kind: u32,
+    pub number: u64,
+}

@@ -1,0 +1,54 @@
+//! Values of fields.
+use crate::structs::Value as Reported;
+
+/// A value of a field.
+#[derive(Clone, Debug, PartialEq)]
+#[non_exhaustive]
+pub enum Value {
+    Double(f64),
+    Float(f32),
+    Int64(i64),
+    Uint64(u64),
+    Int32(i32),
+    Uint32(u32),
+    Bool(bool),
+    String(String),
+    Bytes(Vec<u8>),
+    /// The number of an enum's value.
+    Enum(i32),
+    /// A message, by the number of its type ([`crate::MessageType::number`]).
+    Message(u32),
+    /// A list of so many values.
+    List(usize),
+    /// A map of so many entries.
+    Map(usize),
+}
+
+/// How many bytes of a string or bytes there are, 0 of other values.
+pub(crate) fn size(value: &Reported) -> usize {
+    if matches!(value.kind, 9 | 12) {
+        value.number as usize
+    } else {
+        0
+    }
+}
+
+/// A reported value, of a string or bytes with these bytes.
+pub(crate) fn scalar(&Reported { kind, number }: &Reported, bytes: Vec<u8>) -> Option<Value> {
+    Some(match kind {
+        1 => Value::Double(f64::from_bits(number)),
+        2 => Value::Float(f32::from_bits(number as u32)),
+        3 => Value::Int64(number as i64),
+        4 => Value::Uint64(number),
+        5 => Value::Int32(number as i32),
+        8 => Value::Bool(number != 0),
+        9 => Value::String(String::from_utf8(bytes).ok()?),
+        11 => Value::Message(number as u32),
+        12 => Value::Bytes(bytes),
+        13 => Value::Uint32(number as u32),
+        14 => Value::Enum(number as i32),
+        19 => Value::List(number as usize),
+        20 => Value::Map(number as usize),
+        _ => return None,
+    })
+}

@@ -1,0 +1,59 @@
+//! Fields of the order of the shop, where the library reads them. The values are those of its listing in examples/.
+#![cfg(mb_message_get)]
+use mabristu::{Error, Key, Message, Pool, Value};
+use std::fs;
+
+fn example(name: &str) -> Vec<u8> {
+    fs::read(format!("{}/../../examples/{name}", env!("CARGO_MANIFEST_DIR"))).unwrap()
+}
+
+fn order() -> Message {
+    Pool::link(&example("shop.set")).unwrap().message_type("shop.Order").unwrap().decode(&example("shop_order.bin")).unwrap()
+}
+
+#[test]
+fn reads_scalars() {
+    let order = order();
+    assert_eq!(order.get("number"), Ok(Some(Value::Uint64(4711))));
+    assert_eq!(order.get("placed_on"), Ok(Some(Value::String("2024-05-17".to_owned()))));
+    assert_eq!(order.get("state"), Ok(Some(Value::Enum(1))));
+    assert_eq!(order.get("gift"), Ok(Some(Value::Bool(false))));
+    assert_eq!(order.get("card"), Ok(None));
+    assert_eq!(order.get("nothing"), Err(Error::NoField));
+}
+
+#[test]
+fn reads_lists_maps_and_messages() -> Result<(), Error> {
+    let order = order();
+    let lines = order.field("lines")?;
+    assert_eq!((lines.len()?, lines.get()?, lines.index(2).get()?), (2, Some(Value::List(2)), None));
+    let articles = lines.values()?.map(|line| line.field("article")?.get()).collect::<Result<Vec<_>, _>>()?;
+    assert_eq!(articles, ["bolt M8", "torque wrench"].map(|it| Some(Value::String(it.to_owned()))));
+    assert_eq!(lines.index(1).field("price")?.get()?, Some(Value::Double(89.5)));
+    let discounts = order.field("discounts")?;
+    assert_eq!(discounts.keys()?, [Key::from("loyal"), Key::from("spring")]);
+    assert_eq!((discounts.key("loyal").get()?, discounts.key("none").get()?), (Some(Value::Int32(3)), None));
+    let invoice = order.field("invoice")?;
+    assert_eq!((invoice.get()?, invoice.numbers()?), (Some(Value::Message(2)), vec![1, 2]));
+    assert_eq!(invoice.field("signature")?.get()?, Some(Value::Bytes(vec![1, 255])));
+    assert_eq!(order.whole().numbers()?, [1, 2, 3, 4, 6, 7, 8, 9]);
+    assert_eq!(order.whole().number(6).field("address")?.get()?, Some(Value::String("Main Street 1".to_owned())));
+    assert_eq!(order.whole().number(3).index(1).number(2).get()?, Some(Value::Int32(1)));
+    assert_eq!(order.whole().number(99).get()?, None);
+    assert!(order.field("card")?.is_empty()? && !order.field("card")?.is_set()?);
+    Ok(())
+}
+
+#[cfg(mb_find)]
+#[test]
+fn finds_in_bytes() {
+    let (order, bytes) = (order(), example("shop_order.bin"));
+    let order = order.message_type();
+    assert_eq!(order.find(&bytes, &["number"]), Ok(Some(Value::Uint64(4711))));
+    assert_eq!(order.find(&bytes, &["invoice", "address"]), Ok(Some(Value::String("Main Street 1".to_owned()))));
+    assert_eq!(order.find(&bytes, &["card"]), Ok(None));
+    assert_eq!(order.find_numbers(&bytes, &[6, 2]), Ok(Some(Value::Bytes(vec![1, 255]))));
+    assert_eq!(order.find(&bytes[..50], &["number"]).unwrap_err().to_string(), "byte 50 path 3[1].1[0] cause Truncated");
+    let long = [&[0x12, 0xb8, 0x17][..], &[b'a'; 3000]].concat();
+    assert_eq!(order.find(&long, &["placed_on"]), Ok(Some(Value::String("a".repeat(3000)))));
+}

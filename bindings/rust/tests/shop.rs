@@ -1,0 +1,129 @@
+//! The order of the shop: its bytes, listing and types are those of examples/, and the records written here are made by hand.
+use mabristu::{raw_check, raw_short, Error, Limits, MessageType, Pool, Shape, Step, StreamError};
+use std::{fs, thread};
+
+fn example(name: &str) -> Vec<u8> {
+    fs::read(format!("{}/../../examples/{name}", env!("CARGO_MANIFEST_DIR"))).unwrap()
+}
+
+fn order() -> MessageType {
+    Pool::link(&example("shop.set")).unwrap().message_type("shop.Order").unwrap()
+}
+
+/// A varint of one byte, then the message.
+fn framed(message: &[u8]) -> Vec<u8> {
+    [&[message.len() as u8], message].concat()
+}
+
+#[test]
+fn lists_as_pbtool_does() {
+    let (order, bytes) = (order(), example("shop_order.bin"));
+    let listing = String::from_utf8(example("shop_order.show.txt")).unwrap();
+    assert_eq!(order.listing(&bytes).unwrap(), listing);
+    assert_eq!(order.decode(&bytes).unwrap().to_string(), listing);
+    assert_eq!(format!("{:?}", order.decode(&bytes).unwrap()), listing);
+}
+
+#[test]
+fn writes_what_it_read() {
+    // The example is canonical, but for its order: number 1 with an overlong varint is not.
+    let order = order();
+    let message = order.decode(&[0x08, 0x85, 0x00]).unwrap();
+    assert_eq!(message.encode().unwrap(), [0x08, 0x05]);
+    assert_eq!(message.encoded_length(), Ok(2));
+    assert_eq!(order.canonical(&[0x08, 0x85, 0x00]).unwrap(), [0x08, 0x05]);
+    assert_eq!(order.empty().unwrap().encode().unwrap(), []);
+    assert_eq!(raw_short(&[0x08, 0x85, 0x00], Limits::FULL).unwrap(), [0x08, 0x05]);
+}
+
+#[test]
+fn refuses_with_byte_path_and_cause() {
+    let order = order();
+    // In the second of two lines (3) the article (1) is longer than the line.
+    let bytes = [0x1a, 0, 0x1a, 2, 0x0a, 5];
+    let Err(Error::Fault { byte, path, cause }) = order.check(&bytes) else { panic!() };
+    assert_eq!((byte, path), (5, vec![Step { number: 3, before: 1 }, Step { number: 1, before: 0 }]));
+    assert_eq!((cause.name(), cause.number()), ("PastEnd", 2));
+    assert_eq!(order.decode(&bytes).unwrap_err().to_string(), "byte 5 path 3[1].1[0] cause PastEnd");
+    assert_eq!(raw_check(&[0x0f], Limits::FULL).unwrap_err().cause().unwrap().name(), "BadType");
+    let short = order.with_limits(Limits { max_bytes: 3, ..Limits::FULL });
+    assert_eq!(short.check(&bytes).unwrap_err().to_string(), "byte 3 path - cause InputTooLarge");
+    let deep = short.with_limits(Limits { max_depth: 101, ..Limits::FULL });
+    assert_eq!(deep.check(&bytes), Err(Error::BadLimits));
+}
+
+#[test]
+fn names_types_and_fields() {
+    let order = order();
+    let lines = order.field("lines").unwrap();
+    assert_eq!((lines.number, lines.kind, lines.shape, lines.key), (3, 11, Shape::List, None));
+    assert_eq!(order.field("discounts").unwrap().key, Some(9));
+    assert_eq!(order.field("gift").unwrap().shape, Shape::Optional);
+    assert_eq!(order.field("card").unwrap().shape, Shape::Oneof);
+    assert_eq!(order.field("number").unwrap().shape, Shape::Implicit);
+    assert_eq!(order.inner(&lines).unwrap().field("price").unwrap().kind, 1);
+    assert!(order.inner(&order.field("number").unwrap()).is_none());
+    assert_eq!(order.field("nothing"), Err(Error::NoField));
+    assert_eq!(order.pool().message_type("shop.Nothing").err(), Some(Error::NoType));
+}
+
+#[test]
+fn refuses_sets_and_sources() {
+    let refused = |text: &str| Pool::of_sources([("a.proto", text)]).err().unwrap().to_string();
+    assert_eq!(refused("syntax = \"proto3\"; message A { B b = 1; }"), "link a.proto at A.b cause NotFound");
+    assert_eq!(refused("syntax = \"proto3\"; message A { int32 b = 1 }"), "source a.proto byte 43 cause Unexpected");
+    assert_eq!(Pool::link(&[0x0a]).err().unwrap().to_string(), "byte 1 path 1[0] cause Truncated");
+    // A file with an extension (7) and the syntax proto2 (12).
+    let set = [&[10, 25][..], b"\x0a\x01f", b"\x3a\x0c\x0a\x01x\x12\x01T\x18\x64\x20\x01\x28\x05", b"\x62\x06proto2"].concat();
+    assert_eq!(Pool::link(&set).err().unwrap().to_string(), "set file 0 cause Extension");
+    assert_eq!(Pool::link_lenient(&set).unwrap().left_out(), 1);
+}
+
+#[test]
+fn reads_on_after_a_bad_frame() {
+    let (order, message) = (order(), example("shop_order.bin"));
+    let stream = [framed(&message), vec![3, 0x1a, 9, 9], framed(&[]), framed(&message)[..40].to_vec()].concat();
+    let mut found = vec![];
+    for frame in order.frames(&stream[..]) {
+        match frame {
+            Ok(frame) => found.push(format!("{} {}", frame.at, frame.size)),
+            Err(StreamError::Refused { at, error: Error::Fault { byte, cause, .. }, .. }) => found.push(format!("{at}+{byte} {cause}")),
+            Err(error) => panic!("{error}"),
+        }
+    }
+    assert_eq!(found, ["0 119", "119+2 PastEnd", "123 1", "124+40 Truncated"]);
+}
+
+#[test]
+fn reads_long_frames_by_pieces() {
+    struct Slow<'a>(&'a [u8]);
+    impl std::io::Read for Slow<'_> {
+        fn read(&mut self, out: &mut [u8]) -> std::io::Result<usize> {
+            let count = self.0.len().min(out.len()).min(1000);
+            out[..count].copy_from_slice(&self.0[..count]);
+            self.0 = &self.0[count..];
+            Ok(count)
+        }
+    }
+    // Two messages of an unknown record of 200,000 bytes, and one between whose length says so many, and that is no message.
+    let long = [&[0xfa, 0x06, 0xc0, 0x9a, 0x0c][..], &vec![7; 200_000]].concat();
+    let length = [0xc5, 0x9a, 0x0c];
+    let stream = [&length[..], &long, &length, &[0x0f], &long[1..], &length, &long].concat();
+    let order = order();
+    let found: Vec<_> =
+        order.frames(Slow(&stream)).map(|it| it.map(|frame| frame.data == long).map_err(|error| error.to_string())).collect();
+    assert_eq!(found, [Ok(true), Err("frame 1 byte 3 path - cause BadType".to_owned()), Ok(true)]);
+}
+
+#[test]
+fn goes_to_threads() {
+    let (order, bytes) = (order(), example("shop_order.bin"));
+    let threads: Vec<_> = (0..4)
+        .map(|_| {
+            let (order, bytes) = (order.clone(), bytes.clone());
+            thread::spawn(move || (0..100).all(|_| order.check(&bytes).is_ok() && order.decode(&bytes).is_ok()))
+        })
+        .collect();
+    drop(order);
+    assert!(threads.into_iter().all(|it| it.join().unwrap()));
+}

@@ -1,0 +1,106 @@
+//! The words of pbtool, by the crate mabristu: tool check|show|canon|frames [--lenient] SET TYPE FILE, tool short FILE, tool compile ROOT FILE..
+//! Canonical bytes and listing once more, of a message that the library holds: tool encode|list [--lenient] SET TYPE FILE, and of an empty message: tool empty
+//! SET TYPE FILE. How many parts of a set lenient reading leaves out: tool omitted SET. What a field is: tool field SET TYPE NAME. What a message has, a
+//! place a line: tool read [--lenient] SET TYPE FILE, as read.c prints it. The scalar at a path of field numbers, such as 3.1: tool find [--lenient] SET TYPE
+//! FILE PATH
+mod files;
+#[cfg(all(mb_find, mb_message_get))]
+mod values;
+
+use files::{failure, hexadecimal, print, read, refused, Failure};
+use mabristu::{raw_check, raw_short, Error, Field, Limits, Message, MessageType, Pool, StreamError};
+use std::process::ExitCode;
+
+/// The messages of a stream, each after its length.
+fn frames(order: &MessageType, stream: &[u8]) -> Result<(), Failure> {
+    for (count, frame) in order.frames(stream).enumerate() {
+        let frame = frame.map_err(|error| match error {
+            StreamError::Refused { index, error, .. } => failure(error, &format!("frame {index} ")),
+            failure => (failure.to_string(), 3),
+        })?;
+        print(format!("frame {count} at {} size {}\n", frame.at, frame.size).as_bytes())?;
+        for line in order.listing(&frame.data).map_err(refused)?.split_terminator('\n') {
+            print(format!("  {line}\n").as_bytes())?;
+        }
+    }
+    Ok(())
+}
+
+/// Prints the canonical bytes of a message that the library holds.
+fn encode(message: Result<Message, Error>) -> Result<(), Failure> {
+    let message = message.map_err(refused)?;
+    let encoded = message.encode().map_err(refused)?;
+    assert_eq!(message.encoded_length(), Ok(encoded.len()));
+    print(&hexadecimal(&encoded))
+}
+
+fn message_type(pool: &Pool, name: &str) -> Result<MessageType, Failure> {
+    pool.message_type(name).map_err(|error| match error {
+        Error::NoType => (format!("type {name} unknown"), 1),
+        _ => refused(error),
+    })
+}
+
+/// What a field is, by the numbers of struct mb_field.
+fn field(found: &MessageType, name: &str) -> Result<(), Failure> {
+    let Field { number, kind, shape, key, type_of } = found.field(name).map_err(|error| match error {
+        Error::NoField => (format!("field {name} unknown"), 1),
+        _ => refused(error),
+    })?;
+    print(format!("{number} {kind} {} {} {type_of}\n", shape as u32, key.unwrap_or(0)).as_bytes())
+}
+
+fn run(words: &[&str]) -> Result<(), Failure> {
+    let of_set = |error| failure(error, "set ");
+    if let ["short", name] = words {
+        let bytes = read(name)?;
+        raw_check(&bytes, Limits::FULL).map_err(refused)?;
+        return print(&hexadecimal(&raw_short(&bytes, Limits::FULL).map_err(refused)?));
+    }
+    if let ["compile", root, names @ ..] = words {
+        let sources = names.iter().map(|name| Ok((*name, read(&format!("{root}/{name}"))?))).collect::<Result<Vec<_>, _>>()?;
+        return Pool::of_sources(sources).map(drop).map_err(refused);
+    }
+    if let ["omitted", set] = words {
+        return print(format!("{}\n", Pool::link_lenient(&read(set)?).map_err(of_set)?.left_out()).as_bytes());
+    }
+    if let ["field", set, type_name, name] = words {
+        return field(&message_type(&Pool::link(&read(set)?).map_err(of_set)?, type_name)?, name);
+    }
+    #[cfg(all(mb_find, mb_message_get))]
+    if let ["find", options @ .., set, name, file, path] = words {
+        let set = read(set)?;
+        let pool = if options.is_empty() { Pool::link(&set) } else { Pool::link_lenient(&set) };
+        return print(values::found(&message_type(&pool.map_err(of_set)?, name)?, &read(file)?, path)?.as_bytes());
+    }
+    let (command, pool, name, file) = match words {
+        [command, "--lenient", set, name, file] => (command, Pool::link_lenient(&read(set)?), name, file),
+        [command, set, name, file] => (command, Pool::link(&read(set)?), name, file),
+        _ => return Err(("usage: see the head of tool.rs".to_owned(), 2)),
+    };
+    let found = message_type(&pool.map_err(of_set)?, name)?;
+    let bytes = read(file)?;
+    match *command {
+        "check" => found.check(&bytes).map_err(refused).and_then(|()| print(b"ok\n")),
+        "show" => print(found.listing(&bytes).map_err(refused)?.as_bytes()),
+        "canon" => print(&hexadecimal(&found.canonical(&bytes).map_err(refused)?)),
+        "encode" => encode(found.decode(&bytes)),
+        "empty" => encode(found.empty()),
+        "list" => print(found.decode(&bytes).and_then(|message| message.listing()).map_err(refused)?.as_bytes()),
+        #[cfg(all(mb_find, mb_message_get))]
+        "read" => print(values::places(&found.decode(&bytes).map_err(refused)?.whole(), "").map_err(refused)?.as_bytes()),
+        _ => frames(&found, &bytes),
+    }
+}
+
+fn main() -> ExitCode {
+    let words: Vec<String> = std::env::args().skip(1).collect();
+    let words: Vec<&str> = words.iter().map(String::as_str).collect();
+    match run(&words) {
+        Ok(()) => ExitCode::SUCCESS,
+        Err((line, status)) => {
+            eprintln!("{line}");
+            ExitCode::from(status)
+        }
+    }
+}
