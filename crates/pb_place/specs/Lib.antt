@@ -1,3 +1,7 @@
 pub mod At
 pub mod Found
 pub mod Ask
+pub mod Replaced
+pub mod Changed
+pub mod Edits
+pub mod ErrorName

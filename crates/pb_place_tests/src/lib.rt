@@ -4,6 +4,8 @@
 #[cfg(test)]
 mod asking;
 #[cfg(test)]
+mod changing;
+#[cfg(test)]
 mod places;
 #[cfg(test)]
 mod reading;

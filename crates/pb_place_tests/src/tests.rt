@@ -9,12 +9,14 @@ use std::test::Fail;
 enum Form {
     Reading,
     Asking,
+    Changing,
 }
 
 fn is_right(alloc: Global, schema: &Schema, form: Form, row: &str) -> Result<bool, Fail> {
     match form {
         Form::Reading => super::reading::is_right(alloc, schema, row),
         Form::Asking => super::asking::is_right(alloc, schema, row),
+        Form::Changing => super::changing::is_right(alloc, schema, row),
     }
 }
 
@@ -45,6 +47,13 @@ fn reading(rt: HostRuntime) -> Result<(), Fail> {
 #[test]
 fn asking(rt: HostRuntime) -> Result<(), Fail> {
     let wrong = wrong_row(rt.alloc(), Form::Asking, super::asking::TABLES)?;
+    assert!(rt; wrong.is_none(), "{wrong:?}");
+    Ok(())
+}
+
+#[test]
+fn changing(rt: HostRuntime) -> Result<(), Fail> {
+    let wrong = wrong_row(rt.alloc(), Form::Changing, super::changing::TABLES)?;
     assert!(rt; wrong.is_none(), "{wrong:?}");
     Ok(())
 }

@@ -1,0 +1,97 @@
+-- What a change at a place makes of a message, and why it is refused.
+use Rattle.std.specs.Prelude.{◌≡◌, ◌⊎◌, ◌-◌, ℕ, suc, List, [], ◌∷◌, nat_le, Option, Some, None, option_map, option_and_then, IsSomeAnd}
+use Rattle.std.specs.Prelude.{Result, MatchResult}
+use Rattle.pb_schema.specs.Types.{Types, message_fields}
+use Rattle.pb_value.specs.Data.{Datum, Holding, Message, drop_field, holding_depth}
+use Rattle.pb_value.specs.Dynamic.{Dynamic, with_changed}
+use Rattle.pb_value.specs.Change.{set_at, set_cause}
+use Rattle.pb_value.specs.Cause.{or_else, unless}
+use Rattle.pb_value.specs.declared.error.ValueError.{ValueError}
+use Rattle.pb_value.specs.declared.error.ValueError.TheVariants.{Memory, TooDeep}
+use Rattle.pb_place.specs.declared.error.ChangeError.{ChangeError}
+use Rattle.pb_place.specs.declared.error.ChangeError.TheVariants.{Absent, Refused}
+use Rattle.pb_place.specs.declared.step.PlaceStep.{PlaceStep}
+use Rattle.pb_place.specs.declared.step.PlaceStep.TheVariants.{Field, Index, Key}
+use Rattle.pb_place.specs.At.{Part, message_part, part_at, seen}
+use Rattle.pb_place.specs.Ask.{message_in}
+use Rattle.pb_place.specs.Replaced.{with_at}
+
+-- A change of one message, by the number of a field.
+pub data Edit : Type 0 where
+  set : Holding → ℕ → Edit
+  clear : ℕ → Edit
+
+-- the message with the change made, which is what `DynamicMessage` makes of it
+abbrev pub edited : Edit → Dynamic → Dynamic
+edited (set h n) v = with_changed v (set_at (message_fields v.pool v.kind) n h)
+edited (clear n) v = with_changed v (drop_field n)
+
+-- why `DynamicMessage` refuses it, for a message of a type
+abbrev pub edit_cause : Edit → Types → ℕ → Option ValueError
+edit_cause (set h n) pool m = set_cause pool m n h
+edit_cause (clear n) pool m = None
+
+-- how deep what it brings nests below the message
+abbrev pub brings : Edit → ℕ
+brings (set h n) = holding_depth h
+brings (clear n) = 0
+
+-- what it takes out of the message
+abbrev pub taken_out : Edit → Dynamic → Option Datum
+taken_out (set h n) v = None
+taken_out (clear n) v = None
+
+-- the message that a part has at a place
+abbrev pub target : List PlaceStep → Part → Option Dynamic
+target p x = option_and_then message_in (option_map seen (part_at p x))
+
+-- how many messages are around one at a place: each step to a field leads into one more
+abbrev pub levels_above : List PlaceStep → ℕ
+levels_above [] = 0
+levels_above (Field n ∷ p) = suc (levels_above p)
+levels_above (Index i ∷ p) = levels_above p
+levels_above (Key k ∷ p) = levels_above p
+
+-- Why a change of a message is refused below which at most so many levels may be added: the message is not there, or today's cause, and
+-- the depth last.
+abbrev pub refusal : ℕ → Edit → Option Dynamic → Option ChangeError
+refusal most e None = Some Absent
+refusal most e (Some w) = option_map Refused (or_else (edit_cause e w.pool w.kind) (unless (nat_le (brings e) most) TooDeep))
+
+-- a call is refused exactly where there is a cause, and with that cause, but where memory runs out
+abbrev pub IsRefused : {T : Type 0} → Result T ChangeError → Option ChangeError → Type 0
+IsRefused r cause = MatchResult r (λ _. cause ≡ None) (λ e. (e ≡ Refused Memory) ⊎ (cause ≡ Some e))
+
+-- a place that ends at a field: the place of its message, and the field's number
+abbrev pub field_place : List PlaceStep → Option (List PlaceStep × ℕ)
+field_place [] = None
+field_place (s ∷ p) = here s p
+  where
+    after : PlaceStep → Option (List PlaceStep × ℕ) → Option (List PlaceStep × ℕ)
+    after s rest = option_map (λ q. (s ∷ q.0, q.1)) rest
+
+    here : PlaceStep → List PlaceStep → Option (List PlaceStep × ℕ)
+    here (Field n) [] = Some ([], n)
+    here (Index i) [] = None
+    here (Key k) [] = None
+    here s (t ∷ p) = after s (field_place (t ∷ p))
+
+-- at the message of a place, at most so many levels may be added: no more than 100 are below the whole
+abbrev pub most_at : List PlaceStep → ℕ
+most_at p = 100 - levels_above p
+
+-- why a change at a place is refused
+abbrev pub refusal_at : List PlaceStep → (ℕ → Edit) → Dynamic → Option ChangeError
+refusal_at place e v = of (field_place place)
+  where
+    of : Option (List PlaceStep × ℕ) → Option ChangeError
+    of None = Some Absent
+    of (Some q) = refusal (most_at q.0) (e q.1) (target q.0 (message_part v))
+
+-- The message at a place is changed, and all else is as before.
+abbrev pub IsChangedAt : List PlaceStep → Edit → Dynamic → Dynamic → Type 0
+IsChangedAt p e v new = IsSomeAnd (target p (message_part v)) (λ w. new ≡ record v { body = with_at p (edited e w).body v.body })
+
+-- the same, where the place ends at a field
+abbrev pub IsFieldChanged : List PlaceStep → (ℕ → Edit) → Dynamic → Dynamic → Type 0
+IsFieldChanged place e v new = IsSomeAnd (field_place place) (λ q. IsChangedAt q.0 (e q.1) v new)

@@ -1,0 +1,90 @@
+//! Changes of the message at a place.
+
+ghost use Rattle.std.specs.Prelude.{◌≡◌, IfOk, OnOk, OnErr, Some, option_and_then, option_map};
+ghost use Rattle.pb_value.specs.View.{content_view, value_view};
+ghost use Rattle.pb_place.specs.At.{message_part};
+ghost use Rattle.pb_place.specs.Changed.{set, clear, most_at, refusal, refusal_at, target, taken_out, IsChangedAt, IsFieldChanged, IsRefused};
+ghost use Rattle.pb_place.specs.Edits.{edit_of};
+
+use crate::change::Change;
+use crate::error::ChangeError;
+use crate::step::PlaceStep;
+use crate::walk::{Walk, into_well_formed};
+use pb_value::parts::{MAX_LEVELS, from_well_formed};
+use pb_value::{Content, DynamicMessage, Value};
+use std::mem;
+
+/// How many levels may be added below the message at a place.
+fn most_at(place: &[PlaceStep]) -> u8
+    ensures { result ≡ most_at place.now }
+{
+    let mut left = MAX_LEVELS;
+    for step in place {
+        if let PlaceStep::Field(_) = step {
+            left = left.saturating_sub(1);
+        }
+    }
+    left
+}
+
+/// Makes a change in the message at a place. The answer is what was taken out of it.
+pub(crate) fn change_at(
+    message: &mut DynamicMessage<'_>,
+    place: &[PlaceStep],
+    change: Change,
+) -> Result<Option<Value>, ChangeError>
+    ensures ok { IfOk result (λ _. IsChangedAt place.now (edit_of change) message.old message.new) }
+    ensures out { IfOk result (λ v. Some (option_map value_view v) ≡ option_map (taken_out (edit_of change)) (target place.now (message_part message.old))) }
+    ensures err { OnErr result (message.new ≡ message.old) }
+    ensures judged { IsRefused result (refusal (most_at place.now) (edit_of change) (target place.now (message_part message.old))) }
+{
+    let alloc = message.alloc();
+    let pool = message.pool();
+    let message_type = message.message_type();
+    let walk = Walk {
+        alloc,
+        pool,
+        most: most_at(place),
+    };
+    let whole = mem::replace(message, DynamicMessage::new(alloc, pool, message_type));
+    let mut body = into_well_formed(whole);
+    let answer = walk.change_in(message_type, &mut body, place, change);
+    *message = from_well_formed(alloc, pool, message_type, body);
+    Ok(answer?)
+}
+
+/// Sets the field that a place ends at to a content, in the message that the steps before it lead to.
+///
+/// That message is changed as by [`DynamicMessage::set`], and nothing else. The call is refused where the message is not there, or else
+/// where `set` refuses the content, and last where the whole message would nest more than 100 levels deep. A refused call changes
+/// nothing.
+pub fn set_at(
+    message: &mut DynamicMessage<'_>,
+    place: &[PlaceStep],
+    content: Content,
+) -> Result<(), ChangeError>
+    ensures ok { OnOk result (IsFieldChanged place.now (set (content_view content)) message.old message.new) }
+    ensures err { OnErr result (message.new ≡ message.old) }
+    ensures judged { IsRefused result (refusal_at place.now (set (content_view content)) message.old) }
+{
+    let Some((PlaceStep::Field(number), parent)) = place.split_last() else {
+        return Err(ChangeError::Absent);
+    };
+    drop(change_at(message, parent, Change::Set(*number, content))?);
+    Ok(())
+}
+
+/// Clears the field that a place ends at, in the message that the steps before it lead to.
+///
+/// That message is changed as by [`DynamicMessage::clear`], and nothing else. The call is refused where the message is not there.
+pub fn clear_at(message: &mut DynamicMessage<'_>, place: &[PlaceStep]) -> Result<(), ChangeError>
+    ensures ok { OnOk result (IsFieldChanged place.now clear message.old message.new) }
+    ensures err { OnErr result (message.new ≡ message.old) }
+    ensures judged { IsRefused result (refusal_at place.now clear message.old) }
+{
+    let Some((PlaceStep::Field(number), parent)) = place.split_last() else {
+        return Err(ChangeError::Absent);
+    };
+    drop(change_at(message, parent, Change::Clear(*number))?);
+    Ok(())
+}

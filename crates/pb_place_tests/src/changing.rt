@@ -1,0 +1,120 @@
+//! Changes at places.
+
+use super::places::place_of;
+use super::schema::Schema;
+use pb_place::{ChangeError, PlaceStep, clear_at, set_at};
+use pb_samples::{body_of, content_of};
+use pb_value::DynamicMessage;
+use std::alloc::Global;
+use std::test::Fail;
+
+/// A row: the fields of a message, a change with a place, and the fields after it, or why it is refused; then the message is as before.
+const SET: &str = "
+1:i5 | set i7 f1 | 1:i7
+1:i5 | set i0 f1 |
+2:tx | set b0 f10 | 2:tx 10:b0
+3:m1=i5;2=tx | set i7 f3 f1 | 3:m1=i7;2=tx
+3:m1=i5 | set i0 f3 f1 | 3:n0
+3:n2.1=i5 | set i6 f3 f3 f3 f1 | 3:n2.1=i6
+3:n1.1=i5 | set n0 f3 f3 | 3:n1
+3:n0 | set n98 f3 f3 | 3:n99
+3:n1 | set n97 f3 f3 f3 | 3:n99
+19:[m1=i7,m1=i8] | set i9 f19 #1 f1 | 19:[m1=i7,m1=i9]
+19:[m1=i7,m1=i8] | set i9 f19 #0 f1 | 19:[m1=i9,m1=i8]
+12:{u8=n0,u9=m1=i6} | set i7 f12 ku9 f1 | 12:{u8=n0,u9=m1=i7}
+12:{u8=n0,u9=m1=i6} | set i7 f12 ku8 f1 | 12:{u8=m1=i7,u9=m1=i6}
+12:{u8=n1.1=i5,u9=n0} | set i7 f12 ku8 f3 f1 | 12:{u8=n1.1=i7,u9=n0}
+19:[n0,m7=u1] | set u2 f19 #1 f7 | 19:[n0,m7=u2]
+20:m1=tx | set ty f20 f1 | 20:m1=ty
+";
+
+const CLEARED: &str = "
+1:i5 2:tx | clear f1 | 2:tx
+1:i5 | clear f2 | 1:i5
+3:m1=i5;2=tx | clear f3 f1 | 3:m2=tx
+3:m1=i5 | clear f3 f1 | 3:n0
+3:m1=i5 | clear f3 f99 | 3:m1=i5
+19:[m1=i7,m1=i8] | clear f19 #0 f1 | 19:[n0,m1=i8]
+12:{u8=n1.1=i5} | clear f12 ku8 f3 | 12:{u8=n0}
+3:n2.1=i5 | clear f3 f3 f3 | 3:n1
+3:n1 99~v7 | clear f3 f3 | 3:n0 99~v7
+";
+
+const ABSENT: &str = "
+1:i5 | set i7 | Absent
+19:[n0] | set i7 f19 #0 | Absent
+12:{u8=n0} | set i7 f12 ku8 | Absent
+1:i5 | set i7 f3 f1 | Absent
+1:i5 | set i7 f1 f1 | Absent
+3:n0 | set i7 f3 f3 f1 | Absent
+3:n0 | set i7 f3 #0 f1 | Absent
+3:n0 | set i7 f99 f1 | Absent
+3:n0 | set i7 #0 f1 | Absent
+19:[n0] | set i7 f19 f1 | Absent
+19:[n0] | set i7 f19 f0 f1 | Absent
+19:[n0] | set i7 f19 #1 f1 | Absent
+19:[n0] | set i7 f19 ku0 f1 | Absent
+12:{u8=n0} | set i7 f12 f1 | Absent
+12:{u8=n0} | set i7 f12 ku9 f1 | Absent
+12:{u8=n0} | set i7 f12 #0 f1 | Absent
+6:[i4] | set i7 f6 #0 f1 | Absent
+9:{ta=i8} | set i7 f9 kta f1 | Absent
+19:[n0] | set n99 f19 #1 f3 | Absent
+1:i5 | clear | Absent
+1:i5 | clear f3 f1 | Absent
+19:[n0] | clear f19 #0 | Absent
+12:{u8=n0} | clear f12 ku8 | Absent
+";
+
+const REFUSED: &str = "
+3:n0 | set i7 f3 f99 | NoSuchField
+3:n0 | set tx f3 f1 | WrongKind
+3:n0 | set [i4] f3 f1 | WrongShape
+3:n0 | set m1=tx f3 f3 | WrongKind
+3:n0 | set m1=i0 f3 f3 | DefaultStored
+3:n0 | set n100 f3 f3 | TooDeep
+3:n0 | set n99 f3 f3 | TooDeep
+3:n1 | set n98 f3 f3 f3 | TooDeep
+19:[n0] | set n99 f19 #0 f3 | TooDeep
+12:{u8=n0} | set n99 f12 ku8 f3 | TooDeep
+3:n0 | set n99 f3 f99 | NoSuchField
+3:n0 | set n99 f3 f1 | WrongKind
+";
+
+pub(crate) const TABLES: &[&str] = &[SET, CLEARED, ABSENT, REFUSED];
+
+fn change(
+    alloc: Global,
+    message: &mut DynamicMessage<'_>,
+    place: &[PlaceStep],
+    name: &str,
+    word: &str,
+) -> Result<Result<(), ChangeError>, Fail> {
+    match name {
+        "set" => Ok(set_at(message, place, content_of(alloc, word)?)),
+        "clear" => Ok(clear_at(message, place)),
+        _ => Err(Fail::new("no such change")),
+    }
+}
+
+/// Whether a row holds.
+pub(crate) fn is_right(alloc: Global, schema: &Schema, row: &str) -> Result<bool, Fail> {
+    let (fields, rest) = row.split_once('|').ok_or("no change")?;
+    let (words, said) = rest.split_once('|').ok_or("no answer")?;
+    let (name, rest) = words.trim().split_once(' ').unwrap_or((words.trim(), ""));
+    let (word, steps) = match name {
+        "clear" => ("", rest),
+        _ => rest.split_once(' ').unwrap_or((rest, "")),
+    };
+    let said = said.trim();
+    let mut message = schema.made(alloc, body_of(alloc, fields.trim())?)?;
+    match change(alloc, &mut message, &place_of(alloc, steps)?, name, word)? {
+        Ok(()) => Ok(*message.body() == body_of(alloc, said)?),
+        Err(cause) => {
+            if cause == ChangeError::Refused(pb_value::ValueError::Memory) {
+                return Err(Fail::new("out of memory"));
+            }
+            Ok(cause.name() == said && *message.body() == body_of(alloc, fields.trim())?)
+        }
+    }
+}
