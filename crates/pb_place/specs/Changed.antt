@@ -65,16 +65,10 @@ IsRefused r cause = MatchResult r (λ _. cause ≡ None) (λ e. (e ≡ Refused M
 -- a place that ends at a field: the place of its message, and the field's number
 abbrev pub field_place : List PlaceStep → Option (List PlaceStep × ℕ)
 field_place [] = None
-field_place (s ∷ p) = here s p
-  where
-    after : PlaceStep → Option (List PlaceStep × ℕ) → Option (List PlaceStep × ℕ)
-    after s rest = option_map (λ q. (s ∷ q.0, q.1)) rest
-
-    here : PlaceStep → List PlaceStep → Option (List PlaceStep × ℕ)
-    here (Field n) [] = Some ([], n)
-    here (Index i) [] = None
-    here (Key k) [] = None
-    here s (t ∷ p) = after s (field_place (t ∷ p))
+field_place (Field n ∷ []) = Some ([], n)
+field_place (Index i ∷ []) = None
+field_place (Key k ∷ []) = None
+field_place (s ∷ t ∷ p) = option_map (λ q. (s ∷ q.0, q.1)) (field_place (t ∷ p))
 
 -- at the message of a place, at most so many levels may be added: no more than 100 are below the whole
 abbrev pub most_at : List PlaceStep → ℕ

@@ -21,6 +21,10 @@ abbrev pub edit_of : Change → Edit
 edit_of (change.Set n c) = set (content_view c) n
 edit_of (change.Clear n) = clear n
 
+-- the message of a type with this body
+abbrev pub dynamic : Types → ℕ → Message → Dynamic
+dynamic pool m b = record { pool = pool; kind = m; body = b }
+
 -- The change of a message is made: its body is put where it says, is well formed, and this is what was taken out.
 abbrev pub IsDone : Edit → Option Dynamic → (Message → Type 0) → Option Datum → Type 0
 IsDone e o IsPut out = IsSomeAnd o (λ w. IsPut (edited e w).body × IsWellFormed w.pool w.kind (edited e w).body × (out ≡ taken_out e w))

@@ -25,14 +25,15 @@ abbrev pub in_field : (Holding → Holding) → ℕ → Fields → Fields
 in_field change n no_fields = no_fields
 in_field change n (field k h fs) = match_ordering (nat_cmp n k) (field k h (in_field change n fs)) (field k (change h) fs) (field k h (in_field change n fs))
 
+-- the value of a content that is one, or else this
+abbrev pub value_or : Datum → Holding → Datum
+value_or d (one e) = e
+value_or d (list ds) = d
+value_or d (map es) = d
+
 -- a value changed as what a field holds would be
 abbrev pub in_datum : (Holding → Holding) → Datum → Datum
-in_datum change d = value_of (change (one d))
-  where
-    value_of : Holding → Datum
-    value_of (one e) = e
-    value_of (list ds) = d
-    value_of (map es) = d
+in_datum change d = value_or d (change (one d))
 
 -- what a field holds, changed where it is a message, a list or a map
 abbrev pub in_message : (Message → Message) → Holding → Holding
@@ -58,12 +59,13 @@ replaced (Field n ∷ p) new h = in_message (λ v. with_fields v (in_field (repl
 replaced (Index i ∷ p) new h = in_list (in_nth (in_datum (replaced p new)) i) h
 replaced (Key k ∷ p) new h = in_map (in_entry (in_datum (replaced p new)) (key_view k)) h
 
+-- the message of a content that is one, or else this
+abbrev pub message_or : Message → Holding → Message
+message_or v (one (message b)) = b
+message_or v (one (scalar x)) = v
+message_or v (list ds) = v
+message_or v (map es) = v
+
 -- a message with the message at a place in it replaced by another
 abbrev pub with_at : List PlaceStep → Message → Message → Message
-with_at p new v = message_of (replaced p new (one (message v)))
-  where
-    message_of : Holding → Message
-    message_of (one (message b)) = b
-    message_of (one (scalar x)) = v
-    message_of (list ds) = v
-    message_of (map es) = v
+with_at p new v = message_or v (replaced p new (one (message v)))

@@ -3,7 +3,8 @@
 ghost use Rattle.std.specs.Prelude.{◌≡◌, IfOk, OnOk, OnErr, Some, option_and_then, option_map};
 ghost use Rattle.pb_value.specs.View.{content_view, value_view};
 ghost use Rattle.pb_place.specs.At.{message_part};
-ghost use Rattle.pb_place.specs.Changed.{set, clear, most_at, refusal, refusal_at, target, taken_out, IsChangedAt, IsFieldChanged, IsRefused};
+ghost use Rattle.pb_place.specs.Changed.{set, clear, field_place, most_at, refusal, refusal_at, target, taken_out};
+ghost use Rattle.pb_place.specs.Changed.{IsChangedAt, IsFieldChanged, IsRefused};
 ghost use Rattle.pb_place.specs.Edits.{edit_of};
 
 use crate::change::Change;
@@ -53,6 +54,17 @@ pub(crate) fn change_at(
     Ok(answer?)
 }
 
+/// The place of the message and the number of the field that a place ends at.
+fn field_at_end(place: &[PlaceStep]) -> Option<(&[PlaceStep], u32)>
+    ensures { option_map (λ q. (q.0.now, q.1)) result ≡ field_place place.now }
+{
+    let (step, parent) = place.split_last()?;
+    match step {
+        PlaceStep::Field(number) => Some((parent, *number)),
+        _ => None,
+    }
+}
+
 /// Sets the field that a place ends at to a content, in the message that the steps before it lead to.
 ///
 /// That message is changed as by [`DynamicMessage::set`], and nothing else. The call is refused where the message is not there, or else
@@ -67,10 +79,10 @@ pub fn set_at(
     ensures err { OnErr result (message.new ≡ message.old) }
     ensures judged { IsRefused result (refusal_at place.now (set (content_view content)) message.old) }
 {
-    let Some((PlaceStep::Field(number), parent)) = place.split_last() else {
+    let Some((parent, number)) = field_at_end(place) else {
         return Err(ChangeError::Absent);
     };
-    drop(change_at(message, parent, Change::Set(*number, content))?);
+    drop(change_at(message, parent, Change::Set(number, content))?);
     Ok(())
 }
 
@@ -82,9 +94,9 @@ pub fn clear_at(message: &mut DynamicMessage<'_>, place: &[PlaceStep]) -> Result
     ensures err { OnErr result (message.new ≡ message.old) }
     ensures judged { IsRefused result (refusal_at place.now clear message.old) }
 {
-    let Some((PlaceStep::Field(number), parent)) = place.split_last() else {
+    let Some((parent, number)) = field_at_end(place) else {
         return Err(ChangeError::Absent);
     };
-    drop(change_at(message, parent, Change::Clear(*number))?);
+    drop(change_at(message, parent, Change::Clear(number))?);
     Ok(())
 }
