@@ -1,14 +1,18 @@
 -- How deep a message nests once it is changed: no deeper than it did, or than what the change brings.
-use Rattle.std.proofs.Common.{◌≡◌, ◌≤◌, ℕ, max, List, Option, Some, None, nat_cmp, arith, refl, sym, ap, ◌∙◌}
+use Rattle.std.proofs.Common.{◌≡◌, ◌≤◌, ℕ, suc, max, List, Option, Some, None, Ordering, Less, Equal, Greater, nat_cmp, arith, refl, sym, ap, ◌∙◌, subst}
+use Rattle.std.specs.Ordering.{match_ordering}
 use Rattle.std.specs.Prelude.{Bool, true, false, if◌then◌else◌}
 use Rattle.pb_schema.specs.declared.types.Shape.{Shape}
 use Rattle.pb_schema.specs.Types.{FieldView, message_fields, field_numbered}
-use Rattle.pb_value.specs.Data.{Holding, Fields, no_fields, field, Message, body, fields_of, unknown_of, put_field, drop_field, holding_depth, fields_depth, message_depth}
+use Rattle.pb_schema.specs.Scalar.{Scalar, key_cmp}
+use Rattle.pb_value.specs.Data.{Datum, Datums, no_datums, datum, Entries, no_entries, entry, put_entry, levels_of, levels_in_entry, datums_depth, entries_depth}
+use Rattle.pb_value.specs.Data.{Holding, one, list, map, Fields, no_fields, field, Message, body, fields_of, unknown_of, get_field, put_field, drop_field, holding_depth, fields_depth, message_depth}
 use Rattle.pb_value.specs.Judge.{is_absence}
-use Rattle.pb_value.specs.Change.{gives_way, drop_some, stored_at, set_at}
+use Rattle.pb_value.specs.Change.{gives_way, drop_some, stored_at, set_at, elements_of, pushed, entries_of, inserted}
 use Rattle.pb_value.specs.Dynamic.{Dynamic}
 use Rattle.pb_value.proofs.ChangeLemmas.{by_order, fields_depth-put_field}
-use Rattle.pb_place.specs.Changed.{Edit, set, clear, edited, brings}
+use Rattle.pb_value.proofs.HeldLemmas.{datums_depth-joined}
+use Rattle.pb_place.specs.Changed.{Edit, set, clear, push, insert, edited, brings}
 
 drop_depth : (n : ℕ) (fs : Fields) → fields_depth (drop_field n fs) ≤ fields_depth fs
 drop_depth n no_fields = omega arith
@@ -36,9 +40,59 @@ set_depth all n h fs = told (field_numbered n all) refl
     told None e = rw e (omega arith)
     told (Some f) e = rw e (stored_depth all f.shape n h fs)
 
+held_depth : (n : ℕ) (fs : Fields) (h : Holding) → get_field n fs ≡ Some h → holding_depth h ≤ fields_depth fs
+held_depth n no_fields h e = absurd (cc)
+held_depth n (field k g fs) h e =
+    by_order (λ (x : Option Holding). x ≡ Some h → holding_depth h ≤ max (holding_depth g) (fields_depth fs)) n k (get_field n fs) (Some g) (get_field n fs)
+    (λ _ q. let more = held_depth n fs h q in omega arith)
+    (λ _ q. let own : g ≡ h = cc in subst (λ (x : Holding). holding_depth x ≤ max (holding_depth g) (fields_depth fs)) own (omega arith))
+    (λ _ q. let more = held_depth n fs h q in omega arith) e
+
+-- what is made of what a field holds nests no deeper than that, or than what is brought
+put_depth :
+    (n : ℕ) (fs : Fields) (step : Option Holding → Holding) (top : ℕ) → ((o : Option Holding) (l : ℕ) → ((h : Holding) → o ≡ Some h → holding_depth h ≤ l) → holding_depth (step o) ≤ max l top)
+    → fields_depth (put_field n (step (get_field n fs)) fs) ≤ max (fields_depth fs) top
+put_depth n fs step top deep =
+    fields_depth-put_field n (step (get_field n fs)) fs (max (fields_depth fs) top) (deep (get_field n fs) (fields_depth fs) (held_depth n fs)) (omega arith)
+
+elements_depth : (o : Option Holding) (l : ℕ) → ((h : Holding) → o ≡ Some h → holding_depth h ≤ l) → datums_depth (elements_of o) ≤ l
+elements_depth None l f = omega arith
+elements_depth (Some (one d)) l f = omega arith
+elements_depth (Some (list ds)) l f = f (list ds) refl
+elements_depth (Some (map es)) l f = omega arith
+
+pushed_depth : (d : Datum) (o : Option Holding) (l : ℕ) → ((h : Holding) → o ≡ Some h → holding_depth h ≤ l) → holding_depth (pushed d o) ≤ max l (levels_of d)
+pushed_depth d o l f =
+    let a = elements_depth o l f in
+    datums_depth-joined (elements_of o) (datum d no_datums) (max l (levels_of d)) (omega (arith, a)) (omega arith)
+
+held_entries_depth : (o : Option Holding) (l : ℕ) → ((h : Holding) → o ≡ Some h → holding_depth h ≤ l) → entries_depth (entries_of o) ≤ l
+held_entries_depth None l f = omega arith
+held_entries_depth (Some (one d)) l f = omega arith
+held_entries_depth (Some (list ds)) l f = omega arith
+held_entries_depth (Some (map es)) l f = f (map es) refl
+
+put_entry_depth : (x : Scalar) (d : Datum) (es : Entries) (top : ℕ) → suc (levels_in_entry d) ≤ top → entries_depth es ≤ top → entries_depth (put_entry x d es) ≤ top
+put_entry_depth x d no_entries top a b = omega arith
+put_entry_depth x d (entry y e es) top a b = told (key_cmp x y) (put_entry_depth x d es top a (omega arith))
+  where
+    told : (o : Ordering) → entries_depth (put_entry x d es) ≤ top → entries_depth (match_ordering o (entry x d (entry y e es)) (entry y d es) (entry y e (put_entry x d es))) ≤ top
+    told Less more = omega arith
+    told Equal more = omega arith
+    told Greater more = omega arith
+
+inserted_depth :
+    (x : Scalar) (d : Datum) (o : Option Holding) (l : ℕ) → ((h : Holding) → o ≡ Some h → holding_depth h ≤ l) → holding_depth (inserted x d o) ≤ max l (suc (levels_in_entry d))
+inserted_depth x d o l f =
+    let a = held_entries_depth o l f in
+    put_entry_depth x d (entries_of o) (max l (suc (levels_in_entry d))) (omega arith) (omega (arith, a))
+
 changed_depth : (v : Message) (gs : Fields) (top : ℕ) → fields_depth gs ≤ max (fields_depth (fields_of v)) top → message_depth (body gs (unknown_of v)) ≤ max (message_depth v) top
 changed_depth (body fs us) gs top h = omega arith
 
 pub edited_depth : (e : Edit) (w : Dynamic) → message_depth (edited e w).body ≤ max (message_depth w.body) (brings e)
 edited_depth (set h n) w = changed_depth w.body _ (holding_depth h) (set_depth (message_fields w.pool w.kind) n h (fields_of w.body))
 edited_depth (clear n) w = changed_depth w.body _ 0 (let a = drop_depth n (fields_of w.body) in omega (arith, a))
+edited_depth (push d n) w = changed_depth w.body _ (levels_of d) (put_depth n (fields_of w.body) (pushed d) (levels_of d) (pushed_depth d))
+edited_depth (insert x d n) w =
+    changed_depth w.body _ (suc (levels_in_entry d)) (put_depth n (fields_of w.body) (inserted x d) (suc (levels_in_entry d)) (inserted_depth x d))

@@ -15,14 +15,12 @@ ends_at_field [] n = refl
 ends_at_field (s ∷ []) n = longer s (Field n) [] (Some ([], n)) refl
 ends_at_field (s ∷ t ∷ p) n = longer s t (p ++ Field n ∷ []) (Some (t ∷ p, n)) (ends_at_field (t ∷ p) n)
 
-
 ends_otherwise : (p : List PlaceStep) (s : PlaceStep) → field_place (s ∷ []) ≡ None → field_place (p ++ s ∷ []) ≡ None
 ends_otherwise [] s e = e
 ends_otherwise (t ∷ []) s e = longer t s [] None e
 ends_otherwise (t ∷ u ∷ p) s e = longer t u (p ++ s ∷ []) None (ends_otherwise (u ∷ p) s e)
 
-pub ends_at_index : (p : List PlaceStep) (i : ℕ) → field_place (p ++ Index i ∷ []) ≡ None
-ends_at_index p i = ends_otherwise p (Index i) refl
-
-pub ends_at_key : (p : List PlaceStep) (k : _) → field_place (p ++ Key k ∷ []) ≡ None
-ends_at_key p k = ends_otherwise p (Key k) refl
+pub ends_elsewhere : (p : List PlaceStep) (s : PlaceStep) → ((n : ℕ) → s ≡ Field n → ⊥) → field_place (p ++ s ∷ []) ≡ None
+ends_elsewhere p (Field n) h = absurd (h n refl)
+ends_elsewhere p (Index i) h = ends_otherwise p (Index i) refl
+ends_elsewhere p (Key k) h = ends_otherwise p (Key k) refl

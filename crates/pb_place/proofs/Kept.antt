@@ -1,5 +1,5 @@
 -- A message stays well formed where the message at a place in it is replaced by another one of its type.
-use Rattle.std.proofs.Common.{◌≡◌, ◌<◌, ◌≤◌, ℕ, zero, suc, max, List, [], ◌∷◌, Option, Some, None, IfSome, IsSomeAnd, option_map, option_and_then, Ordering, Less, Equal, Greater, nat_cmp, arith, refl, sym, ap, ◌∙◌, subst}
+use Rattle.std.proofs.Common.{◌≡◌, ◌<◌, ◌≤◌, ◌+◌, ℕ, zero, suc, max, List, [], ◌∷◌, Option, Some, None, IfSome, IsSomeAnd, option_map, option_and_then, Ordering, Less, Equal, Greater, nat_cmp, rules, arith, refl, sym, ap, ◌∙◌, subst}
 use Rattle.std.specs.Prelude.{Bool, true, false, ◌&&◌, if◌then◌else◌, pred, ◌-◌}
 use Rattle.std.specs.Ordering.{match_ordering, MatchOrdering}
 use Rattle.std.specs.Cmp.{ranks}
@@ -13,7 +13,10 @@ use Rattle.pb_value.specs.Data.{Datum, scalar, message, Datums, no_datums, datum
 use Rattle.pb_value.specs.Data.{Holding, one, list, map, Fields, no_fields, field, Message, body, fields_of, get_field, holding_depth, fields_depth, message_depth}
 use Rattle.pb_value.specs.Dynamic.{Dynamic}
 use Rattle.pb_value.specs.Inner.{nth_datum, type_named, as_message}
-use Rattle.pb_value.specs.View.{key_view}
+use Rattle.pb_value.specs.View.{key_view, value_view}
+use Rattle.pb_value.specs.declared.body.Body.{Body}
+use Rattle.pb_value.specs.declared.body.Value.{Value, the_lemmas as value_lemmas}
+use Rattle.pb_value.specs.declared.body.Value.TheVariants as value
 use Rattle.pb_value.specs.WellFormed.{CanStand, IsOfShape, IsDatum, AreDatums, AreEntries, KeysRise, IsBelow, IsHeld, AreFields, IsBody, IsWellFormed, RisesFrom, HasNoMember, HasOneMemberEach, oneof_at, key_of, datum_declared, datums_declared, holds_declared}
 use Rattle.pb_value.specs.Change.{with_fields}
 use Rattle.pb_value.proofs.ChangeLemmas.{by_order}
@@ -37,6 +40,21 @@ scalar_absent (Index i ∷ p) pool None x = refl
 scalar_absent (Index i ∷ p) pool (Some m) x = refl
 scalar_absent (Key k ∷ p) pool None x = refl
 scalar_absent (Key k ∷ p) pool (Some m) x = refl
+
+-- a value that is no message
+abbrev is_scalar : Datum → Bool
+is_scalar (scalar x) = true
+is_scalar (message b) = false
+
+scalar_value : (v : Value) → ((b : Body) → v ≡ value.Message b → ⊥) → is_scalar (value_view v) ≡ true
+scalar_value v h = search (rules, value_lemmas)
+
+datum_absent : (p : List PlaceStep) (pool : Types) (t : Option ℕ) (d : Datum) → is_scalar d ≡ true → target p (content_part pool t (one d)) ≡ None
+datum_absent p pool t (scalar x) e = scalar_absent p pool t x
+datum_absent p pool t (message b) e = absurd (cc)
+
+pub value_absent : (p : List PlaceStep) (pool : Types) (t : Option ℕ) (v : Value) → ((b : Body) → v ≡ value.Message b → ⊥) → target p (content_part pool t (one (value_view v))) ≡ None
+value_absent p pool t v h = datum_absent p pool t (value_view v) (scalar_value v h)
 
 pub untyped_absent : (p : List PlaceStep) (pool : Types) (d : Datum) → target p (content_part pool None (one d)) ≡ None
 untyped_absent [] pool d = refl

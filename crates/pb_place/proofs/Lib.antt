@@ -10,3 +10,5 @@ pub mod Deeper
 pub mod Walks
 -- for places that end at a field
 pub mod Ends
+-- for the whole message after a change
+pub mod Whole

@@ -1,5 +1,5 @@
 -- From what a step of a place leads to, back to what it starts from.
-use Rattle.std.proofs.Common.{◌≡◌, ◌<◌, ◌≤◌, ℕ, zero, suc, List, [], ◌∷◌, length, slice_set, get_or, cond, Option, Some, None, option_map, option_and_then, Ordering, Less, Equal, Greater, nat_cmp, is_eq, arith, refl, sym, ap, ◌∙◌, subst, inr, Result, Err, IfOk, OnErr}
+use Rattle.std.proofs.Common.{◌≡◌, ◌<◌, ◌≤◌, ℕ, zero, suc, List, [], ◌∷◌, length, slice_set, get_or, cond, Option, Some, None, option_map, option_and_then, Ordering, Less, Equal, Greater, nat_cmp, is_eq, arith, refl, sym, ap, ◌∙◌, subst, inr, Result, Err, IfOk, OnErr, BTreeMap}
 use Rattle.std.proofs.lemmas.Result.{IfOk-weaker, on_err_weaker}
 use Rattle.std.specs.Prelude.{Bool, true, false, if◌then◌else◌}
 use Rattle.std.specs.Map.{lookup, set_value}
@@ -13,6 +13,8 @@ use Rattle.pb_value.specs.KeyOrder.{map_key_cmp}
 use Rattle.pb_value.specs.View.{key_view, value_view, values_view, entries_view, content_view, fields_view}
 use Rattle.pb_value.specs.WellFormed.{IsWellFormed}
 use Rattle.pb_value.specs.declared.body.Content.{Content}
+use Rattle.pb_value.specs.declared.body.Content.TheVariants as content
+use Rattle.pb_value.proofs.Views.{content_view-Map}
 use Rattle.pb_value.specs.declared.body.MapKey.{MapKey}
 use Rattle.pb_value.specs.declared.body.Value.{Value}
 use Rattle.pb_value.proofs.InnerLemmas.{only_part, at_part, under_part, field_part, same_key}
@@ -154,3 +156,12 @@ entries_view-same k x w (e ∷ es) found wrote = told (is_eq (map_key_cmp k e.0)
         → cond a (Some e.1) (lookup (is_at (map_key_cmp k)) es) ≡ Some x → entries_view (cond a ((e.0, w) ∷ es) (e ∷ set_value (is_at (map_key_cmp k)) es w)) ≡ entries_view (e ∷ es)
     told true later here = let same : e.1 ≡ x = cc in ap (λ (d : Datum). entry (key_view e.0) d (entries_view es)) (wrote ∙ ap value_view (sym same))
     told false later here = ap (entry (key_view e.0) (value_view e.1)) (later here)
+
+-- a content that is a map, and one that it became
+pub map_walked :
+    (pool : Types) (most : ℕ) (u : Option ℕ) (p : List PlaceStep) (e : Edit) (old new : Content) (es changed : BTreeMap MapKey Value) (r : Result (Option Value) ChangeError)
+    → content_view old ≡ map (entries_view es.entries) → new ≡ content.Map changed
+    → IsWalked pool most u p e (map (entries_view es.entries)) (map (entries_view changed.entries)) r → IsWalked pool most u p e (content_view old) (content_view new) r
+map_walked pool most u p e old new es changed r was is w =
+    subst (λ (h : Holding). IsWalked pool most u p e h (content_view new) r) (sym was)
+    (subst (λ (h : Holding). IsWalked pool most u p e (map (entries_view es.entries)) h r) (sym (ap content_view is ∙ content_view-Map changed)) w)

@@ -2,9 +2,10 @@
 use Rattle.std.specs.Prelude.{◌≡◌, ◌⊎◌, ◌-◌, ℕ, suc, List, [], ◌∷◌, nat_le, Option, Some, None, option_map, option_and_then, IsSomeAnd}
 use Rattle.std.specs.Prelude.{Result, MatchResult}
 use Rattle.pb_schema.specs.Types.{Types, message_fields}
-use Rattle.pb_value.specs.Data.{Datum, Holding, Message, drop_field, holding_depth}
+use Rattle.pb_schema.specs.Scalar.{Scalar}
+use Rattle.pb_value.specs.Data.{Datum, Holding, fields_of, drop_field, holding_depth, levels_of, levels_in_entry}
 use Rattle.pb_value.specs.Dynamic.{Dynamic, with_changed}
-use Rattle.pb_value.specs.Change.{set_at, set_cause}
+use Rattle.pb_value.specs.Change.{set_at, set_cause, push_at, push_cause, insert_at, entry_at, insert_cause}
 use Rattle.pb_value.specs.Cause.{or_else, unless}
 use Rattle.pb_value.specs.declared.error.ValueError.{ValueError}
 use Rattle.pb_value.specs.declared.error.ValueError.TheVariants.{Memory, TooDeep}
@@ -20,26 +21,36 @@ use Rattle.pb_place.specs.Replaced.{with_at}
 pub data Edit : Type 0 where
   set : Holding → ℕ → Edit
   clear : ℕ → Edit
+  push : Datum → ℕ → Edit
+  insert : Scalar → Datum → ℕ → Edit
 
 -- the message with the change made, which is what `DynamicMessage` makes of it
 abbrev pub edited : Edit → Dynamic → Dynamic
 edited (set h n) v = with_changed v (set_at (message_fields v.pool v.kind) n h)
 edited (clear n) v = with_changed v (drop_field n)
+edited (push d n) v = with_changed v (push_at n d)
+edited (insert x d n) v = with_changed v (insert_at n x d)
 
 -- why `DynamicMessage` refuses it, for a message of a type
 abbrev pub edit_cause : Edit → Types → ℕ → Option ValueError
 edit_cause (set h n) pool m = set_cause pool m n h
 edit_cause (clear n) pool m = None
+edit_cause (push d n) pool m = push_cause pool m n d
+edit_cause (insert x d n) pool m = insert_cause pool m n x d
 
 -- how deep what it brings nests below the message
 abbrev pub brings : Edit → ℕ
 brings (set h n) = holding_depth h
 brings (clear n) = 0
+brings (push d n) = levels_of d
+brings (insert x d n) = suc (levels_in_entry d)
 
 -- what it takes out of the message
 abbrev pub taken_out : Edit → Dynamic → Option Datum
 taken_out (set h n) v = None
 taken_out (clear n) v = None
+taken_out (push d n) v = None
+taken_out (insert x d n) v = entry_at n x (fields_of v.body)
 
 -- the message that a part has at a place
 abbrev pub target : List PlaceStep → Part → Option Dynamic
@@ -89,3 +100,7 @@ IsChangedAt p e v new = IsSomeAnd (target p (message_part v)) (λ w. new ≡ rec
 -- the same, where the place ends at a field
 abbrev pub IsFieldChanged : List PlaceStep → (ℕ → Edit) → Dynamic → Dynamic → Type 0
 IsFieldChanged place e v new = IsSomeAnd (field_place place) (λ q. IsChangedAt q.0 (e q.1) v new)
+
+-- what a change at a place that ends at a field takes out
+abbrev pub taken_at : List PlaceStep → (ℕ → Edit) → Dynamic → Option (Option Datum)
+taken_at place e v = option_and_then (λ q. option_map (taken_out (e q.1)) (target q.0 (message_part v))) (field_place place)

@@ -6,7 +6,7 @@ use Rattle.pb_schema.specs.Scalar.{Scalar}
 use Rattle.pb_value.specs.Data.{Datum, Message, Holding, one, list, map, get_entry}
 use Rattle.pb_value.specs.Dynamic.{Dynamic}
 use Rattle.pb_value.specs.Inner.{nth_datum, IsPart}
-use Rattle.pb_value.specs.View.{content_view, value_view}
+use Rattle.pb_value.specs.View.{content_view, key_view, value_view}
 use Rattle.pb_value.specs.WellFormed.{IsWellFormed}
 use Rattle.pb_value.specs.declared.body.Value.{Value}
 use Rattle.pb_place.specs.declared.change.Change.{Change}
@@ -14,12 +14,14 @@ use Rattle.pb_place.specs.declared.change.Change.TheVariants as change
 use Rattle.pb_place.specs.declared.error.ChangeError.{ChangeError}
 use Rattle.pb_place.specs.declared.step.PlaceStep.{PlaceStep}
 use Rattle.pb_place.specs.At.{content_part}
-use Rattle.pb_place.specs.Changed.{Edit, set, clear, edited, taken_out, target, refusal, IsRefused}
+use Rattle.pb_place.specs.Changed.{Edit, set, clear, push, insert, edited, taken_out, target, refusal, IsRefused}
 use Rattle.pb_place.specs.Replaced.{replaced}
 
 abbrev pub edit_of : Change → Edit
 edit_of (change.Set n c) = set (content_view c) n
 edit_of (change.Clear n) = clear n
+edit_of (change.Push n v) = push (value_view v) n
+edit_of (change.Insert n k v) = insert (key_view k) (value_view v) n
 
 -- the message of a type with this body
 abbrev pub dynamic : Types → ℕ → Message → Dynamic

@@ -6,8 +6,8 @@ ghost use Rattle.pb_value.specs.View.{value_view};
 ghost use Rattle.pb_place.specs.Changed.{brings, edit_cause, edited, taken_out};
 ghost use Rattle.pb_place.specs.Edits.{edit_of};
 
-use pb_value::parts::content_within;
-use pb_value::{Content, DynamicMessage, Value, ValueError};
+use pb_value::parts::{content_within, entry_within, value_within};
+use pb_value::{Content, DynamicMessage, MapKey, Value, ValueError};
 
 /// A change of one message.
 #[derive(Drop)]
@@ -16,6 +16,10 @@ pub(crate) enum Change {
     Set(u32, Content),
     /// Clears the field of a number.
     Clear(u32),
+    /// Puts a value at the end of the list of a number.
+    Push(u32, Value),
+    /// Puts a value under a key of the map of a number.
+    Insert(u32, MapKey, Value),
 }
 
 impl Change {
@@ -26,6 +30,8 @@ impl Change {
         match self {
             Change::Set(_, content) => content_within(content, limit),
             Change::Clear(_) => true,
+            Change::Push(_, value) => value_within(value, limit),
+            Change::Insert(_, _, value) => entry_within(value, limit),
         }
     }
 
@@ -45,6 +51,11 @@ impl Change {
                 message.clear(number);
                 Ok(None)
             }
+            Change::Push(number, value) => {
+                message.push(number, value)?;
+                Ok(None)
+            }
+            Change::Insert(number, key, value) => Ok(message.insert(number, key, value)?),
         }
     }
 }

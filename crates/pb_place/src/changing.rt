@@ -1,9 +1,9 @@
 //! Changes of the message at a place.
 
 ghost use Rattle.std.specs.Prelude.{◌≡◌, IfOk, OnOk, OnErr, Some, option_and_then, option_map};
-ghost use Rattle.pb_value.specs.View.{content_view, value_view};
+ghost use Rattle.pb_value.specs.View.{content_view, key_view, value_view};
 ghost use Rattle.pb_place.specs.At.{message_part};
-ghost use Rattle.pb_place.specs.Changed.{set, clear, field_place, most_at, refusal, refusal_at, target, taken_out};
+ghost use Rattle.pb_place.specs.Changed.{set, clear, push, insert, field_place, most_at, refusal, refusal_at, target, taken_at, taken_out};
 ghost use Rattle.pb_place.specs.Changed.{IsChangedAt, IsFieldChanged, IsRefused};
 ghost use Rattle.pb_place.specs.Edits.{edit_of};
 
@@ -12,7 +12,7 @@ use crate::error::ChangeError;
 use crate::step::PlaceStep;
 use crate::walk::{Walk, into_well_formed};
 use pb_value::parts::{MAX_LEVELS, from_well_formed};
-use pb_value::{Content, DynamicMessage, Value};
+use pb_value::{Content, DynamicMessage, MapKey, Value};
 use std::mem;
 
 /// How many levels may be added below the message at a place.
@@ -51,7 +51,7 @@ pub(crate) fn change_at(
     let mut body = into_well_formed(whole);
     let answer = walk.change_in(message_type, &mut body, place, change);
     *message = from_well_formed(alloc, pool, message_type, body);
-    Ok(answer?)
+    answer
 }
 
 /// The place of the message and the number of the field that a place ends at.
@@ -99,4 +99,44 @@ pub fn clear_at(message: &mut DynamicMessage<'_>, place: &[PlaceStep]) -> Result
     };
     drop(change_at(message, parent, Change::Clear(number))?);
     Ok(())
+}
+
+/// Puts a value at the end of the list at a place that ends at a field, in the message that the steps before it lead to.
+///
+/// That message is changed as by [`DynamicMessage::push`], and nothing else. The call is refused as [`set_at`] is.
+pub fn push_at(
+    message: &mut DynamicMessage<'_>,
+    place: &[PlaceStep],
+    value: Value,
+) -> Result<(), ChangeError>
+    ensures ok { OnOk result (IsFieldChanged place.now (push (value_view value)) message.old message.new) }
+    ensures err { OnErr result (message.new ≡ message.old) }
+    ensures judged { IsRefused result (refusal_at place.now (push (value_view value)) message.old) }
+{
+    let Some((parent, number)) = field_at_end(place) else {
+        return Err(ChangeError::Absent);
+    };
+    drop(change_at(message, parent, Change::Push(number, value))?);
+    Ok(())
+}
+
+/// Puts a value under a key of the map at a place that ends at a field, in the message that the steps before it lead to. The answer is
+/// the value that was under the key.
+///
+/// That message is changed as by [`DynamicMessage::insert`], and nothing else. The call is refused as [`set_at`] is.
+pub fn insert_at(
+    message: &mut DynamicMessage<'_>,
+    place: &[PlaceStep],
+    key: MapKey,
+    value: Value,
+) -> Result<Option<Value>, ChangeError>
+    ensures ok { OnOk result (IsFieldChanged place.now (insert (key_view key) (value_view value)) message.old message.new) }
+    ensures stood { IfOk result (λ v. Some (option_map value_view v) ≡ taken_at place.now (insert (key_view key) (value_view value)) message.old) }
+    ensures err { OnErr result (message.new ≡ message.old) }
+    ensures judged { IsRefused result (refusal_at place.now (insert (key_view key) (value_view value)) message.old) }
+{
+    let Some((parent, number)) = field_at_end(place) else {
+        return Err(ChangeError::Absent);
+    };
+    Ok(change_at(message, parent, Change::Insert(number, key, value))?)
 }

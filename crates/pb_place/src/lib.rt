@@ -15,7 +15,7 @@ mod walk;
 pub use asking::{
     is_set, key_at, len_at, message_at, numbers_at, scalar_at, unknown_at, which_oneof_at,
 };
-pub use changing::{clear_at, set_at};
+pub use changing::{clear_at, insert_at, push_at, set_at};
 pub use error::ChangeError;
 pub use reading::{Found, at};
 pub use step::PlaceStep;

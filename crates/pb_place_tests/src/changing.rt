@@ -2,8 +2,8 @@
 
 use super::places::place_of;
 use super::schema::Schema;
-use pb_place::{ChangeError, PlaceStep, clear_at, set_at};
-use pb_samples::{body_of, content_of};
+use pb_place::{ChangeError, PlaceStep, clear_at, insert_at, push_at, set_at};
+use pb_samples::{body_of, content_of, key_of, value_of};
 use pb_value::DynamicMessage;
 use std::alloc::Global;
 use std::test::Fail;
@@ -81,7 +81,38 @@ const REFUSED: &str = "
 3:n0 | set n99 f3 f1 | WrongKind
 ";
 
-pub(crate) const TABLES: &[&str] = &[SET, CLEARED, ABSENT, REFUSED];
+const PUSHED: &str = "
+1:i5 | push i4 f6 | 1:i5 6:[i4]
+6:[i4] | push i0 f6 | 6:[i4,i0]
+3:m1=i5 | push n1 f3 f3 f19 | Absent
+19:[n0] | push m1=i5 f19 | 19:[n0,m1=i5]
+19:[n0] | push i5 | Absent
+19:[n0] | push i5 f19 #0 | Absent
+19:[n0] | push n0 f19 #1 f19 | Absent
+3:n0 | push i5 f3 f99 | NoSuchField
+3:n0 | push tx f3 f6 | WrongKind
+3:n0 | push i5 f3 f1 | WrongShape
+3:n0 | push m1=i0 f3 f19 | DefaultStored
+3:n0 | push n99 f3 f19 | TooDeep
+3:n0 | push n99 f3 f3 | WrongShape
+";
+
+const INSERTED: &str = "
+9:{ta=i8} | insert tb=i7 f9 | 9:{ta=i8,tb=i7}
+9:{ta=i8} | insert ta=i7 f9 | 9:{ta=i7}
+12:{u8=n0} | insert u7=m1=i5 f12 | 12:{u7=m1=i5,u8=n0}
+12:{u8=n0} | insert u7=n98 f12 | 12:{u7=n98,u8=n0}
+12:{u8=n0} | insert u7=n0 | Absent
+12:{u8=n0} | insert u7=n0 f12 ku8 | Absent
+12:{u8=n0} | insert u7=n0 f12 ku7 f12 | Absent
+3:n0 | insert u7=n0 f3 f99 | NoSuchField
+3:n0 | insert ta=n0 f3 f12 | WrongKind
+3:n0 | insert u7=i5 f3 f12 | WrongKind
+3:n0 | insert u7=m1=i0 f3 f12 | DefaultStored
+3:n0 | insert u7=n99 f3 f12 | TooDeep
+";
+
+pub(crate) const TABLES: &[&str] = &[SET, CLEARED, ABSENT, REFUSED, PUSHED, INSERTED];
 
 fn change(
     alloc: Global,
@@ -93,6 +124,12 @@ fn change(
     match name {
         "set" => Ok(set_at(message, place, content_of(alloc, word)?)),
         "clear" => Ok(clear_at(message, place)),
+        "push" => Ok(push_at(message, place, value_of(alloc, word)?)),
+        "insert" => {
+            let (key, value) = word.split_once('=').ok_or("no value")?;
+            let stood = insert_at(message, place, key_of(alloc, key)?, value_of(alloc, value)?);
+            Ok(stood.map(|_| ()))
+        }
         _ => Err(Fail::new("no such change")),
     }
 }

@@ -6,6 +6,8 @@ mod asking;
 #[cfg(test)]
 mod changing;
 #[cfg(test)]
+mod nested;
+#[cfg(test)]
 mod places;
 #[cfg(test)]
 mod reading;

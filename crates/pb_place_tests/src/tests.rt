@@ -10,13 +10,15 @@ enum Form {
     Reading,
     Asking,
     Changing,
+    Nested,
 }
 
-fn is_right(alloc: Global, schema: &Schema, form: Form, row: &str) -> Result<bool, Fail> {
+fn is_right(alloc: Global, schema: &Schema, form: Form, row: &'static str) -> Result<bool, Fail> {
     match form {
         Form::Reading => super::reading::is_right(alloc, schema, row),
         Form::Asking => super::asking::is_right(alloc, schema, row),
         Form::Changing => super::changing::is_right(alloc, schema, row),
+        Form::Nested => super::nested::is_right(alloc, schema, row),
     }
 }
 
@@ -54,6 +56,13 @@ fn asking(rt: HostRuntime) -> Result<(), Fail> {
 #[test]
 fn changing(rt: HostRuntime) -> Result<(), Fail> {
     let wrong = wrong_row(rt.alloc(), Form::Changing, super::changing::TABLES)?;
+    assert!(rt; wrong.is_none(), "{wrong:?}");
+    Ok(())
+}
+
+#[test]
+fn nested(rt: HostRuntime) -> Result<(), Fail> {
+    let wrong = wrong_row(rt.alloc(), Form::Nested, &[super::nested::ROWS])?;
     assert!(rt; wrong.is_none(), "{wrong:?}");
     Ok(())
 }

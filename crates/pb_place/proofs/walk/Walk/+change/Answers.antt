@@ -4,6 +4,7 @@ use Rattle.std.specs.Option.{option_copied_mut}
 use Rattle.std.specs.BTreeMap.{is_at}
 use Rattle.pb_wire.specs.Unknown.{records_of}
 use Rattle.pb_value.specs.declared.body.Body.{out-Body, roll-Body}
+use Rattle.pb_value.specs.declared.body.Content.{the_lemmas}
 use Rattle.pb_value.specs.Data.{Fields, Message, body, message, one, list, map, fields_of, get_field, Holding, Datums, Entries}
 use Rattle.pb_value.specs.Inner.{type_named, IsPart}
 use Rattle.pb_value.specs.KeyOrder.{map_key_cmp}
@@ -17,7 +18,8 @@ use Rattle.pb_place.specs.At.{content_part}
 use Rattle.pb_place.specs.Changed.{target}
 use Rattle.pb_place.specs.Edits.{edit_of, HoldsParts, IsWalked}
 use Rattle.pb_place.specs.Replaced.{value_or, replaced}
-use Rattle.pb_place.proofs.Walks.{not_there, walked_on, field_step, fields_view-in_field, parts_held, list_step, values_view-in_nth, values_view-same, nth_there, nth_past, map_step, entries_view-in_entry, entries_view-same}
+use Rattle.pb_place.proofs.Kept.{value_absent, untyped_absent}
+use Rattle.pb_place.proofs.Walks.{map_walked, not_there, walked_on, field_step, fields_view-in_field, parts_held, list_step, values_view-in_nth, values_view-same, nth_there, nth_past, map_step, entries_view-in_entry, entries_view-same}
 use Rattle.pb_place.proofs.walk.Walk.+change.Goals as goal
 
 -- A MESSAGE
@@ -83,7 +85,14 @@ change_content-change_map-requires t c =
     (search rules, (c.requires.inner, rw (c.in-Map.entries-is) parts))
 
 pub change_content-returns-in-Map : goal.change_content-returns-in-Map
-change_content-returns-in-Map t c = rw (c.in-Map.is, content_view-Map) (rw (c.in-Map.entries-is) at c.change_map.ensures)
+change_content-returns-in-Map t c =
+    let pool = c.args.self.now.pool.now in
+    let u = option_map (λ m. m.0) c.args.inner in
+    let place = c.args.place.now in
+    let new = c.change_map.new.entries in
+    let seen = ap content_view c.in-Map.is ∙ content_view-Map c.in-Map.entries in
+    let walked = rw (c.in-Map.entries-is) at c.change_map.ensures in
+    map_walked pool c.args.self.now.most u place (edit_of c.args.change) c.args.content.now _ c.in-Map.entries new c.change_map.result seen (search (rules, the_lemmas)) walked
 
 -- A LIST
 
@@ -162,3 +171,19 @@ change_map-returns-in-None t c =
     not_there pool c.args.self.now.most u c.args.place.now (edit_of c.args.change) _ _
     (map_step pool u (entries_view es) c.args.place.now c.in-Some.rest.now c.in-Some.step.now k None c.in-Some.ensures.cases.0 c.in-Key.is (get_entry-entries k es ∙ ap (option_map value_view) gone))
     (ap (λ (ds : Entries). map ds) (rw (c.get_mut.follows.holds-at-none)))
+
+-- A VALUE
+
+pub change_value-returns-in_default : goal.change_value-returns-in_default
+change_value-returns-in_default t c =
+    let pool = c.args.self.now.pool.now in
+    let place = c.args.place.now in
+    let d = value_view c.args.value.now in
+    not_there pool c.args.self.now.most (option_map (λ m. m.0) c.args.inner) place (edit_of c.args.change) _ _
+    (ap (λ (u : Option ℕ). target place (content_part pool u (one d))) (ap (option_map (λ m. m.0)) c.in_default.is) ∙ untyped_absent place pool d) refl
+
+pub change_value-returns-in_default-value : goal.change_value-returns-in_default-value
+change_value-returns-in_default-value t c =
+    let pool = c.args.self.now.pool.now in
+    not_there pool c.args.self.now.most (option_map (λ m. m.0) c.args.inner) c.args.place.now (edit_of c.args.change) _ _
+    (value_absent c.args.place.now pool (option_map (λ m. m.0) c.args.inner) c.args.value.now c.in_default-value.not-Message) refl
