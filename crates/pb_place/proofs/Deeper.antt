@@ -1,18 +1,20 @@
 -- How deep a message nests once it is changed: no deeper than it did, or than what the change brings.
-use Rattle.std.proofs.Common.{◌≡◌, ◌≤◌, ℕ, suc, max, List, Option, Some, None, Ordering, Less, Equal, Greater, nat_cmp, arith, refl, sym, ap, ◌∙◌, subst}
+use Rattle.std.proofs.Common.{◌≡◌, ◌≤◌, ℕ, suc, max, List, [], Option, Some, None, Ordering, Less, Equal, Greater, nat_cmp, arith, refl, sym, ap, ◌∙◌, subst}
 use Rattle.std.specs.Ordering.{match_ordering}
 use Rattle.std.specs.Prelude.{Bool, true, false, if◌then◌else◌}
 use Rattle.pb_schema.specs.declared.types.Shape.{Shape}
-use Rattle.pb_schema.specs.Types.{FieldView, message_fields, field_numbered}
+use Rattle.pb_schema.specs.Types.{FieldView, Types, message_fields, field_numbered}
 use Rattle.pb_schema.specs.Scalar.{Scalar, key_cmp}
 use Rattle.pb_value.specs.Data.{Datum, Datums, no_datums, datum, Entries, no_entries, entry, put_entry, levels_of, levels_in_entry, datums_depth, entries_depth}
 use Rattle.pb_value.specs.Data.{Holding, one, list, map, Fields, no_fields, field, Message, body, fields_of, unknown_of, get_field, put_field, drop_field, holding_depth, fields_depth, message_depth}
 use Rattle.pb_value.specs.Judge.{is_absence}
 use Rattle.pb_value.specs.Change.{gives_way, drop_some, stored_at, set_at, elements_of, pushed, entries_of, inserted}
 use Rattle.pb_value.specs.Dynamic.{Dynamic}
+use Rattle.pb_value.specs.WellFormed.{IsWellFormed}
 use Rattle.pb_value.proofs.ChangeLemmas.{by_order, fields_depth-put_field}
 use Rattle.pb_value.proofs.HeldLemmas.{datums_depth-joined}
-use Rattle.pb_place.specs.Changed.{Edit, set, clear, push, insert, edited, brings}
+use Rattle.pb_place.proofs.Removed.{remove_at_depth}
+use Rattle.pb_place.specs.Changed.{Edit, set, clear, push, insert, remove, drop_unknown, edited, brings}
 
 drop_depth : (n : ℕ) (fs : Fields) → fields_depth (drop_field n fs) ≤ fields_depth fs
 drop_depth n no_fields = omega arith
@@ -90,9 +92,18 @@ inserted_depth x d o l f =
 changed_depth : (v : Message) (gs : Fields) (top : ℕ) → fields_depth gs ≤ max (fields_depth (fields_of v)) top → message_depth (body gs (unknown_of v)) ≤ max (message_depth v) top
 changed_depth (body fs us) gs top h = omega arith
 
+bare_depth : (v : Message) → message_depth (body (fields_of v) []) ≤ max (message_depth v) 0
+bare_depth (body fs us) = omega arith
+
+-- without its unknown records a message stays well formed
+pub bare_stays : (pool : Types) (m : ℕ) (v : Message) → IsWellFormed pool m v → IsWellFormed pool m (body (fields_of v) [])
+bare_stays pool m (body fs us) w = let deep = w.depth in record { parts = (w.parts.0, w.parts.1, w.parts.2, tt); depth = omega (arith, deep) }
+
 pub edited_depth : (e : Edit) (w : Dynamic) → message_depth (edited e w).body ≤ max (message_depth w.body) (brings e)
 edited_depth (set h n) w = changed_depth w.body _ (holding_depth h) (set_depth (message_fields w.pool w.kind) n h (fields_of w.body))
 edited_depth (clear n) w = changed_depth w.body _ 0 (let a = drop_depth n (fields_of w.body) in omega (arith, a))
 edited_depth (push d n) w = changed_depth w.body _ (levels_of d) (put_depth n (fields_of w.body) (pushed d) (levels_of d) (pushed_depth d))
 edited_depth (insert x d n) w =
     changed_depth w.body _ (suc (levels_in_entry d)) (put_depth n (fields_of w.body) (inserted x d) (suc (levels_in_entry d)) (inserted_depth x d))
+edited_depth (remove x n) w = changed_depth w.body _ 0 (let a = remove_at_depth n x (fields_of w.body) (drop_depth n) in omega (arith, a))
+edited_depth drop_unknown w = bare_depth w.body

@@ -75,7 +75,7 @@ no_message o w e q = absurd (cc)
 
 -- FIELDS, LISTS AND MAPS WITH ONE PART CHANGED
 
-fields_kept :
+pub fields_kept :
     (pool : Types) (all : List FieldView) (l n : ℕ) (change : Holding → Holding) (fs : Fields) → AreFields pool all fs → fields_depth fs ≤ l
     → ((h : Holding) → get_field n fs ≡ Some h → CanStand pool all n h → holding_depth h ≤ l → CanStand pool all n (change h) × (holding_depth (change h) ≤ l))
     → AreFields pool all (in_field change n fs) × (fields_depth (in_field change n fs) ≤ l)
@@ -97,7 +97,7 @@ fields_kept pool all l n change (field k g fs) w deep kept = told (nat_cmp n k) 
         ((subst (λ (i : ℕ). CanStand pool all i (change g)) r now.0, w.1), omega (arith, now.1))
     told Greater r later here = let more = later here in ((w.0, more.0), omega (arith, more.1))
 
-RisesFrom-in_field : (change : Holding → Holding) (low n : ℕ) (fs : Fields) → RisesFrom low fs → RisesFrom low (in_field change n fs)
+pub RisesFrom-in_field : (change : Holding → Holding) (low n : ℕ) (fs : Fields) → RisesFrom low fs → RisesFrom low (in_field change n fs)
 RisesFrom-in_field change low n no_fields w = tt
 RisesFrom-in_field change low n (field k g fs) w =
     by_order (RisesFrom low) n k _ _ _ (λ _. (w.0, RisesFrom-in_field change (k + 1) n fs w.1)) (λ _. w) (λ _. (w.0, RisesFrom-in_field change (k + 1) n fs w.1))
@@ -107,7 +107,7 @@ HasNoMember-in_field all o change n no_fields w = tt
 HasNoMember-in_field all o change n (field k g fs) w =
     by_order (HasNoMember all o) n k _ _ _ (λ _. (w.0, HasNoMember-in_field all o change n fs w.1)) (λ _. w) (λ _. (w.0, HasNoMember-in_field all o change n fs w.1))
 
-HasOneMemberEach-in_field : (all : List FieldView) (change : Holding → Holding) (n : ℕ) (fs : Fields) → HasOneMemberEach all fs → HasOneMemberEach all (in_field change n fs)
+pub HasOneMemberEach-in_field : (all : List FieldView) (change : Holding → Holding) (n : ℕ) (fs : Fields) → HasOneMemberEach all fs → HasOneMemberEach all (in_field change n fs)
 HasOneMemberEach-in_field all change n no_fields w = tt
 HasOneMemberEach-in_field all change n (field k g fs) w =
     let later : HasOneMemberEach all (field k g (in_field change n fs)) = (

@@ -12,3 +12,7 @@ pub mod Walks
 pub mod Ends
 -- for the whole message after a change
 pub mod Whole
+-- for removals: an entry less of a map
+pub mod Removed
+-- small cases of changes, worked out by the definitions
+mod ChangedRows

@@ -14,7 +14,7 @@ use Rattle.pb_place.specs.declared.change.Change.TheVariants as change
 use Rattle.pb_place.specs.declared.error.ChangeError.{ChangeError}
 use Rattle.pb_place.specs.declared.step.PlaceStep.{PlaceStep}
 use Rattle.pb_place.specs.At.{content_part}
-use Rattle.pb_place.specs.Changed.{Edit, set, clear, push, insert, edited, taken_out, target, refusal, IsRefused}
+use Rattle.pb_place.specs.Changed.{Edit, set, clear, push, insert, remove, drop_unknown, edited, taken_out, target, refusal, IsRefused}
 use Rattle.pb_place.specs.Replaced.{replaced}
 
 abbrev pub edit_of : Change → Edit
@@ -22,6 +22,8 @@ edit_of (change.Set n c) = set (content_view c) n
 edit_of (change.Clear n) = clear n
 edit_of (change.Push n v) = push (value_view v) n
 edit_of (change.Insert n k v) = insert (key_view k) (value_view v) n
+edit_of (change.Remove n k) = remove (key_view k) n
+edit_of change.DropUnknown = drop_unknown
 
 -- the message of a type with this body
 abbrev pub dynamic : Types → ℕ → Message → Dynamic
@@ -37,8 +39,9 @@ HoldsParts pool t (one d) = IsPart pool t d
 HoldsParts pool t (list ds) = (i : ℕ) (d : Datum) → nth_datum ds i ≡ Some d → IsPart pool t d
 HoldsParts pool t (map es) = (x : Scalar) (d : Datum) → get_entry x es ≡ Some d → IsPart pool t d
 
--- what an answer tells of a change at a place in what a field holds, whose messages are of a type
-pub record IsWalked (pool : Types) (most : ℕ) (t : Option ℕ) (p : List PlaceStep) (e : Edit) (old new : Holding) (r : Result (Option Value) ChangeError) : Type 0 where
-  pub ok : IfOk r (λ v. IsDone e (target p (content_part pool t old)) (λ b. new ≡ replaced p b old) (option_map value_view v))
-  pub err : OnErr r (new ≡ old)
-  pub judged : IsRefused r (refusal most e (target p (content_part pool t old)))
+module _ (pool : Types) (most : ℕ) where
+  -- what an answer tells of a change at a place in what a field holds, whose messages are of a type
+  pub record IsWalked (t : Option ℕ) (p : List PlaceStep) (e : Edit) (old new : Holding) (r : Result (Option Value) ChangeError) : Type 0 where
+    pub ok : IfOk r (λ v. IsDone e (target p (content_part pool t old)) (λ b. new ≡ replaced p b old) (option_map value_view v))
+    pub err : OnErr r (new ≡ old)
+    pub judged : IsRefused r (refusal most e (target p (content_part pool t old)))

@@ -3,7 +3,8 @@
 ghost use Rattle.std.specs.Prelude.{◌≡◌, IfOk, OnOk, OnErr, Some, option_and_then, option_map};
 ghost use Rattle.pb_value.specs.View.{content_view, key_view, value_view};
 ghost use Rattle.pb_place.specs.At.{message_part};
-ghost use Rattle.pb_place.specs.Changed.{set, clear, push, insert, field_place, most_at, refusal, refusal_at, target, taken_at, taken_out};
+ghost use Rattle.pb_place.specs.Changed.{set, clear, push, insert, remove, drop_unknown};
+ghost use Rattle.pb_place.specs.Changed.{field_place, most_at, refusal, refusal_at, target, taken_at, taken_out};
 ghost use Rattle.pb_place.specs.Changed.{IsChangedAt, IsFieldChanged, IsRefused};
 ghost use Rattle.pb_place.specs.Edits.{edit_of};
 
@@ -139,4 +140,37 @@ pub fn insert_at(
         return Err(ChangeError::Absent);
     };
     Ok(change_at(message, parent, Change::Insert(number, key, value))?)
+}
+
+/// Removes the entry of a key from the map at a place that ends at a field, in the message that the steps before it lead to. The answer is
+/// the value that was under the key. A map without entries is not set.
+///
+/// Nothing else changes, and nothing at all where there is no such entry. The call is refused where the message is not there.
+pub fn remove_at(
+    message: &mut DynamicMessage<'_>,
+    place: &[PlaceStep],
+    key: MapKey,
+) -> Result<Option<Value>, ChangeError>
+    ensures ok { OnOk result (IsFieldChanged place.now (remove (key_view key)) message.old message.new) }
+    ensures stood { IfOk result (λ v. Some (option_map value_view v) ≡ taken_at place.now (remove (key_view key)) message.old) }
+    ensures err { OnErr result (message.new ≡ message.old) }
+    ensures judged { IsRefused result (refusal_at place.now (remove (key_view key)) message.old) }
+{
+    let Some((parent, number)) = field_at_end(place) else {
+        return Err(ChangeError::Absent);
+    };
+    Ok(change_at(message, parent, Change::Remove(number, key))?)
+}
+
+/// Drops the unknown records of the message at a place, and changes nothing else. The call is refused where no message is at the place.
+pub fn drop_unknown_at(
+    message: &mut DynamicMessage<'_>,
+    place: &[PlaceStep],
+) -> Result<(), ChangeError>
+    ensures ok { OnOk result (IsChangedAt place.now drop_unknown message.old message.new) }
+    ensures err { OnErr result (message.new ≡ message.old) }
+    ensures judged { IsRefused result (refusal (most_at place.now) drop_unknown (target place.now (message_part message.old))) }
+{
+    drop(change_at(message, place, Change::DropUnknown)?);
+    Ok(())
 }

@@ -2,9 +2,11 @@
 
 use super::places::place_of;
 use super::schema::Schema;
-use pb_place::{ChangeError, PlaceStep, clear_at, insert_at, push_at, set_at};
+use pb_place::{
+    ChangeError, PlaceStep, clear_at, drop_unknown_at, insert_at, push_at, remove_at, set_at,
+};
 use pb_samples::{body_of, content_of, key_of, value_of};
-use pb_value::DynamicMessage;
+use pb_value::{DynamicMessage, Value, ValueError};
 use std::alloc::Global;
 use std::test::Fail;
 
@@ -112,7 +114,48 @@ const INSERTED: &str = "
 3:n0 | insert u7=n99 f3 f12 | TooDeep
 ";
 
-pub(crate) const TABLES: &[&str] = &[SET, CLEARED, ABSENT, REFUSED, PUSHED, INSERTED];
+const REMOVED: &str = "
+9:{ta=i8,tb=i7} | remove ta f9 | 9:{tb=i7}
+9:{ta=i8,tb=i7} | remove tb f9 | 9:{ta=i8}
+9:{ta=i8} 1:i5 | remove ta f9 | 1:i5
+9:{ta=i8} | remove tc f9 | 9:{ta=i8}
+9:{ta=i8} | remove u1 f9 | 9:{ta=i8}
+12:{u7=n0,u8=n1} | remove u8 f12 | 12:{u7=n0}
+6:[i4] | remove u0 f6 | 6:[i4]
+1:i5 | remove ta f1 | 1:i5
+1:i5 | remove ta f9 | 1:i5
+3:n1 | remove ta f3 f9 | 3:n1
+3:n1 | remove ta f3 f3 f3 f9 | Absent
+12:{u7=n0} | remove u8 f12 ku7 | Absent
+";
+
+const DROPPED: &str = "
+1:i5 99~v7 98~x00 | drop | 1:i5
+1:i5 | drop | 1:i5
+3:n1 99~v7 | drop f3 | 3:n1 99~v7
+1:i5 | drop f1 | Absent
+19:[n0] | drop f19 | Absent
+3:n1 | drop f3 f3 f3 | Absent
+";
+
+pub(crate) const TABLES: &[&str] = &[
+    SET, CLEARED, ABSENT, REFUSED, PUSHED, INSERTED, REMOVED, DROPPED,
+];
+
+/// A row: the fields of a message, an insertion or a removal, and the value that was under the key, or none.
+const OUT: &str = "
+9:{ta=i8} | insert ta=i7 f9 | i8
+9:{ta=i8} | insert tb=i7 f9 | none
+1:i5 | insert tb=i7 f9 | none
+12:{u8=m1=i5} | insert u8=n0 f12 | m1=i5
+9:{ta=i8,tb=i7} | remove tb f9 | i7
+9:{ta=i8,tb=i7} | remove tc f9 | none
+12:{u8=n1.1=i5} | remove u8 f12 | n1.1=i5
+1:i5 | remove ta f9 | none
+1:i5 | remove ta f1 | none
+";
+
+pub(crate) const OUT_TABLES: &[&str] = &[OUT];
 
 fn change(
     alloc: Global,
@@ -125,12 +168,41 @@ fn change(
         "set" => Ok(set_at(message, place, content_of(alloc, word)?)),
         "clear" => Ok(clear_at(message, place)),
         "push" => Ok(push_at(message, place, value_of(alloc, word)?)),
+        "drop" => Ok(drop_unknown_at(message, place)),
+        _ => Ok(take(alloc, message, place, name, word)?.map(drop)),
+    }
+}
+
+/// An insertion or a removal.
+fn take(
+    alloc: Global,
+    message: &mut DynamicMessage<'_>,
+    place: &[PlaceStep],
+    name: &str,
+    word: &str,
+) -> Result<Result<Option<Value>, ChangeError>, Fail> {
+    match name {
         "insert" => {
             let (key, value) = word.split_once('=').ok_or("no value")?;
-            let stood = insert_at(message, place, key_of(alloc, key)?, value_of(alloc, value)?);
-            Ok(stood.map(|_| ()))
+            let (key, value) = (key_of(alloc, key)?, value_of(alloc, value)?);
+            Ok(insert_at(message, place, key, value))
         }
+        "remove" => Ok(remove_at(message, place, key_of(alloc, word)?)),
         _ => Err(Fail::new("no such change")),
+    }
+}
+
+/// Whether a row of what comes out holds.
+pub(crate) fn is_out(alloc: Global, schema: &Schema, row: &str) -> Result<bool, Fail> {
+    let (fields, rest) = row.split_once('|').ok_or("no change")?;
+    let (words, said) = rest.split_once('|').ok_or("no answer")?;
+    let (name, rest) = words.trim().split_once(' ').ok_or("no word")?;
+    let (word, steps) = rest.split_once(' ').ok_or("no place")?;
+    let mut message = schema.made(alloc, body_of(alloc, fields.trim())?)?;
+    match take(alloc, &mut message, &place_of(alloc, steps)?, name, word)? {
+        Ok(Some(value)) => Ok(value == value_of(alloc, said.trim())?),
+        Ok(None) => Ok(said.trim() == "none"),
+        Err(_) => Err(Fail::new("refused")),
     }
 }
 
@@ -140,7 +212,7 @@ pub(crate) fn is_right(alloc: Global, schema: &Schema, row: &str) -> Result<bool
     let (words, said) = rest.split_once('|').ok_or("no answer")?;
     let (name, rest) = words.trim().split_once(' ').unwrap_or((words.trim(), ""));
     let (word, steps) = match name {
-        "clear" => ("", rest),
+        "clear" | "drop" => ("", rest),
         _ => rest.split_once(' ').unwrap_or((rest, "")),
     };
     let said = said.trim();
@@ -148,7 +220,7 @@ pub(crate) fn is_right(alloc: Global, schema: &Schema, row: &str) -> Result<bool
     match change(alloc, &mut message, &place_of(alloc, steps)?, name, word)? {
         Ok(()) => Ok(*message.body() == body_of(alloc, said)?),
         Err(cause) => {
-            if cause == ChangeError::Refused(pb_value::ValueError::Memory) {
+            if cause == ChangeError::Refused(ValueError::Memory) {
                 return Err(Fail::new("out of memory"));
             }
             Ok(cause.name() == said && *message.body() == body_of(alloc, fields.trim())?)

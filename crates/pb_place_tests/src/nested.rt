@@ -1,7 +1,7 @@
-//! Changes of nested messages, beside today's calls on the same message by itself.
+//! Changes of nested messages, beside the calls of `DynamicMessage` on the same message by itself.
 
 use super::schema::Schema;
-use pb_place::{PlaceStep, clear_at, insert_at, push_at, set_at};
+use pb_place::{PlaceStep, clear_at, drop_unknown_at, insert_at, push_at, remove_at, set_at};
 use pb_samples::{body_of, content_of, key_of, value_of};
 use pb_value::{Body, Content, DynamicMessage, MapKey, Value};
 use std::alloc::Global;
@@ -23,6 +23,17 @@ pub(crate) const ROWS: &str = "
 1:i5 | insert 9 ta=i8
 9:{ta=i8,tb=i7} | insert 9 ta=i6
 12:{u8=n0} 99~v7 | insert 12 u7=n1.1=i5
+";
+
+/// A row: the fields of a message, a change of it, and its fields after that.
+pub(crate) const LEFT: &str = "
+1:i5 99~v7 98~v1 | drop 0 | 1:i5
+1:i5 | drop 0 | 1:i5
+9:{ta=i8,tb=i7} | remove 9 ta | 9:{tb=i7}
+9:{ta=i8} 1:i5 99~v7 | remove 9 ta | 1:i5 99~v7
+12:{u7=n0,u8=n1} | remove 12 u8 | 12:{u7=n0}
+9:{ta=i8} | remove 9 tb | 9:{ta=i8}
+1:i5 | remove 9 ta | 1:i5
 ";
 
 /// Where a nested message is in the one around it.
@@ -89,7 +100,7 @@ fn words_of(words: &'static str) -> Result<Words, Fail> {
     Ok(Words { name, number, word })
 }
 
-/// The change by today's calls, of the message by itself.
+/// The change of the message by itself.
 fn change_alone(alloc: Global, message: &mut DynamicMessage<'_>, words: Words) -> Result<(), Fail> {
     let Words { name, number, word } = words;
     match name {
@@ -115,6 +126,8 @@ fn change_inside(
         "set" => set_at(message, place, content_of(alloc, words.word)?)?,
         "clear" => clear_at(message, place)?,
         "push" => push_at(message, place, value_of(alloc, words.word)?)?,
+        "drop" => drop_unknown_at(message, place)?,
+        "remove" => drop(remove_at(message, place, key_of(alloc, words.word)?)?),
         _ => {
             let (key, value) = words.word.split_once('=').ok_or("no value")?;
             drop(insert_at(message, place, key_of(alloc, key)?, value_of(alloc, value)?)?);
@@ -135,10 +148,55 @@ fn is_same(
     change_alone(alloc, &mut alone, words)?;
     let wanted = around(alloc, schema, way, alone.into_body())?;
     let mut message = around(alloc, schema, way, body_of(alloc, fields)?)?;
-    let mut place = steps_to(alloc, way)?;
-    place.push(PlaceStep::Field(words.number))?;
-    change_inside(alloc, &mut message, &place, words)?;
+    change_inside(
+        alloc,
+        &mut message,
+        &place_in(alloc, way, words.number)?,
+        words,
+    )?;
     Ok(*message.body() == *wanted.body())
+}
+
+/// The place of a field in a nested message, or of the message itself.
+fn place_in(alloc: Global, way: Way, number: u32) -> Result<Vec<PlaceStep>, Fail> {
+    let mut place = steps_to(alloc, way)?;
+    if number > 0 {
+        place.push(PlaceStep::Field(number))?;
+    }
+    Ok(place)
+}
+
+/// Whether a change by a place leaves a message of these fields in that place.
+fn leaves(
+    alloc: Global,
+    schema: &Schema,
+    way: Way,
+    fields: &str,
+    words: Words,
+    left: &str,
+) -> Result<bool, Fail> {
+    let wanted = around(alloc, schema, way, body_of(alloc, left)?)?;
+    let mut message = around(alloc, schema, way, body_of(alloc, fields)?)?;
+    change_inside(
+        alloc,
+        &mut message,
+        &place_in(alloc, way, words.number)?,
+        words,
+    )?;
+    Ok(*message.body() == *wanted.body())
+}
+
+/// Whether a row of what is left holds.
+pub(crate) fn is_left(alloc: Global, schema: &Schema, row: &'static str) -> Result<bool, Fail> {
+    let (fields, rest) = row.split_once('|').ok_or("no change")?;
+    let (words, left) = rest.split_once('|').ok_or("no fields")?;
+    let words = words_of(words)?;
+    for way in WAYS {
+        if !leaves(alloc, schema, *way, fields.trim(), words, left.trim())? {
+            return Ok(false);
+        }
+    }
+    Ok(true)
 }
 
 /// Whether a row holds.

@@ -10,7 +10,9 @@ enum Form {
     Reading,
     Asking,
     Changing,
+    Out,
     Nested,
+    Left,
 }
 
 fn is_right(alloc: Global, schema: &Schema, form: Form, row: &'static str) -> Result<bool, Fail> {
@@ -18,7 +20,9 @@ fn is_right(alloc: Global, schema: &Schema, form: Form, row: &'static str) -> Re
         Form::Reading => super::reading::is_right(alloc, schema, row),
         Form::Asking => super::asking::is_right(alloc, schema, row),
         Form::Changing => super::changing::is_right(alloc, schema, row),
+        Form::Out => super::changing::is_out(alloc, schema, row),
         Form::Nested => super::nested::is_right(alloc, schema, row),
+        Form::Left => super::nested::is_left(alloc, schema, row),
     }
 }
 
@@ -61,8 +65,22 @@ fn changing(rt: HostRuntime) -> Result<(), Fail> {
 }
 
 #[test]
+fn taken_out(rt: HostRuntime) -> Result<(), Fail> {
+    let wrong = wrong_row(rt.alloc(), Form::Out, super::changing::OUT_TABLES)?;
+    assert!(rt; wrong.is_none(), "{wrong:?}");
+    Ok(())
+}
+
+#[test]
 fn nested(rt: HostRuntime) -> Result<(), Fail> {
     let wrong = wrong_row(rt.alloc(), Form::Nested, &[super::nested::ROWS])?;
+    assert!(rt; wrong.is_none(), "{wrong:?}");
+    Ok(())
+}
+
+#[test]
+fn nested_left(rt: HostRuntime) -> Result<(), Fail> {
+    let wrong = wrong_row(rt.alloc(), Form::Left, &[super::nested::LEFT])?;
     assert!(rt; wrong.is_none(), "{wrong:?}");
     Ok(())
 }
