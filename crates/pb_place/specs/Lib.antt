@@ -1,3 +1,8 @@
 pub mod At
 pub mod Found
 pub mod Ask
+pub mod Replaced
+pub mod Removed
+pub mod Changed
+pub mod Edits
+pub mod ErrorName

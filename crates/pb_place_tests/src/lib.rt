@@ -4,6 +4,10 @@
 #[cfg(test)]
 mod asking;
 #[cfg(test)]
+mod changing;
+#[cfg(test)]
+mod nested;
+#[cfg(test)]
 mod places;
 #[cfg(test)]
 mod reading;

@@ -9,12 +9,20 @@ use std::test::Fail;
 enum Form {
     Reading,
     Asking,
+    Changing,
+    Out,
+    Nested,
+    Left,
 }
 
-fn is_right(alloc: Global, schema: &Schema, form: Form, row: &str) -> Result<bool, Fail> {
+fn is_right(alloc: Global, schema: &Schema, form: Form, row: &'static str) -> Result<bool, Fail> {
     match form {
         Form::Reading => super::reading::is_right(alloc, schema, row),
         Form::Asking => super::asking::is_right(alloc, schema, row),
+        Form::Changing => super::changing::is_right(alloc, schema, row),
+        Form::Out => super::changing::is_out(alloc, schema, row),
+        Form::Nested => super::nested::is_right(alloc, schema, row),
+        Form::Left => super::nested::is_left(alloc, schema, row),
     }
 }
 
@@ -45,6 +53,34 @@ fn reading(rt: HostRuntime) -> Result<(), Fail> {
 #[test]
 fn asking(rt: HostRuntime) -> Result<(), Fail> {
     let wrong = wrong_row(rt.alloc(), Form::Asking, super::asking::TABLES)?;
+    assert!(rt; wrong.is_none(), "{wrong:?}");
+    Ok(())
+}
+
+#[test]
+fn changing(rt: HostRuntime) -> Result<(), Fail> {
+    let wrong = wrong_row(rt.alloc(), Form::Changing, super::changing::TABLES)?;
+    assert!(rt; wrong.is_none(), "{wrong:?}");
+    Ok(())
+}
+
+#[test]
+fn taken_out(rt: HostRuntime) -> Result<(), Fail> {
+    let wrong = wrong_row(rt.alloc(), Form::Out, super::changing::OUT_TABLES)?;
+    assert!(rt; wrong.is_none(), "{wrong:?}");
+    Ok(())
+}
+
+#[test]
+fn nested(rt: HostRuntime) -> Result<(), Fail> {
+    let wrong = wrong_row(rt.alloc(), Form::Nested, &[super::nested::ROWS])?;
+    assert!(rt; wrong.is_none(), "{wrong:?}");
+    Ok(())
+}
+
+#[test]
+fn nested_left(rt: HostRuntime) -> Result<(), Fail> {
+    let wrong = wrong_row(rt.alloc(), Form::Left, &[super::nested::LEFT])?;
     assert!(rt; wrong.is_none(), "{wrong:?}");
     Ok(())
 }

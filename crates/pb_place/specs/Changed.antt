@@ -1,0 +1,118 @@
+-- What a change at a place makes of a message, and why it is refused.
+use Rattle.std.specs.Prelude.{◌≡◌, ◌⊎◌, ◌-◌, ℕ, suc, List, [], ◌∷◌, nat_le, Option, Some, None, option_map, option_and_then, IsSomeAnd}
+use Rattle.std.specs.Prelude.{Result, MatchResult}
+use Rattle.pb_schema.specs.Types.{Types, message_fields}
+use Rattle.pb_schema.specs.Scalar.{Scalar}
+use Rattle.pb_value.specs.Data.{Datum, Holding, body, fields_of, get_field, drop_field, holding_depth, levels_of, levels_in_entry}
+use Rattle.pb_value.specs.Dynamic.{Dynamic, with_changed}
+use Rattle.pb_value.specs.Change.{set_at, set_cause, push_at, push_cause, insert_at, entry_at, insert_cause}
+use Rattle.pb_value.specs.Inner.{datum_under}
+use Rattle.pb_value.specs.Cause.{or_else, unless}
+use Rattle.pb_value.specs.declared.error.ValueError.{ValueError}
+use Rattle.pb_value.specs.declared.error.ValueError.TheVariants.{Memory, TooDeep}
+use Rattle.pb_place.specs.declared.error.ChangeError.{ChangeError}
+use Rattle.pb_place.specs.declared.error.ChangeError.TheVariants.{Absent, Refused}
+use Rattle.pb_place.specs.declared.step.PlaceStep.{PlaceStep}
+use Rattle.pb_place.specs.declared.step.PlaceStep.TheVariants.{Field, Index, Key}
+use Rattle.pb_place.specs.At.{Part, message_part, part_at, seen}
+use Rattle.pb_place.specs.Ask.{message_in}
+use Rattle.pb_place.specs.Removed.{remove_at}
+use Rattle.pb_place.specs.Replaced.{with_at}
+
+-- A change of one message: of the field of a number, or of its unknown records.
+pub data Edit : Type 0 where
+  set : Holding → ℕ → Edit
+  clear : ℕ → Edit
+  push : Datum → ℕ → Edit
+  insert : Scalar → Datum → ℕ → Edit
+  remove : Scalar → ℕ → Edit
+  drop_unknown : Edit
+
+-- the message with the change made: what `DynamicMessage` makes of it, or without an entry of a map, or without its unknown records
+abbrev pub edited : Edit → Dynamic → Dynamic
+edited (set h n) v = with_changed v (set_at (message_fields v.pool v.kind) n h)
+edited (clear n) v = with_changed v (drop_field n)
+edited (push d n) v = with_changed v (push_at n d)
+edited (insert x d n) v = with_changed v (insert_at n x d)
+edited (remove x n) v = with_changed v (remove_at n x)
+edited drop_unknown v = record v { body = body (fields_of v.body) [] }
+
+-- why `DynamicMessage` refuses it, for a message of a type
+abbrev pub edit_cause : Edit → Types → ℕ → Option ValueError
+edit_cause (set h n) pool m = set_cause pool m n h
+edit_cause (clear n) pool m = None
+edit_cause (push d n) pool m = push_cause pool m n d
+edit_cause (insert x d n) pool m = insert_cause pool m n x d
+edit_cause (remove x n) pool m = None
+edit_cause drop_unknown pool m = None
+
+-- how deep what it brings nests below the message
+abbrev pub brings : Edit → ℕ
+brings (set h n) = holding_depth h
+brings (clear n) = 0
+brings (push d n) = levels_of d
+brings (insert x d n) = suc (levels_in_entry d)
+brings (remove x n) = 0
+brings drop_unknown = 0
+
+-- what it takes out of the message
+abbrev pub taken_out : Edit → Dynamic → Option Datum
+taken_out (set h n) v = None
+taken_out (clear n) v = None
+taken_out (push d n) v = None
+taken_out (insert x d n) v = entry_at n x (fields_of v.body)
+taken_out (remove x n) v = option_and_then (datum_under x) (get_field n (fields_of v.body))
+taken_out drop_unknown v = None
+
+-- the message that a part has at a place
+abbrev pub target : List PlaceStep → Part → Option Dynamic
+target p x = option_and_then message_in (option_map seen (part_at p x))
+
+-- how many messages are around one at a place: each step to a field leads into one more
+abbrev pub levels_above : List PlaceStep → ℕ
+levels_above [] = 0
+levels_above (Field n ∷ p) = suc (levels_above p)
+levels_above (Index i ∷ p) = levels_above p
+levels_above (Key k ∷ p) = levels_above p
+
+-- Why a change of a message is refused below which at most so many levels may be added: the message is not there, or that change's own cause, and
+-- the depth last.
+abbrev pub refusal : ℕ → Edit → Option Dynamic → Option ChangeError
+refusal most e None = Some Absent
+refusal most e (Some w) = option_map Refused (or_else (edit_cause e w.pool w.kind) (unless (nat_le (brings e) most) TooDeep))
+
+-- a call is refused exactly where there is a cause, and with that cause, but where memory runs out
+abbrev pub IsRefused : {T : Type 0} → Result T ChangeError → Option ChangeError → Type 0
+IsRefused r cause = MatchResult r (λ _. cause ≡ None) (λ e. (e ≡ Refused Memory) ⊎ (cause ≡ Some e))
+
+-- a place that ends at a field: the place of its message, and the field's number
+abbrev pub field_place : List PlaceStep → Option (List PlaceStep × ℕ)
+field_place [] = None
+field_place (Field n ∷ []) = Some ([], n)
+field_place (Index i ∷ []) = None
+field_place (Key k ∷ []) = None
+field_place (s ∷ t ∷ p) = option_map (λ q. (s ∷ q.0, q.1)) (field_place (t ∷ p))
+
+-- at the message of a place, at most so many levels may be added: no more than 100 are below the whole
+abbrev pub most_at : List PlaceStep → ℕ
+most_at p = 100 - levels_above p
+
+-- why a change at a place is refused
+abbrev pub refusal_at : List PlaceStep → (ℕ → Edit) → Dynamic → Option ChangeError
+refusal_at place e v = of (field_place place)
+  where
+    of : Option (List PlaceStep × ℕ) → Option ChangeError
+    of None = Some Absent
+    of (Some q) = refusal (most_at q.0) (e q.1) (target q.0 (message_part v))
+
+-- The message at a place is changed, and all else is as before.
+abbrev pub IsChangedAt : List PlaceStep → Edit → Dynamic → Dynamic → Type 0
+IsChangedAt p e v new = IsSomeAnd (target p (message_part v)) (λ w. new ≡ record v { body = with_at p (edited e w).body v.body })
+
+-- the same, where the place ends at a field
+abbrev pub IsFieldChanged : List PlaceStep → (ℕ → Edit) → Dynamic → Dynamic → Type 0
+IsFieldChanged place e v new = IsSomeAnd (field_place place) (λ q. IsChangedAt q.0 (e q.1) v new)
+
+-- what a change at a place that ends at a field takes out
+abbrev pub taken_at : List PlaceStep → (ℕ → Edit) → Dynamic → Option (Option Datum)
+taken_at place e v = option_and_then (λ q. option_map (taken_out (e q.1)) (target q.0 (message_part v))) (field_place place)

@@ -1,0 +1,47 @@
+-- What the code's changes stand for, and what holds on the way to the message.
+use Rattle.std.specs.Prelude.{◌≡◌, ℕ, List, Option, Some, IsSomeAnd, option_map, Result}
+use Rattle.std.specs.Result.{IfOk, OnErr}
+use Rattle.pb_schema.specs.Types.{Types}
+use Rattle.pb_schema.specs.Scalar.{Scalar}
+use Rattle.pb_value.specs.Data.{Datum, Message, Holding, one, list, map, get_entry}
+use Rattle.pb_value.specs.Dynamic.{Dynamic}
+use Rattle.pb_value.specs.Inner.{nth_datum, IsPart}
+use Rattle.pb_value.specs.View.{content_view, key_view, value_view}
+use Rattle.pb_value.specs.WellFormed.{IsWellFormed}
+use Rattle.pb_value.specs.declared.body.Value.{Value}
+use Rattle.pb_place.specs.declared.change.Change.{Change}
+use Rattle.pb_place.specs.declared.change.Change.TheVariants as change
+use Rattle.pb_place.specs.declared.error.ChangeError.{ChangeError}
+use Rattle.pb_place.specs.declared.step.PlaceStep.{PlaceStep}
+use Rattle.pb_place.specs.At.{content_part}
+use Rattle.pb_place.specs.Changed.{Edit, set, clear, push, insert, remove, drop_unknown, edited, taken_out, target, refusal, IsRefused}
+use Rattle.pb_place.specs.Replaced.{replaced}
+
+abbrev pub edit_of : Change → Edit
+edit_of (change.Set n c) = set (content_view c) n
+edit_of (change.Clear n) = clear n
+edit_of (change.Push n v) = push (value_view v) n
+edit_of (change.Insert n k v) = insert (key_view k) (value_view v) n
+edit_of (change.Remove n k) = remove (key_view k) n
+edit_of change.DropUnknown = drop_unknown
+
+-- the message of a type with this body
+abbrev pub dynamic : Types → ℕ → Message → Dynamic
+dynamic pool m b = record { pool = pool; kind = m; body = b }
+
+-- The change of a message is made: its body is put where it says, is well formed, and this is what was taken out.
+abbrev pub IsDone : Edit → Option Dynamic → (Message → Type 0) → Option Datum → Type 0
+IsDone e o IsPut out = IsSomeAnd o (λ w. IsPut (edited e w).body × IsWellFormed w.pool w.kind (edited e w).body × (out ≡ taken_out e w))
+
+-- the messages in a content are well-formed messages of a type
+abbrev pub HoldsParts : Types → Option ℕ → Holding → Type 0
+HoldsParts pool t (one d) = IsPart pool t d
+HoldsParts pool t (list ds) = (i : ℕ) (d : Datum) → nth_datum ds i ≡ Some d → IsPart pool t d
+HoldsParts pool t (map es) = (x : Scalar) (d : Datum) → get_entry x es ≡ Some d → IsPart pool t d
+
+module _ (pool : Types) (most : ℕ) where
+  -- what an answer tells of a change at a place in what a field holds, whose messages are of a type
+  pub record IsWalked (t : Option ℕ) (p : List PlaceStep) (e : Edit) (old new : Holding) (r : Result (Option Value) ChangeError) : Type 0 where
+    pub ok : IfOk r (λ v. IsDone e (target p (content_part pool t old)) (λ b. new ≡ replaced p b old) (option_map value_view v))
+    pub err : OnErr r (new ≡ old)
+    pub judged : IsRefused r (refusal most e (target p (content_part pool t old)))

@@ -1,0 +1,176 @@
+//! Changes of the message at a place.
+
+ghost use Rattle.std.specs.Prelude.{◌≡◌, IfOk, OnOk, OnErr, Some, option_and_then, option_map};
+ghost use Rattle.pb_value.specs.View.{content_view, key_view, value_view};
+ghost use Rattle.pb_place.specs.At.{message_part};
+ghost use Rattle.pb_place.specs.Changed.{set, clear, push, insert, remove, drop_unknown};
+ghost use Rattle.pb_place.specs.Changed.{field_place, most_at, refusal, refusal_at, target, taken_at, taken_out};
+ghost use Rattle.pb_place.specs.Changed.{IsChangedAt, IsFieldChanged, IsRefused};
+ghost use Rattle.pb_place.specs.Edits.{edit_of};
+
+use crate::change::Change;
+use crate::error::ChangeError;
+use crate::step::PlaceStep;
+use crate::walk::{Walk, into_well_formed};
+use pb_value::parts::{MAX_LEVELS, from_well_formed};
+use pb_value::{Content, DynamicMessage, MapKey, Value};
+use std::mem;
+
+/// How many levels may be added below the message at a place.
+fn most_at(place: &[PlaceStep]) -> u8
+    ensures { result ≡ most_at place.now }
+{
+    let mut left = MAX_LEVELS;
+    for step in place {
+        if let PlaceStep::Field(_) = step {
+            left = left.saturating_sub(1);
+        }
+    }
+    left
+}
+
+/// Makes a change in the message at a place. The answer is what was taken out of it.
+pub(crate) fn change_at(
+    message: &mut DynamicMessage<'_>,
+    place: &[PlaceStep],
+    change: Change,
+) -> Result<Option<Value>, ChangeError>
+    ensures ok { IfOk result (λ _. IsChangedAt place.now (edit_of change) message.old message.new) }
+    ensures out { IfOk result (λ v. Some (option_map value_view v) ≡ option_map (taken_out (edit_of change)) (target place.now (message_part message.old))) }
+    ensures err { OnErr result (message.new ≡ message.old) }
+    ensures judged { IsRefused result (refusal (most_at place.now) (edit_of change) (target place.now (message_part message.old))) }
+{
+    let alloc = message.alloc();
+    let pool = message.pool();
+    let message_type = message.message_type();
+    let walk = Walk {
+        alloc,
+        pool,
+        most: most_at(place),
+    };
+    let whole = mem::replace(message, DynamicMessage::new(alloc, pool, message_type));
+    let mut body = into_well_formed(whole);
+    let answer = walk.change_in(message_type, &mut body, place, change);
+    *message = from_well_formed(alloc, pool, message_type, body);
+    answer
+}
+
+/// The place of the message and the number of the field that a place ends at.
+fn field_at_end(place: &[PlaceStep]) -> Option<(&[PlaceStep], u32)>
+    ensures { option_map (λ q. (q.0.now, q.1)) result ≡ field_place place.now }
+{
+    let (step, parent) = place.split_last()?;
+    match step {
+        PlaceStep::Field(number) => Some((parent, *number)),
+        _ => None,
+    }
+}
+
+/// Sets the field that a place ends at to a content, in the message that the steps before it lead to.
+///
+/// That message is changed as by [`DynamicMessage::set`], and nothing else. The call is refused where the message is not there, or else
+/// where `set` refuses the content, and last where the whole message would nest more than 100 levels deep. A refused call changes
+/// nothing.
+pub fn set_at(
+    message: &mut DynamicMessage<'_>,
+    place: &[PlaceStep],
+    content: Content,
+) -> Result<(), ChangeError>
+    ensures ok { OnOk result (IsFieldChanged place.now (set (content_view content)) message.old message.new) }
+    ensures err { OnErr result (message.new ≡ message.old) }
+    ensures judged { IsRefused result (refusal_at place.now (set (content_view content)) message.old) }
+{
+    let Some((parent, number)) = field_at_end(place) else {
+        return Err(ChangeError::Absent);
+    };
+    drop(change_at(message, parent, Change::Set(number, content))?);
+    Ok(())
+}
+
+/// Clears the field that a place ends at, in the message that the steps before it lead to.
+///
+/// That message is changed as by [`DynamicMessage::clear`], and nothing else. The call is refused where the message is not there.
+pub fn clear_at(message: &mut DynamicMessage<'_>, place: &[PlaceStep]) -> Result<(), ChangeError>
+    ensures ok { OnOk result (IsFieldChanged place.now clear message.old message.new) }
+    ensures err { OnErr result (message.new ≡ message.old) }
+    ensures judged { IsRefused result (refusal_at place.now clear message.old) }
+{
+    let Some((parent, number)) = field_at_end(place) else {
+        return Err(ChangeError::Absent);
+    };
+    drop(change_at(message, parent, Change::Clear(number))?);
+    Ok(())
+}
+
+/// Puts a value at the end of the list at a place that ends at a field, in the message that the steps before it lead to.
+///
+/// That message is changed as by [`DynamicMessage::push`], and nothing else. The call is refused as [`set_at`] is.
+pub fn push_at(
+    message: &mut DynamicMessage<'_>,
+    place: &[PlaceStep],
+    value: Value,
+) -> Result<(), ChangeError>
+    ensures ok { OnOk result (IsFieldChanged place.now (push (value_view value)) message.old message.new) }
+    ensures err { OnErr result (message.new ≡ message.old) }
+    ensures judged { IsRefused result (refusal_at place.now (push (value_view value)) message.old) }
+{
+    let Some((parent, number)) = field_at_end(place) else {
+        return Err(ChangeError::Absent);
+    };
+    drop(change_at(message, parent, Change::Push(number, value))?);
+    Ok(())
+}
+
+/// Puts a value under a key of the map at a place that ends at a field, in the message that the steps before it lead to. The answer is
+/// the value that was under the key.
+///
+/// That message is changed as by [`DynamicMessage::insert`], and nothing else. The call is refused as [`set_at`] is.
+pub fn insert_at(
+    message: &mut DynamicMessage<'_>,
+    place: &[PlaceStep],
+    key: MapKey,
+    value: Value,
+) -> Result<Option<Value>, ChangeError>
+    ensures ok { OnOk result (IsFieldChanged place.now (insert (key_view key) (value_view value)) message.old message.new) }
+    ensures stood { IfOk result (λ v. Some (option_map value_view v) ≡ taken_at place.now (insert (key_view key) (value_view value)) message.old) }
+    ensures err { OnErr result (message.new ≡ message.old) }
+    ensures judged { IsRefused result (refusal_at place.now (insert (key_view key) (value_view value)) message.old) }
+{
+    let Some((parent, number)) = field_at_end(place) else {
+        return Err(ChangeError::Absent);
+    };
+    Ok(change_at(message, parent, Change::Insert(number, key, value))?)
+}
+
+/// Removes the entry of a key from the map at a place that ends at a field, in the message that the steps before it lead to. The answer is
+/// the value that was under the key. A map without entries is not set.
+///
+/// Nothing else changes, and nothing at all where there is no such entry. The call is refused where the message is not there.
+pub fn remove_at(
+    message: &mut DynamicMessage<'_>,
+    place: &[PlaceStep],
+    key: MapKey,
+) -> Result<Option<Value>, ChangeError>
+    ensures ok { OnOk result (IsFieldChanged place.now (remove (key_view key)) message.old message.new) }
+    ensures stood { IfOk result (λ v. Some (option_map value_view v) ≡ taken_at place.now (remove (key_view key)) message.old) }
+    ensures err { OnErr result (message.new ≡ message.old) }
+    ensures judged { IsRefused result (refusal_at place.now (remove (key_view key)) message.old) }
+{
+    let Some((parent, number)) = field_at_end(place) else {
+        return Err(ChangeError::Absent);
+    };
+    Ok(change_at(message, parent, Change::Remove(number, key))?)
+}
+
+/// Drops the unknown records of the message at a place, and changes nothing else. The call is refused where no message is at the place.
+pub fn drop_unknown_at(
+    message: &mut DynamicMessage<'_>,
+    place: &[PlaceStep],
+) -> Result<(), ChangeError>
+    ensures ok { OnOk result (IsChangedAt place.now drop_unknown message.old message.new) }
+    ensures err { OnErr result (message.new ≡ message.old) }
+    ensures judged { IsRefused result (refusal (most_at place.now) drop_unknown (target place.now (message_part message.old))) }
+{
+    drop(change_at(message, place, Change::DropUnknown)?);
+    Ok(())
+}
