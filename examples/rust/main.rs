@@ -1,12 +1,14 @@
 //! The words of pbtool, by the library: main check|show|canon|frames [--lenient] SET TYPE FILE, main short FILE, main compile ROOT FILE..
 //! Canonical bytes and listing once more, of a message that the library holds: main encode|list [--lenient] SET TYPE FILE, and of an empty message: main empty
-//! SET TYPE FILE. How many parts of a set lenient reading leaves out: main omitted SET. What a field is: main field SET TYPE NAME
+//! SET TYPE FILE. How many parts of a set lenient reading leaves out: main omitted SET. What a field is: main field SET TYPE NAME. What a message has, a
+//! place a line: main read [--lenient] SET TYPE FILE, as read.c prints it. The scalar at a path of field numbers, such as 3.1: main find [--lenient] SET TYPE
+//! FILE PATH
 mod files;
 mod mabristu;
 
 use files::{Failure, failure, hexadecimal, print, read, refused};
-use mabristu::structs::Field;
-use mabristu::{Error, Limits, Message, Pool};
+use mabristu::structs::{Field, Value};
+use mabristu::{Error, Key, Limits, Message, Place, Pool, calls};
 use std::process::ExitCode;
 
 const FULL: Limits = Limits::FULL;
@@ -35,6 +37,63 @@ fn encode(message: Result<Message, Error>) -> Result<(), Failure> {
     let encoded = message.encode().map_err(refused)?;
     assert_eq!(message.encoded_length(), Ok(encoded.len()));
     print(&hexadecimal(&encoded))
+}
+
+fn number_of(Value { kind, number }: Value) -> String {
+    match kind {
+        calls::INT32 | calls::INT64 | calls::ENUM => (number as i64).to_string(),
+        _ => number.to_string(),
+    }
+}
+
+fn digits(bytes: &[u8]) -> String {
+    bytes.iter().map(|byte| format!("{byte:02x}")).collect()
+}
+
+/// Prints what a message has at a place, and then what is inside.
+fn print_at(message: &Message, place: &Place, at: &str) -> Result<(), Failure> {
+    let Some(value) = message.value(place).map_err(refused)? else {
+        return Ok(());
+    };
+    let text = message.bytes(place).map_err(refused)?;
+    print(format!("{at} {} {}\n", value.kind, text.map_or_else(|| number_of(value), |bytes| digits(&bytes))).as_bytes())?;
+    match value.kind {
+        calls::MESSAGE => {
+            for number in message.fields(place).map_err(refused)?.unwrap_or_default() {
+                print_at(message, &place.field(number), &format!("{at}.{number}"))?;
+            }
+        }
+        calls::LIST => {
+            for index in 0..value.number as usize {
+                print_at(message, &place.index(index), &format!("{at}[{index}]"))?;
+            }
+        }
+        calls::MAP => {
+            for key in 0..value.number as usize {
+                let Some(key) = message.key(place, key).map_err(refused)? else {
+                    continue;
+                };
+                let shown = match &key {
+                    Key::Number(value) => format!("{}:{}", value.kind, number_of(*value)),
+                    Key::String(bytes) => format!("{}:{}", calls::STRING, digits(bytes)),
+                };
+                print_at(message, &place.key(&key), &format!("{at}{{{shown}}}"))?;
+            }
+        }
+        _ => (),
+    }
+    Ok(())
+}
+
+/// Prints the scalar that a message has at a path.
+fn find(pool: &Pool, number: u32, bytes: &[u8], path: &str) -> Result<(), Failure> {
+    let numbers: Vec<u32> = path.split('.').filter_map(|it| it.parse().ok()).collect();
+    let line = match pool.find_value(number, bytes, FULL, &numbers).map_err(refused)? {
+        None => "absent".to_owned(),
+        Some((value, text)) if value.kind == calls::STRING || value.kind == calls::BYTES => format!("{} {}", value.kind, digits(&text)),
+        Some((value, _)) => format!("{} {}", value.kind, number_of(value)),
+    };
+    print(format!("{line}\n").as_bytes())
 }
 
 fn type_number(pool: &Pool, name: &str) -> Result<u32, Failure> {
@@ -68,7 +127,11 @@ fn run(words: &[&str]) -> Result<(), Failure> {
         })?;
         return print(format!("{number} {kind} {shape} {key} {type_of}\n").as_bytes());
     }
-    let (command, pool, name, file) = match words {
+    let (words, path) = match words {
+        ["find", words @ .., path] => ([&["find"], words].concat(), *path),
+        _ => (words.to_vec(), ""),
+    };
+    let (command, pool, name, file) = match words.as_slice() {
         [command, "--lenient", set, name, file] => (command, linked(set)?.0, name, file),
         [command, set, name, file] => (command, Pool::link(&read(set)?).map_err(|error| failure(error, "set "))?, name, file),
         _ => return Err(("usage: see the head of main.rs".to_owned(), 2)),
@@ -81,6 +144,8 @@ fn run(words: &[&str]) -> Result<(), Failure> {
         "canon" => print(&hexadecimal(&pool.canon(number, &bytes, FULL).map_err(refused)?)),
         "encode" => encode(pool.decode(number, &bytes, FULL)),
         "empty" => encode(pool.message(number)),
+        "read" => print_at(&pool.decode(number, &bytes, FULL).map_err(refused)?, &Place::default(), ""),
+        "find" => find(&pool, number, &bytes, path),
         "list" => print(&pool.decode(number, &bytes, FULL).and_then(|message| message.show()).map_err(refused)?),
         _ => frames(&pool, number, &bytes),
     }

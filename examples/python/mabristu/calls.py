@@ -3,7 +3,10 @@ import os
 from ctypes import CDLL, POINTER, Structure, c_bool, c_char_p, c_size_t, c_uint8, c_uint32, c_uint64, c_void_p
 
 INTERFACE = 2
-DONE, BAD_LIMITS, NO_TYPE, EMPTY, BAD_NAME, PART, ABSENT, FAULT, MEMORY, TOO_LARGE = 0, 1, 2, 3, 4, 5, 6, 13, 14, 31
+DONE, BAD_LIMITS, NO_TYPE, EMPTY, BAD_NAME, PART, ABSENT, BAD_PLACE, FAULT, MEMORY, TOO_LARGE = 0, 1, 2, 3, 4, 5, 6, 7, 13, 14, 31
+# The kinds of values, and the steps of a place that are no keys.
+DOUBLE, FLOAT, INT64, UINT64, INT32, BOOL, STRING, MESSAGE_KIND, BYTES, UINT32, ENUM = 1, 2, 3, 4, 5, 8, 9, 11, 12, 13, 14
+LIST, MAP, FIELD, INDEX = 19, 20, 21, 22
 MAX_BYTES, MAX_DEPTH, MAX_STEPS, TRUNCATED = 0x7FFFFFFF, 100, 201, 1
 
 
@@ -35,6 +38,10 @@ class Bytes(Structure):
     _fields_ = [("at", c_char_p), ("len", c_size_t)]
 
 
+class Value(Structure):
+    _fields_ = [("kind", c_uint32), ("number", c_uint64)]
+
+
 class Frame(Structure):
     _fields_ = [("begin", c_size_t), ("end", c_size_t)]
 
@@ -43,7 +50,8 @@ POOL, TYPE, TEXT, LIMITS = [POINTER(Handle)], [c_uint32], [c_char_p, c_size_t], 
 OUT, TOLD = [POINTER(c_uint8), c_size_t, POINTER(c_size_t)], [POINTER(Fault), POINTER(Step), c_size_t]
 REFUSED = [POINTER(Refusal), POINTER(c_uint8), c_size_t]
 MESSAGE = POOL + TYPE + TEXT + LIMITS
-HELD = [POINTER(MessageHandle)]
+HELD, VALUE, NUMBERS = [POINTER(MessageHandle)], [POINTER(Value)], [POINTER(c_uint32), c_size_t]
+PLACE = HELD + [POINTER(Value), c_size_t, POINTER(Bytes), c_size_t]
 CALLS = {
     "mb_interface": [],
     "mb_raw_check": TEXT + LIMITS + TOLD,
@@ -56,6 +64,7 @@ CALLS = {
     "mb_pool_type": POOL + TEXT + [POINTER(c_uint32)],
     "mb_pool_field": POOL + TYPE + TEXT + [POINTER(Field)],
     "mb_check": MESSAGE + TOLD,
+    "mb_find": MESSAGE + NUMBERS + VALUE + OUT[:2] + TOLD,
     "mb_canon": MESSAGE + OUT + TOLD,
     "mb_show": MESSAGE + OUT + TOLD,
     "mb_frames": MESSAGE + [POINTER(Frame)] + TOLD,
@@ -64,6 +73,10 @@ CALLS = {
     "mb_message_encode": HELD + OUT,
     "mb_message_encoded_length": HELD + [POINTER(c_size_t)],
     "mb_message_show": HELD + OUT,
+    "mb_message_get": PLACE + VALUE,
+    "mb_message_read": PLACE + OUT,
+    "mb_message_fields": PLACE + NUMBERS + [POINTER(c_size_t)],
+    "mb_message_key": PLACE + [c_size_t] + VALUE + OUT[:2],
     "mb_message_free": HELD,
 }
 

@@ -1,8 +1,9 @@
 """Messages of a type."""
-from ctypes import c_size_t
+from ctypes import c_size_t, c_uint8, c_uint32
 
 from . import calls as c
 from .told import Told, judged, written
+from .values import MessagePart, Place, scalar, signed
 
 # The greatest limits: how many bytes, and how deep messages and groups may nest.
 FULL = c.MAX_BYTES, c.MAX_DEPTH
@@ -20,6 +21,26 @@ class MessageType:
 
     def check(self, data, limits=FULL):
         judged(self._call, c.library.mb_check, data, len(data), *limits)
+
+    def find_value(self, data, numbers, limits=FULL):
+        """The kind of the scalar at a path of field numbers, with its number, or its bytes, read from the bytes of the message; or None."""
+        value, told, path, room = c.Value(), Told(), (c_uint32 * len(numbers))(*numbers), 256
+        while True:
+            out = (c_uint8 * room)()
+            answer = self._call(c.library.mb_find, data, len(data), *limits, path, len(numbers), value, out, room, *told.room)
+            if answer == c.ABSENT:
+                return None
+            told.judge(answer)
+            if value.kind not in (c.STRING, c.BYTES):
+                return value.kind, signed(value)
+            if value.number <= room:
+                return value.kind, bytes(out[: value.number])
+            room = value.number
+
+    def find(self, data, numbers, limits=FULL):
+        """The scalar at a path of field numbers, read from the bytes of the message, or None."""
+        found = self.find_value(data, numbers, limits)
+        return found and scalar(*found)
 
     def canon(self, data, limits=FULL):
         """The canonical bytes of the message."""
@@ -40,13 +61,13 @@ class MessageType:
 
     def new(self):
         """An empty message."""
-        message = Message()
+        message = Message(self)
         Told().judge(self._call(c.library.mb_message_new, message._handle))
         return message
 
     def decode(self, data, limits=FULL):
         """The message that bytes are."""
-        message = Message()
+        message = Message(self)
         judged(self._call, c.library.mb_message_decode, data, len(data), *limits, message._handle)
         return message
 
@@ -75,13 +96,25 @@ class MessageType:
 
 
 class Message:
-    """A message that the library holds, with its pool. It stays on the thread that made it."""
+    """A message that the library holds, with its pool. It stays on the thread that made it. `message["number"]` is what it has in a field."""
 
-    def __init__(self):
-        self._handle = c.MessageHandle()
+    def __init__(self, of_type):
+        self._handle, self._type = c.MessageHandle(), of_type
 
     def _call(self, call, *given):
         return call(self._handle, *given)
+
+    @property
+    def fields(self):
+        """The message as a part, of which places and parts are taken."""
+        pool = self._type._pool
+        return MessagePart(lambda number: MessageType(pool, number), Place(self._handle), self._type._number)
+
+    def __getitem__(self, field):
+        return self.fields[field]
+
+    def __iter__(self):
+        return iter(self.fields)
 
     def encode(self):
         """The canonical bytes."""

@@ -5,7 +5,7 @@ use super::{Error, Limits, Pool, calls};
 use std::{cell::UnsafeCell, ptr};
 
 /// A message, and its pool. It stays on its thread: that it may go to another is not proved.
-pub struct Message(UnsafeCell<MessageHandle>);
+pub struct Message(pub(super) UnsafeCell<MessageHandle>);
 
 impl Pool {
     /// An empty message of the type of a number.

@@ -1,14 +1,20 @@
 //! Types from a descriptor set or from sources, and messages of them checked, rewritten and listed, by the library libmabristu.
+// The words of main.rs do not use all of what a program may want.
+#[allow(dead_code)]
 pub mod calls;
 mod error;
 mod message;
 mod messages;
 pub mod structs;
 mod told;
+#[allow(dead_code)]
+mod values;
 
 pub use error::Error;
 pub use message::Message;
 pub use messages::{Limits, raw_check, raw_short};
+#[allow(unused_imports)]
+pub use values::{Content, Key, Place, Scalar};
 use std::{
     cell::{Cell, UnsafeCell},
     ptr,

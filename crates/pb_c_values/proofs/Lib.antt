@@ -1,0 +1,4 @@
+-- what a message has where steps lead is one
+pub mod OneAnswer
+-- steps that are read one after another
+pub mod StepLemmas
