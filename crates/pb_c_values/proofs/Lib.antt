@@ -2,3 +2,7 @@
 pub mod OneAnswer
 -- steps that are read one after another
 pub mod StepLemmas
+-- strings as keys
+pub mod KeyLemmas
+-- the numbers of fields
+pub mod FieldLemmas

@@ -57,7 +57,7 @@ there v None = None
 there v (Some p) = option_map seen (part_by p (message_part v))
 
 at_is : (keys : List Bytes) (place : List PlainValue) (v : Dynamic) (x : Option Seen) → IsAt keys place v x → x ≡ there v (places keys place)
-at_is keys place v x is = sym is.2.1 ∙ ap (option_map seen) (part_is is.0 (message_part v)) ∙ sym (ap (there v) is.1)
+at_is keys place v x is = sym is.2 ∙ ap (option_map seen) (part_is is.0 (message_part v)) ∙ sym (ap (there v) is.1)
 
 pub one_at : (keys : List Bytes) (place : List PlainValue) (v : Dynamic) (x y : Option Seen) → IsAt keys place v x → IsAt keys place v y → x ≡ y
 one_at keys place v x y is also = at_is keys place v x is ∙ sym (at_is keys place v y also)

@@ -1,5 +1,5 @@
 -- Places as C says them: each step by a kind and a number, with strings in a list beside them.
-use Rattle.std.specs.Prelude.{ℕ, ◌%◌, ◌^◌, List, [], ◌∷◌, Bool, true, false, ◌==◌, ◌||◌, Option, Some, None, option_map, option_and_then, if◌then◌else◌}
+use Rattle.std.specs.Prelude.{ℕ, ℤ, nat_lt, ◌%◌, ◌^◌, List, [], ◌∷◌, Bool, true, false, ◌==◌, ◌||◌, Option, Some, None, option_map, option_and_then, if◌then◌else◌}
 use Rattle.std.specs.Borrow.{Bor}
 use Rattle.std.specs.Int.{cast_signed, cast_unsigned, w32, w64}
 use Rattle.std.specs.List.{slice_get}
@@ -30,7 +30,7 @@ abbrev pub int32_said : ℕ → Option ℤ
 int32_said n = if cast_unsigned w64 (cast_signed w32 (n % 2 ^ 32)) == n then Some (cast_signed w32 (n % 2 ^ 32)) else None
 
 abbrev pub uint32_said : ℕ → Option ℕ
-uint32_said n = if n <? 2 ^ 32 then Some n else None
+uint32_said n = if nat_lt n (2 ^ 32) then Some n else None
 
 abbrev pub bool_said : ℕ → Option Bool
 bool_said n = if n == 0 then Some false else (if n == 1 then Some true else None)

@@ -1,5 +1,7 @@
 //! Why nothing is found.
 
+ghost use Rattle.std.specs.Prelude.{◌≡◌};
+
 use std::alloc::{AllocError, AllocFailed};
 
 /// Why nothing is found.

@@ -1,9 +1,7 @@
 //! What is asked of places that C says.
 
 use super::schema::Schema;
-use pb_c_values::{
-    Miss, PlainValue, bytes_at, fields_at, key_at, key_bytes, key_value, value_at,
-};
+use pb_c_values::{Miss, PlainValue, bytes_at, fields_at, key_at, key_bytes, key_value, value_at};
 use pb_samples::body_of;
 use pb_value::DynamicMessage;
 use std::alloc::Global;

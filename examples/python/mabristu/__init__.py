@@ -1,7 +1,10 @@
-"""Types from a descriptor set or from sources, and messages of them checked, rewritten and listed, by libmabristu.so.
+"""Types from a descriptor set or from sources, and messages of them checked, rewritten, listed and read, by libmabristu.so.
 
     order = Pool(open("shop.set", "rb").read()).type("shop.Order")
     print(order.show(open("shop_order.bin", "rb").read()))
+
+    message = order.decode(open("shop_order.bin", "rb").read())
+    print(message["number"], message["lines"][0]["article"], message["discounts"]["spring"])
 
 What is refused raises Refused, an unknown type LookupError, and want of memory MemoryError.
 """

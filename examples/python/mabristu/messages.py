@@ -108,7 +108,7 @@ class Message:
     def fields(self):
         """The message as a part, of which places and parts are taken."""
         pool = self._type._pool
-        return MessagePart(lambda number: MessageType(pool, number), Place(self._handle), self._type._number)
+        return MessagePart(lambda number: MessageType(pool, number), Place(self), self._type._number)
 
     def __getitem__(self, field):
         return self.fields[field]

@@ -23,21 +23,21 @@ def scalar(kind, number):
 
 
 class Place:
-    """Steps into a message that the library holds, from the whole."""
+    """Steps into a message that the library holds, from the whole. The message stays while there is a place in it."""
 
-    def __init__(self, handle, steps=(), strings=()):
-        self._handle, self.steps, self.strings = handle, steps, strings
+    def __init__(self, message, steps=(), strings=()):
+        self._message, self.steps, self.strings = message, steps, strings
         keys = (c.Bytes * len(strings))(*((it, len(it)) for it in strings))
         self._given = (c.Value * len(steps))(*steps), len(steps), keys, len(strings)
 
     def call(self, call, *given):
-        return call(self._handle, *self._given, *given)
+        return call(self._message._handle, *self._given, *given)
 
     def then(self, kind, number):
         """The place one step further. A string as a key comes as its bytes."""
         if kind == c.STRING:
-            return Place(self._handle, (*self.steps, (kind, len(self.strings))), (*self.strings, number))
-        return Place(self._handle, (*self.steps, (kind, number & 0xFFFFFFFFFFFFFFFF)), self.strings)
+            return Place(self._message, (*self.steps, (kind, len(self.strings))), (*self.strings, number))
+        return Place(self._message, (*self.steps, (kind, number & 0xFFFFFFFFFFFFFFFF)), self.strings)
 
     def value(self):
         """The kind and the number of what is there, or None."""
