@@ -12,8 +12,8 @@ use Rattle.pb_c.specs.declared.told.FaultReport.{FaultReport}
 use Rattle.pb_c.specs.declared.told.Step.{Step}
 
 -- The value is the scalar, and its bytes, if it has some, are laid over the buffer.
-pub record Reports (x : Scalar) (value : PlainValue) (old new : List ℕ) : Type 0 where
-  pub value : value ≡ scalar_plain x
+pub record Reports (x : Scalar) (reported : PlainValue) (old new : List ℕ) : Type 0 where
+  pub value : reported ≡ scalar_plain x
   pub bytes : new ≡ laid_over (scalar_bytes x) old
 
 abbrev pub TellsFound :

@@ -31,7 +31,7 @@ use std::alloc::Global;
 
 /// A scalar, as C is given it.
 fn plain_scalar(scalar: ScalarRef<'_>) -> PlainValue
-    ensures { result ≡ scalar_plain (scalar_view scalar) }
+    ensures { result ≡ scalar_plain (scalar_view scalar.entry) }
 {
     match scalar {
         ScalarRef::I32(number) => PlainValue {
@@ -79,7 +79,7 @@ fn plain_scalar(scalar: ScalarRef<'_>) -> PlainValue
 
 /// The bytes of a string or of bytes, and else none.
 fn bytes_of<'a>(scalar: ScalarRef<'a>) -> &'a [u8]
-    ensures { result.now ≡ scalar_bytes (scalar_view scalar) }
+    ensures { result.now ≡ scalar_bytes (scalar_view scalar.entry) }
 {
     match scalar {
         ScalarRef::Text(text) => text.as_bytes(),
@@ -90,7 +90,7 @@ fn bytes_of<'a>(scalar: ScalarRef<'a>) -> &'a [u8]
 
 /// Reports a scalar.
 fn report_scalar(scalar: ScalarRef<'_>, value: &mut PlainValue, out: &mut [u8])
-    ensures { Reports (scalar_view scalar) value.new out.old out.new }
+    ensures { Reports (scalar_view scalar.entry) value.new out.old out.new }
 {
     *value = plain_scalar(scalar);
     lay_over(bytes_of(scalar), out);
@@ -104,7 +104,7 @@ fn tell_found(
     fault: &mut FaultReport,
     path: &mut [Step],
 ) -> u32
-    ensures told { TellsFound found result value.new out.old out.new fault.new path.old path.new }
+    ensures told { TellsFound found.entry result value.new out.old out.new fault.new path.old path.new }
     ensures unreported { result ≢ DONE → (value.new ≡ value.old) × (out.new ≡ out.old) }
     ensures untold { result ≢ FAULT → (fault.new ≡ fault.old) × (path.new ≡ path.old) }
     ensures answers { (result ≡ DONE) ⊎ (result ≡ ABSENT) ⊎ (result ≡ FAULT) ⊎ (result ≡ MEMORY) }
