@@ -1,5 +1,5 @@
 -- What is answered of a place.
-use Rattle.std.proofs.Common.{◌≡◌, ◌⊎◌, inl, inr, ℕ, List, Option, Some, None, refl, sym, ap, subst, arith, ◌∙◌}
+use Rattle.std.proofs.Common.{◌≡◌, inl, inr, ℕ, List, Option, Some, None, refl, sym, ap, subst, arith, ◌∙◌}
 use Rattle.pb_value.specs.Dynamic.{Dynamic}
 use Rattle.pb_place.specs.At.{Seen}
 use Rattle.pb_c_values.specs.Answers.{Answers, IsMissed}

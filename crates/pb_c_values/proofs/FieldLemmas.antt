@@ -1,7 +1,6 @@
 -- The numbers of the fields of what is at a place.
-use Rattle.std.proofs.Common.{◌≡◌, ℕ, List, length, Option, Some, None, option_map, option_and_then, refl, sym, ap, ◌∙◌}
+use Rattle.std.proofs.Common.{◌≡◌, ℕ, List, length, Option, Some, None, option_map, option_and_then, refl}
 use Rattle.pb_value.specs.Data.{fields_of}
-use Rattle.pb_value.specs.Dynamic.{Dynamic}
 use Rattle.pb_place.specs.At.{Seen, whole, single, elements, pairs}
 use Rattle.pb_place.specs.Ask.{message_in, numbers_of, laid_over, numbers_into}
 use Rattle.pb_c_values.specs.Answers.{numbers_in}

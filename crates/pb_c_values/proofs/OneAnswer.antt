@@ -1,10 +1,9 @@
 -- What a message has at a place that C says is a function of what the steps say.
-use Rattle.std.proofs.Common.{◌≡◌, ℕ, List, [], ◌∷◌, map, Option, Some, None, option_map, option_and_then, refl, sym, ap, ◌∙◌}
-use Rattle.pb_schema.specs.Types.{Types}
+use Rattle.std.proofs.Common.{◌≡◌, List, [], ◌∷◌, map, Option, Some, None, option_map, option_and_then, refl, sym, ap, ◌∙◌}
 use Rattle.pb_value.specs.Data.{fields_of, get_field, get_entry}
 use Rattle.pb_value.specs.Dynamic.{Dynamic}
 use Rattle.pb_value.specs.Inner.{nth_datum, type_named}
-use Rattle.pb_place.specs.At.{Part, message_part, scalar_part, list_part, map_part, content_part, value_part, step, part_at, Seen, seen, at}
+use Rattle.pb_place.specs.At.{Part, message_part, scalar_part, list_part, map_part, content_part, value_part, step, part_at, Seen, seen}
 use Rattle.pb_place.specs.declared.step.PlaceStep.{PlaceStep}
 use Rattle.pb_place.specs.declared.step.PlaceStep.TheVariants as place_step
 use Rattle.pb_c_values.specs.declared.value.PlainValue.{PlainValue}

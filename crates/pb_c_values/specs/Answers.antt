@@ -1,6 +1,6 @@
 -- What is answered of a place that C says.
 use Rattle.std.specs.Prelude.{◌≡◌, ⊤, ℕ, List, map, Option, Some, None, option_and_then}
-use Rattle.pb_schema.specs.Scalar.{Scalar, int32, int64, uint32, uint64, boolean, float, double, enum, text, bytes}
+use Rattle.pb_schema.specs.Scalar.{int32, int64, uint32, uint64, boolean, float, double, enum, text, bytes}
 use Rattle.pb_value.specs.Data.{Datum, scalar, message, fields_of}
 use Rattle.pb_value.specs.Dynamic.{Dynamic}
 use Rattle.pb_place.specs.At.{Seen, whole, single, elements, pairs, at}

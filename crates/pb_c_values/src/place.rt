@@ -1,7 +1,7 @@
 //! Places as C says them.
 
 ghost use Rattle.std.specs.Prelude.{◌≡◌, ◌<◌, ◌*◌, None, Some, map, option_map, MatchResult};
-ghost use Rattle.std.specs.Int.{cast_signed, cast_unsigned, w32, w64};
+ghost use Rattle.std.specs.Int.{cast_signed};
 ghost use Rattle.pb_value.specs.View.{key_view};
 ghost use Rattle.pb_c_values.specs.Places.{bool_said, int32_said, uint32_said, key_kind, number_key_said, text_key_said, key_said, said, places, step_view};
 ghost use Rattle.pb_c_values.specs.Answers.{IsUnsaid};

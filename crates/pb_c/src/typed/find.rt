@@ -1,6 +1,6 @@
 //! One scalar of a message, read from its bytes.
 
-ghost use Rattle.std.specs.Prelude.{◌≡◌, ◌≢◌, ◌+◌, ◌*◌, ◌<◌, ◌≤◌, ◌↔◌, ◌⊎◌, None, Some, length, Ok, Err};
+ghost use Rattle.std.specs.Prelude.{◌≡◌, ◌≢◌, ◌+◌, ◌*◌, ◌<◌, ◌≤◌, ◌↔◌, ◌⊎◌, None, Some, Ok, Err};
 ghost use Rattle.pb_wire.specs.Fault.{Fault};
 ghost use Rattle.pb_schema.specs.Scalar.{Scalar};
 ghost use Rattle.pb_schema.specs.Types.{Types};
@@ -11,7 +11,7 @@ ghost use Rattle.pb_find.specs.ScalarAt.{IsFound, scalar_at};
 ghost use Rattle.pb_find.specs.View.{scalar_view};
 ghost use Rattle.pb_c_values.specs.Plain.{scalar_bytes, scalar_plain};
 ghost use Rattle.pb_c.specs.Held.{types_held};
-ghost use Rattle.pb_c.specs.Told.{AreLimits, Tells, bounds, laid_over};
+ghost use Rattle.pb_c.specs.Told.{AreLimits, Tells, bounds};
 ghost use Rattle.pb_c.specs.Typed.{HasType, LacksType, message_of};
 ghost use Rattle.pb_c.specs.Typed.Found.{Reports, TellsFound};
 

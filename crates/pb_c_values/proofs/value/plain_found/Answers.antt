@@ -1,6 +1,6 @@
 use Rattle.std.proofs.Common.{◌≡◌, arith, sym, ap, ◌∙◌, vec_len}
-use Rattle.pb_value.specs.View.{values_view, entries_view}
-use Rattle.pb_place.specs.Ask.{datums_count, entries_count}
+use Rattle.pb_value.specs.View.{values_view}
+use Rattle.pb_place.specs.Ask.{datums_count}
 use Rattle.pb_place.specs.Found.{found_view}
 use Rattle.pb_place.proofs.Counts.{datums_count-values, entries_count-entries}
 use Rattle.pb_c_values.specs.Plain.{plain, seen_plain}
