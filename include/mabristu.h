@@ -42,7 +42,8 @@ enum {
     MB_EMPTY = 3,       /* the handle holds nothing: nothing was linked into it, linking was refused, or it was freed */
     MB_BAD_NAME = 4,    /* the name of a source is not UTF-8, or there are not as many names as texts */
     MB_PART = 5,        /* the bytes end before their frame does: come again with more */
-    MB_ABSENT = 6,      /* the type has no such field */
+    MB_ABSENT = 6,      /* the type has no such field; the message has nothing at the place, or nothing that is asked for there */
+    MB_BAD_PLACE = 7,   /* the steps say no place */
     MB_FAULT = 13,      /* the bytes have a fault, which is told */
     MB_MEMORY = 14,     /* memory ran out: the same call may be made again */
     MB_TOO_LARGE = 31   /* what would be written has more than MB_MAX_BYTES bytes */
@@ -151,11 +152,40 @@ struct mb_field {
 /* Reports what the field of a simple name is in the message type. */
 uint32_t mb_pool_field(struct mb_pool *pool, uint32_t type, const uint8_t *name, size_t name_len, struct mb_field *field);
 
+/* ---- Values ---- */
+
+/* What a value is: the numbers of types in descriptor.proto. A value of an int32, sint32 or sfixed32 is an MB_INT32, one of a uint32 or fixed32 an
+ * MB_UINT32, and so with 64 bits. Then what holds several values, and the steps of a place that are no keys. */
+enum {
+    MB_DOUBLE = 1, MB_FLOAT = 2, MB_INT64 = 3, MB_UINT64 = 4, MB_INT32 = 5, MB_BOOL = 8, MB_STRING = 9, MB_MESSAGE = 11, MB_BYTES = 12,
+    MB_UINT32 = 13, MB_ENUM = 14, MB_LIST = 19, MB_MAP = 20, MB_FIELD = 21, MB_INDEX = 22
+};
+
+/* A value, or a step of a place.
+ *
+ * Of a value the number is: an integer, which (int64_t)number gives with its sign; 0 or 1 of MB_BOOL; the bits of MB_FLOAT and MB_DOUBLE; how many
+ * bytes MB_STRING and MB_BYTES have; how many values MB_LIST and MB_MAP have; the number of the type of MB_MESSAGE.
+ *
+ * Of a step it is: the number of a field, in a message (MB_FIELD); an index, counted from 0, in a list (MB_INDEX); a key of a map, of the kind of its
+ * keys, also as struct mb_field has it. A string as a key is in the list of keys beside the steps, and the number is its index there. For example
+ * the price of lines[2]: {MB_FIELD, 3}, {MB_INDEX, 2}, {MB_FIELD, 1}; and stock["pen"]: {MB_FIELD, 4}, {MB_STRING, 0}, with the one key "pen". */
+struct mb_value {
+    uint32_t kind;
+    uint64_t number;
+};
+
 /* ---- Messages of a type ---- */
 
 /* Checks the bytes as a message of the type. */
 uint32_t mb_check(struct mb_pool *pool, uint32_t type, const uint8_t *bytes, size_t bytes_len, uint32_t max_bytes, uint8_t max_depth,
                   struct mb_fault *fault, struct mb_step *path, size_t path_len);
+
+/* Finds the scalar at a path of field numbers, without building the message: each number but the last is a field of one message, the last a field of
+ * one scalar. For MB_DONE the value is reported, and of a string or bytes as much is written as the buffer holds. MB_ABSENT: the field or a message on
+ * the way is not set, or no field of one scalar is there. The bytes are checked as mb_check does it, all of them. */
+uint32_t mb_find(struct mb_pool *pool, uint32_t type, const uint8_t *bytes, size_t bytes_len, uint32_t max_bytes, uint8_t max_depth,
+                 const uint32_t *numbers, size_t numbers_len, struct mb_value *value, uint8_t *out, size_t out_len,
+                 struct mb_fault *fault, struct mb_step *path, size_t path_len);
 
 /* Writes the canonical bytes of the message, as mb_raw_short writes its spelling. */
 uint32_t mb_canon(struct mb_pool *pool, uint32_t type, const uint8_t *bytes, size_t bytes_len, uint32_t max_bytes, uint8_t max_depth,
@@ -202,6 +232,27 @@ uint32_t mb_message_encoded_length(struct mb_message *message, size_t *size);
 
 /* Writes the listing of the message, as `pbtool show` prints it, as mb_message_encode writes its bytes. */
 uint32_t mb_message_show(struct mb_message *message, uint8_t *out, size_t out_len, size_t *size);
+
+/* Reports what the message has at a place: a scalar, or the kind and the size of what else is there. A place is a list of steps from the message, which
+ * is itself at the place of no steps. MB_ABSENT: a field is not set, a list is shorter, a map has no such key, or a step does not fit. A list or map
+ * that is empty is not set, nor is a field without presence that has its default value. MB_BAD_PLACE: a step is of no kind above, its number is too
+ * large for that, or its string is not among the keys or not UTF-8. */
+uint32_t mb_message_get(struct mb_message *message, const struct mb_value *place, size_t place_len, const struct mb_bytes *keys, size_t keys_len,
+                        struct mb_value *value);
+
+/* Writes the string or the bytes at a place, as mb_message_encode writes its bytes. */
+uint32_t mb_message_read(struct mb_message *message, const struct mb_value *place, size_t place_len, const struct mb_bytes *keys, size_t keys_len,
+                         uint8_t *out, size_t out_len, size_t *size);
+
+/* Writes the numbers of the fields that are set in the message at a place, in rising order, as many as the buffer holds. For MB_DONE it is reported how
+ * many there are. */
+uint32_t mb_message_fields(struct mb_message *message, const struct mb_value *place, size_t place_len, const struct mb_bytes *keys, size_t keys_len,
+                           uint32_t *numbers, size_t numbers_len, size_t *count);
+
+/* Reports the key at an index, counted from 0, of the map at a place, where keys rise and strings are ordered by their bytes. Of a string as much is
+ * written as the buffer holds. */
+uint32_t mb_message_key(struct mb_message *message, const struct mb_value *place, size_t place_len, const struct mb_bytes *keys, size_t keys_len,
+                        size_t index, struct mb_value *key, uint8_t *out, size_t out_len);
 
 /* Frees what a handle holds. One that holds nothing stays as it is. */
 void mb_message_free(struct mb_message *message);

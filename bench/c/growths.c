@@ -47,9 +47,10 @@ struct told {
     struct mb_refusal refusal;
     struct mb_frame frame;
     struct mb_field field;
+    struct mb_value value;
     uint8_t text[256], out[4096];
     size_t size;
-    uint32_t type;
+    uint32_t type, numbers[16];
 };
 
 static struct mb_pool pool, other;
@@ -93,6 +94,20 @@ static uint32_t message_decode_cut(struct told *told) { return mb_message_decode
 static uint32_t message_encode(struct told *told) { return mb_message_encode(&held, OUT); }
 static uint32_t message_length(struct told *told) { return mb_message_encoded_length(&held, &told->size); }
 static uint32_t message_show(struct told *told) { return mb_message_show(&held, OUT); }
+/* The discount of spring, in the message in examples/. */
+static const struct mb_value entry[] = {{MB_FIELD, 4}, {MB_STRING, 0}}, article[] = {{MB_FIELD, 3}, {MB_INDEX, 1}, {MB_FIELD, 1}};
+static const struct mb_bytes spring = {(const uint8_t *)"spring", 6};
+static const uint32_t address[] = {6, 1};
+#define ENTRY entry, 2, &spring, 1
+static uint32_t message_get(struct told *told) { return mb_message_get(&held, ENTRY, &told->value); }
+static uint32_t message_get_bad(struct told *told) { return mb_message_get(&held, entry, 2, NULL, 0, &told->value); }
+static uint32_t message_read(struct told *told) { return mb_message_read(&held, article, 3, NULL, 0, OUT); }
+static uint32_t message_fields(struct told *told) { return mb_message_fields(&held, article, 2, NULL, 0, told->numbers, 16, &told->size); }
+static uint32_t message_key(struct told *told) { return mb_message_key(&held, entry, 1, NULL, 0, 1, &told->value, told->out, sizeof told->out); }
+static uint32_t message_no_key(struct told *told) { return mb_message_key(&held, entry, 1, NULL, 0, 2, &told->value, told->out, sizeof told->out); }
+#define ADDRESS address, 2, &told->value, told->out, sizeof told->out, FAULT
+static uint32_t find_address(struct told *told) { return mb_find(&pool, type, message.at, message.len, LIMITS, ADDRESS); }
+static uint32_t find_address_cut(struct told *told) { return mb_find(&pool, type, message.at, message.len - 1, LIMITS, ADDRESS); }
 
 static const struct { const char *name; uint32_t (*call)(struct told *told); uint32_t answer; } calls[] = {
     {"mb_raw_check", raw_check, MB_DONE}, {"mb_raw_check of a cut message", raw_check_cut, MB_FAULT},
@@ -109,6 +124,10 @@ static const struct { const char *name; uint32_t (*call)(struct told *told); uin
     {"mb_message_decode", message_decode, MB_DONE}, {"mb_message_decode of a cut message", message_decode_cut, MB_FAULT},
     {"mb_message_encode", message_encode, MB_DONE}, {"mb_message_encoded_length", message_length, MB_DONE},
     {"mb_message_show", message_show, MB_DONE},
+    {"mb_message_get", message_get, MB_DONE}, {"mb_message_get of no place", message_get_bad, MB_BAD_PLACE},
+    {"mb_message_read", message_read, MB_DONE}, {"mb_message_fields", message_fields, MB_DONE},
+    {"mb_message_key", message_key, MB_DONE}, {"mb_message_key of no key", message_no_key, MB_ABSENT},
+    {"mb_find", find_address, MB_DONE}, {"mb_find in a cut message", find_address_cut, MB_FAULT},
 };
 
 static struct mb_bytes read_file(const char *path)

@@ -30,6 +30,8 @@ static struct mb_step path[MB_MAX_STEPS];
 static struct mb_refusal refusal;
 static struct mb_frame frame;
 static struct mb_field field;
+static struct mb_value value, place[2 * DEPTH];
+static uint32_t numbers[16];
 static size_t size;
 
 #define FAULT &fault, path, MB_MAX_STEPS
@@ -69,6 +71,16 @@ static uint32_t show_one(struct mb_message *message) { return mb_message_show(me
 static uint32_t encode_held(void) { return on_message(encode_one); }
 static uint32_t count_held(void) { return on_message(count_one); }
 static uint32_t show_held(void) { return on_message(show_one); }
+/* At the innermost message, at which steps by a key lead. */
+#define PLACE place, 2 * DEPTH, &key, 1
+static const struct mb_bytes key = {(const uint8_t *)"z", 1};
+static uint32_t get_one(struct mb_message *message) { return mb_message_get(message, PLACE, &value); }
+static uint32_t fields_one(struct mb_message *message) { return mb_message_fields(message, PLACE, numbers, 16, &size); }
+static uint32_t key_one(struct mb_message *message) { return mb_message_key(message, place, 2 * DEPTH - 1, &key, 1, 16, &value, out, sizeof out); }
+static uint32_t get_held(void) { return on_message(get_one); }
+static uint32_t fields_held(void) { return on_message(fields_one); }
+static uint32_t key_held(void) { return on_message(key_one); }
+static uint32_t find_nested(void) { return mb_find(&pool, type, nested, nested_len, LIMITS, numbers, 16, &value, out, sizeof out, FAULT); }
 static uint32_t find_field(void) { return mb_pool_field(&pool, type, (const uint8_t *)"m", 1, &field); }
 static uint32_t canon(void) { return mb_canon(&pool, type, nested, nested_len, LIMITS, OUT, FAULT); }
 static uint32_t show(void) { return mb_show(&pool, type, nested, nested_len, LIMITS, OUT, FAULT); }
@@ -117,6 +129,9 @@ static const struct { const char *name; uint32_t (*call)(void); } calls[] = {
     {"mb_message_decode of turned maps, mb_message_encoded_length and mb_message_free", count_held},
     {"mb_message_decode of turned maps, mb_message_encode and mb_message_free", encode_held},
     {"mb_message_decode of turned maps, mb_message_show and mb_message_free", show_held}, {"mb_pool_field", find_field},
+    {"mb_message_decode of turned maps, mb_message_get and mb_message_free", get_held},
+    {"mb_message_decode of turned maps, mb_message_fields and mb_message_free", fields_held},
+    {"mb_message_decode of turned maps, mb_message_key and mb_message_free", key_held}, {"mb_find", find_nested},
 };
 
 /* Puts bytes before others. */
@@ -193,6 +208,10 @@ int main(int argc, char **argv)
         }
     }
     framed_lone_len = frame_of(framed_lone, lone, lone_len);
+    for (int i = 0; i < DEPTH; i++) {
+        place[2 * i] = (struct mb_value){MB_FIELD, 2};
+        place[2 * i + 1] = (struct mb_value){MB_STRING, 0};
+    }
     at += sprintf(at, "syntax = \"proto3\"; message T { T a = 1; map<string, T> m = 2; } ");
     for (int i = 0; i < 64; i++)
         at += sprintf(at, "message N%d { ", i);

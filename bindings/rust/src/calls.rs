@@ -1,7 +1,5 @@
 //! The numbers and calls of mabristu.h.
-#[cfg(any(mb_find, mb_message_get))]
-use crate::structs::Value;
-use crate::structs::{Bytes, Fault, Field, Frame, Handle, MessageHandle, Refusal, Step};
+use crate::structs::{Bytes, Fault, Field, Frame, Handle, MessageHandle, Refusal, Step, Value};
 
 pub const INTERFACE: u32 = 2;
 // What a call answers. Numbers from 50 on are the causes why declarations are refused.
@@ -10,16 +8,34 @@ pub const BAD_LIMITS: u32 = 1;
 pub const NO_TYPE: u32 = 2;
 pub const PART: u32 = 5;
 pub const ABSENT: u32 = 6;
+pub const BAD_PLACE: u32 = 7;
 pub const FAULT: u32 = 13;
 pub const MEMORY: u32 = 14;
 pub const TOO_LARGE: u32 = 31;
 pub const TRUNCATED: u32 = 1;
+// The kinds of values, and the steps of a place that are no keys.
+pub const DOUBLE: u32 = 1;
+pub const FLOAT: u32 = 2;
+pub const INT64: u32 = 3;
+pub const UINT64: u32 = 4;
+pub const INT32: u32 = 5;
+pub const BOOL: u32 = 8;
+pub const STRING: u32 = 9;
+pub const MESSAGE: u32 = 11;
+pub const BYTES: u32 = 12;
+pub const UINT32: u32 = 13;
+pub const ENUM: u32 = 14;
+pub const LIST: u32 = 19;
+pub const MAP: u32 = 20;
+pub const FIELD: u32 = 21;
+pub const INDEX: u32 = 22;
 pub const MAX_BYTES: u32 = 0x7fff_ffff;
 pub const MAX_DEPTH: u8 = 100;
 pub const MAX_STEPS: usize = 201;
 
 type At = *const u8;
 type Out = *mut u8;
+type Message = *mut MessageHandle;
 #[rustfmt::skip]
 extern "C" {
     pub fn mb_interface() -> u32;
@@ -38,6 +54,8 @@ extern "C" {
     pub fn mb_pool_field(pool: *mut Handle, number: u32, name: At, name_len: usize, field: &mut Field) -> u32;
     pub fn mb_check(pool: *mut Handle, number: u32, bytes: At, len: usize, max_bytes: u32, max_depth: u8,
         fault: &mut Fault, path: *mut Step, path_len: usize) -> u32;
+    pub fn mb_find(pool: *mut Handle, number: u32, bytes: At, len: usize, max_bytes: u32, max_depth: u8, numbers: *const u32, numbers_len: usize,
+        value: &mut Value, out: Out, out_len: usize, fault: &mut Fault, path: *mut Step, path_len: usize) -> u32;
     pub fn mb_canon(pool: *mut Handle, number: u32, bytes: At, len: usize, max_bytes: u32, max_depth: u8,
         out: Out, out_len: usize, size: &mut usize, fault: &mut Fault, path: *mut Step, path_len: usize) -> u32;
     pub fn mb_show(pool: *mut Handle, number: u32, bytes: At, len: usize, max_bytes: u32, max_depth: u8,
@@ -50,25 +68,12 @@ extern "C" {
     pub fn mb_message_encode(message: *mut MessageHandle, out: Out, out_len: usize, size: &mut usize) -> u32;
     pub fn mb_message_encoded_length(message: *mut MessageHandle, size: &mut usize) -> u32;
     pub fn mb_message_show(message: *mut MessageHandle, out: Out, out_len: usize, size: &mut usize) -> u32;
-    pub fn mb_message_free(message: *mut MessageHandle);
-}
-
-// What the library has once its header declares it (build.rs).
-#[cfg(mb_message_get)]
-#[rustfmt::skip]
-extern "C" {
-    pub fn mb_message_get(message: *mut MessageHandle, place: *const Value, place_len: usize, keys: *const Bytes, keys_len: usize, value: &mut Value) -> u32;
-    pub fn mb_message_read(message: *mut MessageHandle, place: *const Value, place_len: usize, keys: *const Bytes, keys_len: usize,
+    pub fn mb_message_get(message: Message, place: *const Value, place_len: usize, keys: *const Bytes, keys_len: usize, value: &mut Value) -> u32;
+    pub fn mb_message_read(message: Message, place: *const Value, place_len: usize, keys: *const Bytes, keys_len: usize,
         out: Out, out_len: usize, size: &mut usize) -> u32;
-    pub fn mb_message_fields(message: *mut MessageHandle, place: *const Value, place_len: usize, keys: *const Bytes, keys_len: usize,
+    pub fn mb_message_fields(message: Message, place: *const Value, place_len: usize, keys: *const Bytes, keys_len: usize,
         numbers: *mut u32, numbers_len: usize, count: &mut usize) -> u32;
-    pub fn mb_message_key(message: *mut MessageHandle, place: *const Value, place_len: usize, keys: *const Bytes, keys_len: usize,
+    pub fn mb_message_key(message: Message, place: *const Value, place_len: usize, keys: *const Bytes, keys_len: usize,
         index: usize, key: &mut Value, out: Out, out_len: usize) -> u32;
-}
-
-#[cfg(mb_find)]
-#[rustfmt::skip]
-extern "C" {
-    pub fn mb_find(pool: *mut Handle, number: u32, bytes: At, len: usize, max_bytes: u32, max_depth: u8, numbers: *const u32, numbers_len: usize,
-        value: &mut Value, out: Out, out_len: usize, fault: &mut Fault, path: *mut Step, path_len: usize) -> u32;
+    pub fn mb_message_free(message: *mut MessageHandle);
 }

@@ -33,6 +33,14 @@ pub struct Field {
     pub type_of: usize,
 }
 
+/// A value, or a step of a place, as mabristu.h says.
+#[repr(C)]
+#[derive(Clone, Copy, Debug, Default, PartialEq, Eq)]
+pub struct Value {
+    pub kind: u32,
+    pub number: u64,
+}
+
 #[repr(C)]
 pub struct MessageHandle {
     pub at: *mut u8,
@@ -59,12 +67,4 @@ pub struct Bytes {
 pub struct Frame {
     pub begin: usize,
     pub end: usize,
-}
-
-#[cfg(any(mb_find, mb_message_get))]
-#[repr(C)]
-#[derive(Clone, Copy, Debug, Default, PartialEq, Eq)]
-pub struct Value {
-    pub kind: u32,
-    pub number: u64,
 }

@@ -36,3 +36,7 @@ pub mod Exact
 pub mod SourceSteps
 -- sources make one pool, or have one fault
 pub mod OneSourcePool
+-- what is answered of a place
+pub mod PlaceAnswers
+-- what is told of a scalar that was looked for
+pub mod FoundTelling

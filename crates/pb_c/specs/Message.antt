@@ -1,2 +1,3 @@
 -- Messages that handles hold.
 pub mod Seal
+pub mod Places

@@ -1,5 +1,6 @@
 -- Messages of the types of a pool.
 pub mod Frames
+pub mod Found
 use Rattle.std.specs.Prelude.{◌≡◌, ◌<◌, ◌≤◌, ℕ, length, Option, Some}
 use Rattle.pb_wire.specs.Fault.{Fault, fault}
 use Rattle.pb_schema.specs.Types.{Types}

@@ -2,9 +2,14 @@
 
 pub(crate) mod decode;
 pub(crate) mod encode;
+pub(crate) mod fields;
 pub(crate) mod free;
+pub(crate) mod get;
 pub(crate) mod handle;
+pub(crate) mod key;
 pub(crate) mod make;
+pub(crate) mod miss;
 pub(crate) mod own;
+pub(crate) mod read;
 pub(crate) mod seal;
 pub(crate) mod show;

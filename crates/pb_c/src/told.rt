@@ -21,8 +21,11 @@ pub const EMPTY: u32 = 3;
 /// The name of a source is not UTF-8, or there are not as many names as texts.
 pub const BAD_NAME: u32 = 4;
 
-/// The type has no such field.
+/// The type has no such field, or the message has nothing like that at the place.
 pub const ABSENT: u32 = 6;
+
+/// The steps say no place.
+pub const BAD_PLACE: u32 = 7;
 
 /// The bytes have a fault, which is told.
 pub const FAULT: u32 = 13;

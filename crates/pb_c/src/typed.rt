@@ -10,6 +10,7 @@ ghost use Rattle.pb_c.specs.Typed.{ByFault};
 
 pub(crate) mod canon;
 pub(crate) mod check;
+pub(crate) mod find;
 pub(crate) mod frames;
 pub(crate) mod show;
 

@@ -1,0 +1,18 @@
+//! Why nothing is found at a place, as a call answers it.
+
+ghost use Rattle.std.specs.Prelude.{◌≡◌};
+ghost use Rattle.pb_c.specs.Message.Places.{miss_number};
+
+use crate::told::{ABSENT, BAD_PLACE, MEMORY};
+use pb_c_values::Miss;
+
+/// The number of a miss.
+pub(super) fn miss_number(miss: Miss) -> u32
+    ensures { result ≡ miss_number miss }
+{
+    match miss {
+        Miss::Absent => ABSENT,
+        Miss::BadPlace => BAD_PLACE,
+        Miss::Memory => MEMORY,
+    }
+}

@@ -1,0 +1,121 @@
+//! What a message has at a place that C says.
+
+ghost use Rattle.std.specs.Prelude.{◌≡◌, ℕ, List, None, Some, length, option_map, IsErr, MatchResult};
+ghost use Rattle.pb_place.specs.Ask.{key_in, laid_over};
+ghost use Rattle.pb_place.specs.Found.{found_view};
+ghost use Rattle.pb_value.specs.View.{key_view, value_view};
+ghost use Rattle.pb_c_values.specs.Answers.{Answers, IsAt, IsMissed, bytes_in, numbers_in, plain_in, datum_bytes};
+
+use crate::miss::Miss;
+use crate::place::place_of;
+use crate::value::{PlainValue, plain_found};
+use pb_place::{Found, at, key_at as key_of, numbers_at};
+use pb_value::{MapKey, MessageRef, Value};
+use std::alloc::Global;
+
+/// What a message has at a place.
+fn found_at<'a>(
+    alloc: Global,
+    message: MessageRef<'a>,
+    place: &[PlainValue],
+    keys: &[&[u8]],
+) -> Result<Found<'a>, Miss>
+    ensures { MatchResult result (λ f. IsAt keys.now place.now message.entry (Some (found_view f)))
+        (IsMissed (IsAt keys.now place.now message.entry None) keys.now place.now) }
+{
+    let steps = place_of(alloc, place, keys)?;
+    match at(message, &steps) {
+        Some(found) => Ok(found),
+        None => Err(Miss::Absent),
+    }
+}
+
+/// The value at a place, or what else is there.
+pub fn value_at(
+    alloc: Global,
+    message: MessageRef<'_>,
+    place: &[PlainValue],
+    keys: &[&[u8]],
+) -> Result<PlainValue, Miss>
+    ensures { MatchResult result (λ v. Answers plain_in keys.now place.now message.entry (Some v))
+        (IsMissed (Answers plain_in keys.now place.now message.entry None) keys.now place.now) }
+{
+    let found = found_at(alloc, message, place, keys)?;
+    Ok(plain_found(&found))
+}
+
+/// The bytes of a string or of bytes.
+fn bytes_of(value: &Value) -> Option<&[u8]>
+    ensures { option_map (λ b. b.now) result ≡ datum_bytes (value_view value.now) }
+{
+    match value {
+        Value::Text(text) => Some(text.as_str().as_bytes()),
+        Value::Bytes(bytes) => Some(bytes),
+        _ => None,
+    }
+}
+
+fn bytes_found<'a>(found: &Found<'a>) -> Option<&'a [u8]>
+    ensures { option_map (λ b. b.now) result ≡ bytes_in (found_view found.now) }
+{
+    match found {
+        Found::Scalar(value) => bytes_of(value),
+        _ => None,
+    }
+}
+
+/// The string or the bytes at a place.
+pub fn bytes_at<'a>(
+    alloc: Global,
+    message: MessageRef<'a>,
+    place: &[PlainValue],
+    keys: &[&[u8]],
+) -> Result<&'a [u8], Miss>
+    ensures { MatchResult result (λ b. Answers bytes_in keys.now place.now message.entry (Some b.now))
+        (IsMissed (Answers bytes_in keys.now place.now message.entry None) keys.now place.now) }
+{
+    let found = found_at(alloc, message, place, keys)?;
+    match bytes_found(&found) {
+        Some(bytes) => Ok(bytes),
+        None => Err(Miss::Absent),
+    }
+}
+
+/// The key at an index, counted from 0, of the map at a place, by rising keys.
+pub fn key_at<'a>(
+    alloc: Global,
+    message: MessageRef<'a>,
+    place: &[PlainValue],
+    keys: &[&[u8]],
+    index: usize,
+) -> Result<&'a MapKey, Miss>
+    ensures { MatchResult result (λ k. Answers (key_in index) keys.now place.now message.entry (Some (key_view k.now)))
+        (IsMissed (Answers (key_in index) keys.now place.now message.entry None) keys.now place.now) }
+{
+    let steps = place_of(alloc, place, keys)?;
+    match key_of(message, &steps, index) {
+        Some(key) => Ok(key),
+        None => Err(Miss::Absent),
+    }
+}
+
+/// Writes the numbers of the fields that are set in the message at a place, by rising number: those that the buffer holds. The answer is how
+/// many there are.
+pub fn fields_at(
+    alloc: Global,
+    message: MessageRef<'_>,
+    place: &[PlainValue],
+    keys: &[&[u8]],
+    buffer: &mut [u32],
+) -> Result<usize, Miss>
+    ensures answer { MatchResult result
+        (λ n. (ns : List ℕ) × Answers numbers_in keys.now place.now message.entry (Some ns) × (n ≡ length ns) × (buffer.new ≡ laid_over ns buffer.old))
+        (IsMissed (Answers numbers_in keys.now place.now message.entry None) keys.now place.now) }
+    ensures unwritten { IsErr result → buffer.new ≡ buffer.old }
+{
+    let steps = place_of(alloc, place, keys)?;
+    match numbers_at(message, &steps, buffer) {
+        Some(count) => Ok(count),
+        None => Err(Miss::Absent),
+    }
+}
