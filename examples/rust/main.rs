@@ -1,6 +1,7 @@
 //! The words of pbtool, by the library: main check|show|canon|frames [--lenient] SET TYPE FILE, main short FILE, main compile ROOT FILE..
 //! Canonical bytes and listing once more, of a message that the library holds: main encode|list [--lenient] SET TYPE FILE, and of an empty message: main empty
-//! SET TYPE FILE. How many parts of a set lenient reading leaves out: main omitted SET. What a field is: main field SET TYPE NAME
+//! SET TYPE FILE. How many parts of a set lenient reading leaves out: main omitted SET. What a field is: main field SET TYPE NAME.
+//! What a set declares: main types [--lenient] SET
 mod files;
 mod mabristu;
 
@@ -58,6 +59,13 @@ fn run(words: &[&str]) -> Result<(), Failure> {
     let linked = |set: &str| Pool::link_lenient(&read(set)?).map_err(|error| failure(error, "set "));
     if let ["omitted", set] = words {
         return print(format!("{}\n", linked(set)?.1).as_bytes());
+    }
+    if let ["types", "--lenient", set] = words {
+        return print(linked(set)?.0.listing().map_err(refused)?.as_bytes());
+    }
+    if let ["types", set] = words {
+        let pool = Pool::link(&read(set)?).map_err(|error| failure(error, "set "))?;
+        return print(pool.listing().map_err(refused)?.as_bytes());
     }
     if let ["field", set, type_name, name] = words {
         let pool = Pool::link(&read(set)?).map_err(|error| failure(error, "set "))?;

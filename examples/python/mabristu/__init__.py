@@ -10,9 +10,10 @@ from ctypes import c_size_t, c_uint32
 
 from . import calls as c
 from .messages import FULL, Message, MessageType
+from .schema import Schema
 from .told import Refused, Told, judged, linked, written
 
-__all__ = ["FULL", "Message", "MessageType", "Pool", "Refused", "raw_check", "raw_short"]
+__all__ = ["FULL", "Message", "MessageType", "Pool", "Refused", "Schema", "raw_check", "raw_short"]
 
 
 def raw_check(data, limits=FULL):
@@ -61,6 +62,11 @@ class Pool:
             raise LookupError(f"type {name} unknown")
         Told().judge(answer)
         return MessageType(self, number)
+
+    def schema(self):
+        """What the pool declares: `files`, `types` and `enums`."""
+        with self._turn:
+            return Schema(lambda call, *given: call(self._handle, *given))
 
     def __del__(self):
         c.library.mb_pool_free(self._handle)

@@ -1,6 +1,6 @@
 """The structs and calls of mabristu.h, by ctypes. MABRISTU names the shared object where it is not found by its name."""
 import os
-from ctypes import CDLL, POINTER, Structure, c_bool, c_char_p, c_size_t, c_uint8, c_uint32, c_uint64, c_void_p
+from ctypes import CDLL, POINTER, Structure, c_bool, c_char_p, c_int32, c_size_t, c_uint8, c_uint32, c_uint64, c_void_p
 
 INTERFACE = 2
 DONE, BAD_LIMITS, NO_TYPE, EMPTY, BAD_NAME, PART, ABSENT, FAULT, MEMORY, TOO_LARGE = 0, 1, 2, 3, 4, 5, 6, 13, 14, 31
@@ -21,6 +21,22 @@ class Handle(Structure):
 
 class Field(Structure):
     _fields_ = [("number", c_uint32), ("kind", c_uint32), ("shape", c_uint32), ("key", c_uint32), ("type_of", c_size_t)]
+
+
+class Counts(Structure):
+    _fields_ = [("files", c_size_t), ("messages", c_size_t), ("enums", c_size_t)]
+
+
+class Type(Structure):
+    _fields_ = [("file", c_size_t), ("nested", c_uint32), ("parent", c_size_t), ("fields", c_size_t), ("oneofs", c_size_t)]
+
+
+class Enum(Structure):
+    _fields_ = [("file", c_size_t), ("nested", c_uint32), ("parent", c_size_t), ("values", c_size_t)]
+
+
+class File(Structure):
+    _fields_ = [("name_len", c_size_t), ("package_len", c_size_t), ("imports", c_size_t), ("proto2", c_uint32)]
 
 
 class MessageHandle(Structure):
@@ -55,6 +71,13 @@ CALLS = {
     "mb_pool_free": POOL,
     "mb_pool_type": POOL + TEXT + [POINTER(c_uint32)],
     "mb_pool_field": POOL + TYPE + TEXT + [POINTER(Field)],
+    "mb_pool_counts": POOL + [POINTER(Counts)],
+    "mb_pool_message": POOL + TYPE + [POINTER(Type)] + OUT,
+    "mb_pool_field_at": POOL + TYPE + [c_size_t, POINTER(Field), POINTER(c_uint32)] + OUT,
+    "mb_pool_oneof": POOL + TYPE + [c_size_t] + OUT,
+    "mb_pool_enum": POOL + [c_size_t, POINTER(Enum)] + OUT,
+    "mb_pool_enum_value": POOL + [c_size_t, c_size_t, POINTER(c_int32)] + OUT,
+    "mb_pool_file": POOL + [c_size_t, POINTER(File), POINTER(c_uint8), c_size_t],
     "mb_check": MESSAGE + TOLD,
     "mb_canon": MESSAGE + OUT + TOLD,
     "mb_show": MESSAGE + OUT + TOLD,

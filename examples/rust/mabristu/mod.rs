@@ -3,6 +3,7 @@ pub mod calls;
 mod error;
 mod message;
 mod messages;
+mod schema;
 pub mod structs;
 mod told;
 
@@ -84,6 +85,11 @@ impl Pool {
         let mut field = Field::default();
         Told::new().judge(unsafe { calls::mb_pool_field(self.0.get(), number, name.as_ptr(), name.len(), &mut field) })?;
         Ok(field)
+    }
+
+    /// What the pool declares, a line each, as `pbtool types` prints it.
+    pub fn listing(&self) -> Result<String, Error> {
+        schema::Schema(self.0.get()).listing()
     }
 }
 
