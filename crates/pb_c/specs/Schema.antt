@@ -1,7 +1,7 @@
 -- What is reported of what a pool declares.
-use Rattle.std.specs.Prelude.{◌≡◌, ℕ, ℤ, List, [], ◌++◌, Bool, true, false, Option, Some, None, length, slice_get, is_some}
-use Rattle.pb_schema.specs.Names.{enum_names, message_names, name_at}
-use Rattle.pb_schema.specs.Types.{EnumView, FieldView, FileView, MessageView, Types, message_fields}
+use Rattle.std.specs.Prelude.{◌≡◌, ℕ, ℤ, List, ◌++◌, Bool, true, false, Option, Some, None, length, slice_get, is_some, option_and_then}
+use Rattle.pb_schema.specs.Names.{enum_names, message_names}
+use Rattle.pb_schema.specs.Types.{EnumView, FieldView, FileView, MessageView, Types}
 use Rattle.pb_schema.specs.declared.types.Shape.{Shape}
 use Rattle.pb_schema.specs.declared.types.Shape.TheVariants as shape
 use Rattle.pb_c.specs.Field.{field_report}
@@ -59,55 +59,55 @@ pub record IsTypeAt (ts : Types) (m : ℕ) (report : TypeReport) (old new : List
   pub declared : MessageView
   pub there : slice_get ts.messages m ≡ Some declared
   pub reported : report ≡ type_report declared
-  pub named : IsLaid (name_at (message_names ts) m) old new size
+  pub name : List ℕ
+  pub named : slice_get (message_names ts) m ≡ Some name
+  pub laid : IsLaid name old new size
+
+-- the field at an index of a message type
+abbrev pub field_at : Types → ℕ → ℕ → Option FieldView
+field_at ts m i = option_and_then (λ t. slice_get t.fields i) (slice_get ts.messages m)
 
 -- The field at an index of a message type has this report and this detail of its shape, and its name is laid over the buffer.
 pub record IsFieldAt (ts : Types) (m i : ℕ) (report : FieldReport) (detail : ℕ) (old new : List ℕ) (size : ℕ) : Type 0 where
   pub declared : FieldView
-  pub there : slice_get (message_fields ts m) i ≡ Some declared
+  pub there : field_at ts m i ≡ Some declared
   pub reported : report ≡ field_report declared
   pub detailed : detail ≡ shape_detail declared.shape
-  pub named : IsLaid declared.name old new size
+  pub laid : IsLaid declared.name old new size
 
-abbrev pub oneofs_of : Option MessageView → List (List ℕ)
-oneofs_of None = []
-oneofs_of (Some t) = t.oneofs
-
--- the names of the oneofs of a message type; an index out of range has none
-abbrev pub message_oneofs : Types → ℕ → List (List ℕ)
-message_oneofs ts m = oneofs_of (slice_get ts.messages m)
+-- the name of the oneof at an index of a message type
+abbrev pub oneof_at : Types → ℕ → ℕ → Option (List ℕ)
+oneof_at ts m i = option_and_then (λ t. slice_get t.oneofs i) (slice_get ts.messages m)
 
 -- The name of the oneof at an index of a message type is laid over the buffer.
 pub record IsOneofAt (ts : Types) (m i : ℕ) (old new : List ℕ) (size : ℕ) : Type 0 where
-  pub declared : List ℕ
-  pub there : slice_get (message_oneofs ts m) i ≡ Some declared
-  pub named : IsLaid declared old new size
+  pub name : List ℕ
+  pub there : oneof_at ts m i ≡ Some name
+  pub laid : IsLaid name old new size
 
 -- The enum of a number has this report, and its full name is laid over the buffer.
 pub record IsEnumAt (ts : Types) (e : ℕ) (report : EnumReport) (old new : List ℕ) (size : ℕ) : Type 0 where
   pub declared : EnumView
   pub there : slice_get ts.enums e ≡ Some declared
   pub reported : report ≡ enum_report declared
-  pub named : IsLaid (name_at (enum_names ts) e) old new size
+  pub name : List ℕ
+  pub named : slice_get (enum_names ts) e ≡ Some name
+  pub laid : IsLaid name old new size
 
-abbrev pub values_of : Option EnumView → List (List ℕ × ℤ)
-values_of None = []
-values_of (Some t) = t.values
-
--- the names and numbers of the values of an enum; an index out of range has none
-abbrev pub values_at : Types → ℕ → List (List ℕ × ℤ)
-values_at ts e = values_of (slice_get ts.enums e)
+-- the name and the number of the value at an index of an enum
+abbrev pub value_at : Types → ℕ → ℕ → Option (List ℕ × ℤ)
+value_at ts e i = option_and_then (λ t. slice_get t.values i) (slice_get ts.enums e)
 
 -- The value at an index of an enum has this number, and its name is laid over the buffer.
 pub record IsValueAt (ts : Types) (e i : ℕ) (number : ℤ) (old new : List ℕ) (size : ℕ) : Type 0 where
   pub declared : List ℕ × ℤ
-  pub there : slice_get (values_at ts e) i ≡ Some declared
+  pub there : value_at ts e i ≡ Some declared
   pub numbered : number ≡ declared.1
-  pub named : IsLaid declared.0 old new size
+  pub laid : IsLaid declared.0 old new size
 
 -- The file of an index has this report, and its name and after it its package are laid over the buffer.
 pub record IsFileAt (ts : Types) (i : ℕ) (report : FileReport) (old new : List ℕ) : Type 0 where
   pub declared : FileView
   pub there : slice_get ts.files i ≡ Some declared
   pub reported : report ≡ file_report declared
-  pub named : new ≡ laid_over (declared.name ++ declared.package_name) old
+  pub laid : new ≡ laid_over (declared.name ++ declared.package_name) old

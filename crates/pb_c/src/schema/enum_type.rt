@@ -1,10 +1,10 @@
 //! An enum of a pool by its number, and its values by their indexes.
 
-ghost use Rattle.std.specs.Prelude.{◌≡◌, ◌≢◌, ◌<◌, ◌≤◌, ◌↔◌, ◌⊎◌, None, Some, length};
+ghost use Rattle.std.specs.Prelude.{◌≡◌, ◌≢◌, ◌<◌, ◌≤◌, ◌↔◌, ◌⊎◌, None, Some, length, option_map, slice_get, string_bytes};
 ghost use Rattle.pb_schema.specs.Types.{Types};
 ghost use Rattle.pb_schema.specs.View.{enum_view};
 ghost use Rattle.pb_c.specs.Held.{types_held};
-ghost use Rattle.pb_c.specs.Schema.{IsEnumAt, IsValueAt, enum_report, values_at};
+ghost use Rattle.pb_c.specs.Schema.{IsEnumAt, IsValueAt, enum_report, value_at};
 
 use crate::handle::{PoolHandle, put, take};
 use crate::told::{ABSENT, DONE, EMPTY, NO_TYPE};
@@ -41,6 +41,28 @@ fn report_enum(entry: &EnumType) -> EnumReport
     }
 }
 
+/// The enum of a number.
+fn enum_at(pool: &Pool, number: usize) -> Option<&EnumType>
+    ensures { option_map (λ t. enum_view t.now) result ≡ slice_get pool.now.enums number }
+{
+    pool.enums().get(number)
+}
+
+/// The name and the number of the value at an index of an enum.
+fn value_of(entry: &EnumType, index: usize) -> Option<&(String, i32)>
+    ensures { option_map (λ v. (string_bytes v.now.0, v.now.1)) result ≡ slice_get (enum_view entry.now).values index }
+{
+    entry.values.get(index)
+}
+
+/// The name and the number of the value at an index of the enum of a number.
+fn value_at(pool: &Pool, number: usize, index: usize) -> Option<&(String, i32)>
+    ensures { option_map (λ v. (string_bytes v.now.0, v.now.1)) result ≡ value_at pool.now number index }
+{
+    let entry = enum_at(pool, number)?;
+    value_of(entry, index)
+}
+
 /// Reports the enum of a number, and writes its full name.
 fn describe_enum(
     pool: &Pool,
@@ -57,7 +79,10 @@ fn describe_enum(
     if number >= pool.enums().len() {
         return NO_TYPE;
     }
-    *report = report_enum(&pool.enums()[number]);
+    let Some(entry) = enum_at(pool, number) else {
+        return NO_TYPE;
+    };
+    *report = report_enum(entry);
     write_out(pool.enum_name(EnumId(number)), name, size);
     DONE
 }
@@ -74,17 +99,17 @@ fn describe_value(
     ensures described { result ≡ DONE → IsValueAt pool.now entry index number.new name.old name.new size.new }
     ensures unwritten { result ≢ DONE → (number.new ≡ number.old) × (name.new ≡ name.old) × (size.new ≡ size.old) }
     ensures no_type { result ≡ NO_TYPE ↔ length pool.now.enums ≤ entry }
-    ensures absent { result ≡ ABSENT ↔ (entry < length pool.now.enums) × (length (values_at pool.now entry) ≤ index) }
+    ensures absent { result ≡ ABSENT ↔ (entry < length pool.now.enums) × (value_at pool.now entry index ≡ None) }
     ensures answers { (result ≡ DONE) ⊎ (result ≡ NO_TYPE) ⊎ (result ≡ ABSENT) }
 {
-    let Some(declared) = pool.enums().get(entry) else {
+    if entry >= pool.enums().len() {
         return NO_TYPE;
-    };
-    let Some((value_name, value)) = declared.values.get(index) else {
+    }
+    let Some(value) = value_at(pool, entry, index) else {
         return ABSENT;
     };
-    *number = *value;
-    write_out(value_name.as_bytes(), name, size);
+    *number = value.1;
+    write_out(value.0.as_bytes(), name, size);
     DONE
 }
 
@@ -134,7 +159,7 @@ pub extern "C" fn mb_pool_enum_value(
     ensures unwritten { result ≢ DONE → (number.new ≡ number.old) × (name.new ≡ name.old) × (size.new ≡ size.old) }
     ensures empty { result ≡ EMPTY ↔ (types_held pool.old ≡ None) }
     ensures no_type { result ≡ NO_TYPE ↔ (ts : Types) × (types_held pool.old ≡ Some ts) × (length ts.enums ≤ entry) }
-    ensures absent { result ≡ ABSENT ↔ (ts : Types) × (types_held pool.old ≡ Some ts) × (entry < length ts.enums) × (length (values_at ts entry) ≤ index) }
+    ensures absent { result ≡ ABSENT ↔ (ts : Types) × (types_held pool.old ≡ Some ts) × (entry < length ts.enums) × (value_at ts entry index ≡ None) }
     ensures answers { (result ≡ DONE) ⊎ (result ≡ EMPTY) ⊎ (result ≡ NO_TYPE) ⊎ (result ≡ ABSENT) }
     ensures same { pool.new.seal.pool ≡ pool.old.seal.pool }
 {

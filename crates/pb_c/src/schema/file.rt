@@ -1,6 +1,6 @@
 //! A file of a pool by its index.
 
-ghost use Rattle.std.specs.Prelude.{◌≡◌, ◌≢◌, ◌≤◌, ◌↔◌, ◌⊎◌, ◌++◌, None, Some, length};
+ghost use Rattle.std.specs.Prelude.{◌≡◌, ◌≢◌, ◌↔◌, ◌⊎◌, None, Some, option_map, slice_get};
 ghost use Rattle.pb_schema.specs.Types.{Types};
 ghost use Rattle.pb_schema.specs.View.{file_view};
 ghost use Rattle.pb_c.specs.Held.{types_held};
@@ -37,14 +37,21 @@ fn report_file(file: &FileInfo) -> FileReport
     }
 }
 
+/// The file at an index.
+fn file_at(pool: &Pool, index: usize) -> Option<&FileInfo>
+    ensures { option_map (λ f. file_view f.now) result ≡ slice_get pool.now.files index }
+{
+    pool.files().get(index)
+}
+
 /// Reports the file at an index, and writes its name and its package.
 fn describe_file(pool: &Pool, index: usize, report: &mut FileReport, names: &mut [u8]) -> u32
     ensures described { result ≡ DONE → IsFileAt pool.now index report.new names.old names.new }
     ensures unwritten { result ≢ DONE → (report.new ≡ report.old) × (names.new ≡ names.old) }
-    ensures absent { result ≡ ABSENT ↔ length pool.now.files ≤ index }
+    ensures absent { result ≡ ABSENT ↔ (slice_get pool.now.files index ≡ None) }
     ensures answers { (result ≡ DONE) ⊎ (result ≡ ABSENT) }
 {
-    let Some(file) = pool.files().get(index) else {
+    let Some(file) = file_at(pool, index) else {
         return ABSENT;
     };
     *report = report_file(file);
@@ -66,7 +73,7 @@ pub extern "C" fn mb_pool_file(
     ensures described { result ≡ DONE → (ts : Types) × (types_held pool.old ≡ Some ts) × IsFileAt ts index report.new names.old names.new }
     ensures unwritten { result ≢ DONE → (report.new ≡ report.old) × (names.new ≡ names.old) }
     ensures empty { result ≡ EMPTY ↔ (types_held pool.old ≡ None) }
-    ensures absent { result ≡ ABSENT ↔ (ts : Types) × (types_held pool.old ≡ Some ts) × (length ts.files ≤ index) }
+    ensures absent { result ≡ ABSENT ↔ (ts : Types) × (types_held pool.old ≡ Some ts) × (slice_get ts.files index ≡ None) }
     ensures answers { (result ≡ DONE) ⊎ (result ≡ EMPTY) ⊎ (result ≡ ABSENT) }
     ensures same { pool.new.seal.pool ≡ pool.old.seal.pool }
 {

@@ -1,17 +1,17 @@
 //! A message type of a pool by its number, its fields and its oneofs by their indexes.
 
-ghost use Rattle.std.specs.Prelude.{◌≡◌, ◌≢◌, ◌<◌, ◌≤◌, ◌↔◌, ◌⊎◌, None, Some, length};
-ghost use Rattle.pb_schema.specs.Types.{Types, message_fields};
-ghost use Rattle.pb_schema.specs.View.{message_view};
+ghost use Rattle.std.specs.Prelude.{◌≡◌, ◌≢◌, ◌<◌, ◌≤◌, ◌↔◌, ◌⊎◌, None, Some, length, option_map, slice_get, string_bytes};
+ghost use Rattle.pb_schema.specs.Types.{Types};
+ghost use Rattle.pb_schema.specs.View.{field_view, message_view};
 ghost use Rattle.pb_c.specs.Held.{types_held};
-ghost use Rattle.pb_c.specs.Schema.{IsFieldAt, IsOneofAt, IsTypeAt, message_oneofs, shape_detail, type_report};
+ghost use Rattle.pb_c.specs.Schema.{IsFieldAt, IsOneofAt, IsTypeAt, field_at, oneof_at, shape_detail, type_report};
 ghost use Rattle.pb_c.specs.Typed.{HasType, LacksType};
 
 use crate::handle::{PoolHandle, put, take};
 use crate::pool::field::{FieldReport, report_field};
 use crate::told::{ABSENT, DONE, EMPTY, NO_TYPE};
 use crate::typed::{type_numbered, write_out};
-use pb_schema::{MessageType, Pool, Shape};
+use pb_schema::{Field, MessageType, Pool, Shape};
 use std::alloc::Global;
 
 /// What a message type is, but for its name.
@@ -56,6 +56,43 @@ fn shape_detail(shape: Shape) -> u32
     }
 }
 
+/// The message type of a number.
+fn message_at(pool: &Pool, number: u32) -> Option<&MessageType>
+    ensures { option_map (λ t. message_view t.now) result ≡ slice_get pool.now.messages number }
+{
+    pool.messages().get(number as usize)
+}
+
+/// The field at an index of a message type.
+fn field_of(message_type: &MessageType, index: usize) -> Option<&Field>
+    ensures { option_map (λ f. field_view f.now) result ≡ slice_get (message_view message_type.now).fields index }
+{
+    message_type.fields.get(index)
+}
+
+/// The field at an index of the message type of a number.
+fn field_at(pool: &Pool, number: u32, index: usize) -> Option<&Field>
+    ensures { option_map (λ f. field_view f.now) result ≡ field_at pool.now number index }
+{
+    let message_type = message_at(pool, number)?;
+    field_of(message_type, index)
+}
+
+/// The name of the oneof at an index of a message type.
+fn oneof_of(message_type: &MessageType, index: usize) -> Option<&String>
+    ensures { option_map (λ s. string_bytes s.now) result ≡ slice_get (message_view message_type.now).oneofs index }
+{
+    message_type.oneofs.get(index)
+}
+
+/// The name of the oneof at an index of the message type of a number.
+fn oneof_at(pool: &Pool, number: u32, index: usize) -> Option<&String>
+    ensures { option_map (λ s. string_bytes s.now) result ≡ oneof_at pool.now number index }
+{
+    let message_type = message_at(pool, number)?;
+    oneof_of(message_type, index)
+}
+
 /// Reports the message type of a number, and writes its full name.
 fn describe_type(
     pool: &Pool,
@@ -72,7 +109,10 @@ fn describe_type(
     let Some(id) = type_numbered(pool, number) else {
         return NO_TYPE;
     };
-    *report = report_type(&pool.messages()[id.0]);
+    let Some(message_type) = message_at(pool, number) else {
+        return NO_TYPE;
+    };
+    *report = report_type(message_type);
     write_out(pool.message_name(id), name, size);
     DONE
 }
@@ -90,13 +130,13 @@ fn describe_field(
     ensures described { result ≡ DONE → IsFieldAt pool.now number index report.new detail.new name.old name.new size.new }
     ensures unwritten { result ≢ DONE → (report.new ≡ report.old) × (detail.new ≡ detail.old) × (name.new ≡ name.old) × (size.new ≡ size.old) }
     ensures no_type { result ≡ NO_TYPE ↔ length pool.now.messages ≤ number }
-    ensures absent { result ≡ ABSENT ↔ (number < length pool.now.messages) × (length (message_fields pool.now number) ≤ index) }
+    ensures absent { result ≡ ABSENT ↔ (number < length pool.now.messages) × (field_at pool.now number index ≡ None) }
     ensures answers { (result ≡ DONE) ⊎ (result ≡ NO_TYPE) ⊎ (result ≡ ABSENT) }
 {
-    let Some(id) = type_numbered(pool, number) else {
+    if type_numbered(pool, number).is_none() {
         return NO_TYPE;
-    };
-    let Some(field) = pool.messages()[id.0].fields.get(index) else {
+    }
+    let Some(field) = field_at(pool, number, index) else {
         return ABSENT;
     };
     *report = report_field(field);
@@ -110,13 +150,13 @@ fn describe_oneof(pool: &Pool, number: u32, index: usize, name: &mut [u8], size:
     ensures described { result ≡ DONE → IsOneofAt pool.now number index name.old name.new size.new }
     ensures unwritten { result ≢ DONE → (name.new ≡ name.old) × (size.new ≡ size.old) }
     ensures no_type { result ≡ NO_TYPE ↔ length pool.now.messages ≤ number }
-    ensures absent { result ≡ ABSENT ↔ (number < length pool.now.messages) × (length (message_oneofs pool.now number) ≤ index) }
+    ensures absent { result ≡ ABSENT ↔ (number < length pool.now.messages) × (oneof_at pool.now number index ≡ None) }
     ensures answers { (result ≡ DONE) ⊎ (result ≡ NO_TYPE) ⊎ (result ≡ ABSENT) }
 {
-    let Some(id) = type_numbered(pool, number) else {
+    if type_numbered(pool, number).is_none() {
         return NO_TYPE;
-    };
-    let Some(oneof) = pool.messages()[id.0].oneofs.get(index) else {
+    }
+    let Some(oneof) = oneof_at(pool, number, index) else {
         return ABSENT;
     };
     write_out(oneof.as_bytes(), name, size);
@@ -170,7 +210,7 @@ pub extern "C" fn mb_pool_field_at(
     ensures unwritten { result ≢ DONE → (report.new ≡ report.old) × (detail.new ≡ detail.old) × (name.new ≡ name.old) × (size.new ≡ size.old) }
     ensures empty { result ≡ EMPTY ↔ (types_held pool.old ≡ None) }
     ensures no_type { result ≡ NO_TYPE ↔ LacksType (types_held pool.old) message_type }
-    ensures absent { result ≡ ABSENT ↔ (ts : Types) × HasType (types_held pool.old) message_type ts × (length (message_fields ts message_type) ≤ index) }
+    ensures absent { result ≡ ABSENT ↔ (ts : Types) × HasType (types_held pool.old) message_type ts × (field_at ts message_type index ≡ None) }
     ensures answers { (result ≡ DONE) ⊎ (result ≡ EMPTY) ⊎ (result ≡ NO_TYPE) ⊎ (result ≡ ABSENT) }
     ensures same { pool.new.seal.pool ≡ pool.old.seal.pool }
 {
@@ -198,7 +238,7 @@ pub extern "C" fn mb_pool_oneof(
     ensures unwritten { result ≢ DONE → (name.new ≡ name.old) × (size.new ≡ size.old) }
     ensures empty { result ≡ EMPTY ↔ (types_held pool.old ≡ None) }
     ensures no_type { result ≡ NO_TYPE ↔ LacksType (types_held pool.old) message_type }
-    ensures absent { result ≡ ABSENT ↔ (ts : Types) × HasType (types_held pool.old) message_type ts × (length (message_oneofs ts message_type) ≤ index) }
+    ensures absent { result ≡ ABSENT ↔ (ts : Types) × HasType (types_held pool.old) message_type ts × (oneof_at ts message_type index ≡ None) }
     ensures answers { (result ≡ DONE) ⊎ (result ≡ EMPTY) ⊎ (result ≡ NO_TYPE) ⊎ (result ≡ ABSENT) }
     ensures same { pool.new.seal.pool ≡ pool.old.seal.pool }
 {
