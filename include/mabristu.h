@@ -152,6 +152,66 @@ struct mb_field {
 /* Reports what the field of a simple name is in the message type. */
 uint32_t mb_pool_field(struct mb_pool *pool, uint32_t type, const uint8_t *name, size_t name_len, struct mb_field *field);
 
+/* ---- What a pool declares ----
+ *
+ * Files, message types and enums each have the numbers below their count, in the order of the set, fields, oneofs and values the indexes below theirs,
+ * in the order of their declarations. A name is written as far as the buffer holds it, and its whole length is reported. Entry messages of maps are no
+ * message types. */
+
+struct mb_counts {
+    size_t files;
+    size_t messages;
+    size_t enums;
+};
+
+/* Reports how many files, message types and enums the pool has. */
+uint32_t mb_pool_counts(struct mb_pool *pool, struct mb_counts *counts);
+
+/* What a message type is. */
+struct mb_type {
+    size_t file;      /* the index of its file */
+    uint32_t nested;  /* 1 where it is declared in a message type, else 0 */
+    size_t parent;    /* the number of that type, else 0 */
+    size_t fields;    /* how many fields it has */
+    size_t oneofs;    /* how many oneofs it has */
+};
+
+/* Reports the message type of a number, with its full name. */
+uint32_t mb_pool_message(struct mb_pool *pool, uint32_t type, struct mb_type *report, uint8_t *name, size_t name_len, size_t *size);
+
+/* Reports the field at an index of a message type, with its name, and with what its shape says beside: of a member of a oneof the index of the oneof,
+ * of a list 1 where it is packed, else 0. MB_ABSENT: the type has fewer fields. */
+uint32_t mb_pool_field_at(struct mb_pool *pool, uint32_t type, size_t index, struct mb_field *report, uint32_t *detail,
+                          uint8_t *name, size_t name_len, size_t *size);
+
+/* Writes the name of the oneof at an index of a message type. MB_ABSENT: the type has fewer oneofs. */
+uint32_t mb_pool_oneof(struct mb_pool *pool, uint32_t type, size_t index, uint8_t *name, size_t name_len, size_t *size);
+
+/* What an enum is. */
+struct mb_enum {
+    size_t file;      /* the index of its file */
+    uint32_t nested;  /* 1 where it is declared in a message type, else 0 */
+    size_t parent;    /* the number of that type, else 0 */
+    size_t values;    /* how many values it has */
+};
+
+/* Reports the enum of a number, with its full name. MB_NO_TYPE: the pool has fewer enums. */
+uint32_t mb_pool_enum(struct mb_pool *pool, size_t entry, struct mb_enum *report, uint8_t *name, size_t name_len, size_t *size);
+
+/* Reports the number of the value at an index of an enum, with its name. MB_ABSENT: the enum has fewer values. */
+uint32_t mb_pool_enum_value(struct mb_pool *pool, size_t entry, size_t index, int32_t *number, uint8_t *name, size_t name_len, size_t *size);
+
+/* What a file is. */
+struct mb_file {
+    size_t name_len;     /* the length of its name */
+    size_t package_len;  /* the length of its package, which follows the name in the buffer */
+    size_t imports;      /* how many files it imports */
+    uint32_t proto2;     /* 1 where its syntax is proto2, else 0 */
+};
+
+/* Reports the file at an index, with its name and its package. MB_ABSENT: the pool has fewer files. */
+uint32_t mb_pool_file(struct mb_pool *pool, size_t index, struct mb_file *report, uint8_t *names, size_t names_len);
+
 /* ---- Values ---- */
 
 /* What a value is: the numbers of types in descriptor.proto. A value of an int32, sint32 or sfixed32 is an MB_INT32, one of a uint32 or fixed32 an

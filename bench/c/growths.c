@@ -48,9 +48,14 @@ struct told {
     struct mb_frame frame;
     struct mb_field field;
     struct mb_value value;
+    struct mb_counts counts;
+    struct mb_type type_report;
+    struct mb_enum enum_report;
+    struct mb_file file_report;
     uint8_t text[256], out[4096];
     size_t size;
-    uint32_t type, numbers[16];
+    uint32_t type, detail, numbers[16];
+    int32_t number;
 };
 
 static struct mb_pool pool, other;
@@ -88,6 +93,13 @@ static uint32_t show_cut(struct told *told) { return mb_show(&pool, type, messag
 static uint32_t frames(struct told *told) { return mb_frames(&pool, type, frame.at, frame.len, LIMITS, &told->frame, FAULT); }
 static uint32_t frames_cut(struct told *told) { return mb_frames(&pool, type, frame.at, frame.len - 1, LIMITS, &told->frame, FAULT); }
 static uint32_t no_field(struct told *told) { return mb_pool_field(&pool, type, (const uint8_t *)"none", 4, &told->field); }
+static uint32_t counts(struct told *told) { return mb_pool_counts(&pool, &told->counts); }
+static uint32_t type_at(struct told *told) { return mb_pool_message(&pool, type, &told->type_report, OUT); }
+static uint32_t field_at(struct told *told) { return mb_pool_field_at(&pool, type, 0, &told->field, &told->detail, OUT); }
+static uint32_t no_oneof(struct told *told) { return mb_pool_oneof(&pool, type, 99, OUT); }
+static uint32_t no_enum(struct told *told) { return mb_pool_enum(&pool, 99, &told->enum_report, OUT); }
+static uint32_t no_value(struct told *told) { return mb_pool_enum_value(&pool, 99, 0, &told->number, OUT); }
+static uint32_t file_at(struct told *told) { return mb_pool_file(&pool, 0, &told->file_report, told->text, sizeof told->text); }
 static uint32_t message_new(struct told *told) { (void)told; return mb_message_new(&pool, type, &made); }
 static uint32_t message_decode(struct told *told) { return mb_message_decode(&pool, type, message.at, message.len, LIMITS, &made, FAULT); }
 static uint32_t message_decode_cut(struct told *told) { return mb_message_decode(&pool, type, message.at, message.len - 1, LIMITS, &made, FAULT); }
@@ -120,7 +132,9 @@ static const struct { const char *name; uint32_t (*call)(struct told *told); uin
     {"mb_canon", canon, MB_DONE}, {"mb_canon of a cut message", canon_cut, MB_FAULT},
     {"mb_show", show, MB_DONE}, {"mb_show of a cut message", show_cut, MB_FAULT},
     {"mb_frames", frames, MB_DONE}, {"mb_frames of a cut frame", frames_cut, MB_PART},
-    {"mb_pool_field of no field", no_field, MB_ABSENT}, {"mb_message_new", message_new, MB_DONE},
+    {"mb_pool_field of no field", no_field, MB_ABSENT}, {"mb_pool_counts", counts, MB_DONE}, {"mb_pool_message", type_at, MB_DONE},
+    {"mb_pool_field_at", field_at, MB_DONE}, {"mb_pool_oneof of no oneof", no_oneof, MB_ABSENT}, {"mb_pool_enum of no enum", no_enum, MB_NO_TYPE},
+    {"mb_pool_enum_value of no enum", no_value, MB_NO_TYPE}, {"mb_pool_file", file_at, MB_DONE}, {"mb_message_new", message_new, MB_DONE},
     {"mb_message_decode", message_decode, MB_DONE}, {"mb_message_decode of a cut message", message_decode_cut, MB_FAULT},
     {"mb_message_encode", message_encode, MB_DONE}, {"mb_message_encoded_length", message_length, MB_DONE},
     {"mb_message_show", message_show, MB_DONE},

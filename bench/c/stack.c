@@ -82,6 +82,13 @@ static uint32_t fields_held(void) { return on_message(fields_one); }
 static uint32_t key_held(void) { return on_message(key_one); }
 static uint32_t find_nested(void) { return mb_find(&pool, type, nested, nested_len, LIMITS, numbers, 16, &value, out, sizeof out, FAULT); }
 static uint32_t find_field(void) { return mb_pool_field(&pool, type, (const uint8_t *)"m", 1, &field); }
+static uint32_t counts_of(void) { struct mb_counts counts; return mb_pool_counts(&pool, &counts); }
+static uint32_t type_at(void) { struct mb_type report; return mb_pool_message(&pool, type, &report, OUT); }
+static uint32_t field_at(void) { uint32_t detail; return mb_pool_field_at(&pool, type, 0, &field, &detail, OUT); }
+static uint32_t no_oneof(void) { return mb_pool_oneof(&pool, type, 99, OUT); }
+static uint32_t no_enum(void) { struct mb_enum report; return mb_pool_enum(&pool, 99, &report, OUT); }
+static uint32_t no_value(void) { int32_t number; return mb_pool_enum_value(&pool, 99, 0, &number, OUT); }
+static uint32_t file_at(void) { struct mb_file report; return mb_pool_file(&pool, 0, &report, out, sizeof out); }
 static uint32_t canon(void) { return mb_canon(&pool, type, nested, nested_len, LIMITS, OUT, FAULT); }
 static uint32_t show(void) { return mb_show(&pool, type, nested, nested_len, LIMITS, OUT, FAULT); }
 static uint32_t frames(void) { return mb_frames(&pool, type, framed, framed_len, LIMITS, &frame, FAULT); }
@@ -132,6 +139,8 @@ static const struct { const char *name; uint32_t (*call)(void); } calls[] = {
     {"mb_message_decode of turned maps, mb_message_get and mb_message_free", get_held},
     {"mb_message_decode of turned maps, mb_message_fields and mb_message_free", fields_held},
     {"mb_message_decode of turned maps, mb_message_key and mb_message_free", key_held}, {"mb_find", find_nested},
+    {"mb_pool_counts", counts_of}, {"mb_pool_message", type_at}, {"mb_pool_field_at", field_at}, {"mb_pool_oneof", no_oneof},
+    {"mb_pool_enum", no_enum}, {"mb_pool_enum_value", no_value}, {"mb_pool_file", file_at},
 };
 
 /* Puts bytes before others. */

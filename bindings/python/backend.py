@@ -36,15 +36,13 @@ def library():
 
 
 def compiled(folder, flags=()):
-    """Compiles the extension module into a folder, with the calls that the header declares."""
+    """Compiles the extension module into a folder."""
     include = os.environ.get("MABRISTU_INCLUDE", f"{TOP}/include")
-    calls = sorted(set(re.findall(r"\b(mb_\w+)\(", read(f"{include}/mabristu.h").decode())))
-    has = [f"-DHAVE_{it.upper()}" for it in calls]
     made = f"{folder}/_mabristu.abi3.so"
     # Names without a folder, so that no path goes into what is made.
     sources = sorted(os.path.basename(it) for it in glob.glob(f"{HERE}/c/*.c"))
     python = sysconfig.get_paths()["include"]
-    words = [os.environ.get("CC", "cc"), *FLAGS, *flags, *has, f"-I{include}", f"-I{python}", "-o", made, *sources, os.path.abspath(library())]
+    words = [os.environ.get("CC", "cc"), *FLAGS, *flags, f"-I{include}", f"-I{python}", "-o", made, *sources, os.path.abspath(library())]
     subprocess.run(words, cwd=f"{HERE}/c", check=True)
     return made
 

@@ -53,8 +53,10 @@ size_t frame_size(const uint8_t *bytes, size_t len);
 /* Takes the word --lenient from the words of the command line, if it is the first of them. Returns whether it was. */
 bool take_lenient(int *argc, char ***argv);
 
-/* Links the types of the set that a file holds into the pool, strictly or leniently, and finds one of them. Where there is no such set or type it tells
- * why and exits. */
+/* Links the types of the set that a file holds into the pool, strictly or leniently. Where there is no such set it reports why and exits. */
+void link_set(const char *set_name, bool is_lenient, struct mb_pool *pool);
+
+/* The same, and finds one of the types. Where there is no such type it reports so and exits. */
 uint32_t find_type(const char *set_name, const char *type_name, bool is_lenient, struct mb_pool *pool);
 
 #endif

@@ -86,13 +86,13 @@ bool take_lenient(int *argc, char ***argv)
     return true;
 }
 
-uint32_t find_type(const char *set_name, const char *type_name, bool is_lenient, struct mb_pool *pool)
+void link_set(const char *set_name, bool is_lenient, struct mb_pool *pool)
 {
     struct buffer set = read_file(set_name), text = {0};
     struct mb_refusal refusal = {0};
     struct told told;
     size_t left_out;
-    uint32_t answer, type;
+    uint32_t answer;
 
     /* Where the names that are told are longer than the room, their lengths are told: link once more with that much. */
     do {
@@ -106,6 +106,13 @@ uint32_t find_type(const char *set_name, const char *type_name, bool is_lenient,
         exit(tell_link(answer, &told, &refusal, text.bytes));
     free(text.bytes);
     free(set.bytes);
+}
+
+uint32_t find_type(const char *set_name, const char *type_name, bool is_lenient, struct mb_pool *pool)
+{
+    uint32_t type;
+
+    link_set(set_name, is_lenient, pool);
     if (mb_pool_type(pool, (const uint8_t *)type_name, strlen(type_name), &type) != MB_DONE) {
         fprintf(stderr, "type %s unknown\n", type_name);
         mb_pool_free(pool);

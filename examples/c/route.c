@@ -1,5 +1,4 @@
-/* route SET TYPE FIELD STREAM: routes the messages of a stream by a field, which is read from the bytes. Prints where each one begins and its value. It
- * needs mb_find. */
+/* route SET TYPE FIELD STREAM: routes the messages of a stream by a field, which is read from the bytes. Prints where each one begins and its value. */
 #include "common.h"
 
 #include <inttypes.h>

@@ -2,7 +2,8 @@
 Canonical bytes and listing once more, of a message that the library holds: tool.py encode|list [--lenient] SET TYPE FILE, and of an empty message:
 tool.py empty SET TYPE FILE. How many parts of a set lenient reading leaves out: tool.py omitted SET. What a
 field is: tool.py field SET TYPE NAME. What a message has, a place a line: tool.py read [--lenient] SET TYPE FILE, as read.c prints it. The
-scalar at a path of field numbers, such as 3.1: tool.py find [--lenient] SET TYPE FILE PATH"""
+scalar at a path of field numbers, such as 3.1: tool.py find [--lenient] SET TYPE FILE PATH. What a set
+declares: tool.py types [--lenient] SET"""
 import sys
 
 import mabristu
@@ -43,6 +44,27 @@ def places(kind, number, inner, at=""):
             yield from places(*found, f"{at}{{{of}:{signed(of, key) if name is None else name.hex()}}}")
 
 
+def field_line(owner, field):
+    """The line of a field, as `pbtool types` prints it."""
+    label = {"oneof": f"oneof:{field.oneof}", "list": "repeated", "map": "repeated"}.get(field.shape, field.shape)
+    type_name = field.type.name if field.type else field.enum or field.kind
+    if field.kind == "group":
+        type_name = f"group {type_name}"
+    if field.shape == "map":
+        type_name = f"map<{field.key}, {type_name}>"
+    return f"field {owner}.{field.name} {field.number} {label} {type_name}{' packed' if field.packed else ''}\n"
+
+
+def types(schema):
+    yield from (f"file {file.name} {file.syntax}\n" for file in schema.files)
+    for it in schema.types:
+        yield f"message {it.name} {it.file}\n"
+        yield from (field_line(it.name, field) for field in it.type.fields)
+    for it in schema.enums:
+        yield f"enum {it.name} {it.file}\n"
+        yield from (f"value {it.name} {name} {number}\n" for name, number in it.values)
+
+
 def told(command, *words):
     """What a command prints, a part at a time."""
     if command == "short":
@@ -54,6 +76,9 @@ def told(command, *words):
     elif command == "field":
         set_name, type_name, name = words
         yield " ".join(map(str, mabristu.Pool(read(set_name))[type_name].field(name).numbers)) + "\n"
+    elif command == "types":
+        *options, set_name = words
+        yield from types(mabristu.Pool(read(set_name), lenient="--lenient" in options).schema())
     elif command == "omitted":
         yield f"{mabristu.Pool(read(words[0]), lenient=True).left_out}\n"
     elif command == "find":

@@ -1,9 +1,8 @@
 //! Routes the messages of a stream by a field, which is read from the bytes: route SET TYPE FIELD STREAM. Prints where each one begins and its value.
-#[cfg(mb_find)]
-fn main() -> Result<(), Box<dyn std::error::Error>> {
-    use mabristu::{Pool, Value};
-    use std::{env, fs};
+use mabristu::{Pool, Value};
+use std::{env, fs};
 
+fn main() -> Result<(), Box<dyn std::error::Error>> {
     let words: Vec<String> = env::args().skip(1).collect();
     let [set, name, field, stream] = &words[..] else { return Err("route SET TYPE FIELD STREAM".into()) };
     let found = Pool::link(&fs::read(set)?)?.message_type(name)?;
@@ -18,9 +17,4 @@ fn main() -> Result<(), Box<dyn std::error::Error>> {
         }
     }
     Ok(())
-}
-
-#[cfg(not(mb_find))]
-fn main() {
-    eprintln!("this library has no mb_find");
 }

@@ -2,9 +2,8 @@
 //! Canonical bytes and listing once more, of a message that the library holds: tool encode|list [--lenient] SET TYPE FILE, and of an empty message: tool empty
 //! SET TYPE FILE. How many parts of a set lenient reading leaves out: tool omitted SET. What a field is: tool field SET TYPE NAME. What a message has, a
 //! place a line: tool read [--lenient] SET TYPE FILE, as read.c prints it. The scalar at a path of field numbers, such as 3.1: tool find [--lenient] SET TYPE
-//! FILE PATH
+//! FILE PATH. What a set declares: tool types [--lenient] SET
 mod files;
-#[cfg(all(mb_find, mb_message_get))]
 mod values;
 
 use files::{failure, hexadecimal, print, read, refused, Failure};
@@ -64,10 +63,14 @@ fn run(words: &[&str]) -> Result<(), Failure> {
     if let ["omitted", set] = words {
         return print(format!("{}\n", Pool::link_lenient(&read(set)?).map_err(of_set)?.left_out()).as_bytes());
     }
+    if let ["types", options @ .., set] = words {
+        let set = read(set)?;
+        let pool = if options.is_empty() { Pool::link(&set) } else { Pool::link_lenient(&set) };
+        return print(pool.map_err(of_set)?.schema().map_err(refused)?.to_string().as_bytes());
+    }
     if let ["field", set, type_name, name] = words {
         return field(&message_type(&Pool::link(&read(set)?).map_err(of_set)?, type_name)?, name);
     }
-    #[cfg(all(mb_find, mb_message_get))]
     if let ["find", options @ .., set, name, file, path] = words {
         let set = read(set)?;
         let pool = if options.is_empty() { Pool::link(&set) } else { Pool::link_lenient(&set) };
@@ -87,7 +90,6 @@ fn run(words: &[&str]) -> Result<(), Failure> {
         "encode" => encode(found.decode(&bytes)),
         "empty" => encode(found.empty()),
         "list" => print(found.decode(&bytes).and_then(|message| message.listing()).map_err(refused)?.as_bytes()),
-        #[cfg(all(mb_find, mb_message_get))]
         "read" => print(values::places(&found.decode(&bytes).map_err(refused)?.whole(), "").map_err(refused)?.as_bytes()),
         _ => frames(&found, &bytes),
     }

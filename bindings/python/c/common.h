@@ -1,5 +1,4 @@
-/* What the files of the extension module share. The module is built against the stable ABI of Python 3.9, so one file serves every later Python too.
- * A call of the library that the header lacks is left out: the build defines HAVE_MB_FIND and its like for those that are there. */
+/* What the files of the extension module share. The module is built against the stable ABI of Python 3.9, so one file serves every later Python too. */
 #ifndef COMMON_H
 #define COMMON_H
 
@@ -50,14 +49,14 @@ bool set_limits(Py_ssize_t max_bytes, Py_ssize_t max_depth, struct limits *limit
 PyObject *refuse(uint32_t answer, const struct report *report);
 PyObject *refuse_link(uint32_t answer, const struct report *report, const struct mb_refusal *refusal, const uint8_t *text, PyObject *names);
 
-/* What mabristu/_refused.py and mabristu/_frames.py define. */
-extern PyObject *make_fault, *make_link, *frames_class;
+/* What _refused.py, _frames.py and _schema.py define. */
+extern PyObject *make_fault, *make_link, *frames_class, *schema_class;
 
 /* The written bytes as str or bytes. */
 PyObject *as_bytes(const uint8_t *at, size_t len);
 PyObject *as_str(const uint8_t *at, size_t len);
 
-/* ---- Types (pool.c, type.c, message.c) ---- */
+/* ---- Types (pool.c, schema.c, type.c, message.c) ---- */
 
 typedef struct {
     PyObject_HEAD
@@ -71,15 +70,18 @@ typedef struct {
     PyObject_HEAD
     Pool *pool;
     uint32_t number;
-    PyObject *name;    /* None where the type was reached by its number alone, and the library can't tell its name */
+    PyObject *name;    /* the full name */
     PyObject *fields;  /* fields by their names, as they were asked for */
 } MessageType;
 
 typedef struct {
     PyObject_HEAD
     Pool *pool;
+    uint32_t of;      /* the number of the type that has it */
     PyObject *name;
     struct mb_field is;
+    bool has_detail;  /* whether the next is known: mb_pool_field does not report it */
+    uint32_t detail;  /* what mb_pool_field_at reports beside */
 } Field;
 
 /* A message, or a part of one: a list, a map, a message inside. Of a part, root is the message that holds it, and place says where. */
@@ -90,14 +92,12 @@ typedef struct node {
     size_t hint;       /* about how many bytes it has */
     struct node *root; /* none of a message that holds itself */
     MessageType *type; /* of a message */
-#ifdef HAVE_MB_MESSAGE_GET
     uint32_t key;      /* of a map, the kind of its keys */
     struct mb_value *place;
     size_t place_len;
     struct mb_bytes *keys;
     size_t keys_len;
     PyObject *key_objects; /* a tuple of bytes, which the keys point to */
-#endif
 } Node;
 
 extern PyObject *pool_type, *message_type_type, *field_type, *message_type, *list_type, *map_type;
@@ -106,7 +106,7 @@ PyObject *make_message_type_type(void);
 PyObject *make_field_type(void);
 bool make_message_types(void);
 
-/* The type of a number; the name may be None. */
+/* The type of a number. Without a name, NULL, the library is asked for it. */
 MessageType *type_by_number(Pool *pool, uint32_t number, PyObject *name);
 /* The field of a name, or NULL with KeyError. The reference is borrowed. */
 Field *field_by_name(MessageType *type, PyObject *name);
@@ -115,6 +115,20 @@ PyObject *default_of(const struct mb_field *field);
 
 /* A message of a type that holds nothing yet. */
 Node *new_message(MessageType *type);
+
+/* What a part of a pool is, and its name; NULL with an exception where there is none. */
+PyObject *read_message(Pool *pool, uint32_t number, struct mb_type *is);
+PyObject *read_field_at(Pool *pool, uint32_t number, size_t index, struct mb_field *is, uint32_t *detail);
+PyObject *read_oneof(Pool *pool, uint32_t number, size_t index);
+PyObject *read_enum(Pool *pool, size_t entry, struct mb_enum *is);
+
+/* Methods of a pool, for _schema.py (schema.c). */
+PyObject *pool_counts(PyObject *self, PyObject *ignored);
+PyObject *pool_file(PyObject *self, PyObject *args);
+PyObject *pool_message(PyObject *self, PyObject *args);
+PyObject *pool_type_at(PyObject *self, PyObject *args);
+PyObject *pool_enum(PyObject *self, PyObject *args);
+PyObject *pool_enum_value(PyObject *self, PyObject *args);
 
 /* What makes an object of a type that only the library's calls make: TypeError. */
 PyObject *no_new(PyTypeObject *type, PyObject *args, PyObject *kwargs);

@@ -83,11 +83,9 @@ static void node_dealloc(PyObject *self)
 
     if (node->handle.full)
         drop_handle(node);
-#ifdef HAVE_MB_MESSAGE_GET
     PyMem_Free(node->place);
     PyMem_Free(node->keys);
     Py_CLEAR(node->key_objects);
-#endif
     Py_CLEAR(node->root);
     Py_CLEAR(node->type);
     PyObject_Free(self);
@@ -233,7 +231,6 @@ static PyObject *message_get_type(PyObject *self, void *Py_UNUSED(which))
 
 /* ---- What is at a place ---- */
 
-#ifdef HAVE_MB_MESSAGE_GET
 
 #define PLACE(node) (node)->place, (node)->place_len, (node)->keys, (node)->keys_len
 
@@ -853,30 +850,25 @@ static PyObject *map_items(PyObject *self, PyObject *Py_UNUSED(ignored))
 {
     return listed(self, true);
 }
-#endif
 
 /* ---- The types ---- */
 
 static PyObject *made_list_type(void)
 {
-#ifdef HAVE_MB_MESSAGE_GET
     static PyMethodDef methods[] = {
         {"_read", node_read, METH_VARARGS, read_doc},
         {NULL, NULL, 0, NULL},
     };
-#endif
     static PyType_Slot slots[] = {
         {Py_tp_doc, "A list in a message."},
         {Py_tp_new, no_new},
         {Py_tp_dealloc, node_dealloc},
         {Py_tp_repr, part_repr},
-#ifdef HAVE_MB_MESSAGE_GET
         {Py_tp_methods, methods},
         {Py_sq_length, part_length},
         {Py_sq_item, list_item},
         {Py_mp_length, part_length},
         {Py_mp_subscript, list_subscript},
-#endif
         {0, NULL},
     };
     static PyType_Spec spec = {"mabristu.List", sizeof(Node), 0, Py_TPFLAGS_DEFAULT, slots};
@@ -885,7 +877,6 @@ static PyObject *made_list_type(void)
 
 static PyObject *made_map_type(void)
 {
-#ifdef HAVE_MB_MESSAGE_GET
     static PyMethodDef methods[] = {
         {"get", map_get, METH_VARARGS, "get(key, default=None)\n--\n\nWhat is under a key, else the default."},
         {"keys", map_keys, METH_NOARGS, keys_doc},
@@ -895,19 +886,16 @@ static PyObject *made_map_type(void)
         {"_read", node_read, METH_VARARGS, read_doc},
         {NULL, NULL, 0, NULL},
     };
-#endif
     static PyType_Slot slots[] = {
         {Py_tp_doc, "A map in a message."},
         {Py_tp_new, no_new},
         {Py_tp_dealloc, node_dealloc},
         {Py_tp_repr, part_repr},
-#ifdef HAVE_MB_MESSAGE_GET
         {Py_tp_methods, methods},
         {Py_tp_iter, map_iter},
         {Py_mp_length, part_length},
         {Py_mp_subscript, map_subscript},
         {Py_sq_contains, map_contains},
-#endif
         {0, NULL},
     };
     static PyType_Spec spec = {"mabristu.Map", sizeof(Node), 0, Py_TPFLAGS_DEFAULT, slots};
@@ -921,11 +909,9 @@ static PyObject *made_message_type(void)
         {"__bytes__", message_encode, METH_NOARGS, encode_doc},
         {"encoded_length", message_encoded_length, METH_NOARGS, encoded_length_doc},
         {"listing", message_listing, METH_NOARGS, listing_doc},
-#ifdef HAVE_MB_MESSAGE_GET
         {"get", message_get, METH_VARARGS, get_doc},
         {"numbers", message_numbers, METH_NOARGS, numbers_doc},
         {"_read", node_read, METH_VARARGS, read_doc},
-#endif
         {NULL, NULL, 0, NULL},
     };
     static PyGetSetDef getset[] = {
@@ -941,10 +927,8 @@ static PyObject *made_message_type(void)
         {Py_tp_hash, PyObject_HashNotImplemented},
         {Py_tp_methods, methods},
         {Py_tp_getset, getset},
-#ifdef HAVE_MB_MESSAGE_GET
         {Py_mp_subscript, message_subscript},
         {Py_sq_contains, message_contains},
-#endif
         {0, NULL},
     };
     static PyType_Spec spec = {"mabristu.Message", sizeof(Node), 0, Py_TPFLAGS_DEFAULT, slots};

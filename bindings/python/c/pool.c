@@ -238,6 +238,7 @@ static int pool_contains(PyObject *self, PyObject *name)
 MessageType *type_by_number(Pool *pool, uint32_t number, PyObject *name)
 {
     PyObject *key = PyLong_FromUnsignedLong(number), *found;
+    struct mb_type is;
 
     if (key == NULL)
         return NULL;
@@ -249,20 +250,25 @@ MessageType *type_by_number(Pool *pool, uint32_t number, PyObject *name)
             Py_INCREF(pool);
             made->pool = pool;
             made->number = number;
-            made->name = NULL;
+            Py_XINCREF(name);
+            made->name = name == NULL ? read_message(pool, number, &is) : name;
             made->fields = PyDict_New();
             PyObject_GC_Track((PyObject *)made);
-            if (made->fields == NULL || PyDict_SetItem(pool->numbers, key, (PyObject *)made) < 0)
+            if (made->name == NULL || made->fields == NULL || PyDict_SetItem(pool->numbers, key, (PyObject *)made) < 0)
                 Py_CLEAR(made);
         }
         found = (PyObject *)made;
     }
     Py_DECREF(key);
-    if (found != NULL && name != NULL && ((MessageType *)found)->name == NULL) {
-        Py_INCREF(name);
-        ((MessageType *)found)->name = name;
-    }
     return (MessageType *)found;
+}
+
+PyDoc_STRVAR(schema_doc,
+"schema()\n--\n\nWhat the pool declares, in the order of its set: files, types and enums, lists of named tuples.");
+
+static PyObject *pool_schema(PyObject *self, PyObject *Py_UNUSED(ignored))
+{
+    return PyObject_CallFunctionObjArgs(schema_class, self, NULL);
 }
 
 static int pool_traverse(PyObject *self, visitproc visit, void *arg)
@@ -299,6 +305,13 @@ PyObject *make_pool_type(void)
     };
     static PyMethodDef methods[] = {
         {"of_sources", pool_of_sources, METH_O | METH_CLASS, of_sources_doc},
+        {"schema", pool_schema, METH_NOARGS, schema_doc},
+        {"_counts", pool_counts, METH_NOARGS, "_counts()\n--\n\nHow many files, message types and enums there are."},
+        {"_file", pool_file, METH_VARARGS, "_file(index)\n--\n\nname, package, how many imports, whether it is of proto2."},
+        {"_message", pool_message, METH_VARARGS, "_message(number)\n--\n\nname, index of the file, number of the parent or None."},
+        {"_type_at", pool_type_at, METH_VARARGS, "_type_at(number)\n--\n\nThe message type of a number."},
+        {"_enum", pool_enum, METH_VARARGS, "_enum(number)\n--\n\nname, index of the file, number of the parent or None, how many values."},
+        {"_enum_value", pool_enum_value, METH_VARARGS, "_enum_value(number, index)\n--\n\nname, number."},
         {NULL, NULL, 0, NULL},
     };
     static PyType_Slot slots[] = {

@@ -1,7 +1,7 @@
 /* From what a call answers to an exception. */
 #include "common.h"
 
-PyObject *make_fault, *make_link, *frames_class;
+PyObject *make_fault, *make_link, *frames_class, *schema_class;
 
 /* Raises what a function of _refused.py makes. */
 static PyObject *raise_made(PyObject *made)

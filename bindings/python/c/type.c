@@ -232,6 +232,27 @@ static const char *const kinds[] = {NULL, "double", "float", "int64", "uint64", 
 static const char *const shapes[] = {"implicit", "optional", "oneof", "list", "map"};
 enum { KINDS = sizeof kinds / sizeof *kinds, SHAPES = sizeof shapes / sizeof *shapes };
 
+/* A field of a type, which keeps it under its name. The reference is borrowed. */
+static Field *keep_field(MessageType *type, PyObject *name, const struct mb_field *is)
+{
+    Field *field = PyObject_GC_New(Field, (PyTypeObject *)field_type);
+
+    if (field == NULL)
+        return NULL;
+    field->of = type->number;
+    field->is = *is;
+    field->has_detail = false;
+    field->detail = 0;
+    Py_INCREF(type->pool);
+    field->pool = type->pool;
+    Py_INCREF(name);
+    field->name = name;
+    PyObject_GC_Track((PyObject *)field);
+    int failed = PyDict_SetItem(type->fields, name, (PyObject *)field);
+    Py_DECREF(field);
+    return failed < 0 ? NULL : field;
+}
+
 Field *field_by_name(MessageType *type, PyObject *name)
 {
     struct mb_field is;
@@ -265,18 +286,7 @@ Field *field_by_name(MessageType *type, PyObject *name)
         refuse(answer, NULL);
         return NULL;
     }
-    Field *field = PyObject_GC_New(Field, (PyTypeObject *)field_type);
-    if (field == NULL)
-        return NULL;
-    field->is = is;
-    Py_INCREF(type->pool);
-    field->pool = type->pool;
-    Py_INCREF(name);
-    field->name = name;
-    PyObject_GC_Track((PyObject *)field);
-    int failed = PyDict_SetItem(type->fields, name, (PyObject *)field);
-    Py_DECREF(field);
-    return failed < 0 ? NULL : field;
+    return keep_field(type, name, &is);
 }
 
 PyDoc_STRVAR(field_doc, "field(name)\n--\n\nThe field of a simple name, as number. KeyError where there is none.");
@@ -287,6 +297,47 @@ static PyObject *type_field(PyObject *self, PyObject *name)
 
     Py_XINCREF(field);
     return (PyObject *)field;
+}
+
+/* The field at an index of a type. The reference is borrowed. */
+static Field *field_at(MessageType *type, size_t index)
+{
+    struct mb_field is;
+    uint32_t detail = 0;
+    PyObject *name = read_field_at(type->pool, type->number, index, &is, &detail);
+
+    if (name == NULL)
+        return NULL;
+    Field *field = (Field *)PyDict_GetItemWithError(type->fields, name);
+    if (field == NULL && !PyErr_Occurred())
+        field = keep_field(type, name, &is);
+    Py_DECREF(name);
+    if (field != NULL) {
+        field->has_detail = true;
+        field->detail = detail;
+    }
+    return field;
+}
+
+static PyObject *type_get_fields(PyObject *self, void *Py_UNUSED(which))
+{
+    MessageType *type = (MessageType *)self;
+    struct mb_type is;
+    PyObject *name = read_message(type->pool, type->number, &is), *all;
+
+    if (name == NULL)
+        return NULL;
+    Py_DECREF(name);
+    all = PyTuple_New((Py_ssize_t)is.fields);
+    for (size_t i = 0; all != NULL && i < is.fields; i++) {
+        Field *field = field_at(type, i);
+        Py_XINCREF(field);
+        if (field == NULL)
+            Py_CLEAR(all);
+        else
+            PyTuple_SetItem(all, (Py_ssize_t)i, (PyObject *)field);
+    }
+    return all;
 }
 
 static PyObject *field_get_kind(PyObject *self, void *Py_UNUSED(which))
@@ -321,6 +372,56 @@ static PyObject *field_get_type(PyObject *self, void *Py_UNUSED(which))
     if (!is_message(field))
         Py_RETURN_NONE;
     return (PyObject *)type_by_number(field->pool, (uint32_t)field->is.type_of, NULL);
+}
+
+static PyObject *field_get_enum(PyObject *self, void *Py_UNUSED(which))
+{
+    Field *field = (Field *)self;
+    struct mb_enum is;
+
+    if (field->is.kind != 14)
+        Py_RETURN_NONE;
+    return read_enum(field->pool, field->is.type_of, &is);
+}
+
+/* Reads what the shape of a field says beside, by the index of the field. Returns whether it could; else an exception is set. */
+static bool read_detail(Field *field)
+{
+    struct mb_type of;
+    struct mb_field at;
+    uint32_t detail = 0;
+    PyObject *name = read_message(field->pool, field->of, &of);
+
+    for (size_t i = 0; name != NULL && i < of.fields && !field->has_detail; i++) {
+        Py_DECREF(name);
+        name = read_field_at(field->pool, field->of, i, &at, &detail);
+        field->has_detail = name != NULL && at.number == field->is.number;
+    }
+    field->detail = detail;
+    Py_XDECREF(name);
+    return name != NULL;
+}
+
+static PyObject *field_get_oneof(PyObject *self, void *Py_UNUSED(which))
+{
+    Field *field = (Field *)self;
+
+    if (field->is.shape != 2)
+        Py_RETURN_NONE;
+    if (!field->has_detail && !read_detail(field))
+        return NULL;
+    return read_oneof(field->pool, field->of, field->detail);
+}
+
+static PyObject *field_get_packed(PyObject *self, void *Py_UNUSED(which))
+{
+    Field *field = (Field *)self;
+
+    if (field->is.shape != 3)
+        Py_RETURN_FALSE;
+    if (!field->has_detail && !read_detail(field))
+        return NULL;
+    return PyBool_FromLong(field->detail == 1);
 }
 
 static PyObject *field_get_numbers(PyObject *self, void *Py_UNUSED(which))
@@ -375,6 +476,9 @@ PyObject *make_field_type(void)
         {"shape", field_get_shape, NULL, "implicit, optional, oneof, list or map. An implicit one is unset while it has its default value.", NULL},
         {"key", field_get_key, NULL, "Of a map the kind of its keys, else None.", NULL},
         {"type", field_get_type, NULL, "The message type of its values, or None.", NULL},
+        {"enum", field_get_enum, NULL, "The full name of the enum of its values, or None.", NULL},
+        {"oneof", field_get_oneof, NULL, "The name of the oneof that it is in, or None.", NULL},
+        {"packed", field_get_packed, NULL, "Whether a list of it is written packed.", NULL},
         {"numbers", field_get_numbers, NULL, "number, kind, shape, key and type_of of struct mb_field.", NULL},
         {NULL, NULL, NULL, NULL, NULL},
     };
@@ -415,7 +519,6 @@ PyObject *default_of(const struct mb_field *field)
 
 /* ---- One value, read from bytes ---- */
 
-#ifdef HAVE_MB_FIND
 /* What was found, as Python's. */
 static PyObject *found_value(const struct mb_value *value, const uint8_t *at)
 {
@@ -559,13 +662,10 @@ static PyObject *type_find_reported(PyObject *self, PyObject *args, PyObject *kw
 {
     return find(self, args, kwargs, found_reported);
 }
-#endif
 
 static PyObject *type_repr(PyObject *self)
 {
-    PyObject *name = ((MessageType *)self)->name;
-    return name ? PyUnicode_FromFormat("<mabristu.MessageType %U>", name)
-                : PyUnicode_FromFormat("<mabristu.MessageType number %u>", (unsigned)((MessageType *)self)->number);
+    return PyUnicode_FromFormat("<mabristu.MessageType %U>", ((MessageType *)self)->name);
 }
 
 static int type_traverse(PyObject *self, visitproc visit, void *arg)
@@ -599,19 +699,21 @@ static void type_dealloc(PyObject *self)
 PyObject *make_message_type_type(void)
 {
     static PyMemberDef members[] = {
-        {"name", T_OBJECT, offsetof(MessageType, name), READONLY, "The full name, or None where the type was reached through a field."},
+        {"name", T_OBJECT, offsetof(MessageType, name), READONLY, "The full name."},
         {"pool", T_OBJECT, offsetof(MessageType, pool), READONLY, "The pool of the type."},
         {NULL, 0, 0, 0, NULL},
+    };
+    static PyGetSetDef getset[] = {
+        {"fields", type_get_fields, NULL, "Its fields, in the order of their declarations.", NULL},
+        {NULL, NULL, NULL, NULL, NULL},
     };
     static PyMethodDef methods[] = {
         {"check", KEYWORDS(type_check), METH_VARARGS | METH_KEYWORDS, check_doc},
         {"canonical", KEYWORDS(type_canonical), METH_VARARGS | METH_KEYWORDS, canonical_doc},
         {"listing", KEYWORDS(type_listing), METH_VARARGS | METH_KEYWORDS, listing_doc},
         {"decode", KEYWORDS(type_decode), METH_VARARGS | METH_KEYWORDS, decode_doc},
-#ifdef HAVE_MB_FIND
         {"find", KEYWORDS(type_find), METH_VARARGS | METH_KEYWORDS, find_doc},
         {"_find", KEYWORDS(type_find_reported), METH_VARARGS | METH_KEYWORDS, find_reported_doc},
-#endif
         {"new", type_empty, METH_NOARGS, new_doc},
         {"field", type_field, METH_O, field_doc},
         {"frames", KEYWORDS(type_frames), METH_VARARGS | METH_KEYWORDS, frames_doc},
@@ -627,6 +729,7 @@ PyObject *make_message_type_type(void)
         {Py_tp_call, type_call},
         {Py_tp_repr, type_repr},
         {Py_tp_members, members},
+        {Py_tp_getset, getset},
         {Py_tp_methods, methods},
         {0, NULL},
     };

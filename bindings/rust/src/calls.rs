@@ -1,5 +1,5 @@
 //! The numbers and calls of mabristu.h.
-use crate::structs::{Bytes, Fault, Field, Frame, Handle, MessageHandle, Refusal, Step, Value};
+use crate::structs::{Bytes, Counts, Enum, Fault, Field, File, Frame, Handle, MessageHandle, Refusal, Step, Type, Value};
 
 pub const INTERFACE: u32 = 2;
 // What a call answers. Numbers from 50 on are the causes why declarations are refused.
@@ -8,7 +8,6 @@ pub const BAD_LIMITS: u32 = 1;
 pub const NO_TYPE: u32 = 2;
 pub const PART: u32 = 5;
 pub const ABSENT: u32 = 6;
-pub const BAD_PLACE: u32 = 7;
 pub const FAULT: u32 = 13;
 pub const MEMORY: u32 = 14;
 pub const TOO_LARGE: u32 = 31;
@@ -52,6 +51,14 @@ extern "C" {
     pub fn mb_pool_free(pool: *mut Handle);
     pub fn mb_pool_type(pool: *mut Handle, name: At, name_len: usize, number: &mut u32) -> u32;
     pub fn mb_pool_field(pool: *mut Handle, number: u32, name: At, name_len: usize, field: &mut Field) -> u32;
+    pub fn mb_pool_counts(pool: *mut Handle, counts: &mut Counts) -> u32;
+    pub fn mb_pool_message(pool: *mut Handle, number: u32, report: &mut Type, name: Out, name_len: usize, size: &mut usize) -> u32;
+    pub fn mb_pool_field_at(pool: *mut Handle, number: u32, index: usize, report: &mut Field, detail: &mut u32,
+        name: Out, name_len: usize, size: &mut usize) -> u32;
+    pub fn mb_pool_oneof(pool: *mut Handle, number: u32, index: usize, name: Out, name_len: usize, size: &mut usize) -> u32;
+    pub fn mb_pool_enum(pool: *mut Handle, entry: usize, report: &mut Enum, name: Out, name_len: usize, size: &mut usize) -> u32;
+    pub fn mb_pool_enum_value(pool: *mut Handle, entry: usize, index: usize, number: &mut i32, name: Out, name_len: usize, size: &mut usize) -> u32;
+    pub fn mb_pool_file(pool: *mut Handle, index: usize, report: &mut File, names: Out, names_len: usize) -> u32;
     pub fn mb_check(pool: *mut Handle, number: u32, bytes: At, len: usize, max_bytes: u32, max_depth: u8,
         fault: &mut Fault, path: *mut Step, path_len: usize) -> u32;
     pub fn mb_find(pool: *mut Handle, number: u32, bytes: At, len: usize, max_bytes: u32, max_depth: u8, numbers: *const u32, numbers_len: usize,

@@ -21,20 +21,18 @@ mod error;
 mod frames;
 mod message;
 mod message_type;
-#[cfg(mb_message_get)]
 mod part;
 mod pool;
+mod schema;
 mod structs;
 mod told;
-#[cfg(any(mb_find, mb_message_get))]
 mod value;
 
 pub use error::{Cause, Error, Step, StreamError};
 pub use frames::{Frame, Frames};
 pub use message::Message;
 pub use message_type::{raw_check, raw_short, Field, Limits, MessageType, Shape};
-#[cfg(mb_message_get)]
 pub use part::{Key, Part};
 pub use pool::Pool;
-#[cfg(any(mb_find, mb_message_get))]
+pub use schema::{DeclaredEnum, DeclaredField, DeclaredFile, DeclaredType, Schema};
 pub use value::Value;

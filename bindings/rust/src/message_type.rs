@@ -1,8 +1,9 @@
 //! Message types, and calls on the bytes of messages.
 use crate::calls;
-use crate::structs::{Field as FieldReport, Frame as FrameReport};
+use crate::structs::{Field as FieldReport, Frame as FrameReport, Value as Reported};
 use crate::told::{judged, written, Told};
-use crate::{Error, Frames, Message, Pool};
+use crate::value::{scalar, size as size_of};
+use crate::{Error, Frames, Message, Pool, Value};
 use std::io::Read;
 
 /// How many bytes a message may have, and how deep it may nest.
@@ -59,10 +60,26 @@ pub struct Field {
 const KINDS: [&str; 18] = ["double", "float", "int64", "uint64", "int32", "fixed64", "fixed32", "bool", "string", "group", "message", "bytes", "uint32",
     "enum", "sfixed32", "sfixed64", "sint32", "sint64"];
 
+/// The name of a kind by its number.
+pub(crate) fn kind_name(kind: u32) -> &'static str {
+    (kind as usize).checked_sub(1).and_then(|kind| KINDS.get(kind)).unwrap_or(&"?")
+}
+
 impl Field {
+    pub(crate) fn of(FieldReport { number, kind, shape, key, type_of }: FieldReport) -> Field {
+        let shape = match shape {
+            0 => Shape::Implicit,
+            1 => Shape::Optional,
+            2 => Shape::Oneof,
+            3 => Shape::List,
+            _ => Shape::Map,
+        };
+        Field { number, kind, shape, key: (key != 0).then_some(key), type_of }
+    }
+
     /// The kind of its values, as a source writes it, or `message` and `enum`.
     pub fn kind_name(&self) -> &'static str {
-        (self.kind as usize).checked_sub(1).and_then(|kind| KINDS.get(kind)).unwrap_or(&"?")
+        kind_name(self.kind)
     }
 }
 
@@ -121,15 +138,7 @@ impl MessageType {
     pub fn field(&self, name: &str) -> Result<Field, Error> {
         let mut field = FieldReport::default();
         Told::new().judge(unsafe { calls::mb_pool_field(self.pool.handle(), self.number, name.as_ptr(), name.len(), &mut field) })?;
-        let FieldReport { number, kind, shape, key, type_of } = field;
-        let shape = match shape {
-            0 => Shape::Implicit,
-            1 => Shape::Optional,
-            2 => Shape::Oneof,
-            3 => Shape::List,
-            _ => Shape::Map,
-        };
-        Ok(Field { number, kind, shape, key: (key != 0).then_some(key), type_of })
+        Ok(Field::of(field))
     }
 
     /// The message type of the values of a field, if they are messages.
@@ -178,8 +187,7 @@ impl MessageType {
 
     /// The value of one field of one scalar, read from the bytes of a message without building it, which are checked as by [`MessageType::check`]. The
     /// names lead to it from the outermost message on. None where it is not set.
-    #[cfg(mb_find)]
-    pub fn find(&self, bytes: &[u8], names: &[&str]) -> Result<Option<crate::Value>, Error> {
+    pub fn find(&self, bytes: &[u8], names: &[&str]) -> Result<Option<Value>, Error> {
         let (mut numbers, mut at) = (Vec::with_capacity(names.len()), self.clone());
         for name in names {
             let field = at.field(name)?;
@@ -190,10 +198,9 @@ impl MessageType {
     }
 
     /// As [`MessageType::find`], by the numbers of the fields.
-    #[cfg(mb_find)]
-    pub fn find_numbers(&self, bytes: &[u8], numbers: &[u32]) -> Result<Option<crate::Value>, Error> {
+    pub fn find_numbers(&self, bytes: &[u8], numbers: &[u32]) -> Result<Option<Value>, Error> {
         let Limits { max_bytes, max_depth } = self.limits;
-        let mut value = crate::structs::Value::default();
+        let mut value = Reported::default();
         let mut is_absent = false;
         let out = written(256, |out, room, size, fault, path, steps| unsafe {
             let (at, len, handle) = (bytes.as_ptr(), bytes.len(), self.pool.handle());
@@ -201,14 +208,14 @@ impl MessageType {
             let answer =
                 calls::mb_find(handle, self.number, at, len, max_bytes, max_depth, of, count, &mut value, out, room, fault, path, steps);
             is_absent = answer == calls::ABSENT;
-            *size = if answer == calls::DONE { crate::value::size(&value) } else { 0 };
+            *size = if answer == calls::DONE { size_of(&value) } else { 0 };
             if is_absent {
                 calls::DONE
             } else {
                 answer
             }
         })?;
-        Ok(if is_absent { None } else { crate::value::scalar(&value, out) })
+        Ok(if is_absent { None } else { scalar(&value, out) })
     }
 }
 

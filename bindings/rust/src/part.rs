@@ -4,8 +4,6 @@ use crate::told::{written_alone, Told};
 use crate::value::{scalar, size};
 use crate::{calls, Error, Message, MessageType, Value};
 
-const FIELD: u32 = 21;
-const INDEX: u32 = 22;
 const ABSENT: Error = Error::NoField;
 
 /// A key of a map.
@@ -65,38 +63,38 @@ impl<'a> Part<'a> {
             return Ok(message_type.clone());
         }
         match self.reported()? {
-            Some(Reported { kind: 11, number }) => Ok(MessageType { number: number as u32, ..self.message.message_type().clone() }),
+            Some(Reported { kind: calls::MESSAGE, number }) => Ok(MessageType { number: number as u32, ..self.message.message_type().clone() }),
             _ => Err(Error::NoField),
         }
     }
 
     /// The field of a number of the message that is here.
     pub fn number(&self, number: u32) -> Part<'a> {
-        Part { message_type: None, ..self.step(FIELD, u64::from(number)) }
+        Part { message_type: None, ..self.step(calls::FIELD, u64::from(number)) }
     }
 
     /// A field of the message that is here.
     pub fn field(&self, name: &str) -> Result<Part<'a>, Error> {
         let message_type = self.message_type()?;
         let field = message_type.field(name)?;
-        Ok(Part { message_type: message_type.inner(&field), ..self.step(FIELD, u64::from(field.number)) })
+        Ok(Part { message_type: message_type.inner(&field), ..self.step(calls::FIELD, u64::from(field.number)) })
     }
 
     /// The value at an index, counted from 0, of the list that is here.
     pub fn index(&self, index: usize) -> Part<'a> {
-        self.step(INDEX, index as u64)
+        self.step(calls::INDEX, index as u64)
     }
 
     /// What is under a key of the map that is here.
     pub fn key(&self, key: impl Into<Key>) -> Part<'a> {
         match key.into() {
-            Key::Int32(key) => self.step(5, i64::from(key) as u64),
-            Key::Int64(key) => self.step(3, key as u64),
-            Key::Uint32(key) => self.step(13, u64::from(key)),
-            Key::Uint64(key) => self.step(4, key),
-            Key::Bool(key) => self.step(8, u64::from(key)),
+            Key::Int32(key) => self.step(calls::INT32, i64::from(key) as u64),
+            Key::Int64(key) => self.step(calls::INT64, key as u64),
+            Key::Uint32(key) => self.step(calls::UINT32, u64::from(key)),
+            Key::Uint64(key) => self.step(calls::UINT64, key),
+            Key::Bool(key) => self.step(calls::BOOL, u64::from(key)),
             Key::String(key) => {
-                let mut part = self.step(9, self.keys.len() as u64);
+                let mut part = self.step(calls::STRING, self.keys.len() as u64);
                 part.keys.push(key.into_bytes());
                 part
             }
@@ -124,7 +122,7 @@ impl<'a> Part<'a> {
     pub fn get(&self) -> Result<Option<Value>, Error> {
         let Some(value) = self.reported()? else { return Ok(None) };
         let mut out = vec![0; size(&value)];
-        if matches!(value.kind, 9 | 12) {
+        if matches!(value.kind, calls::STRING | calls::BYTES) {
             let mut len = 0;
             self.call(|place, steps, keys, count| unsafe {
                 calls::mb_message_read(self.message.handle(), place, steps, keys, count, out.as_mut_ptr(), out.len(), &mut len)
@@ -140,7 +138,7 @@ impl<'a> Part<'a> {
 
     /// How many values or entries the list or map that is here has: 0 where it is not set.
     pub fn len(&self) -> Result<usize, Error> {
-        Ok(self.reported()?.map_or(0, |value| if matches!(value.kind, 19 | 20) { value.number as usize } else { 0 }))
+        Ok(self.reported()?.map_or(0, |value| if matches!(value.kind, calls::LIST | calls::MAP) { value.number as usize } else { 0 }))
     }
 
     /// Whether the list or map that is here has no values.

@@ -42,6 +42,42 @@ pub struct Value {
 }
 
 #[repr(C)]
+#[derive(Clone, Copy, Debug, Default, PartialEq, Eq)]
+pub struct Counts {
+    pub files: usize,
+    pub messages: usize,
+    pub enums: usize,
+}
+
+#[repr(C)]
+#[derive(Clone, Copy, Debug, Default, PartialEq, Eq)]
+pub struct Type {
+    pub file: usize,
+    pub nested: u32,
+    pub parent: usize,
+    pub fields: usize,
+    pub oneofs: usize,
+}
+
+#[repr(C)]
+#[derive(Clone, Copy, Debug, Default, PartialEq, Eq)]
+pub struct Enum {
+    pub file: usize,
+    pub nested: u32,
+    pub parent: usize,
+    pub values: usize,
+}
+
+#[repr(C)]
+#[derive(Clone, Copy, Debug, Default, PartialEq, Eq)]
+pub struct File {
+    pub name_len: usize,
+    pub package_len: usize,
+    pub imports: usize,
+    pub proto2: u32,
+}
+
+#[repr(C)]
 pub struct MessageHandle {
     pub at: *mut u8,
     pub full: bool,

@@ -1,4 +1,5 @@
 //! Values of fields.
+use crate::calls;
 use crate::structs::Value as Reported;
 
 /// A value of a field.
@@ -26,7 +27,7 @@ pub enum Value {
 
 /// How many bytes of a string or bytes there are, 0 of other values.
 pub(crate) fn size(value: &Reported) -> usize {
-    if matches!(value.kind, 9 | 12) {
+    if matches!(value.kind, calls::STRING | calls::BYTES) {
         value.number as usize
     } else {
         0
@@ -36,19 +37,19 @@ pub(crate) fn size(value: &Reported) -> usize {
 /// A reported value, of a string or bytes with these bytes.
 pub(crate) fn scalar(&Reported { kind, number }: &Reported, bytes: Vec<u8>) -> Option<Value> {
     Some(match kind {
-        1 => Value::Double(f64::from_bits(number)),
-        2 => Value::Float(f32::from_bits(number as u32)),
-        3 => Value::Int64(number as i64),
-        4 => Value::Uint64(number),
-        5 => Value::Int32(number as i32),
-        8 => Value::Bool(number != 0),
-        9 => Value::String(String::from_utf8(bytes).ok()?),
-        11 => Value::Message(number as u32),
-        12 => Value::Bytes(bytes),
-        13 => Value::Uint32(number as u32),
-        14 => Value::Enum(number as i32),
-        19 => Value::List(number as usize),
-        20 => Value::Map(number as usize),
+        calls::DOUBLE => Value::Double(f64::from_bits(number)),
+        calls::FLOAT => Value::Float(f32::from_bits(number as u32)),
+        calls::INT64 => Value::Int64(number as i64),
+        calls::UINT64 => Value::Uint64(number),
+        calls::INT32 => Value::Int32(number as i32),
+        calls::BOOL => Value::Bool(number != 0),
+        calls::STRING => Value::String(String::from_utf8(bytes).ok()?),
+        calls::MESSAGE => Value::Message(number as u32),
+        calls::BYTES => Value::Bytes(bytes),
+        calls::UINT32 => Value::Uint32(number as u32),
+        calls::ENUM => Value::Enum(number as i32),
+        calls::LIST => Value::List(number as usize),
+        calls::MAP => Value::Map(number as usize),
         _ => return None,
     })
 }

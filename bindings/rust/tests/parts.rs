@@ -1,5 +1,4 @@
-//! Fields of the order of the shop, where the library reads them. The values are those of its listing in examples/.
-#![cfg(mb_message_get)]
+//! Fields of the order of the shop. The values are those of its listing in examples/.
 use mabristu::{Error, Key, Message, Pool, Value};
 use std::fs;
 
@@ -44,7 +43,6 @@ fn reads_lists_maps_and_messages() -> Result<(), Error> {
     Ok(())
 }
 
-#[cfg(mb_find)]
 #[test]
 fn finds_in_bytes() {
     let (order, bytes) = (order(), example("shop_order.bin"));

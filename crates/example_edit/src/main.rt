@@ -1,21 +1,14 @@
 //! Gives an order another date: reads a descriptor set, decodes a message by a type of it, sets a field, and writes the message's
 //! canonical bytes. Prints the date before and after, and the bytes in hexadecimal.
 //!
-//! A program names the crates that it uses on a line of crates.txt. This one's is
-//! `example_edit: pb_encode pb_decode pb_value pb_link pb_descr pb_schema pb_wire anyhow hex`.
+//! A program names the crates that it uses on a line of crates.txt. This one's is `example_edit: mabristu anyhow hex`.
 #![tactic(auto)]
 
 ghost use Rattle.std.specs.Prelude.{◌≡◌, OnErr, OnOk};
 ghost use Rattle.example_edit.specs.Dated.{dated};
 
 use anyhow::{Context, Result};
-use pb_decode::decode;
-use pb_descr::read_set;
-use pb_encode::encode;
-use pb_link::link;
-use pb_schema::Pool;
-use pb_value::{Content, DynamicMessage, Value};
-use pb_wire::Limits;
+use mabristu::{Content, DynamicMessage, Limits, Pool, Value, decode, encode, link, read_set};
 use std::alloc::Global;
 use std::fs;
 

@@ -1,17 +1,13 @@
-//! Reads orders from standard input, each behind its length, and tells of each whether it is one, or else where it fails: the byte
-//! of the message, the path of records that leads there, and the cause. Behind a message that is refused the next one is read.
+//! Reads orders from standard input, each after its length, and reports of each whether it is one, or else where it fails: the byte
+//! of the message, the path of records that leads there, and the cause. After a message that is refused the next one is read.
 //!
-//! In crates.txt: `example_inspect: pb_decode pb_link pb_descr pb_schema pb_wire anyhow`.
+//! In crates.txt: `example_inspect: mabristu anyhow`.
 #![tactic(auto)]
 
 ghost use Rattle.std.specs.Prelude.{◌<◌, ◌^◌, IfOk, IfSome};
 
 use anyhow::{Context, Result, ensure};
-use pb_decode::{DecodeError, decode_frame};
-use pb_descr::read_set;
-use pb_link::link;
-use pb_schema::Pool;
-use pb_wire::{Limits, ReadInput, read_varint};
+use mabristu::{DecodeError, Limits, Pool, ReadInput, decode_frame, link, read_set, read_varint};
 use std::alloc::Global;
 use std::io::{BufReader, Read};
 use std::{fs, io};
@@ -25,7 +21,7 @@ fn main(rt: HostRuntime) -> Result<()> {
     inspect(&rt, alloc, &pool, &mut input)
 }
 
-/// Tells of each message of an input what it is. What was not read of one that is refused is passed over.
+/// Reports of each message of an input what it is. What was not read of one that is refused is passed over.
 fn inspect<R: Read>(rt: &impl Print, alloc: Global, pool: &Pool, input: &mut R) -> Result<()> {
     let message_type = pool
         .message_by_name("shop.Order")
@@ -44,7 +40,7 @@ fn inspect<R: Read>(rt: &impl Print, alloc: Global, pool: &Pool, input: &mut R) 
             length,
             Limits::FULL,
         );
-        tell(rt, index, read.err())?;
+        report(rt, index, read.err())?;
         io::copy(&mut frame.into_inner(), &mut io::sink())?;
     }
     Ok(())
@@ -70,7 +66,7 @@ fn read_length(alloc: Global, input: &mut impl Read) -> Result<Option<u32>>
 }
 
 /// Prints where a message fails: the path is of records, each by its number and by how many of that number stand before it.
-fn tell(rt: &impl Print, index: u64, fault: Option<DecodeError>) -> Result<()> {
+fn report(rt: &impl Print, index: u64, fault: Option<DecodeError>) -> Result<()> {
     match fault {
         None => println!(rt; "{index}: an order")?,
         Some(DecodeError::Fault { byte, path, cause }) => {

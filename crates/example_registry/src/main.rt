@@ -1,15 +1,12 @@
 //! Checks a source against the descriptor set that a registry holds: a field number that both have in a message of the same name has
 //! to keep its kind. Prints each that does not, and ends with status 1 where there is one.
-//! In crates.txt: `example_registry: pb_link pb_source pb_descr pb_schema anyhow`.
+//! In crates.txt: `example_registry: mabristu anyhow`.
 #![tactic(auto)]
 
 ghost use Rattle.std.specs.Prelude.{◌<◌, length};
 
 use anyhow::{Context, Result};
-use pb_descr::read_set;
-use pb_link::{link, resolve};
-use pb_schema::{Kind, MessageId, Pool, Shape};
-use pb_source::parse;
+use mabristu::{Kind, MessageId, Pool, Shape, link, parse, read_set, resolve};
 use std::alloc::Global;
 use std::fs;
 use std::process::ExitCode;

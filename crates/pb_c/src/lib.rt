@@ -5,6 +5,7 @@ mod handle;
 mod message;
 mod pool;
 mod raw;
+mod schema;
 mod told;
 mod typed;
 
@@ -33,6 +34,10 @@ pub use pool::share::mb_pool_share;
 pub use pool::type_number::mb_pool_type;
 pub use raw::check::mb_raw_check;
 pub use raw::short::mb_raw_short;
+pub use schema::counts::{PoolCounts, mb_pool_counts};
+pub use schema::enum_type::{EnumReport, mb_pool_enum, mb_pool_enum_value};
+pub use schema::file::{FileReport, mb_pool_file};
+pub use schema::message_type::{TypeReport, mb_pool_field_at, mb_pool_message, mb_pool_oneof};
 pub use told::{FaultReport, Step, mb_interface};
 pub use typed::canon::mb_canon;
 pub use typed::check::mb_check;

@@ -87,7 +87,7 @@ fn tell_error(error: &DecodeError, fault: &mut FaultReport, path: &mut [Step]) -
 }
 
 /// Writes as much of a text as the buffer holds, and tells its whole length.
-fn write_out(text: &[u8], out: &mut [u8], size: &mut usize)
+pub(crate) fn write_out(text: &[u8], out: &mut [u8], size: &mut usize)
     ensures { IsLaid text.now out.old out.new size.new }
 {
     lay_over(text, out);

@@ -85,7 +85,7 @@ fn key_number(shape: Shape) -> u32
     }
 }
 
-fn report_field(field: &Field) -> FieldReport
+pub(crate) fn report_field(field: &Field) -> FieldReport
     ensures { result ≡ field_report (field_view field.now) }
 {
     FieldReport {

@@ -23,7 +23,7 @@ pub struct Refusal {
 }
 
 /// Lays one text and then another over the front of a buffer, as much of both as it holds.
-fn lay_both(first: &[u8], second: &[u8], room: &mut [u8])
+pub(crate) fn lay_both(first: &[u8], second: &[u8], room: &mut [u8])
     ensures { room.new ≡ laid_over (first.now ++ second.now) room.old }
 {
     let size = first.len().min(room.len());

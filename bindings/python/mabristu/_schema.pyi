@@ -1,0 +1,27 @@
+from typing import NamedTuple, Optional
+
+from ._mabristu import MessageType, Pool
+
+class DeclaredFile(NamedTuple):
+    name: str
+    package: str
+    imports: int
+    syntax: str
+
+class DeclaredType(NamedTuple):
+    name: str
+    file: str
+    parent: Optional[str]
+    type: MessageType
+
+class DeclaredEnum(NamedTuple):
+    name: str
+    file: str
+    parent: Optional[str]
+    values: list[tuple[str, int]]
+
+class Schema:
+    files: list[DeclaredFile]
+    types: list[DeclaredType]
+    enums: list[DeclaredEnum]
+    def __init__(self, pool: Pool) -> None: ...
