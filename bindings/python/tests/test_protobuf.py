@@ -34,7 +34,6 @@ class Protobuf(unittest.TestCase):
             data = bytes.fromhex(row["bytes"])
             self.assertEqual([self.order.canonical(data).hex(), self.order.decode(data).encode().hex()], [row["bytes"]] * 2)
 
-    @unittest.skipUnless(hasattr(mabristu.Message, "get"), "the library can't read fields")
     def test_fields(self):
         bits = lambda number: struct.unpack("<Q", struct.pack("<d", number))[0]
         for row in self.rows:
@@ -47,7 +46,6 @@ class Protobuf(unittest.TestCase):
             found["numbers"] = order.numbers()
             self.assertEqual(found, {name: value for name, value in row.items() if name != "bytes"})
 
-    @unittest.skipUnless(hasattr(mabristu.MessageType, "find"), "the library has no mb_find")
     def test_find(self):
         for row in self.rows:
             data = bytes.fromhex(row["bytes"])

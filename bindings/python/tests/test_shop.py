@@ -97,10 +97,46 @@ class Messages(Shop):
         self.assertEqual(field("lines").type.field("price").kind, "double")
         self.assertRaises(KeyError, field, "nothing")
 
+    def test_fields_of_a_type(self):
+        found = [(it.name, it.number, it.kind, it.shape, it.key, it.type and it.type.name, it.enum, it.oneof, it.packed) for it in self.order.fields]
+        self.assertEqual(found, [
+            ("number", 1, "uint64", "implicit", None, None, None, None, False),
+            ("placed_on", 2, "string", "implicit", None, None, None, None, False),
+            ("lines", 3, "message", "list", None, "shop.Line", None, None, False),
+            ("discounts", 4, "int32", "map", "string", None, None, None, False),
+            ("card", 5, "string", "oneof", None, None, None, "payment", False),
+            ("invoice", 6, "message", "oneof", None, "shop.Invoice", None, "payment", False),
+            ("state", 7, "enum", "implicit", None, None, "shop.State", None, False),
+            ("corrections", 8, "sint32", "list", None, None, None, None, True),
+            ("gift", 9, "bool", "optional", None, None, None, None, False),
+        ])
+        self.assertIs(self.order.fields[2], self.order.field("lines"))
+        # Of fields that were found by their names, in a pool of which nothing was listed.
+        field = Pool(example("shop.set"))["shop.Order"].field
+        self.assertEqual([field("card").oneof, field("corrections").packed, field("lines").packed, field("gift").oneof], ["payment", True, False, None])
+        self.assertEqual(field("invoice").type.name, "shop.Invoice")
+
+    def test_schema(self):
+        schema = self.pool.schema()
+        self.assertEqual(schema.files, [("shop.proto", "shop", 0, "proto3")])
+        self.assertEqual([it[:3] for it in schema.types], [(f"shop.{it}", "shop.proto", None) for it in ("Order", "Line", "Invoice")])
+        self.assertIs(schema.types[1].type, self.pool["shop.Line"])
+        self.assertEqual(schema.enums, [("shop.State", "shop.proto", None, [("OPEN", 0), ("SENT", 1), ("PAID", 2)])])
+
+    def test_schema_of_sources(self):
+        outer, inner = 300 * "M", 300 * "N"
+        text = f'syntax = "proto3"; package p.q; import "b.proto"; message {outer} {{ message {inner} {{}} enum E {{ A = 0; B = -1; }} oneof o {{ E e = 1; }} }}'
+        schema = Pool.of_sources({"a.proto": text, "b.proto": 'syntax = "proto3";'}).schema()
+        self.assertEqual(sorted(schema.files), [("a.proto", "p.q", 1, "proto3"), ("b.proto", "", 0, "proto3")])
+        self.assertEqual({it[:3] for it in schema.types}, {(f"p.q.{outer}", "a.proto", None), (f"p.q.{outer}.{inner}", "a.proto", f"p.q.{outer}")})
+        self.assertEqual(schema.enums, [(f"p.q.{outer}.E", "a.proto", f"p.q.{outer}", [("A", 0), ("B", -1)])])
+        field = next(it for it in schema.types if it.parent is None).type.fields[0]
+        self.assertEqual([field.name, field.oneof, field.enum], ["e", "o", f"p.q.{outer}.E"])
+
 
 class Stubs(unittest.TestCase):
     def test_names(self):
-        """The stub declares what the module has, but for what needs calls that the library lacks."""
+        """The stub declares what the module has."""
         module = sys.modules["mabristu._mabristu"]
         with open(os.path.join(os.path.dirname(mabristu.__file__), "_mabristu.pyi"), encoding="utf-8") as it:
             tree = ast.parse(it.read())
@@ -111,8 +147,7 @@ class Stubs(unittest.TestCase):
             names = defined(stub.body) | {it.target.id for it in stub.body if isinstance(it, ast.AnnAssign)}
             found = {it for it in vars(getattr(module, stub.name)) if not it.startswith("_")}
             self.assertLessEqual(found, names)
-            if hasattr(mabristu.Message, "get") and hasattr(mabristu.MessageType, "find"):
-                self.assertLessEqual({it for it in names if not it.startswith("_")}, found)
+            self.assertLessEqual({it for it in names if not it.startswith("_")}, found)
 
     def test_docs(self):
         for it in (mabristu.Pool, mabristu.MessageType, mabristu.Message, mabristu.Field, mabristu.List, mabristu.Map):
@@ -274,7 +309,6 @@ class Threads(Shop):
         self.assertEqual(count(), before)
 
 
-@unittest.skipUnless(hasattr(mabristu.Message, "get"), "the library can't read fields")
 class Parts(Shop):
     def test_fields(self):
         order = self.order.decode(self.data)
@@ -311,7 +345,6 @@ class Parts(Shop):
         self.assertEqual(line["article"], "bolt M8")
 
 
-@unittest.skipUnless(hasattr(mabristu.MessageType, "find"), "the library has no mb_find")
 class Find(Shop):
     def test_values(self):
         find = lambda *names: self.order.find(self.data, *names)

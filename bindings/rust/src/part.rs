@@ -63,7 +63,9 @@ impl<'a> Part<'a> {
             return Ok(message_type.clone());
         }
         match self.reported()? {
-            Some(Reported { kind: calls::MESSAGE, number }) => Ok(MessageType { number: number as u32, ..self.message.message_type().clone() }),
+            Some(Reported { kind: calls::MESSAGE, number }) => {
+                Ok(MessageType { number: number as u32, ..self.message.message_type().clone() })
+            }
             _ => Err(Error::NoField),
         }
     }

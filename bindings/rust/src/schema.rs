@@ -116,8 +116,9 @@ impl Pool {
     /// The name of a value of an enum, and its number.
     fn value(&self, entry: usize, index: usize) -> Result<(String, i32), Error> {
         let mut number = 0;
-        let name =
-            written_alone(|out, room, size| unsafe { calls::mb_pool_enum_value(self.handle(), entry, index, &mut number, out, room, size) })?;
+        let name = written_alone(|out, room, size| unsafe {
+            calls::mb_pool_enum_value(self.handle(), entry, index, &mut number, out, room, size)
+        })?;
         Ok((text(name), number))
     }
 

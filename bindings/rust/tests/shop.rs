@@ -53,6 +53,42 @@ fn refuses_with_byte_path_and_cause() {
 }
 
 #[test]
+fn lists_what_a_pool_declares() -> Result<(), Error> {
+    let order = order();
+    let schema = order.pool().schema()?;
+    let lines = "file shop.proto proto3
+message shop.Order shop.proto
+field shop.Order.number 1 implicit uint64
+field shop.Order.placed_on 2 implicit string
+field shop.Order.lines 3 repeated shop.Line
+field shop.Order.discounts 4 repeated map<string, int32>
+field shop.Order.card 5 oneof:payment string
+field shop.Order.invoice 6 oneof:payment shop.Invoice
+field shop.Order.state 7 implicit shop.State
+field shop.Order.corrections 8 repeated sint32 packed
+field shop.Order.gift 9 optional bool
+message shop.Line shop.proto
+field shop.Line.article 1 implicit string
+field shop.Line.pieces 2 implicit int32
+field shop.Line.price 3 implicit double
+message shop.Invoice shop.proto
+field shop.Invoice.address 1 implicit string
+field shop.Invoice.signature 2 implicit bytes
+enum shop.State shop.proto
+value shop.State OPEN 0
+value shop.State SENT 1
+value shop.State PAID 2
+";
+    assert_eq!(schema.to_string(), lines);
+    assert_eq!((schema.files[0].package.as_str(), schema.files[0].imports, schema.messages[1].parent), ("shop", 0, None));
+    let fields = order.fields()?;
+    assert_eq!((order.name()?.as_str(), fields.len(), fields[5].oneof.as_deref()), ("shop.Order", 9, Some("payment")));
+    assert_eq!(fields[5].field, order.field("invoice")?);
+    assert!(fields[7].is_packed && !fields[2].is_packed);
+    Ok(())
+}
+
+#[test]
 fn names_types_and_fields() {
     let order = order();
     let lines = order.field("lines").unwrap();
