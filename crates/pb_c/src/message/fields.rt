@@ -24,7 +24,8 @@ fn write_fields(
     numbers: &mut [u32],
     count: &mut usize,
 ) -> u32
-    ensures answered { IsAnswered numbers_in keys.now place.now (Some message.now) result (λ ns. (numbers.new ≡ laid_over ns numbers.old) × (count.new ≡ length ns)) }
+    ensures answered { IsAnswered numbers_in keys.now place.now (Some message.now) result
+        (λ ns. (numbers.new ≡ laid_over ns numbers.old) × (count.new ≡ length ns)) }
     ensures unwritten { result ≢ DONE → (numbers.new ≡ numbers.old) × (count.new ≡ count.old) }
     ensures answers { (result ≡ DONE) ⊎ (result ≡ ABSENT) ⊎ (result ≡ BAD_PLACE) ⊎ (result ≡ MEMORY) }
 {
@@ -46,7 +47,8 @@ fn fields_own(
     numbers: &mut [u32],
     count: &mut usize,
 ) -> u32
-    ensures answered { IsAnswered numbers_in keys.now place.now (Some own.old) result (λ ns. (numbers.new ≡ laid_over ns numbers.old) × (count.new ≡ length ns)) }
+    ensures answered { IsAnswered numbers_in keys.now place.now (Some own.old) result
+        (λ ns. (numbers.new ≡ laid_over ns numbers.old) × (count.new ≡ length ns)) }
     ensures unwritten { result ≢ DONE → (numbers.new ≡ numbers.old) × (count.new ≡ count.old) }
     ensures answers { (result ≡ DONE) ⊎ (result ≡ ABSENT) ⊎ (result ≡ BAD_PLACE) ⊎ (result ≡ MEMORY) }
     ensures same { own.new ≡ own.old }
