@@ -1,7 +1,5 @@
 -- buffers whose front is laid
 pub mod Laid
--- elements of lists that are read at an index
-pub mod Listed
 -- what is told of an error
 pub mod Telling
 -- what is told of an error of decoding

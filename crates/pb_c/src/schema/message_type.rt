@@ -217,7 +217,15 @@ pub extern "C" fn mb_pool_field_at(
     let Some(shared) = take(alloc, pool) else {
         return EMPTY;
     };
-    let answer = describe_field(&shared.pool, message_type, index, report, detail, name, size);
+    let answer = describe_field(
+        &shared.pool,
+        message_type,
+        index,
+        report,
+        detail,
+        name,
+        size,
+    );
     put(pool, shared);
     answer
 }
