@@ -21,7 +21,7 @@ pub use pb_schema::{
 };
 pub use pb_source::{SourceCause, SourceFault, parse};
 
-// Messages: what they hold, changes, and what is at a place of one.
+// Messages: what they hold, changes, what is at a place of one, and changes there.
 pub use pb_place::{
     ChangeError, Found, PlaceStep, at, clear_at, drop_unknown_at, insert_at, is_set, key_at,
     len_at, message_at, numbers_at, push_at, remove_at, scalar_at, set_at, unknown_at,
