@@ -1,0 +1,10 @@
+-- bytes of records, cut after the first
+pub mod SplitLemmas
+-- for scalars: the payloads that values of a kind are written as, and their order as keys
+pub mod ScalarLemmas
+-- unknown records, one after another
+pub mod UnknownLemmas
+-- the records of fields: values, lists and maps
+pub mod HeldLemmas
+-- fields and messages
+pub mod FieldLemmas

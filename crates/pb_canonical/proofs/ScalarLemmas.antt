@@ -1,0 +1,239 @@
+-- The payloads that values of a kind are written as, and their order as keys.
+use Rattle.std.proofs.Common.{◌≡◌, ℕ, zero, suc, ◌%◌, ◌^◌, ◌<◌, ◌≤◌, List, [], ◌∷◌, length, refl, ap, sym, arith, inl, inr, nat_cmp, Ordering, Less, Equal, Greater}
+use Rattle.std.specs.Prelude.{ℤ, pos, negsuc, Bool, true, false, not, ◌==◌, FitsSigned, ◌<ℤ◌, cond, drop, slice_index}
+use Rattle.std.specs.Ordering.{int_cmp, bool_cmp, match_ordering}
+use Rattle.std.specs.Int.{cast_signed, cast_unsigned, w32, w64}
+use Rattle.std.specs.List.{AllByRecursion}
+use Rattle.std.proofs.lemmas.Int.{ints, to_z-of_z}
+use Rattle.std.proofs.lemmas.Bool.Decides.{nat_tests}
+use Rattle.pb_wire.specs.Zigzag.{zigzag, unzigzag}
+use Rattle.pb_wire.specs.Record.{varint, fixed64, len, fixed32}
+use Rattle.pb_wire.specs.Ranges.{IsByte}
+use Rattle.pb_schema.specs.declared.types.Kind.{Kind}
+use Rattle.pb_schema.specs.declared.types.Kind.TheVariants as kind
+use Rattle.pb_schema.specs.Types.{Types}
+use Rattle.pb_schema.specs.Scalar.{Scalar, int32, int64, uint32, uint64, boolean, float, double, enum, text, bytes, bytes_cmp, is_default}
+use Rattle.pb_schema.specs.Kinds.{written, IsOfKind}
+use Rattle.pb_canonical.specs.Parts.{is_zero, IsWritten, AreBelow, IsSmall, NumberBelow, EightBelow, FourBelow, NumberFits, EightFits, FourFits, BytesFit}
+
+-- NUMBERS
+
+low : ℕ → ℤ
+low n = cast_signed w32 (n % 2 ^ 32)
+
+low_fits : (n : ℕ) → FitsSigned w32 (cast_signed w32 (n % 2 ^ 32))
+low_fits n = grind (arith, ints)
+
+low_back : (n : ℕ) → n < 2 ^ 64 → IsSmall n → cast_unsigned w64 (cast_signed w32 (n % 2 ^ 32)) ≡ n
+low_back n r (inl h) = grind (arith, ints)
+low_back n r (inr h) = grind (arith, ints)
+
+zigzag_back : (n : ℕ) → zigzag (unzigzag n) ≡ n
+zigzag_back n = by_test (n % 2 == 0) refl
+  where
+    by_test : (b : Bool) → (n % 2 == 0) ≡ b → zigzag (unzigzag n) ≡ n
+    by_test true e = rw e (grind (arith, nat_tests, e))
+    by_test false e = rw e (grind (arith, nat_tests, e))
+
+unzigzag_fits64 : (n : ℕ) → n < 2 ^ 64 → FitsSigned w64 (unzigzag n)
+unzigzag_fits64 n r = by_test (n % 2 == 0) refl
+  where
+    by_test : (b : Bool) → (n % 2 == 0) ≡ b → FitsSigned w64 (unzigzag n)
+    by_test true e = rw e (grind (arith, ints))
+    by_test false e = rw e (grind (arith, ints))
+
+unzigzag_fits32 : (n : ℕ) → n < 2 ^ 32 → FitsSigned w32 (unzigzag n)
+unzigzag_fits32 n r = by_test (n % 2 == 0) refl
+  where
+    by_test : (b : Bool) → (n % 2 == 0) ≡ b → FitsSigned w32 (unzigzag n)
+    by_test true e = rw e (grind (arith, ints))
+    by_test false e = rw e (grind (arith, ints))
+
+signed64_fits : (n : ℕ) → n < 2 ^ 64 → FitsSigned w64 (cast_signed w64 n)
+signed64_fits n r = grind (arith, ints)
+
+signed64_back : (n : ℕ) → n < 2 ^ 64 → cast_unsigned w64 (cast_signed w64 n) ≡ n
+signed64_back n r = grind (arith, ints)
+
+signed32_fits : (n : ℕ) → n < 2 ^ 32 → FitsSigned w32 (cast_signed w32 n)
+signed32_fits n r = grind (arith, ints)
+
+signed32_back : (n : ℕ) → n < 2 ^ 32 → cast_unsigned w32 (cast_signed w32 n) ≡ n
+signed32_back n r = grind (arith, ints)
+
+bit_back : (n : ℕ) → n ≤ 1 → cond (not (n == 0)) 1 0 ≡ n
+bit_back zero h = refl
+bit_back (suc zero) h = refl
+bit_back (suc (suc n)) h = absurd (omega (arith, h))
+
+not_false : (b : Bool) → not b ≡ false → b ≡ true
+not_false true e = refl
+not_false false e = absurd (cc)
+
+pub number_written : (pool : Types) (k : Kind) (n : ℕ) → n < 2 ^ 64 → NumberFits pool k n → IsWritten pool k (varint n)
+number_written pool kind.Int64 n r h = record { value = int64 (cast_signed w64 n); within = signed64_fits n r; written = ap varint (signed64_back n r); declared = refl }
+number_written pool kind.Uint64 n r h = record { value = uint64 n; within = r; written = refl; declared = refl }
+number_written pool kind.Sint64 n r h = record { value = int64 (unzigzag n); within = unzigzag_fits64 n r; written = ap varint (zigzag_back n); declared = refl }
+number_written pool kind.Uint32 n r h = record { value = uint32 n; within = h; written = refl; declared = refl }
+number_written pool kind.Sint32 n r h = record { value = int32 (unzigzag n); within = unzigzag_fits32 n h; written = ap varint (zigzag_back n); declared = refl }
+number_written pool kind.Int32 n r h = record { value = int32 (cast_signed w32 (n % 2 ^ 32)); within = low_fits n; written = ap varint (low_back n r h); declared = refl }
+number_written pool (kind.Enum e) n r h = record { value = enum (cast_signed w32 (n % 2 ^ 32)); within = low_fits n; written = ap varint (low_back n r h); declared = refl }
+number_written pool (kind.ClosedEnum e) n r h =
+    record { value = enum (cast_signed w32 (n % 2 ^ 32)); within = low_fits n; written = ap varint (low_back n r h.0); declared = not_false _ h.1 }
+number_written pool kind.Bool n r h = record { value = boolean (not (n == 0)); within = tt; written = ap varint (bit_back n h); declared = refl }
+number_written pool k n r h = absurd h
+
+pub eight_written : (pool : Types) (k : Kind) (n : ℕ) → n < 2 ^ 64 → EightFits k → IsWritten pool k (fixed64 n)
+eight_written pool kind.Fixed64 n r h = record { value = uint64 n; within = r; written = refl; declared = refl }
+eight_written pool kind.Sfixed64 n r h = record { value = int64 (cast_signed w64 n); within = signed64_fits n r; written = ap fixed64 (signed64_back n r); declared = refl }
+eight_written pool kind.Double n r h = record { value = double n; within = r; written = refl; declared = refl }
+eight_written pool k n r h = absurd h
+
+pub four_written : (pool : Types) (k : Kind) (n : ℕ) → n < 2 ^ 32 → FourFits k → IsWritten pool k (fixed32 n)
+four_written pool kind.Fixed32 n r h = record { value = uint32 n; within = r; written = refl; declared = refl }
+four_written pool kind.Sfixed32 n r h = record { value = int32 (cast_signed w32 n); within = signed32_fits n r; written = ap fixed32 (signed32_back n r); declared = refl }
+four_written pool kind.Float n r h = record { value = float n; within = r; written = refl; declared = refl }
+four_written pool k n r h = absurd h
+
+pub bytes_written : (pool : Types) (k : Kind) (s : List ℕ) → AllByRecursion IsByte s → BytesFit k s → IsWritten pool k (len s)
+bytes_written pool kind.Text s r h = record { value = text s; within = h; written = refl; declared = refl }
+bytes_written pool kind.Bytes s r h = record { value = bytes s; within = r; written = refl; declared = refl }
+bytes_written pool k s r h = absurd h
+
+-- DEFAULTS
+
+suc_zero : (n : ℕ) → (suc n == 0) ≡ false
+suc_zero n = grind (arith, nat_tests)
+
+pub given_value : (k : Kind) (x : Scalar) → IsOfKind k x → is_zero (written k x) ≡ false → is_default x ≡ false
+given_value kind.Int32 (int32 (pos zero)) h e = absurd (cc)
+given_value kind.Int32 (int32 (pos (suc n))) h e = suc_zero n
+given_value kind.Int32 (int32 (negsuc n)) h e = refl
+given_value kind.Sint32 (int32 (pos zero)) h e = absurd (cc)
+given_value kind.Sint32 (int32 (pos (suc n))) h e = suc_zero n
+given_value kind.Sint32 (int32 (negsuc n)) h e = refl
+given_value kind.Sfixed32 (int32 (pos zero)) h e = absurd (cc)
+given_value kind.Sfixed32 (int32 (pos (suc n))) h e = suc_zero n
+given_value kind.Sfixed32 (int32 (negsuc n)) h e = refl
+given_value kind.Int64 (int64 (pos zero)) h e = absurd (cc)
+given_value kind.Int64 (int64 (pos (suc n))) h e = suc_zero n
+given_value kind.Int64 (int64 (negsuc n)) h e = refl
+given_value kind.Sint64 (int64 (pos zero)) h e = absurd (cc)
+given_value kind.Sint64 (int64 (pos (suc n))) h e = suc_zero n
+given_value kind.Sint64 (int64 (negsuc n)) h e = refl
+given_value kind.Sfixed64 (int64 (pos zero)) h e = absurd (cc)
+given_value kind.Sfixed64 (int64 (pos (suc n))) h e = suc_zero n
+given_value kind.Sfixed64 (int64 (negsuc n)) h e = refl
+given_value (kind.Enum i) (enum (pos zero)) h e = absurd (cc)
+given_value (kind.Enum i) (enum (pos (suc n))) h e = suc_zero n
+given_value (kind.Enum i) (enum (negsuc n)) h e = refl
+given_value (kind.ClosedEnum i) (enum (pos zero)) h e = absurd (cc)
+given_value (kind.ClosedEnum i) (enum (pos (suc n))) h e = suc_zero n
+given_value (kind.ClosedEnum i) (enum (negsuc n)) h e = refl
+given_value kind.Uint32 (uint32 n) h e = e
+given_value kind.Fixed32 (uint32 n) h e = e
+given_value kind.Uint64 (uint64 n) h e = e
+given_value kind.Fixed64 (uint64 n) h e = e
+given_value kind.Double (double n) h e = e
+given_value kind.Float (float n) h e = e
+given_value kind.Bool (boolean true) h e = refl
+given_value kind.Bool (boolean false) h e = absurd (cc)
+given_value kind.Text (text []) h e = absurd (cc)
+given_value kind.Text (text (x ∷ s)) h e = refl
+given_value kind.Bytes (bytes []) h e = absurd (cc)
+given_value kind.Bytes (bytes (x ∷ s)) h e = refl
+given_value k x h e = absurd h
+
+-- KEYS
+
+int_less : (x y : ℤ) → x <ℤ y → int_cmp x y ≡ Less
+int_less x y h = grind (arith, ints)
+
+nat_less : (x y : ℕ) → x < y → nat_cmp x y ≡ Less
+nat_less x y h = grind (arith, nat_tests)
+
+wide : (z : ℤ) → FitsSigned w32 z → FitsSigned w64 z
+wide z f = grind (arith, ints)
+
+below64 : (x y : ℤ) (a b : ℕ) → FitsSigned w64 x → FitsSigned w64 y → cast_unsigned w64 x ≡ a → cast_unsigned w64 y ≡ b → cast_signed w64 a <ℤ cast_signed w64 b → int_cmp x y ≡ Less
+below64 x y a b f g p q h = int_less x y (rw (to_z-of_z w64 x f, to_z-of_z w64 y g) at (rw (sym p, sym q) at h))
+
+below32 : (x y : ℤ) (a b : ℕ) → FitsSigned w32 x → FitsSigned w32 y → cast_unsigned w32 x ≡ a → cast_unsigned w32 y ≡ b → cast_signed w32 a <ℤ cast_signed w32 b → int_cmp x y ≡ Less
+below32 x y a b f g p q h = int_less x y (rw (to_z-of_z w32 x f, to_z-of_z w32 y g) at (rw (sym p, sym q) at h))
+
+unzigzag-zigzag : (z : ℤ) → unzigzag (zigzag z) ≡ z
+unzigzag-zigzag (pos n) = grind (arith, nat_tests)
+unzigzag-zigzag (negsuc n) = grind (arith, nat_tests)
+
+turned_below : (x y : ℤ) (a b : ℕ) → zigzag x ≡ a → zigzag y ≡ b → unzigzag a <ℤ unzigzag b → int_cmp x y ≡ Less
+turned_below x y a b p q h = int_less x y (rw (unzigzag-zigzag x, unzigzag-zigzag y) at (rw (sym p, sym q) at h))
+
+bool_less : (x y : Bool) (a b : ℕ) → cond x 1 0 ≡ a → cond y 1 0 ≡ b → a < b → bool_cmp x y ≡ Less
+bool_less false true a b p q h = refl
+bool_less false false a b p q h = absurd (omega (arith, p, q, h))
+bool_less true true a b p q h = absurd (omega (arith, p, q, h))
+bool_less true false a b p q h = absurd (omega (arith, p, q, h))
+
+pub number_below : (k : Kind) (a b : ℕ) → NumberBelow k a b → AreBelow k (varint a) (varint b)
+number_below kind.Int32 a b h (int32 x) (int32 y) f g e i = below64 x y a b (wide x f) (wide y g) (cc) (cc) h
+number_below kind.Int64 a b h (int64 x) (int64 y) f g e i = below64 x y a b f g (cc) (cc) h
+number_below kind.Sint32 a b h (int32 x) (int32 y) f g e i = turned_below x y a b (cc) (cc) h
+number_below kind.Sint64 a b h (int64 x) (int64 y) f g e i = turned_below x y a b (cc) (cc) h
+number_below kind.Uint32 a b h (uint32 x) (uint32 y) f g e i = let p : x ≡ a = cc in let q : y ≡ b = cc in nat_less x y (rw (p, q) h)
+number_below kind.Uint64 a b h (uint64 x) (uint64 y) f g e i = let p : x ≡ a = cc in let q : y ≡ b = cc in nat_less x y (rw (p, q) h)
+number_below kind.Bool a b h (boolean x) (boolean y) f g e i = bool_less x y a b (cc) (cc) h
+number_below kind.Int32 a b h (int32 x) y f g e i = absurd g
+number_below kind.Int32 a b h x y f g e i = absurd f
+number_below kind.Int64 a b h (int64 x) y f g e i = absurd g
+number_below kind.Int64 a b h x y f g e i = absurd f
+number_below kind.Sint32 a b h (int32 x) y f g e i = absurd g
+number_below kind.Sint32 a b h x y f g e i = absurd f
+number_below kind.Sint64 a b h (int64 x) y f g e i = absurd g
+number_below kind.Sint64 a b h x y f g e i = absurd f
+number_below kind.Uint32 a b h (uint32 x) y f g e i = absurd g
+number_below kind.Uint32 a b h x y f g e i = absurd f
+number_below kind.Uint64 a b h (uint64 x) y f g e i = absurd g
+number_below kind.Uint64 a b h x y f g e i = absurd f
+number_below kind.Bool a b h (boolean x) y f g e i = absurd g
+number_below kind.Bool a b h x y f g e i = absurd f
+number_below k a b h x y f g e i = absurd h
+
+pub eight_below : (k : Kind) (a b : ℕ) → EightBelow k a b → AreBelow k (fixed64 a) (fixed64 b)
+eight_below kind.Sfixed64 a b h (int64 x) (int64 y) f g e i = below64 x y a b f g (cc) (cc) h
+eight_below kind.Fixed64 a b h (uint64 x) (uint64 y) f g e i = let p : x ≡ a = cc in let q : y ≡ b = cc in nat_less x y (rw (p, q) h)
+eight_below kind.Sfixed64 a b h (int64 x) y f g e i = absurd g
+eight_below kind.Sfixed64 a b h x y f g e i = absurd f
+eight_below kind.Fixed64 a b h (uint64 x) y f g e i = absurd g
+eight_below kind.Fixed64 a b h x y f g e i = absurd f
+eight_below k a b h x y f g e i = absurd h
+
+pub four_below : (k : Kind) (a b : ℕ) → FourBelow k a b → AreBelow k (fixed32 a) (fixed32 b)
+four_below kind.Sfixed32 a b h (int32 x) (int32 y) f g e i = below32 x y a b f g (cc) (cc) h
+four_below kind.Fixed32 a b h (uint32 x) (uint32 y) f g e i = let p : x ≡ a = cc in let q : y ≡ b = cc in nat_less x y (rw (p, q) h)
+four_below kind.Sfixed32 a b h (int32 x) y f g e i = absurd g
+four_below kind.Sfixed32 a b h x y f g e i = absurd f
+four_below kind.Fixed32 a b h (uint32 x) y f g e i = absurd g
+four_below kind.Fixed32 a b h x y f g e i = absurd f
+four_below k a b h x y f g e i = absurd h
+
+pub string_below : (s t : List ℕ) → bytes_cmp s t ≡ Less → AreBelow kind.Text (len s) (len t)
+string_below s t h (text x) (text y) f g e i = let p : x ≡ s = cc in let q : y ≡ t = cc in rw (p, q) h
+string_below s t h (text x) y f g e i = absurd g
+string_below s t h x y f g e i = absurd f
+
+-- two strings of which the first bytes are equal, or not
+pub bytes_step : (xs ys : List ℕ) → 0 < length xs → 0 < length ys → slice_index xs 0 ≡ slice_index ys 0 → bytes_cmp (drop 1 xs) (drop 1 ys) ≡ bytes_cmp xs ys
+bytes_step [] ys a b e = absurd (omega (arith, a))
+bytes_step (x ∷ xs) [] a b e = absurd (omega (arith, b))
+bytes_step (x ∷ xs) (y ∷ ys) a b e =
+    let same : nat_cmp x y ≡ Equal = grind (arith, nat_tests) in sym (ap (λ (o : Ordering). match_ordering o Less (bytes_cmp xs ys) Greater) same)
+
+pub bytes_less : (xs ys : List ℕ) → 0 < length xs → 0 < length ys → slice_index xs 0 < slice_index ys 0 → bytes_cmp xs ys ≡ Less
+bytes_less [] ys a b e = absurd (omega (arith, a))
+bytes_less (x ∷ xs) [] a b e = absurd (omega (arith, b))
+bytes_less (x ∷ xs) (y ∷ ys) a b e = ap (λ (o : Ordering). match_ordering o Less (bytes_cmp xs ys) Greater) (nat_less x y e)
+
+pub bytes_shorter : (xs ys : List ℕ) → length xs ≡ 0 → 0 < length ys → bytes_cmp xs ys ≡ Less
+bytes_shorter [] [] a b = absurd (omega (arith, b))
+bytes_shorter [] (y ∷ ys) a b = refl
+bytes_shorter (x ∷ xs) ys a b = absurd (omega (arith, a))

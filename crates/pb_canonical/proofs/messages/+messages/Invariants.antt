@@ -1,0 +1,55 @@
+use Rattle.std.proofs.Common.{ℕ, List, length, ◌+◌, ◌*◌}
+use Rattle.pb_schema.specs.PayloadView.{payload_view}
+use Rattle.pb_schema.specs.View.{field_view}
+use Rattle.pb_canonical.specs.Parts.{tagged, FieldsFirst, EachFirst, SomeEach, MoreFirst, SomeEntries}
+use Rattle.pb_canonical.proofs.messages.+messages.Given as goal
+
+abbrev pub decreases-message_first : goal.decreases-message_first
+decreases-message_first l = 8 * l.levels + 7
+
+abbrev pub decreases-fields_first : goal.decreases-fields_first
+decreases-fields_first l = 8 * l.levels + 6
+
+abbrev pub decreases-field_first : goal.decreases-field_first
+decreases-field_first l = 8 * l.levels + 5
+
+abbrev pub decreases-list_first : goal.decreases-list_first
+decreases-list_first l = 8 * l.levels + 4
+
+abbrev pub decreases-map_first : goal.decreases-map_first
+decreases-map_first l = 8 * l.levels + 4
+
+abbrev pub decreases-entry_first : goal.decreases-entry_first
+decreases-entry_first l = 8 * l.levels + 3
+
+abbrev pub decreases-value_first : goal.decreases-value_first
+decreases-value_first l = 8 * l.levels + 2
+
+abbrev pub decreases-inner_first : goal.decreases-inner_first
+decreases-inner_first l = 8 * l.levels
+
+abbrev pub decreases-group_first : goal.decreases-group_first
+decreases-group_first l = 8 * l.levels
+
+-- fields of what is left, which may follow those met, make the whole with them
+abbrev pub invariant-fields_first-fields : goal.invariant-fields_first-fields
+invariant-fields_first-fields l =
+    (end : List ℕ) → FieldsFirst l.pool l.message_type.0 l.met.next l.met.oneofs l.levels l.rest end → FieldsFirst l.pool l.message_type.0 0 0 l.levels l.bytes end
+
+abbrev pub decreases-fields_first-fields : goal.decreases-fields_first-fields
+decreases-fields_first-fields l = length l.rest
+
+abbrev pub invariant-list_first-values : goal.invariant-list_first-values
+invariant-list_first-values l =
+    (end : List ℕ) → EachFirst l.pool (field_view l.field) l.levels l.rest end → SomeEach l.pool (field_view l.field) l.levels (tagged l.tag.number l.tag.wire_type l.bytes) end
+
+abbrev pub decreases-list_first-values : goal.decreases-list_first-values
+decreases-list_first-values l = length l.rest
+
+abbrev pub invariant-map_first-entries : goal.invariant-map_first-entries
+invariant-map_first-entries l =
+    (end : List ℕ) → MoreFirst l.pool (field_view l.field) l.levels (payload_view l.last) l.rest end
+    → SomeEntries l.pool (field_view l.field) l.levels (tagged l.tag.number l.tag.wire_type l.bytes) end
+
+abbrev pub decreases-map_first-entries : goal.decreases-map_first-entries
+decreases-map_first-entries l = length l.rest

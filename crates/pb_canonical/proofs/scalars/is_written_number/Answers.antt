@@ -1,0 +1,5 @@
+use Rattle.pb_canonical.proofs.ScalarLemmas.{number_written}
+use Rattle.pb_canonical.proofs.scalars.is_written_number.Goals as goal
+
+pub returns : goal.returns
+returns c = λ e. number_written c.args.pool.now c.args.kind c.args.number c.ranges.number.fits (c.is_number.ensures e)
