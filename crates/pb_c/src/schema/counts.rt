@@ -3,7 +3,7 @@
 ghost use Rattle.std.specs.Prelude.{◌≡◌, ◌≢◌, ◌↔◌, ◌⊎◌, None, Some};
 ghost use Rattle.pb_schema.specs.Types.{Types};
 ghost use Rattle.pb_c.specs.Held.{types_held};
-ghost use Rattle.pb_c.specs.Schema.{pool_counts};
+ghost use Rattle.pb_c.specs.PoolParts.{pool_counts};
 
 use crate::handle::{PoolHandle, put, take};
 use crate::told::{DONE, EMPTY};

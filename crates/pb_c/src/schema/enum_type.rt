@@ -4,7 +4,7 @@ ghost use Rattle.std.specs.Prelude.{◌≡◌, ◌≢◌, ◌<◌, ◌≤◌, �
 ghost use Rattle.pb_schema.specs.Types.{Types};
 ghost use Rattle.pb_schema.specs.View.{enum_view};
 ghost use Rattle.pb_c.specs.Held.{types_held};
-ghost use Rattle.pb_c.specs.Schema.{IsEnumAt, IsValueAt, enum_report, value_at};
+ghost use Rattle.pb_c.specs.PoolParts.{IsEnumAt, IsValueAt, enum_report, value_at};
 
 use crate::handle::{PoolHandle, put, take};
 use crate::told::{ABSENT, DONE, EMPTY, NO_TYPE};

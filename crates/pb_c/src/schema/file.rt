@@ -4,7 +4,7 @@ ghost use Rattle.std.specs.Prelude.{◌≡◌, ◌≢◌, ◌↔◌, ◌⊎◌, 
 ghost use Rattle.pb_schema.specs.Types.{Types};
 ghost use Rattle.pb_schema.specs.View.{file_view};
 ghost use Rattle.pb_c.specs.Held.{types_held};
-ghost use Rattle.pb_c.specs.Schema.{IsFileAt, file_report};
+ghost use Rattle.pb_c.specs.PoolParts.{IsFileAt, file_report};
 
 use crate::handle::{PoolHandle, put, take};
 use crate::pool::refusal::lay_both;

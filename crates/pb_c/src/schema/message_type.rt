@@ -4,7 +4,7 @@ ghost use Rattle.std.specs.Prelude.{◌≡◌, ◌≢◌, ◌<◌, ◌≤◌, �
 ghost use Rattle.pb_schema.specs.Types.{Types};
 ghost use Rattle.pb_schema.specs.View.{field_view, message_view};
 ghost use Rattle.pb_c.specs.Held.{types_held};
-ghost use Rattle.pb_c.specs.Schema.{IsFieldAt, IsOneofAt, IsTypeAt, field_at, oneof_at, shape_detail, type_report};
+ghost use Rattle.pb_c.specs.PoolParts.{IsFieldAt, IsOneofAt, IsTypeAt, field_at, oneof_at, shape_detail, type_report};
 ghost use Rattle.pb_c.specs.Typed.{HasType, LacksType};
 
 use crate::handle::{PoolHandle, put, take};
