@@ -138,9 +138,9 @@ static const struct { const char *name; uint32_t (*call)(void); } calls[] = {
     {"mb_message_decode of turned maps, mb_message_show and mb_message_free", show_held}, {"mb_pool_field", find_field},
     {"mb_message_decode of turned maps, mb_message_get and mb_message_free", get_held},
     {"mb_message_decode of turned maps, mb_message_fields and mb_message_free", fields_held},
-    {"mb_message_decode of turned maps, mb_message_key and mb_message_free", key_held}, {"mb_find", find_nested},
-    {"mb_pool_counts", counts_of}, {"mb_pool_message", type_at}, {"mb_pool_field_at", field_at}, {"mb_pool_oneof", no_oneof},
-    {"mb_pool_enum", no_enum}, {"mb_pool_enum_value", no_value}, {"mb_pool_file", file_at},
+    {"mb_message_decode of turned maps, mb_message_key and mb_message_free", key_held}, {"mb_find of no scalar", find_nested},
+    {"mb_pool_counts", counts_of}, {"mb_pool_message", type_at}, {"mb_pool_field_at", field_at}, {"mb_pool_oneof of no oneof", no_oneof},
+    {"mb_pool_enum of no enum", no_enum}, {"mb_pool_enum_value of no enum", no_value}, {"mb_pool_file", file_at},
 };
 
 /* Puts bytes before others. */
