@@ -121,8 +121,7 @@ static uint32_t message_no_key(struct told *told) { return mb_message_key(&held,
 static uint32_t find_address(struct told *told) { return mb_find(&pool, type, message.at, message.len, LIMITS, ADDRESS); }
 static uint32_t find_address_cut(struct told *told) { return mb_find(&pool, type, message.at, message.len - 1, LIMITS, ADDRESS); }
 
-/* (the last of the words: what it asks for is in the shop's order alone) */
-static const struct { const char *name; uint32_t (*call)(struct told *told); uint32_t answer; bool of_shop; } calls[] = {
+static const struct { const char *name; uint32_t (*call)(struct told *told); uint32_t answer; } calls[] = {
     {"mb_raw_check", raw_check, MB_DONE}, {"mb_raw_check of a cut message", raw_check_cut, MB_FAULT},
     {"mb_raw_short", raw_short, MB_DONE}, {"mb_raw_short of a cut message", raw_short_cut, MB_FAULT},
     {"mb_pool_link", link, MB_DONE}, {"mb_pool_link of a cut set", link_cut, MB_FAULT},
@@ -139,11 +138,12 @@ static const struct { const char *name; uint32_t (*call)(struct told *told); uin
     {"mb_message_decode", message_decode, MB_DONE}, {"mb_message_decode of a cut message", message_decode_cut, MB_FAULT},
     {"mb_message_encode", message_encode, MB_DONE}, {"mb_message_encoded_length", message_length, MB_DONE},
     {"mb_message_show", message_show, MB_DONE},
-    {"mb_message_get", message_get, MB_DONE, true}, {"mb_message_get of no place", message_get_bad, MB_BAD_PLACE, true},
-    {"mb_message_read", message_read, MB_DONE, true}, {"mb_message_fields", message_fields, MB_DONE, true},
-    {"mb_message_key", message_key, MB_DONE, true}, {"mb_message_key of no key", message_no_key, MB_ABSENT, true},
-    {"mb_find", find_address, MB_DONE, true}, {"mb_find in a cut message", find_address_cut, MB_FAULT, true},
+    {"mb_message_get", message_get, MB_DONE}, {"mb_message_get of no place", message_get_bad, MB_BAD_PLACE},
+    {"mb_message_read", message_read, MB_DONE}, {"mb_message_fields", message_fields, MB_DONE},
+    {"mb_message_key", message_key, MB_DONE}, {"mb_message_key of no key", message_no_key, MB_ABSENT},
+    {"mb_find", find_address, MB_DONE}, {"mb_find in a cut message", find_address_cut, MB_FAULT},
 };
+#define OF_SHOP 8
 
 static struct mb_bytes read_file(const char *path)
 {
@@ -181,11 +181,11 @@ int main(int argc, char **argv)
         mb_pool_type(&pool, name.at, name.len, &type) != MB_DONE ||
         mb_message_decode(&pool, type, message.at, message.len, LIMITS, &held, &told.fault, told.path, 0) != MB_DONE)
         return 2;
-    for (size_t i = 0; i < sizeof calls / sizeof *calls; i++) {
+    /* The last ones read what the shop's order alone has. */
+    size_t count = sizeof calls / sizeof *calls - (strcmp(argv[2], "shop.Order") == 0 ? 0 : OF_SHOP);
+    for (size_t i = 0; i < count; i++) {
         long before = live, number = -1;
         uint32_t answer;
-        if (calls[i].of_shop && strcmp(argv[2], "shop.Order") != 0)
-            continue;
         do {
             told = blank;
             asked = 0;
