@@ -3,13 +3,14 @@ _pbtool() {
     local current=${COMP_WORDS[COMP_CWORD]} before=${COMP_WORDS[COMP_CWORD - 1]} command=${COMP_WORDS[1]} words=() flags names at
     COMPREPLY=()
     if [ "$COMP_CWORD" -eq 1 ]; then
-        COMPREPLY=($(compgen -W "raw check show canon frames types compile --help --version -h -V" -- "$current"))
+        COMPREPLY=($(compgen -W "raw check show canon json frames types compile --help --version -h -V" -- "$current"))
         return
     fi
     case $command in
         raw) flags="--short --help -h" ;;
         check | show | frames | types) flags="--lenient --help -h" ;;
         canon) flags="--out --lenient --help -h" ;;
+        json) flags="--pretty --lenient --help -h" ;;
         compile) flags="-I --help -h" ;;
         *) return ;;
     esac
@@ -38,7 +39,7 @@ _pbtool() {
         esac
     done
     case $command,${#words[@]} in
-        check,1 | show,1 | canon,1 | frames,1)
+        check,1 | show,1 | canon,1 | json,1 | frames,1)
             names=$("${COMP_WORDS[0]}" types --lenient "${words[0]}" 2>/dev/null | awk '$1 == "message" { print $2 }')
             COMPREPLY=($(compgen -W "$names" -- "$current"))
             ;;
