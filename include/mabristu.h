@@ -1,7 +1,7 @@
 /* Mabristu for C: Protocol Buffers bytes checked, rewritten and shown by proved code, by types that are known only at run time.
  *
  * Link a pool of types once, from a descriptor set or from sources, and find the number of a type by its name. Then check, rewrite or show as many
- * messages of it as there are. Free the pool. Names and texts are bytes with a length, and no zero byte ends them. docs/C.md has it in examples.
+ * messages of it as there are. Free the pool. Names and sources are bytes with a length, and no zero byte ends them. docs/C.md has it in examples.
  *
  * What a caller owes, and nothing checks:
  * - A pointer and the length after it describe one stretch of memory. It may be read, and written where it is not const, during the whole call.
@@ -40,11 +40,11 @@ enum {
     MB_BAD_LIMITS = 1,  /* a limit is above the greatest */
     MB_NO_TYPE = 2,     /* the pool has no message type of that name or number */
     MB_EMPTY = 3,       /* the handle holds nothing: nothing was linked into it, linking was refused, or it was freed */
-    MB_BAD_NAME = 4,    /* the name of a source is not UTF-8, or there are not as many names as texts */
+    MB_BAD_NAME = 4,    /* the name of a source is not UTF-8, or there are not as many names as sources */
     MB_PART = 5,        /* the bytes end before their frame does: come again with more */
     MB_ABSENT = 6,      /* the type has no such field; the message has nothing at the place, or nothing that is asked for there */
     MB_BAD_PLACE = 7,   /* the steps say no place */
-    MB_FAULT = 13,      /* the bytes have a fault, which is told */
+    MB_FAULT = 13,      /* the bytes have a fault, which is reported */
     MB_MEMORY = 14,     /* memory ran out: the same call may be made again */
     MB_TOO_LARGE = 31   /* what would be written has more than MB_MAX_BYTES bytes */
 };
@@ -69,7 +69,7 @@ struct mb_fault {
     uint32_t cause;  /* why */
 };
 
-/* A step of a path, outermost first: a record, by its number and by how many whole records of that number stand before it in what holds it. */
+/* A step of a path, outermost first: a record, by its number and by how many whole records of that number come before it in its parent. */
 struct mb_step {
     uint32_t number;
     uint32_t before;
@@ -77,12 +77,12 @@ struct mb_step {
 
 /* ---- Without a schema ---- */
 
-/* Checks bytes as records. For MB_FAULT the fault is told, and as many steps of its path as the buffer holds. */
+/* Checks bytes as records. For MB_FAULT the fault is reported, and as many steps of its path as the buffer holds. */
 uint32_t mb_raw_check(const uint8_t *bytes, size_t bytes_len, uint32_t max_bytes, uint8_t max_depth,
                       struct mb_fault *fault, struct mb_step *path, size_t path_len);
 
-/* Writes the shortest spelling of the records that the bytes are. For MB_DONE its length is told, and as much of it is written as the buffer
- * holds: where the length told is above out_len, call again with that much room. */
+/* Writes the shortest encoding of the records that the bytes encode. For MB_DONE its length is reported, and as much of it is written as the buffer
+ * holds: where that length is above out_len, call again with a buffer of that size. */
 uint32_t mb_raw_short(const uint8_t *bytes, size_t bytes_len, uint32_t max_bytes, uint8_t max_depth,
                       uint8_t *out, size_t out_len, size_t *size,
                       struct mb_fault *fault, struct mb_step *path, size_t path_len);
@@ -95,17 +95,17 @@ struct mb_pool {
     bool full;
 };
 
-/* Where declarations are refused. What says nothing of this answer is 0. */
+/* Where declarations are refused. Fields that do not belong to the answer are 0. */
 struct mb_refusal {
     size_t file;      /* the index of the file in the set, or of the source */
     uint64_t byte;    /* of a source: where */
-    size_t file_len;  /* of linking: the length of the file's name, which begins what is told as text */
+    size_t file_len;  /* of linking: the length of the file's name, with which the text begins */
     size_t name_len;  /* of linking: the length of the declaration's full name, which follows it there */
 };
 
 /* Links the types of a descriptor set, as `protoc --include_imports --descriptor_set_out` or `pbtool compile` writes one, into a handle, in place of
- * what it held. Where the answer is another than MB_DONE the handle holds nothing. For MB_FAULT (the bytes are no set) the fault is told, for 52 to
- * 60 (a file of the set) and for 71 to 89 (linking) the refusal, with as much of its text as the buffer holds. */
+ * what it held. Where the answer is another than MB_DONE the handle holds nothing. For MB_FAULT (the bytes are no set) the fault is reported, for 52 to
+ * 60 (a file of the set) and for 71 to 89 (linking) the refusal, with as much of its text as the buffer holds: the two names. */
 uint32_t mb_pool_link(const uint8_t *set, size_t set_len, struct mb_pool *pool,
                       struct mb_fault *fault, struct mb_step *path, size_t path_len,
                       struct mb_refusal *refusal, uint8_t *text, size_t text_len);
@@ -117,15 +117,15 @@ uint32_t mb_pool_link_lenient(const uint8_t *set, size_t set_len, struct mb_pool
                               struct mb_fault *fault, struct mb_step *path, size_t path_len,
                               struct mb_refusal *refusal, uint8_t *text, size_t text_len);
 
-/* A text of the caller's. */
+/* Bytes of the caller's: a name, a source or a string. */
 struct mb_bytes {
     const uint8_t *at;
     size_t len;
 };
 
-/* Links the types of sources of proto3, each given by its name (as imports name it) and its text, the name first in one list where the text is first
- * in the other. What a source imports has to be among them, google/protobuf/timestamp.proto too. As mb_pool_link, but that for 50 and 61 to 69 (a
- * source) the refusal tells the source's index and the byte. */
+/* Links the types of sources of proto3. The name of each (as imports name it) is in one list, and the source itself at the same index of the other. What
+ * a source imports has to be among them, google/protobuf/timestamp.proto too. As mb_pool_link, but that for 50 and 61 to 69 (a source) the refusal has
+ * the source's index and the byte. */
 uint32_t mb_pool_compile(const struct mb_bytes *names, size_t names_len, const struct mb_bytes *texts, size_t texts_len, struct mb_pool *pool,
                          struct mb_refusal *refusal, uint8_t *text, size_t text_len);
 
@@ -136,7 +136,7 @@ uint32_t mb_pool_share(struct mb_pool *pool, struct mb_pool *other);
 /* Frees what a handle holds. One that holds nothing stays as it is. */
 void mb_pool_free(struct mb_pool *pool);
 
-/* Tells the number of a message type by its full name, as in shop.Order. It is the number of that type in each handle that shares the pool, and says
+/* Reports the number of a message type by its full name, as in shop.Order. It is the number of that type in each handle that shares the pool, and says
  * nothing of other pools. */
 uint32_t mb_pool_type(struct mb_pool *pool, const uint8_t *name, size_t name_len, uint32_t *type);
 
@@ -247,7 +247,7 @@ uint32_t mb_find(struct mb_pool *pool, uint32_t type, const uint8_t *bytes, size
                  const uint32_t *numbers, size_t numbers_len, struct mb_value *value, uint8_t *out, size_t out_len,
                  struct mb_fault *fault, struct mb_step *path, size_t path_len);
 
-/* Writes the canonical bytes of the message, as mb_raw_short writes its spelling. */
+/* Writes the canonical bytes of the message, as mb_raw_short writes its encoding. */
 uint32_t mb_canon(struct mb_pool *pool, uint32_t type, const uint8_t *bytes, size_t bytes_len, uint32_t max_bytes, uint8_t max_depth,
                   uint8_t *out, size_t out_len, size_t *size,
                   struct mb_fault *fault, struct mb_step *path, size_t path_len);
@@ -257,13 +257,13 @@ uint32_t mb_show(struct mb_pool *pool, uint32_t type, const uint8_t *bytes, size
                  uint8_t *out, size_t out_len, size_t *size,
                  struct mb_fault *fault, struct mb_step *path, size_t path_len);
 
-/* A frame: a message behind its length. */
+/* A frame: a message after its length. */
 struct mb_frame {
     size_t begin;  /* where the message begins */
-    size_t end;    /* where it ends: so many bytes were taken */
+    size_t end;    /* where it ends: how many bytes the frame has */
 };
 
-/* Checks the frame that the bytes begin with, a message of the type behind its length. For MB_DONE it is told where the message stands. MB_PART:
+/* Checks the frame that the bytes begin with, a message of the type after its length. For MB_DONE it is reported where the message is. MB_PART:
  * more bytes are needed. A fault's byte counts from the first byte of the length. */
 uint32_t mb_frames(struct mb_pool *pool, uint32_t type, const uint8_t *bytes, size_t bytes_len, uint32_t max_bytes, uint8_t max_depth,
                    struct mb_frame *frame, struct mb_fault *fault, struct mb_step *path, size_t path_len);
