@@ -1,6 +1,6 @@
--- Why files of a set are not read: every cause that a set shows, in the order in which they are told, which is by file, then by declaration,
+-- Why files of a set are not read: every cause that a set shows, in the order in which they are reported, which is by file, then by declaration,
 -- then by number. A file comes before what it declares; a message before its fields, these before its oneofs, its nested messages and its enums;
--- enums come behind messages and services behind enums, and each before its values or methods.
+-- enums come after messages and services after enums, and each before its values or methods.
 use Rattle.std.specs.Prelude.{◌≡◌, ℕ, ℤ, pos, ◌+◌, List, [], ◌∷◌, ◌++◌, codes, length, map, flat_map, Bool, true, false, not}
 use Rattle.std.specs.Prelude.{◌==◌, ◌&&◌, ◌||◌, Option, Some, None, is_some, is_none, slice_get, Result, MatchResult}
 use Rattle.std.specs.Option.{option_map_or}
@@ -38,7 +38,7 @@ is_group code = option_map_or (λ z. int_eq z (pos 10)) code false
 abbrev pub type_causes : Fields → List DeclCause
 type_causes fs = when (not (is_label (label_at fs))) cause.BadLabel ++ when (has_bad_type (int_at 5 fs) (text_at 6 fs)) cause.BadTypeNumber
 
--- what only proto2 has; of that groups stand in its files
+-- what only proto2 has; of these, groups are read in files of proto2
 abbrev pub proto2_causes : Bool → Fields → List DeclCause
 proto2_causes two fs =
     when (is_some (text_at 2 fs)) cause.Extension ++ when (int_eq (label_at fs) (pos 2)) cause.Required ++ when (not two && is_group (int_at 5 fs)) cause.Group
@@ -56,7 +56,7 @@ named_causes d = name_causes (fields_in d)
 abbrev pub listed_causes : Datum → List DeclCause
 listed_causes d = named_causes d ++ flat_map named_causes (data_at 2 (fields_in d))
 
--- something stands in a list
+-- a field has an element
 abbrev pub has_any : ℕ → Fields → Bool
 has_any n fs = not (length (data_at n fs) == 0)
 
@@ -117,6 +117,6 @@ causes_from i (d ∷ ds) = map (λ c. (i, c)) (file_causes d) ++ causes_from (i 
 abbrev pub set_causes : Message → List (ℕ × DeclCause)
 set_causes m = causes_from 0 (data_at 1 (fields_of m))
 
--- an answer tells the first cause, or that there is none
+-- an answer gives the first cause, or says that there is none
 abbrev pub Judges : {T : Type 0} → Result T DeclCause → List DeclCause → Type 0
 Judges r cs = MatchResult r (λ _. cs ≡ []) (λ c. slice_get cs 0 ≡ Some c)

@@ -1,4 +1,4 @@
--- What the rows of the table of the fixed pool stand for.
+-- The fields and messages that the rows of the fixed pool's table describe.
 use Rattle.std.specs.Prelude.{ℕ, List, [], Option, map}
 use Rattle.std.specs.Borrow.{Bor}
 use Rattle.pb_schema.specs.declared.types.Kind.{Kind}

@@ -1,4 +1,4 @@
--- The declarations that a descriptor set's message stands for (descriptor.proto).
+-- The declarations in a descriptor set's message (descriptor.proto).
 use Rattle.std.specs.Prelude.{ℕ, zero, suc, ℤ, pos, negsuc, List, [], ◌∷◌, codes, length, map, Bool}
 use Rattle.std.specs.Prelude.{◌==◌, ◌||◌, Option, None, unwrap_or, option_and_then, slice_get}
 use Rattle.std.specs.Ordering.{int_eq, nat_cmp, match_ordering}
@@ -97,7 +97,7 @@ service_in d = record { name = name_at 1 (fields_in d); methods = map method_in 
 abbrev pub is_proto2 : Fields → Bool
 is_proto2 fs = (length (name_at 12 fs) == 0) || bytes_eq (codes "proto2") (name_at 12 fs)
 
--- the declaration that a file's message stands for
+-- the declaration in a file's message
 abbrev pub file_in : Datum → DeclaredFile
 file_in d =
     let fs : Fields = fields_in d in

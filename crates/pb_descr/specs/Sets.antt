@@ -38,51 +38,51 @@ pub record IsSetOf (limits : Bounds) (b : List ℕ) (files : List DeclaredFile) 
   pub silent : set_causes set ≡ []
   pub declared : files ≡ files_in set
 
--- the files of a set come behind those before
+-- the files of a set are appended to the earlier ones
 abbrev pub AddsSet : List ℕ → List DeclaredFile → List DeclaredFile → Type 0
 AddsSet b old new = (files : List DeclaredFile) × IsSetOf full b files × (new ≡ old ++ files)
 
--- what is told of bytes that are no set of declared files: their fault, or the index of a file and its first cause
+-- what is reported of bytes that are not a set of declared files: their fault, or the index of a file and its first cause
 pub data SetFault : Type 0 where
   of_bytes : Fault → SetFault
   of_file : ℕ → DeclCause → SetFault
 
--- bytes are no text of a set's message and have this fault, or are that of one whose first cause this is
+-- bytes do not encode a set's message and have this fault, or encode one whose first cause this is
 abbrev pub HasSetFault : Bounds → List ℕ → SetFault → Type 0
 HasSetFault limits b (SetFault.of_bytes f) = HasFault (schema_of descriptor_types) (a_message the_set) limits b f
 HasSetFault limits b (SetFault.of_file i c) = (set : Message) × IsSetText limits b set × (slice_get (set_causes set) 0 ≡ Some (i, c))
 
--- bytes are not the text of a set, or are that of one whose first cause is told, or there is no memory
+-- bytes do not encode a set, or encode one whose first cause is reported, or memory ran out
 abbrev pub IsUnread : Bounds → List ℕ → DescrError → Type 0
 IsUnread limits b (descr.Fault byte path cause) = HasFault (schema_of descriptor_types) (a_message the_set) limits b (fault byte path.items cause)
 IsUnread limits b (descr.Decl file cause) = (set : Message) × IsSetText limits b set × (slice_get (set_causes set) 0 ≡ Some (file, cause))
 IsUnread limits b descr.Memory = ⊤
 
--- a set's message is refused for its first cause, or for want of memory
+-- a set's message is refused for its first cause, or memory ran out
 abbrev pub IsRefusedSet : Message → DescrError → Type 0
 IsRefusedSet set (descr.Fault byte path cause) = ⊥
 IsRefusedSet set (descr.Decl file cause) = slice_get (set_causes set) 0 ≡ Some (file, cause)
 IsRefusedSet set descr.Memory = ⊤
 
--- an error tells this fault, or want of memory
+-- an error reports this fault, or that memory ran out
 abbrev pub TellsFault : Fault → DescrError → Type 0
 TellsFault f (descr.Fault byte path cause) = fault byte path.items cause ≡ f
 TellsFault f (descr.Decl file cause) = ⊥
 TellsFault f descr.Memory = ⊤
 
--- an error tells this cause of this file, or want of memory
+-- an error reports this cause of this file, or that memory ran out
 abbrev pub TellsCause : ℕ → DeclCause → DescrError → Type 0
 TellsCause i c (descr.Fault byte path cause) = ⊥
 TellsCause i c (descr.Decl file cause) = (file ≡ i) × (cause ≡ c)
 TellsCause i c descr.Memory = ⊤
 
--- the set of some files nests too deep, or its bytes are too many, or there is no memory
+-- the set of some files nests too deep, or has too many bytes, or memory ran out
 abbrev pub IsUnwritten : List DeclaredFile → WriteSetError → Type 0
 IsUnwritten files TooDeep = 100 < message_depth (set_body files)
 IsUnwritten files TooLarge = (message_depth (set_body files) ≤ 100) × (2 ^ 31 ≤ length (set_bytes files))
 IsUnwritten files Memory = ⊤
 
--- something that takes so many levels is not written where there is room for fewer, or for want of memory
+-- something that takes `levels` levels is not written where only `room` are left, or memory ran out
 abbrev pub CutAt : ℕ → ℕ → WriteSetError → Type 0
 CutAt room levels TooDeep = room < levels
 CutAt room levels TooLarge = ⊥

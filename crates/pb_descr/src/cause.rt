@@ -28,7 +28,7 @@ pub enum DeclCause {
 }
 
 impl DeclCause {
-    /// The cause's number, from 52 to 60; 59 is want of memory.
+    /// The cause's number, from 52 to 60; 59 is out of memory.
     pub fn number(self) -> u8
         ensures { result ≡ number_of self }
     {

@@ -29,7 +29,7 @@ pub enum DescrError {
 }
 
 impl DescrError {
-    /// The error's number: 51 for a fault of the bytes, the number of a declaration's cause, and 59 for want of memory.
+    /// The error's number: 51 for a fault of the bytes, the number of a declaration's cause, and 59 for out of memory.
     pub fn number(&self) -> u8
         ensures { result ≡ descr_number self.now }
     {
@@ -64,7 +64,7 @@ impl<T: Drop> From<AllocFailed<T>> for DescrError {
 /// Why a set is not written.
 #[derive(Clone, Copy, Debug, PartialEq, Eq, Error)]
 pub enum WriteSetError {
-    /// More than 100 levels stand below the set.
+    /// The set nests more than 100 levels below itself.
     #[error("the set nests more than 100 levels deep")]
     TooDeep,
     /// The set's bytes would be more than 2^31 - 1.
@@ -75,7 +75,7 @@ pub enum WriteSetError {
 }
 
 impl WriteSetError {
-    /// The error's number: 27 for a set that is too deep, 31 for one that is too large and 32 for want of memory.
+    /// The error's number: 27 for a set that is too deep, 31 for one that is too large and 32 for out of memory.
     pub fn number(self) -> u8
         ensures { result ≡ write_number self }
     {

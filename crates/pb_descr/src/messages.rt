@@ -51,7 +51,7 @@ fn message_with(
     )
 }
 
-/// A message, where it takes at most `room` levels, its own with them.
+/// A message, if it takes at most `room` levels, its own included.
 #[cycle(messages)]
 fn message_value(alloc: Global, declared: &MessageDecl, room: u8) -> Result<Value, WriteSetError>
     ensures written { IfOk result (λ v. value_view v ≡ message_body (message_view declared.now)) }
@@ -66,7 +66,7 @@ fn message_value(alloc: Global, declared: &MessageDecl, room: u8) -> Result<Valu
     Ok(value)
 }
 
-/// Messages, where each takes at most `room` levels.
+/// Messages, if each takes at most `room` levels.
 #[cycle(messages)]
 fn message_values(
     alloc: Global,

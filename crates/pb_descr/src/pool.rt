@@ -17,7 +17,7 @@ pub(crate) const SET: MessageId = MessageId(0);
 /// A number, a name, a kind and a shape.
 type FieldRow = (u32, &'static str, Kind, Shape);
 
-/// A name, the message that it stands in, and fields.
+/// A name, the message around it, and fields.
 type TypeRow = (&'static str, Option<MessageId>, &'static [FieldRow]);
 
 /// Every singular field has presence.
@@ -194,8 +194,8 @@ fn descriptor_messages(alloc: Global) -> Result<Vec<MessageType>, AllocError>
 /// The pool that descriptor sets are read and written by: the part of descriptor.proto that declarations are made of, as one file of 15
 /// messages. What is not in it (options but three, positions in sources, `json_name`, marks of weak imports) is unknown to the pool.
 ///
-/// A label and a type are numbers here. The set itself is `google.protobuf.FileDescriptorSet`, the first message. Refused for want of
-/// memory alone.
+/// A label and a type are numbers here. The set itself is `google.protobuf.FileDescriptorSet`, the first message. Refused only when
+/// memory runs out.
 pub fn descriptor_pool(alloc: Global) -> Result<Pool, DescrError>
     ensures types { IfOk result (λ p. p ≡ descriptor_types) }
     ensures rules { IfOk result (λ p. IsPool p) }

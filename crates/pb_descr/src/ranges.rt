@@ -76,7 +76,7 @@ impl Ranged for EnumDecl {
     }
 }
 
-/// Reads a message, where at most so many stand in each other.
+/// Shows that a message is in range, if it nests at most `levels` deep, itself included.
 #[cycle(read_messages)]
 fn read_message(message: &MessageDecl, levels: u8)
     ensures { nests (message_view message.now) ≤ levels → IsMessageInRange (message_view message.now) }

@@ -31,7 +31,7 @@ use std::alloc::{AllocError, Global};
 /// The tag of a file's record in a set.
 const FILE: u8 = 0x0a;
 
-/// A part of a set ends behind the record that reaches so many bytes. So the messages of a part are few, and the memory of one part serves the next.
+/// A part of a set ends with the record that reaches this many bytes. So a part has few messages, and the memory of one part serves the next.
 const PART: usize = 128;
 
 /// The message of a set, from its bytes by the fixed pool.
@@ -124,7 +124,7 @@ fn add_part(
     }
 }
 
-/// Where the record at the front ends, where it is that of a file and stands there whole.
+/// Where the first record ends, if it is the record of a file and complete.
 fn file_end(bytes: &[u8]) -> Option<usize>
     ensures { IfSome result (λ end. (0 < end) × (end ≤ length bytes.now)) }
 {
@@ -141,8 +141,8 @@ fn file_end(bytes: &[u8]) -> Option<usize>
     Some(1 + size + len as usize)
 }
 
-/// Where the next part of a set ends: behind whole records of files, and in front of one that begins far enough behind. Where the next
-/// record is none of these, all the rest is one part.
+/// Where the next part of a set ends: after complete records of files, as soon as they have `PART` bytes. If the next record is not one of
+/// these, all the rest is one part.
 fn part_end(bytes: &[u8]) -> usize
     requires { 0 < length bytes.now }
     ensures some { 0 < result }
@@ -158,8 +158,8 @@ fn part_end(bytes: &[u8]) -> usize
     if end == 0 { bytes.len() } else { end }
 }
 
-/// The files of a set that is read part by part, each dropped before the next: so what is held of messages is no more than that of a
-/// part. None where the set is too large or a part is no set that shows no cause: then the whole tells why.
+/// The files of a set that is read part by part, each part dropped before the next, so that only one part's messages are in memory. None
+/// if the set is too large or a part is refused: then the set is read as a whole, which reports why.
 fn read_parts(alloc: Global, pool: &Pool, bytes: &[u8]) -> Result<Option<Vec<FileDecl>>, AllocError>
     requires { pool.now ≡ descriptor_types }
     ensures { IfOk result (λ o. IfSome o (λ v. IsSetOf full bytes.now (map file_view v.items))) }
@@ -186,7 +186,7 @@ fn read_parts(alloc: Global, pool: &Pool, bytes: &[u8]) -> Result<Option<Vec<Fil
 /// each file is one of proto2 or proto3 that shows no [`DeclCause`](crate::DeclCause). What declarations do not keep is passed over. A missing
 /// number is 0, a missing mark false, a missing label `optional`, a missing package or method type empty, and a missing or empty syntax `proto2`.
 ///
-/// Else the fault of the bytes is told, or the first cause: by file, then by declaration, then by number. A file comes before what it
+/// Else the fault of the bytes is reported, or the first cause: by file, then by declaration, then by number. A file comes before what it
 /// declares, in the order of messages (each with its fields, its oneofs, its nested messages and its enums), enums (each with its values)
 /// and services (each with its methods).
 pub fn read_set(alloc: Global, bytes: &[u8]) -> Result<Vec<FileDecl>, DescrError>

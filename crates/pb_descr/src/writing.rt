@@ -45,8 +45,8 @@ fn set_message<'p>(
 /// Written are every name, number, range bound, method type and element of a list, a package that is not empty, the syntax of a file of
 /// proto3, a label for each field, a type number, a type name and a oneof's index where they are given, the option `packed` where it is given, and
 /// `map_entry`, `allow_alias`, `proto3_optional` and the streaming marks where they are true. Nothing is judged: what was written is read
-/// back where it shows no cause. Refused where the set would nest more than 100 levels deep, where its bytes would pass 2^31 - 1, and for
-/// want of memory.
+/// back where it shows no cause. Refused where the set would nest more than 100 levels deep, where its bytes would pass 2^31 - 1, and
+/// when memory runs out.
 pub fn write_set(alloc: Global, files: &[FileDecl]) -> Result<Vec<u8>, WriteSetError>
     ensures canonical { IfOk result (λ b. b.items ≡ set_bytes (map file_view files.now)) }
     ensures fits { OnOk result ((message_depth (set_body (map file_view files.now)) ≤ 100) × IsWritable (map file_view files.now)) }

@@ -1,4 +1,4 @@
--- What a plan of a message has: its type is one of the pool, its canonical form fits a text, and the lengths in it stand in a table.
+-- What a plan of a message has: its type is one of the pool, its canonical form fits the size limit, and the lengths in it are in a table.
 use Rattle.std.specs.Prelude.{◌≡◌, ◌<◌, ◌^◌, ℕ, List, length}
 use Rattle.pb_schema.specs.Types.{Types}
 use Rattle.pb_value.specs.Data.{Message}

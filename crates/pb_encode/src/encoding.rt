@@ -10,7 +10,7 @@ use crate::vector::VectorOutput;
 use pb_value::DynamicMessage;
 use pb_wire::Output;
 
-/// The canonical bytes of a message. Refused where they would pass 2^31 - 1, or for want of memory.
+/// The canonical bytes of a message. Refused if there would be more than 2^31 - 1, or when memory runs out.
 pub fn encode(message: &DynamicMessage) -> Result<Vec<u8>, EncodeError>
     ensures canonical { IfOk result (λ v. v.items ≡ bytes_of message.now) }
     ensures fits { OnOk result (length (bytes_of message.now) < 2 ^ 31) }

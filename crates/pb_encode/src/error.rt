@@ -21,7 +21,7 @@ pub enum EncodeError {
 }
 
 impl EncodeError {
-    /// The error's number: 31 for a message that is too large, 32 for want of memory and 33 for a device that failed.
+    /// The error's number: 31 for a message that is too large, 32 for out of memory and 33 for a device that failed.
     pub fn number(self) -> u8
         ensures { result ≡ number_of self }
     {

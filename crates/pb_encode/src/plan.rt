@@ -87,7 +87,7 @@ impl<'m> Plan<'m> {
     }
 
     /// Writes the canonical bytes through a buffer of fixed size, so it takes no memory. It fails where the device fails,
-    /// tells how many bytes went out, and writes no more.
+    /// reports how many bytes were written, and writes no more.
     pub fn write_to<O: Output>(&self, output: &mut O) -> Result<(), EncodeError>
         ensures written { OnOk result (Appends (O.written output.old) (O.written output.new) (bytes_of self.now)) }
         ensures kept { OnOk result (O.failures output.new ≡ O.failures output.old) }

@@ -5,7 +5,7 @@ ghost use Rattle.std.specs.Prelude.{◌≡◌, [], Some, IfOk};
 use pb_wire::{DeviceFault, Output};
 use std::alloc::{AllocError, Global};
 
-/// An output that keeps what is written, with room for so many bytes from the start. It fails where memory runs out.
+/// An output that keeps what is written, with a capacity that is reserved at the start. It fails when memory runs out.
 #[derive(Drop)]
 pub(crate) struct VectorOutput {
     bytes: Vec<u8>,

@@ -1,4 +1,4 @@
-//! Writing a message to a device by the lengths that were measured. Each call tells the place in the table behind the
+//! Writing a message to a device by the lengths that were measured. Each call returns the place in the table after the
 //! lengths that it used. After a failure of the device each part that is open goes on to its next part at most.
 
 ghost use Rattle.std.specs.Prelude.{◌≡◌, ◌<◌, ℕ, List, [], ◌∷◌, length, drop};

@@ -1,4 +1,4 @@
--- The messages and the enums that files declare, in declaration order: a message, and then those in it, and behind those its enums. Entry
+-- The messages and the enums that files declare, in declaration order: a message, then those in it, then its enums. Entry
 -- messages are left out.
 use Rattle.std.specs.Prelude.{List, [], ◌∷◌, ◌++◌, if◌then◌else◌}
 use Rattle.std.specs.List.{flat_map}
@@ -26,6 +26,6 @@ abbrev mutual
   enums_among no_messages = []
   enums_among (more_messages m ms) = enums_in m ++ enums_among ms
 
--- the enums outside messages stand last in each file
+-- the enums outside messages come last in each file
 abbrev pub declared_enums : List DeclaredFile → List DeclaredEnum
 declared_enums files = flat_map (λ f. enums_among f.messages ++ f.enums) files

@@ -1,4 +1,4 @@
--- What stands in the files and messages of a pool, while its messages are nested from the last one to the first.
+-- The contents of the files and messages of a pool, while its messages are nested from the last one to the first.
 use Rattle.std.specs.Prelude.{◌≡◌, None, ◌<◌, ℕ, List, [], ◌∷◌, ◌++◌, length, map, filter, drop, take}
 use Rattle.std.specs.Prelude.{reverse, ◌==◌, ◌&&◌, if◌then◌else◌, Option, Some, option_map, slice_get}
 use Rattle.pb_schema.specs.Types.{MessageView, EnumView, Types}
@@ -20,22 +20,22 @@ with_message m i = record { messages = i.messages ++ m ∷ []; enums = i.enums }
 abbrev pub with_enum : DeclaredEnum → Insides → Insides
 with_enum e i = record { messages = i.messages; enums = i.enums ++ e ∷ [] }
 
--- what stands at an index changes, if there is something
+-- the contents at an index change, if the index is in range
 pub record ChangesAt (index : ℕ) (change : Insides → Insides) (old new : List Inside) : Type 0 where
   pub size : length new ≡ length old
   pub exact : (i : ℕ) (x : Insides) → option_map inside_view (slice_get old i) ≡ Some x
       → option_map inside_view (slice_get new i) ≡ Some (if i == index then change x else x)
 
--- what stands in a file, or in a message, changes, and all else stays
+-- the contents of a file, or of a message, change, and all else stays
 abbrev pub PlacesAt : ℕ → Option ℕ → (Insides → Insides) → List Inside → List Inside → List Inside → List Inside → Type 0
 PlacesAt file None change old_files old_messages files messages = ChangesAt file change old_files files × (messages ≡ old_messages)
 PlacesAt file (Some p) change old_files old_messages files messages = (files ≡ old_files) × ChangesAt p change old_messages messages
 
--- a message in its place, with room for each message inside it
+-- the declaration of a message, with the messages inside it to any depth
 abbrev pub whole_message : Types → ℕ × MessageView → DeclaredMessage
 whole_message ts m = declared_message (length ts.messages) ts m
 
--- the messages and enums among some that stand in a message directly, the last message first, and likewise in a file
+-- those of these messages and enums that are directly in a message, the last message first, and likewise in a file
 abbrev pub inside_message : Types → List (ℕ × MessageView) → List EnumView → ℕ → Insides
 inside_message ts ms es p = record {
   messages = reverse (map (whole_message ts) (filter (λ m. is_parent p m.1.parent) ms));
@@ -52,7 +52,7 @@ pub record AreInside (n : ℕ) (shown : ℕ → Insides) (held : List Inside) : 
   pub size : length held ≡ n
   pub each : (i : ℕ) → i < n → option_map inside_view (slice_get held i) ≡ Some (shown i)
 
--- what stands in each file and in each of the first messages, of the messages from an index on and of the first enums
+-- the contents of each file and of each of the first messages, from the messages from an index on and the first enums
 pub record AreNested (ts : Types) (left taken : ℕ) (files messages : List Inside) : Type 0 where
   pub in_files : AreInside (length ts.files) (inside_file ts (drop left (numbered ts)) (take taken ts.enums)) files
   pub in_messages : AreInside left (inside_message ts (drop left (numbered ts)) (take taken ts.enums)) messages

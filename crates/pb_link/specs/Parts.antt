@@ -18,7 +18,7 @@ use Rattle.pb_names.specs.View.{declaration_view, type_names_view}
 use Rattle.pb_names.specs.declared.found.TypeNames.{TypeNames}
 use Rattle.pb_link.specs.declared.parts.tables.Tables.{Tables}
 
--- the kind of what stands behind so many message types and enums, by whether its file is of proto2; of what is no type Bool
+-- the kind of a declaration that follows this many message types and enums; `two`: its file is of proto2. Bool if it is not a type
 abbrev pub kind_here : Bool → ℕ → ℕ → Item → Kind
 kind_here two messages enums (a_message head inner) = kind.Message (record { 0 = messages })
 kind_here two messages enums (an_enum e) = enum_kind two enums
@@ -33,7 +33,7 @@ abbrev pub one_if : Bool → ℕ → ℕ
 one_if true n = n + 1
 one_if false n = n
 
--- the kinds of declarations that stand behind so many message types and enums
+-- the kinds of declarations that follow this many message types and enums
 abbrev pub kinds_from : List DeclaredFile → ℕ → ℕ → List Declaration → List Kind
 kinds_from files messages enums [] = []
 kinds_from files messages enums (d ∷ ds) =
@@ -162,7 +162,7 @@ enum_part t d (a_value e i v) = None
 enum_part t d (a_service s) = None
 enum_part t d (a_method m) = None
 
--- the message types and enums of declarations that stand at a place and behind it
+-- the message types of declarations, the first of which is at this place
 abbrev pub messages_read : Tables → ℕ → List Declaration → List MessageView
 messages_read t place [] = []
 messages_read t place (d ∷ ds) = cons_option (message_part t place d d.item) (messages_read t (place + 1) ds)

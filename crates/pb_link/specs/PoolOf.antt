@@ -30,7 +30,7 @@ message_index w place = count_before is_message_type w place
 abbrev pub enum_index : World → ℕ → ℕ
 enum_index w place = count_before is_enum w place
 
--- the kind of a type number; of GROUP, MESSAGE and ENUM none, and Bool stands in its place
+-- the kind of a type number; Bool for GROUP, MESSAGE and ENUM, which have none of their own
 abbrev pub kind_of_code : TypeCode → Kind
 kind_of_code code.Double = kind.Double
 kind_of_code code.Float = kind.Float
@@ -210,7 +210,7 @@ parent_by_item w place (Some (a_value e i v)) = None
 parent_by_item w place (Some (a_service s)) = None
 parent_by_item w place (Some (a_method m)) = None
 
--- the index of the message at the place of what stands around a declaration; a file is none
+-- the index of the message that a declaration's parent is; None if the parent is a file
 abbrev pub parent_type : World → ℕ → Option ℕ
 parent_type w place = parent_by_item w place (item_at w place)
 

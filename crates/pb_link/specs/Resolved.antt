@@ -93,7 +93,7 @@ pub record Resolves (files : List DeclaredFile) (answer : List DeclaredFile) : T
 
 -- WHAT RESOLVED FILES ARE
 
--- a dot and the full name of a type that stands among declarations
+-- a dot and the full name of a type among the declarations
 pub record IsFullName (ds : List Declaration) (name : List ℕ) : Type 0 where
   pub place : ℕ
   pub meant : Declaration

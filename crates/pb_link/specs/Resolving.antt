@@ -1,4 +1,4 @@
--- How declarations are resolved by what the type names of all came to, in declaration order, and what of it is left behind each.
+-- How declarations are resolved from the types found for all type names, in declaration order, and what of that list is left after each.
 -- Words for the contracts of private functions; no public contract rests on them.
 use Rattle.std.specs.Prelude.{List, [], ◌∷◌, length, drop, map, Option, None}
 use Rattle.pb_decl.specs.Decls.{DeclaredField, DeclaredEnum, MessageHead, DeclaredMessage, message, DeclaredMessages}
@@ -9,11 +9,11 @@ use Rattle.pb_link.specs.Resolved.{type_at, field_of_type, method_of_types}
 use Rattle.pb_names.specs.View.{type_names_view}
 use Rattle.pb_link.specs.declared.resolving.upcoming.Upcoming.{Upcoming}
 
--- what the type names of the declarations that come next came to
+-- the types found for the names of the declarations that come next
 abbrev pub coming : Upcoming → List (List Found)
 coming u = map type_names_view u.rest.now
 
--- what those of the next one came to
+-- those of the next declaration
 abbrev pub names_here : List (List Found) → List Found
 names_here [] = []
 names_here (n ∷ ns) = n
@@ -27,7 +27,7 @@ abbrev pub second_type : List Declaration → List Found → Option Declaration
 second_type ds [] = None
 second_type ds (q ∷ rs) = first_type ds rs
 
--- EACH OF SOME IN TURN: what it comes to by what is coming, and what is left behind it
+-- EACH OF A LIST IN TURN: its resolved form, and what of the list of found types is left after it
 
 abbrev pub each_read : {A X Z : Type 0} → (List A → X → Z) → (X → List A → List A) → List A → List X → List Z
 each_read read behind ns [] = []
@@ -37,7 +37,7 @@ abbrev pub each_behind : {A X : Type 0} → (X → List A → List A) → List X
 each_behind behind [] ns = ns
 each_behind behind (x ∷ xs) ns = each_behind behind xs (behind x ns)
 
--- WHAT IS LEFT BEHIND A DECLARATION
+-- WHAT IS LEFT AFTER A DECLARATION
 
 abbrev pub behind_one : {A X : Type 0} → X → List A → List A
 behind_one x ns = drop 1 ns
@@ -45,7 +45,7 @@ behind_one x ns = drop 1 ns
 abbrev pub behind_enum : {A : Type 0} → DeclaredEnum → List A → List A
 behind_enum e ns = drop (length e.values) (drop 1 ns)
 
--- behind a message itself, its fields and its oneofs
+-- after a message itself, its fields and its oneofs
 abbrev pub behind_head : {A : Type 0} → MessageHead → List A → List A
 behind_head head ns = drop (length head.oneofs) (each_behind behind_one head.fields (drop 1 ns))
 
@@ -60,14 +60,14 @@ abbrev mutual
 abbrev pub behind_service : {A : Type 0} → DeclaredService → List A → List A
 behind_service s ns = each_behind behind_one s.methods (drop 1 ns)
 
--- behind the messages and enums of a file
+-- after the messages and enums of a file
 abbrev pub behind_types : {A : Type 0} → DeclaredFile → List A → List A
 behind_types f ns = each_behind behind_enum f.enums (behind_messages f.messages (drop 1 ns))
 
 abbrev pub behind_file : {A : Type 0} → DeclaredFile → List A → List A
 behind_file f ns = each_behind behind_service f.services (behind_types f ns)
 
--- WHAT DECLARATIONS COME TO
+-- THE RESOLVED DECLARATIONS
 
 abbrev pub field_read : List Declaration → List (List Found) → DeclaredField → DeclaredField
 field_read ds ns f = field_of_type f (first_type ds (names_here ns))

@@ -220,7 +220,7 @@ declared_head ts i t = record {
   is_entry = false;
 }
 
--- The message of an index, with those in it: nested ones, and behind them the entries. Messages nest at most so many levels.
+-- The message of an index, with those in it: nested ones, and after them the entries. Messages nest at most this many levels.
 abbrev pub declared_message : ℕ → Types → ℕ × MessageView → DeclaredMessage
 declared_message zero ts m = message (declared_head ts m.0 m.1) no_messages
 declared_message (suc levels) ts m =

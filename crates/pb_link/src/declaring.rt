@@ -59,7 +59,7 @@ fn import_names(
     Ok(names)
 }
 
-/// The indexes of so many imports.
+/// The indexes of the imports: 0, 1, ...
 fn indexes(alloc: Global, imports: &[usize]) -> Result<Vec<i32>, AllocError>
     requires { length imports.now < 2 ^ 31 }
     ensures { IfOk result (λ v. v.items ≡ map (λ e. pos e.0) (enumerate_from 0 imports.now)) }
@@ -71,7 +71,7 @@ fn indexes(alloc: Global, imports: &[usize]) -> Result<Vec<i32>, AllocError>
     Ok(indexes)
 }
 
-/// The declaration of a file, in which this stands.
+/// The declaration of a file that holds `inside`.
 fn file_decl(
     alloc: Global,
     pool: &Pool,
@@ -117,8 +117,8 @@ fn pool_decls(alloc: Global, pool: &Pool) -> Result<Vec<FileDecl>, AllocError>
     Ok(decls)
 }
 
-/// The files of a pool as declarations: no services and no reserved parts, each import public, each type number given and each type
-/// name full behind a dot, and entry messages and the oneofs of optional fields made anew.
+/// The files of a pool as declarations: no services and no reserved parts, each import public, each type number set and each type
+/// name written in full after a dot, and entry messages and the oneofs of optional fields made anew.
 ///
 /// Every rule of linking holds of them, and linking them makes the pool's types again. Their set shows no cause, so that its canonical
 /// bytes, which `write_set` writes, are a set of them where it nests at most 100 levels deep and has fewer than 2^31 bytes.

@@ -28,8 +28,8 @@ fn pool_of_judged(alloc: Global, files: &[FileDecl], judged: &Judged) -> Result<
     }
 }
 
-/// The pool that declarations make where every rule of linking holds. Else the first fault is told: by file, then by declaration, then
-/// by the cause's number.
+/// The pool of the declarations, if every rule of linking holds. Else the first fault: by file, then by declaration, then by the
+/// cause's number.
 pub fn link(alloc: Global, files: &[FileDecl]) -> Result<Pool, LinkError>
     ensures made { IfOk result (Links (map file_view files.now)) }
     ensures refused { IfErr result (IsUnlinked (map file_view files.now)) }

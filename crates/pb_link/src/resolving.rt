@@ -22,8 +22,8 @@ use pb_rules::LinkError;
 use pb_rules::judged::judge_files;
 use std::alloc::Global;
 
-/// The same files where every rule of linking holds, with each type number given and each type name full behind a dot. Else the first
-/// fault is told, as linking tells it.
+/// The same files with every type number set and every type name written in full after a leading dot, if every rule of linking
+/// holds. Else the first fault, as `link` reports it.
 pub fn resolve(alloc: Global, files: &[FileDecl]) -> Result<Vec<FileDecl>, LinkError>
     ensures resolved { IfOk result (λ v. Resolves (map file_view files.now) (map file_view v.items)) }
     ensures refused { IfErr result (IsUnlinked (map file_view files.now)) }

@@ -47,7 +47,7 @@ fields_of file parent name head fs = map (λ e. record { file = file; parent = p
 abbrev pub oneofs_of : ℕ → ℕ → List ℕ → MessageHead → List (List ℕ) → List Declaration
 oneofs_of file parent name head os = map (λ e. record { file = file; parent = parent; scope = name; item = a_oneof head e.0 e.1 }) (enumerate_from 0 os)
 
--- the values of an enum stand in the scope around it
+-- the values of an enum are declared in the scope around it
 abbrev pub values_of : ℕ → ℕ → List ℕ → DeclaredEnum → List (List ℕ × ℤ) → List Declaration
 values_of file place scope e vs = map (λ v. record { file = file; parent = place; scope = scope; item = a_value e v.0 v.1 }) (enumerate_from 0 vs)
 

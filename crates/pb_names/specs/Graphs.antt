@@ -17,11 +17,11 @@ abbrev pub is_file : Option ℕ → ℕ → Bool
 is_file None j = false
 is_file (Some i) j = i == j
 
--- whether each file stands where its name leads
+-- whether the name of each file leads to that file
 abbrev pub first_marks : (List ℕ → Option ℕ) → List DeclaredFile → List Bool
 first_marks named files = map (λ e. is_file (named e.1.name) e.0) (enumerate_from 0 files)
 
--- the names of files, each behind the one before
+-- the names of all files, joined in order
 abbrev pub joined_names : List DeclaredFile → List ℕ
 joined_names files = flat_map (λ f. f.name) files
 

@@ -56,7 +56,7 @@ abbrev pub decides : List Declaration → Seen → List ℕ → List ℕ → Boo
 decides ds sees name scope =
     if has_dot name then can_hold ds sees (in_scope scope (first_part name)) else is_some (type_named ds sees (in_scope scope name))
 
--- the full name that a name stands for: behind a leading dot the rest, else the name in the innermost scope that decides
+-- the full name that a name means: what follows a leading dot, else the name in the innermost scope that decides
 abbrev pub decided_name : List Declaration → Seen → List ℕ → List ℕ → Option (List ℕ)
 decided_name ds sees scope [] = option_map (λ s. in_scope s []) (find (decides ds sees []) (scopes_from scope))
 decided_name ds sees scope (c ∷ cs) =
@@ -69,7 +69,7 @@ abbrev pub is_taken_if : List Declaration → Seen → Option (List ℕ) → Boo
 is_taken_if ds sees None = false
 is_taken_if ds sees (Some full_name) = is_taken ds sees full_name
 
--- what the name stands for is seen, and is no type: its full name, or a name without dots in some scope
+-- a seen declaration or package that is no type has the full name that the name means, or a name without dots in some scope
 abbrev pub is_no_type : List Declaration → Seen → List ℕ → List ℕ → Bool
 is_no_type ds sees scope name =
     is_taken_if ds sees (decided_name ds sees scope name) || (not (has_dot name) && list_any (λ s. is_taken ds sees (in_scope s name)) (scopes_from scope))

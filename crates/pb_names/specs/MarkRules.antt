@@ -1,4 +1,4 @@
--- The rules that rest on what stands beside a declaration in its message or enum. `true` says that the rule holds.
+-- The rules that compare a declaration with the others of its message or enum. `true` says that the rule holds.
 use Rattle.std.specs.Prelude.{ℕ, ℤ, pos, negsuc, ◌+◌, List, [], ◌∷◌, length, take, Bool, true, false, not}
 use Rattle.std.specs.Prelude.{◌==◌, ◌&&◌, ◌||◌, nat_lt, int_lt, int_le, if◌then◌else◌, Option, Some, None}
 use Rattle.std.specs.List.{list_any, list_all, enumerate_from}
@@ -21,7 +21,7 @@ number_is_free (an_enum e) = true
 number_is_free (a_service s) = true
 number_is_free (a_method m) = true
 
--- a number in a range of a message, whose end is behind it, and in one of an enum, whose end is in it
+-- a number is in a range of a message, whose end is exclusive, and in one of an enum, whose end is inclusive
 abbrev pub is_in_message_range : ℤ → ℤ × ℤ → Bool
 is_in_message_range n r = int_le r.0 n && int_lt n r.1
 

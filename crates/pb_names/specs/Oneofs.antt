@@ -11,11 +11,11 @@ index_below n None = None
 index_below n (Some (pos i)) = if nat_lt i n then Some i else None
 index_below n (Some (negsuc i)) = None
 
--- the index of a field's oneof, where it is one of so many
+-- the index of a field's oneof, if it is below the number of oneofs
 abbrev pub oneof_place : ℕ → DeclaredField → Option ℕ
 oneof_place oneofs f = index_below oneofs f.oneof
 
--- so many oneofs, with the number of members of each among these fields, and whether one is optional
+-- for each of the oneofs, how many of these fields are its members, and whether one of them is optional
 pub record AreCounted (fields : List DeclaredField) (oneofs : ℕ) (counts : List ℕ) (marks : List Bool) : Type 0 where
   pub size : length counts ≡ oneofs
   pub marks_size : length marks ≡ oneofs

@@ -22,7 +22,7 @@ pub record ArePlaces (ds : List Declaration) (from : ℕ) (p : Places) : Type 0 
       (i : ℕ) (d : Declaration) → from ≤ i → slice_get ds i ≡ Some d → IsTrue (is_named d.item)
       → next_place p i ≡ position_from (has_name (full_name d)) (i + 1) (drop (i + 1) ds)
 
--- a declaration is put before those behind it
+-- a declaration is put before the later ones of its name
 pub record PutsPlace (place : ℕ) (d : Declaration) (old new : Places) : Type 0 where
   pub size : length new.next.items ≡ length old.next.items
   pub firsts : (name : List ℕ) → first_at new.firsts name ≡ (if has_name name d then Some place else first_at old.firsts name)

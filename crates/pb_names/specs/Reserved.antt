@@ -8,11 +8,11 @@ use Rattle.pb_names.specs.NameSets.{is_in_set}
 use Rattle.pb_names.specs.MarkRules.{is_in_message_range, message_ranges_overlap, none_overlap}
 use Rattle.pb_names.specs.declared.marks.reserved.Reserved.{Reserved}
 
--- a range of an enum, as one whose end is behind it
+-- a range of an enum, whose end is inclusive, as one with an exclusive end
 abbrev pub with_end_behind : ℤ × ℤ → ℤ × ℤ
 with_end_behind r = (r.0, r.1 +ℤ pos 1)
 
--- there is a number in a range whose end is behind it
+-- a range with an exclusive end holds a number
 abbrev pub is_filled : ℤ × ℤ → Bool
 is_filled r = int_lt r.0 r.1
 
@@ -20,7 +20,7 @@ is_filled r = int_lt r.0 r.1
 abbrev pub Rises : (ℤ × ℤ → ℤ) → List (ℤ × ℤ) → Type 0
 Rises key ranges = (i j : ℕ) (d : ℤ × ℤ) → i ≤ j → j < length ranges → key (slice_index_or ranges i d) ≤ℤ key (slice_index_or ranges j d)
 
--- all numbers of these ranges, whose ends are behind them, and these names; and whether the ranges overlap, if none is empty
+-- all numbers of these ranges, whose ends are exclusive, and these names; and whether the ranges overlap, if none is empty
 pub record Reserves (ranges : List (ℤ × ℤ)) (names : List (List ℕ)) (r : Reserved) : Type 0 where
   pub starts : Rises (λ s. s.0) r.spans.items
   pub ends : Rises (λ s. s.1) r.spans.items

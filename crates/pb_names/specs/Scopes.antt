@@ -2,7 +2,7 @@
 use Rattle.std.specs.Prelude.{◌≡◌, ◌⊎◌, ◌<◌, ℕ, List, [], ◌∷◌, ◌++◌, length, false, Option, Some, None}
 use Rattle.pb_names.specs.Lookup.{has_dot, scopes_from}
 
--- the scope around one: what stands before its last dot, or else the empty one; around that is none
+-- the scope around a scope: the part before its last dot, or else the empty one; around the empty one is none
 abbrev pub IsOuter : List ℕ → Option (List ℕ) → Type 0
 IsOuter scope None = scope ≡ []
 IsOuter scope (Some outer) =

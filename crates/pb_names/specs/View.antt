@@ -1,4 +1,4 @@
--- What the row of declarations stands for, and what type names in it come to.
+-- The declarations as the definitions see them, and the results of looking up their type names.
 use Rattle.std.specs.Prelude.{◌≡◌, List, [], ◌∷◌, ◌++◌, map, take, string_bytes}
 use Rattle.pb_names.specs.Declarations.{Declaration}
 use Rattle.pb_names.specs.ItemView.{item_view}
@@ -12,7 +12,7 @@ use Rattle.pb_names.specs.declared.found.TypeNames.TheVariants as names
 abbrev pub declaration_view : DeclarationValue → Declaration
 declaration_view d = record { file = d.file; parent = d.parent; scope = take d.scope_len (string_bytes d.full_name); item = item_view d.item }
 
--- a row of declarations grew by these, behind those that it had
+-- these declarations were appended to the list
 abbrev pub Adds : List DeclarationValue → List DeclarationValue → List Declaration → Type 0
 Adds old new more = map declaration_view new ≡ map declaration_view old ++ more
 

@@ -79,7 +79,7 @@ impl Walk {
         Ok(())
     }
 
-    /// The first open place that is known to be led to from a place or from what stands at these indexes.
+    /// The least open place among `place` and the places of these indexes.
     fn first_place(&self, place: usize, indexes: &[usize]) -> usize {
         let mut first = place;
         for index in indexes {
@@ -101,7 +101,7 @@ impl Walk {
         self.numbers[index] = self.count;
     }
 
-    /// Numbers the component that begins with an index: it, and what was opened behind it.
+    /// Numbers the component that begins with an index: that index, and all that were opened after it.
     fn close(&mut self, first: usize)
         requires { Fits self.old }
         ensures fits { Fits self.new }
@@ -113,7 +113,7 @@ impl Walk {
                 break;
             }
         }
-        // No memory holds so many components.
+        // The count never reaches the maximum: memory ends before that.
         self.count = self.count.saturating_add(1);
     }
 

@@ -7,7 +7,7 @@ ghost use Rattle.pb_names.specs.Firsts.{first_at};
 use indexmap::IndexMap;
 use std::alloc::{AllocError, Global};
 
-/// The first place of each name. Names stay where they stand, and none is copied.
+/// The first place of each name. The names are borrowed, none is copied.
 #[derive(Drop)]
 pub struct Firsts<'a> {
     pub places: IndexMap<&'a [u8], usize>,
@@ -22,7 +22,7 @@ impl<'a> Firsts<'a> {
         }
     }
 
-    /// The same with room for so many names.
+    /// An empty table with capacity for `size` names.
     pub(crate) fn with_room(alloc: Global, size: usize) -> Result<Firsts<'a>, AllocError>
         ensures { IfOk result (λ t. (name : List ℕ) → first_at t name ≡ None) }
     {

@@ -38,7 +38,7 @@ fn unmark(marks: &mut Vec<bool>, file: Option<usize>)
     marks[file] = false;
 }
 
-/// The names of files, each behind the one before. What is looked up there touches little memory, wherever the names themselves stand.
+/// The names of all files in one buffer, in order. Look-ups then touch little memory, wherever the declarations keep the names.
 fn joined_names(alloc: Global, files: &[FileDecl]) -> Result<Vec<u8>, AllocError>
     ensures { IfOk result (λ v. v.items ≡ joined_names (map file_view files.now)) }
 {

@@ -1,4 +1,4 @@
-//! What stands in the row of declarations.
+//! The entries of the list of declarations.
 
 use pb_decl::{EnumDecl, FieldDecl, FileDecl, MessageDecl, MethodDecl, ServiceDecl};
 

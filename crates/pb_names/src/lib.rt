@@ -1,6 +1,6 @@
 //! What names mean: all that files declare in one row, what files see of each other, and which declaration a name is.
 //!
-//! An inner crate: `pb_rules` and `pb_link` stand on it.
+//! An inner crate, used by `pb_rules` and `pb_link`.
 #![tactic(auto)]
 
 pub mod components;

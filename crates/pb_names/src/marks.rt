@@ -86,7 +86,7 @@ fn is_kept(reserved: &Reserved, field: &FieldDecl) -> bool
     !reserved.has_number(field.number) && !reserved.has_name(field.name.as_str())
 }
 
-/// The marks of a field, where it is told whether it is the first of its number.
+/// The marks of a field. `is_first` says whether no earlier field has its number.
 fn field_mark(reserved: &Reserved, oneofs: &Oneofs, field: &FieldDecl, is_first: bool) -> Marks
     ensures { (head : MessageHead) (i : ℕ) → ReservesInMessage head reserved.now → AreOneofsOf head oneofs.now
         → is_first ≡ number_is_free (a_field head i (field_view field.now)) → result ≡ marks_of (a_field head i (field_view field.now)) }
@@ -136,7 +136,7 @@ fn oneofs_of(alloc: Global, message: &MessageDecl) -> Result<Oneofs, AllocError>
     Ok(oneofs)
 }
 
-/// The marks of the oneof at an index, behind a synthetic one or not.
+/// The marks of the oneof at an index. `follows_synthetic` says whether an earlier one is synthetic.
 fn oneof_mark(oneofs: &Oneofs, index: usize, follows_synthetic: bool) -> Marks
     requires size { index < length oneofs.now.members.items }
     requires sizes { length oneofs.now.are_synthetic.items ≡ length oneofs.now.members.items }
@@ -179,7 +179,7 @@ fn either(one: bool, other: bool) -> bool
     one || other
 }
 
-/// The marks of a value, where it is told whether it is the first of its number.
+/// The marks of an enum value. `is_first` says whether no earlier value has its number.
 fn value_mark(reserved: &Reserved, entry: &EnumDecl, value: &(String, i32), is_first: bool) -> Marks
     requires { ReservesInEnum (enum_view entry.now) reserved.now }
     ensures { (i : ℕ) → is_first ≡ not (list_any (λ u. int_eq value.now.1 u.1) (take i (enum_view entry.now).values))

@@ -14,7 +14,7 @@ use pb_decl::FileDecl;
 use pb_sets::name_set::NameSet;
 use std::alloc::{AllocError, Global};
 
-/// Adds the front of a name that ends before an index, where a dot stands there.
+/// Adds the prefix of a name that ends before an index, if the byte there is a dot.
 fn add_front(
     packages: &mut NameSet,
     alloc: Global,

@@ -47,7 +47,7 @@ fn counts(want: Want, sight: &Sight, everywhere: bool, declaration: &Declaration
 }
 
 impl<'a> Places<'a> {
-    /// Puts a declaration before those behind it.
+    /// Puts a declaration before the later ones of its name, which were put already.
     fn put(&mut self, place: usize, declaration: &'a Declaration) -> Result<(), AllocError>
         requires { place < vec_len self.old.next }
         ensures { OnOk result (PutsPlace place (declaration_view declaration.now) self.old self.new) }

@@ -69,7 +69,7 @@ impl Scene<'_> {
         self.is_package(everywhere, name) || declared.is_some()
     }
 
-    /// Whether a scope decides what a name stands for.
+    /// Whether a scope decides which declaration a name means.
     fn decides(
         &self,
         alloc: Global,
@@ -132,7 +132,7 @@ impl Scene<'_> {
         }
     }
 
-    /// The full name that a name stands for.
+    /// The full name of what a name means.
     fn decided_name(
         &self,
         alloc: Global,
@@ -169,7 +169,7 @@ impl Scene<'_> {
         }
     }
 
-    /// Whether what the name stands for is taken.
+    /// Whether the full name that a name means is taken by a declaration or a package.
     fn is_decided_taken(
         &self,
         alloc: Global,

@@ -10,7 +10,7 @@ pub(crate) fn has_dot(name: &[u8]) -> bool
     name.contains(&b'.')
 }
 
-/// What stands before the first dot.
+/// The part of a name before its first dot.
 pub(crate) fn first_part(name: &[u8]) -> &[u8]
     ensures { result.now ≡ first_part name.now }
 {

@@ -1,4 +1,4 @@
--- What is told where declarations do not link.
+-- The fault that is reported where declarations do not link.
 use Rattle.std.specs.Prelude.{◌≡◌, ⊤, ℕ, List, Some, slice_get, string_bytes}
 use Rattle.pb_decl.specs.Decls.{DeclaredFile}
 use Rattle.pb_rules.specs.declared.cause.LinkCause.{LinkCause}
@@ -21,19 +21,19 @@ pub record LinkFault (files : List DeclaredFile) (in_file_name name : List ℕ) 
   pub in_file : slice_get files declaration.file ≡ Some file
   pub file_named : in_file_name ≡ file.name
 
--- a fault as it is told: the name of the file, the full name of the declaration, and the cause
+-- a fault as it is reported: the name of the file, the full name of the declaration, and the cause
 abbrev pub ToldFault : Type 0
 ToldFault = List ℕ × List ℕ × LinkCause
 
 abbrev pub HasLinkFault : List DeclaredFile → ToldFault → Type 0
 HasLinkFault files f = LinkFault files f.0 f.1 f.2
 
--- the files are refused for their least fault, or for want of memory
+-- the files are refused for their first fault, or memory ran out
 abbrev pub IsUnlinked : List DeclaredFile → LinkError → Type 0
 IsUnlinked files (Fault file name cause) = LinkFault files (string_bytes file) (string_bytes name) cause
 IsUnlinked files Memory = ⊤
 
--- an error tells this fault, or want of memory
+-- an error reports this fault, or that memory ran out
 abbrev pub TellsLinkFault : List ℕ → List ℕ → LinkCause → LinkError → Type 0
 TellsLinkFault file name c (Fault told_file told_name told) = (string_bytes told_file ≡ file) × (string_bytes told_name ≡ name) × (told ≡ c)
 TellsLinkFault file name c Memory = ⊤

@@ -26,7 +26,7 @@ pub record IsReady (files : List DeclaredFile) (m : Imports) (s : Scene) : Type 
 abbrev pub is_marked_first : Imports → Declaration → Bool
 is_marked_first m d = option_map_or (λ f. slice_index_or m.are_first.items d.file false) (file_in d.item) true
 
--- the imports of a file are right, where so many of them name files
+-- the imports of a file are right; `found` of them name files
 abbrev pub are_right_imports : ℕ → DeclaredFile → Bool
 are_right_imports found f = nat_lt (length f.imports) (2 ^ 31) && (found == length f.imports) && list_all (is_import_index f) f.public_indexes
 

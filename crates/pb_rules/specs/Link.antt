@@ -1,4 +1,4 @@
--- When declarations link, and what is told where they don't: the least failing rule, by file, declaration and cause.
+-- When declarations link, and what is reported where they don't: the first rule that fails, by file, declaration and cause.
 use Rattle.std.specs.Prelude.{◌≡◌, ℕ, ◌+◌, ◌<◌, ◌≤◌, ◌⊎◌, List, [], ◌∷◌, Bool, true, not, ◌&&◌, Option, Some, None, IsFalse, find, slice_get}
 use Rattle.pb_decl.specs.Decls.{DeclaredFile}
 use Rattle.pb_rules.specs.declared.cause.LinkCause.{LinkCause}
@@ -130,7 +130,7 @@ abbrev pub or_later : ℕ → Option LinkCause → Option (ℕ × LinkCause) →
 or_later place None later = later
 or_later place (Some c) later = Some (place, c)
 
--- the first of some declarations, which stand at a place and behind it, at which a judgement tells a cause
+-- the first of these declarations, which begin at a place, for which `judge` gives a cause
 abbrev pub first_told : (ℕ → Declaration → Option LinkCause) → ℕ → List Declaration → Option (ℕ × LinkCause)
 first_told judge place [] = None
 first_told judge place (d ∷ ds) = or_later place (judge place d) (first_told judge (place + 1) ds)

@@ -30,7 +30,7 @@ are_plain w names = list_all (passes w is_not_entry) (type_names_view names)
 abbrev pub names_of_place : List TypeNames → ℕ → TypeNames
 names_of_place all place = slice_index_or all place type_names.None
 
--- the rule of entries at a message of a place, by what was found of it and of its fields behind it
+-- the rule of entries for the message at a place, by the types found for its fields, which follow it
 abbrev pub entry_rule : World → List TypeNames → ℕ → DeclaredMessage → Bool → Bool
 entry_rule w all place t is_used =
     is_right_entry (head_of t).is_entry is_used

@@ -255,7 +255,7 @@ gives_name (a_value e i v) entry = false
 gives_name (a_service s) entry = false
 gives_name (a_method m) entry = false
 
--- a field is repeated, stands in the message around an entry, and gives it its name
+-- a field is repeated, is declared in the message around an entry, and gives it its name
 abbrev pub is_map_field : Declaration → Declaration → Bool
 is_map_field entry d = (d.parent == entry.parent) && gives_name d.item entry.item
 
@@ -403,7 +403,7 @@ is_packable_by w d name None = is_some name && list_all (passes w is_enum) (look
 abbrev pub is_packable : World → Declaration → DeclaredField → Bool
 is_packable w d f = is_packable_by w d f.type_name f.type_code
 
--- BadPacked: `packed = true` stands only on a repeated field of a packable kind
+-- BadPacked: `packed = true` is set only on a repeated field of a packable kind
 abbrev pub is_packed_right : World → Declaration → DeclaredField → Bool
 is_packed_right w d f = not (option_map_or (λ b. b) f.packed false) || (f.is_repeated && is_packable w d f)
 
@@ -438,7 +438,7 @@ is_type_by w d name (Some code.Sint32) = is_none name
 is_type_by w d name (Some code.Sint64) = is_none name
 
 -- KindMismatch at a field: a type number or a type name is given; a given number agrees with what the name means; a scalar has no type name;
--- MESSAGE and ENUM have one, and GROUP, which stands in files of proto2 alone, has one that means no entry
+-- MESSAGE and ENUM have one, and GROUP, which only files of proto2 have, has one that means no entry
 abbrev pub is_type_right : World → Declaration → DeclaredField → Bool
 is_type_right w d f = is_type_by w d f.type_name f.type_code
 
@@ -460,6 +460,6 @@ is_closed files e = is_enum e.item && is_two files e.file
 abbrev pub is_open : List DeclaredFile → Declaration → Bool
 is_open files e = not (is_closed files e)
 
--- ClosedEnum: the field is of an enum of a file of proto2 only where it stands in such a file itself, and not in an entry
+-- ClosedEnum: a field's type is an enum of a file of proto2 only if the field is in such a file itself, and not in an entry
 abbrev pub is_enum_right : World → Declaration → Bool
 is_enum_right w d = (is_two w.files d.file && not (is_of_entry d.item)) || list_all (passes_declared w (is_open w.files)) (lookups w d)

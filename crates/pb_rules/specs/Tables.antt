@@ -60,7 +60,7 @@ abbrev pub is_elsewhere : Option ℕ → ℕ → Bool
 is_elsewhere None place = true
 is_elsewhere (Some first) place = not (first == place)
 
--- what stands in the tables at a place
+-- the entries of the tables at a place
 abbrev pub at_place : Names → List Bool → ℕ → At
 at_place n map_marks place = record {
   file_is_first = slice_index_or n.file_is_first.items place false;

@@ -19,11 +19,11 @@ pub enum LinkCause {
     BadName,
     /// An earlier declaration or a package has the full name.
     NameTaken,
-    /// A type name stands for nothing.
+    /// A type name is not declared.
     NotFound,
-    /// A type name stands for a type that the file does not see.
+    /// A type name means a type that the file does not see through its imports.
     NotVisible,
-    /// A type name stands for what is no type.
+    /// A type name means something that is not a type.
     NotAType,
     /// A field's number is not 1 to 536,870,911, or is 19,000 to 19,999.
     BadNumber,
@@ -35,11 +35,11 @@ pub enum LinkCause {
     BadOneof,
     /// An entry message or a use of one is not that of a map field.
     BadMap,
-    /// `packed` stands on a field that is no list of a packable kind.
+    /// `packed` is set on a field that is not a repeated field of a packable kind.
     BadPacked,
     /// An enum has no first value, or that is not 0 in a file of proto3.
     BadEnum,
-    /// The type's number and its name do not agree, a group stands in a file of proto3, or a method's type is no message.
+    /// The type's number and its name do not agree, a file of proto3 has a group, or a method's type is no message.
     KindMismatch,
     /// A reserved range is empty, out of bounds, or overlaps another.
     BadRange,
@@ -48,7 +48,7 @@ pub enum LinkCause {
 }
 
 impl LinkCause {
-    /// The cause's number, from 71 to 89; 88 is want of memory.
+    /// The cause's number, from 71 to 89; 88 is out of memory.
     pub fn number(self) -> u8
         ensures { result ≡ cause_number self }
     {

@@ -78,7 +78,7 @@ fn is_cycle_at(
     Ok(is_cyclic)
 }
 
-/// The place of the first file that reaches itself, if one does. Files behind it are not asked, so that one file is walked at most.
+/// The place of the first file that reaches itself, if one does. Later files are not looked at, so at most one file's imports are walked.
 fn find_cycle(
     alloc: Global,
     row: &[Declaration],

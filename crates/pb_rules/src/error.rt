@@ -23,7 +23,7 @@ pub enum LinkError {
 }
 
 impl LinkError {
-    /// The error's number: that of the cause, and 88 for want of memory.
+    /// The error's number: that of the cause, and 88 for out of memory.
     pub fn number(&self) -> u8
         ensures { result ≡ link_number self.now }
     {

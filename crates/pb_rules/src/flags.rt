@@ -68,7 +68,7 @@ fn are_indexes_there(file: &FileDecl, indexes: &[i32]) -> bool
     true
 }
 
-/// Whether the imports of a file are right, where so many of them name files.
+/// Whether the imports of a file are right. `found` of them name files.
 fn are_right_imports(found: usize, file: &FileDecl) -> bool
     ensures { result ≡ are_right_imports found (file_view file.now) }
 {

@@ -31,7 +31,7 @@ pub struct Judged<'a> {
     pub names: Names,
 }
 
-/// Judges files by all rules. Else the first fault is told: by file, then by declaration, then by the cause's number.
+/// Judges files by all rules, or reports the first fault: by file, then by declaration, then by the cause's number.
 pub fn judge_files<'a>(alloc: Global, files: &'a [FileDecl]) -> Result<Judged<'a>, LinkError>
     ensures judged { IfOk result (IsJudged (map file_view files.now)) }
     ensures refused { IfErr result (IsUnlinked (map file_view files.now)) }

@@ -1,6 +1,6 @@
 //! Which rules fail: the rules of what files declare, and the least fault where one does not hold.
 //!
-//! An inner crate: `pb_link` stands on it, and its errors are those of `pb_link`.
+//! An inner crate, used by `pb_link`, whose errors are the ones defined here.
 #![tactic(auto)]
 
 mod cause;

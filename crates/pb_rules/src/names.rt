@@ -7,7 +7,7 @@ ghost use Rattle.pb_rules.specs.Tables.{is_elsewhere, at_place};
 
 use pb_names::found::TypeNames;
 
-/// What the rules of files, names and type names come to, by place. A rule that does not speak of what stands there holds.
+/// The results of the rules of files, names and type names, by place. A rule that does not apply to the declaration there holds.
 #[derive(Drop)]
 pub struct Names {
     /// Whether no earlier file has the file's name.
@@ -22,12 +22,12 @@ pub struct Names {
     pub found: Vec<TypeNames>,
 }
 
-/// What the tables tell at one place.
+/// The entries of the tables at one place.
 #[derive(Clone, Copy, PartialEq, Eq, Debug)]
 pub(crate) struct At {
     pub(crate) file_is_first: bool,
     pub(crate) imports_are_there: bool,
-    /// Told only up to the first file that reaches itself by imports.
+    /// Known only up to the first file that reaches itself by imports.
     pub(crate) reaches_no_cycle: bool,
     pub(crate) is_free: bool,
     /// Whether the rules of map fields and their entries hold.

@@ -8,12 +8,12 @@ use Rattle.pb_decode.specs.declared.error.DecodeError.{DecodeError}
 use Rattle.pb_decode.specs.FromDevice.{IfRefused, IsNoFault}
 use Rattle.pb_stream.specs.Frame.{Frame, FrameFault}
 
--- the input began with a frame of the message that is answered, and what is left stands behind it
+-- the input began with a frame of the message that is answered, and the bytes after it are left
 abbrev pub AnswersFrame : {A : Type 0} → (A → Message) → Types → ℕ → Bounds → Option (List ℕ) → Option (List ℕ) → Result (Option A) DecodeError → Type 0
 AnswersFrame body pool m limits old new result =
     IfSome old (λ left. IfOk result (λ o. IfSome o (λ r. IsSomeAnd new (Frame pool m limits left (body r)))))
 
--- a fault that is told is one of what the input began with
+-- a fault that is reported is one of what the input began with
 abbrev pub TellsFrameFault : {A : Type 0} → Types → ℕ → Bounds → Option (List ℕ) → Result (Option A) DecodeError → Type 0
 TellsFrameFault pool m limits old result = IfErr result (λ e. IfRefused e (λ f. IfSome old (λ left. FrameFault pool m limits left f)))
 

@@ -1,4 +1,4 @@
--- Messages in a stream: the length of each stands before it, as a varint ("Streaming Multiple Messages" of the techniques of Protocol Buffers).
+-- Messages in a stream: the length of each comes before it, as a varint ("Streaming Multiple Messages" of the techniques of Protocol Buffers).
 use Rattle.std.specs.Prelude.{◌≡◌, ◌≢◌, ◌<◌, ◌≤◌, ℕ, List, [], ◌++◌, length}
 use Rattle.pb_wire.specs.Varint.{IsVarint}
 use Rattle.pb_wire.specs.Fault.{Fault, fault, Place, text_at, Reads, VarintFault}

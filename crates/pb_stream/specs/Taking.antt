@@ -6,8 +6,8 @@ use Rattle.pb_wire.specs.Varint.{IsVarint}
 use Rattle.pb_wire.specs.Fault.{IsHigh}
 use Rattle.pb_wire.specs.Limits.{Bounds}
 
--- These bytes don't go past the end of the frame that they begin: they are in its length, or behind a length that is within the limit there are
--- no more of them than it counts.
+-- These bytes don't go past the end of the frame that they begin: they are in its length, or there are no more of
+-- them after a length within the limit than it counts.
 pub data IsInFrame (limits : Bounds) (taken : List ℕ) : Type 0 where
   in_length : length taken ≤ 10 → AllByRecursion IsHigh taken → IsInFrame limits taken
   whole_length : {n : ℕ} → IsVarint n taken → IsInFrame limits taken
@@ -18,7 +18,7 @@ pub data IsInFrame (limits : Bounds) (taken : List ℕ) : Type 0 where
 abbrev pub StaysInFrame : Bounds → Option (List ℕ) → Option (List ℕ) → Type 0
 StaysInFrame limits old new = (taken : List ℕ) × Consumes old new taken × IsInFrame limits taken
 
--- so many bytes were taken
+-- this number of bytes was taken
 abbrev pub Takes : ℕ → Option (List ℕ) → Option (List ℕ) → Type 0
 Takes size old new = (taken : List ℕ) × (length taken ≡ size) × Consumes old new taken
 

@@ -16,7 +16,7 @@ use std::alloc::Global;
 /// The most bytes that a length has.
 const MAX_LEN: usize = 10;
 
-/// What stands before a message: `start` bytes that spell its length, which is `size`.
+/// The length before a message: `start` bytes that encode `size`.
 #[derive(Clone, Copy)]
 pub(crate) struct Header {
     pub(crate) start: usize,
@@ -61,7 +61,7 @@ fn take_varint<I: Input>(input: &mut I, bytes: &mut [u8; MAX_LEN]) -> Result<usi
     Ok(MAX_LEN)
 }
 
-/// Reads the length before a message, or nothing where nothing is left. Takes no byte behind it.
+/// Reads the length before a message, or nothing at the end of the input. Takes no byte after it.
 pub(crate) fn read_length<I: Input>(
     alloc: Global,
     input: &mut I,

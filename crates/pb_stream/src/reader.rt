@@ -8,7 +8,7 @@ use pb_wire::{Input, Limits};
 use std::alloc::Global;
 use std::marker::Model;
 
-/// Reads the messages of one input in turn, each behind its length. All are of one type.
+/// Reads the messages of one input in turn, each after its length. All are of one type.
 #[derive(Drop)]
 pub struct DelimitedReader<'p, I: Drop> {
     alloc: Global,
@@ -109,7 +109,7 @@ impl<'p, I: Input + Drop> DelimitedReader<'p, I> {
         }
     }
 
-    /// How many bytes the calls of `next` took that answered no refusal. The greatest u64 stands for more.
+    /// How many bytes were taken by the calls of `next` that refused nothing. The greatest u64 also means more.
     pub fn taken(&self) -> u64
         ensures { result ≡ self.now.taken }
     {

@@ -79,10 +79,10 @@ pub(crate) fn read_frame<'p, I: Input>(
     take_frame(alloc, pool, message_type, input, limits)
 }
 
-/// Reads a message of a type behind its length, or nothing where nothing is left.
+/// Reads a length and a message of a type, or nothing at the end of the input.
 ///
 /// Just the frame is read: the length byte by byte, and then the bytes that it counts. Where the input begins with no frame,
-/// [`DecodeError::Fault`] tells the place from the first byte of the length on, and no byte past the frame is read. A length
+/// [`DecodeError::Fault`] gives the place, counted from the first byte of the length, and no byte past the frame is read. A length
 /// above `max_bytes` of the limits is too large. `message_type` is a type of the pool.
 pub fn read_delimited<'p, I: Input>(
     alloc: Global,

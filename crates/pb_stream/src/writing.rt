@@ -10,7 +10,7 @@ use pb_encode::planning::plan;
 use pb_value::DynamicMessage;
 use pb_wire::{Output, put_varint, write_all};
 
-/// Writes a message behind its length: the shortest varint of the length, and then the canonical bytes.
+/// Writes a message after its length: the shortest varint of the length, and then the canonical bytes.
 ///
 /// What is written is a frame of the message within the greatest limits, whatever follows it ([`written_frame`]).
 ///

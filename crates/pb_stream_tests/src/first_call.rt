@@ -7,7 +7,7 @@ use pb_wire::{FailurePlan, Limits, MemInput};
 use std::alloc::Global;
 use std::test::Fail;
 
-/// How many messages of type T stand in a stream, each behind its length.
+/// How many messages of type T are in a stream, each after its length.
 fn count(alloc: Global, pool: &Pool, stream: &[u8]) -> Result<u64, Fail> {
     let message_type = pool.message_by_name("T").ok_or("no type T")?;
     let input = MemInput::new(stream, 4096, FailurePlan::NEVER); // or `ReadInput::new(rt.stdin())`

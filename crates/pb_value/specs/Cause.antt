@@ -9,6 +9,6 @@ pub use Rattle.pb_value.specs.Judge.Check.{content_cause, with_member, is_second
 pub use Rattle.pb_value.specs.Judge.Check.{in_message, in_map, datum_cause, datums_cause, entries_cause, parts_cause}
 pub use Rattle.pb_value.specs.Judge.Check.{declared_cause, held_cause, fields_cause, body_cause, message_cause}
 
--- a merge is refused for want of memory, or where types or pools differ
+-- a merge is refused where types or pools differ, or memory ran out
 abbrev pub MergeFails : Dynamic → Dynamic → ValueError → Type 0
 MergeFails v w e = ((e ≡ Memory) × IsSameType v w) ⊎ ((e ≡ OtherType) × ¬ IsSameType v w)

@@ -1,5 +1,5 @@
--- How a proof tells two messages apart: each is written as a tree of numbers, and read back from it. No contract promises anything of
--- these trees: they stand here because a model of a type names them.
+-- How a proof distinguishes two messages: each is written as a tree of numbers, and read back from it. No contract promises anything
+-- about these trees; they are in specs/ because a model of a type names them.
 use Rattle.std.specs.Prelude.{◌≡◌, ℕ, ℤ, pos, negsuc, List, [], ◌∷◌, Bool, true, false, refl, if◌then◌else◌, ◌==◌}
 use Rattle.std.proofs.Common.{sym, ap, ◌∙◌}
 use base.Stored.{Gv, gnil, gnum, gcons, Coded}

@@ -1,4 +1,4 @@
--- Messages as plain trees: scalars and messages, singly, in lists or under keys. Fields stand by rising number, and the entries of a map by rising key.
+-- Messages as plain trees: scalars and messages, singly, in lists or under keys. Fields are in order of rising number, and the entries of a map of rising key.
 use Rattle.std.specs.Prelude.{ℕ, suc, max, List, [], ◌∷◌, Bool, false, ◌==◌, Option, Some, None, if◌then◌else◌}
 use Rattle.std.specs.Ordering.{nat_cmp, int_eq, is_eq, bool_cmp, match_ordering}
 use Rattle.std.specs.Str.{bytes_eq}
@@ -76,7 +76,7 @@ is_same_key (boolean x) (boolean y) = is_eq (bool_cmp x y)
 is_same_key (text x) (text y) = bytes_eq x y
 is_same_key _ _ = false
 
--- what stands under a key
+-- the value under a key
 abbrev pub get_entry : Scalar → Entries → Option Datum
 get_entry x no_entries = None
 get_entry x (entry y d es) = if is_same_key x y then Some d else get_entry x es
@@ -94,7 +94,7 @@ abbrev pub joined_datums : Datums → Datums → Datums
 joined_datums no_datums es = es
 joined_datums (datum d ds) es = datum d (joined_datums ds es)
 
--- How many levels stand below a message. An embedded message, a map entry and a group are one more, and the message of an entry is at the entry's level.
+-- How many levels a message nests below itself. An embedded message, a map entry and a group are one more, and the message of an entry is at the entry's level.
 abbrev mutual
   pub levels_of : Datum → ℕ
   levels_of (scalar x) = 0

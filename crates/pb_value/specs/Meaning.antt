@@ -11,7 +11,7 @@ use Rattle.pb_value.specs.Value.{value}
 use Rattle.pb_value.specs.Derives.{Derives}
 use Rattle.pb_value.specs.WellFormed.{IsWellFormed}
 
--- records that can stand in a text of a message type, within a depth: their numbers, payloads and lengths are in range, and they are sound for
+-- records that an encoding of a message type can have, within a depth: their numbers, payloads and lengths are in range, and they are sound for
 -- the type
 pub record AreSoundInRange (pool : Types) (m depth : ℕ) (rs : List Record) : Type 0 where
   pub in_range : AreInRange rs

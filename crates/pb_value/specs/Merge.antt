@@ -37,7 +37,7 @@ module _ (merged : ℕ → Message → Message → Message) where
   merged_fields all [] fs gs = no_fields
   merged_fields all (f ∷ rest) fs gs = put_some f.number (merged_at all f gs (get_field f.number fs) (get_field f.number gs)) (merged_fields all rest fs gs)
 
--- w over v, as messages of at most so many levels
+-- w merged over v, as messages of at most this many levels
 unfoldable pub merged_within : Types → ℕ → ℕ → Message → Message → Message
 merged_within pool zero m v w = empty
 merged_within pool (suc levels) m v w =

@@ -119,8 +119,8 @@ module _ (value : ℕ → List Record → Message) where
   abbrev pub body_of : Types → List FieldView → List Record → Message
   body_of pool fs rs = body (fields_held fs fs (known pool fs rs)) (unknown pool fs rs)
 
--- The value of records, as a message of at most so many levels. What stands deeper comes to the empty message; no text that is decoded nests
--- so deep, since decoding stops behind level 100.
+-- The value of records, as a message of at most this many levels. A message that is nested deeper is read as the empty message; no input
+-- that is decoded nests that deep, since decoding refuses what is below level 100.
 unfoldable pub value_within : Types → ℕ → ℕ → List Record → Message
 value_within pool zero m rs = empty
 value_within pool (suc levels) m rs = body_of (value_within pool levels) pool (message_fields pool m) rs

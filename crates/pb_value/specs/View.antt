@@ -1,4 +1,4 @@
--- The plain trees that messages and what they hold stand for.
+-- The plain trees of messages and of what they hold.
 use Rattle.std.specs.Prelude.{ℕ, List, [], ◌∷◌, string_bytes}
 use Rattle.std.specs.Prelude as prelude
 use Rattle.pb_wire.specs.Unknown.{records_of}
@@ -60,7 +60,7 @@ value_view = fold-Value Holding Datum Message content_step value_step body_step
 abbrev pub content_view : Content → Holding
 content_view = fold-Content Holding Datum Message content_step value_step body_step
 
--- the message that a body stands for
+-- the message of a body
 abbrev pub body_view : Body → Message
 body_view = fold-Body Holding Datum Message content_step value_step body_step
 

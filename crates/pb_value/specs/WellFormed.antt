@@ -24,7 +24,7 @@ IsUnknown pool fs r = IsNumber r.number × IsInRange r.payload × IsNumbered r.p
 abbrev pub AreUnknown : Types → List FieldView → List Record → Type 0
 AreUnknown pool fs rs = AllByRecursion (IsUnknown pool fs) rs
 
--- fields stand by rising number, from n on
+-- fields are in order of rising number, from n on
 abbrev pub RisesFrom : ℕ → Fields → Type 0
 RisesFrom n no_fields = Unit {0}
 RisesFrom n (field k h fs) = (n ≤ k) × RisesFrom (k + 1) fs
@@ -135,11 +135,11 @@ module _ (pool : Types) where
     IsBody m (body fs us) =
         AreFields (message_fields pool m) fs × RisesFrom 0 fs × HasOneMemberEach (message_fields pool m) fs × AreUnknown pool (message_fields pool m) us
 
-  -- the content can stand at the field of number n
+  -- the field of number n can hold the content
   abbrev pub CanStand : List FieldView → ℕ → Holding → Type 0
   CanStand all n h = IsSomeAnd (field_numbered n all) (λ f. IsOfShape f.shape h × IsHeld f.shape f.kind h × (holds_declared pool f.kind h ≡ true))
 
-  -- a well-formed message of a type: its parts are, and at most 100 levels stand below it
+  -- a well-formed message of a type: its parts are, and it nests at most 100 levels below itself
   pub record IsWellFormed (m : ℕ) (v : Message) : Type 0 where
     pub parts : IsBody m v
     pub depth : message_depth v ≤ 100

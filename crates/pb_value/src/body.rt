@@ -3,7 +3,7 @@
 use pb_wire::Unknown;
 use std::collections::BTreeMap;
 
-/// A map's key. Keys of one map are of one variant, and stand in order: numbers by value, false before true, texts by
+/// A map's key. Keys of one map are of one variant, in this order: numbers by value, false before true, strings by
 /// their bytes.
 #[derive(Debug, PartialEq, Eq, PartialOrd, Ord, Drop)]
 pub enum MapKey {

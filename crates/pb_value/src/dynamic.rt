@@ -78,8 +78,8 @@ impl<'p> DynamicMessage<'p> {
 
     /// The message of a body, where the body is a well-formed message of the type.
     ///
-    /// Fields are judged by rising number and then the unknown records; at one field the least cause is told, then what is
-    /// wrong inside its messages. A second member of a oneof is told at that member, and the depth last.
+    /// Fields are judged by rising number, then the unknown records. At one field the least cause is reported, before the
+    /// causes inside its messages. A second member of a oneof is reported at that member, and the depth last.
     pub fn from_body(
         alloc: Global,
         pool: &'p Pool,
@@ -183,7 +183,7 @@ impl<'p> DynamicMessage<'p> {
     /// Sets the field of a number. A default of implicit presence, an empty list and an empty map clear the field, and a member
     /// of a oneof takes the place of the one that is set. Nothing else changes, and nothing at all where the call fails.
     ///
-    /// The content alone is judged: at the field the least cause is told, then what is wrong inside its messages, and the
+    /// Only the content is judged: the least cause at the field is reported, before the causes inside its messages, and the
     /// depth last.
     pub fn set(&mut self, number: u32, content: Content) -> Result<(), ValueError>
         ensures ok { OnOk result (self.new ≡ with_changed self.old (set_at (message_fields self.old.pool self.old.kind) number (content_view content))) }
@@ -196,7 +196,7 @@ impl<'p> DynamicMessage<'p> {
 
     /// Puts a value at the end of the list of a number. Nothing else changes, and nothing at all where the call fails.
     ///
-    /// The value alone is judged: at the field the least cause is told, then what is wrong inside its messages, and the depth
+    /// Only the value is judged: the least cause at the field is reported, before the causes inside its messages, and the depth
     /// last. An element is stored also where it is its kind's default.
     pub fn push(&mut self, number: u32, value: Value) -> Result<(), ValueError>
         ensures ok { OnOk result (self.new ≡ with_changed self.old (push_at number (value_view value))) }
@@ -207,7 +207,7 @@ impl<'p> DynamicMessage<'p> {
         push_element(self.alloc, &mut self.body, number, value)
     }
 
-    /// Puts a value under a key of the map of a number, in place of the one that stood there, which is the answer. Nothing else
+    /// Puts a value under a key of the map of a number, and returns the value that the key had before. Nothing else
     /// changes, and nothing at all where the call fails.
     ///
     /// The key and the value alone are judged, as by [`push`](DynamicMessage::push).
@@ -227,10 +227,10 @@ impl<'p> DynamicMessage<'p> {
     }
 
     /// This message with another over it: scalars of the other where it has them, messages merged, lists joined, its entries put
-    /// over those of this one, and its unknown records behind. A member of a oneof that the other sets takes the place of
+    /// over those of this one, and its unknown records last. A member of a oneof that the other sets takes the place of
     /// another member (encoding guide, "Last One Wins", "Oneofs", "Maps").
     ///
-    /// It means what the canonical forms of both mean, one behind the other, and is never too deep. Both messages are given up; a
+    /// It is what the canonical forms of both decode to, one after the other, and is never too deep. Both messages are given up; a
     /// refused merge leaves neither. Types and pools are compared by value, in time linear in the pool; then it takes time linear in the
     /// parts of the other and logarithmic in those of this one, but for the search of the member that gives way.
     pub fn merge(self, other: DynamicMessage<'p>) -> Result<DynamicMessage<'p>, ValueError>

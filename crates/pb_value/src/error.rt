@@ -23,7 +23,7 @@ pub enum ValueError {
     TwoMembers,
     /// An unknown record fits a field.
     KnownAsUnknown,
-    /// More than 100 levels stand below the message.
+    /// The message nests more than 100 levels below itself.
     TooDeep,
     /// There is no memory.
     Memory,

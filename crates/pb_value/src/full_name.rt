@@ -95,7 +95,7 @@ fn declared_in(pool: &Pool, message_type: MessageId) -> Option<MessageId>
     type_of(pool, message_type).parent
 }
 
-/// The same, which stands before the type.
+/// The message type around this one, which has a smaller index.
 fn type_around(pool: &Pool, message_type: MessageId) -> Option<MessageId>
     requires { message_type.0 < length pool.now.messages }
     ensures { IfSome result (λ p. p.0 < message_type.0) }

@@ -44,7 +44,7 @@ pub fn round_trip()
     ensures value { (pool : Types) → IsPool pool → CanonHasValue pool }
 {}
 
-/// Keys of one map stand in the order of the definitions: numbers by value, false before true, texts by their bytes.
+/// Keys of one map are in the order of the definitions: numbers by value, false before true, strings by their bytes.
 pub fn key_order()
     ensures { (kind : Kind) (a b : MapKey) → IsOfKind kind (key_view a) → IsOfKind kind (key_view b) → map_key_cmp a b ≡ key_cmp (key_view a) (key_view b) }
 {}
@@ -59,14 +59,14 @@ pub fn joined_records()
     ensures { (pool : Types) → IsPool pool → FirstValueDecides pool }
 {}
 
-/// Reading onto a message is reading behind any records, or any bytes, that give the message; the message stays well formed.
+/// Reading onto a message is reading after any records, or any bytes, that give the message; the message stays well formed.
 pub fn reading_onto()
     ensures records { (pool : Types) → IsPool pool → OntoIsJoining pool }
     ensures bytes { (pool : Types) → IsPool pool → OntoDerives pool }
     ensures well_formed { (pool : Types) → IsPool pool → OntoIsWellFormed pool }
 {}
 
-/// A message over another is what the canonical forms of both, one behind the other, mean; it is well formed.
+/// A message merged over another is what the canonical forms of both, one after the other, decode to; it is well formed.
 pub fn merging()
     ensures records { (pool : Types) → IsPool pool → MergeIsJoining pool }
     ensures bytes { (pool : Types) → IsPool pool → MergeIsText pool }

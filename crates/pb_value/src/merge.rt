@@ -19,7 +19,7 @@ use crate::lookup::field_at;
 use pb_schema::{Kind, MessageId, Pool, Shape};
 use std::collections::BTreeMap;
 
-/// Puts the elements of a list behind those of a content. What is no list is replaced.
+/// Appends the elements of a list to those of a content. Content that is not a list is replaced.
 fn join_list(content: &mut Content, mut other: Vec<Value>) -> Result<(), ValueError>
     ensures ok { OnOk result ((merge : ℕ → Message → Message → Message) (k : Kind) →
         content_view content.new ≡ both merge k (content_view content.old) (list (values_view other.items))) }

@@ -237,7 +237,7 @@ fn field_decl(
     })
 }
 
-/// The index of the next synthetic oneof behind a field.
+/// The index of the next synthetic oneof after a field.
 fn behind(proto2: bool, synthetic: usize, field: &Field) -> usize
     requires { synthetic < 2 ^ 31 }
     ensures { result ≡ (if is_optional_field proto2 field.now.shape field.now.kind then synthetic + 1 else synthetic) }
@@ -249,7 +249,7 @@ fn behind(proto2: bool, synthetic: usize, field: &Field) -> usize
     }
 }
 
-/// The fields of a message with this full name and so many oneofs, behind which the synthetic ones stand.
+/// The fields of a message with this full name and number of oneofs. The synthetic oneofs are numbered after these.
 pub(crate) fn field_decls(
     alloc: Global,
     pool: &Pool,
@@ -274,7 +274,7 @@ pub(crate) fn field_decls(
     Ok(decls)
 }
 
-/// Puts the names of the synthetic oneofs of some fields behind those of the others.
+/// Appends the names of the synthetic oneofs of some fields to those of the other oneofs.
 pub(crate) fn add_synthetic(
     alloc: Global,
     proto2: bool,
@@ -367,7 +367,7 @@ fn entry_decl(
     })
 }
 
-/// Puts the entry message of a field behind other messages, if it has one.
+/// Appends the entry message of a field, if it has one.
 fn add_entry(
     alloc: Global,
     pool: &Pool,
@@ -392,7 +392,7 @@ fn add_entry(
     }
 }
 
-/// Puts the entry messages of map fields behind the messages that are nested beside them.
+/// Appends the entry messages of map fields to the messages that are nested beside them.
 pub(crate) fn add_entries(
     alloc: Global,
     pool: &Pool,

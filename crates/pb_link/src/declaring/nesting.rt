@@ -17,7 +17,7 @@ use pb_decl::{EnumDecl, MessageDecl};
 use pb_schema::{Field, MessageId, MessageType, Pool};
 use std::alloc::{AllocError, Global};
 
-/// What stands in a file or a message directly.
+/// The messages and enums that are declared directly in a file or a message.
 #[derive(Drop)]
 pub(crate) struct Inside {
     /// The last one first.
@@ -25,7 +25,7 @@ pub(crate) struct Inside {
     pub(crate) enums: Vec<EnumDecl>,
 }
 
-/// So many places in which nothing stands.
+/// `count` places that hold nothing.
 fn empty(alloc: Global, count: usize) -> Result<Vec<Inside>, AllocError>
     ensures { IfOk result (λ v. AreInside count (λ i. record { messages = []; enums = [] }) v.items) }
 {
@@ -61,7 +61,7 @@ fn add_enum(places: &mut Vec<Inside>, index: usize, entry: EnumDecl) -> Result<(
     Ok(())
 }
 
-/// Puts a message behind those of its file or of the message that it is declared in.
+/// Appends a message to those of its file or of the message that it is declared in.
 fn place_message(
     file: usize,
     parent: Option<MessageId>,
@@ -113,7 +113,7 @@ fn nest_enums(
     Ok(())
 }
 
-/// The messages in a message: those that stand there, the last one first, in their order, and behind them its entries.
+/// The messages in a message: those of `inside`, which has the last one first, in declaration order, and then its entries.
 fn inner_messages(
     alloc: Global,
     pool: &Pool,
@@ -131,7 +131,7 @@ fn inner_messages(
     Ok(messages)
 }
 
-/// The names of the oneofs of a message, and behind them those of its optional fields.
+/// The names of the oneofs of a message, and after them those of its optional fields.
 fn oneof_names(
     alloc: Global,
     proto2: bool,
@@ -155,7 +155,7 @@ fn is_two(pool: &Pool, file: usize) -> bool
     }
 }
 
-/// The declaration of a message, in which this stands.
+/// The declaration of a message that holds `inside`.
 fn message_decl(
     alloc: Global,
     pool: &Pool,
@@ -192,7 +192,7 @@ fn message_decl(
     })
 }
 
-/// Makes the declaration of a message and puts it into its place. Those behind it are in theirs.
+/// Makes the declaration of a message and puts it into its place. Later messages are in their places already.
 fn nest_message(
     alloc: Global,
     pool: &Pool,
@@ -232,7 +232,7 @@ fn nest_messages(
     Ok(())
 }
 
-/// What stands in each file, the last message first.
+/// The messages and enums directly in each file, the last message first.
 pub(crate) fn nested(alloc: Global, pool: &Pool) -> Result<Vec<Inside>, AllocError>
     ensures { IfOk result (λ v. AreInside (length pool.now.files) (inside_file pool.now (numbered pool.now) pool.now.enums) v.items) }
 {

@@ -72,7 +72,7 @@ fn enum_kind(proto2: bool, index: usize) -> Kind
     }
 }
 
-/// The kind of what stands behind so many message types and enums.
+/// The kind of a declaration that follows `messages` message types and `enums` enums.
 fn kind_here(
     files: &[FileDecl],
     declaration: &Declaration<'_>,

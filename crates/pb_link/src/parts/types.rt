@@ -19,7 +19,7 @@ use pb_names::marks::oneofs::counted;
 use pb_schema::{EnumType, MessageType};
 use std::alloc::{AllocError, Global};
 
-/// Puts the name of a oneof behind those before, where it is not synthetic.
+/// Appends the name of a oneof, unless it is synthetic.
 fn add_oneof(is_synthetic: bool, name: &String, names: &mut Vec<String>) -> Result<(), AllocError>
     ensures { OnOk result (map string_bytes names.new.items
         ≡ map string_bytes names.old.items ++ (if not is_synthetic then string_bytes name.now ∷ [] else [])) }
@@ -110,7 +110,7 @@ fn enum_of(
     })
 }
 
-/// Puts the type of the message that is declared, if it is one, behind those before.
+/// Appends the message type, if the declaration is a message.
 fn add_message(
     alloc: Global,
     tables: &Tables<'_>,
@@ -148,7 +148,7 @@ pub(crate) fn messages_of(
     Ok(types)
 }
 
-/// Puts the enum that is declared, if it is one, behind those before.
+/// Appends the enum type, if the declaration is an enum.
 fn add_enum(
     alloc: Global,
     tables: &Tables<'_>,

@@ -1,4 +1,4 @@
-//! What type names came to, one declaration after another.
+//! The results of looking up type names, one declaration after another.
 
 ghost use Rattle.std.specs.Prelude.{◌≡◌, drop};
 ghost use Rattle.pb_names.specs.View.{type_names_view};
@@ -6,13 +6,13 @@ ghost use Rattle.pb_link.specs.Resolving.{coming, names_here};
 
 use pb_names::found::TypeNames;
 
-/// What the type names of the declarations that come next came to, in declaration order.
+/// The types found for the names of the declarations that come next, in declaration order.
 #[derive(Drop)]
 pub(crate) struct Upcoming<'a> {
     pub(crate) rest: &'a [TypeNames],
 }
 
-/// What is left behind so many.
+/// What is left after the first `count`.
 #[tactic(auto, using(std::proofs::lemmas::List::drop_all))]
 fn behind(found: &[TypeNames], count: usize) -> &[TypeNames]
     ensures { result.now ≡ drop count found.now }
@@ -24,7 +24,7 @@ fn behind(found: &[TypeNames], count: usize) -> &[TypeNames]
 }
 
 impl<'a> Upcoming<'a> {
-    /// What those of the next declaration came to, which is then gone past.
+    /// Takes the types found for the names of the next declaration.
     pub(crate) fn next(&mut self) -> TypeNames
         ensures names { type_names_view result ≡ names_here (coming self.old) }
         ensures rest { coming self.new ≡ drop 1 (coming self.old) }
@@ -36,7 +36,7 @@ impl<'a> Upcoming<'a> {
         *first
     }
 
-    /// Goes past so many declarations.
+    /// Skips `count` declarations.
     pub(crate) fn skip(&mut self, count: usize)
         ensures { coming self.new ≡ drop count (coming self.old) }
     {

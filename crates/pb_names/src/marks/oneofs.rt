@@ -17,7 +17,7 @@ pub struct Oneofs {
     pub are_synthetic: Vec<bool>,
 }
 
-/// The index of a field's oneof, where it is one of so many.
+/// The index of a field's oneof, if it is below `oneofs`.
 fn oneof_place(field: &FieldDecl, oneofs: usize) -> Option<usize>
     ensures { result ≡ oneof_place oneofs (field_view field.now) }
 {
@@ -45,7 +45,7 @@ fn mark(marks: &mut Vec<bool>, index: usize, is_marked: bool)
     marks[index] = is_now;
 }
 
-/// Counts the members of so many oneofs.
+/// Counts the members of each of `oneofs` oneofs.
 pub fn counted(alloc: Global, fields: &[FieldDecl], oneofs: usize) -> Result<Oneofs, AllocError>
     ensures { IfOk result (λ o. AreCounted (map field_view fields.now) oneofs o.members.items o.are_synthetic.items) }
 {
@@ -76,7 +76,7 @@ pub(crate) fn is_member_right(oneofs: &Oneofs, field: &FieldDecl) -> bool
     }
 }
 
-/// Whether the oneof of an index has a member and, if it is real, stands behind no synthetic one.
+/// Whether the oneof at an index has a member and, unless it is synthetic, follows no synthetic one.
 pub(crate) fn is_oneof_right(oneofs: &Oneofs, index: usize, follows_synthetic: bool) -> bool
     requires size { index < length oneofs.now.members.items }
     requires sizes { length oneofs.now.are_synthetic.items ≡ length oneofs.now.members.items }

@@ -17,14 +17,14 @@ use std::alloc::{AllocError, Global};
 /// The ranges and names that a message or an enum reserves.
 #[derive(Drop)]
 pub(crate) struct Reserved {
-    /// Starts in rising order, each with the greatest end of the ranges up to its own; an end is behind its range.
+    /// The starts in rising order, each with the greatest end of the ranges up to its own. Ends are exclusive.
     spans: Vec<(i64, i64)>,
     /// Whether no two of the ranges have a number in common, where none is empty.
     pub(crate) are_apart: bool,
     names: NameSet,
 }
 
-/// The ranges of a message, whose ends are behind them.
+/// The reserved ranges of a message, whose ends are exclusive.
 fn message_spans(alloc: Global, ranges: &[(i32, i32)]) -> Result<Vec<(i64, i64)>, AllocError>
     ensures { IfOk result (λ v. v.items ≡ ranges.now) }
 {
@@ -34,7 +34,7 @@ fn message_spans(alloc: Global, ranges: &[(i32, i32)]) -> Result<Vec<(i64, i64)>
         .collect(alloc)
 }
 
-/// The ranges of an enum, whose ends are in them, with their ends behind them.
+/// The reserved ranges of an enum, whose ends are inclusive, with exclusive ends.
 fn enum_spans(alloc: Global, ranges: &[(i32, i32)]) -> Result<Vec<(i64, i64)>, AllocError>
     ensures { IfOk result (λ v. v.items ≡ map with_end_behind ranges.now) }
 {
@@ -44,14 +44,14 @@ fn enum_spans(alloc: Global, ranges: &[(i32, i32)]) -> Result<Vec<(i64, i64)>, A
         .collect(alloc)
 }
 
-/// Whether no two ranges have a number in common, where they stand by their starts and none is empty.
+/// Whether no two ranges have a number in common. The ranges are sorted by their starts, and none is empty.
 fn are_apart(spans: &[(i64, i64)]) -> bool
     ensures { Rises (λ s. s.0) spans.now → list_all is_filled spans.now ≡ true → result ≡ none_overlap message_ranges_overlap spans.now }
 {
     spans.is_sorted_by(|one, next| one.1 <= next.0)
 }
 
-/// Raises each end to the greatest of those up to it. The ranges have no other numbers then, since they stand by their starts.
+/// Raises each end to the greatest of those up to it. The ranges hold the same numbers as before, since they are sorted by their starts.
 fn raise_ends(spans: &mut [(i64, i64)])
     requires { Rises (λ s. s.0) spans.old }
     ensures starts { Rises (λ s. s.0) spans.new }
@@ -75,7 +75,7 @@ fn name_set(alloc: Global, names: &[String]) -> Result<NameSet, AllocError>
     Ok(set)
 }
 
-/// What has these ranges, whose ends are behind them, and these names.
+/// Makes the table of these ranges, whose ends are exclusive, and these names.
 fn searchable(
     alloc: Global,
     mut spans: Vec<(i64, i64)>,

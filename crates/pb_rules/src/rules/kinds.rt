@@ -227,7 +227,7 @@ pub(crate) fn are_no_entries(row: &[Declaration], names: TypeNames) -> bool
     }
 }
 
-/// Whether each name stands for something.
+/// Whether each type name is declared.
 pub(crate) fn are_found(names: TypeNames) -> bool
     ensures { result ≡ not (list_any (is_same_fault not_found) (type_names_view names)) }
 {
@@ -238,7 +238,7 @@ pub(crate) fn are_found(names: TypeNames) -> bool
     }
 }
 
-/// Whether no name stands for a type that the file does not see.
+/// Whether no type name means a type that the file does not see.
 pub(crate) fn are_visible(names: TypeNames) -> bool
     ensures { result ≡ not (list_any (is_same_fault not_visible) (type_names_view names)) }
 {
@@ -249,7 +249,7 @@ pub(crate) fn are_visible(names: TypeNames) -> bool
     }
 }
 
-/// Whether no name stands for what is no type.
+/// Whether no type name means something that is not a type.
 pub(crate) fn are_types(names: TypeNames) -> bool
     ensures { result ≡ not (list_any (is_same_fault not_a_type) (type_names_view names)) }
 {
@@ -293,7 +293,7 @@ fn is_packable(row: &[Declaration], names: TypeNames, field: &FieldDecl) -> bool
     }
 }
 
-/// Whether `packed = true` stands on the field only if that is a list of a packable kind.
+/// Whether `packed = true` is set only on a repeated field of a packable kind.
 pub(crate) fn is_packed_right(row: &[Declaration], names: TypeNames, field: &FieldDecl) -> bool
     ensures { (fs : List DeclaredFile) (s : Sight) (d : DeclarationView) → type_names_view names ≡ lookups (world_of fs (map declaration_view row.now) s) d
         → result ≡ is_packed_right (world_of fs (map declaration_view row.now) s) d (field_view field.now) }

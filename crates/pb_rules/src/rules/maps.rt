@@ -196,7 +196,7 @@ fn are_used_rightly(
     }
 }
 
-/// What stands behind a place.
+/// The type names found at `steps` places after a place.
 fn names_behind(found: &[TypeNames], place: usize, steps: usize) -> TypeNames
     ensures { result ≡ slice_index_or found.now (place + steps) type_names.None }
 {
@@ -212,7 +212,7 @@ fn is_right_entry(is_entry: bool, is_used: bool, has_parts: bool, is_bare: bool)
     !is_entry || (is_used && has_parts && is_bare)
 }
 
-/// Whether the fields of an entry, which stand right behind it, are its key and its value.
+/// Whether the fields of an entry, which follow it directly, are its key and its value.
 fn has_parts(row: &[Declaration], found: &[TypeNames], place: usize, fields: &[FieldDecl]) -> bool
     ensures { (w : World) → w.declared ≡ map declaration_view row.now
         → result ≡ right_parts (map field_view fields.now) (are_plain w (slice_index_or found.now (place + 1) type_names.None))

@@ -159,7 +159,7 @@ fn add_user(users: &mut Vec<Users>, place: usize, target: Option<usize>)
     users[target] = now;
 }
 
-/// By place, the fields that use what stands there.
+/// For each place, the fields whose type is the declaration there.
 fn users_of(
     alloc: Global,
     row: &[Declaration],
@@ -196,7 +196,7 @@ fn is_used_once(
     Ok(is_right)
 }
 
-/// By place, whether what stands there is used by exactly one field, and that is its map field.
+/// For each place, whether exactly one field has the declaration there as its type, and is its map field.
 pub(crate) fn use_marks(
     alloc: Global,
     row: &[Declaration],

@@ -18,7 +18,7 @@ abbrev pub entries_of : Option Holding → Entries
 entries_of (Some (map es)) = es
 entries_of _ = no_entries
 
--- what a field then holds with d under the key x of its map, in place of what stood there
+-- what a field then holds: its map with d under the key x, in place of the earlier value
 abbrev pub inserted : Scalar → Datum → Option Holding → Holding
 inserted x d h = map (put_entry x d (entries_of h))
 
@@ -26,7 +26,7 @@ inserted x d h = map (put_entry x d (entries_of h))
 abbrev pub insert_at : ℕ → Scalar → Datum → Fields → Fields
 insert_at n x d fs = put_field n (inserted x d (get_field n fs)) fs
 
--- what stands under the key x of the map of number n
+-- the value under the key x of the map of number n
 abbrev pub entry_at : ℕ → Scalar → Fields → Option Datum
 entry_at n x fs = get_entry x (entries_of (get_field n fs))
 
@@ -44,7 +44,7 @@ insert_cause pool m n x d =
     (λ f. or_else (unless (is_key_of f.shape x && is_value_of f.kind d) WrongKind) (or_else (unless (is_map f.shape) WrongShape)
     (or_else (datum_cause pool f.kind d) (unless (nat_le (suc (levels_in_entry d)) 100) TooDeep))))
 
--- the value can stand under the key in the map of number n
+-- the map of number n can hold the value under the key
 abbrev pub IsEntry : Types → ℕ → ℕ → Scalar → Datum → Type 0
 IsEntry pool m n x d =
     IsSomeAnd (field_numbered n (message_fields pool m))

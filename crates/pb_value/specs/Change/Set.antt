@@ -53,7 +53,7 @@ set_cause pool m n h =
     at_field (field_numbered n (message_fields pool m))
     (λ f. or_else (content_cause f.shape f.kind h) (or_else (held_cause pool f.shape f.kind h) (unless (nat_le (holding_depth h) 100) TooDeep)))
 
--- the content can stand at the field of number n, which has this shape
+-- the field of number n, which has this shape, can hold the content
 abbrev pub Allowed : Types → ℕ → ℕ → Shape → Holding → Type 0
 Allowed pool m n s h =
     IsSomeAnd (field_numbered n (message_fields pool m)) (λ f. (f.shape ≡ s) × (has_shape f.shape h ≡ true) × IsHeld pool f.shape f.kind h

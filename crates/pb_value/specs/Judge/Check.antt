@@ -1,6 +1,6 @@
 -- Why a message is not well formed: the first cause, by rising field number and then by unknown record. At one field the least cause is
--- told, a number that a closed enum doesn't declare last of these, then what is wrong inside its messages; a second member of a oneof is
--- told at that member, and the depth last of all.
+-- reported, a number that a closed enum doesn't declare last of these, then the causes inside its messages; a second member of a oneof is
+-- reported at that member, and the depth last of all.
 use Rattle.std.specs.Prelude.{ℕ, List, Bool, false, not, ◌||◌, ◌==◌, nat_le, Option, Some, None}
 use Rattle.pb_schema.specs.declared.types.Kind.{Kind}
 use Rattle.pb_schema.specs.declared.types.Shape.{Shape}
@@ -16,7 +16,7 @@ use Rattle.pb_value.specs.WellFormed.{key_of, holds_declared}
 use Rattle.pb_value.specs.declared.error.ValueError.{ValueError}
 use Rattle.pb_value.specs.declared.error.ValueError.TheVariants.{NoSuchField, WrongKind, WrongShape, DefaultStored, TwoMembers, TooDeep, NoSuchValue}
 
--- a content that cannot stand at a field, whatever its messages hold
+-- a content that a field cannot hold, whatever its messages hold
 abbrev pub content_cause : Shape → Kind → Holding → Option ValueError
 content_cause s k h = or_else (unless (holds_kind s k h) WrongKind) (unless (has_shape s h) WrongShape)
 

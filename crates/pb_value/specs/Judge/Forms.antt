@@ -1,4 +1,4 @@
--- Which values are of which kind, and which contents of which shape, told from their forms.
+-- Which values are of which kind, and which contents of which shape, by their variants.
 use Rattle.std.specs.Prelude.{Bool, true, false, ◌&&◌}
 use Rattle.pb_schema.specs.declared.types.Kind.{Kind}
 use Rattle.pb_schema.specs.declared.types.Kind.TheVariants as kind

@@ -1,4 +1,4 @@
--- The first of several causes, and what an answer tells of them.
+-- The first of several causes, and the answers that report it.
 use Rattle.std.specs.Prelude.{◌≡◌, ◌⊎◌, Bool, true, false, Option, Some, None, Result, MatchResult}
 use Rattle.pb_value.specs.declared.error.ValueError.{ValueError}
 use Rattle.pb_value.specs.declared.error.ValueError.TheVariants.{Memory}
@@ -13,18 +13,18 @@ abbrev pub unless : Bool → ValueError → Option ValueError
 unless true e = None
 unless false e = Some e
 
--- a call is refused for want of memory, or for the cause
+-- a call is refused for the cause, or memory ran out
 abbrev pub FailsWith : Option ValueError → ValueError → Type 0
 FailsWith cause e = (e ≡ Memory) ⊎ (cause ≡ Some e)
 
--- a call is refused exactly where there is a cause, and with that cause, but for want of memory
+-- a call is refused exactly where there is a cause, and with that cause, unless memory ran out
 abbrev pub IsRefusedBy : {T : Type 0} → Result T ValueError → Option ValueError → Type 0
 IsRefusedBy r cause = MatchResult r (λ _. cause ≡ None) (FailsWith cause)
 
--- an answer tells the cause, and where there is none the judged thing is good
+-- an answer reports the cause, and where there is none the judged thing is good
 abbrev pub Judges : {T : Type 0} → Result T ValueError → Option ValueError → Type 0 → Type 0
 Judges r cause Good = MatchResult r (λ _. (cause ≡ None) × Good) (λ e. cause ≡ Some e)
 
--- the same, up to want of memory
+-- the same, unless memory ran out
 abbrev pub JudgesOrFails : {T : Type 0} → Result T ValueError → Option ValueError → Type 0 → Type 0
 JudgesOrFails r cause Good = MatchResult r (λ _. (cause ≡ None) × Good) (λ e. FailsWith cause e)

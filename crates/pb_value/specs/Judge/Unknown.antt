@@ -1,4 +1,4 @@
--- Why unknown records cannot stand in a message: the first cause, record by record.
+-- Why a message cannot hold some unknown records: the first cause, record by record.
 use Rattle.std.specs.Prelude.{ℕ, ◌^◌, List, [], ◌∷◌, Bool, true, not, ◌&&◌, nat_lt, Option, None}
 use Rattle.pb_wire.specs.Record.{Payload, varint, fixed64, len, group, fixed32, Group, no_more, more, Record}
 use Rattle.pb_schema.specs.Types.{FieldView, Types}

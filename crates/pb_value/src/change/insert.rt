@@ -18,7 +18,7 @@ use pb_schema::{MessageId, Pool, Shape};
 use std::alloc::Global;
 use std::collections::BTreeMap;
 
-/// Whether a value can stand under a key in the map of a number.
+/// Whether the map of a number can hold a value under a key.
 pub(crate) fn check_entry(
     alloc: Global,
     pool: &Pool,
@@ -57,8 +57,8 @@ fn map_of(alloc: Global, key: MapKey, value: Value) -> Result<Content, ValueErro
     Ok(Content::Map(map))
 }
 
-/// Puts a value under a key of a map, and gives the one that stood there. What is no map becomes a map of one entry; a field that
-/// was judged a map holds nothing else.
+/// Puts a value under a key of a map, and returns the value that the key had before. Content that is not a map becomes a map of one
+/// entry; a field that was judged a map holds nothing else.
 #[inline(always)]
 fn put_under(
     alloc: Global,
@@ -81,7 +81,7 @@ fn put_under(
     }
 }
 
-/// Puts a value under a key of the map of a number, and gives the one that stood there. Where there is no map, the field then
+/// Puts a value under a key of the map of a number, and returns the value that the key had before. Without a map, the field then
 /// holds a map of one entry.
 #[inline(always)]
 pub fn insert_entry(

@@ -51,7 +51,7 @@ fn add_member(shape: Shape, members: &mut BTreeSet<u32>) -> Result<(), ValueErro
     Ok(())
 }
 
-/// Whether a content can be stored at a field beside the members of oneofs that stand before it.
+/// Whether a content can be stored at a field beside the members of oneofs that were judged before it.
 fn check_stored(
     shape: Shape,
     kind: Kind,

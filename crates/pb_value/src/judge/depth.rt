@@ -36,7 +36,7 @@ fn payload_within(payload: &Unknown, limit: u8) -> bool
     }
 }
 
-/// Whether at most `limit` levels stand below a message.
+/// Whether a message nests at most `limit` levels below itself.
 #[cycle(within)]
 pub(crate) fn message_within(message: &Body, limit: u8) -> bool
     ensures { IsTrue result ↔ (message_depth (body_view message.now) ≤ limit) }
