@@ -1,4 +1,4 @@
--- How a fault is told to the suite.
+-- How a fault is reported to the suite.
 use Rattle.std.specs.Prelude.{ℕ, List, ◌++◌, codes, decimal}
 use Rattle.pb_wire.specs.CauseName.{name_of}
 use Rattle.pb_wire.specs.Fault.{Fault}

@@ -1,4 +1,4 @@
-//! How a fault is told to the suite.
+//! How a fault is reported to the suite.
 
 ghost use Rattle.std.specs.Prelude.{◌≡◌, IfOk, string_bytes};
 ghost use Rattle.pb_wire.specs.Fault.{fault};
@@ -8,7 +8,7 @@ ghost use Rattle.conformance.specs.FaultText.{fault_text};
 use pb_wire::{Cause, PathStep};
 use std::alloc::{AllocError, Global};
 
-/// Where bytes fail, the steps to the open records and the cause, as `pbtool` tells them.
+/// Where bytes fail, the steps to the open records and the cause, as `pbtool` prints them.
 pub fn fault_text(
     alloc: Global,
     byte: u64,

@@ -1,4 +1,4 @@
-//! Requests and responses in turn, each behind its length: four bytes, the lowest first.
+//! Requests and responses in turn, each after its length: four bytes, the lowest first.
 
 ghost use Rattle.std.specs.Prelude.{◌≡◌, ◌<◌, ◌≤◌, ◌^◌, ℕ, List, [], Some, drop, length, take, IfNone, IfOk, IfSome, OnOk};
 ghost use Rattle.std.specs.Io.KnownBytes.{Appends};
@@ -9,7 +9,7 @@ use crate::testee::Testee;
 use pb_wire::{Input, Output, ReadFault, read_up_to, write_all};
 use std::alloc::Global;
 
-/// Answers the requests of an input, whose end is behind the last of them.
+/// Answers the requests of an input, which ends after the last of them.
 pub fn serve<I: Input, O: Output>(
     testee: &Testee<'_>,
     input: &mut I,
@@ -49,7 +49,7 @@ fn read_frame<I: Input>(alloc: Global, input: &mut I) -> Result<Option<Vec<u8>>,
     }
 }
 
-/// So many bytes, or all that are left where there are fewer.
+/// `size` bytes, or all that are left where there are fewer.
 fn read_most<I: Input>(alloc: Global, input: &mut I, most: usize) -> Result<Vec<u8>, Stop>
     ensures bytes { IfSome (I.left input.old) (λ left. IfOk result (λ v. v.items ≡ take most left)) }
     ensures rest { IfSome (I.left input.old) (λ left. OnOk result (I.left input.new ≡ Some (drop most left))) }
@@ -62,7 +62,7 @@ fn read_most<I: Input>(alloc: Global, input: &mut I, most: usize) -> Result<Vec<
     }
 }
 
-/// Writes bytes behind their length.
+/// Writes bytes after their length.
 fn write_frame<O: Output>(bytes: &[u8], output: &mut O) -> Result<(), Stop>
     requires { length bytes.now < 2 ^ 31 }
     ensures { OnOk result (Appends (O.written output.old) (O.written output.new) (frame bytes.now)) }

@@ -44,7 +44,7 @@ fn fault_text(
     format!(in alloc; "! {byte} {path} {cause}")
 }
 
-/// Why there is no message. Want of memory is handed on.
+/// Why there is no message. Out of memory is passed on.
 pub(crate) fn refusal_text(alloc: Global, error: DecodeError) -> Result<String, AllocError> {
     match error {
         DecodeError::Fault { byte, path, cause } => fault_text(alloc, byte, &path, cause),
@@ -64,7 +64,7 @@ pub(crate) fn answer_text(
     }
 }
 
-/// Whether an answer is as told.
+/// Whether an answer is as expected.
 pub(crate) fn is_answered(
     alloc: Global,
     answer: Result<DynamicMessage<'_>, DecodeError>,
@@ -73,7 +73,7 @@ pub(crate) fn is_answered(
     Ok(answer_text(alloc, answer)?.as_str() == told)
 }
 
-/// Whether an answer is as told, or Memory.
+/// Whether an answer is as expected, or Memory.
 pub(crate) fn is_answered_or_memory(
     alloc: Global,
     answer: Result<DynamicMessage<'_>, DecodeError>,
@@ -85,7 +85,7 @@ pub(crate) fn is_answered_or_memory(
     is_answered(alloc, answer, told)
 }
 
-/// Whether a refusal is as told.
+/// Whether a refusal is as expected.
 pub(crate) fn is_refused(alloc: Global, error: DecodeError, told: &str) -> Result<bool, Fail> {
     Ok(refusal_text(alloc, error)?.as_str() == told)
 }

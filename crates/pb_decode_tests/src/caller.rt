@@ -48,7 +48,7 @@ fn decode_pieces<'p>(
     decoder.finish()
 }
 
-/// Whether three pieces, of which the second is empty, are answered as told, and so are their bytes at once.
+/// Whether three pieces, of which the second is empty, are answered as expected, and so are their bytes at once.
 fn is_joined(schema: &Schema, bytes: &[u8], cut: usize, told: &str) -> Result<bool, Fail>
     requires { cut < length bytes.now }
 {
@@ -82,7 +82,7 @@ fn wrong_cut(alloc: Global, row: &str) -> Result<Option<usize>, Fail> {
     first_wrong(&schema, row)
 }
 
-/// A text, one that is cut short, and one with a fault that its first piece tells.
+/// A text, one that is cut short, and one with a fault in its first piece.
 const ROWS: &[&str] = &[
     "08960112017a1a0208012100000000000000803202030438054a050a016b100750005801 = 08960112017a1a0208012100000000000000803202030438054a050a016b100750005801",
     "1a050896 ! 4 3[0].1[0] Truncated",

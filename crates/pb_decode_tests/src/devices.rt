@@ -19,7 +19,7 @@ fn read_text(
     answer_text(schema.alloc, answer)
 }
 
-/// Whether the failure after so many calls is told, or the fault that stands before it.
+/// Whether the failure after this number of calls is reported, or the fault before it.
 fn is_failure(answer: &str, calls: u64, told: &str) -> bool {
     answer == "device" || calls > 0 && told.starts_with('!') && answer == told
 }
@@ -41,7 +41,7 @@ fn is_cut(
     Ok(is_failure(answer.as_str(), calls, told))
 }
 
-/// Whether each read that fails in turn is told.
+/// Whether each failing read, in turn, is reported.
 fn is_cut_at_each_read(
     schema: &Schema,
     limits: Limits,
@@ -61,7 +61,7 @@ fn is_whole(schema: &Schema, limits: Limits, bytes: &[u8], told: &str) -> Result
     Ok(answer.as_str() == told)
 }
 
-/// Whether the answer is as told from an input that gives a byte a call, and what is told where a read fails.
+/// Whether the answer is as expected from an input that gives a byte a call, and what is reported where a read fails.
 pub(crate) fn is_read(schema: &Schema, limits: Limits, words: &str) -> Result<bool, Fail> {
     let (input, told) = word(words);
     let bytes = bytes_of(schema.alloc, input)?;
@@ -77,7 +77,7 @@ fn left_of(input: &mut MemInput<'_>) -> Result<usize, Fail> {
     Ok(input.read(&mut buffer)?)
 }
 
-/// Whether the frame is answered as told, just the frame is taken, and a read of it that fails is told.
+/// Whether the frame is answered as expected, just the frame is taken, and a failing read of it is reported.
 pub(crate) fn is_framed(schema: &Schema, limits: Limits, words: &str) -> Result<bool, Fail> {
     let (start, words) = word(words);
     let (size, words) = word(words);
@@ -143,7 +143,7 @@ fn is_frame_cut(
     Ok(is_failure(answer.as_str(), calls, told))
 }
 
-/// Whether each read of a byte of the frame that fails in turn is told, and that of its end where the input is shorter.
+/// Whether each failing read of a byte of the frame, in turn, is reported, and that of its end where the input is shorter.
 fn is_frame_cut_at_each_read(
     schema: &Schema,
     limits: Limits,

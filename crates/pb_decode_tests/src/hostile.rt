@@ -9,7 +9,7 @@ use pb_wire::{Cause, Limits, put_varint};
 use std::alloc::Global;
 use std::test::Fail;
 
-/// How often a piece is taken, of so many times, and why no more.
+/// How often a piece is taken, of `times`, and why no more.
 fn repeat(
     decoder: &mut PushDecoder<'_>,
     piece: &[u8],
@@ -23,7 +23,7 @@ fn repeat(
     (times, Ok(()))
 }
 
-/// Whether a piece that comes so often is taken so many times, and then the answer is as told, and the last.
+/// Whether a piece that is repeated is taken the expected number of times, and then the answer is as expected, and the last.
 fn is_taken(
     alloc: Global,
     decoder: &mut PushDecoder<'_>,
@@ -48,7 +48,7 @@ fn are_taken(alloc: Global, decoder: &mut PushDecoder<'_>, words: &str) -> Resul
     is_taken(alloc, decoder, &piece, times, told)
 }
 
-/// Whether a piece that comes again and again is answered as told, and no more is taken behind it.
+/// Whether a piece that comes again and again is answered as expected, and nothing is taken after it.
 pub(crate) fn is_repeated(schema: &Schema, limits: Limits, words: &str) -> Result<bool, Fail> {
     let mut decoder = schema.decoder(limits)?;
     are_taken(schema.alloc, &mut decoder, words)
@@ -79,7 +79,7 @@ fn feed_varint(decoder: &mut PushDecoder<'_>, number: u32) -> Result<(), DecodeE
     decoder.feed(b"\x01")
 }
 
-/// Feeds varints of so many falling numbers.
+/// Feeds varints of `count` falling field numbers.
 fn feed_falling(decoder: &mut PushDecoder<'_>, count: u32) -> Result<(), DecodeError> {
     for below in 0..count {
         feed_varint(decoder, 1_000_100 - below % 1_000_000)?;
@@ -87,13 +87,13 @@ fn feed_falling(decoder: &mut PushDecoder<'_>, count: u32) -> Result<(), DecodeE
     Ok(())
 }
 
-/// How many unknown records there are, of so many falling numbers.
+/// How many unknown records there are, of `count` falling field numbers.
 fn kept(decoder: &mut PushDecoder<'_>, count: u32) -> Result<usize, DecodeError> {
     feed_falling(decoder, count)?;
     Ok(decoder.finish()?.body().unknown.len())
 }
 
-/// Whether unknown records of so many falling numbers are all kept.
+/// Whether unknown records of `count` falling field numbers are all kept.
 pub(crate) fn are_falling(schema: &Schema, limits: Limits, words: &str) -> Result<bool, Fail> {
     let count = words.parse::<u32>()?;
     let mut decoder = schema.decoder(limits)?;
@@ -124,7 +124,7 @@ fn fed<'p>(
     Ok(decoders)
 }
 
-/// Whether each decoder holds nothing, and answers as told.
+/// Whether each decoder holds nothing, and answers as expected.
 fn are_told(alloc: Global, decoders: &mut [PushDecoder<'_>], told: &str) -> Result<bool, Fail> {
     for decoder in decoders {
         let is_empty = decoder.pending() == 0 && decoder.frames() == 1;
@@ -135,7 +135,7 @@ fn are_told(alloc: Global, decoders: &mut [PushDecoder<'_>], told: &str) -> Resu
     Ok(true)
 }
 
-/// Whether so many decoders, alive at once, each answer as told.
+/// Whether `count` decoders, alive at once, each answer as expected.
 pub(crate) fn are_alive(schema: &Schema, limits: Limits, words: &str) -> Result<bool, Fail> {
     let (piece, words) = word(words);
     let (count, told) = word(words);
@@ -172,7 +172,7 @@ fn maps_around(
     Ok(bytes)
 }
 
-/// Whether maps in maps are answered as told, at once and byte by byte.
+/// Whether maps in maps are answered as expected, at once and byte by byte.
 pub(crate) fn are_nested(schema: &Schema, limits: Limits, words: &str) -> Result<bool, Fail> {
     let (levels, words) = word(words);
     let (before, words) = word(words);

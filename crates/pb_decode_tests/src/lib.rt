@@ -1,5 +1,5 @@
 //! Tests of `pb_decode` by its public calls: worked texts at once, from an input that gives a byte a call, and in pieces of every
-//! cut; messages that are decoded onto, frames, what is held between pieces, refused reads and growths, and texts made to hurt.
+//! cut; messages that are decoded onto, frames, what is held between pieces, refused reads and allocations, and texts made to hurt.
 //! A caller in pieces is proved from public clauses alone. Expected values were worked out by hand.
 #![tactic(auto)]
 

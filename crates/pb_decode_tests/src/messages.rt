@@ -14,7 +14,7 @@ fn message_of<'p>(schema: &'p Schema, input: &str) -> Result<DynamicMessage<'p>,
     Ok(schema.decode(&bytes, Limits::FULL)?)
 }
 
-/// Whether the bytes onto the message are answered as told.
+/// Whether the bytes onto the message are answered as expected.
 pub(crate) fn is_put_onto(schema: &Schema, limits: Limits, words: &str) -> Result<bool, Fail> {
     let (value, words) = word(words);
     let (input, told) = word(words);
@@ -23,7 +23,7 @@ pub(crate) fn is_put_onto(schema: &Schema, limits: Limits, words: &str) -> Resul
     is_answered(schema.alloc, decode_onto(message, &bytes, limits), told)
 }
 
-/// Whether one message over the other is as told.
+/// Whether one message over the other is as expected.
 pub(crate) fn is_merged(schema: &Schema, words: &str) -> Result<bool, Fail> {
     let (first, words) = word(words);
     let (second, told) = word(words);

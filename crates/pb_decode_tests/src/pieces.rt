@@ -8,7 +8,7 @@ use pb_wire::Limits;
 use std::alloc::Global;
 use std::test::Fail;
 
-/// Whether the answer to one piece, or to the end, is as told.
+/// Whether the answer to one piece, or to the end, is as expected.
 fn is_taken(
     alloc: Global,
     decoder: &mut PushDecoder<'_>,
@@ -24,7 +24,7 @@ fn is_taken(
     }
 }
 
-/// Whether the answers to pieces are as told.
+/// Whether the answers to pieces are as expected.
 fn are_taken(
     alloc: Global,
     decoder: &mut PushDecoder<'_>,
@@ -39,7 +39,7 @@ fn are_taken(
     Ok(true)
 }
 
-/// Whether so many bytes are held, and so many contexts are open.
+/// Whether this number of bytes is held, and this number of contexts is open.
 fn holds(decoder: &PushDecoder<'_>, pending: &str, frames: &str) -> Result<bool, Fail> {
     Ok(is_number(decoder.pending(), pending)? && is_number(decoder.frames(), frames)?)
 }
@@ -55,7 +55,7 @@ fn are_taken_and_held(
     Ok(are_taken(alloc, decoder, pieces, told)? && holds(decoder, pending, frames)?)
 }
 
-/// Whether the answers to pieces are as told, and what is held and open behind the last.
+/// Whether the answers to pieces are as expected, and what is held and open after the last.
 pub(crate) fn is_pushed(schema: &Schema, limits: Limits, words: &str) -> Result<bool, Fail> {
     let mut decoder = schema.decoder(limits)?;
     are_taken_and_held(schema.alloc, &mut decoder, words)

@@ -1,5 +1,5 @@
 //! The rows, of the type `T` but where it is said: a verb, a name, the greatest length and depth (`-` for the greatest that there
-//! is), and what the verb takes. Bytes are hexadecimal, `-` stands for none. An answer is written as [`answers`](super::answers) has it.
+//! is), and what the verb takes. Bytes are hexadecimal, `-` means none. An answer is written as [`answers`](super::answers) has it.
 
 /// The bytes, and the answer.
 pub(crate) const WORKED: &str = "
@@ -410,7 +410,7 @@ frame refused_behind_a_read - - 1 19 12117a7a7a7a7a7a7a7a7a7a7a7a7a7a7a7affff ? 
 frame cut_behind_a_read - - 1 20 12127a7a7a7a7a7a7a7a7a7a7a7a7a7a7a7a ? ! 19 2[0] Truncated
 ";
 
-/// The bytes, and the answer where no growth of memory is refused.
+/// The bytes, and the answer where no allocation is refused.
 pub(crate) const GROWTHS: &str = "
 grow packed-and-single-elements - - 3206038e029ea7053001 = 3207038e029ea70501
 grow messages-of-one-field-join - - 1a0208011a0312017a = 1a05080112017a
@@ -455,7 +455,7 @@ grow second_of_each - - 0b0c0b1b1c1b1b1c1b0896 ! 11 1[1].3[1].3[1].1[0] Truncate
 pub(crate) const DEEP: &str =
     "repeat deep_groups - - 0b0b0b0b0b0b0b 142858 14 ! 100 1[0].1[0].1[0].1[0].1[0].1[0].1[0].1[0].1[0].1[0].1[0].1[0].1[0].1[0].1[0].1[0].1[0].1[0].1[0].1[0].1[0].1[0].1[0].1[0].1[0].1[0].1[0].1[0].1[0].1[0].1[0].1[0].1[0].1[0].1[0].1[0].1[0].1[0].1[0].1[0].1[0].1[0].1[0].1[0].1[0].1[0].1[0].1[0].1[0].1[0].1[0].1[0].1[0].1[0].1[0].1[0].1[0].1[0].1[0].1[0].1[0].1[0].1[0].1[0].1[0].1[0].1[0].1[0].1[0].1[0].1[0].1[0].1[0].1[0].1[0].1[0].1[0].1[0].1[0].1[0].1[0].1[0].1[0].1[0].1[0].1[0].1[0].1[0].1[0].1[0].1[0].1[0].1[0].1[0].1[0].1[0].1[0].1[0].1[0].1[0].1[0] TooDeep";
 
-/// Takes as many growths as `ONE_RECORD`.
+/// Takes as many allocations as `ONE_RECORD`.
 pub(crate) const MANY_RECORDS: &str = "repeat many_records - - 0805 100000 100000 = 0805";
 
 pub(crate) const ONE_RECORD: &str = "repeat one_record - - 0805 1 1 = 0805";
@@ -470,7 +470,7 @@ pub(crate) const FALLING: &str = "falling unknown_numbers - - 100000";
 /// The front of a text, how many decoders it is fed to, which live at once, and the answer of each.
 pub(crate) const ALIVE: &str = "alive long_texts - - 12ffffffff07 100000 ! 6 2[0] Truncated";
 
-/// Records of one list that follow on each other in a message that stands whole, of the type `T`.
+/// Records of one list in a row, in a message that is complete, of the type `T`.
 pub(crate) const RUNS: &str = "
 decode run - - 1a06300130023003 = 1a053203010203
 decode run_of_one - - 1a0430010805 = 1a050805320101
@@ -518,7 +518,7 @@ decode run_of_four_bytes_cut - - 0a0a150100000015020000 ! 11 1[0].2[1] Truncated
 decode run_of_four_bytes_ends_early - - 0a0915010000001502000000 ! 8 1[0].2[1] PastEnd
 ";
 
-/// Map entries that follow on each other in what stands whole, sixteen and more of them, of the type `T`.
+/// Sixteen and more map entries in a row, in an input that is complete, of the type `T`.
 pub(crate) const MAPS: &str = "
 decode run_in_message - - 1a88014a060a02626210014a060a02616110024a060a02636310034a060a02626210044a060a02616110054a060a02636310064a060a02626210074a060a02616110084a060a02636310094a060a026262100a4a060a026161100b4a060a026363100c4a060a026262100d4a060a026161100e4a060a026363100f4a060a02626210104a060a0261611011 = 1a184a060a02616110114a060a02626210104a060a026363100f
 decode run_two_levels_below - - 1a8d011a88014a060a02626210014a060a02616110024a060a02636310034a060a02626210044a060a02616110054a060a02636310064a060a02626210074a060a02616110084a060a02636310094a060a026262100a4a060a026161100b4a060a026363100c4a060a026262100d4a060a026161100e4a060a026363100f4a060a02626210104a060a02616110110805 = 1a1c08051a184a060a02616110114a060a02626210104a060a026363100f

@@ -196,7 +196,7 @@ fn many_decoders(rt: HostRuntime) -> Result<(), Fail> {
     Ok(())
 }
 
-/// Each answer is that of ample memory or Memory where a growth is refused, which `.ci/growths` does.
+/// Each answer is that of ample memory or Memory where an allocation is refused, which `.ci/growths` does.
 #[test]
 fn refused_growths(rt: HostRuntime) -> Result<(), Fail> {
     let wrong = wrong_row(rt.alloc(), "T", GROWTHS)?;
@@ -220,7 +220,7 @@ fn refused_growths_of_groups(rt: HostRuntime) -> Result<(), Fail> {
     Ok(())
 }
 
-/// Takes as many growths as `one_record`.
+/// Takes as many allocations as `one_record`.
 #[test]
 fn many_records(rt: HostRuntime) -> Result<(), Fail> {
     let wrong = wrong_row(rt.alloc(), "T", MANY_RECORDS)?;

@@ -1,15 +1,15 @@
-//! What the words of rows stand for.
+//! The meaning of the words of rows.
 
 use pb_wire::{Limits, MAX_BYTES, MAX_DEPTH};
 use std::alloc::Global;
 use std::test::Fail;
 
-/// The first word of a line, and the rest behind the space.
+/// The first word of a line, and the rest after the space.
 pub(crate) fn word(line: &str) -> (&str, &str) {
     line.split_once(' ').unwrap_or((line, ""))
 }
 
-/// Bytes in hexadecimal. `-` stands for none.
+/// Bytes in hexadecimal. `-` means none.
 pub(crate) fn bytes_of(alloc: Global, word: &str) -> Result<Vec<u8>, Fail> {
     if word == "-" {
         return Ok(Vec::new(alloc));
@@ -17,7 +17,7 @@ pub(crate) fn bytes_of(alloc: Global, word: &str) -> Result<Vec<u8>, Fail> {
     Ok(hex::decode(alloc, word)?)
 }
 
-/// The greatest length and depth. `-` stands for the greatest that there is.
+/// The greatest length and depth. `-` means the greatest there is.
 pub(crate) fn limits_of(length: &str, depth: &str) -> Result<Limits, Fail> {
     let max_bytes = if length == "-" {
         MAX_BYTES

@@ -18,7 +18,7 @@ pub(crate) fn is_finished(decoder: &mut PushDecoder<'_>) -> bool {
         && matches!(decoder.finish(), Err(DecodeError::Finished))
 }
 
-/// The answer to a piece, and to the rest in pieces of so many bytes.
+/// The answer to a piece, and to the rest in pieces of `size` bytes.
 fn in_pieces<'p>(
     decoder: &mut PushDecoder<'p>,
     first: &[u8],
@@ -34,7 +34,7 @@ fn in_pieces<'p>(
     decoder.finish()
 }
 
-/// Whether the answer to a piece, and to the rest in pieces of so many bytes, is as told, and the last.
+/// Whether the answer to a piece, and to the rest in pieces of `size` bytes, is as expected, and the last.
 pub(crate) fn is_fed(
     schema: &Schema,
     limits: Limits,
@@ -54,7 +54,7 @@ pub(crate) fn is_fed(
     Ok(is_told && is_finished(&mut decoder))
 }
 
-/// Whether the answer is as told at every cut into two.
+/// Whether the answer is as expected at every cut into two.
 fn is_fed_at_cuts(schema: &Schema, limits: Limits, bytes: &[u8], told: &str) -> Result<bool, Fail> {
     for cut in 0..bytes.len() {
         let (first, rest) = bytes.split_at(cut);
@@ -73,7 +73,7 @@ fn is_validated(schema: &Schema, limits: Limits, bytes: &[u8], told: &str) -> Re
     }
 }
 
-/// Whether the answer is as told at once, byte by byte and at every cut into two.
+/// Whether the answer is as expected at once, byte by byte and at every cut into two.
 pub(crate) fn is_decoded(schema: &Schema, limits: Limits, words: &str) -> Result<bool, Fail> {
     let (input, told) = word(words);
     let bytes = bytes_of(schema.alloc, input)?;
@@ -86,7 +86,7 @@ pub(crate) fn is_decoded(schema: &Schema, limits: Limits, words: &str) -> Result
     )
 }
 
-/// Whether the answer to pieces of three bytes is as told, or Memory, and the last.
+/// Whether the answer to pieces of three bytes is as expected, or Memory, and the last.
 fn is_fed_or_memory(
     schema: &Schema,
     limits: Limits,
@@ -101,7 +101,7 @@ fn is_fed_or_memory(
     Ok(is_told && is_finished(&mut decoder))
 }
 
-/// Whether each answer is as told, or Memory where a growth is refused.
+/// Whether each answer is as expected, or Memory where an allocation is refused.
 pub(crate) fn is_grown(schema: &Schema, limits: Limits, words: &str) -> Result<bool, Fail> {
     let (input, told) = word(words);
     let bytes = bytes_of(schema.alloc, input)?;

@@ -19,7 +19,7 @@ fn message(alloc: Global, messages: Vec<MessageDecl>) -> Result<MessageDecl, All
     })
 }
 
-/// A file of so many messages, each in the one before.
+/// A file of `depth` messages, each in the one before.
 fn nested(alloc: Global, depth: usize) -> Result<Vec<FileDecl>, AllocError> {
     let mut messages = Vec::new(alloc);
     for _ in 0..depth {
@@ -52,7 +52,7 @@ fn deepest(rt: HostRuntime) -> Result<(), Fail> {
     Ok(())
 }
 
-/// The bytes of so many messages in each other, each with no name: lengths from the innermost outwards.
+/// The bytes of `depth` messages in each other, each with no name: lengths from the innermost outwards.
 fn nested_bytes(alloc: Global, depth: usize) -> Result<Vec<u8>, Fail> {
     let mut bytes = Vec::new(alloc);
     for level in 0..depth {
@@ -79,7 +79,7 @@ fn wrapped(alloc: Global, number: u8, bytes: &[u8]) -> Result<Vec<u8>, Fail> {
 
 #[test]
 fn too_deep(rt: HostRuntime) -> Result<(), Fail> {
-    // A message's tag and length take three bytes, and those of the file stand before them.
+    // A message's tag and length take three bytes, and those of the file come before them.
     let bytes = nested_bytes(rt.alloc(), 100)?;
     let told = match read_set(rt.alloc(), &bytes) {
         Ok(_files) => false,

@@ -87,7 +87,7 @@ fn is_written(alloc: Global, row: &str) -> Result<bool, Fail> {
     Ok(bytes == hex::decode(alloc, written)? && read_set(alloc, &bytes)? == files)
 }
 
-/// Whether a row's set is refused as the row says, or for want of memory where that may be.
+/// Whether a row's set is refused as the row says, or because memory ran out where that may be.
 fn is_refused(alloc: Global, row: &str, memory: bool) -> Result<bool, Fail> {
     let (set, told) = row.split_once(" | ").ok_or("no bytes")?;
     let (index, name) = told.split_once(' ').ok_or("no cause")?;
@@ -118,7 +118,7 @@ fn refused(rt: HostRuntime) -> Result<(), Fail> {
     Ok(())
 }
 
-/// No bytes are a set of no files, and a tag alone is cut off behind it.
+/// No bytes are a set of no files, and a tag alone is cut off after it.
 #[test]
 fn empty_and_cut(rt: HostRuntime) -> Result<(), Fail> {
     let files = read_set(rt.alloc(), &[])?;
@@ -151,7 +151,7 @@ fn pool(rt: HostRuntime) -> Result<(), Fail> {
     Ok(())
 }
 
-/// Whether a set is read and written as it is, or memory is told.
+/// Whether a set is read and written as it is, or out of memory is reported.
 fn is_kept_or_memory(alloc: Global, set: &[u8]) -> bool {
     let files = match read_set(alloc, set) {
         Ok(files) => files,
@@ -169,7 +169,7 @@ fn is_right(alloc: Global, row: &str) -> Result<bool, Fail> {
     Ok(is_kept_or_memory(alloc, &set))
 }
 
-/// What the calls answer where a growth of memory is refused, which `.ci/growths` does.
+/// What the calls answer where an allocation is refused, which `.ci/growths` does.
 #[test]
 fn growths(rt: HostRuntime) -> Result<(), Fail> {
     for row in SETS.lines() {

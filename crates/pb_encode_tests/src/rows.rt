@@ -133,7 +133,7 @@ fn is_encoded(alloc: Global, pool: &Pool, row: &str) -> Result<bool, Fail> {
     is_told(alloc, &message, text, entries)
 }
 
-/// The first row that is told otherwise, or none.
+/// The first row that is answered otherwise, or none.
 fn first_wrong<'a>(alloc: Global, pool: &Pool, rows: &'a str) -> Result<Option<&'a str>, Fail> {
     for row in rows.lines() {
         if !row.is_empty() && !is_encoded(alloc, pool, row)? {
@@ -162,10 +162,10 @@ fn groups_and_closed_enums(rt: HostRuntime) -> Result<(), Fail> {
     Ok(())
 }
 
-/// Lengths of a text, with what stands around it past the buffer's size and at it.
+/// Lengths of a string, with the records around it past the buffer's size and at it.
 const SIZES: &[usize] = &[4080, 4090, 4091, 4092, 4093, 4094, 4095, 4096, 4097, 9000];
 
-/// Field 1 is 1, field 2 a text of so many letters, and field 15 two bytes.
+/// Field 1 is 1, field 2 a string of `size` letters, and field 15 two bytes.
 fn long_message(alloc: Global, pool: &Pool, size: usize) -> Result<DynamicMessage<'_>, Fail> {
     let mut message = message_of(alloc, pool, "F", "1:i1 15:yab")?;
     let text = String::from_utf8(vec![in alloc; b'x'; size]?)?;
@@ -195,7 +195,7 @@ fn is_long(alloc: Global, pool: &Pool, size: usize) -> Result<bool, Fail> {
     is_long_told(alloc, &message, size)
 }
 
-/// The first length that is told otherwise, or none.
+/// The first length that is answered otherwise, or none.
 fn wrong_among(alloc: Global, pool: &Pool, sizes: &[usize]) -> Result<Option<usize>, Fail> {
     for size in sizes {
         if !is_long(alloc, pool, *size)? {
@@ -217,7 +217,7 @@ fn long_texts(rt: HostRuntime) -> Result<(), Fail> {
     Ok(())
 }
 
-/// Whether a message is written so where no growth of memory is refused.
+/// Whether a message is written so where no allocation is refused.
 fn is_grown(
     alloc: Global,
     message: &DynamicMessage<'_>,
@@ -248,7 +248,7 @@ fn are_growths_told(alloc: Global) -> Result<bool, Fail> {
     Ok(are_grown(alloc, &pool, ROWS)? && are_grown(alloc, &pool, CLOSED)?)
 }
 
-/// What the calls answer where a growth of memory is refused, which `.ci/growths` does.
+/// What the calls answer where an allocation is refused, which `.ci/growths` does.
 #[test]
 fn growths(rt: HostRuntime) -> Result<(), Fail> {
     let are_told = are_growths_told(rt.alloc())?;

@@ -9,7 +9,7 @@ use pb_wire::{FailurePlan, MemOutput};
 use std::alloc::Global;
 use std::test::Fail;
 
-/// Whether just these bytes are sent, so many a call.
+/// Whether just these bytes are sent, a number of them a call.
 fn is_sent(
     alloc: Global,
     message: &DynamicMessage<'_>,
@@ -23,7 +23,7 @@ fn is_sent(
     Ok(output.bytes() == bytes)
 }
 
-/// Whether a plan writes these bytes, and has so many entries.
+/// Whether a plan writes these bytes, and has this number of entries.
 fn is_planned(
     alloc: Global,
     message: &DynamicMessage<'_>,
@@ -37,7 +37,7 @@ fn is_planned(
     Ok(is_measured && output.bytes() == bytes)
 }
 
-/// Whether every call gives these bytes or their length, and so many entries.
+/// Whether every call gives these bytes or their length, and this number of entries.
 pub(crate) fn is_written(
     alloc: Global,
     message: &DynamicMessage<'_>,
@@ -52,7 +52,7 @@ pub(crate) fn is_written(
     )
 }
 
-/// How many bytes go out, a beginning of these, where the device fails after so many calls. None where the call tells otherwise.
+/// How many bytes are written, a prefix of these, where the device fails after a number of calls. None where the call reports otherwise.
 fn sent_before_failure(
     alloc: Global,
     message: &DynamicMessage<'_>,
@@ -157,7 +157,7 @@ fn is_planned_or_memory(
     }
 }
 
-/// Whether each call gives the bytes, or fails for want of memory with nothing more written than it tells.
+/// Whether each call gives the bytes, or fails because memory ran out with nothing more written than it reports.
 pub(crate) fn is_written_or_memory(
     alloc: Global,
     message: &DynamicMessage<'_>,

@@ -1,4 +1,4 @@
-//! What the words of rows stand for.
+//! The meaning of the words of rows.
 
 use std::alloc::Global;
 use std::test::Fail;
@@ -8,7 +8,7 @@ pub(crate) fn word(line: &str) -> (&str, &str) {
     line.split_once(' ').unwrap_or((line, ""))
 }
 
-/// Bytes in hexadecimal. `-` stands for none.
+/// Bytes in hexadecimal. `-` means none.
 pub(crate) fn bytes_of(alloc: Global, word: &str) -> Result<Vec<u8>, Fail> {
     if word == "-" {
         return Ok(Vec::new(alloc));
@@ -16,7 +16,7 @@ pub(crate) fn bytes_of(alloc: Global, word: &str) -> Result<Vec<u8>, Fail> {
     Ok(hex::decode(alloc, word)?)
 }
 
-/// Numbers with dots between them. `-` stands for none.
+/// Numbers with dots between them. `-` means none.
 pub(crate) fn path_of(alloc: Global, word: &str) -> Result<Vec<u32>, Fail> {
     let mut path = Vec::new(alloc);
     if word == "-" {

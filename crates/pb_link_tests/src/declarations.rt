@@ -10,7 +10,7 @@ use std::test::Fail;
 /// Sets as `protoc` writes them, each with what its pool is declared as: of a message with one field, with an optional field, with a map of
 /// messages, and of one with fields of each shape and with messages and an enum inside; then sets with files of proto2: groups and a closed enum,
 /// fields of each shape, messages of proto2 in one of proto3, an enum of proto3 in messages of proto2, and a file that declares nothing. The
-/// second were written by `protoc --encode`, without the names of JSON and the mark `packed = false` of proto2, and with the entry messages behind
+/// second were written by `protoc --encode`, without the names of JSON and the mark `packed = false` of proto2, and with the entry messages after
 /// the other ones.
 const ROWS: &str = "
 0a240a076d2e70726f746f22110a014d120c0a0161180120012805520161620670726f746f33 0a210a076d2e70726f746f220e0a014d12090a0161180120012805620670726f746f33
@@ -60,7 +60,7 @@ fn sets(rt: HostRuntime) -> Result<(), Fail> {
     Ok(())
 }
 
-/// Whether a message has this name and so many messages in it.
+/// Whether a message has this name and this number of messages in it.
 pub(crate) fn is_message(messages: &[MessageDecl], index: usize, name: &str, inner: usize) -> bool {
     match messages.get(index) {
         Some(decl) => decl.name.as_str() == name && decl.messages.len() == inner,

@@ -42,7 +42,7 @@ fn level(alloc: Global, messages: Vec<MessageDecl>) -> Result<MessageDecl, Alloc
     })
 }
 
-/// So many messages, each in the one before.
+/// `count` messages, each in the one before.
 fn levels(alloc: Global, count: usize) -> Result<Vec<MessageDecl>, AllocError> {
     let mut messages = Vec::new(alloc);
     for _ in 0..count {
@@ -66,7 +66,7 @@ fn file(alloc: Global, messages: Vec<MessageDecl>) -> Result<FileDecl, AllocErro
     })
 }
 
-/// A file of so many messages, each in the one before.
+/// A file of `count` messages, each in the one before.
 fn nest(alloc: Global, count: usize) -> Result<Vec<FileDecl>, AllocError> {
     let messages = levels(alloc, count)?;
     let decl = file(alloc, messages)?;
@@ -179,7 +179,7 @@ fn names_answer(alloc: Global, package: &str) -> Result<bool, Fail> {
     )
 }
 
-/// The word p so many times over, with dots between.
+/// The word p repeated `times` times, with dots between.
 fn dotted(alloc: Global, times: usize) -> Result<String, AllocError> {
     let mut name = String::from_str(alloc, "p")?;
     for _ in 1..times {

@@ -19,7 +19,7 @@ pub(crate) fn put_record(out: &mut Vec<u8>, tag: u8, bytes: &[u8]) -> Result<(),
     Ok(())
 }
 
-/// What stands before a record, and the record.
+/// What comes before a record, and the record.
 pub(crate) fn with_record(
     alloc: Global,
     before: &[u8],

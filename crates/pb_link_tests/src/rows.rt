@@ -1,5 +1,5 @@
 //! Sets of files, each with what linking and resolving it answer. A row is the set's bytes in hexadecimal, `ok` or the file, the full name
-//! (`-` where it is empty) and the cause that are told, and what the set is of. The bytes were written by `protoc --encode` of descriptor.proto.
+//! (`-` where it is empty) and the cause that are reported, and what the set is of. The bytes were written by `protoc --encode` of descriptor.proto.
 
 use pb_descr::{FileDecl, read_set, write_set};
 use pb_link::{LinkError, link, resolve};
@@ -133,7 +133,7 @@ fn has_digits(alloc: Global, bytes: &[u8], digits: &str) -> Result<bool, AllocEr
     Ok(written.as_str() == digits)
 }
 
-/// Whether a fault is told by these words.
+/// Whether a fault is the one of these words.
 fn has_words(
     alloc: Global,
     file: &str,
@@ -146,7 +146,7 @@ fn has_words(
     Ok(told.as_str() == wanted)
 }
 
-/// Whether an error is the fault of these words. Want of memory is handed on.
+/// Whether an error is the fault of these words. Out of memory is passed on.
 fn is_fault(alloc: Global, error: &LinkError, wanted: &str) -> Result<bool, AllocError> {
     match error {
         LinkError::Memory => Err(AllocError),
@@ -202,7 +202,7 @@ fn is_told(alloc: Global, row: &str) -> Result<bool, Fail> {
     answers(alloc, &set, wanted)
 }
 
-// `.ci/growths` refuses each growth of memory in this test, and in those of the sets as they are resolved and as pools are declared.
+// `.ci/growths` refuses each allocation in this test, and in those of the sets as they are resolved and as pools are declared.
 #[test]
 fn sets(rt: HostRuntime) -> Result<(), Fail> {
     for row in ROWS.lines() {

@@ -14,7 +14,7 @@ use std::test::Fail;
 const SET: &str =
     "0a90010a07712e70726f746f226e0a0151120c0a0161180120012805520161120c0a016518022003280552016512120a016718032001280a32042e512e4752016712100a016b18042001280e32022e4552016b12140a016c18052003280e32022e454202100152016c1a110a0147120c0a01781801200128055201782a150a014512070a034f4e45100112070a0354574f1002";
 
-/// A row: what stands in p.proto behind its import, and what is answered of the set and it.
+/// A row: what p.proto has after its import, and what is answered of the set and it.
 const ROWS: &str = "
  => ok
 message P { Q q = 1; repeated Q.G g = 2; map<string, Q> m = 3; } => ok
@@ -32,7 +32,7 @@ fn parsed(alloc: Global, source: &str) -> Result<FileDecl, SourceFault> {
     parse(alloc, "p.proto", source.as_bytes())
 }
 
-/// The files of the set, and behind them that of a source.
+/// The files of the set, and after them that of a source.
 fn files_with(alloc: Global, source: &str) -> Result<Vec<FileDecl>, Fail> {
     let mut files = files_of(alloc, SET)?;
     files.push(parsed(alloc, source)?)?;

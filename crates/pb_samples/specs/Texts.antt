@@ -21,35 +21,35 @@ in_turn step s (w ∷ ws) = step s w >>= (λ t. in_turn step t ws)
 abbrev pub letter : String → ℕ
 letter s = slice_index (codes s) 0
 
--- the ASCII character that a text begins with, and what stands behind it
+-- the ASCII character that a string begins with, and what follows it
 abbrev pub lettered : List ℕ → Option (ℕ × List ℕ)
 lettered [] = None
 lettered (c ∷ rest) = if nat_lt c 128 then Some (c, rest) else None
 
--- what stands before the first c and behind it
+-- the parts before and after the first c
 abbrev pub halves : ℕ → List ℕ → Option (List ℕ × List ℕ)
 halves c t = if nat_lt (position_or_len (λ b. b == c) t) (length t) then Some (before_first (λ b. b == c) t, after_first (λ b. b == c) t) else None
 
--- what stands between one c and the next
+-- the parts between one c and the next
 abbrev pub parts : ℕ → List ℕ → List (List ℕ)
 parts c t = slice_split (λ b. b == c) t
 
 abbrev pub is_numeral : List ℕ → Bool
 is_numeral ds = nat_lt 0 (length ds) && all_ascii_digits ds
 
--- the number below 2 ^ bits that a text writes in decimal, maybe behind a plus
+-- the number below 2 ^ bits that a string gives in decimal, maybe after a plus
 abbrev pub natural : ℕ → List ℕ → Option ℕ
 natural bits t =
     if is_numeral (without_leading_plus t) && nat_lt (digits_value 10 (without_leading_plus t)) (2 ^ bits)
     then Some (digits_value 10 (without_leading_plus t))
     else None
 
--- so many bits hold the number in two's complement
+-- this number of bits holds the number in two's complement
 abbrev pub fits_signed : ℕ → ℤ → Bool
 fits_signed bits (pos n) = nat_lt n (2 ^ (bits - 1))
 fits_signed bits (negsuc n) = nat_lt n (2 ^ (bits - 1))
 
--- the number of so many bits in two's complement that a text writes in decimal, maybe behind a sign
+-- the number in two's complement of this many bits that a string gives in decimal, maybe after a sign
 abbrev pub integer : ℕ → List ℕ → Option ℤ
 integer bits t =
     if is_numeral (without_leading_sign t) && fits_signed bits (signed_digits_value 10 t) then Some (signed_digits_value 10 t) else None

@@ -1,4 +1,4 @@
--- What rows of types stand for.
+-- The meaning of rows of types.
 use Rattle.std.specs.Prelude.{ℕ, ℤ, Bool, List, [], Option, None, map}
 use denote.Ref.{Bor}
 use Rattle.pb_schema.specs.Types.{FieldView, MessageView, EnumView, FileView, Types}

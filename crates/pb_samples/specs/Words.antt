@@ -1,4 +1,4 @@
--- What words stand for: a scalar, a value, a key, a content, a payload, a body.
+-- The meaning of words: a scalar, a value, a key, a content, a payload, a body.
 use Rattle.std.specs.Prelude.{ℕ, zero, suc, ◌-◌, ◌==◌, List, [], ◌∷◌, ◌++◌, length, if◌then◌else◌, codes, Option, Some, None, option_map}
 use Rattle.std.specs.Result.{result_ok}
 use Rattle.std.specs.declared.cmp.Ordering.{Ordering}
@@ -50,20 +50,20 @@ scalars_onto m t = in_turn scalar_onto m (parts (letter ";") t)
 abbrev pub flat_word : List ℕ → Option Message
 flat_word w = scalars_onto empty w
 
--- a message inside so many others, each the field 3 of the one around it
+-- a message inside a number of others, each the field 3 of the one around it
 abbrev pub nested : ℕ → Message → Message
 nested zero m = m
 nested (suc n) m = body (field 3 (one (message (nested n m))) no_fields) []
 
--- what stands before the first dot, or all
+-- the part before the first dot, or all
 abbrev pub before_dot : List ℕ → List ℕ
 before_dot w = before_first (λ b. b == letter ".") w
 
--- what stands behind it, or nothing
+-- the part after it, or nothing
 abbrev pub behind_dot : List ℕ → List ℕ
 behind_dot w = after_first (λ b. b == letter ".") w
 
--- so many messages around one of scalars, as 2.1=i5, or around the empty one
+-- a number of messages around one of scalars, as 2.1=i5, or around the empty one
 abbrev pub nest_word : List ℕ → Option Message
 nest_word w = natural 32 (before_dot w) >>= (λ n. flat_word (behind_dot w) >>= (λ m. Some (nested n m)))
 
@@ -71,7 +71,7 @@ nest_word w = natural 32 (before_dot w) >>= (λ n. flat_word (behind_dot w) >>= 
 abbrev pub entry_message : Message
 entry_message = body (field 12 (map (entry (uint32 0) (message empty) no_entries)) no_fields) []
 
--- behind m a message of scalars, behind n or w one inside so many others, else a scalar
+-- after m a message of scalars, after n or w one inside a number of others, else a scalar
 abbrev pub value_by : ℕ → List ℕ → Option Datum
 value_by form rest =
     if form == letter "m" then option_map message (flat_word rest)
@@ -124,7 +124,7 @@ form_rank (bytes t) = 9
 abbrev pub keys_cmp : Scalar → Scalar → Ordering
 keys_cmp k l = match_ordering (nat_cmp (form_rank k) (form_rank l)) Less (key_cmp k l) Greater
 
--- the entries with d under k, in place of what was there; by the put_entry of pb_value keys of different forms would stand in each other's place
+-- the entries with d under k, in place of what was there; by the put_entry of pb_value keys of different forms would replace each other
 abbrev pub put_under : Scalar → Datum → Entries → Entries
 put_under k d no_entries = entry k d no_entries
 put_under k d (entry l e es) = match_ordering (keys_cmp k l) (entry k d (entry l e es)) (entry l d es) (entry l e (put_under k d es))
@@ -139,7 +139,7 @@ entry_onto es w =
 abbrev pub entries_onto : Entries → List ℕ → Option Entries
 entries_onto es t = in_turn entry_onto es (parts (letter ",") t)
 
--- what stands before a closing bracket that ends the word
+-- the part before the closing bracket at the end of the word
 abbrev pub inside : ℕ → List ℕ → Option (List ℕ)
 inside close w = halves close w >>= (λ h. if length h.1 == 0 then Some h.0 else None)
 
@@ -157,12 +157,12 @@ content_word w = lettered w >>= (λ x. content_by x.0 x.1)
 abbrev pub group_with : ℕ → Payload → Payload
 group_with n p = group (more n p no_more)
 
--- so many groups of number 1 around an empty one
+-- a number of groups of number 1 around an empty one
 abbrev pub groups : ℕ → Payload
 groups zero = group no_more
 groups (suc n) = group_with 1 (groups n)
 
--- by a letter: v a varint, d eight bytes, w four bytes, x bytes in hexadecimal, l bytes that are the text, g so many groups in each other,
+-- by a letter: v a varint, d eight bytes, w four bytes, x bytes in hexadecimal, l bytes that are the characters, g a number of groups in each other,
 -- a a group with a 5 of this number, o a group with this number as its record 1
 abbrev pub payload_by : ℕ → List ℕ → Option Payload
 payload_by form rest =

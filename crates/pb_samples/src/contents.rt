@@ -64,7 +64,7 @@ fn with_entries(alloc: Global, entries: Entries, words: &str) -> Result<Entries,
     }
 }
 
-/// What stands before a closing bracket that ends the word.
+/// The part of a word before the closing bracket at its end.
 fn inside(word: &str, close: char) -> Result<&str, WordError>
     requires { close < 128 }
     ensures value { IfOk result (λ x. inside close word.now ≡ Some x.now) }

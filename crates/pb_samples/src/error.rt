@@ -1,4 +1,4 @@
-//! Why words stand for nothing.
+//! Why words mean nothing.
 
 ghost use Rattle.std.specs.Prelude.{◌≡◌};
 ghost use Rattle.pb_samples.specs.declared.error.WordError.TheVariants.{Memory, NoMeaning};
@@ -7,7 +7,7 @@ use std::alloc::{AllocError, AllocFailed};
 use std::num::ParseIntError;
 use thiserror::Error;
 
-/// Why words stand for nothing.
+/// Why words mean nothing.
 #[derive(Clone, Copy, Debug, PartialEq, Eq, Error)]
 pub enum WordError {
     #[error("the words mean nothing")]

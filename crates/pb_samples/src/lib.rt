@@ -1,4 +1,4 @@
-//! What crates of tests share: types that stand in rows, and values that are read from words.
+//! What crates of tests share: the types of rows, and values that are read from words.
 #![tactic(auto)]
 
 mod bodies;

@@ -25,7 +25,7 @@ pub(crate) fn letter_of(word: &str) -> Result<(u8, &str), WordError>
     Ok((letter, &word[1..]))
 }
 
-/// What stands before the first separator and behind it.
+/// The parts before and after the first separator.
 pub(crate) fn halves(word: &str, separator: char) -> Result<(&str, &str), WordError>
     requires { separator < 128 }
     ensures value { IfOk result (λ x. halves separator word.now ≡ Some (x.0.now, x.1.now)) }

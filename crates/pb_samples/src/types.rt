@@ -1,4 +1,4 @@
-//! Pools of types that stand in rows.
+//! Pools of the types of rows.
 
 ghost use Rattle.std.specs.Prelude.{◌≡◌, map, string_bytes, IfOk, IfErr};
 ghost use Rattle.pb_schema.specs.Rules.{IsPool};

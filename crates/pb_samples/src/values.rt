@@ -88,7 +88,7 @@ fn flat_of(alloc: Global, words: &str) -> Result<Body, WordError>
     with_scalars(alloc, empty_body(alloc), words)
 }
 
-/// A body inside so many others, each the field 3 of the one around it.
+/// A body inside `levels` others, each the field 3 of the one around it.
 fn nest(alloc: Global, inside: Body, levels: u32) -> Result<Body, WordError>
     ensures value { IfOk result (λ b. body_view b ≡ nested levels (body_view inside)) }
     ensures memory { IfErr result (λ e. e ≡ Memory) }
@@ -100,7 +100,7 @@ fn nest(alloc: Global, inside: Body, levels: u32) -> Result<Body, WordError>
     Ok(body)
 }
 
-/// So many messages inside each other, the innermost of scalars, as `2.1=i5`, or empty.
+/// Messages inside each other, the innermost of scalars, as `2.1=i5`, or empty.
 fn nest_of(alloc: Global, words: &str) -> Result<Body, WordError>
     ensures value { IfOk result (λ b. nest_word words.now ≡ Some (body_view b)) }
     ensures refused { IfErr result (λ e. e ≡ NoMeaning → nest_word words.now ≡ None) }
@@ -110,7 +110,7 @@ fn nest_of(alloc: Global, words: &str) -> Result<Body, WordError>
     nest(alloc, flat_of(alloc, inside)?, levels)
 }
 
-/// What stands before a dot, or all, and what stands behind it, or nothing.
+/// The part before a dot, or all, and the part after it, or nothing.
 fn around_dot(words: &str) -> (&str, &str)
     ensures before { result.0.now ≡ before_dot words.now }
     ensures behind { result.1.now ≡ behind_dot words.now }
@@ -146,8 +146,8 @@ pub(crate) fn value_by(alloc: Global, form: u8, rest: &str) -> Result<Value, Wor
     }
 }
 
-/// A value: a message of scalars behind `m`, as `m1=i5`; so many messages inside each other behind `n`, of which the innermost has
-/// what follows the dot, as `n2.1=i5`; the same behind `w` around an entry of field 12, as `w2`; or a scalar.
+/// A value: a message of scalars after `m`, as `m1=i5`; messages inside each other, as many as the number after `n`, of which the innermost has
+/// what follows the dot, as `n2.1=i5`; the same after `w` around an entry of field 12, as `w2`; or a scalar.
 pub fn value_of(alloc: Global, word: &str) -> Result<Value, WordError>
     ensures value { IfOk result (λ v. value_word word.now ≡ Some (value_view v)) }
     ensures refused { IfErr result (λ e. e ≡ NoMeaning → value_word word.now ≡ None) }

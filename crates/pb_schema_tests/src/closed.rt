@@ -5,7 +5,7 @@ use super::pools::are_only_fit;
 use pb_schema::{EnumId, Kind, MessageId, Pool};
 use std::test::Fail;
 
-/// A kind, and whether it stands in files of proto2 alone.
+/// A kind, and whether only files of proto2 have it.
 const KINDS: &[(Kind, bool)] = &[
     (Kind::Group(MessageId(0)), true),
     (Kind::ClosedEnum(EnumId(0)), true),
@@ -38,7 +38,7 @@ fn tables_of_kinds(rt: HostRuntime) {
     );
 }
 
-/// An enum whose numbers rise by one, one with gaps below zero and above, one with two values of a number, one whose numbers stand in no order,
+/// An enum whose numbers rise by one, one with gaps below zero and above, one with two values of a number, one whose numbers are in no order,
 /// and an open one.
 const ENUMS: &str = "
 proto2 q.proto -

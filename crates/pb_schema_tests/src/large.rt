@@ -64,7 +64,7 @@ fn many_files(rt: HostRuntime) -> Result<(), Fail> {
     Ok(())
 }
 
-/// So many fields, with the numbers from 1 on that a field may have.
+/// `count` fields, with the numbers from 1 on that a field may have.
 fn many(alloc: Global, count: u32) -> Result<Vec<Field>, PoolError> {
     let mut fields = Vec::new(alloc);
     for index in 0..count {

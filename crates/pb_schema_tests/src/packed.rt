@@ -42,7 +42,7 @@ fn write_packed<S: Scalar>(alloc: Global, items: &[S::Item]) -> Result<Vec<u8>, 
     Ok(bytes)
 }
 
-/// A number of a packed list, and the bytes behind it.
+/// A number of a packed list, and the bytes after it.
 type FirstNumber<'a> = Option<(ScalarPayload<'a>, &'a [u8])>;
 
 fn first_varint(bytes: &[u8]) -> FirstNumber<'_>

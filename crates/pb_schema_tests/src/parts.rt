@@ -1,5 +1,5 @@
 //! Parts of a pool, read from rows: `file NAME PACKAGE [IMPORT]`, or `proto2` for a file of that syntax, `message NAME FILE PARENT` and of that
-//! message `oneof NAME` and `field NAME NUMBER KIND SHAPE`, `enum NAME FILE PARENT` and of that enum `value NAME NUMBER`. A `-` stands for none.
+//! message `oneof NAME` and `field NAME NUMBER KIND SHAPE`, `enum NAME FILE PARENT` and of that enum `value NAME NUMBER`. A `-` means none.
 
 use pb_schema::{
     EnumId, EnumType, Field, FileInfo, Kind, MessageId, MessageType, Pool, PoolError, Shape,
@@ -227,7 +227,7 @@ fn is_same(found: Option<&Field>, wanted: &Field) -> bool {
     }
 }
 
-/// Whether the pool's message of this name has the field of a row, by its number and by its name. A row of no field tells nothing.
+/// Whether the pool's message of this name has the field of a row, by its number and by its name. A row without a field checks nothing.
 pub(crate) fn is_found(alloc: Global, pool: &Pool, name: &str, row: &str) -> Result<bool, Fail> {
     let words = words_of(row);
     if words.what != "field" {

@@ -5,7 +5,7 @@ use pb_schema::{EnumId, MessageId, Pool, PoolError};
 use std::alloc::Global;
 use std::test::Fail;
 
-/// Two files, of which the second imports the first. M, with N in it, stands in the first, and P, R and S in the second. P uses M.
+/// Two files, of which the second imports the first. M, with N in it, is in the first, and P, R and S in the second. P uses M.
 const USUAL: &str = "
 file a.proto a.b
 file b.proto - 0
@@ -34,7 +34,7 @@ value HZ 0
 value HY -1
 ";
 
-/// Whether the parts meet the rules, the line of the parts in whose place another stands, and that other, with what it is.
+/// Whether the parts meet the rules, the line of the parts that is replaced, and the line in its place, with what it is.
 const USUAL_CASES: &str = "
 bad 1 file - a.b | no name
 bad 1 file b.proto a.b | the name of another
@@ -246,7 +246,7 @@ fn parts_that_meet_all_rules(rt: HostRuntime) -> Result<(), Fail> {
     Ok(())
 }
 
-/// Whether the pool is the same, the line of the parts in whose place another stands, and that other.
+/// Whether the pool is the same, the line of the parts that is replaced, and the line in its place.
 const ALIKE_CASES: &str = "
 same 1 file a.proto a.b
 other 1 file c.proto a.b
@@ -278,7 +278,7 @@ fn is_alike(alloc: Global, pool: &Pool, case: &str) -> Result<bool, Fail> {
     }
 }
 
-/// The first case that is told otherwise, or none.
+/// The first case that is answered otherwise, or none.
 fn first_unlike(alloc: Global, pool: &Pool) -> Result<Option<&'static str>, Fail> {
     for case in ALIKE_CASES.lines() {
         if !case.is_empty() && !is_alike(alloc, pool, case)? {

@@ -33,7 +33,7 @@ impl Input for Watched<'_> {
     }
 }
 
-/// Writes a message of so many letters behind what was written, and tells how many bytes there are then.
+/// Writes a message of `letters` letters after what was written, and returns how many bytes there are then.
 fn write_long(
     alloc: Global,
     schema: &Schema,
@@ -64,7 +64,7 @@ fn asks_within(
     matches!(read, Ok(Some(_))) && input.frame_left == 0 && !input.is_past && input.most <= 4096
 }
 
-/// Whether a message of so many letters is read within its frame, which another one follows.
+/// Whether a message of `letters` letters is read within its frame, which another one follows.
 fn is_read_alone(alloc: Global, schema: &Schema, letters: usize) -> Result<bool, Fail> {
     let mut output = MemOutput::new(alloc, 1_000_000, FailurePlan::NEVER);
     let first = write_long(alloc, schema, letters, &mut output)?;

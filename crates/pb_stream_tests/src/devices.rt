@@ -15,7 +15,7 @@ pub(crate) fn failing_after(calls: u64) -> FailurePlan {
     }
 }
 
-/// Whether a message is written as this frame where the write of one byte after so many others fails, up to that byte.
+/// Whether a message is written as this frame where the write of one byte after a number of others fails, up to that byte.
 fn is_cut(alloc: Global, message: &DynamicMessage<'_>, frame: &[u8], written: usize) -> bool {
     let mut output = MemOutput::new(alloc, 1, failing_after(written as u64));
     let cut = EncodeError::Device {
@@ -80,7 +80,7 @@ fn writes_groups_and_closed_enums(rt: HostRuntime) -> Result<(), Fail> {
     Ok(())
 }
 
-/// Whether each read that fails in turn is told, and the reader is finished then.
+/// Whether each failing read, in turn, is reported, and the reader is finished then.
 fn is_told(alloc: Global, schema: &Schema, bytes: &[u8], calls: u64) -> bool {
     let mut input = MemInput::new(bytes, 1, failing_after(calls));
     let read = read_delimited(alloc, &schema.pool, schema.kind, &mut input, Limits::FULL);
@@ -111,7 +111,7 @@ fn write_messages(alloc: Global, schema: &Schema, output: &mut MemOutput) -> Res
     Ok(())
 }
 
-/// Whether the next message has a text of so many letters.
+/// Whether the next message has a string of `letters` letters.
 fn is_next(
     alloc: Global,
     schema: &Schema,

@@ -10,7 +10,7 @@ use pb_wire::{Cause, FailurePlan, Input, Limits, MemInput, PathStep};
 use std::alloc::Global;
 use std::test::Fail;
 
-/// A refusal: its place, the number of the record that it stands in, the first of that number, if there is one, and its cause.
+/// A refusal: its place, the number of the record that it is in, the first of that number, if there is one, and its cause.
 pub(crate) struct Refusal {
     byte: u64,
     number: Option<u32>,
@@ -18,7 +18,7 @@ pub(crate) struct Refusal {
 }
 
 /// A stream: its bytes, the longest text that is read, for each message its canonical bytes and how many bytes were taken
-/// so far, and the refusal behind them, if there is one.
+/// so far, and the refusal after them, if there is one.
 pub(crate) struct Row {
     pub(crate) input: &'static str,
     pub(crate) most: u32,
@@ -202,7 +202,7 @@ pub(crate) fn is_refusal(error: &DecodeError, refusal: &Refusal) -> bool {
     }
 }
 
-/// Whether the reader tells the end, or the refusal and from then on that it is finished.
+/// Whether the reader reports the end, or the refusal and from then on that it is finished.
 fn ends_so(reader: &mut DelimitedReader<'_, MemInput<'_>>, refusal: Option<&Refusal>) -> bool {
     let taken = reader.taken();
     let is_told = match (&reader.next(), refusal) {
@@ -218,7 +218,7 @@ fn ends_so(reader: &mut DelimitedReader<'_, MemInput<'_>>, refusal: Option<&Refu
         }
 }
 
-/// Whether the next message has these canonical bytes, and so many bytes are taken then.
+/// Whether the next message has these canonical bytes, and this number of bytes is taken then.
 fn is_next(
     alloc: Global,
     reader: &mut DelimitedReader<'_, MemInput<'_>>,
@@ -234,7 +234,7 @@ fn is_next(
     }
 }
 
-/// Whether a row is read so, at so many bytes a read.
+/// Whether a row is read so, at `piece` bytes a read.
 fn is_read(alloc: Global, schema: &Schema, row: &Row, piece: usize) -> Result<bool, Fail>
     requires { 0 < piece }
 {
@@ -314,7 +314,7 @@ fn what_is_left(rt: HostRuntime) -> Result<(), Fail> {
     Ok(())
 }
 
-/// Whether there are so many messages.
+/// Whether there is this number of messages.
 fn has_messages(reader: &mut DelimitedReader<'_, MemInput<'_>>, count: u64) -> Result<bool, Fail> {
     for _ in 0..count {
         if reader.next()?.is_none() {

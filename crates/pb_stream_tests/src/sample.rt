@@ -71,7 +71,7 @@ pub(crate) fn holding(
     Ok(message)
 }
 
-/// A message whose field 2 is a text of so many letters.
+/// A message whose field 2 is a string of `letters` letters.
 pub(crate) fn long(
     alloc: Global,
     schema: &Schema,

@@ -1,4 +1,4 @@
-//! The rows of streams where each call of their device fails in turn, and where a growth of memory is refused, which `.ci/growths` does.
+//! The rows of streams where each call of their device fails in turn, and where an allocation is refused, which `.ci/growths` does.
 
 use super::devices::{failing_after, is_written_back};
 use super::frames::{CLOSED, ROWS, Refusal, Row, is_refusal};
@@ -13,7 +13,7 @@ use std::test::Fail;
 
 type Answer<'p> = Result<Option<DynamicMessage<'p>>, DecodeError>;
 
-/// Whether an answer is the message of these bytes, or none where the device failed. Want of memory is handed on.
+/// Whether an answer is the message of these bytes, or none where the device failed. Out of memory is passed on.
 fn is_message(alloc: Global, answer: Answer<'_>, text: &str) -> Result<Option<bool>, Fail> {
     match answer {
         Ok(Some(message)) => {
@@ -97,7 +97,7 @@ fn found(
     Ok((taken, given))
 }
 
-/// Whether the failure was told, or the refusal that stands before it.
+/// Whether the failure was reported, or the refusal before it.
 fn is_failure(answer: Option<bool>, row: &Row) -> bool {
     match answer {
         None => true,
@@ -152,7 +152,7 @@ fn devices(rt: HostRuntime) -> Result<(), Fail> {
     Ok(())
 }
 
-/// Whether a message is written as this frame, or memory is told before anything is. The output in memory fails where it can't grow, behind a
+/// Whether a message is written as this frame, or out of memory is reported before anything is. The output in memory fails where it can't grow, behind a
 /// beginning that is counted.
 fn is_sent(alloc: Global, message: &DynamicMessage<'_>, frame: &[u8]) -> bool {
     let mut output = MemOutput::new(alloc, 1_000_000, FailurePlan::NEVER);

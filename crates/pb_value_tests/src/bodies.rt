@@ -67,7 +67,7 @@ good 7:u5 18:U5
 TwoMembers 7:u5 8:n0
 ";
 
-/// Records of no field, of a field's number and a wire type that does not fit it, and others. The first one tells.
+/// Records of no field, of a field's number and a wire type that does not fit it, and others. The first one is reported.
 const UNKNOWN_RECORDS: &str = "
 good 99~v5 5~d1 99~w1
 good 536870911~xff
@@ -91,7 +91,7 @@ KnownAsUnknown 1~v5 0~v5
 NoSuchField 0~v5 1~v5
 ";
 
-/// Of two causes the one at the lower number is told, at one number the least, a part's after the field's own, and the
+/// Of two causes the one at the lower number is reported, at one number the least, a part's after the field's own, and the
 /// depth last.
 const FIRST_CAUSE: &str = "
 DefaultStored 1:i0 2:i5
@@ -211,7 +211,7 @@ TooDeep 3:n100 4~v7
 
 pub(crate) const CLOSED_TABLES: &[&str] = &[DECLARED, GROUPS, CLOSED_RECORDS];
 
-/// Whether a body is told as its row says. One that is a message stays as it is.
+/// Whether a body is judged as its row says. One that is a message stays as it is.
 pub(crate) fn is_told(alloc: Global, schema: &Schema, row: &str) -> Result<bool, Fail> {
     let (told, words) = row.split_once(' ').unwrap_or((row, ""));
     match schema.made(alloc, body_of(alloc, words)?) {

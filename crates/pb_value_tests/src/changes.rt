@@ -8,7 +8,7 @@ use pb_wire::Unknown;
 use std::alloc::Global;
 use std::test::Fail;
 
-/// A row: the fields of a message, a change, and the fields after it or why it is refused. An insertion is followed by the value that stood under
+/// A row: the fields of a message, a change, and the fields after it or why it is refused. An insertion is followed by the value that was under
 /// its key, where there was one.
 const SETS: &str = "
 | set 1 i5 | 1:i5
@@ -167,7 +167,7 @@ pub(crate) const TABLES: &[&str] = &[
     INSERTS,
 ];
 
-/// Whether what stood under a key is this value, or none.
+/// Whether the value that was under a key is this one, or none.
 fn is_value(alloc: Global, stood: &Option<Value>, word: Option<&str>) -> Result<bool, Fail> {
     Ok(match (stood, word) {
         (Some(stood), Some(word)) => *stood == value_of(alloc, word)?,
@@ -176,7 +176,7 @@ fn is_value(alloc: Global, stood: &Option<Value>, word: Option<&str>) -> Result<
     })
 }
 
-/// Why an entry is not put in, or none where what stood under its key is told as this value.
+/// Why an entry is not put in, or none where the value that was under its key is reported as this one.
 fn insert(
     alloc: Global,
     message: &mut DynamicMessage<'_>,

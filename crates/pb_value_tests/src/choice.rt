@@ -8,7 +8,7 @@ ghost use Rattle.pb_value.specs.WellFormed.{oneof_at};
 use pb_schema::Shape;
 use pb_value::{Content, DynamicMessage, ValueError};
 
-/// Sets a member of a oneof, and tells which member is set then: that one. Every other one is gone, whatever was there.
+/// Sets a member of a oneof, and returns which member is set then: that one. Every other one is gone, whatever was there.
 /// Where the field is no member, or the content cannot be set, the message is as before.
 pub(crate) fn choose(
     message: &mut DynamicMessage<'_>,

@@ -59,14 +59,14 @@ const MEMBERS: &str = "
 1:i5 7:u5 18:U5 | 8:m1=i1 | 1:i5 8:m1=i1 18:U5
 ";
 
-/// Unknown records stand behind those that were there.
+/// Unknown records come after those that were there.
 const UNKNOWN_RECORDS: &str = "
 99~v7 | 99~v8 5~d1 | 99~v7 99~v8 5~d1
 1:i5 99~g2 | | 1:i5 99~g2
 | 1~x 536870911~w5 | 1~x 536870911~w5
 ";
 
-/// Groups are merged as messages are, lists of closed enums are joined, and numbers that are not declared stand behind those that were there.
+/// Groups are merged as messages are, lists of closed enums are joined, and numbers that are not declared come after those that were there.
 const CLOSED_MERGES: &str = "
 4:e1 | 4:e2 | 4:e2
 4:e1 4~v7 | 4~v9 | 4:e1 4~v7 4~v9

@@ -46,7 +46,7 @@ fn is_told(alloc: Global, schema: &Schema, form: Form, row: &str) -> Result<bool
     }
 }
 
-/// The first row that is told otherwise, or none.
+/// The first row that is answered otherwise, or none.
 fn first_wrong<'a>(
     alloc: Global,
     schema: &Schema,

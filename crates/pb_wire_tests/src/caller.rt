@@ -12,7 +12,7 @@ use pb_wire::{Limits, RawError, RecordIter, WireFault, read_raw};
 use std::alloc::{AllocError, AllocFailed, Global};
 use std::test::Fail;
 
-/// Why the numbers were not told.
+/// Why there are no numbers.
 #[derive(Debug, Drop)]
 enum NumbersError {
     Fault(WireFault),
@@ -58,7 +58,7 @@ fn numbers(alloc: Global, bytes: &[u8], limits: Limits) -> Result<Vec<u32>, Numb
     Ok(numbers)
 }
 
-/// Whether the iterator and `read_raw` tell the same records or the same fault.
+/// Whether the iterator and `read_raw` give the same records or the same fault.
 fn is_as_read(alloc: Global, bytes: &[u8], limits: Limits) -> bool {
     match (
         numbers(alloc, bytes, limits),

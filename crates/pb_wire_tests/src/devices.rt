@@ -9,7 +9,7 @@ use std::io;
 use std::io::{ErrorKind, Read, Write};
 use std::test::Fail;
 
-/// Reads these bytes two a call, the call after so many others failing.
+/// Reads these bytes two a call, one call failing after a number of others.
 fn read_failing(alloc: Global, others: u64) -> Result<Vec<u8>, ReadFault> {
     let plan = FailurePlan {
         fails_after: Some(others),
@@ -113,7 +113,7 @@ impl Write for TakesNone {
     }
 }
 
-/// A failed call is told at once, and not tried again.
+/// A failed call is reported at once, and not tried again.
 #[test]
 fn reader_fails_once(rt: HostRuntime) {
     let source: &[u8] = b"abc";

@@ -1,4 +1,4 @@
-//! What `read_raw` and `judge_raw` tell of bytes: byte, path and cause. Expected values are those of the encoding guide's rules, worked
+//! What `read_raw` and `judge_raw` report of bytes: byte, path and cause. Expected values are those of the encoding guide's rules, worked
 //! out by hand.
 
 use super::rows::{bytes_of, limits_of};
@@ -6,7 +6,7 @@ use pb_wire::{Cause, Limits, PathStep, RawError, judge_raw, read_raw};
 use std::alloc::Global;
 use std::test::Fail;
 
-/// A row: bytes, the greatest length and depth, and what is told: `read`, or the byte, the path and the cause.
+/// A row: bytes, the greatest length and depth, and the answer: `read`, or the byte, the path and the cause.
 const ROWS: &str = "
 - - - read
 0c - - 0 - StrayEnd
@@ -57,7 +57,7 @@ fn step_of(text: &str) -> Result<PathStep, Fail> {
     })
 }
 
-/// Whether the path is these steps, joined by dots. `-` stands for none.
+/// Whether the path is these steps, joined by dots. `-` means none.
 fn is_path(path: &[PathStep], steps: &str) -> Result<bool, Fail> {
     if steps == "-" {
         return Ok(path.is_empty());
@@ -84,7 +84,7 @@ fn is_fault(error: &RawError, told: &str, steps: &str, name: &str) -> Result<boo
     }
 }
 
-/// Both calls tell the same, and it is what the row says.
+/// Both calls report the same, and it is what the row says.
 fn is_told(alloc: Global, row: &str) -> Result<bool, Fail> {
     let mut words = row.split_whitespace();
     let bytes = bytes_of(alloc, words.next().unwrap_or(""))?;

@@ -1,10 +1,10 @@
-//! What devices answer where a growth of memory is refused, which `.ci/growths` does.
+//! What devices answer where an allocation is refused, which `.ci/growths` does.
 
 use pb_wire::{FailurePlan, MemInput, MemOutput, ReadFault, read_up_to, write_all};
 use std::alloc::Global;
 use std::test::Fail;
 
-/// Whether just these bytes are read, or memory is told.
+/// Whether just these bytes are read, or out of memory is reported.
 fn is_read(alloc: Global, bytes: &[u8]) -> bool {
     let mut input = MemInput::new(bytes, 7, FailurePlan::NEVER);
     match read_up_to(alloc, &mut input, 10_000) {

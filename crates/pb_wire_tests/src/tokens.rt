@@ -5,7 +5,7 @@ use pb_wire::token::{Token, fixed32_token, fixed64_token, varint_token};
 use std::alloc::Global;
 use std::test::Fail;
 
-/// A row: the token, the bytes, how many of them stand before the known end (`-` without one), and what is told: the number and
+/// A row: the token, the bytes, how many of them are before the known end (`-` without one), and the answer: the number and
 /// the bytes it takes, `short`, or the cause.
 const ROWS: &str = "
 varint 960108 - 150 2

@@ -1,11 +1,11 @@
-//! What the iterator over records gives: the records, the fault behind them, and nothing after it.
+//! What the iterator over records gives: the records, the fault after them, and then nothing.
 
 use super::rows::{bytes_of, limits_of};
 use pb_wire::{Cause, Limits, Payload, RecordIter, WireFault};
 use std::alloc::Global;
 use std::test::Fail;
 
-/// A row: bytes, the greatest length and depth, how many records are given, and the byte and cause of the fault behind
+/// A row: bytes, the greatest length and depth, how many records are given, and the byte and cause of the fault after
 /// them, if there is one.
 const ROWS: &str = "
 08050c - - 1 2 StrayEnd
