@@ -54,6 +54,6 @@ LenientSetMakes set ts = FilesMake (IsLenientSet set) ts
 abbrev pub LenientSetFails : List ℕ → PoolFault → Type 0
 LenientSetFails set w = FilesFail (IsLenientSet set) (HasLenientFault set) w
 
--- the bytes are a set, of which so many parts are left out
+-- the bytes are a set, of which this number of parts is left out
 abbrev pub LeavesOut : List ℕ → ℕ → Type 0
 LeavesOut set count = (m : Message) × IsSetText full set m × (count ≡ length (omitted_in m))

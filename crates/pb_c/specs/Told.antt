@@ -1,4 +1,4 @@
--- What a call tells its caller.
+-- What a call reports to its caller.
 use Rattle.std.specs.Prelude.{◌≡◌, ℕ, ◌<◌, ◌≤◌, ◌^◌, List, ◌++◌, length, take, drop, map}
 use Rattle.pb_wire.specs.CauseName.{number_of}
 use Rattle.pb_wire.specs.Fault.{Fault}
@@ -18,7 +18,7 @@ AreLimits bytes depth = (bytes < 2 ^ 31) × (depth ≤ 100)
 abbrev pub laid_over : {A : Type 0} → List A → List A → List A
 laid_over xs room = take (length room) xs ++ drop (length xs) room
 
--- The list is laid over the front of the buffer, and its whole length told.
+-- The list is written to the start of the buffer, as far as it fits, and its whole length is reported.
 pub record IsLaid {A : Type 0} (xs old new : List A) (size : ℕ) : Type 0 where
   pub laid : new ≡ laid_over xs old
   pub whole : size ≡ length xs

@@ -22,7 +22,7 @@ pub record HasType (held : Option Types) (m : ℕ) (pool : Types) : Type 0 where
 abbrev pub LacksType : Option Types → ℕ → Type 0
 LacksType held m = (pool : Types) × (held ≡ Some pool) × (length pool.messages ≤ m)
 
--- one fact of an error that tells a fault, another of one that does not
+-- one fact of an error with a fault, another of one without
 abbrev pub ByFault : DecodeError → (Fault → Type 0) → Type 0 → Type 0
 ByFault (error.Fault byte path cause) P Q = P (fault byte path.items cause)
 ByFault error.Memory P Q = Q

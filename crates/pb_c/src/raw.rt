@@ -10,7 +10,7 @@ pub(crate) mod short;
 use crate::told::{FAULT, FaultReport, MEMORY, Step, tell_fault};
 use pb_wire::RawError;
 
-/// Tells why bytes are no records, and answers the error's number.
+/// Reports why bytes are no records, and answers the error's number.
 fn tell_raw(error: &RawError, fault: &mut FaultReport, path: &mut [Step]) -> u32
     ensures fault { IfRawFault error.now (λ f. (result ≡ FAULT) × Tells f fault.new path.old path.new) }
     ensures memory { error.now ≡ RawError.Memory → (result ≡ MEMORY) × (fault.new ≡ fault.old) × (path.new ≡ path.old) }

@@ -40,7 +40,7 @@ pub(crate) fn type_numbered(pool: &Pool, number: u32) -> Option<MessageId>
     }
 }
 
-/// The message of the bytes, by its type's number. Where there is none, a fault is told, and the error is what a call answers.
+/// The message of the bytes, by its type's number. Where there is none, a fault is reported, and the error is what a call answers.
 pub(crate) fn read_message<'p>(
     alloc: Global,
     pool: &'p Pool,
@@ -70,7 +70,7 @@ pub(crate) fn read_message<'p>(
     }
 }
 
-/// Tells the fault of an error, if it has one, and answers the error's number.
+/// Reports the fault of an error, if it has one, and answers the error's number.
 fn tell_error(error: &DecodeError, fault: &mut FaultReport, path: &mut [Step]) -> u32
     ensures told { ByFault error.now (λ f. (result ≡ FAULT) × Tells f fault.new path.old path.new) (result ≡ MEMORY) }
     ensures untold { result ≢ FAULT → (fault.new ≡ fault.old) × (path.new ≡ path.old) }
@@ -86,7 +86,7 @@ fn tell_error(error: &DecodeError, fault: &mut FaultReport, path: &mut [Step]) -
     }
 }
 
-/// Writes as much of a text as the buffer holds, and tells its whole length.
+/// Writes as much of a string as the buffer holds, and reports its whole length.
 pub(crate) fn write_out(text: &[u8], out: &mut [u8], size: &mut usize)
     ensures { IsLaid text.now out.old out.new size.new }
 {

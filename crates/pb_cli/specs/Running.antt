@@ -1,4 +1,4 @@
--- What a run of the program comes to, by its words.
+-- The answer of a run of the program, by its words.
 use Rattle.std.specs.Prelude.{◌≡◌, ◌⊎◌, ℕ, List, [], Option, None}
 use Rattle.clap.specs.Words.{Text, subcommand_of}
 use Rattle.pb_files.specs.Answer.{RunsOut}
@@ -7,7 +7,7 @@ use Rattle.pb_files.specs.FileMap.{FileMap}
 use Rattle.pb_command.specs.declared.command.Command.{Command}
 use Rattle.pb_cli.specs.Words.{IsMatched, tool}
 
--- The command that the words name is done, unless memory runs out before. What is said of its end is told in pb_command's specs/Answer.antt.
+-- The command that the words name is done, unless memory runs out before. Its end is described in pb_files' specs/Answer.antt.
 abbrev pub DoesNamed :
     (List ℕ → Type 0) → (List ℕ → Type 0) → (List ℕ → Type 0) → (Option (List ℕ × List ℕ) → Type 0) → (List ℕ → Type 0) → ℕ
     → (FileMap → Type 0) → List Text → Type 0

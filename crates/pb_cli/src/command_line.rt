@@ -55,7 +55,7 @@ pub fn run<F: Files, O: Output, E: Output>(
     run_then(alloc, Afterwards::GoesOn, args, files, out, err)
 }
 
-/// Does what `run` does, in a program that goes on or ends behind it. Where it ends, the pool and the message of the command are not
+/// Does what `run` does, in a program that goes on or ends after it. Where it ends, the pool and the message of the command are not
 /// freed.
 pub fn run_then<F: Files, O: Output, E: Output>(
     alloc: Global,

@@ -8,7 +8,7 @@ ghost use Rattle.pb_cli.specs.Words.{directory_rule, lenient_rule, of_source, to
 use clap::{Arg, ArgAction, Command};
 use std::alloc::{AllocError, Global};
 
-/// What `--version` tells.
+/// What `--version` prints.
 const VERSION: &str = "0.1.0";
 
 /// The definition of the command line.
@@ -154,7 +154,7 @@ fn compile<'a>(alloc: Global) -> Result<Command<'a>, AllocError>
     Ok(whole)
 }
 
-/// A directory where sources are looked for behind the root.
+/// A directory where sources are looked for after the root.
 fn directory_option<'a>(alloc: Global) -> Arg<'a>
     ensures rule { rule_of result ≡ directory_rule }
     ensures local { result.global ≡ false }

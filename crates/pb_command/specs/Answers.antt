@@ -1,4 +1,4 @@
--- What each command comes to.
+-- The answer of each command.
 use Rattle.std.specs.Prelude.{◌≡◌, ◌<◌, ◌^◌, ◌⊎◌, ⊤, ℕ, List, [], length, Option, None, Some, option_map}
 use Rattle.std.specs.Borrow.{Bor}
 use Rattle.pb_wire.specs.Fault.{Fault}
@@ -46,7 +46,7 @@ module _ (content : Option (List ℕ)) where
   FramesAt pool m text =
       (input : List ℕ) × (content ≡ Some input) × (length input < 2 ^ 64 → (count : ℕ) × (offset : ℕ) × BeginsWith pool m input count offset text [])
 
-  -- they begin with so many frames with these lines, and what follows is no frame
+  -- they begin with this number of frames with these lines, and what follows is no frame
   abbrev pub FrameFaultAt : Types → ℕ → ℕ → List ℕ → Fault → Type 0
   FrameFaultAt pool m count text f =
       (input : List ℕ) × (content ≡ Some input)
@@ -94,7 +94,7 @@ module _ (map : FileMap) where
       ⊎ ((set : List ℕ) × (pool : Types) × (m : ℕ) × (map source.set.now ≡ Some set) × HasType source.reading source.type_name.now set pool m
       × FramesBegunAt (map source.file.now) pool m text)
 
--- OVER ANY FILES, also those that tell nothing of what they hold
+-- OVER ANY FILES, also those that report nothing of what they hold
 
 abbrev pub AnyMessage : Form → Source → Answer → Type 0
 AnyMessage form s =
@@ -132,7 +132,7 @@ AnyBegins (Frames source) text = (pool : Types) × (m : ℕ) × AnyFrames pool m
 
 -- THE END OF A RUN
 
--- The command is done: over files of which IsMap tells what they hold the answer is that of their bytes, and over any files it has the form of one.
+-- The command is done: over files of which IsMap says what they hold the answer is that of their bytes, and over any files it has the form of one.
 abbrev pub Does :
     (List ℕ → Type 0) → (List ℕ → Type 0) → (List ℕ → Type 0) → (Option (List ℕ × List ℕ) → Type 0) → (List ℕ → Type 0) → ℕ
     → (FileMap → Type 0) → Command → Type 0

@@ -1,4 +1,4 @@
--- What `compile` comes to: its sources are there and are sources, link, and as a set have at most 2^31 - 1 bytes.
+-- What `compile` answers: its sources are there and are sources, link, and as a set have at most 2^31 - 1 bytes.
 use Rattle.std.specs.Prelude.{◌≡◌, ◌<◌, ◌≤◌, ◌^◌, ℕ, List, ◌∷◌, Option, length, map}
 use Rattle.std.specs.Borrow.{Bor}
 use Rattle.pb_decl.specs.Decls.{DeclaredFile}
@@ -11,7 +11,7 @@ use Rattle.pb_command.specs.Gathering.{Gathered, GathersUnder, Trouble, unread, 
 use Rattle.pb_files.specs.Report.{link_line, source_line, too_large_line}
 use Rattle.pb_command.specs.declared.command.Roots.{Roots}
 
--- the texts behind references
+-- the sources that are referred to
 abbrev pub texts_of : List (Bor (List ℕ)) → List (List ℕ)
 texts_of = map (λ t. t.now)
 
@@ -19,12 +19,12 @@ texts_of = map (λ t. t.now)
 abbrev pub roots_of : Roots → List (List ℕ)
 roots_of r = r.root.now ∷ texts_of r.others.now
 
--- how the trouble with a file is told
+-- how the trouble with a file is reported
 abbrev pub told_of : List ℕ → Trouble → Answer
 told_of name (unread path) = device_failed path
 told_of name (faulty place c) = refused (source_line name place c)
 
--- where IsAt says what stands at paths, and Fails that reading there fails: these files under roots, compiled to the file of a path
+-- where IsAt says what files are at paths, and Fails that reading there fails: these files under roots, compiled to the file of a path
 pub data CompileAnswer
     (IsAt : List ℕ → Option (List ℕ) → Type 0) (Fails : List ℕ → Type 0) (roots : List (List ℕ)) (out : List ℕ) (names : List (List ℕ))
     (answer : Answer) : Type 0 where

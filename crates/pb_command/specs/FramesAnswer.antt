@@ -1,4 +1,4 @@
--- What `frames` prints of a stream of messages, and what it comes to.
+-- What `frames` prints of a stream of messages, and what it answers.
 use Rattle.std.specs.Prelude.{◌≡◌, ◌+◌, ℕ, suc, List, [], ◌++◌, codes, decimal, length}
 use Rattle.pb_wire.specs.Fault.{Fault}
 use Rattle.pb_wire.specs.Limits.{full}
@@ -16,14 +16,14 @@ abbrev pub frame_lines : Types → ℕ → ℕ → ℕ → ℕ → Message → L
 frame_lines pool m index offset size v =
     line 0 (codes "frame " ++ decimal index ++ codes " at " ++ decimal offset ++ codes " size " ++ decimal size) ++ message_lines pool 1 m v
 
--- the lines of so many frames, whatever their places
+-- the lines of a number of frames, whatever their places
 pub data AreFrames (pool : Types) (m : ℕ) : ℕ → List ℕ → Type 0 where
   none : AreFrames pool m 0 []
   one_more :
       {count : ℕ} {text : List ℕ} {v : Message} → AreFrames pool m count text → IsWellFormed pool m v → (offset size : ℕ)
       → AreFrames pool m (suc count) (text ++ frame_lines pool m count offset size v)
 
--- an input begins with so many frames, of so many bytes and with these lines, and the rest follows
+-- an input begins with this number of frames, of this number of bytes and with these lines, and the rest follows
 pub data BeginsWith (pool : Types) (m : ℕ) (input : List ℕ) : ℕ → ℕ → List ℕ → List ℕ → Type 0 where
   no_frame : BeginsWith pool m input 0 0 [] input
   frame_more :
@@ -31,8 +31,8 @@ pub data BeginsWith (pool : Types) (m : ℕ) (input : List ℕ) : ℕ → ℕ �
       → Frame pool m full rest v after → length rest ≡ size + length after
       → BeginsWith pool m input (suc count) (offset + size) (text ++ frame_lines pool m count offset size v) after
 
--- Where these say of a type that an input is frames with these lines, that behind so many with these lines something is no frame, and that the input
--- failed behind frames with these lines.
+-- Where these say of a type that an input is frames with these lines, that after a number of frames with these lines something is no frame, and that the input
+-- failed after frames with these lines.
 pub data FramesAnswer
     (IsFrames : Types → ℕ → List ℕ → Type 0) (StopsAt : Types → ℕ → ℕ → List ℕ → Fault → Type 0) (BreaksBehind : Types → ℕ → List ℕ → Type 0)
     (path : List ℕ) (pool : Types) (m : ℕ) (answer : Answer) : Type 0 where

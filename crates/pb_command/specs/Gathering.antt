@@ -29,7 +29,7 @@ pub data Origin : Type 0 where
   given : Origin
   imported : Origin
 
--- the names that were reached, and the files behind whose imports nothing is left to reach
+-- the names that were reached, and the files whose imports are all reached
 pub record Gathered : Type 0 where
   pub names : List (List ℕ)
   pub files : List DeclaredFile
@@ -90,7 +90,7 @@ pub data Gathers
       {o : Origin} {name : List ℕ} {names : List (List ℕ)} {g : Gathered} {t : Trouble} → is_known g name ≡ false → IsTaken o name
       → HasTrouble o name t → Gathers IsAbsent Declares HasTrouble o (name ∷ names) g (stopped_at name t)
 
--- AT A PATH, of what IsAt says that stands at paths, and Fails that reading there fails
+-- AT A PATH, where IsAt says what files are at paths, and Fails that reading there fails
 
 module _ (IsAt : List ℕ → Option (List ℕ) → Type 0) (path : List ℕ) where
   abbrev pub DeclaresAt : List ℕ → DeclaredFile → Type 0

@@ -1,4 +1,4 @@
--- What `raw` comes to.
+-- What `raw` answers.
 use Rattle.std.specs.Prelude.{◌≡◌, ℕ, List, ◌++◌, Bool, true, false, Option, None, Some}
 use Rattle.hex.specs.Hex.{encode_lower}
 use Rattle.pb_wire.specs.Record.{Record}
@@ -16,7 +16,7 @@ abbrev pub shown_as : Bool → List Record → List ℕ
 shown_as true records = encode_lower (shortest_records records) ++ line_feed
 shown_as false records = raw_listing records
 
--- what `raw` comes to, where this stands at the path
+-- what `raw` answers, where this is the file at the path
 pub data RawAnswer (limits : Bounds) (short : Bool) (path : List ℕ) (content : Option (List ℕ)) (answer : Answer) : Type 0 where
   missing : content ≡ None → answer ≡ device_failed path → RawAnswer limits short path content answer
   shown :

@@ -1,4 +1,4 @@
--- What stands while sources are gathered: the files whose imports are being reached, and the steps that reach them. No public contract rests on it.
+-- The state while sources are gathered: the files whose imports are being reached, and the steps that reach them. No public contract rests on it.
 use Rattle.std.specs.Prelude.{◌≡◌, ◌⊎◌, ℕ, List, [], ◌∷◌, ◌++◌, true, false, Option, Some, None, map, reverse, drop, string_bytes}
 use Rattle.pb_decl.specs.Decls.{DeclaredFile}
 use Rattle.pb_decl.specs.View.{file_view}

@@ -58,7 +58,7 @@ module _ (Out Cut : List ℕ → Type 0) (Saved : Option (List ℕ × List ℕ) 
       ⊎ (((text : List ℕ) × (path ≡ output_name) × IsPrinted IsRight IsBegun text × Cut text × Saved None)
       ⊎ ((a : Answer) × (bytes : List ℕ) × IsRight a × (a.saved ≡ Some (path, bytes)) × Out [] × Unsaved path))
 
-  -- a right answer went out or is refused; or a device failed, or memory ran out, behind what is printed before
+  -- a right answer went out or is refused; or a device failed, or memory ran out, after what is printed before
   abbrev pub Comes : Result Unit Refusal → Type 0
   Comes (Ok u) = (a : Answer) × IsRight a × (a.status ≡ 0) × (a.line ≡ []) × Out a.text × Saved a.saved
   Comes (Err e) =
@@ -112,7 +112,7 @@ module _ {F : Type 0} (contents : F → Option FileMap) (is_steady : F → Bool)
 
   -- COMMANDS
 
-  -- what a command comes to that makes something of the message of a file
+  -- the answer of a command that makes something of the message of a file
   abbrev pub MessageOf : Form → Source → Answer → Type 0
   MessageOf form s =
       TypeAnswer (IsReadOf contents is_steady files (full.bytes + 1) s.set.now) (OfFiles contents is_steady files s.file.now (λ content. content ≡ None))
@@ -120,7 +120,7 @@ module _ {F : Type 0} (contents : F → Option FileMap) (is_steady : F → Bool)
       (λ pool m v. IsWellFormed pool m v × OfFiles contents is_steady files s.file.now (λ content. TextAt content pool m v)) form)
       s.reading s.type_name.now s.set.now s.file.now
 
-  -- what `frames` comes to
+  -- what `frames` answers
   abbrev pub StreamOf : Source → Answer → Type 0
   StreamOf s =
       TypeAnswer (IsReadOf contents is_steady files (full.bytes + 1) s.set.now) (OfFiles contents is_steady files s.file.now (λ content. content ≡ None))
@@ -136,11 +136,11 @@ module _ {F : Type 0} (contents : F → Option FileMap) (is_steady : F → Bool)
       ⊎ ((set : List ℕ) × (pool : Types) × (m : ℕ) × IsReadOf contents is_steady files (full.bytes + 1) s.set.now (Some set)
       × HasType s.reading s.type_name.now set pool m × AnyFrames pool m text × OfFiles contents is_steady files s.file.now (λ content. FramesBegunAt content pool m text))
 
-  -- what `types` comes to
+  -- what `types` answers
   abbrev pub TypesOf : Reading → List ℕ → Option (List ℕ) → Answer → Type 0
   TypesOf reading path name = TypesAnswer (IsReadOf contents is_steady files (full.bytes + 1) path) reading path name
 
-  -- what stands at a path, and that reading there fails, which is never so of honest files
+  -- the file at a path, and that reading there fails, which is never so of honest files
   abbrev pub IsAt : List ℕ → Option (List ℕ) → Type 0
   IsAt = IsReadOf contents is_steady files (full.bytes + 1)
 
@@ -164,7 +164,7 @@ module _ {F : Type 0} (contents : F → Option FileMap) (is_steady : F → Bool)
   abbrev pub StopsOf : List (List ℕ) → Origin → List (List ℕ) → Gathered → Answer → Type 0
   StopsOf roots o names g a = (name : List ℕ) × (t : Trouble) × GathersOf roots o names g (stopped_at name t) × (a ≡ told_of name t)
 
-  -- what `compile` comes to
+  -- what `compile` answers
   abbrev pub CompileOf : List (List ℕ) → List ℕ → List (List ℕ) → Answer → Type 0
   CompileOf = CompileAnswer IsAt Fails
 

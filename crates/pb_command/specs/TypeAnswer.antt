@@ -1,12 +1,12 @@
--- What the commands that read by a type come to, up to where the file of messages is opened: the set is there, is one, links, and has the type.
+-- The answers of the commands that read by a type, up to where the file of messages is opened: the set is there, is one, links, and has the type.
 use Rattle.std.specs.Prelude.{◌≡◌, ℕ, List, Option, Some}
 use Rattle.pb_schema.specs.Types.{Types}
 use Rattle.pb_files.specs.Answer.{Answer, device_failed}
 use Rattle.pb_files.specs.SetFile.{HasType, NoType}
 use Rattle.pb_files.specs.declared.set_file.Reading.{Reading}
 
--- Where IsAtSet says what stands at the set's path, and IsMissing that nothing stands at that of the messages: there is no such type, or no such
--- file, or what is then read by the type comes to the answer.
+-- Where IsAtSet says which file is at the set's path, and IsMissing that none is at that of the messages: there is no such type, or no such
+-- file, or what is then read by the type gives the answer.
 pub data TypeAnswer
     (IsAtSet : Option (List ℕ) → Type 0) (IsMissing : Type 0) (ComesTo : Types → ℕ → Answer → Type 0) (reading : Reading) (name set_path path : List ℕ)
     (answer : Answer) : Type 0 where

@@ -1,4 +1,4 @@
--- What `types` comes to: the set is there, is one, links, and declares the message type or enum of the name, if one is given.
+-- What `types` answers: the set is there, is one, links, and declares the message type or enum of the name, if one is given.
 use Rattle.std.specs.Prelude.{◌≡◌, ℕ, List, ◌++◌, codes, flat_map, Option, None, Some}
 use Rattle.pb_schema.specs.Names.{enum_names, message_names}
 use Rattle.pb_schema.specs.Tables.{place_of}
@@ -34,7 +34,7 @@ abbrev pub ShownAnswer : Option (List ℕ) → Types → List OmittedView → An
 ShownAnswer None pool omitted answer = answer ≡ done (set_listing pool omitted)
 ShownAnswer (Some name) pool omitted answer = NamedAnswer name pool answer
 
--- where this says what stands at the set's path
+-- where this says which file is at the set's path
 pub data TypesAnswer
     (IsAtSet : Option (List ℕ) → Type 0) (reading : Reading) (path : List ℕ) (name : Option (List ℕ)) (answer : Answer) : Type 0 where
   no_types : {content : Option (List ℕ)} → IsAtSet content → NoPool reading path content answer → TypesAnswer IsAtSet reading path name answer

@@ -1,4 +1,4 @@
-//! What a program does behind a command, and what becomes of the command's memory.
+//! What a program does after a command, and what becomes of the command's memory.
 
 use std::mem::forget;
 

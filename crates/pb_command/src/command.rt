@@ -46,7 +46,7 @@ pub enum Command<'a> {
         layout: Layout,
         source: Source<'a>,
     },
-    /// Shows the messages of a file, each behind its length.
+    /// Shows the messages of a file, each after its length.
     Frames {
         source: Source<'a>,
     },

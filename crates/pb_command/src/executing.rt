@@ -21,7 +21,7 @@ use pb_files::{Files, Refusal};
 use pb_wire::{Limits, Output};
 use std::alloc::Global;
 
-/// Does a command: reads its files, writes what it comes to and answers the exit status.
+/// Does a command: reads its files, writes its output and answers the exit status.
 pub fn execute<F: Files, O: Output, E: Output>(
     alloc: Global,
     command: &Command<'_>,
@@ -53,7 +53,7 @@ pub fn execute<F: Files, O: Output, E: Output>(
     execute_then(alloc, Afterwards::GoesOn, command, files, out, err)
 }
 
-/// Does a command as `execute` does, in a program that goes on or ends behind it. Where it ends, the pool and the message of the command
+/// Does a command as `execute` does, in a program that goes on or ends after it. Where it ends, the pool and the message of the command
 /// are not freed.
 pub fn execute_then<F: Files, O: Output, E: Output>(
     alloc: Global,
@@ -82,7 +82,7 @@ pub fn execute_then<F: Files, O: Output, E: Output>(
     conclude(outcome, err)
 }
 
-/// The work of a command, without the line that tells a refusal.
+/// The work of a command, without the line that reports a refusal.
 fn perform<'a, F: Files, O: Output>(
     alloc: Global,
     afterwards: Afterwards,
@@ -138,7 +138,7 @@ fn form_of(to: Option<&str>) -> Form<'_>
     }
 }
 
-/// Tells a refusal, and answers the exit status.
+/// Reports a refusal, and answers the exit status.
 fn conclude<E: Output>(outcome: Result<(), Refusal<'_>>, err: &mut E) -> u8
     ensures { MatchResult outcome.entry (λ _. (result ≡ 0) × Sent E.written E.failures err.old err.new [])
         (λ e. (result ≡ refusal_status e) × SentOrCut E.written E.failures err.old err.new (refusal_line e)) }

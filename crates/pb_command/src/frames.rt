@@ -1,4 +1,4 @@
-//! The messages of a file, each behind its length.
+//! The messages of a file, each after its length.
 
 ghost use Rattle.std.specs.Prelude.{◌≡◌, ◌++◌, ◌<◌, false, codes, decimal, length, true};
 ghost use Rattle.pb_wire.specs.Limits.{full};
@@ -34,7 +34,7 @@ enum Next<'a> {
     Refused(Refusal<'a>),
 }
 
-/// Shows the messages of a file up to its end or to what is no message. What was printed before a refusal stands.
+/// Shows the messages of a file up to its end or to what is no message. What was printed before a refusal stays.
 pub fn frames<'a, F: Files, O: Output>(
     alloc: Global,
     afterwards: Afterwards,
@@ -76,7 +76,7 @@ fn frames_at<'a, F: Files, O: Output>(
     write_frames(&mut reader, path, out)
 }
 
-/// Writes the lines of the frames that are left, and then tells why what follows them is refused, if it is.
+/// Writes the lines of the frames that are left, and then reports why what follows them is refused, if it is.
 fn write_frames<'a, I: Input + Drop, O: Output>(
     reader: &mut DelimitedReader<'_, I>,
     path: &'a str,

@@ -1,4 +1,4 @@
-//! The sources of a set: each file in turn, behind its imports and once.
+//! The sources of a set: each file in turn, after its imports and once.
 
 ghost use Rattle.std.specs.Prelude.{◌≡◌, ◌++◌, [], ◌∷◌, map, true, false, option_map, IfOk, IfErr, OnOk};
 ghost use Rattle.std.specs.List.{list_any};
@@ -31,11 +31,11 @@ struct Open {
 #[derive(Drop)]
 struct Gathering {
     names: NameSet,
-    /// The files behind whose imports nothing is left to reach.
+    /// The files whose imports are all reached.
     files: Vec<FileDecl>,
 }
 
-/// The files of these names under roots and their imports, each behind its imports and once.
+/// The files of these names under roots and their imports, each after its imports and once.
 pub fn gather<'a, F: Files>(
     alloc: Global,
     roots: Roots<'_>,
@@ -85,7 +85,7 @@ fn open_found(found: Option<FileDecl>, stack: &mut Vec<Open>) -> Result<(), Allo
 }
 
 impl Gathering {
-    /// Takes a file that was given, behind its imports.
+    /// Takes a file that was given, after its imports.
     fn take_given<'a, F: Files>(
         &mut self,
         alloc: Global,
@@ -111,7 +111,7 @@ impl Gathering {
         Ok(())
     }
 
-    /// Reaches all that a file imports, and puts the file behind it.
+    /// Reaches all that a file imports, and puts the file after it.
     fn close<'a, F: Files>(
         &mut self,
         alloc: Global,
@@ -138,11 +138,11 @@ impl Gathering {
             };
             self.go_on(alloc, roots, innermost, &mut stack, files)?;
         }
-        // No memory holds so many names.
+        // Memory ends before the number of names reaches the maximum.
         Err(Refusal::Memory)
     }
 
-    /// Reaches the next import of the innermost open file, or closes it behind the last.
+    /// Reaches the next import of the innermost open file, or closes it after the last.
     fn go_on<'a, F: Files>(
         &mut self,
         alloc: Global,
@@ -177,7 +177,7 @@ impl Gathering {
     }
 
     /// Reads the file of an import that is reached for the first time. One that leaves the roots or is not there is left out, so that
-    /// linking tells it.
+    /// linking reports it.
     fn find_import<'a, F: Files>(
         &mut self,
         alloc: Global,

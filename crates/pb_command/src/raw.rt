@@ -42,7 +42,7 @@ pub fn raw<'a, F: Files, O: Output>(
     Ok(())
 }
 
-/// The bytes of a file, which are judged: at most one byte is read behind those that the limits allow.
+/// The bytes of a file, which are judged: at most one byte more than the limits allow is read.
 fn read_judged<'a, F: Files>(
     alloc: Global,
     limits: Limits,

@@ -48,7 +48,7 @@ fn climbs(name: &str) -> bool
     name.split('/').any(|part| part == "..")
 }
 
-/// The bytes of the file at a path, but at most one behind those that a source may have; none where no file is there.
+/// The bytes of the file at a path, but at most one more than a source may have; none where no file is there.
 fn read_bytes<F: Files>(
     alloc: Global,
     path: &str,

@@ -1,4 +1,4 @@
--- What a command comes to, and what a run of it leaves.
+-- The answer of a command, and what a run of it leaves.
 use Rattle.std.specs.Prelude.{◌≡◌, ◌⊎◌, ℕ, List, [], Option, None, Some}
 use Rattle.pb_files.specs.Report.{device_line, memory_line, output_name}
 
@@ -16,7 +16,7 @@ done text = record { text = text; saved = None; line = []; status = 0 }
 abbrev pub saves : List ℕ → List ℕ → Answer
 saves path bytes = record { text = []; saved = Some (path, bytes); line = []; status = 0 }
 
--- an input is refused, behind what was printed before
+-- an input is refused, after what was printed before
 abbrev pub stopped : List ℕ → List ℕ → Answer
 stopped text line = record { text = text; saved = None; line = line; status = 1 }
 

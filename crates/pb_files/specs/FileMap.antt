@@ -11,7 +11,7 @@ KeepsMap None new = ⊤
 KeepsMap (Some map) None = ⊥
 KeepsMap (Some map) (Some after) = (path : List ℕ) → after path ≡ map path
 
--- what an opened file has left is what stands at the path, and nothing was opened exactly where nothing is there
+-- what an opened file has left is the file at the path, and nothing was opened exactly where nothing is there
 abbrev pub IsOpened : {I : Type 0} → (I → Option (List ℕ)) → Option (List ℕ) → Option I → Type 0
 IsOpened left None None = ⊤
 IsOpened left None (Some input) = ⊥
@@ -32,7 +32,7 @@ WritesWhole None new path bytes r = ⊤
 WritesWhole (Some map) None path bytes r = ⊥
 WritesWhole (Some map) (Some after) path bytes r = SameBut path map after × OnOk r (after path ≡ Some bytes)
 
--- the files do not fail, and these bytes stand at each path
+-- the files do not fail, and these are the bytes at each path
 pub record IsHonest {F : Type 0} (contents : F → Option FileMap) (is_steady : F → Bool) (files : F) (map : FileMap) : Type 0 where
   pub steady : is_steady files ≡ true
   pub told : contents files ≡ Some map

@@ -1,4 +1,4 @@
--- The line and the exit status of a refusal, and what it comes to.
+-- The line and the exit status of a refusal, and its answer.
 use Rattle.std.specs.Prelude.{◌≡◌, ℕ, List, Bool, true, false, string_bytes, Result, MatchResult}
 use Rattle.pb_wire.specs.Fault.{fault}
 use Rattle.pb_wire.specs.declared.fault.RawError.{RawError}
@@ -76,11 +76,11 @@ ByRefusal Input Failed OutOfMemory (Device path) = Failed path.now
 ByRefusal Input Failed OutOfMemory (File path) = Failed (string_bytes path)
 ByRefusal Input Failed OutOfMemory Memory = OutOfMemory
 
--- before anything is printed: the answer that a refusal comes to, unless memory ran out
+-- before anything is printed: the answer of a refusal, unless memory ran out
 abbrev pub Refuses : (Answer → Type 0) → Refusal → Type 0
 Refuses IsRight e = ByRefusal (λ line. IsRight (refused line)) (λ path. IsRight (device_failed path)) (Unit {0}) e
 
--- a reader's error is told as it is
+-- a reader's error is reported as it is
 abbrev pub IsTold : RawError → Refusal → Type 0
 IsTold (raw.Fault byte path cause) e = e ≡ Fault byte path cause
 IsTold raw.Memory e = e ≡ Memory

@@ -1,4 +1,4 @@
--- The lines that tell why a command was refused.
+-- The lines that report why a command was refused.
 use Rattle.std.specs.Prelude.{ℕ, List, [], ◌∷◌, ◌++◌, codes, decimal, flat_map}
 use Rattle.pb_wire.specs.Fault.{Fault}
 use Rattle.pb_wire.specs.CauseName.{name_of}
@@ -50,7 +50,7 @@ type_line name = codes "type " ++ name ++ codes " unknown\n"
 abbrev pub too_large_line : List ℕ
 too_large_line = codes "output cause TooLarge\n"
 
--- where a stream is refused, behind so many frames
+-- where a stream is refused, after this number of frames
 abbrev pub frame_fault_line : ℕ → Fault → List ℕ
 frame_fault_line index f = codes "frame " ++ decimal index ++ codes " " ++ fault_line f
 

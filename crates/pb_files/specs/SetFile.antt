@@ -61,7 +61,7 @@ pub record HasType (reading : Reading) (name b : List ℕ) (pool : Types) (m : �
   pub makes : HasPool reading b pool omitted
   pub named : place_of name (message_names pool) ≡ Some m
 
--- what is answered where what stands at the path of a set makes no types
+-- what is answered where the file at the path of a set makes no types
 pub data NoPool (reading : Reading) (path : List ℕ) (content : Option (List ℕ)) (answer : Answer) : Type 0 where
   no_file : content ≡ None → answer ≡ device_failed path → NoPool reading path content answer
   no_text :

@@ -1,4 +1,4 @@
-//! Named files. A contract sees them as a map from paths to bytes, where they tell it, and how often they failed.
+//! Named files. A contract sees them as a map from paths to bytes, where they report it, and how often they failed.
 
 ghost use Rattle.std.specs.Prelude.{◌≡◌, ◌≢◌, ℕ, Bool, true, Option, IsOk, IfSome, IfOk, OnOk, OnErr};
 ghost use Rattle.pb_files.specs.FileMap.{FileMap, OpensAt, WritesWhole};
@@ -9,7 +9,7 @@ use pb_wire::{DeviceFault, Input};
 pub trait Files {
     type In: Input + Drop;
 
-    // What stands at each path, of files that tell it.
+    // The file at each path, of files that report it.
     ghost contents: { Self → Option FileMap };
 
     // How often the files failed.

@@ -11,7 +11,7 @@ use crate::report::Refusal;
 use pb_wire::{DeviceFault, Input, Limits, ReadFault, read_up_to};
 use std::alloc::Global;
 
-/// Opens the file at a path. One that is not there is told as a device that failed.
+/// Opens the file at a path. A missing one is reported as a device that failed.
 pub fn open_file<'a, F: Files>(path: &'a str, files: &mut F) -> Result<F::In, Refusal<'a>>
     ensures opened { IfOk result (λ input. OfFiles F.contents F.is_steady files.old path.entry.now
         (λ content. IsOpened F.In.left content (Some input) × (F.In.is_steady input ≡ true))) }
@@ -30,7 +30,7 @@ pub fn open_file<'a, F: Files>(path: &'a str, files: &mut F) -> Result<F::In, Re
     }
 }
 
-/// The bytes of a file, but at most one behind those that the limits allow.
+/// The bytes of a file, but at most one more than the limits allow.
 pub fn read_file<'a, F: Files>(
     alloc: Global,
     limits: Limits,
@@ -51,7 +51,7 @@ pub fn read_file<'a, F: Files>(
     Ok(text)
 }
 
-/// The bytes of an input, but at most one behind those that the limits allow.
+/// The bytes of an input, but at most one more than the limits allow.
 fn read_input<'a, I: Input>(
     alloc: Global,
     limits: Limits,

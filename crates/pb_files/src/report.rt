@@ -1,4 +1,4 @@
-//! Why a command is refused, and the line that tells it.
+//! Why a command is refused, and the line that reports it.
 
 ghost use Rattle.std.specs.Prelude.{◌≡◌, ◌≤◌, ◌++◌, codes, decimal, flat_map, length, MatchResult};
 ghost use Rattle.pb_wire.specs.Fault.{fault};
@@ -163,7 +163,7 @@ impl Refusal<'_> {
         }
     }
 
-    /// Writes the line, and answers the exit status. Nobody is told where the line is not taken.
+    /// Writes the line, and answers the exit status. A failure to write the line is not reported.
     pub fn tell<E: Output>(&self, err: &mut E) -> u8
         ensures status { result ≡ refusal_status self.now }
         ensures told { SentOrCut E.written E.failures err.old err.new (refusal_line self.now) }

@@ -1,4 +1,4 @@
--- What private functions require, and the records that borrowed ones stand for.
+-- What private functions require, and the records of borrowed ones.
 use Rattle.std.specs.Prelude.{◌≡◌, ◌≤◌, ◌<◌, ◌^◌, ℕ, List, length, IsUtf8}
 use Rattle.pb_wire.specs.Record.{Record, group_of}
 use Rattle.pb_wire.specs.Record as wire
@@ -11,7 +11,7 @@ use Rattle.pb_schema.specs.declared.types.Kind.TheVariants as kind
 use Rattle.pb_schema.specs.Types.{Types}
 use Rattle.pb_schema.specs.Context.{a_message, schema_of}
 
--- the payload that a borrowed one stands for
+-- the payload of a borrowed one
 abbrev pub payload_of : Seen → wire.Payload
 payload_of (varint n) = wire.varint n
 payload_of (fixed64 n) = wire.fixed64 n
@@ -30,7 +30,7 @@ pub record IsPayload (pool : Types) (m : ℕ) (b : List ℕ) : Type 0 where
   pub spelled : AreRecords (records_spelled b) b
   pub sound : AllSound (schema_of pool) (a_message m) levels (records_spelled b)
 
--- what stands inside is of no more bytes than a payload may have, and in a group these encode records
+-- the contents have no more bytes than a payload may have, and in a group these encode records
 abbrev pub IsInside : Seen → Type 0
 IsInside (varint n) = Unit {0}
 IsInside (fixed64 n) = Unit {0}

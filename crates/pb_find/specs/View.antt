@@ -1,4 +1,4 @@
--- The scalars that borrowed ones stand for.
+-- The scalars of borrowed ones.
 use Rattle.std.specs.Prelude.{Option, option_map}
 use Rattle.pb_schema.specs.Scalar.{Scalar, int32, int64, uint32, uint64, boolean, float, double, enum, text, bytes}
 use Rattle.pb_find.specs.declared.scalar_ref.ScalarRef.{ScalarRef}

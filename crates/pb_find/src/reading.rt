@@ -15,7 +15,7 @@ use pb_schema::scalars::low_half;
 use pb_schema::{Kind, Shape};
 use pb_wire::{Payload, unzigzag32, unzigzag64};
 
-/// The scalar of a kind that a varint stands for. A kind of another wire type has none.
+/// The scalar of a kind that a varint encodes. A kind of another wire type has none.
 fn of_varint<'a>(kind: Kind, number: u64) -> Option<ScalarRef<'a>>
     ensures { found_view result ≡ read kind (varint number) }
 {
@@ -88,7 +88,7 @@ fn is_default(scalar: ScalarRef<'_>) -> bool
     }
 }
 
-/// The scalar of a kind that a payload stands for. A payload of another wire type stands for none.
+/// The scalar of a kind that a payload encodes. A payload of another wire type encodes none.
 fn scalar_of(kind: Kind, payload: Payload<'_>) -> Option<ScalarRef<'_>>
     requires { IsString kind (seen payload) }
     ensures { found_view result ≡ read kind (payload_of (seen payload.entry)) }

@@ -35,7 +35,7 @@ date_text year month day = two_digits (year / 100) ++ two_digits (year % 100) ++
 abbrev pub time_text : ℕ → List ℕ
 time_text n = two_digits (n / 3_600) ++ codes ":" ++ two_digits (n / 60 % 60) ++ codes ":" ++ two_digits (n % 60)
 
--- the date so many days after 1970-01-01, by the Gregorian calendar
+-- the date this number of days after 1970-01-01, by the Gregorian calendar
 pub record IsDateText (days : ℤ) (s : List ℕ) : Type 0 where
   pub year : ℕ
   pub month : ℕ
@@ -45,7 +45,7 @@ pub record IsDateText (days : ℤ) (s : List ℕ) : Type 0 where
   pub counted : days_from_civil (pos year) month day ≡ days
   pub text : s ≡ date_text year month day
 
--- the point so many seconds after 1970-01-01T00:00:00Z, and these nanoseconds
+-- the point this number of seconds after 1970-01-01T00:00:00Z, and these nanoseconds
 pub record IsInstantText (seconds : ℤ) (nanos : ℕ) (s : List ℕ) : Type 0 where
   pub days : ℤ
   pub second : ℕ

@@ -124,7 +124,7 @@ fn since_year_one(seconds: i64) -> u64
     (seconds + TO_1970) as u64
 }
 
-/// The date so many days after 0001-01-01.
+/// The date `days` days after 0001-01-01.
 fn put_day<O: Output>(sink: &mut Sink, out: &mut O, days: u32)
     requires { days ≤ 3_652_058 }
     ensures { Prints O.written O.failures out.old out.new sink.old sink.new (IsDateText (pos days -ℤ pos 719_162)) }

@@ -1,4 +1,4 @@
--- What is told of a scalar that was looked for.
+-- What is reported of a scalar that was looked for.
 use Rattle.std.specs.Prelude.{◌≡◌, ℕ, List, Option, Some, None, Result, Ok, Err}
 use Rattle.pb_schema.specs.Scalar.{Scalar}
 use Rattle.pb_decode.specs.declared.error.DecodeError.{DecodeError}

@@ -1,4 +1,4 @@
--- What reading a frame comes to in the words of the call.
+-- The result of reading a frame, in the words of the call.
 use Rattle.std.specs.Prelude.{◌≡◌, ◌⊎◌, ◌++◌, ℕ, List, [], length}
 use Rattle.pb_wire.specs.Exact.{IsCut}
 use Rattle.pb_wire.specs.Fault.{Fault}
@@ -8,7 +8,7 @@ use Rattle.pb_value.specs.Data.{Message}
 use Rattle.pb_stream.specs.Frame.{Frame, FrameFault}
 use Rattle.pb_c.specs.declared.typed.frames.FrameReport.{FrameReport}
 
--- The bytes begin with a frame, whose message stands here.
+-- The bytes begin with a frame, whose message is here.
 pub record IsFramed (pool : Types) (m : ℕ) (limits : Bounds) (bytes : List ℕ) (report : FrameReport) : Type 0 where
   pub value : Message
   pub rest : List ℕ
@@ -25,6 +25,6 @@ pub record IsNoFrame (pool : Types) (m : ℕ) (limits : Bounds) (bytes : List �
   pub fault : FrameFault pool m limits bytes f
   pub settled : ¬ IsCut f
 
--- a call's answer to the fault of a frame: more bytes are needed, or else this is told
+-- a call's answer to the fault of a frame: more bytes are needed, or else this is reported
 abbrev pub AnswersFault : ℕ → (Fault → Type 0) → Fault → Type 0
 AnswersFault answer Told f = (IsCut f × (answer ≡ 5)) ⊎ ((¬ IsCut f) × (answer ≡ 13) × Told f)

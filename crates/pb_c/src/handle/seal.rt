@@ -54,5 +54,5 @@ impl Seal {
     }
 }
 
-// A pool behind an `Arc` may be read by any thread, so what is sealed may go to one.
+// A pool in an `Arc` may be read by any thread, so what is sealed may go to one.
 unsafe impl Send for Seal {}

@@ -1,4 +1,4 @@
-//! What stands behind a handle.
+//! What a handle holds.
 
 use pb_schema::Pool;
 use std::sync::Arc;

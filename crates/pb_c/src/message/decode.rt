@@ -20,7 +20,7 @@ use pb_wire::Limits;
 use std::alloc::Global;
 use std::sync::Arc;
 
-/// The message of the bytes, by its type's number. Where there is none, a fault is told, and the error is what a call answers.
+/// The message of the bytes, by its type's number. Where there is none, a fault is reported, and the error is what a call answers.
 fn decode_message(
     alloc: Global,
     pool: &Arc<Pool>,
@@ -79,7 +79,7 @@ pub extern "C" fn mb_message_decode(
     ensures answers { (result ≡ DONE) ⊎ (result ≡ BAD_LIMITS) ⊎ (result ≡ EMPTY) ⊎ (result ≡ NO_TYPE) ⊎ (result ≡ FAULT) ⊎ (result ≡ MEMORY) }
     ensures same { pool.new.seal.pool ≡ pool.old.seal.pool }
 
-    // Each message is decoded and each fault is told, unless memory runs out.
+    // Each message is decoded and each fault is reported, unless memory runs out.
     ensures accepted { AreLimits max_bytes max_depth → (ts : Types) → HasType (types_held pool.old) message_type ts → (v : Message)
         → Text ts message_type (bounds max_bytes max_depth) bytes.now v
         → ((result ≡ DONE) × (message.new.seal.message ≡ Some (message_of ts message_type v))) ⊎ (result ≡ MEMORY) }

@@ -1,4 +1,4 @@
-//! What stands behind the handle of a message.
+//! What the handle of a message holds.
 
 ghost use Rattle.std.specs.Prelude.{◌≡◌, IfOk};
 

@@ -85,7 +85,7 @@ fn parse_all(alloc: Global, names: &[&[u8]], texts: &[&[u8]]) -> Result<Vec<File
     Ok(files)
 }
 
-/// Tells why sources are not parsed, and answers by its number.
+/// Reports why sources are not parsed, and answers by its number.
 fn tell_source(error: &Unparsed, refusal: &mut Refusal) -> u32
     ensures told { IsUnparsed (λ i byte c. (text : List ℕ) → TellsRefusal (PoolFault.in_source i byte c) result refusal.old refusal.new text text) error.now }
     ensures memory { error.now ≡ Unparsed.Memory → (result ≡ MEMORY) × (refusal.new ≡ refusal.old) }
@@ -135,7 +135,7 @@ fn compile_sources(
 /// Answers DONE; BAD_NAME where there are not as many names as texts, or a name is not UTF-8; the number of a cause, 50 or from 61 to 69,
 /// with the source's index and the byte in the refusal, for the first source that is none; the number of a cause, from 71 to 89, with the
 /// lengths of the file's name and of the declaration's full name in the refusal and both as text, as much as the buffer holds, where the
-/// files do not link; or MEMORY. At any answer but DONE the handle holds nothing. What is not told is not written.
+/// files do not link; or MEMORY. At any answer but DONE the handle holds nothing. What is not reported is not written.
 #[unsafe(no_mangle)]
 pub extern "C" fn mb_pool_compile(
     alloc: Global,
@@ -152,7 +152,7 @@ pub extern "C" fn mb_pool_compile(
         × TellsRefusal w result refusal.old refusal.new text.old text.new }
     ensures untold { (result ≡ DONE) ⊎ (result ≡ BAD_NAME) ⊎ (result ≡ MEMORY) → (refusal.new ≡ refusal.old) × (text.new ≡ text.old) }
 
-    // What makes a pool is linked, and the fault of what makes none is told, unless memory runs out.
+    // What makes a pool is linked, and the fault of what makes none is reported, unless memory runs out.
     ensures accepted { AreNamed names.now texts.now → (ts : Types) → SourcesMake names.now texts.now ts
         → ((result ≡ DONE) × (types_held pool.new ≡ Some ts)) ⊎ (result ≡ MEMORY) }
     ensures told { AreNamed names.now texts.now → (w : PoolFault) → SourcesFail names.now texts.now w

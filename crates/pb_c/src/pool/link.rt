@@ -43,7 +43,7 @@ fn link_set(
 /// Answers DONE; FAULT with the fault, and as many of the at most 201 steps of its path as the buffer holds, where the bytes are no text of a set; the number
 /// of a cause, from 52 to 60, with the file's index in the refusal, where a file is not read; the number of a cause, from 71 to 89, with
 /// the lengths of the file's name and of the declaration's full name in the refusal and both as text, as much as the buffer holds, where the
-/// files do not link; or MEMORY. At any answer but DONE the handle holds nothing. What is not told is not written.
+/// files do not link; or MEMORY. At any answer but DONE the handle holds nothing. What is not reported is not written.
 #[unsafe(no_mangle)]
 pub extern "C" fn mb_pool_link(
     alloc: Global,
@@ -62,7 +62,7 @@ pub extern "C" fn mb_pool_link(
     ensures untold { (result ≡ DONE) ⊎ (result ≡ MEMORY) → (fault.new ≡ fault.old) × (path.new ≡ path.old)
         × (refusal.new ≡ refusal.old) × (text.new ≡ text.old) }
 
-    // What makes a pool is linked, and the fault of what makes none is told, unless memory runs out.
+    // What makes a pool is linked, and the fault of what makes none is reported, unless memory runs out.
     ensures accepted { (ts : Types) → SetMakes set.now ts → ((result ≡ DONE) × (types_held pool.new ≡ Some ts)) ⊎ (result ≡ MEMORY) }
     ensures told { (w : PoolFault) → SetFails set.now w
         → TellsFault w result fault.old fault.new path.old path.new refusal.old refusal.new text.old text.new ⊎ (result ≡ MEMORY) }

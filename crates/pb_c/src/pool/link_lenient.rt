@@ -72,7 +72,7 @@ pub extern "C" fn mb_pool_link_lenient(
     ensures untold { (result ≡ DONE) ⊎ (result ≡ MEMORY) → (fault.new ≡ fault.old) × (path.new ≡ path.old)
         × (refusal.new ≡ refusal.old) × (text.new ≡ text.old) }
 
-    // What makes a pool is linked, and the fault of what makes none is told, unless memory runs out.
+    // What makes a pool is linked, and the fault of what makes none is reported, unless memory runs out.
     ensures accepted { (ts : Types) → LenientSetMakes set.now ts → ((result ≡ DONE) × (types_held pool.new ≡ Some ts)) ⊎ (result ≡ MEMORY) }
     ensures told { (w : PoolFault) → LenientSetFails set.now w
         → TellsFault w result fault.old fault.new path.old path.new refusal.old refusal.new text.old text.new ⊎ (result ≡ MEMORY) }

@@ -41,7 +41,7 @@ fn hold(alloc: Global, made: Pool, pool: &mut PoolHandle) -> u32
     DONE
 }
 
-/// Puts the pool that files make into a handle that holds nothing, or tells why they do not link.
+/// Puts the pool that files make into a handle that holds nothing, or reports why they do not link.
 pub(super) fn link_files(
     alloc: Global,
     files: &[FileDecl],

@@ -1,4 +1,4 @@
-//! Why no pool is made, as it is told.
+//! Why no pool is made, as it is reported.
 
 ghost use Rattle.std.specs.Prelude.{◌≡◌, ◌++◌, ℕ, List, IfSome};
 ghost use Rattle.pb_c.specs.PoolFault.{TellsBytes, TellsRefusal, link_fault, set_fault};
@@ -16,7 +16,7 @@ pub struct Refusal {
     pub file: usize,
     /// Of a source: where.
     pub byte: u64,
-    /// Of linking: the length of the file's name, which begins what is told as text.
+    /// Of linking: the length of the file's name, with which the reported string begins.
     pub file_len: usize,
     /// Of linking: the length of the declaration's full name, which follows it there.
     pub name_len: usize,
@@ -31,7 +31,7 @@ pub(crate) fn lay_both(first: &[u8], second: &[u8], room: &mut [u8])
     lay_over(second, &mut room[size..]);
 }
 
-/// Tells why a set is not read, and answers by its number.
+/// Reports why a set is not read, and answers by its number.
 pub(super) fn tell_set(
     error: &DescrError,
     fault: &mut FaultReport,
@@ -61,7 +61,7 @@ pub(super) fn tell_set(
     }
 }
 
-/// Tells why files do not link, and answers by its number.
+/// Reports why files do not link, and answers by its number.
 pub(super) fn tell_link(error: &LinkError, refusal: &mut Refusal, text: &mut [u8]) -> u32
     ensures fault { IfSome (link_fault error.now) (λ w. TellsRefusal w result refusal.old refusal.new text.old text.new) }
     ensures memory { error.now ≡ LinkError.Memory → (result ≡ MEMORY) × (refusal.new ≡ refusal.old) × (text.new ≡ text.old) }

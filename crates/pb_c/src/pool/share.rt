@@ -1,4 +1,4 @@
-//! One pool behind several handles.
+//! One pool for several handles.
 
 ghost use Rattle.std.specs.Prelude.{◌≡◌, ◌≢◌, ◌↔◌, ◌⊎◌, IfOk};
 ghost use Rattle.pb_c.specs.Held.{types_held};

@@ -23,7 +23,7 @@ fn number_of(pool: &Pool, name: &[u8]) -> Option<u32>
     u32::try_from(id.0).ok()
 }
 
-/// Tells the number of a message type by its full name, which has no leading dot.
+/// Reports the number of a message type by its full name, which has no leading dot.
 ///
 /// Answers DONE; EMPTY where the handle holds nothing; or NO_TYPE. The number is written at DONE alone.
 #[unsafe(no_mangle)]

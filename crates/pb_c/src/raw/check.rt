@@ -32,7 +32,7 @@ pub extern "C" fn mb_raw_check(
     ensures untold { result ≢ FAULT → (fault.new ≡ fault.old) × (path.new ≡ path.old) }
     ensures limits { result ≡ BAD_LIMITS ↔ ¬ AreLimits max_bytes max_depth }
 
-    // Each text is accepted and each fault is told, unless memory runs out.
+    // Each valid input is accepted and each fault is reported, unless memory runs out.
     ensures accepted { AreLimits max_bytes max_depth → IsSomeText blank tt (bounds max_bytes max_depth) bytes.now
         → (result ≡ DONE) ⊎ (result ≡ MEMORY) }
     ensures refused { AreLimits max_bytes max_depth → (f : Fault) → HasFault blank tt (bounds max_bytes max_depth) bytes.now f

@@ -13,7 +13,7 @@ use crate::told::{BAD_LIMITS, DONE, FAULT, FaultReport, MEMORY, Step, lay_over};
 use pb_wire::{Limits, read_raw, write_raw};
 use std::alloc::Global;
 
-/// Writes the shortest spelling of the records that bytes are, as much of it as the buffer holds, and tells its whole length.
+/// Writes the shortest spelling of the records that bytes are, as much of it as the buffer holds, and reports its whole length.
 ///
 /// Answers as `mb_raw_check` does. The spelling and its length are written at DONE alone.
 #[unsafe(no_mangle)]
@@ -36,7 +36,7 @@ pub extern "C" fn mb_raw_short(
     ensures untold { result ≢ FAULT → (fault.new ≡ fault.old) × (path.new ≡ path.old) }
     ensures limits { result ≡ BAD_LIMITS ↔ ¬ AreLimits max_bytes max_depth }
 
-    // Each text is accepted and each fault is told, unless memory runs out.
+    // Each valid input is accepted and each fault is reported, unless memory runs out.
     ensures accepted { AreLimits max_bytes max_depth → (rs : List Record) → IsText blank tt (bounds max_bytes max_depth) bytes.now rs
         → ((result ≡ DONE) × IsLaid (shortest_records rs) out.old out.new size.new) ⊎ (result ≡ MEMORY) }
     ensures refused { AreLimits max_bytes max_depth → (f : Fault) → HasFault blank tt (bounds max_bytes max_depth) bytes.now f

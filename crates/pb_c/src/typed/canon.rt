@@ -21,10 +21,10 @@ use pb_value::DynamicMessage;
 use pb_wire::Limits;
 use std::alloc::Global;
 
-/// Writes the canonical bytes of the message that the bytes are, as many as the buffer holds, and tells how many there are.
+/// Writes the canonical bytes of the message that the bytes are, as many as the buffer holds, and reports how many there are.
 ///
 /// Answers as `mb_check` does, and TOO_LARGE where the canonical bytes would be more than 2^31 - 1. They and their number are written
-/// at DONE alone, so where the number told is above the buffer's length, call again with that much room.
+/// at DONE alone, so where the reported number is above the buffer's length, call again with a buffer of that length.
 #[unsafe(no_mangle)]
 pub extern "C" fn mb_canon(
     alloc: Global,
@@ -55,7 +55,7 @@ pub extern "C" fn mb_canon(
         ⊎ (result ≡ FAULT) ⊎ (result ≡ MEMORY) }
     ensures same { pool.new.seal.pool ≡ pool.old.seal.pool }
 
-    // Each text is accepted and each fault is told, unless memory runs out.
+    // Each valid input is accepted and each fault is reported, unless memory runs out.
     ensures accepted { AreLimits max_bytes max_depth → (ts : Types) → HasType (types_held pool.old) message_type ts → (v : Message)
         → Text ts message_type (bounds max_bytes max_depth) bytes.now v → length (canon_bytes ts message_type v) < 2 ^ 31
         → ((result ≡ DONE) × IsLaid (canon_bytes ts message_type v) out.old out.new size.new) ⊎ (result ≡ MEMORY) }

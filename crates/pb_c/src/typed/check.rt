@@ -48,7 +48,7 @@ pub extern "C" fn mb_check(
     ensures answers { (result ≡ DONE) ⊎ (result ≡ BAD_LIMITS) ⊎ (result ≡ EMPTY) ⊎ (result ≡ NO_TYPE) ⊎ (result ≡ FAULT) ⊎ (result ≡ MEMORY) }
     ensures same { pool.new.seal.pool ≡ pool.old.seal.pool }
 
-    // Each message is accepted, also where no memory is left, and each fault is told, unless memory for its path runs out.
+    // Each message is accepted, also where no memory is left, and each fault is reported, unless memory for its path runs out.
     ensures accepted { AreLimits max_bytes max_depth → (ts : Types) → HasType (types_held pool.old) message_type ts → (v : Message)
         → Text ts message_type (bounds max_bytes max_depth) bytes.now v → result ≡ DONE }
     ensures refused { AreLimits max_bytes max_depth → (ts : Types) → HasType (types_held pool.old) message_type ts → (f : Fault)

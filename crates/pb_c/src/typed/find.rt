@@ -96,7 +96,7 @@ fn report_scalar(scalar: ScalarRef<'_>, value: &mut PlainValue, out: &mut [u8])
     lay_over(bytes_of(scalar), out);
 }
 
-/// Tells what was found, and answers so.
+/// Reports what was found, and answers accordingly.
 fn tell_found(
     found: Result<Option<ScalarRef<'_>>, DecodeError>,
     value: &mut PlainValue,
@@ -153,7 +153,7 @@ pub extern "C" fn mb_find(
         ⊎ (result ≡ MEMORY) }
     ensures same { pool.new.seal.pool ≡ pool.old.seal.pool }
 
-    // What the message has is found, also where no memory is left, and each fault is told, unless memory for its path runs out.
+    // What the message has is found, also where no memory is left, and each fault is reported, unless memory for its path runs out.
     ensures reported { AreLimits max_bytes max_depth → (ts : Types) → HasType (types_held pool.old) message_type ts → (v : Message)
         → Text ts message_type (bounds max_bytes max_depth) bytes.now v → (x : Scalar)
         → scalar_at numbers.now (message_of ts message_type v) ≡ Some x → (result ≡ DONE) × Reports x value.new out.old out.new }

@@ -1,4 +1,4 @@
-//! A message behind its length.
+//! A message after its length.
 
 ghost use Rattle.std.specs.Prelude.{◌≡◌, ◌≢◌, ◌+◌, ◌*◌, ◌<◌, ◌≤◌, ◌↔◌, ◌⊎◌, None, Some, length, IfSome};
 ghost use Rattle.pb_wire.specs.Fault.{Fault};
@@ -17,20 +17,20 @@ use pb_stream::read_delimited;
 use pb_wire::{Cause, FailurePlan, Limits, MemInput, read_varint};
 use std::alloc::Global;
 
-/// Where the message of a frame stands.
+/// Where the message of a frame is.
 #[repr(C)]
 #[derive(Clone, Copy, Debug, PartialEq, Eq)]
 pub struct FrameReport {
-    /// Where it begins, behind its length.
+    /// Where it begins, after its length.
     pub begin: usize,
     /// Where it ends, and the frame with it.
     pub end: usize,
 }
 
-/// Checks the frame that the bytes begin with: a message of the type of this number in the pool, behind its length.
+/// Checks the frame that the bytes begin with: a message of the type of this number in the pool, after its length.
 ///
 /// Answers DONE with where the message begins and ends, whatever follows it; PART where the bytes end before their frame does, so that
-/// more are needed; and else as `mb_check` does. A fault's byte counts from the first byte of the length. What is told of the frame
+/// more are needed; and else as `mb_check` does. A fault's byte counts from the first byte of the length. What is reported of the frame
 /// is written at DONE alone.
 #[unsafe(no_mangle)]
 pub extern "C" fn mb_frames(
@@ -60,7 +60,7 @@ pub extern "C" fn mb_frames(
         ⊎ (result ≡ FAULT) ⊎ (result ≡ MEMORY) }
     ensures same { pool.new.seal.pool ≡ pool.old.seal.pool }
 
-    // Each frame is accepted, also where no memory is left, and of all other bytes it is told what they are, unless memory runs out.
+    // Each frame is accepted, also where no memory is left, and of all other bytes it is reported what they are, unless memory runs out.
     ensures accepted { AreLimits max_bytes max_depth → (ts : Types) → HasType (types_held pool.old) message_type ts → (r : FrameReport)
         → IsFramed ts message_type (bounds max_bytes max_depth) bytes.now r → (result ≡ DONE) × (frame.new ≡ r) }
     ensures parted { AreLimits max_bytes max_depth → (ts : Types) → HasType (types_held pool.old) message_type ts
@@ -88,7 +88,7 @@ pub extern "C" fn mb_frames(
     answer
 }
 
-/// Checks the frame that the bytes begin with, a message of the type of a number behind its length.
+/// Checks the frame that the bytes begin with, a message of the type of a number after its length.
 fn check_frame(
     alloc: Global,
     pool: &Pool,
@@ -122,7 +122,7 @@ fn check_frame(
     tell_no_frame(alloc, pool, message_type, bytes, limits, fault, path)
 }
 
-/// Where the message of the frame stands that the bytes begin with, if they begin with one. The message is judged where it stands.
+/// Where the message of the frame is that the bytes begin with, if they begin with one. The message is judged in place.
 fn find_frame(
     alloc: Global,
     pool: &Pool,
@@ -147,7 +147,7 @@ fn find_frame(
     }
 }
 
-/// Tells what bytes are that begin with no frame: a part of one, or none whatever follows.
+/// Reports what bytes are that begin with no frame: a part of one, or none whatever follows.
 fn tell_no_frame(
     alloc: Global,
     pool: &Pool,
@@ -175,7 +175,7 @@ fn tell_no_frame(
     }
 }
 
-/// Tells the fault of an error, if it has one that more bytes do not mend, and answers the error's number.
+/// Reports the fault of an error, if it has one that more bytes do not mend, and answers the error's number.
 fn tell_frame_error(error: &DecodeError, fault: &mut FaultReport, path: &mut [Step]) -> u32
     ensures told { ByFault error.now (AnswersFault result (λ f. Tells f fault.new path.old path.new)) (result ≡ MEMORY) }
     ensures untold { result ≢ FAULT → (fault.new ≡ fault.old) × (path.new ≡ path.old) }

@@ -20,7 +20,7 @@ use pb_value::DynamicMessage;
 use pb_wire::{FailurePlan, Limits, MemOutput};
 use std::alloc::Global;
 
-/// Writes the listing of the message that the bytes are, as `pbtool show` prints it, as much of it as the buffer holds, and tells its
+/// Writes the listing of the message that the bytes are, as `pbtool show` prints it, as much of it as the buffer holds, and reports its
 /// whole length.
 ///
 /// Answers as `mb_check` does. The listing and its length are written at DONE alone.
@@ -51,7 +51,7 @@ pub extern "C" fn mb_show(
     ensures answers { (result ≡ DONE) ⊎ (result ≡ BAD_LIMITS) ⊎ (result ≡ EMPTY) ⊎ (result ≡ NO_TYPE) ⊎ (result ≡ FAULT) ⊎ (result ≡ MEMORY) }
     ensures same { pool.new.seal.pool ≡ pool.old.seal.pool }
 
-    // Each text is accepted and each fault is told, unless memory runs out.
+    // Each valid input is accepted and each fault is reported, unless memory runs out.
     ensures accepted { AreLimits max_bytes max_depth → (ts : Types) → HasType (types_held pool.old) message_type ts → (v : Message)
         → Text ts message_type (bounds max_bytes max_depth) bytes.now v
         → ((result ≡ DONE) × IsLaid (listing (message_of ts message_type v)) out.old out.new size.new) ⊎ (result ≡ MEMORY) }
