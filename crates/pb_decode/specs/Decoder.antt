@@ -53,7 +53,7 @@ frame_of f = record { part = f.part; number = f.number; slot = f.slot; group = f
 abbrev pub state_of : Reading → State
 state_of r = record { at = r.at; now = r.now; scope = scope_of r.scope; frames = reverse (map frame_of r.frames); next = r.next }
 
--- how a proof tells two of them apart
+-- how a proof distinguishes two of them
 abbrev pub datum_code : Coded Datum
 datum_code = record { code = to_datum; inj = λ x y e. sym (from_datum-to_datum x) ∙ ap from_datum e ∙ from_datum-to_datum y }
 

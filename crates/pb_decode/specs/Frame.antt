@@ -1,4 +1,4 @@
--- A message in so many bytes of an input.
+-- A message in this many bytes of an input.
 use Rattle.std.specs.Prelude.{ℕ, ◌+◌, ◌≤◌, List, length, take}
 use Rattle.pb_wire.specs.Fault.{Fault}
 use Rattle.pb_wire.specs.Limits.{Bounds}
@@ -12,12 +12,12 @@ use Rattle.pb_value.specs.Derives.{Text}
 use Rattle.pb_decode.specs.declared.error.DecodeError.{DecodeError}
 use Rattle.pb_decode.specs.declared.error.DecodeError.TheVariants as error
 
--- so many bytes are left at least, and the first of them are a text of v
+-- this many bytes are left at least, and the first of them are a text of v
 pub record IsFrameOf (pool : Types) (m : ℕ) (limits : Bounds) (size : ℕ) (left : List ℕ) (v : Message) : Type 0 where
   pub given : size ≤ length left
   pub text : Text pool m limits (take size left) v
 
--- the message that begins at `start`, and has so many bytes before its known end, has this fault
+-- the message that begins at `start`, and has this many bytes before its known end, has this fault
 abbrev pub BadFrame : Types → ℕ → ℕ → ℕ → ℕ → List ℕ → Fault → Type 0
 BadFrame pool m depth start size left f = Bad (schema_of pool) (records (a_message m)) depth (ending_at start size left) f
 

@@ -7,7 +7,7 @@ use Rattle.pb_value.specs.Dynamic.{Dynamic}
 use Rattle.pb_decode.specs.declared.error.DecodeError.{DecodeError}
 use Rattle.pb_decode.specs.declared.error.DecodeError.TheVariants as error
 
--- the error tells a fault of which this holds; or memory ran out, or the input failed
+-- the error reports a fault of which this holds; or memory ran out, or the input failed
 abbrev pub IfRefused : DecodeError → (Fault → Type 0) → Type 0
 IfRefused (error.Fault byte path cause) P = P (fault byte path.items cause)
 IfRefused error.Memory P = Unit {0}
@@ -37,6 +37,6 @@ TellsFailures (Err error.Memory) before after = after ≡ before
 TellsFailures (Err error.Device) before after = after ≢ before
 TellsFailures (Err error.Finished) before after = after ≡ before
 
--- at most so many bytes were taken of those that were left
+-- at most this many bytes were taken of those that were left
 abbrev pub TakesAtMost : ℕ → Option (List ℕ) → Option (List ℕ) → Type 0
 TakesAtMost most old new = (bytes : List ℕ) × (length bytes ≤ most) × Consumes old new bytes

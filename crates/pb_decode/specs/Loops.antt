@@ -7,14 +7,14 @@ use Rattle.pb_decode.specs.declared.push.Reading.{Reading}
 use Rattle.pb_decode.specs.Reader.Origin.{Origin, further, ToldFrom}
 use Rattle.pb_decode.specs.Reader.Pieces.{ReadFrom}
 
--- the input gave so many bytes, and the reader went on over them
+-- the input gave this many bytes, and the reader went on over them
 pub record ReadsOn (pool : Types) (before after : Reading) (old new : Option (List ℕ)) (count : ℕ) : Type 0 where
   pub bytes : List ℕ
   pub size : length bytes ≡ count
   pub given : Consumes old new bytes
   pub onward : (o : Origin) → ReadFrom pool o before → ReadFrom pool (further o bytes) after
 
--- of at most so many bytes that the input gave this fault is told, which no more bytes change
+-- of at most this many bytes that the input gave this fault is reported, which no more bytes change
 pub record ToldOf (pool : Types) (o : Origin) (old new : Option (List ℕ)) (most : ℕ) (f : Fault) : Type 0 where
   pub bytes : List ℕ
   pub few : length bytes ≤ most

@@ -10,8 +10,8 @@ use Rattle.pb_wire.specs.declared.fault.Cause.TheVariants.{Truncated}
 use Rattle.pb_parts.specs.Open.Opened.{Behind, Opened}
 use Rattle.pb_parts.specs.Tokens.Numbers.{IsCutVarint, IsCutNumber}
 
--- With so many levels left the bytes end inside the record that comes next at q, or before it: so many of its open token or payload
--- are given, so many packed lists are open in it, and so many bytes are declared for its payload of a text, of bytes or of an unknown record.
+-- With this many levels left the bytes end inside the record that comes next at q, or before it: this many of its open token or payload
+-- are given, this many packed lists are open in it, and this many bytes are declared for its payload of a text, of bytes or of an unknown record.
 pub data Unfinished (S : Schema) (c : S.Context) (room : ℕ) (q : Place) (held lists declared : ℕ) : Type 0 where
   in_tag : IsCutVarint q → held ≡ length q.rest → lists ≡ 0 → declared ≡ 0 → Unfinished S c room q held lists declared
   in_number :
@@ -27,7 +27,7 @@ pub data Unfinished (S : Schema) (c : S.Context) (room : ℕ) (q : Place) (held 
       → HasLength r size t → AreElements e front → Moves (payload_at t size) front u
       → ElementFault e u (fault (input_end u) [] Truncated) → held ≡ length u.rest → lists ≡ 1 → declared ≡ 0 → Unfinished S c room q held lists declared
 
--- From the beginning of b on this is open innermost, behind whole sound records of it one stands at a place, and the bytes end in what comes next there.
+-- From the beginning of b on this is open innermost, after whole sound records of it there is a place, and the bytes end in what comes next there.
 -- Each thing that is open gave a step of the path, but for the top.
 pub record EndsInside (S : Schema) (c : S.Context) (depth : ℕ) (b : List ℕ) (held contexts declared : ℕ) : Type 0 where
   pub open_now : Open S.Context
@@ -42,14 +42,14 @@ pub record EndsInside (S : Schema) (c : S.Context) (depth : ℕ) (b : List ℕ) 
   pub unfinished : Unfinished S (context_of open_now) room place held lists declared
   pub contexts_are : contexts ≡ suc (length path) + lists
 
--- so many bytes of the open token or payload are given
+-- this many bytes of the open token or payload are given
 abbrev pub IsPending : (S : Schema) → S.Context → ℕ → List ℕ → ℕ → Type 0
 IsPending S c depth b held = (contexts : ℕ) × (declared : ℕ) × EndsInside S c depth b held contexts declared
 
--- so many messages, entries, groups and packed lists are open, the top one too
+-- this many messages, entries, groups and packed lists are open, the top one too
 abbrev pub HasOpen : (S : Schema) → S.Context → ℕ → List ℕ → ℕ → Type 0
 HasOpen S c depth b contexts = (held : ℕ) × (declared : ℕ) × EndsInside S c depth b held contexts declared
 
--- the payload of a text, of bytes or of an unknown record is open, and so many bytes are declared for it; 0 if none is
+-- the payload of a text, of bytes or of an unknown record is open, and this many bytes are declared for it; 0 if none is
 abbrev pub IsDeclared : (S : Schema) → S.Context → ℕ → List ℕ → ℕ → Type 0
 IsDeclared S c depth b declared = (held : ℕ) × (contexts : ℕ) × EndsInside S c depth b held contexts declared

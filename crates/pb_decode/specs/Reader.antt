@@ -1,4 +1,4 @@
--- What a reader of a part has, and what it has told of the bytes at hand.
+-- What a reader of a part has, and what it has found of the bytes at hand.
 pub mod Waiting
 pub mod Origin
 pub mod Fills
@@ -31,7 +31,7 @@ use Rattle.pb_parts.specs.Open.Frames.{Part, Scope, Frame, path_of, path_to, nex
 use Rattle.pb_parts.specs.Open.PartView.{part_view, scope_view, frame_view}
 use Rattle.pb_parts.specs.Tokens.After.{After}
 
--- where a reader stands: the innermost part with its scope, the frames around it, innermost first, and what comes next at a position
+-- where a reader is: the innermost part with its scope, the frames around it, innermost first, and what comes next at a position
 pub record State : Type 0 where
   pub at : ℕ
   pub now : Part
@@ -46,7 +46,7 @@ frames_view fs = reverse (map frame_view fs)
 abbrev pub state_view : Reader → State
 state_view r = record { at = r.at; now = part_view r.part; scope = scope_view r.scope; frames = frames_view r.frames.items; next = r.step }
 
--- how many bytes stand before the known end of the part
+-- how many bytes are left before the known end of the part
 abbrev pub left_of : State → Option ℕ
 left_of s = option_map (λ e. e - s.at) s.scope.end
 
@@ -64,19 +64,19 @@ own_step (step.Length n p) scope = next_step n scope ∷ []
 own_step (step.Payload n p size) scope = next_step n scope ∷ []
 own_step (step.Elements n k outer) scope = next_step n scope ∷ []
 
--- the steps to where a reader stands
+-- the steps to where a reader is
 abbrev pub path_here : State → List PathStep
 path_here s = path_of s.frames ++ own_step s.next s.scope
 
--- the steps to the record of a number that comes next where it stands
+-- the steps to the record of a number that comes next at its position
 abbrev pub path_inside : State → ℕ → List PathStep
 path_inside s n = path_to s.frames s.scope n
 
--- the reader has read what stands from p0 up to these bytes
+-- the reader has read everything from p0 up to these bytes
 abbrev pub Reads : Types → ℕ → ℕ → ℕ → List Record → Place → State → List ℕ → Type 0
 Reads pool m depth levels base p0 s rest = After pool m depth levels base p0 s.frames s.next s.now s.scope (here s rest)
 
--- a whole record ends at this place, and the reader stands behind it
+-- a whole record ends at this place, and the reader is after it
 abbrev pub StandsAt : Types → ℕ → ℕ → ℕ → List Record → Place → State → Place → Type 0
 StandsAt pool m depth levels base p0 s w = Stands pool m depth levels base p0 s.frames s.now s.scope w
 
@@ -109,24 +109,24 @@ weight (step.Length n p) = 0
 weight (step.Payload n p size) = 1
 weight (step.Elements n k outer) = 0
 
--- from these bytes a reader takes so many, or none where they end too early
+-- from these bytes a reader takes this many, or none where they end too early
 abbrev pub Taken : Types → ℕ → ℕ → ℕ → List Record → Place → State → List ℕ → Option ℕ → Type 0
 Taken pool m depth levels base p0 s rest (Some used) = Reads pool m depth levels base p0 s (drop used rest)
 Taken pool m depth levels base p0 s rest None = Reads pool m depth levels base p0 s rest × Stops pool m depth p0 s rest
 
--- how far a reader has come by taking so many of these bytes
+-- how far a reader has come by taking this many of these bytes
 abbrev pub Passes : State → List ℕ → State → Option ℕ → Type 0
 Passes old rest new (Some used) = (used ≤ length rest) × (new.at ≡ old.at + used) × (weight new.next < 2 * used + weight old.next)
 Passes old rest new None = new.at ≡ old.at
 
--- the error tells a fault of which this holds; or memory ran out
+-- the error reports a fault of which this holds; or memory ran out
 abbrev pub IfFault : DecodeError → (Fault → Type 0) → Type 0
 IfFault (error.Fault byte path cause) P = P (fault byte path.items cause)
 IfFault error.Memory P = Unit {0}
 IfFault error.Device P = ⊥
 IfFault error.Finished P = ⊥
 
--- a fault of what stands from p0 on that no more bytes change
+-- a fault of the bytes from p0 on that no more bytes change
 pub record Told (pool : Types) (m depth : ℕ) (p0 : Place) (f : Fault) : Type 0 where
   pub bad : Bad (schema_of pool) (records (a_message m)) depth p0 f
   pub settled : f.cause ≡ Truncated → ⊥

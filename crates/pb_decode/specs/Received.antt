@@ -28,7 +28,7 @@ IsSettledFor d b f = IsSettled d.pool d.kind d.limits b f
 abbrev pub IsGoingFor : Decoder → List ℕ → Type 0
 IsGoingFor d b = IsGoing d.pool d.kind d.limits b
 
--- so many bytes of the open token or payload are given, so many things are open, and so many bytes are declared for the open payload
+-- this many bytes of the open token or payload are given, this many things are open, and this many bytes are declared for the open payload
 abbrev pub IsPendingFor : Decoder → List ℕ → ℕ → Type 0
 IsPendingFor d b n = IsPending (schema_of d.pool) (a_message d.kind) d.limits.depth b n
 

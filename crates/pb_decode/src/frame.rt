@@ -1,4 +1,4 @@
-//! Messages in frames: so many bytes of an input.
+//! Messages in frames: this many bytes of an input.
 
 ghost use Rattle.std.specs.Prelude.{◌≡◌, ◌≢◌, ◌⊎◌, true, ◌+◌, ◌<◌, ◌≤◌, ◌^◌, ℕ, List, length, take, drop, Option, Some, Err, IfOk, IfErr, OnOk, IfSome};
 ghost use Rattle.std.specs.Io.KnownBytes.{Consumes, IsAtEnd};
@@ -24,7 +24,7 @@ use pb_value::parts::from_well_formed;
 use pb_wire::{Input, Limits};
 use std::alloc::Global;
 
-/// Takes what the input gives first of so many bytes into the buffer, and tells how many they are. Where none are wanted, none
+/// Takes what the input gives first of this many bytes into the buffer, and reports how many they are. Where none are wanted, none
 /// are asked for.
 fn read_first<I: Input>(
     input: &mut I,
@@ -51,7 +51,7 @@ fn read_first<I: Input>(
     Ok(count)
 }
 
-/// The message of a frame of which these are the first bytes, where they are all and stand as a text.
+/// The message of a frame of which these are the first bytes, if they are all of it and encode one.
 fn read_at_once<'p>(
     alloc: Global,
     pool: &'p Pool,
@@ -73,7 +73,7 @@ fn read_at_once<'p>(
     Some(from_well_formed(alloc, pool, message_type, body))
 }
 
-/// Takes the first bytes of a frame, which stand in the buffer, and what the input gives of those behind them. Tells how many
+/// Takes the first bytes of a frame, which are in the buffer, and what the input gives of those after them. Returns how many
 /// they are together.
 fn take_frame<I: Input>(
     alloc: Global,
@@ -109,7 +109,7 @@ fn take_frame<I: Input>(
     Ok(count + more)
 }
 
-/// The message of a frame whose first bytes stand in the buffer, read in pieces. Where they are all, none is tried again.
+/// The message of a frame whose first bytes are in the buffer, read in pieces. Where they are all, none is tried again.
 fn read_in_pieces<'p, I: Input>(
     alloc: Global,
     pool: &'p Pool,
@@ -239,10 +239,10 @@ fn read_frame_at<'p, I: Input>(
     }
 }
 
-/// Decodes a message of a type from the next `size` bytes of an input, and takes no byte behind them (encoding guide, "Message
+/// Decodes a message of a type from the next `size` bytes of an input, and takes no byte after them (encoding guide, "Message
 /// Structure").
 ///
-/// The place of the first byte is `start`, at most 10, as it stands behind a length. The end of the frame is known: a token
+/// The place of the first byte is `start`, at most 10, since it comes after a length. The end of the frame is known: a token
 /// that would pass it is refused as [`Cause::PastEnd`](pb_wire::Cause::PastEnd). `size` is at most what the limits allow, and
 /// `message_type` is a type of the pool. [`DecodeError::Device`] says that the input failed.
 pub fn decode_frame<'p, I: Input>(

@@ -26,7 +26,7 @@ use std::alloc::Global;
 /// How many bytes are asked of an input at once.
 pub(crate) const PIECE: usize = 4096;
 
-/// Takes a piece that the input gives into the buffer, and tells how many bytes it gave.
+/// Takes a piece that the input gives into the buffer, and reports how many bytes it gave.
 fn read_piece<I: Input>(
     alloc: Global,
     pool: &Pool,
@@ -54,7 +54,7 @@ fn read_piece<I: Input>(
     Ok(count)
 }
 
-/// Takes what the input gives up to its end, but at most `most` bytes, and tells how many bytes it gave. They come into the
+/// Takes what the input gives up to its end, but at most `most` bytes, and reports how many bytes it gave. They come into the
 /// buffer, piece by piece.
 pub(crate) fn read_pieces<I: Input>(
     alloc: Global,

@@ -74,8 +74,8 @@ pub(crate) fn read_onto<'p>(
     finish_message(alloc, pool, message_type, reading)
 }
 
-/// Decodes bytes onto a message of their type: the answer is what the message's canonical form and the bytes behind it mean
-/// together (encoding guide, "Last One Wins").
+/// Decodes bytes onto a message of their type: the answer is what the message's canonical form followed by the bytes
+/// decodes to (encoding guide, "Last One Wins").
 ///
 /// The message is given up also where the bytes are refused. Places and limits count the bytes alone.
 pub fn decode_onto<'p>(
@@ -89,12 +89,12 @@ pub fn decode_onto<'p>(
     ensures accepted { (w : Message) → TextOnto message.entry limits bytes.now w → Gives result w }
     ensures refused { (f : Fault) → IsFaultOf message.entry.pool message.entry.kind limits bytes.now f → Tells result f }
     ensures one { Exactly ((w : Message) × TextOnto message.entry limits bytes.now w) (IsFaultOf message.entry.pool message.entry.kind limits bytes.now) }
-    // behind any bytes that the message derives from
+    // after any bytes that the message derives from
     ensures joined { (a : List ℕ) → DerivesFor message.entry limits a message.entry.body
         → IfOk result (λ m. DerivesFor message.entry limits (a ++ bytes.now) m.body) }
     ensures accepts_joined { (a : List ℕ) (w : Message) → length bytes.now ≤ limits.bytes → DerivesFor message.entry limits a message.entry.body
         → DerivesFor message.entry limits (a ++ bytes.now) w → Gives result w }
-    // behind its canonical bytes
+    // after its canonical bytes
     ensures text { length (canonical message.entry ++ bytes.now) < 2 ^ 31
         → IfOk result (λ m. Text message.entry.pool message.entry.kind full (canonical message.entry ++ bytes.now) m.body) }
 {

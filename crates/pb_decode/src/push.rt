@@ -35,7 +35,7 @@ pub(crate) struct Reading {
     pub held: Vec<u8>,
 }
 
-/// Takes what stands whole at the front of the bytes, where none are held, and holds the others.
+/// Takes what is complete at the front of the bytes, where none are held, and holds the others.
 fn take_front(
     alloc: Global,
     pool: &Pool,
@@ -64,7 +64,7 @@ fn rest_of(alloc: Global, bytes: &[u8], from: usize) -> Result<Vec<u8>, NoMemory
     Ok(rest)
 }
 
-/// Takes what stands whole at the front of the bytes that are held, and holds the others.
+/// Takes what is complete at the front of the bytes that are held, and holds the others.
 fn take_held(alloc: Global, pool: &Pool, reading: &mut Reading) -> Result<(), DecodeError>
     requires rules { IsPool pool.now }
     requires reading { IsReading pool.now (state_view reading.old.reader) reading.old.held.items }
@@ -82,7 +82,7 @@ fn take_held(alloc: Global, pool: &Pool, reading: &mut Reading) -> Result<(), De
     Ok(())
 }
 
-/// Takes what stands whole at the front of the bytes that are held and of those behind them, and holds the others.
+/// Takes what is complete at the front of the bytes that are held and of those after them, and holds the others.
 fn take_joined(
     alloc: Global,
     pool: &Pool,
@@ -117,7 +117,7 @@ fn wanted(step: Step, count: usize) -> usize
     }
 }
 
-/// Takes a piece behind the bytes that are held. Its first bytes join these until the token or the payload that they begin
+/// Takes a piece after the bytes that are held. Its first bytes join these until the token or the payload that they begin
 /// is whole, and the others are read where they lie.
 pub(crate) fn take_piece(
     alloc: Global,

@@ -1,4 +1,4 @@
-//! The reader: where it stands, what it takes there, and what fault it tells.
+//! The reader: its position, what it takes there, and which fault it reports.
 
 pub(crate) mod element;
 pub(crate) mod fault;

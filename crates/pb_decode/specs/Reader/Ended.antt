@@ -1,4 +1,4 @@
--- What ends where a reader stands.
+-- What ends where a reader is.
 use Rattle.std.specs.Prelude.{◌≡◌, ◌≢◌, ◌⊎◌, ℕ, List, [], Option, Some, ◌<◌, Result, OnOk, vec_len}
 use Rattle.pb_parts.specs.declared.tokens.step.Step.{Step}
 use Rattle.pb_parts.specs.declared.tokens.step.Step.TheVariants as step
@@ -12,7 +12,7 @@ use Rattle.pb_schema.specs.Rules.{IsPool}
 use Rattle.pb_decode.specs.declared.reader.state.Reader.{Reader}
 use Rattle.pb_parts.specs.declared.tokens.step.Step.TheVariants.{Elements}
 
--- with these frames around the part, and so many bytes before the known end, nothing ends before what comes next: at a tag no part below the top, and
+-- with these frames around the part, and this many bytes before the known end, nothing ends before what comes next: at a tag no part below the top, and
 -- inside a packed list not the list
 abbrev pub StepGoesOn : Step → List Frame → Option ℕ → Type 0
 StepGoesOn step.Tag frames left = (frames ≡ []) ⊎ (left ≢ Some 0)
@@ -23,7 +23,7 @@ StepGoesOn (step.I32 n p) frames left = Unit {0}
 StepGoesOn (step.Length n p) frames left = Unit {0}
 StepGoesOn (step.Payload n p size) frames left = Unit {0}
 
--- nothing ends where the reader stands
+-- nothing ends at the reader's position
 abbrev pub NothingEnds : State → Type 0
 NothingEnds s = StepGoesOn s.next s.frames (left_of s)
 

@@ -1,4 +1,4 @@
--- Map entries that are read one behind another, wherever the part is open that holds their map.
+-- Map entries that are read one after another, wherever the part is open that holds their map.
 use Rattle.std.specs.Prelude.{◌≡◌, ℕ, zero, suc, List, [], ◌∷◌, ◌++◌, length, Option, Vec, Result, IfOk, MatchOption}
 use Rattle.std.specs.declared.alloc.Global.{Global}
 use Rattle.pb_wire.specs.Record.{Record}
@@ -14,7 +14,7 @@ use Rattle.pb_parts.specs.Open.Frames.{Part, Scope, Frame, one_more_in, Stands}
 use Rattle.pb_parts.specs.Open.Purposes.{Means, part_context}
 use Rattle.pb_parts.specs.Close.Mapped.{pairs_view, put_mapped, put_all_mapped, FitsMapped, FitMapped}
 
--- so many more records of a number
+-- this many more records of a number
 abbrev pub more_in : ℕ → ℕ → Scope → Scope
 more_in k zero scope = scope
 more_in k (suc n) scope = one_more_in k (more_in k n scope)
@@ -34,7 +34,7 @@ pub record IsMapOpen (pool : Types) (number : ℕ) (key kd : Kind) (bytes : List
   pub level : scope.room ≡ room
   pub means : Means pool (part_context now) number 2 (Entry key kd)
 
--- the entry at the front of the bytes: its map takes it, and with it there one stands behind so many of them
+-- the entry at the front of the bytes: its map takes it, and with it there the reader is after this many of them
 abbrev pub TellsEntry : Types → ℕ → Kind → Kind → List ℕ → Option ℕ → ℕ → MapKey × Value → ℕ → Type 0
 TellsEntry pool number key kd bytes left room e used =
     (m depth levels at : ℕ) (base : List Record) (p0 : Place) (frames : List Frame) (scope : Scope) (now : Part)
@@ -53,7 +53,7 @@ TellsEntries pool number key kd bytes left room result =
     × Stands pool m depth levels base p0 frames (put_all_mapped number (pairs_view r.0.items) now) (more_in number (length r.0.items) scope)
     (passed (given_at at left bytes) r.1))
 
--- where the entry at the front is told: it is the last of the entries; or they are as before
+-- where the entry at the front is answered: it is the last of the entries; or they are as before
 abbrev pub AddsEntry : Types → ℕ → Kind → Kind → List ℕ → Option ℕ → ℕ → List (MapKey × Value) → List (MapKey × Value) → Option ℕ → Type 0
 AddsEntry pool number key kd bytes left room old new result =
     MatchOption result (new ≡ old) (λ n. (e : MapKey × Value) × (new ≡ old ++ e ∷ []) × TellsEntry pool number key kd bytes left room e n)

@@ -11,12 +11,12 @@ use Rattle.pb_parts.specs.declared.open.part.Part.{Part as PartKept}
 use Rattle.pb_parts.specs.Open.Frames.{Part, Scope, Frame, Stands}
 use Rattle.pb_parts.specs.Open.PartView.{part_view}
 
--- with some scope that has so many levels left, one stands behind whole records of a part
+-- with some scope that has this many levels left, the reader is after whole records of a part
 abbrev pub StandsIn : Types → ℕ → ℕ → ℕ → List Record → Place → List Frame → ℕ → Part → Place → Type 0
 StandsIn pool m depth levels base p0 frames room now q =
     (scope : Scope) × Stands pool m depth levels base p0 frames now scope q × (scope.room ≡ room)
 
--- somewhere the part is open, and these bytes come next in it, with so many before its known end and so many levels left
+-- somewhere the part is open, and these bytes come next in it, with this many before its known end and this many levels left
 pub record IsOpen (pool : Types) (now : Part) (bytes : List ℕ) (left room : ℕ) : Type 0 where
   pub m : ℕ
   pub depth : ℕ
@@ -27,11 +27,11 @@ pub record IsOpen (pool : Types) (now : Part) (bytes : List ℕ) (left room : �
   pub frames : List Frame
   pub stands : StandsIn pool m depth levels base p0 frames room now (given_at at (Some left) bytes)
 
--- a tag stands at the front of the bytes, with so many before the known end, and takes so many of them
+-- the bytes begin with a tag of this many bytes, with this many before the known end
 abbrev pub HasTagAt : List ℕ → Option ℕ → ℕ → ℕ → ℕ → Type 0
 HasTagAt bytes left number type size = (at : ℕ) → HasTag (given_at at left bytes) number type (passed (given_at at left bytes) size)
 
--- The pool meets its rules, and somewhere the part is open. The bytes that come next in it are fewer than 2 GiB; a tag stands at their front, and all of it
+-- The pool meets its rules, and somewhere the part is open. The bytes that come next in it are fewer than 2 GiB; they begin with a tag, and all of it
 -- is in them.
 pub record IsAtTag (pool : Types) (now : Part) (bytes : List ℕ) (left room : ℕ) (tag : RecordTag) : Type 0 where
   pub rules : IsPool pool
@@ -40,7 +40,7 @@ pub record IsAtTag (pool : Types) (now : Part) (bytes : List ℕ) (left room : �
   pub within : tag.size ≤ length bytes
   pub there : HasTagAt bytes (Some left) tag.number tag.wire_type tag.size
 
--- one stands behind so many of the bytes, with what stood there in the part
+-- the reader is after this many of the bytes, with what they held in the part
 abbrev pub FillsTo : Types → Part → Part → List ℕ → ℕ → ℕ → ℕ → Type 0
 FillsTo pool old new bytes left room used =
     (m depth levels at : ℕ) (base : List Record) (p0 : Place) (frames : List Frame)

@@ -1,4 +1,4 @@
--- What a length opens where a reader stands.
+-- What a length opens where a reader is.
 use Rattle.std.specs.Prelude.{◌≡◌, ℕ, List, Result, OnOk}
 use Rattle.pb_wire.specs.Record.{Record}
 use Rattle.pb_wire.specs.Fault.{Place, HasLength}
@@ -12,7 +12,7 @@ use Rattle.pb_parts.specs.Open.PartView.{part_view, scope_view}
 use Rattle.pb_parts.specs.Tokens.After.{After}
 use Rattle.pb_decode.specs.Reader.{frames_view, state_view, Reads}
 
--- behind a length of this size, where its payload begins, the reader goes on by what its record is for
+-- after a length of this size, where its payload begins, the reader goes on by what its record is for
 abbrev pub PassesLength : {A E : Type 0} → ℕ → Purpose → ℕ → ℕ → Reader → Reader → Result A E → Type 0
 PassesLength number meant begin size old new result =
     (pool : Types) (m depth levels : ℕ) (base : List Record) (p0 u t : Place)

@@ -17,7 +17,7 @@ use Rattle.pb_parts.specs.Open.Purposes.{Means, part_context}
 use Rattle.pb_parts.specs.Values.Run.{put_each}
 use Rattle.pb_decode.specs.Reader.Fills.{IsOpen, FillsTo}
 
--- where the records of a number are for a list's values, one stands behind so many bytes with these values at the end of the list
+-- where the records of a number are for a list's values, the reader is after this many bytes, with these values at the end of the list
 abbrev pub FillsRun : Types → ℕ → ℕ → Purpose → List Datum → List ℕ → ℕ → ℕ → ℕ → Type 0
 FillsRun pool number type purpose values bytes left room used =
     (now : Part) → Means pool (part_context now) number type purpose → FillsTo pool now (put_each number values now) bytes left room used
@@ -26,7 +26,7 @@ FillsRun pool number type purpose values bytes left room used =
 abbrev pub FillsList : Types → Kind → ℕ → List Datum → List ℕ → ℕ → ℕ → Type 0
 FillsList pool kind number values bytes left used = (room : ℕ) → FillsRun pool number (wire_type_of kind) (Element kind) values bytes left room used
 
--- where the value of a record is told
+-- where the value of a record is answered
 abbrev pub FillsElement : Types → Kind → ℕ → List ℕ → ℕ → Option (Value × ℕ) → Type 0
 FillsElement pool kind number bytes left result = IfSome result (λ r. FillsList pool kind number (value_view r.0 ∷ []) bytes left r.1)
 
@@ -41,7 +41,7 @@ pub record IsListOpen (pool : Types) (number type : ℕ) (of_type : MessageId) (
   pub there : IsOpen pool now bytes left room
   pub means : Means pool (part_context now) number type (Message of_type (ListSlot number))
 
--- where a message is told
+-- where a message is answered
 abbrev pub TellsMessage : Types → ℕ → MessageId → List ℕ → ℕ → ℕ → Option (Value × ℕ) → Type 0
 TellsMessage pool number of_type bytes left room result =
     IfSome result (λ r. FillsRun pool number 2 (Message of_type (ListSlot number)) (value_view r.0 ∷ []) bytes left room r.1)

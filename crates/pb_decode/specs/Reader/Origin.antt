@@ -15,7 +15,7 @@ use Rattle.pb_value.specs.Value.{value}
 use Rattle.pb_parts.specs.declared.tokens.step.Step.TheVariants as step
 use Rattle.pb_decode.specs.Reader.{State, here, Reads, Stops, Told}
 
--- where a reader began: a message of a type with so many levels, onto what the base gives, at a place
+-- where a reader began: a message of a type with this many levels, onto what the base gives, at a place
 pub record Origin : Type 0 where
   pub kind : ℕ
   pub depth : ℕ
@@ -42,7 +42,7 @@ pub record IsOverAt (s : State) (held : List ℕ) : Type 0 where
   pub next : s.next ≡ step.Tag
   pub over : IsOver (here s held)
 
--- Whole sound records lead from the origin to the end of the message, and behind the base they make it v.
+-- Whole sound records lead from the origin to the end of the message, and after the base they make it v.
 pub record IsWhole (pool : Types) (o : Origin) (v : Message) : Type 0 where
   pub records : List Record
   pub front : List ℕ
@@ -53,7 +53,7 @@ pub record IsWhole (pool : Types) (o : Origin) (v : Message) : Type 0 where
   pub over : IsOver after
   pub valued : v ≡ value pool o.kind (o.base ++ records)
 
--- what stands from the origin on has this fault
+-- the bytes from the origin on have this fault
 abbrev pub BadFrom : Types → Origin → Fault → Type 0
 BadFrom pool o f = Bad (schema_of pool) (in_records (a_message o.kind)) o.depth o.place f
 

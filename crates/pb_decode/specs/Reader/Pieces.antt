@@ -27,26 +27,26 @@ ReadText pool m limits b r = Took pool m limits b (state_view r.reader) r.held.i
 abbrev pub ReadSome : Types → ℕ → Bounds → Reading → Type 0
 ReadSome pool m limits r = TookSome pool m limits (state_view r.reader) r.held.items
 
--- what stands from p0 on is read, but for the bytes held, of which no more can be taken
+-- everything from p0 on is read, except the bytes held, of which no more can be taken
 abbrev pub ReadsWhole : Types → ℕ → ℕ → ℕ → List Record → Place → Reading → Type 0
 ReadsWhole pool m depth levels base p0 r =
     Reads pool m depth levels base p0 (state_view r.reader) r.held.items × Stops pool m depth p0 (state_view r.reader) r.held.items
 
--- Of these bytes what stands whole is taken, and the others are held.
+-- Of these bytes what is complete is taken, and the others are held.
 abbrev pub TakesFront : {A : Type 0} → Types → Reading → Reading → List ℕ → Result A DecodeError → Type 0
 TakesFront pool old new bytes result =
     (m depth levels : ℕ) (base : List Record) (p0 : Place)
     → Reads pool m depth levels base p0 (state_view old.reader) bytes
     → OnOk result (ReadsWhole pool m depth levels base p0 new)
 
--- The same of the bytes held and a piece behind them.
+-- The same of the bytes held and a piece after them.
 abbrev pub TakesPiece : {A : Type 0} → Types → Reading → Reading → List ℕ → Result A DecodeError → Type 0
 TakesPiece pool old new piece result =
     (m depth levels : ℕ) (base : List Record) (p0 : Place)
     → Reads pool m depth levels base p0 (state_view old.reader) old.held.items
     → OnOk result (ReadsWhole pool m depth levels base (longer p0 piece) new)
 
--- the error, if there is one, tells a fault of what is read with the piece, which no more bytes change
+-- the error, if there is one, reports a fault of what is read with the piece, which no more bytes change
 abbrev pub TellsPieceFault : {A : Type 0} → Types → Reading → List ℕ → Result A DecodeError → Type 0
 TellsPieceFault pool old piece result =
     (m depth levels : ℕ) (base : List Record) (p0 : Place)

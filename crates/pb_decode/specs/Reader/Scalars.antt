@@ -14,18 +14,18 @@ use Rattle.pb_parts.specs.Open.Purposes.{Means, part_context}
 use Rattle.pb_parts.specs.Values.Put.{scalar_kind, put_datum}
 use Rattle.pb_decode.specs.Reader.Fills.{FillsTo}
 
--- where a record of this number and wire type gives a scalar of this kind, one stands behind so many bytes with this value in the part
+-- where a record of this number and wire type gives a scalar of this kind, the reader is after this many bytes, with this value in the part
 abbrev pub FillsScalar : Types → Kind → ℕ → ℕ → Datum → List ℕ → ℕ → ℕ → Type 0
 FillsScalar pool kind number type value bytes left used =
     (room : ℕ) (now : Part) (meant : Purpose) → scalar_kind meant ≡ Some kind → Means pool (part_context now) number type meant
     → FillsTo pool now (put_datum pool number meant now value) bytes left room used
 
--- where the scalar behind a tag is told
+-- where the scalar after a tag is answered
 abbrev pub TellsScalar : Types → Kind → ℕ → ℕ → List ℕ → ℕ → Option (Value × ℕ) → Type 0
 TellsScalar pool kind number type bytes left result =
     IfSome result (λ r. FillsScalar pool kind number type (value_view r.0) bytes left r.1)
 
--- where the number behind a tag is told: the value that it stands for is the scalar
+-- where the number after a tag is answered: the value that it encodes is the scalar
 abbrev pub TellsNumberThere : Types → Kind → ℕ → ℕ → List ℕ → ℕ → Option (Number × ℕ) → Type 0
 TellsNumberThere pool kind number type bytes left result =
     IfSome result (λ r. (v : Datum) → IfSome (read kind (number_view r.0)) (λ x. v ≡ scalar x) → FillsScalar pool kind number type v bytes left r.1)

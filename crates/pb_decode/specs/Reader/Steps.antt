@@ -1,4 +1,4 @@
--- What a step of the reader does that has read what stands up to these bytes. Each holds wherever it began: of any type, any levels, any records before
+-- What a step of the reader does that has read everything up to these bytes. Each holds wherever it began: of any type, any levels, any records before
 -- and any first place.
 use Rattle.std.specs.Prelude.{◌≡◌, ℕ, List, drop, Option, Some, Result, IfOk, IfErr, IfSome, OnOk}
 use Rattle.pb_wire.specs.Record.{Record, wire_type}
@@ -22,11 +22,11 @@ use Rattle.pb_parts.specs.Tokens.Numbers.{Follows}
 use Rattle.pb_parts.specs.Tokens.After.{tag, awaited}
 use Rattle.pb_decode.specs.Reader.{State, frames_view, state_view, here, Reads, StandsAt, AfterAt, Stops, Taken, IfFault, Told}
 
--- a tag stands at the front of these bytes, and takes so many of them
+-- these bytes begin with a tag of this many bytes
 abbrev pub HasTagHere : State → List ℕ → ℕ → ℕ → ℕ → Type 0
 HasTagHere s rest number type size = HasTag (here s rest) number type (passed (here s rest) size)
 
--- the error, if there is one, tells a fault that no more bytes change
+-- the error, if there is one, reports a fault that no more bytes change
 abbrev pub TellsFault : {A : Type 0} → Types → Reader → List ℕ → Result A DecodeError → Type 0
 TellsFault pool old rest result =
     (m depth levels : ℕ) (base : List Record) (p0 : Place)
@@ -45,14 +45,14 @@ TakesNext pool old new rest result =
     (m depth levels : ℕ) (base : List Record) (p0 : Place)
     → Reads pool m depth levels base p0 (state_view old) rest → IfOk result (λ o. Taken pool m depth levels base p0 (state_view new) rest o)
 
--- what stands whole at the front is taken, if anything is
+-- what is complete at the front is taken, if anything is
 abbrev pub TakesWhole : {E : Type 0} → Types → Reader → Reader → List ℕ → Result (Option ℕ) E → Type 0
 TakesWhole pool old new rest result =
     (m depth levels : ℕ) (base : List Record) (p0 : Place)
     → Reads pool m depth levels base p0 (state_view old) rest
     → IfOk result (λ o. IfSome o (λ n. Reads pool m depth levels base p0 (state_view new) (drop n rest)))
 
--- so many bytes are taken
+-- this many bytes are taken
 abbrev pub TakesMany : Types → Reader → Reader → List ℕ → Result ℕ DecodeError → Type 0
 TakesMany pool old new rest result =
     (m depth levels : ℕ) (base : List Record) (p0 : Place)
@@ -71,7 +71,7 @@ KeepsReading pool old new result =
     (m depth levels : ℕ) (base : List Record) (p0 : Place) (rest : List ℕ)
     → Reads pool m depth levels base p0 (state_view old) rest → OnOk result (Reads pool m depth levels base p0 (state_view new) rest)
 
--- ---- behind a value, whose bytes are these
+-- ---- after a value, whose bytes are these
 abbrev pub StandsBehindNumber : {A E : Type 0} → Types → Reader → Reader → ℕ → Purpose → Number → Result A E → Type 0
 StandsBehindNumber pool old new number purpose value result =
     (m depth levels : ℕ) (base : List Record) (p0 w : Place) (rest : List ℕ)
@@ -90,14 +90,14 @@ TellsPayloadFault pool old bytes result =
     → Reads pool m depth levels base p0 (state_view old) rest → Moves (here (state_view old) rest) bytes w
     → IfErr result (λ e. IfFault e (Told pool m depth p0))
 
--- the list goes on behind an element
+-- the list goes on after an element
 abbrev pub GoesOnBehindElement : {A E : Type 0} → Types → Reader → Reader → ℕ → Kind → Number → Result A E → Type 0
 GoesOnBehindElement pool old new number kind value result =
     (m depth levels : ℕ) (base : List Record) (p0 w : Place) (rest : List ℕ) (outer : Option ℕ)
     → Reads pool m depth levels base p0 (state_view old) rest → old.step ≡ Elements number kind outer → wire_type (number_view value) ≡ wire_type_of kind
     → Follows (here (state_view old) rest) (number_view value) w → OnOk result (AfterAt pool m depth levels base p0 (state_view new) w)
 
--- ---- behind a tag, which takes so many bytes
+-- ---- after a tag, which takes this many bytes
 abbrev pub PassesTag : {A : Type 0} → Types → Reader → Reader → ℕ → ℕ → ℕ → Result A DecodeError → Type 0
 PassesTag pool old new number type size result =
     (m depth levels : ℕ) (base : List Record) (p0 : Place) (rest : List ℕ)
@@ -138,7 +138,7 @@ LeavesGroup pool old new size result =
     → Reads pool m depth levels base p0 (state_view old) rest → innermost_group (frames_view old.frames.items) ≡ Some number
     → HasTagHere (state_view old) rest number 4 size → OnOk result (Reads pool m depth levels base p0 (state_view new) (drop size rest))
 
--- behind a tag of so many bytes stands a length, and behind that the payload begins, with so many bytes before the known end
+-- a length follows a tag of this many bytes, and then the payload begins, with this many bytes before the known end
 abbrev pub TellsLengthBehind : ℕ → List ℕ → Option ℕ → Option (ℕ × ℕ) → Type 0
 TellsLengthBehind tag_size rest left result =
     (at number type : ℕ) → HasTag (given_at at left rest) number type (passed (given_at at left rest) tag_size)

@@ -20,7 +20,7 @@ WaitsAt (step.Length n q) frames p = IsCutVarint p
 WaitsAt (step.Payload n q size) frames p = length p.rest < size
 WaitsAt (step.Elements n k outer) frames p = IsCutNumber (wire_type_of k) p
 
--- more bytes are wanted behind these
+-- more bytes are wanted after these
 abbrev pub Waits : State → List ℕ → Type 0
 Waits s rest = WaitsAt s.next s.frames (here s rest)
 

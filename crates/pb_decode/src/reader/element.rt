@@ -19,7 +19,7 @@ use pb_parts::values::put_number::put_element;
 use pb_schema::{Kind, Pool};
 use std::alloc::Global;
 
-/// Puts an element of so many bytes at the end of its list, behind which the reader then stands.
+/// Puts an element of this many bytes at the end of its list, after which the reader then is.
 fn pass_element(
     alloc: Global,
     pool: &Pool,

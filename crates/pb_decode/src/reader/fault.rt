@@ -1,4 +1,4 @@
-//! Where a reader stands, as the path of a fault.
+//! Where a reader is, as the path of a fault.
 
 ghost use Rattle.std.specs.Prelude.{◌≡◌, ◌∷◌, [], map, IfOk, IfSome, IfNone};
 ghost use Rattle.pb_wire.specs.Fault.{fault as fault_of};
@@ -62,7 +62,7 @@ fn path_inside(alloc: Global, reader: &Reader, number: u32) -> Result<Vec<PathSt
     Ok(path)
 }
 
-/// The steps to where a reader stands.
+/// The steps to where a reader is.
 fn path_here(alloc: Global, reader: &Reader) -> Result<Vec<PathStep>, NoMemory>
     ensures { IfOk result (λ v. v.items ≡ steps_here (state_view reader.now)) }
 {
@@ -78,7 +78,7 @@ fn path_here(alloc: Global, reader: &Reader) -> Result<Vec<PathStep>, NoMemory>
     }
 }
 
-/// The fault of what stands here.
+/// The fault at the reader's position.
 pub(crate) fn fault_at(alloc: Global, reader: &Reader, byte: u32, cause: Cause) -> DecodeError
     ensures { IfFault result (λ f. f ≡ fault_of byte (steps_here (state_view reader.now)) cause) }
 {

@@ -1,5 +1,5 @@
-//! What stands whole in the bytes is read into a part at once, with all that it holds, without a frame. Where memory is refused
-//! nothing is told either: the reader of pieces goes over the bytes and tells it.
+//! What is complete in the bytes is read into a part at once, with all that it holds, without a frame. If memory runs out,
+//! nothing is reported here either: the reader of pieces goes over the bytes again and reports it.
 
 ghost use Rattle.std.specs.Prelude.{◌≡◌, ◌⊎◌, ◌+◌, ◌≤◌, ◌<◌, ◌^◌, Some, length, IfSome};
 ghost use Rattle.pb_schema.specs.Rules.{IsPool};
@@ -41,7 +41,7 @@ use pb_parts::values::run::read_run;
 use pb_schema::{Kind, MessageId, Pool};
 use std::alloc::Global;
 
-/// A tag for a call that stands apart. It goes there through memory, and the tag itself then does not.
+/// A copy of a tag for a call that is not inlined, so that LLVM keeps the original in registers.
 #[inline(always)]
 fn copied(tag: RecordTag) -> RecordTag
     ensures { result ≡ tag }
@@ -53,7 +53,7 @@ fn copied(tag: RecordTag) -> RecordTag
     }
 }
 
-/// Puts the number behind a tag into a part, if it stands whole there, and how many bytes its record takes.
+/// Puts the number after a tag into a part, if it is complete there, and how many bytes its record takes.
 #[inline(always)]
 fn fill_one(
     alloc: Global,
@@ -84,7 +84,7 @@ fn fill_one(
     }
 }
 
-/// As `fill_one`, of a number that is unknown. It stands apart, so that `fill_number` is small enough to be inlined into both its callers.
+/// As `fill_one`, of a number that is unknown. A function of its own, so that `fill_number` is small enough to be inlined into both its callers.
 #[inline(never)]
 fn fill_unknown(
     alloc: Global,
@@ -104,8 +104,8 @@ fn fill_unknown(
     fill_one(alloc, pool, part, tag, Purpose::Unknown, bytes, left, room)
 }
 
-/// As `fill_one`, for a purpose that few numbers have, likewise apart. It is looked up once more: handed on, it would stand in memory, and be written
-/// there for each number.
+/// As `fill_one`, for a purpose that few numbers have, likewise apart. The purpose is looked up once more: as an argument it would be
+/// written to memory for each number.
 #[inline(never)]
 fn fill_other(
     alloc: Global,
@@ -125,7 +125,7 @@ fn fill_other(
     fill_one(alloc, pool, part, tag, purpose, bytes, left, room)
 }
 
-/// Puts the element behind a tag into its list, if it stands whole there, with those of the same list that follow on it, and how
+/// Puts the element after a tag into its list, if it is complete there, with those of the same list that follow on it, and how
 /// many bytes their records take.
 #[inline(never)]
 fn fill_element(
@@ -151,8 +151,8 @@ fn fill_element(
     }
 }
 
-/// Puts the number behind a tag into a part, if it stands whole there, and how many bytes its record takes. An element takes
-/// those of its list with it that follow on it. Most numbers are for one value, and nothing of these has to stand in memory.
+/// Puts the number after a tag into a part, if it is complete there, and how many bytes its record takes. An element takes
+/// those of its list with it that follow on it. Most numbers are for one value, and these are kept in registers.
 #[inline(always)]
 fn fill_number(
     alloc: Global,
@@ -185,7 +185,7 @@ fn fill_number(
     }
 }
 
-/// Puts the bytes behind a tag and a length into a part, if they stand whole there, and how many bytes their record takes.
+/// Puts the bytes after a tag and a length into a part, if they are complete there, and how many bytes their record takes.
 #[inline(always)]
 fn fill_bytes(
     alloc: Global,
@@ -215,7 +215,7 @@ fn fill_bytes(
     }
 }
 
-/// Puts the elements of a packed list behind a tag and a length into a part, if they stand whole there, and how many bytes their
+/// Puts the elements of a packed list after a tag and a length into a part, if they are complete there, and how many bytes their
 /// record takes. Numbers that a closed enum doesn't declare go among the unknown records.
 #[inline(never)]
 fn fill_run_of_list(
@@ -284,7 +284,7 @@ fn fill_values_of_list(
     }
 }
 
-/// Puts a packed list behind a tag and a length into a part, if it stands whole there, and how many bytes its record takes.
+/// Puts a packed list after a tag and a length into a part, if it is complete there, and how many bytes its record takes.
 #[inline(always)]
 fn fill_list(
     alloc: Global,
@@ -308,7 +308,7 @@ fn fill_list(
     fill_values_of_list(alloc, pool, part, tag, kind, bytes, left, room)
 }
 
-/// Puts the entry behind a tag into the map of a message, if it stands whole there, and how many bytes its record takes.
+/// Puts the entry after a tag into the map of a message, if it is complete there, and how many bytes its record takes.
 #[cycle(fill)]
 fn fill_entry(
     alloc: Global,
@@ -362,7 +362,7 @@ fn fill_entry(
     }
 }
 
-/// Puts the message behind a tag into its slot of a part, if it stands whole there, and how many bytes its record takes. It goes
+/// Puts the message after a tag into its slot of a part, if it is complete there, and how many bytes its record takes. It goes
 /// on from what the slot holds.
 #[cycle(fill)]
 fn fill_message(
@@ -412,7 +412,7 @@ fn fill_message(
     }
 }
 
-/// Puts the record of a length at the front of some bytes into a part, if it stands whole there, and how many bytes it takes.
+/// Puts the record of a length at the front of some bytes into a part, if it is complete there, and how many bytes it takes.
 #[cycle(fill)]
 #[inline(always)]
 fn fill_length(
@@ -451,8 +451,8 @@ fn fill_length(
     }
 }
 
-/// Puts the record at the front of some bytes into a part, with so many bytes before its end and so many levels left, if it
-/// stands whole there, and how many bytes it takes.
+/// Puts the record at the front of some bytes into a part, with this many bytes before its end and this many levels left, if it
+/// is complete there, and how many bytes it takes.
 #[cycle(fill)]
 #[inline(always)]
 fn fill_record(
@@ -482,7 +482,7 @@ fn fill_record(
     }
 }
 
-/// Puts the records of a payload of this size into its part, if each stands whole, and says whether that is so. If it is not, or if
+/// Puts the records of a payload of this size into its part, if each is complete, and says whether that is so. If it is not, or if
 /// memory is refused, something may be in the part.
 #[cycle(fill)]
 pub(crate) fn fill(

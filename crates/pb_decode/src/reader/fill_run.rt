@@ -23,7 +23,7 @@ use pb_schema::{Kind, Pool};
 use pb_value::Value;
 use std::alloc::Global;
 
-/// The value of the element behind a tag, if it stands whole there, and how many bytes its record takes. A number that its closed
+/// The value of the element after a tag, if it is complete there, and how many bytes its record takes. A number that its closed
 /// enum doesn't declare is no value.
 #[inline(always)]
 fn element_behind(
@@ -45,7 +45,7 @@ fn element_behind(
     number_behind(pool, kind, tag, bytes, left)
 }
 
-/// The value of the record at the front of some bytes, if it is an element of this list and stands whole there, and how many
+/// The value of the record at the front of some bytes, if it is an element of this list and is complete there, and how many
 /// bytes it takes.
 #[inline(always)]
 fn element_record(
@@ -107,12 +107,12 @@ fn read_elements(
     Ok((values, here))
 }
 
-/// Says that the byte behind so many begins as the bytes do, as it may where the same tag comes again.
+/// Whether the next record seems to begin with the same tag: a hint.
 fn begins_again(bytes: &[u8], used: usize) -> bool {
     bytes.get(used) == bytes.first()
 }
 
-/// Puts the element behind a tag into its list, if it stands whole there, with those of the same list that follow on it, and how
+/// Puts the element after a tag into its list, if it is complete there, with those of the same list that follow on it, and how
 /// many bytes their records take.
 pub(crate) fn fill_run(
     alloc: Global,

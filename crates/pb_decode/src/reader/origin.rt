@@ -27,8 +27,8 @@ use pb_value::{Body, DynamicMessage};
 use pb_wire::Limits;
 use std::alloc::Global;
 
-/// Where no byte is taken yet: what comes goes onto a message that has this body, with so many levels left, up to the known
-/// end if there is one. Before the place that is tried nothing is read at once.
+/// A reader at position 0 that merges what it reads into a message with this body, with `room` levels left, up to the known end if
+/// there is one. Before the place `tried` no record is read as a whole.
 pub(crate) fn begin_at(
     alloc: Global,
     message_type: MessageId,
@@ -82,7 +82,7 @@ pub(crate) fn begin_empty(
     begin_at(alloc, message_type, empty_body(alloc), room, end, tried)
 }
 
-/// Takes a piece behind the bytes that are held.
+/// Takes a piece after the bytes that are held.
 pub(crate) fn take_onward(
     alloc: Global,
     pool: &Pool,

@@ -1,4 +1,4 @@
-//! What begins behind the length of a record.
+//! What begins after the length of a record.
 
 ghost use Rattle.std.specs.Prelude.{◌≡◌, ◌+◌, ◌≤◌, ◌<◌, ◌^◌, ◌∷◌, OnOk};
 ghost use Rattle.pb_parts.specs.declared.open.purpose.Purpose.TheVariants as purposes;
@@ -33,7 +33,7 @@ pub(crate) fn enter(reader: &mut Reader, frame: Frame, at: u32) -> Result<(), No
     Ok(())
 }
 
-/// Behind the length of a message the message is open.
+/// After the length of a message the message is open.
 #[inline(always)]
 fn pass_message(
     alloc: Global,
@@ -63,7 +63,7 @@ fn pass_message(
     Ok(())
 }
 
-/// Behind the length of an entry the entry is open.
+/// After the length of an entry the entry is open.
 #[inline(always)]
 fn pass_entry(
     alloc: Global,
@@ -92,7 +92,7 @@ fn pass_entry(
     Ok(())
 }
 
-/// Behind the length of a packed list its elements come next.
+/// After the length of a packed list its elements come next.
 #[inline(always)]
 fn pass_list(reader: &mut Reader, number: u32, kind: Kind, begin: u32, size: u32)
     requires { begin + size < 2 ^ 32 }
@@ -104,7 +104,7 @@ fn pass_list(reader: &mut Reader, number: u32, kind: Kind, begin: u32, size: u32
     reader.at = begin;
 }
 
-/// Behind any other length its payload comes next.
+/// After any other length its payload comes next.
 fn pass_bytes(reader: &mut Reader, number: u32, purpose: Purpose, begin: u32, size: u32)
     requires { IsBytesPurpose purpose }
     ensures at { reader.new.at ≡ begin }
@@ -115,7 +115,7 @@ fn pass_bytes(reader: &mut Reader, number: u32, purpose: Purpose, begin: u32, si
     reader.at = begin;
 }
 
-/// Behind a length what it begins is begun.
+/// After a length what it begins is begun.
 pub(crate) fn pass_length(
     alloc: Global,
     reader: &mut Reader,

@@ -1,4 +1,4 @@
-//! What stands whole in the bytes is taken where the reader stands: records, elements of packed lists, and the tags and lengths
+//! What is complete in the bytes is taken at the reader's position: records, elements of packed lists, and the tags and lengths
 //! that open or end messages, entries, lists and groups.
 
 ghost use Rattle.std.specs.Prelude.{◌≡◌, ◌+◌, ◌*◌, ◌≤◌, ◌<◌, length, OnOk, IfOk, IfSome, IfNone};
@@ -21,7 +21,7 @@ use pb_parts::values::run::read_run;
 use pb_schema::{Kind, Pool};
 use std::alloc::Global;
 
-/// Takes the elements that stand whole at the front of the bytes, if there are any, and how many bytes they take.
+/// Takes the elements that are complete at the front of the bytes, if there are any, and how many bytes they take.
 fn take_run(
     alloc: Global,
     pool: &Pool,
@@ -47,7 +47,7 @@ fn take_run(
     Ok(Some(size))
 }
 
-/// Takes what stands whole at the front of the bytes, a record or what opens one, the end of a group, or an element, and how
+/// Takes what is complete at the front of the bytes, a record or what opens one, the end of a group, or an element, and how
 /// many bytes it takes.
 fn take_whole(
     alloc: Global,
@@ -78,7 +78,7 @@ fn take_whole(
     }
 }
 
-/// Takes all that stands whole at the front of the bytes, one behind another, and how many bytes that are. What ends there is
+/// Takes all that is complete at the front of the bytes, one after another, and how many bytes that are. What ends there is
 /// closed, and a byte that is refused stays where it is.
 pub(crate) fn quick(
     alloc: Global,

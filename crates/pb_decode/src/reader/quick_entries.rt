@@ -1,4 +1,4 @@
-//! Runs of map entries that stand whole where the reader stands: they go into their map at once.
+//! Runs of map entries that are complete at the reader's position: they go into their map at once.
 
 ghost use Rattle.std.specs.Prelude.{◌≡◌, ◌+◌, ◌≤◌, ◌<◌, ◌^◌, length, IfOk, IfSome, IfNone, OnOk};
 ghost use Rattle.pb_schema.specs.Rules.{IsPool};
@@ -22,7 +22,7 @@ use pb_parts::tokens::record_tag::RecordTag;
 use pb_schema::{Kind, Pool};
 use std::alloc::Global;
 
-/// Counts so many more records of a number in a part.
+/// Counts this many more records of a number in a part.
 fn count_many(scope: &mut Scope, number: u32, count: usize) -> Result<(), NoMemory>
     requires { counts_view scope.old.occurrences number + count < 2 ^ 32 }
     ensures more { OnOk result (scope_view scope.new ≡ more_in number count (scope_view scope.old)) }
@@ -36,7 +36,7 @@ fn count_many(scope: &mut Scope, number: u32, count: usize) -> Result<(), NoMemo
     Ok(())
 }
 
-/// Takes the entries that stand whole at the front of the bytes, if there are any, and how many bytes they take.
+/// Takes the entries that are complete at the front of the bytes, if there are any, and how many bytes they take.
 fn take_many(
     alloc: Global,
     pool: &Pool,
@@ -80,7 +80,7 @@ fn take_many(
     Ok(Some(size))
 }
 
-/// Takes the entry behind whose tag its payload stands whole, and those behind it, and how many bytes they take. Where a payload
+/// Takes the entry after whose tag its payload is complete, and those that follow, and how many bytes they take. If a payload
 /// was read and can't be taken so, `tried` is where it ends.
 pub(crate) fn take_entries(
     alloc: Global,

@@ -1,4 +1,4 @@
-//! Map entries that stand whole in the bytes: each goes into its map at once, without a frame.
+//! Map entries that are complete in the bytes: each goes into its map at once, without a frame.
 
 ghost use Rattle.std.specs.Prelude.{◌≡◌, ◌+◌, ◌≤◌, length, IfOk, IfSome, IfNone};
 ghost use Rattle.pb_schema.specs.Rules.{IsPool};
@@ -19,7 +19,7 @@ use pb_parts::tokens::record_tag::RecordTag;
 use pb_schema::{Kind, Pool};
 use std::alloc::Global;
 
-/// Takes the entry behind whose tag its payload stands whole, and how many bytes it takes. Where the payload was read and can't be
+/// Takes the entry after whose tag its payload is complete, and how many bytes it takes. Where the payload was read and can't be
 /// taken so, `tried` is where it ends.
 pub(crate) fn take_entry(
     alloc: Global,

@@ -1,4 +1,4 @@
-//! Groups that stand whole in the bytes: each goes into its slot at once, without a frame.
+//! Groups that are complete in the bytes: each goes into its slot at once, without a frame.
 
 ghost use Rattle.std.specs.Prelude.{◌≡◌, ◌+◌, ◌-◌, ◌≤◌, ◌<◌, ◌^◌, length, option_map, IfOk, IfSome, IfNone};
 ghost use Rattle.pb_schema.specs.Rules.{IsPool};
@@ -22,8 +22,7 @@ use pb_schema::{MessageId, Pool};
 use pb_value::parts::empty_body;
 use std::alloc::Global;
 
-/// How many bytes stand behind a tag of so many before the known end. Where none is known it is put behind the bytes at hand, which
-/// changes nothing of what stands whole there.
+/// How many bytes are left in the parent after a tag of `tag_size` bytes. If the parent's end is unknown, all bytes given.
 fn left_at_hand(left: Option<u32>, tag_size: usize, behind: &[u8]) -> u32
     requires small { length behind.now < 2 ^ 31 }
     ensures { IfSome (option_map (λ e. e - tag_size) left) (λ e. result ≡ e) }
@@ -34,7 +33,7 @@ fn left_at_hand(left: Option<u32>, tag_size: usize, behind: &[u8]) -> u32
     }
 }
 
-/// Takes the message of a group behind whose first tag its records and its end tag stand whole, if its slot is free, and how many
+/// Takes the message of a group after whose first tag its records and its end tag are complete, if its slot is free, and how many
 /// bytes it takes. Where that can't be taken so, `tried` is up to where it was read.
 fn take_field_group(
     alloc: Global,
@@ -91,7 +90,7 @@ fn take_field_group(
     }
 }
 
-/// Takes the group whose first tag is there at once, if its records and its end tag stand whole, and how many bytes it takes.
+/// Takes the group whose first tag is there at once, if its records and its end tag are complete, and how many bytes it takes.
 fn take_whole_group(
     alloc: Global,
     pool: &Pool,
@@ -119,8 +118,8 @@ fn take_whole_group(
     }
 }
 
-/// Takes the group whose first tag is there at once, or opens it where a level is left, and how many bytes that takes. What stands
-/// before the place that is tried is opened, so that no byte is tried twice.
+/// Takes the group whose first tag is there at once, or opens it where a level is left, and how many bytes that takes. A group
+/// before the place `tried` is opened, so that no byte is tried twice.
 pub(crate) fn take_group(
     alloc: Global,
     pool: &Pool,

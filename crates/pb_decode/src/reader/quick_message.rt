@@ -1,4 +1,4 @@
-//! Messages that stand whole in the bytes: each goes into its slot at once, without a frame.
+//! Messages that are complete in the bytes: each goes into its slot at once, without a frame.
 
 ghost use Rattle.std.specs.Prelude.{◌≡◌, ◌+◌, ◌≤◌, length, IfOk, IfSome, IfNone};
 ghost use Rattle.pb_schema.specs.Rules.{IsPool};
@@ -23,7 +23,7 @@ use pb_schema::{MessageId, Pool};
 use pb_value::parts::empty_body;
 use std::alloc::Global;
 
-/// Takes the message behind whose tag its payload stands whole, if its slot is free, and how many bytes it takes. Where the payload
+/// Takes the message after whose tag its payload is complete, if its slot is free, and how many bytes it takes. Where the payload
 /// was read and can't be taken so, `tried` is where it ends.
 pub(crate) fn take_message_record(
     alloc: Global,

@@ -32,7 +32,7 @@ use pb_parts::values::put_payload::put_payload;
 use pb_schema::Pool;
 use std::alloc::Global;
 
-/// Takes the record of a number, behind whose tag the number stands whole, and how many bytes the record takes.
+/// Takes the record of a number, after whose tag the number is complete, and how many bytes the record takes.
 fn take_number_record(
     alloc: Global,
     pool: &Pool,
@@ -84,7 +84,7 @@ pub(crate) fn is_for_bytes(purpose: Purpose) -> bool
     }
 }
 
-/// Where the payload of a record begins whose tag takes so many bytes, and its size, with so many bytes before the known end.
+/// Where the payload of a record begins whose tag takes this many bytes, and its size, with this many bytes before the known end.
 pub(crate) fn length_behind(
     tag_size: usize,
     bytes: &[u8],
@@ -106,7 +106,7 @@ pub(crate) fn length_behind(
     }
 }
 
-/// As `length_behind`, where the payload is all there behind its length.
+/// As `length_behind`, where the payload is all there after its length.
 #[inline(always)]
 pub(crate) fn payload_behind(
     tag_size: usize,
@@ -125,7 +125,7 @@ pub(crate) fn payload_behind(
     Some((start, size))
 }
 
-/// Takes the record of bytes, behind whose tag its payload stands whole, and how many bytes the record takes.
+/// Takes the record of bytes, after whose tag its payload is complete, and how many bytes the record takes.
 fn take_bytes_record(
     alloc: Global,
     pool: &Pool,
@@ -194,7 +194,7 @@ fn take_opening(
     Ok(Some(start))
 }
 
-/// Takes the message or the entry of a record that stands whole behind its tag, and how many bytes the record takes.
+/// Takes the message or the entry of a record that is complete after its tag, and how many bytes the record takes.
 fn take_inner(
     alloc: Global,
     pool: &Pool,
@@ -231,8 +231,8 @@ fn take_inner(
     }
 }
 
-/// Takes the message or the entry of a record at once, or opens what the record opens, and how many bytes that takes. What stands
-/// before the place that is tried is opened, so that no byte is tried twice.
+/// Takes the message or the entry of a record at once, or opens what the record opens, and how many bytes that takes. A record
+/// before the place `tried` is opened, so that no byte is tried twice.
 fn take_inner_or_open(
     alloc: Global,
     pool: &Pool,
@@ -261,7 +261,7 @@ fn take_inner_or_open(
     take_opening(alloc, pool, reader, tag, purpose, bytes)
 }
 
-/// Takes the record of a length if its bytes are its value and stand whole behind its tag, or opens what it opens, and how many
+/// Takes the record of a length if its bytes are its value and are complete after its tag, or opens what it opens, and how many
 /// bytes that takes.
 fn take_length_record(
     alloc: Global,
@@ -345,7 +345,7 @@ fn take_group_end(
     }
 }
 
-/// Takes the record at the front of the bytes, if it is one of a number or of bytes and stands whole there, or opens or closes
+/// Takes the record at the front of the bytes, if it is one of a number or of bytes and is complete there, or opens or closes
 /// what its tag and its length open or close, and how many bytes that takes.
 pub(crate) fn take_record(
     alloc: Global,

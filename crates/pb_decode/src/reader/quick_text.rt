@@ -15,7 +15,7 @@ use pb_value::parts::empty_body;
 use pb_wire::Limits;
 use std::alloc::Global;
 
-/// The body of the message whose text the bytes are, or none: then a reader tells their fault, or that memory
+/// The body of the message that the bytes encode, or none: then a reader reports their fault, or that memory
 /// is refused.
 pub(crate) fn read_text(
     alloc: Global,

@@ -1,4 +1,4 @@
-//! Scalars that stand whole behind their tags.
+//! Scalars that are complete after their tags.
 
 ghost use Rattle.std.specs.Prelude.{◌≡◌, ◌⊎◌, ◌≤◌, ◌<◌, ◌^◌, Some, length, IfSome};
 ghost use Rattle.pb_schema.specs.Rules.{IsPool};
@@ -16,7 +16,7 @@ use pb_schema::{Kind, Pool};
 use pb_value::Value;
 use std::alloc::Global;
 
-/// The number behind a tag, if it stands whole there, and how many bytes its record takes. One that its closed enum doesn't declare
+/// The number after a tag, if it is complete there, and how many bytes its record takes. One that its closed enum doesn't declare
 /// is none.
 #[inline(always)]
 pub(crate) fn number_there(
@@ -47,7 +47,7 @@ pub(crate) fn number_there(
     }
 }
 
-/// The value of the number behind a tag, likewise.
+/// The value of the number after a tag, likewise.
 #[inline(always)]
 pub(crate) fn number_behind(
     pool: &Pool,
@@ -68,7 +68,7 @@ pub(crate) fn number_behind(
     Some((number_value(kind, number), size))
 }
 
-/// The value that the bytes behind a tag and a length are, if they stand whole there, and how many bytes their record takes. Bytes
+/// The value that the bytes after a tag and a length are, if they are complete there, and how many bytes their record takes. Bytes
 /// that are no text are no value of a text.
 #[inline(always)]
 pub(crate) fn bytes_behind(
@@ -99,7 +99,7 @@ pub(crate) fn bytes_behind(
     }
 }
 
-/// The scalar of a kind behind a tag, if it stands whole there, and how many bytes its record takes.
+/// The scalar of a kind after a tag, if it is complete there, and how many bytes its record takes.
 #[inline(always)]
 pub(crate) fn scalar_behind(
     alloc: Global,

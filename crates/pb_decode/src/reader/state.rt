@@ -41,14 +41,14 @@ pub(crate) struct Reader {
     pub tried: u32,
 }
 
-/// How many bytes stand before the known end of the innermost part.
+/// How many bytes are left before the known end of the innermost part.
 pub(crate) fn left(reader: &Reader) -> Option<u32>
     ensures { result ≡ left_of (state_view reader.now) }
 {
     reader.scope.end.map(|end| end.saturating_sub(reader.at))
 }
 
-/// Puts a number of so many bytes into the part that its record stands in, behind which the reader then stands.
+/// Puts a number of this many bytes into the part that its record is in, and moves the reader past it.
 fn pass_number(
     alloc: Global,
     pool: &Pool,
@@ -102,7 +102,7 @@ pub(crate) fn take_number(
     }
 }
 
-/// Takes all that stands whole at the front of the bytes, and how many bytes that are.
+/// Takes all that is complete at the front of the bytes, and how many bytes that are.
 pub(crate) fn take_all(
     alloc: Global,
     pool: &Pool,

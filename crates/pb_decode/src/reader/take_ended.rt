@@ -1,4 +1,4 @@
-//! What ends where a reader stands is closed before the next token.
+//! What ends where a reader is is closed before the next token.
 
 ghost use Rattle.std.specs.Prelude.{◌≡◌, ◌↔◌, ◌-◌, ◌<◌, ◌≤◌, ◌^◌, ℕ, List, Some, None, IsTrue, MatchBool, vec_len, OnOk};
 ghost use Rattle.pb_schema.specs.Rules.{IsPool};
@@ -52,8 +52,7 @@ fn end_list(reader: &mut Reader, number: u32, outer: Option<u32>) -> Result<(), 
     Ok(())
 }
 
-/// The innermost part, which no end tag ends and whose known end is reached, goes where it belongs, and the reader stands in the
-/// part that holds it.
+/// Closes the innermost message or entry, whose known end is reached. A group is closed by its end tag instead.
 fn close_innermost(alloc: Global, pool: &Pool, reader: &mut Reader) -> Result<(), NoMemory>
     requires rules { IsPool pool.now }
     requires reading { (rest : List ℕ) × IsReading pool.now (state_view reader.old) rest }
@@ -135,7 +134,7 @@ fn close_ended(alloc: Global, pool: &Pool, reader: &mut Reader) -> Result<(), De
     close_all_ended(alloc, pool, reader)
 }
 
-/// Closes all that ends where the reader stands: a packed list, and then the parts that end with it, or those that end at a
+/// Closes all that ends at the reader's position: a packed list, and then the parts that end with it, or those that end at a
 /// tag.
 #[inline(always)]
 pub(crate) fn take_ended(alloc: Global, pool: &Pool, reader: &mut Reader) -> Result<(), DecodeError>

@@ -50,8 +50,8 @@ fn take_open(
     }
 }
 
-/// Takes what comes next at the front of the bytes: what stands whole there, and how many bytes that are. There is none
-/// where the bytes end too early, or with the message. All records and elements that stand whole one behind another are
+/// Takes what comes next at the front of the bytes: what is complete there, and how many bytes that are. There is none
+/// where the bytes end too early, or with the message. All records and elements that are complete one after another are
 /// taken at once, and what ends is closed.
 pub(crate) fn take_next(
     alloc: Global,

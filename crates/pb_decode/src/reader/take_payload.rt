@@ -23,7 +23,7 @@ use pb_schema::Pool;
 use pb_wire::Cause;
 use std::alloc::Global;
 
-/// Puts a whole payload into the part that its record stands in, behind which the reader then stands.
+/// Puts a whole payload into the part that its record is in, and moves the reader past it.
 fn pass_payload(
     alloc: Global,
     pool: &Pool,
@@ -58,7 +58,7 @@ fn pass_payload(
     }
 }
 
-/// Takes the payload of a record, of so many bytes.
+/// Takes the payload of a record, of this many bytes.
 pub(crate) fn take_payload(
     alloc: Global,
     pool: &Pool,

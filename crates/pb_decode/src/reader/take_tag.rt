@@ -47,7 +47,7 @@ pub(crate) fn innermost(frames: &[Frame]) -> Option<u32>
     }
 }
 
-/// Behind the tag of a record, which is no group, its value or its length comes next.
+/// After the tag of a record, which is no group, its value or its length comes next.
 fn pass_record_tag(
     alloc: Global,
     pool: &Pool,
@@ -76,7 +76,7 @@ fn pass_record_tag(
     }
 }
 
-/// Behind the first tag of a group, where a level is left, the group is open: as the message of its field, or of unknown
+/// After the first tag of a group, where a level is left, the group is open: as the message of its field, or of unknown
 /// records.
 pub(crate) fn enter_group(
     alloc: Global,
@@ -98,7 +98,7 @@ pub(crate) fn enter_group(
     Ok(())
 }
 
-/// Behind the first tag of a group the group is open.
+/// After the first tag of a group the group is open.
 fn pass_group_start(
     alloc: Global,
     reader: &mut Reader,
@@ -121,7 +121,7 @@ fn pass_group_start(
     }
 }
 
-/// What ends with a group goes where it belongs in what holds it, where the reader then stands: the message of a field into its
+/// What ends with a group goes where it belongs in what holds it, where the reader then is: the message of a field into its
 /// slot, other records among the unknown ones.
 pub(crate) fn leave_group(
     alloc: Global,
@@ -170,7 +170,7 @@ pub(crate) fn leave_group(
     }
 }
 
-/// Behind the last tag of a group the reader stands in what holds the group.
+/// After the last tag of a group the reader is in what holds the group.
 fn pass_group_end(
     alloc: Global,
     pool: &Pool,
@@ -194,7 +194,7 @@ fn pass_group_end(
     }
 }
 
-/// Behind a whole tag of so many bytes what it begins is begun, or the group that it ends is closed.
+/// After a whole tag of this many bytes what it begins is begun, or the group that it ends is closed.
 fn pass_tag(
     alloc: Global,
     pool: &Pool,

@@ -1,4 +1,4 @@
--- Groups that are read at once into a part. Their end is told by their end tag.
+-- Groups that are read at once into a part. Their end tag marks their end.
 use Rattle.std.specs.Prelude.{ℕ, ◌≡◌, ◌≤◌, true, List, Some}
 use Rattle.pb_wire.specs.Fault.{HasTag}
 use Rattle.pb_wire.specs.Token.{given_at, passed}
@@ -13,7 +13,7 @@ use Rattle.pb_decode.specs.Reader.Fills.{FillsTo}
 abbrev pub IfWhole : Extent → (ℕ → Type 0) → Type 0
 IfWhole e P = e.whole ≡ true → P e.size
 
--- no more than so many bytes are read, and where all are, no less than so many
+-- no more than this many bytes are read, and where all are, no less than this many
 abbrev pub Passes : ℕ → Extent → ℕ → Type 0
 Passes least e most = (e.size ≤ most) × IfWhole e (λ n. least ≤ n)
 
@@ -21,7 +21,7 @@ Passes least e most = (e.size ≤ most) × IfWhole e (λ n. least ≤ n)
 abbrev pub FillsGroup : Types → PartKept → PartKept → List ℕ → ℕ → ℕ → Extent → Type 0
 FillsGroup pool old new bytes left room result = IfWhole result (FillsTo pool (part_view old) (part_view new) bytes left room)
 
--- records stand whole at the front of the bytes, which are in the part, and behind them the end tag of this number: so many bytes with that
+-- records are complete at the front of the bytes, which are in the part, and after them the end tag of this number: this many bytes with that
 abbrev pub FillsToEnd : Types → ℕ → Part → Part → List ℕ → ℕ → ℕ → ℕ → Type 0
 FillsToEnd pool number old new bytes left room size =
     (used : ℕ) × FillsTo pool old new bytes left room used

@@ -10,7 +10,7 @@ use Rattle.pb_decode.specs.declared.reader.fill.group.Extent.{Extent}
 use Rattle.pb_decode.specs.Reader.Fills.Groups.{IfWhole}
 use Rattle.pb_decode.specs.Reader.Listed.{FillsRun}
 
--- where a group is read, its message is one more value, and one stands behind it with that at the end of the list
+-- where a group is read, its message is one more value, and the reader is after it, with that at the end of the list
 abbrev pub AddsGroup : Types → ℕ → MessageId → List Value → List Value → List ℕ → ℕ → ℕ → Extent → Type 0
 AddsGroup pool number of_type old new bytes left room result =
     IfWhole result (λ n. (v : Value) × (new ≡ old ++ v ∷ [])

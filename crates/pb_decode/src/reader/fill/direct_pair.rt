@@ -33,7 +33,7 @@ pub(super) enum Pair {
     Other,
 }
 
-/// Puts a key and a value behind the entries.
+/// Puts a key and a value after the entries.
 #[inline(always)]
 pub(super) fn put_pair(key: MapKey, value: Value, entries: &mut Vec<(MapKey, Value)>) -> Pair
     ensures { WherePut (entries.new.items ≡ entries.old.items ++ (key, value) ∷ []) (entries.new.items ≡ entries.old.items) result }
@@ -67,7 +67,7 @@ fn own_tag(number: u32, kind: Kind, bytes: &[u8], left: u32) -> Option<RecordTag
     }
 }
 
-/// The key at the front of an entry's payload, if it stands whole there, and how many bytes its record takes.
+/// The key at the front of an entry's payload, if it is complete there, and how many bytes its record takes.
 #[inline(always)]
 fn key_behind(
     alloc: Global,
@@ -91,7 +91,7 @@ fn key_behind(
     }
 }
 
-/// Puts a key and the number behind it among the entries, where that ends with the entry.
+/// Puts a key and the number after it among the entries, if the number ends with the entry.
 #[inline(always)]
 fn pair_with_number(
     pool: &Pool,
@@ -122,7 +122,7 @@ fn pair_with_number(
     put_pair(key, number_value(value_kind, number), entries)
 }
 
-/// Puts a key and the bytes behind it among the entries, likewise.
+/// Puts a key and the bytes after it among the entries, likewise.
 #[inline(always)]
 fn pair_with_bytes(
     alloc: Global,
@@ -154,7 +154,7 @@ fn pair_with_bytes(
     put_pair(key, value, entries)
 }
 
-/// Puts a key and the scalar behind it among the entries, likewise.
+/// Puts a key and the scalar after it among the entries, likewise.
 #[inline(always)]
 fn pair_with_scalar(
     alloc: Global,
@@ -188,8 +188,8 @@ fn pair_with_scalar(
     }
 }
 
-/// Puts a key and the message behind it among the entries, where that ends with the entry. The message is read only where it does,
-/// so that what is no such pair is not read twice.
+/// Puts a key and the message after it among the entries, if the message ends with the entry. Only then is the message read, so
+/// that other entries are not read twice.
 #[cycle(fill)]
 #[inline(always)]
 fn pair_with_message(

@@ -1,4 +1,4 @@
-//! Runs of map entries that stand whole in the bytes: they are read one behind another, and go into their map at once.
+//! Runs of map entries that are complete in the bytes: they are read one after another, and go into their map at once.
 
 ghost use Rattle.std.specs.Prelude.{◌≡◌, ◌+◌, ◌≤◌, ◌<◌, ◌^◌, Some, None, length, IfOk, IfSome};
 ghost use Rattle.pb_schema.specs.Rules.{IsPool};
@@ -104,8 +104,8 @@ fn push_pair(
     }
 }
 
-/// Puts the entry behind a tag at the front of some bytes among the entries, with so many bytes before the known end and so many
-/// levels left, and how many bytes its record takes, if it stands whole there. Where its payload was read and is none, `tried` is
+/// Puts the entry after a tag at the front of some bytes among the entries, with this many bytes before the known end and this many
+/// levels left, and how many bytes its record takes, if it is complete there. If its payload was read and is no entry, `tried` is
 /// where it ends.
 #[cycle(fill)]
 fn entry_behind(
@@ -191,7 +191,7 @@ fn entry_at(
     }
 }
 
-/// The entries of a number that stand whole at the front of some bytes, one behind another, and how many bytes they take.
+/// The entries of a number that are complete at the front of some bytes, one after another, and how many bytes they take.
 #[cycle(fill)]
 pub(crate) fn read_entries(
     alloc: Global,
@@ -236,7 +236,7 @@ pub(crate) fn read_entries(
     Ok((entries, here))
 }
 
-/// Whether so many bytes stand before the known end.
+/// Whether this many bytes are left before the known end.
 fn has_left(left: Option<u32>, size: usize) -> bool {
     match left {
         Some(left) => size <= left as usize,
@@ -244,10 +244,10 @@ fn has_left(left: Option<u32>, size: usize) -> bool {
     }
 }
 
-/// A run is looked for where there are bytes for so many entries as long as the first.
+/// A run is looked for where there are bytes for this many entries as long as the first.
 const FEW: usize = 2;
 
-/// Whether a run of entries seems to stand here: the record behind the first has the same tag, and there are bytes for another
+/// Whether a run of entries seems to begin here: the record after the first has the same tag, and there are bytes for another
 /// before the known end.
 pub(crate) fn is_run(tag_size: usize, bytes: &[u8], left: Option<u32>) -> bool
     requires within { tag_size ≤ length bytes.now }
@@ -263,8 +263,8 @@ pub(crate) fn is_run(tag_size: usize, bytes: &[u8], left: Option<u32>) -> bool
     bytes[end..].starts_with(&bytes[..tag_size])
 }
 
-/// Puts the entry behind a tag into the map of a message, and where many seem to stand here those behind it with it, and how many
-/// bytes their records take. Where one of them was read and is none nothing is taken, so that it is not read again at each level.
+/// Puts the entry after a tag into the map of a message, together with those that follow if many seem to follow, and returns how many
+/// bytes their records take. If an entry is invalid, none is taken, so that nothing is read again at each level.
 #[cycle(fill)]
 pub(super) fn fill_entries(
     alloc: Global,

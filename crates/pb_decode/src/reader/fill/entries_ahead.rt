@@ -1,4 +1,4 @@
-//! How many map entries seem to stand ahead.
+//! How many map entries seem to follow.
 
 ghost use Rattle.std.specs.Prelude.{◌≤◌, ◌<◌, ◌^◌, length, IfSome};
 
@@ -22,11 +22,11 @@ fn size_ahead(tag: &[u8], bytes: &[u8]) -> Option<usize>
     Some(end)
 }
 
-/// For so many entries there is room at first, so that what is asked for before one is read has a bound. A longer run asks for more.
+/// The most entries that capacity is reserved for before one is read, so that this memory has a bound. A longer run asks for more.
 const MOST_AHEAD: usize = 4096;
 
-/// How many records of the tag at the front follow on each other, but no more than are counted: room for the entries of a run. None
-/// is looked into, so it is a hint.
+/// How many records with the tag at the front follow one another, at most `MOST_AHEAD`: the capacity for the entries of a run. The
+/// records are not looked into, so it is a hint.
 pub(super) fn entries_ahead(bytes: &[u8], left: Option<u32>) -> usize
     requires small { length bytes.now < 2 ^ 31 }
 {

@@ -1,4 +1,4 @@
-//! Groups that stand whole in the bytes, read into a part at once. The end of one is where its end tag is, so only reading tells it.
+//! Groups that are complete in the bytes, read into a part at once. The end of one is where its end tag is, so only reading finds it.
 
 ghost use Rattle.std.specs.Prelude.{◌≡◌, ◌≤◌, ◌<◌, ◌^◌, Some, true, length, IfSome};
 ghost use Rattle.pb_schema.specs.Rules.{IsPool};
@@ -31,8 +31,8 @@ pub(crate) struct Extent {
     pub size: usize,
 }
 
-/// How many bytes may have been read of a record behind whose tag something can't be taken. Of a run of entries or of messages the
-/// first alone counts: the others are tried once more where the reader stands, and the one that is refused ends that.
+/// How many bytes may have been read of a record after whose tag something can't be taken. Of a run of entries or of messages the
+/// first alone counts: the others are tried once more at the reader's position, and the one that is refused ends that.
 fn read_of(wire_type: u8, tag_size: usize, bytes: &[u8], left: u32) -> usize
     requires within { tag_size ≤ length bytes.now }
     requires small { length bytes.now < 2 ^ 31 }
@@ -64,7 +64,7 @@ fn extent_of(taken: Option<usize>, tag: RecordTag, bytes: &[u8], left: u32) -> E
     }
 }
 
-/// Puts the record behind a tag that ends no group into a part, if it stands whole there.
+/// Puts the record after a tag that ends no group into a part, if it is complete there.
 #[cycle(fill)]
 #[inline(always)]
 fn fill_inside(
@@ -97,7 +97,7 @@ fn fill_inside(
     }
 }
 
-/// Puts the records of a group of a number into its part, if each stands whole before the end tag, and how many bytes they take
+/// Puts the records of a group of a number into its part, if each is complete before the end tag, and how many bytes they take
 /// with that. If they can't be taken, something may be in the part.
 #[cycle(fill)]
 pub(crate) fn fill_to_tag(
@@ -142,7 +142,7 @@ pub(crate) fn fill_to_tag(
     }
 }
 
-/// Puts the message of a group behind its first tag into its slot of a part, if its records and its end tag stand whole there. It
+/// Puts the message of a group after its first tag into its slot of a part, if its records and its end tag are complete there. It
 /// goes on from what the slot holds.
 #[cycle(fill)]
 fn fill_field_group(
@@ -189,8 +189,8 @@ fn fill_field_group(
     }
 }
 
-/// Puts a group that is no field behind its first tag among the unknown records of a part, if its records and its end tag stand
-/// whole there.
+/// Puts the group after its first tag, which is not a field, among the unknown records of a part, if its records and its end tag
+/// are complete there.
 #[cycle(fill)]
 fn fill_unknown_group(
     alloc: Global,
@@ -232,7 +232,7 @@ fn fill_unknown_group(
     }
 }
 
-/// Puts the group behind its first tag into a part, where a level is left for it and it stands whole. It stands apart: few records begin a group.
+/// Puts the group after its first tag into a part, where a level is left for it and it is complete. A function of its own, since few records begin a group.
 #[cycle(fill)]
 #[inline(never)]
 fn fill_group_apart(
@@ -268,7 +268,7 @@ fn fill_group_apart(
     }
 }
 
-/// As `fill_group_apart`, to which the tag goes as a copy, so that in the loop that read it it need not stand in memory.
+/// As `fill_group_apart`, to which the tag goes as a copy, so that the loop that read it can keep it in registers.
 #[cycle(fill)]
 #[inline(always)]
 pub(super) fn fill_group(

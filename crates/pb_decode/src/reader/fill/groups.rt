@@ -1,4 +1,4 @@
-//! Groups of one list that follow on each other: each is read behind the one before, and they go to the end of their list at once.
+//! Groups of one list that follow on each other: each is read after the one before, and they go to the end of their list at once.
 
 ghost use Rattle.std.specs.Prelude.{◌≡◌, ◌≤◌, ◌<◌, ◌^◌, Some, length};
 ghost use Rattle.pb_schema.specs.Rules.{IsPool};
@@ -22,8 +22,8 @@ use pb_value::Value;
 use pb_value::parts::empty_body;
 use std::alloc::Global;
 
-/// Reads the group behind a tag at the front of some bytes, with so many bytes before the known end and so many levels left, and
-/// puts its message behind those before it, if its records and its end tag stand whole there.
+/// Reads the group after a tag at the front of some bytes, with this many bytes before the known end and this many levels left, and
+/// puts its message after those before it, if its records and its end tag are complete there.
 #[cycle(fill)]
 #[inline(always)]
 fn add_group(
@@ -72,7 +72,7 @@ fn add_group(
     }
 }
 
-/// Puts the group behind its first tag at the end of its list, if it stands whole there, with those of the same list that follow
+/// Puts the group after its first tag at the end of its list, if it is complete there, with those of the same list that follow
 /// on it. Where one of them can't be taken none is, and they are read up to where that one is.
 #[cycle(fill)]
 pub(super) fn fill_groups(

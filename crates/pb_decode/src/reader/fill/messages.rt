@@ -1,4 +1,4 @@
-//! Messages of one list that follow on each other: each is read behind the one before, and they go to the end of their list at once.
+//! Messages of one list that follow on each other: each is read after the one before, and they go to the end of their list at once.
 
 ghost use Rattle.std.specs.Prelude.{◌≡◌, ◌≤◌, ◌<◌, ◌^◌, Some, length, IfSome};
 ghost use Rattle.pb_wire.specs.Fault.{HasTag};
@@ -21,8 +21,8 @@ use pb_value::Value;
 use pb_value::parts::empty_body;
 use std::alloc::Global;
 
-/// The message behind a tag at the front of some bytes, with so many bytes before the known end and so many levels left, and how
-/// many bytes its record takes, if it stands whole there.
+/// The message after a tag at the front of some bytes, with this many bytes before the known end and this many levels left, and how
+/// many bytes its record takes, if it is complete there.
 #[cycle(fill)]
 #[inline(always)]
 fn message_behind(
@@ -79,8 +79,8 @@ pub(super) fn tag_again(number: u32, wire_type: u8, bytes: &[u8], left: u32) -> 
     }
 }
 
-/// The messages of a number that stand one behind another at the front of some bytes, and how many bytes they take. Where one of
-/// them is none there are none, so that it is not read again at each level.
+/// The messages of a number that follow one another at the front of some bytes, and how many bytes they take. If one of them is
+/// invalid there are none, so that nothing is read again at each level.
 #[cycle(fill)]
 fn read_messages(
     alloc: Global,
@@ -118,7 +118,7 @@ fn read_messages(
     Some((messages, here))
 }
 
-/// Puts the message behind a tag at the end of its list, if it stands whole there, with those of the same list that follow on it,
+/// Puts the message after a tag at the end of its list, if it is complete there, with those of the same list that follow on it,
 /// and how many bytes their records take.
 #[cycle(fill)]
 pub(super) fn fill_messages(
