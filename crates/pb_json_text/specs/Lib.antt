@@ -1,0 +1,7 @@
+pub mod Json
+pub mod Grammar
+pub mod View
+pub mod Fault
+pub mod Texts
+-- for private functions alone
+pub mod Loops

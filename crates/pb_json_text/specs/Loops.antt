@@ -1,0 +1,4 @@
+pub mod Machine
+pub mod States
+pub mod Escapes
+pub mod Values
