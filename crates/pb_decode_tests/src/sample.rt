@@ -22,11 +22,13 @@
 ghost use Rattle.std.specs.Prelude.{◌<◌, length};
 
 use pb_decode::{DecodeError, PushDecoder, decode, validate};
+use pb_parts::error::NoMemory;
 use pb_samples::{
     EnumRow, FIELDS_OF_F, FIELDS_OF_T, FieldRow, FileRow, PACKED, TypeRow, UNPACKED, pool_of,
 };
 use pb_schema::{EnumId, Kind, MessageId, Pool, Shape};
 use pb_value::DynamicMessage;
+use pb_whole::build;
 use pb_wire::Limits;
 use std::alloc::Global;
 use std::test::Fail;
@@ -127,6 +129,14 @@ impl Schema {
         limits: Limits,
     ) -> Result<DynamicMessage<'p>, DecodeError> {
         decode(self.alloc, &self.pool, self.kind, bytes, limits)
+    }
+
+    pub(crate) fn build<'p>(
+        &'p self,
+        bytes: &[u8],
+        limits: Limits,
+    ) -> Result<DynamicMessage<'p>, NoMemory> {
+        build(self.alloc, &self.pool, self.kind, bytes, limits)
     }
 
     pub(crate) fn validate(&self, bytes: &[u8], limits: Limits) -> Result<(), DecodeError> {

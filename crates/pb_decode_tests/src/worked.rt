@@ -6,8 +6,10 @@ use super::answers::{is_answered, is_answered_or_memory, is_refused};
 use super::sample::Schema;
 use super::words::{bytes_of, word};
 use pb_decode::{DecodeError, PushDecoder};
+use pb_parts::error::NoMemory;
 use pb_value::DynamicMessage;
 use pb_wire::Limits;
+use std::alloc::AllocError;
 use std::test::Fail;
 
 /// A decoder that answered holds nothing, and is finished.
@@ -73,6 +75,19 @@ fn is_validated(schema: &Schema, limits: Limits, bytes: &[u8], told: &str) -> Re
     }
 }
 
+/// Whether `build` makes the message of bytes whose answer is one, and none of others. Out of memory is passed on.
+fn is_built(schema: &Schema, limits: Limits, bytes: &[u8], told: &str) -> Result<bool, Fail> {
+    match schema.build(bytes, limits) {
+        Ok(message) => is_answered(schema.alloc, Ok(message), told),
+        Err(NoMemory) => {
+            if told.starts_with("= ") {
+                return Err(Fail::from(AllocError));
+            }
+            Ok(true)
+        }
+    }
+}
+
 /// Whether the answer is as expected at once, byte by byte and at every cut into two.
 pub(crate) fn is_decoded(schema: &Schema, limits: Limits, words: &str) -> Result<bool, Fail> {
     let (input, told) = word(words);
@@ -81,6 +96,7 @@ pub(crate) fn is_decoded(schema: &Schema, limits: Limits, words: &str) -> Result
     Ok(
         is_answered(schema.alloc, at_once, told)?
             && is_validated(schema, limits, &bytes, told)?
+            && is_built(schema, limits, &bytes, told)?
             && is_fed(schema, limits, b"", &bytes, 1, told)?
             && is_fed_at_cuts(schema, limits, &bytes, told)?,
     )

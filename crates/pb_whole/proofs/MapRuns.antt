@@ -1,0 +1,169 @@
+-- Map entries that follow each other.
+use Rattle.std.proofs.Common.{◌≡◌, ℕ, zero, suc, ◌+◌, ◌-◌, ◌<◌, List, [], ◌∷◌, ◌++◌, take, drop, length, refl, sym, ap, ◌∙◌, subst, arith, Option, Some, None, option_map, drop-drop}
+use Rattle.std.specs.Prelude.{false, unwrap_or}
+use Rattle.pb_wire.specs.Record.{Record}
+use Rattle.pb_wire.specs.Fault.{Place, HasLength}
+use Rattle.pb_wire.specs.Token.{given_at, passed}
+use Rattle.pb_schema.specs.declared.types.Kind.{Kind}
+use Rattle.pb_schema.specs.Types.{Types}
+use Rattle.pb_schema.specs.Rules.{IsPool}
+use Rattle.pb_schema.specs.Scalar.{Scalar}
+use Rattle.pb_schema.specs.Kinds.{default_of}
+use Rattle.pb_value.specs.Data.{Datum, get_field, Message, body, fields_of, empty}
+use Rattle.pb_value.specs.Value.{missing}
+use Rattle.pb_value.specs.Change.{insert_at, with_fields, entries_of, FitsKeys}
+use Rattle.pb_value.specs.WellFormed.{RisesFrom, IsBody}
+use Rattle.pb_value.specs.View.{key_view, value_view}
+use Rattle.pb_value.specs.declared.body.MapKey.{MapKey}
+use Rattle.pb_value.specs.declared.body.Value.{Value}
+use Rattle.pb_parts.specs.Close.Mapped.{pairs_view, put_mapped, put_all_mapped, FitsMapped, FitMapped, RisesIn}
+use Rattle.pb_parts.specs.Open.Frames.{Part, message_part, entry_part, group_part, put_entry, Scope, Frame, frame_of, one_more_in, EndsAt, up_to, Stands}
+use Rattle.pb_parts.specs.Open.Purposes.{Means, part_context}
+use Rattle.pb_parts.specs.Close.Closing.{HasRoomFor}
+use Rattle.pb_whole.specs.Reads.{StandsIn, IsOpen, HasTagAt}
+use Rattle.pb_whole.specs.Entries.{more_in, IsMapOpen}
+use Rattle.pb_parts.proofs.PlaceLemmas.{passed_twice, place_behind, slice_from}
+use Rattle.pb_parts.proofs.WellLemmas.{message_good}
+use Rattle.pb_whole.proofs.Held.{entry_has_room}
+use Rattle.pb_parts.proofs.FrameLemmas.{entry_closes}
+use Rattle.pb_whole.proofs.Payloads.{payload_place, place_before, behind_inner, entry_begun, none_left, typed_tag}
+use Rattle.pb_parts.proofs.MapPuts.{mapped_next, pairs_next, fit_next, size_next, all_context}
+use Rattle.pb_parts.specs.declared.open.part.Slot.TheVariants as slot
+use Rattle.pb_parts.specs.declared.open.purpose.Purpose.TheVariants as purpose
+
+-- THE LEVELS stay
+pub more_room : (k n : ℕ) (s : Scope) → (more_in k n s).room ≡ s.room
+more_room k zero s = refl
+more_room k (suc n) s = more_room k n s
+
+-- AFTER A PAYLOAD, with or without a known end
+pub behind_payload :
+    (at : ℕ) (left : Option ℕ) (bytes : List ℕ) (start size : ℕ) (end : Option ℕ) → EndsAt (given_at at left bytes) end → up_to end (passed (payload_place at bytes start size) size) ≡ passed (given_at at left bytes) (start + size)
+behind_payload at (Some e) bytes start size end ends = behind_inner at e bytes start size end ends
+behind_payload at None bytes start size (Some e) (l, is, sum) = absurd (cc)
+behind_payload at None bytes start size None ends =
+    let at_is : (at + start) + size ≡ at + (start + size) = omega arith in
+    ap (λ (z : List ℕ). given_at ((at + start) + size) None z) (ap (drop size) (slice_from start bytes) ∙ drop-drop size start bytes)
+    ∙ ap (λ (z : ℕ). given_at z None (drop (start + size) bytes)) at_is
+
+-- THE PART THAT IS OPEN
+pub rises_in : {pool : Types} {m depth levels : ℕ} {base : List Record} {p0 : Place} {frames : List Frame} {scope : Scope} {q : Place} (ok : IsPool pool) (now : Part) → Stands pool m depth levels base p0 frames now scope q → RisesIn now
+rises_in {pool} ok (message_part c v) s = rises pool c v (message_good ok c v s).0
+  where
+    rises : (pool : Types) (c : ℕ) (v : Message) → IsBody pool c v → RisesFrom 0 (fields_of v)
+    rises pool c (body fs us) h = h.1
+rises_in ok (entry_part key2 k2 x d) s = tt
+rises_in ok (group_part us) s = tt
+
+pub entry_in_map :
+    {pool : Types} (bytes : List ℕ) (left : Option ℕ) (number tag_size start size room : ℕ) (key kd : Kind) → IsPool pool → IsMapOpen pool number key kd bytes left room
+    → HasTagAt bytes left number 2 tag_size → ((at : ℕ) → HasLength (passed (given_at at left bytes) tag_size) size (passed (given_at at left bytes) start))
+    → 0 < room → IsOpen pool (entry_part key kd None None) (take (length bytes - start) (drop start bytes)) size (room - 1)
+entry_in_map bytes left number tag_size start size room key kd ok from has l some = record {
+  m = from.m;
+  depth = from.depth;
+  levels = from.levels;
+  at = from.at + start;
+  base = from.base;
+  p0 = from.p0;
+  frames = frame_of from.now number (slot.Map number) false from.scope ∷ from.frames;
+  stands = entry_begun from.at left bytes number tag_size start size room key kd ok from.stands from.level (has from.at) (l from.at) from.means some;
+}
+
+mapped_is : (n : ℕ) (p : Part) (key kd : Kind) (x : Option Scalar) (d : Option Datum) (y : Scalar) (e : Datum) → y ≡ unwrap_or x (default_of key) → e ≡ unwrap_or d (missing (λ _ _. empty) kd) → put_mapped n (y, e) p ≡ put_entry (slot.Map n) p key kd x d
+mapped_is n (message_part m v) key kd x d y e a b =
+    ap (λ (z : Scalar). message_part m (with_fields v (insert_at n z e (fields_of v)))) a
+    ∙ ap (λ (z : Datum). message_part m (with_fields v (insert_at n (unwrap_or x (default_of key)) z (fields_of v)))) b
+mapped_is n (entry_part key2 kd2 x2 d2) key kd x d y e a b = refl
+mapped_is n (group_part us) key kd x d y e a b = refl
+
+room_is : (n : ℕ) (p : Part) (key : Kind) (x : Option Scalar) (y : Scalar) → y ≡ unwrap_or x (default_of key) → HasRoomFor (slot.Map n) p key x → FitsMapped n y p
+room_is n (message_part m v) key x y a h = subst (λ (z : Scalar). FitsKeys z (entries_of (get_field n (fields_of v)))) (sym a) h
+room_is n (entry_part key2 kd2 x2 d2) key x y a h = tt
+room_is n (group_part us) key x y a h = tt
+
+pub entry_taken :
+    {pool : Types} {m depth levels : ℕ} {base : List Record} {p0 : Place} {frames : List Frame} {scope : Scope} {now : Part} (at : ℕ) (left : Option ℕ) (bytes : List ℕ) (number start size inner : ℕ) (key kd : Kind) (x : Option Scalar) (d : Option Datum) (y : Scalar) (e : Datum) → IsPool pool
+    → Stands pool m depth levels base p0 frames now scope (given_at at left bytes)
+    → StandsIn pool m depth levels base p0 (frame_of now number (slot.Map number) false scope ∷ frames) inner (entry_part key kd x d) (passed (payload_place at bytes start size) size)
+    → y ≡ unwrap_or x (default_of key) → e ≡ unwrap_or d (missing (λ _ _. empty) kd)
+    → FitsMapped number y now × Stands pool m depth levels base p0 frames (put_mapped number (y, e) now) (one_more_in number scope) (passed (given_at at left bytes) (start + size))
+entry_taken {pool} {m} {depth} {levels} {base} {p0} {frames} {scope} {now} at left bytes number start size inner key kd x d y e ok s read a b = (
+  room_is number now key x y a (entry_has_room ok key kd x d read.1),
+  subst (Stands pool m depth levels base p0 frames (put_mapped number (y, e) now) (one_more_in number scope)) (behind_payload at left bytes start size scope.end s.ends)
+      (entry_closes (put_mapped number (y, e) now) read.1 refl (none_left size) (mapped_is number now key kd x d y e a b)),
+)
+
+-- the tag of a record of bytes of this number
+pub tag_of : (bytes : List ℕ) (left : Option ℕ) (number type size k : ℕ) → type ≡ 2 → number ≡ k → HasTagAt bytes left number type size → HasTagAt bytes left k 2 size
+tag_of bytes left number type size k two own has = subst (λ (z : ℕ). HasTagAt bytes left z 2 size) own (typed_tag bytes left number type 2 size two has)
+
+-- THE MAP is open where its message is
+pub map_open_in : {pool : Types} {now : Part} (bytes : List ℕ) (left room number : ℕ) (key kd : Kind) → IsOpen pool now bytes left room → Means pool (part_context now) number 2 (purpose.Entry key kd) → IsMapOpen pool number key kd bytes (Some left) room
+map_open_in {pool} {now} bytes left room number key kd from means = record {
+  m = from.m;
+  depth = from.depth;
+  levels = from.levels;
+  at = from.at;
+  base = from.base;
+  p0 = from.p0;
+  frames = from.frames;
+  scope = from.stands.0;
+  now = now;
+  stands = from.stands.1;
+  level = from.stands.2;
+  means = means;
+}
+
+pub run_filled :
+    {pool : Types} {m depth levels : ℕ} {base : List Record} {p0 : Place} {frames : List Frame} {new : Part} {q : Place} (scope : Scope) (now : Part) (number room : ℕ) (items : List (MapKey × Value)) → scope.room ≡ room → new ≡ put_all_mapped number (pairs_view items) now
+    → Stands pool m depth levels base p0 frames (put_all_mapped number (pairs_view items) now) (more_in number (length items) scope) q → StandsIn pool m depth levels base p0 frames room new q
+run_filled {pool} {m} {depth} {levels} {base} {p0} {frames} {new} {q} scope now number room items level is there =
+    (more_in number (length items) scope, subst (λ (z : Part). Stands pool m depth levels base p0 frames z (more_in number (length items) scope) q) (sym is) there, more_room number (length items) scope ∙ level)
+
+-- ONE MORE ENTRY
+pub means_along : (pool : Types) (number k : ℕ) (xs : List (Scalar × Datum)) (now : Part) (key kd : Kind) → Means pool (part_context now) k 2 (purpose.Entry key kd) → Means pool (part_context (put_all_mapped number xs now)) k 2 (purpose.Entry key kd)
+means_along pool number k xs now key kd means = subst (λ z. Means pool z k 2 (purpose.Entry key kd)) (sym (all_context number xs now)) means
+
+pub run_further :
+    {pool : Types} {m depth levels : ℕ} {base : List Record} {p0 : Place} {frames : List Frame} (scope : Scope) (now : Part) (p : Place) (here size number : ℕ) (items new : List (MapKey × Value)) (e : MapKey × Value) → new ≡ items ++ e ∷ []
+    → FitMapped number (pairs_view items) now → FitsMapped number (key_view e.0) (put_all_mapped number (pairs_view items) now)
+    → Stands pool m depth levels base p0 frames (put_mapped number (key_view e.0, value_view e.1) (put_all_mapped number (pairs_view items) now)) (one_more_in number (more_in number (length items) scope)) (passed (passed p here) size)
+    → FitMapped number (pairs_view new) now × Stands pool m depth levels base p0 frames (put_all_mapped number (pairs_view new) now) (more_in number (length new) scope) (passed p (here + size))
+run_further {pool} {m} {depth} {levels} {base} {p0} {frames} scope now p here size number items new e is fit one there =
+    subst (λ (l : List (MapKey × Value)). FitMapped number (pairs_view l) now × Stands pool m depth levels base p0 frames (put_all_mapped number (pairs_view l) now) (more_in number (length l) scope) (passed p (here + size))) (sym is) (
+      subst (λ (xs : List (Scalar × Datum)). FitMapped number xs now) (sym (pairs_next items e)) (fit_next number (pairs_view items) (key_view e.0, value_view e.1) now fit one),
+      subst (λ (z : Part). Stands pool m depth levels base p0 frames z (more_in number (length (items ++ e ∷ [])) scope) (passed p (here + size)))
+          (sym (ap (λ (xs : List (Scalar × Datum)). put_all_mapped number xs now) (pairs_next items e) ∙ mapped_next number (pairs_view items) (key_view e.0, value_view e.1) now))
+          (subst (λ (n : ℕ). Stands pool m depth levels base p0 frames (put_mapped number (key_view e.0, value_view e.1) (put_all_mapped number (pairs_view items) now)) (more_in number n scope) (passed p (here + size))) (sym (size_next items e))
+          (subst (Stands pool m depth levels base p0 frames (put_mapped number (key_view e.0, value_view e.1) (put_all_mapped number (pairs_view items) now)) (one_more_in number (more_in number (length items) scope))) (passed_twice p here size) there)),
+    )
+
+pub open_further :
+    {pool : Types} {number : ℕ} {key kd : Kind} {bytes : List ℕ} {left : Option ℕ} {room : ℕ} (from : IsMapOpen pool number key kd bytes left room) (here : ℕ) (behind : Option ℕ) (items : List (MapKey × Value)) → behind ≡ option_map (λ (e : ℕ). e - here) left
+    → Stands pool from.m from.depth from.levels from.base from.p0 from.frames (put_all_mapped number (pairs_view items) from.now) (more_in number (length items) from.scope) (passed (given_at from.at left bytes) here)
+    → IsMapOpen pool number key kd (take (length bytes - here) (drop here bytes)) behind room
+open_further {pool} {number} {key} {kd} {bytes} {left} from here behind items is there = record {
+  m = from.m;
+  depth = from.depth;
+  levels = from.levels;
+  at = from.at + here;
+  base = from.base;
+  p0 = from.p0;
+  frames = from.frames;
+  scope = more_in number (length items) from.scope;
+  now = put_all_mapped number (pairs_view items) from.now;
+  stands =
+      subst (Stands pool from.m from.depth from.levels from.base from.p0 from.frames (put_all_mapped number (pairs_view items) from.now) (more_in number (length items) from.scope))
+      (place_behind from.at left behind bytes here is) there;
+  level = more_room number (length items) from.scope ∙ from.level;
+  means = means_along pool number number (pairs_view items) from.now key kd from.means;
+}
+
+pub none_read :
+    {pool : Types} {m depth levels : ℕ} {base : List Record} {p0 : Place} {frames : List Frame} {scope : Scope} {now : Part} (at : ℕ) (left : Option ℕ) (bytes : List ℕ) (number : ℕ) (items : List (MapKey × Value)) → items ≡ []
+    → Stands pool m depth levels base p0 frames now scope (given_at at left bytes)
+    → FitMapped number (pairs_view items) now × Stands pool m depth levels base p0 frames (put_all_mapped number (pairs_view items) now) (more_in number (length items) scope) (passed (given_at at left bytes) 0)
+none_read {pool} {m} {depth} {levels} {base} {p0} {frames} {scope} {now} at left bytes number items none there =
+    subst (λ (l : List (MapKey × Value)). FitMapped number (pairs_view l) now × Stands pool m depth levels base p0 frames (put_all_mapped number (pairs_view l) now) (more_in number (length l) scope) (passed (given_at at left bytes) 0)) (sym none)
+    (tt, subst (Stands pool m depth levels base p0 frames now scope) (place_before (given_at at left bytes)) there)

@@ -1,0 +1,118 @@
+-- What comes after a tag.
+use Rattle.std.proofs.Common.{◌≡◌, inl, inr, ℕ, ◌+◌, ◌-◌, ◌≤◌, List, take, drop, length, refl, sym, ap, subst, arith, length-drop, Option, Some, None, option_map}
+use Rattle.std.specs.Prelude.{true}
+use Rattle.std.proofs.lemmas.Bool.{false≢true}
+use Rattle.pb_wire.specs.Record.{Record}
+use Rattle.pb_wire.specs.Fault.{Place, Moves, Reads as ReadsNumber, HasTag, HasLength}
+use Rattle.pb_wire.specs.Token.{given_at, passed}
+use Rattle.pb_wire.proofs.TokenLemmas.{moves_passed}
+use Rattle.pb_schema.specs.Types.{Types}
+use Rattle.pb_parts.specs.declared.open.purpose.Purpose.{Purpose}
+use Rattle.pb_parts.specs.declared.tokens.step.Step.{Step}
+use Rattle.pb_parts.specs.Values.PayloadValue.{IsBytesPurpose}
+use Rattle.pb_parts.specs.Open.Purposes.{Means, part_context}
+use Rattle.pb_parts.specs.Open.Frames.{Part, Scope, Frame, EndsAt, Stands}
+use Rattle.pb_parts.specs.Tokens.After.{tag, awaited, goes_down, IsRoomFor, After}
+use Rattle.pb_parts.specs.Tokens.Number.{IsNumberType}
+use Rattle.pb_parts.proofs.AfterLemmas.{after_tag, after_length}
+use Rattle.pb_parts.proofs.DeepLemmas.{reads_below}
+use Rattle.pb_parts.proofs.PlaceLemmas.{slice_from, passed_twice}
+use Rattle.pb_parts.specs.declared.open.purpose.Purpose.TheVariants as purpose
+use Rattle.pb_parts.specs.declared.tokens.step.Step.TheVariants as step
+
+-- WHAT BEGINS the bytes after some of them comes after those
+pub there_behind :
+    (P : Place → Place → Type 0) (at : ℕ) (left behind : Option ℕ) (rest : List ℕ) (used more : ℕ) → behind ≡ option_map (λ (e : ℕ). e - used) left
+    → P (given_at (at + used) behind (take (length rest - used) (drop used rest))) (passed (given_at (at + used) behind (take (length rest - used) (drop used rest))) more)
+    → P (passed (given_at at left rest) used) (passed (given_at at left rest) (used + more))
+there_behind P at left behind rest used more is h =
+    subst (P (passed (given_at at left rest) used)) (passed_twice (given_at at left rest) used more)
+    (subst (λ (z : Option ℕ). P (given_at (at + used) z (drop used rest)) (passed (given_at (at + used) z (drop used rest)) more)) is
+    (subst (λ (z : List ℕ). P (given_at (at + used) behind z) (passed (given_at (at + used) behind z) more)) (slice_from used rest) h))
+
+-- A TAG of a record that opens nothing: its value or its length comes next
+pub tag_next :
+    {pool : Types} {m depth levels : ℕ} {base : List Record} {p0 : Place} {frames : List Frame} {scope : Scope} {now : Part} {q u : Place} (next : Step) (k w : ℕ) (meant : Purpose)
+    → Stands pool m depth levels base p0 frames now scope q → awaited next ≡ Some (tag k w meant) → HasTag q k w u → Means pool (part_context now) k w meant → (goes_down meant ≡ true → ⊥) → After pool m depth levels base p0 frames next now scope u
+tag_next next k w meant s is has means stays = after_tag next (tag k w meant) s is has means (λ deep. absurd (stays deep))
+
+pub number_stays : (pool : Types) (now : Part) (k w : ℕ) (meant : Purpose) → Means pool (part_context now) k w meant → IsNumberType w → goes_down meant ≡ true → ⊥
+number_stays pool now k w meant means type deep = let two : w ≡ 2 = (reads_below pool now k w meant means deep (no_start type)).0 in by_type type two
+  where
+    no_start : IsNumberType w → w ≡ 3 → ⊥
+    no_start (inl e) three = absurd (omega (arith, e, three))
+    no_start (inr (inl e)) three = absurd (omega (arith, e, three))
+    no_start (inr (inr e)) three = absurd (omega (arith, e, three))
+
+    by_type : IsNumberType w → w ≡ 2 → ⊥
+    by_type (inl e) two = absurd (omega (arith, e, two))
+    by_type (inr (inl e)) two = absurd (omega (arith, e, two))
+    by_type (inr (inr e)) two = absurd (omega (arith, e, two))
+
+pub bytes_stay : (meant : Purpose) → IsBytesPurpose meant → goes_down meant ≡ true → ⊥
+bytes_stay (purpose.One k s) bytes deep = false≢true deep
+bytes_stay (purpose.Element k) bytes deep = false≢true deep
+bytes_stay (purpose.Key k) bytes deep = false≢true deep
+bytes_stay (purpose.EntryValue k) bytes deep = false≢true deep
+bytes_stay purpose.Unknown bytes deep = false≢true deep
+bytes_stay (purpose.Packed k) bytes deep = bytes
+bytes_stay (purpose.Message j s) bytes deep = bytes
+bytes_stay (purpose.Entry key k) bytes deep = bytes
+
+-- after the tag of a number
+pub number_next :
+    {pool : Types} {m depth levels : ℕ} {base : List Record} {p0 : Place} {frames : List Frame} {scope : Scope} {now : Part} {q u : Place} (k w : ℕ) (meant : Purpose) → IsNumberType w
+    → Stands pool m depth levels base p0 frames now scope q → HasTag q k w u → Means pool (part_context now) k w meant → (next : Step) × (awaited next ≡ Some (tag k w meant)) × After pool m depth levels base p0 frames next now scope u
+number_next {pool} {m} {depth} {levels} {base} {p0} {frames} {scope} {now} {q} {u} k w meant type s has means = by_type type
+  where
+    by_step : (next : Step) → awaited next ≡ Some (tag k w meant) → (next : Step) × (awaited next ≡ Some (tag k w meant)) × After pool m depth levels base p0 frames next now scope u
+    by_step next is = (next, is, tag_next next k w meant s is has means (number_stays pool now k w meant means type))
+
+    by_type : IsNumberType w → (next : Step) × (awaited next ≡ Some (tag k w meant)) × After pool m depth levels base p0 frames next now scope u
+    by_type (inl e) = by_step (step.Varint k meant) (ap (λ (z : ℕ). Some (tag k z meant)) (sym e))
+    by_type (inr (inl e)) = by_step (step.I64 k meant) (ap (λ (z : ℕ). Some (tag k z meant)) (sym e))
+    by_type (inr (inr e)) = by_step (step.I32 k meant) (ap (λ (z : ℕ). Some (tag k z meant)) (sym e))
+
+-- after the tag of a record that opens something, where a level is left for it
+pub opening_next :
+    {pool : Types} {m depth levels : ℕ} {base : List Record} {p0 : Place} {frames : List Frame} {scope : Scope} {now : Part} {q u : Place} (k : ℕ) (meant : Purpose)
+    → Stands pool m depth levels base p0 frames now scope q → HasTag q k 2 u → Means pool (part_context now) k 2 meant → IsRoomFor scope.room meant → After pool m depth levels base p0 frames (step.Length k meant) now scope u
+opening_next k meant s has means room = after_tag (step.Length k meant) (tag k 2 meant) s refl has means room
+
+-- A PAYLOAD of bytes after its tag and its length
+-- a tag and a length end before the known end
+before_end : (at e : ℕ) (rest : List ℕ) (used start : ℕ) {k w n : ℕ} → HasTag (given_at at (Some e) rest) k w (passed (given_at at (Some e) rest) used)
+    → ReadsNumber (passed (given_at at (Some e) rest) used) n (passed (given_at at (Some e) rest) start) → start ≤ e
+before_end at e rest used start has h =
+    let tag = has.tag.2.within in
+    let tag_at = has.tag.2.at in
+    let size = h.2.within in
+    let size_at = h.2.at in
+    omega (arith, tag, tag_at, size, size_at)
+
+-- a length that fits where the tag begins at 0 fits anywhere
+pub length_there :
+    (at : ℕ) (left : Option ℕ) (rest : List ℕ) (used start : ℕ) {k w n size : ℕ} → HasTag (given_at at left rest) k w (passed (given_at at left rest) used)
+    → ((at : ℕ) → ReadsNumber (passed (given_at at left rest) used) n (passed (given_at at left rest) start)) → size ≡ n
+    → ((u t : Place) → ReadsNumber u n t → t.at ≡ start → EndsAt t left → HasLength u size t) → HasLength (passed (given_at at left rest) used) size (passed (given_at at left rest) start)
+length_there at left rest used start {n = n} has reads is fits =
+    let from_front : 0 + start ≡ start = omega arith in
+    let there = fits (passed (given_at 0 left rest) used) (passed (given_at 0 left rest) start) (reads 0) from_front (ends left has (reads at)) in
+    record { length_is = subst (λ (z : ℕ). ReadsNumber (passed (given_at at left rest) used) z (passed (given_at at left rest) start)) (sym is) (reads at); small = there.small; within = there.within }
+  where
+    ends : (e : Option ℕ) {k w : ℕ} → HasTag (given_at at e rest) k w (passed (given_at at e rest) used) → ReadsNumber (passed (given_at at e rest) used) n (passed (given_at at e rest) start)
+        → EndsAt (passed (given_at 0 e rest) start) e
+    ends None has h = refl
+    ends (Some e) has h = let before = before_end at e rest used start has h in (e - start, refl, omega (arith, before))
+
+pub bytes_next :
+    {pool : Types} {m depth levels : ℕ} {base : List Record} {p0 : Place} {frames : List Frame} {scope : Scope} {now : Part} {q u t : Place} (k n : ℕ) (meant : Purpose)
+    → Stands pool m depth levels base p0 frames now scope q → HasTag q k 2 u → Means pool (part_context now) k 2 meant → IsBytesPurpose meant → HasLength u n t → After pool m depth levels base p0 frames (step.Payload k meant n) now scope t
+bytes_next k n meant s has means bytes l = after_length k meant n (tag_next (step.Length k meant) k 2 meant s refl has means (bytes_stay meant bytes)) refl bytes l
+
+pub payload_leads : (p : Place) (start size : ℕ) (u : Place) → start + size ≤ length p.rest → HasLength u size (passed p start) → Moves (passed p start) (take ((start + size) - start) (drop start p.rest)) (passed p (start + size))
+payload_leads p start size u within l =
+    let same : (start + size) - start ≡ size = omega arith in
+    let left = length-drop start p.rest in
+    subst (λ (z : ℕ). Moves (passed p start) (take z (drop start p.rest)) (passed p (start + size))) (sym same)
+    (subst (Moves (passed p start) (take size (drop start p.rest))) (passed_twice p start size) (moves_passed (passed p start) size (omega (arith, within, left)) l.within))

@@ -1,0 +1,44 @@
+-- The number goes into the part.
+use Rattle.std.proofs.Common.{ℕ, ◌+◌, ◌∙◌, Some, sym, ap, arith, length, length-drop}
+use Rattle.pb_wire.specs.Fault.{Place}
+use Rattle.pb_wire.specs.Token.{given_at, passed}
+use Rattle.pb_parts.specs.Tokens.Number.{number_view}
+use Rattle.pb_parts.specs.Tokens.Numbers.{Follows}
+use Rattle.pb_parts.specs.Open.Frames.{one_more_in}
+use Rattle.pb_parts.specs.Tokens.After.{tag}
+use Rattle.pb_parts.proofs.PlaceLemmas.{slice_from}
+use Rattle.pb_whole.proofs.Tags.{there_behind, number_next}
+use Rattle.pb_whole.proofs.Payloads.{open_can}
+use Rattle.pb_whole.proofs.reader.Reader.read_one.Goals as goal
+
+pub put_number-requires-clause-can : goal.put_number-requires-clause-can
+put_number-requires-clause-can c = open_can c.requires.at_tag.can.rules c.requires.at_tag.can.is_open
+
+pub returns-in_ok-put_number-in-Whole-clause-read : goal.returns-in_ok-put_number-in-Whole-clause-read
+returns-in_ok-put_number-in-Whole-clause-read c =
+    λ m depth levels at base p0 frames there.
+    let p = given_at at (Some c.args.left.remaining) c.args.bytes.now in
+    let told = c.in-Whole.ensures (at + c.args.tag.size) in
+    let follows =
+    there_behind (λ (q r : Place). Follows q (number_view c.in-Whole.value) r) at (Some c.args.left.remaining) c.left_behind-after.result c.args.bytes.now c.args.tag.size c.in-Whole.size c.left_behind-after.ensures told.2 in
+    let next = number_next c.args.tag.number c.args.tag.wire_type c.args.purpose c.requires.number there.1 (c.requires.at_tag.there at) c.requires.means in (
+      one_more_in c.args.tag.number there.0,
+      c.in_ok-put_number-in-Whole.ensures m depth levels base p0 (passed p c.args.tag.size) (passed p (c.args.tag.size + c.in-Whole.size)) frames there.0 next.0 next.2
+          (next.1 ∙ ap (λ (z : ℕ). Some (tag c.args.tag.number z c.args.purpose)) (sym told.0)) follows,
+      there.2,
+    )
+
+pub returns-in_ok-put_number-in-Whole-clause-passes : goal.returns-in_ok-put_number-in-Whole-clause-passes
+returns-in_ok-put_number-in-Whole-clause-passes c =
+    let is = ap length (slice_from c.args.tag.size c.args.bytes.now) ∙ length-drop c.args.tag.size c.args.bytes.now in
+    let behind = (c.in-Whole.ensures 0).1 in
+    let within = c.requires.at_tag.within in
+    (omega arith, omega (arith, is, behind, within))
+
+pub overflow_add-result : goal.overflow_add-result
+overflow_add-result c =
+    let is = ap length (slice_from c.args.tag.size c.args.bytes.now) ∙ length-drop c.args.tag.size c.args.bytes.now in
+    let behind = (c.in-Whole.ensures 0).1 in
+    let within = c.requires.at_tag.within in
+    let small = c.requires.at_tag.can.small in
+    omega (arith, is, behind, within, small)

@@ -1,0 +1,4 @@
+pub mod Lengths
+pub mod Reads
+pub mod Listed
+pub mod Entries

@@ -1,0 +1,65 @@
+-- What is read into a part, wherever it is open: of any type, any levels, any records before and any first place.
+pub mod Groups
+use Rattle.std.specs.Prelude.{◌≡◌, ◌<◌, ◌≤◌, ◌^◌, ℕ, List, Option, Some, Result, IfOk, OnOk, length}
+use Rattle.pb_wire.specs.Record.{Record}
+use Rattle.pb_wire.specs.Fault.{Place, HasTag}
+use Rattle.pb_wire.specs.Token.{given_at, passed}
+use Rattle.pb_schema.specs.Types.{Types}
+use Rattle.pb_schema.specs.Rules.{IsPool}
+use Rattle.pb_parts.specs.declared.tokens.record_tag.RecordTag.{RecordTag}
+use Rattle.pb_parts.specs.declared.open.part.Part.{Part as PartKept}
+use Rattle.pb_parts.specs.Open.Frames.{Part, Scope, Frame, Stands}
+use Rattle.pb_parts.specs.Open.PartView.{part_view}
+use Rattle.pb_whole.specs.declared.reader.Left.{Left}
+
+-- with some scope that has this many levels left, whole records of a part end at a place
+abbrev pub StandsIn : Types → ℕ → ℕ → ℕ → List Record → Place → List Frame → ℕ → Part → Place → Type 0
+StandsIn pool m depth levels base p0 frames room now q =
+    (scope : Scope) × Stands pool m depth levels base p0 frames now scope q × (scope.room ≡ room)
+
+-- somewhere the part is open, and these bytes come next in it, of which some are before its known end
+pub record IsOpen (pool : Types) (now : Part) (bytes : List ℕ) (left room : ℕ) : Type 0 where
+  pub m : ℕ
+  pub depth : ℕ
+  pub levels : ℕ
+  pub at : ℕ
+  pub base : List Record
+  pub p0 : Place
+  pub frames : List Frame
+  pub stands : StandsIn pool m depth levels base p0 frames room now (given_at at (Some left) bytes)
+
+-- the pool meets its rules, somewhere the part is open, and the bytes that come next in it are fewer than 2 GiB
+pub record CanRead (pool : Types) (now : PartKept) (bytes : List ℕ) (left : Left) : Type 0 where
+  pub rules : IsPool pool
+  pub is_open : IsOpen pool (part_view now) bytes left.remaining left.depth_left
+  pub small : length bytes < 2 ^ 31
+
+-- a tag begins the bytes, before the known end
+abbrev pub HasTagAt : List ℕ → Option ℕ → ℕ → ℕ → ℕ → Type 0
+HasTagAt bytes left number type size = (at : ℕ) → HasTag (given_at at left bytes) number type (passed (given_at at left bytes) size)
+
+-- and a tag begins them
+pub record IsAtTag (pool : Types) (now : PartKept) (bytes : List ℕ) (left : Left) (tag : RecordTag) : Type 0 where
+  pub can : CanRead pool now bytes left
+  pub some : 0 < tag.size
+  pub within : tag.size ≤ length bytes
+  pub there : HasTagAt bytes (Some left.remaining) tag.number tag.wire_type tag.size
+
+-- whole sound records are read: the part is worth those before and these
+abbrev pub ReadsTo : Types → Part → Part → List ℕ → ℕ → ℕ → ℕ → Type 0
+ReadsTo pool old new bytes left room used =
+    (m depth levels at : ℕ) (base : List Record) (p0 : Place) (frames : List Frame)
+    → StandsIn pool m depth levels base p0 frames room old (given_at at (Some left) bytes)
+    → StandsIn pool m depth levels base p0 frames room new (passed (given_at at (Some left) bytes) used)
+
+-- where a record is read, it takes this many bytes
+abbrev pub ReadsOne : {E : Type 0} → Types → PartKept → PartKept → List ℕ → Left → Result ℕ E → Type 0
+ReadsOne pool old new bytes left result = IfOk result (ReadsTo pool (part_view old) (part_view new) bytes left.remaining left.depth_left)
+
+-- where all are read
+abbrev pub ReadsAll : {E : Type 0} → Types → PartKept → PartKept → List ℕ → Left → Result Unit E → Type 0
+ReadsAll pool old new bytes left result = OnOk result (ReadsTo pool (part_view old) (part_view new) bytes left.remaining left.depth_left left.remaining)
+
+-- a record takes its tag at least, and no more than there is
+abbrev pub Passes : {E : Type 0} → ℕ → List ℕ → Result ℕ E → Type 0
+Passes least bytes result = IfOk result (λ used. (least ≤ used) × (used ≤ length bytes))

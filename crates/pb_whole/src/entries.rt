@@ -1,0 +1,155 @@
+//! Map entries. Those of one map that follow each other go into it at once: many are sorted first.
+
+ghost use Rattle.std.specs.Prelude.{◌≡◌, ◌≤◌, ◌<◌, ◌^◌, Some, length, IfOk, IfSome};
+ghost use Rattle.pb_schema.specs.Rules.{IsPool};
+ghost use Rattle.pb_parts.specs.declared.open.purpose.Purpose.TheVariants as purposes;
+ghost use Rattle.pb_parts.specs.Open.PartView.{part_view};
+ghost use Rattle.pb_parts.specs.Open.Purposes.{Means, part_context};
+ghost use Rattle.pb_whole.specs.Reads.{HasTagAt, IsAtTag, Passes, ReadsOne};
+ghost use Rattle.pb_whole.specs.Entries.{IsMapOpen, AddsEntry, ReadsEntries};
+
+use crate::reader::{Left, Reader};
+use crate::tokens::{payload_after, tag_again};
+use pb_parts::close::closing::{key_or_default, value_or_missing};
+use pb_parts::close::put_entries::put_entries;
+use pb_parts::error::NoMemory;
+use pb_parts::open::part::Part;
+use pb_parts::tokens::record_tag::RecordTag;
+use pb_schema::Kind;
+use pb_value::{MapKey, Value};
+
+/// After a shorter record no more are read before those so far are in the map, so that the memory for them follows their bytes, also
+/// where keys repeat.
+const MIN_RUN_ENTRY_BYTES: usize = 8;
+
+/// The tag of an entry of the map of a number that begins the bytes after an entry of this size, if one comes there.
+#[inline(always)]
+fn entry_tag(number: u32, last: usize, bytes: &[u8], remaining: u32) -> Option<RecordTag>
+    ensures own { IfSome result (λ t. (t.number ≡ number) × (t.wire_type ≡ 2)) }
+    ensures within { IfSome result (λ t. (0 < t.size) × (t.size ≤ length bytes.now)) }
+    ensures whole { IfSome result (λ t. HasTagAt bytes.now (Some remaining) t.number t.wire_type t.size) }
+{
+    if last < MIN_RUN_ENTRY_BYTES {
+        return None;
+    }
+    tag_again(number, 2, bytes, remaining)
+}
+
+impl Reader<'_> {
+    /// Puts the key and the value of the entry after a tag after those before them, and how many bytes its record takes.
+    #[cycle(read)]
+    #[inline(always)]
+    fn entry_after(
+        &self,
+        tag: RecordTag,
+        key_kind: Kind,
+        value_kind: Kind,
+        bytes: &[u8],
+        left: Left,
+        entries: &mut Vec<(MapKey, Value)>,
+    ) -> Result<usize, NoMemory>
+        requires rules { IsPool self.now.pool.now }
+        requires open { IsMapOpen self.now.pool.now tag.number key_kind value_kind bytes.now (Some left.remaining) left.depth_left }
+        requires level { 0 < left.depth_left }
+        requires small { length bytes.now < 2 ^ 31 }
+        requires bytes { tag.wire_type ≡ 2 }
+        requires within { (0 < tag.size) × (tag.size ≤ length bytes.now) }
+        requires tag { HasTagAt bytes.now (Some left.remaining) tag.number tag.wire_type tag.size }
+        ensures within { IfOk result (λ n. (0 < n) × (n ≤ length bytes.now)) }
+        ensures put { AddsEntry self.now.pool.now tag.number key_kind value_kind bytes.now (Some left.remaining) left.depth_left
+            entries.old.items entries.new.items result }
+    {
+        let Some((start, size)) = payload_after(tag.size, bytes, left) else {
+            return Err(NoMemory);
+        };
+        let mut entry = Part::Entry {
+            key_kind,
+            value_kind,
+            key: None,
+            value: None,
+        };
+        let within = Left {
+            remaining: size,
+            depth_left: left.depth_left - 1,
+        };
+        self.read_records(&mut entry, &bytes[start..], within)?;
+        match entry {
+            Part::Entry {
+                key_kind,
+                value_kind,
+                key,
+                value,
+            } => {
+                let key = key_or_default(self.alloc, key_kind, key);
+                let value = value_or_missing(self.alloc, value_kind, value);
+                entries.push((key, value))?;
+                Ok(start + size as usize)
+            }
+            Part::Message(_kind, _body) => Err(NoMemory),
+            Part::Group(_records) => Err(NoMemory),
+        }
+    }
+
+    /// The entries of the map of a number whose records follow each other from the first byte on, and how many bytes these take.
+    #[cycle(read)]
+    fn entries_from(
+        &self,
+        number: u32,
+        key_kind: Kind,
+        value_kind: Kind,
+        bytes: &[u8],
+        left: Left,
+    ) -> Result<(Vec<(MapKey, Value)>, usize), NoMemory>
+        requires rules { IsPool self.now.pool.now }
+        requires open { IsMapOpen self.now.pool.now number key_kind value_kind bytes.now (Some left.remaining) left.depth_left }
+        requires level { 0 < left.depth_left }
+        requires small { length bytes.now < 2 ^ 31 }
+        ensures within { IfOk result (λ r. r.1 ≤ length bytes.now) }
+        ensures put { ReadsEntries self.now.pool.now number key_kind value_kind bytes.now (Some left.remaining) left.depth_left result }
+    {
+        let mut entries = Vec::new(self.alloc);
+        let mut here = 0;
+        let mut last = MIN_RUN_ENTRY_BYTES;
+        while let Some(tag) = entry_tag(number, last, &bytes[here..], left.after(here).remaining) {
+            let size = self.entry_after(
+                tag,
+                key_kind,
+                value_kind,
+                &bytes[here..],
+                left.after(here),
+                &mut entries,
+            )?;
+            here += size;
+            last = size;
+        }
+        Ok((entries, here))
+    }
+
+    /// Puts the entry after a tag into the map of a message, with those of the same map that follow it, and how many bytes their
+    /// records take.
+    #[cycle(read)]
+    pub(crate) fn read_entries(
+        &self,
+        part: &mut Part,
+        tag: RecordTag,
+        key_kind: Kind,
+        value_kind: Kind,
+        bytes: &[u8],
+        left: Left,
+    ) -> Result<usize, NoMemory>
+        requires at_tag { IsAtTag self.now.pool.now part.old bytes.now left tag }
+        requires means { Means self.now.pool.now (part_context (part_view part.old)) tag.number 2 (purposes.Entry key_kind value_kind) }
+        ensures passes { Passes tag.size bytes.now result }
+        ensures read { ReadsOne self.now.pool.now part.old part.new bytes.now left result }
+    {
+        if left.depth_left == 0 {
+            return Err(NoMemory);
+        }
+        let (entries, used) = self.entries_from(tag.number, key_kind, value_kind, bytes, left)?;
+        if used < tag.size {
+            return Err(NoMemory);
+        }
+        put_entries(self.alloc, part, tag.number, entries)?;
+        Ok(used)
+    }
+}

@@ -1,0 +1,72 @@
+//! Numbers.
+
+ghost use Rattle.pb_parts.specs.Open.PartView.{part_view};
+ghost use Rattle.pb_parts.specs.Open.Purposes.{Means, part_context};
+ghost use Rattle.pb_parts.specs.Tokens.Number.{IsNumberType};
+ghost use Rattle.pb_whole.specs.Reads.{IsAtTag, Passes, ReadsOne};
+
+use crate::reader::{Left, Reader};
+use pb_parts::error::NoMemory;
+use pb_parts::open::part::Part;
+use pb_parts::open::purpose::{Purpose, purpose_of};
+use pb_parts::tokens::number_token::{NumberToken, number_at};
+use pb_parts::tokens::record_tag::{RecordTag, left_behind};
+use pb_parts::values::put_number::put_number;
+
+impl Reader<'_> {
+    /// Puts the number after a tag into a part, and how many bytes its record takes.
+    #[inline(always)]
+    pub(crate) fn read_one(
+        &self,
+        part: &mut Part,
+        tag: RecordTag,
+        purpose: Purpose,
+        bytes: &[u8],
+        left: Left,
+    ) -> Result<usize, NoMemory>
+        requires at_tag { IsAtTag self.now.pool.now part.old bytes.now left tag }
+        requires number { IsNumberType tag.wire_type }
+        requires means { Means self.now.pool.now (part_context (part_view part.old)) tag.number tag.wire_type purpose }
+        ensures passes { Passes tag.size bytes.now result }
+        ensures read { ReadsOne self.now.pool.now part.old part.new bytes.now left result }
+    {
+        let after = left_behind(Some(left.remaining), tag.size);
+        match number_at(tag.wire_type, &bytes[tag.size..], after) {
+            NumberToken::Whole(value, size) => {
+                put_number(self.alloc, self.pool, part, tag.number, purpose, value)?;
+                Ok(tag.size + size)
+            }
+            NumberToken::Short => Err(NoMemory),
+            NumberToken::Fault(_) => Err(NoMemory),
+        }
+    }
+
+    /// Puts the number after a tag into a part, and how many bytes its record takes. An element takes those of its list with it that follow it.
+    #[inline(always)]
+    pub(crate) fn read_number(
+        &self,
+        part: &mut Part,
+        tag: RecordTag,
+        bytes: &[u8],
+        left: Left,
+    ) -> Result<usize, NoMemory>
+        requires at_tag { IsAtTag self.now.pool.now part.old bytes.now left tag }
+        requires number { IsNumberType tag.wire_type }
+        ensures passes { Passes tag.size bytes.now result }
+        ensures read { ReadsOne self.now.pool.now part.old part.new bytes.now left result }
+    {
+        let purpose = purpose_of(self.pool, part, tag.number, tag.wire_type);
+        match purpose {
+            Purpose::Element(kind) => self.read_elements(part, tag, kind, bytes, left),
+            Purpose::One(kind, shape) => {
+                self.read_one(part, tag, Purpose::One(kind, shape), bytes, left)
+            }
+            Purpose::Key(_)
+            | Purpose::EntryValue(_)
+            | Purpose::Packed(_)
+            | Purpose::Message(_, _)
+            | Purpose::Entry(_, _)
+            | Purpose::Unknown => self.read_one(part, tag, purpose, bytes, left),
+        }
+    }
+}
