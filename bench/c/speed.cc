@@ -1,4 +1,5 @@
-// Times mb_check and mb_canon beside libprotobuf's dynamic messages and, built with -DUPB, beside upb, in one process: speed SET TYPE ROUNDS FILE..
+// Times mb_check and mb_canon beside libprotobuf's dynamic messages and, built with -DUPB, beside upb, and mb_find and mb_message_decode by themselves,
+// in one process: speed SET TYPE ROUNDS FILE..
 //
 // SET is what protoc --include_imports --descriptor_set_out wrote; the files are those of bench/texts/make_texts.py. Each round times each call on all
 // texts of a file in turn, by processor time; the best round counts. A line for each file and call tells the bytes and the nanoseconds. With no file
@@ -56,6 +57,21 @@ static bool check(const std::string& text) {
     return mb_check(&types, number, bytes_of(text), text.size(), MB_MAX_BYTES, MB_MAX_DEPTH, &fault, path, MB_MAX_STEPS) == MB_DONE;
 }
 
+// The field 10 of the message in field 11, which none of the texts has: all records of the message are passed over.
+static bool find(const std::string& text) {
+    const uint32_t numbers[] = {11, 10};
+    mb_value value;
+    return mb_find(&types, number, bytes_of(text), text.size(), MB_MAX_BYTES, MB_MAX_DEPTH, numbers, 2, &value, nullptr, 0, &fault, path,
+                   MB_MAX_STEPS) == MB_ABSENT;
+}
+
+static bool decode(const std::string& text) {
+    mb_message message = {};
+    uint32_t answer = mb_message_decode(&types, number, bytes_of(text), text.size(), MB_MAX_BYTES, MB_MAX_DEPTH, &message, &fault, path, MB_MAX_STEPS);
+    mb_message_free(&message);
+    return answer == MB_DONE;
+}
+
 static bool canon(const std::string& text) {
     size_t size;
     return mb_canon(&types, number, bytes_of(text), text.size(), MB_MAX_BYTES, MB_MAX_DEPTH, out.data(), out.size(), &size, &fault, path,
@@ -83,6 +99,8 @@ static const std::vector<std::pair<const char*, Call>> calls = {
 #ifdef UPB
     {"check upb", [](const std::string& text) { return upb_read(text.data(), text.size()); }},
 #endif
+    {"find here", find},
+    {"decode here", decode},
     {"canon here", canon},
     {"canon libprotobuf", rewrite},
 #ifdef UPB

@@ -40,3 +40,5 @@ pub mod OneSourcePool
 pub mod PlaceAnswers
 -- what is told of a scalar that was looked for
 pub mod FoundTelling
+-- for `mb_canon`: bytes that are the canonical bytes of their message
+pub mod Copied

@@ -8,3 +8,7 @@ pub mod UnknownLemmas
 pub mod HeldLemmas
 -- fields and messages
 pub mod FieldLemmas
+-- bytes begin with one varint, one tag and one payload only
+pub mod SameLemmas
+-- oneofs: marks, records of members, and the fields that are written as them
+pub mod OneofLemmas

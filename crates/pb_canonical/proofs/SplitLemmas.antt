@@ -3,6 +3,7 @@ use Rattle.std.proofs.Common.{◌≡◌, ℕ, ◌+◌, ◌*◌, ◌<◌, List, [
 use Rattle.std.proofs.lemmas.List.{take_all, take-append-drop}
 use Rattle.std.specs.Prelude.{slice_index, false, ◌==◌}
 use Rattle.std.proofs.lemmas.Bool.Decides.{nat_tests}
+use Rattle.pb_wire.specs.Fault.{Fault, FixedFault, past_end, cut_short}
 use Rattle.pb_wire.specs.Token.{given_at, TellsFixed64}
 use Rattle.pb_wire.specs.declared.token.Token.TheVariants as token
 use Rattle.pb_wire.proofs.VarintLemmas.{shortest-last}
@@ -47,6 +48,11 @@ eight_split b n size h =
     let (front, is, moves) = h.1 in
     moves.given ∙ ap (λ (l : List ℕ). l ++ drop size b) is
     ∙ ap (λ (l : List ℕ). to_le_bytes w64 n ++ l) (sym (take_all (length b - size) (drop size b) (omega (arith, length-drop size b))))
+
+-- bytes that eight were not read of
+pub eight_short : (b : List ℕ) (f : Fault) → FixedFault 8 (given_at 0 None b) f → length b < 8
+eight_short b f (past_end h e) = absurd (h tt)
+eight_short b f (cut_short w l e) = l
 
 left_part : (s t : List ℕ) → AreBytes (s ++ t) → AreBytes s
 left_part [] t h = tt

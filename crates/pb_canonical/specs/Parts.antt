@@ -1,25 +1,28 @@
 -- What the parts of the pass say of the bytes at the front, and of the rest after them.
-use Rattle.std.specs.Prelude.{◌≡◌, ◌≢◌, ◌≤◌, ◌<◌, ℕ, suc, ◌+◌, ◌*◌, List, [], ◌∷◌, ◌++◌, length, Bool, true, false, ◌==◌, Option, Some, None, IfSome, IsUtf8, ◌-◌, ◌^◌, ◌⊎◌, ◌<ℤ◌}
+use Rattle.std.specs.Prelude.{◌≡◌, ◌≢◌, ◌≤◌, ◌<◌, ℕ, suc, ◌+◌, ◌*◌, List, [], ◌∷◌, ◌++◌, length, Bool, true, false, ◌==◌, Option, Some, IsUtf8, ◌-◌, ◌^◌, ◌⊎◌, ◌<ℤ◌}
 use Rattle.std.specs.Int.{w32, w64, to_le_bytes, cast_signed, IsBitSet}
+use Rattle.std.specs.List.{AllByRecursion}
 use Rattle.std.specs.declared.cmp.Ordering.TheVariants.{Less}
 use Rattle.pb_wire.specs.Varint.{shortest}
 use Rattle.pb_wire.specs.Zigzag.{unzigzag}
 use Rattle.pb_wire.specs.Record.{Payload, varint, fixed64, len, group, fixed32, Group, Record, wire_type, depth, group_depth, records_depth}
-use Rattle.pb_wire.specs.Ranges.{IsInRange, IsInRangeGroup}
-use Rattle.pb_wire.specs.Inside.{IsNumbered, IsNumberedGroup}
+use Rattle.pb_wire.specs.Ranges.{IsNumber, IsInRange, IsInRangeGroup, AreInRange}
+use Rattle.pb_wire.specs.Inside.{IsNumbered, IsNumberedGroup, AreNumbered}
 use Rattle.pb_wire.specs.Spell.{shortest_record, shortest_group, shortest_records}
 use Rattle.pb_schema.specs.declared.types.Kind.{Kind}
 use Rattle.pb_schema.specs.declared.types.Kind.TheVariants as kind
+use Rattle.pb_schema.specs.declared.types.Shape.{Shape}
+use Rattle.pb_schema.specs.declared.types.Shape.TheVariants as shape
 use Rattle.pb_schema.specs.Types.{FieldView, Types, message_fields}
-use Rattle.pb_schema.specs.Scalar.{Scalar, key_cmp}
-use Rattle.pb_schema.specs.Kinds.{written, IsOfKind}
-use Rattle.pb_schema.specs.Rules.{NamesType}
-use Rattle.pb_schema.specs.Closed.{is_declared, is_undeclared}
+use Rattle.pb_schema.specs.Scalar.{Scalar, key_cmp, bytes_cmp}
+use Rattle.pb_schema.specs.Kinds.{wire_type_of, written, IsOfKind}
+use Rattle.pb_schema.specs.Rules.{NamesType, HasKeyKind, MayBePacked, MayBeImplicit, MayBeValue}
+use Rattle.pb_schema.specs.Closed.{is_declared, is_undeclared, closed_shaped}
 use Rattle.pb_value.specs.Data.{Datum, Datums, no_datums, Entries, no_entries, Holding, Fields, no_fields, field, Message}
 use Rattle.pb_value.specs.Data.{levels_of, levels_in_entry, datums_depth, entries_depth, holding_depth, fields_depth, message_depth}
 use Rattle.pb_value.specs.Canon.{record_of, sealed, key_kind, payload_of, packed_bytes, canon_each, canon_entries, canon_holding, canon_fields, canon_bytes}
 use Rattle.pb_value.specs.WellFormed.{IsUnknown, AreUnknown, RisesFrom, IsBelow, KeysRise, IsOfShape, IsDatum, AreDatums, AreEntries, IsHeld, AreFields, IsBody}
-use Rattle.pb_value.specs.WellFormed.{datum_declared, datums_declared, holds_declared, HasOneMemberEach, oneof_at}
+use Rattle.pb_value.specs.WellFormed.{datum_declared, datums_declared, holds_declared, HasNoMember, oneof_at}
 use Rattle.pb_value.specs.Judge.Forms.{is_default_datum}
 
 -- a tag, and what follows it
@@ -42,6 +45,34 @@ is_zero (len []) = true
 is_zero (len (x ∷ s)) = false
 is_zero (group g) = false
 is_zero (fixed32 n) = n == 0
+
+-- a tag is of this number and wire type
+abbrev pub IsTagged : ℕ → ℕ → ℕ → ℕ → Type 0
+IsTagged k w number wire_type = (number ≡ k) × (wire_type ≡ w)
+
+-- the end of the bytes, or an end tag
+abbrev pub IsStop : List ℕ → Type 0
+IsStop s = (s ≡ []) ⊎ ((k : ℕ) × (t : List ℕ) × IsNumber k × (s ≡ tagged k 4 t))
+
+-- what follows the tag of a record, and then more bytes
+abbrev pub follows : ℕ → Payload → List ℕ → List ℕ
+follows n (group g) s = shortest_group g ++ tagged n 4 s
+follows n (varint i) s = payload_bytes (varint i) ++ s
+follows n (fixed64 i) s = payload_bytes (fixed64 i) ++ s
+follows n (len t) s = payload_bytes (len t) ++ s
+follows n (fixed32 i) s = payload_bytes (fixed32 i) ++ s
+
+-- the payload of a record that is no group
+pub record IsPlain (w : ℕ) (p : Payload) : Type 0 where
+  pub type : wire_type p ≡ w
+  pub plain : wire_type p ≢ 3
+  pub in_range : IsInRange p
+
+-- after the tag of a number and a wire type stands this payload, and then more bytes
+pub record IsPayloadAt (n w : ℕ) (p : Payload) (b s : List ℕ) : Type 0 where
+  pub type : wire_type p ≡ w
+  pub in_range : IsInRange p
+  pub split : b ≡ follows n p s
 
 -- a number of 32 bits, or a negative one with all 64 bits of its two's complement
 abbrev pub IsSmall : ℕ → Type 0
@@ -88,6 +119,10 @@ pub record IsWritten (pool : Types) (k : Kind) (p : Payload) : Type 0 where
 abbrev pub AreBelow : Kind → Payload → Payload → Type 0
 AreBelow k p q = (x y : Scalar) → IsOfKind k x → IsOfKind k y → written k x ≡ p → written k y ≡ q → key_cmp x y ≡ Less
 
+-- keys that are written as these payloads do not rise
+abbrev pub NoneBelow : Kind → Payload → Payload → Type 0
+NoneBelow k p q = (x y : Scalar) → IsOfKind k x → IsOfKind k y → written k x ≡ p → written k y ≡ q → key_cmp x y ≢ Less
+
 -- a varint that is written for a lesser key
 abbrev pub NumberBelow : Kind → ℕ → ℕ → Type 0
 NumberBelow kind.Int32 a b = cast_signed w64 a <ℤ cast_signed w64 b
@@ -108,6 +143,10 @@ abbrev pub FourBelow : Kind → ℕ → ℕ → Type 0
 FourBelow kind.Sfixed32 a b = cast_signed w32 a <ℤ cast_signed w32 b
 FourBelow kind.Fixed32 a b = a < b
 FourBelow _ a b = ⊥
+
+abbrev pub StringBelow : Kind → List ℕ → List ℕ → Type 0
+StringBelow kind.Text s t = bytes_cmp s t ≡ Less
+StringBelow _ s t = ⊥
 
 -- UNKNOWN RECORDS
 
@@ -147,6 +186,15 @@ pub record UnknownsFirst (pool : Types) (m levels : ℕ) (b rest : List ℕ) : T
 -- the kind names a type of the pool, if it names one
 abbrev pub IsKindOf : Types → Kind → Type 0
 IsKindOf pool k = NamesType (length pool.messages) (length pool.enums) k
+
+-- what the rules of a pool say of one of its fields
+pub record GoesTogether (pool : Types) (f : FieldView) : Type 0 where
+  pub number : IsNumber f.number
+  pub kind : IsKindOf pool f.kind
+  pub key : HasKeyKind f.shape
+  pub packed : MayBePacked f.shape f.kind
+  pub implicit : MayBeImplicit f.shape f.kind
+  pub value : MayBeValue f.shape f.kind
 
 -- A record of a number with a value of a kind, from its tag on. Levels are left for what nests in it.
 pub record ValueFirst (pool : Types) (k : Kind) (n levels : ℕ) (b rest : List ℕ) : Type 0 where
@@ -235,20 +283,55 @@ pub record HeldFirst (pool : Types) (f : FieldView) (levels : ℕ) (b rest : Lis
   pub shorter : length rest < length b
   pub split : b ≡ shortest_records (canon_holding pool f held) ++ rest
 
--- no field belongs to a oneof that has a mark
-abbrev pub AreApart : List FieldView → ℕ → Fields → Type 0
-AreApart all marks no_fields = Unit {0}
-AreApart all marks (field n h fs) = IfSome (oneof_at all n) (λ o. ¬ IsBitSet marks o) × AreApart all marks fs
+-- of a oneof at most one member is set
+abbrev pub OneMember : List FieldView → ℕ → Fields → Type 0
+OneMember all o no_fields = Unit {0}
+OneMember all o (field n h fs) = (oneof_at all n ≡ Some o → HasNoMember all o fs) × OneMember all o fs
+
+-- of each oneof below a number
+abbrev pub OneMemberEach : List FieldView → ℕ → Fields → Type 0
+OneMemberEach all limit fs = (o : ℕ) → o < limit → OneMember all o fs
 
 -- fields from a number on, none of a oneof that has a mark
 pub record FieldsFirst (pool : Types) (m next marks levels : ℕ) (b rest : List ℕ) : Type 0 where
   pub fields : Fields
   pub within : AreFields pool (message_fields pool m) fields
   pub rise : RisesFrom next fields
-  pub one_each : HasOneMemberEach (message_fields pool m) fields
-  pub apart : AreApart (message_fields pool m) marks fields
+  pub one_each : OneMemberEach (message_fields pool m) 128 fields
+  pub apart : (o : ℕ) → o < 128 → IsBitSet marks o → HasNoMember (message_fields pool m) o fields
   pub deep : fields_depth fields ≤ levels
   pub split : b ≡ shortest_records (canon_fields pool (message_fields pool m) fields) ++ rest
+
+-- what follows the fields of a message: unknown records, and an end
+pub record IsEnd (pool : Types) (m : ℕ) (s : List ℕ) : Type 0 where
+  pub records : List Record
+  pub unknown : AreUnknown pool (message_fields pool m) records
+  pub rest : List ℕ
+  pub stop : IsStop rest
+  pub split : s ≡ shortest_records records ++ rest
+
+-- after the tag of a number and a wire type stands a number that a closed enum does not declare
+pub record IsUndeclaredAt (pool : Types) (closed : Option ℕ) (n w : ℕ) (b : List ℕ) : Type 0 where
+  pub payload : Payload
+  pub rest : List ℕ
+  pub at : IsPayloadAt n w payload b rest
+  pub undeclared : is_undeclared pool closed payload ≡ true
+
+-- no record of a number and a wire type stands first, but of an undeclared number of a closed enum
+abbrev pub EndsAt : Types → Option ℕ → ℕ → ℕ → List ℕ → Type 0
+EndsAt pool closed n w s = (t : List ℕ) → s ≡ tagged n w t → IsUndeclaredAt pool closed n w t
+
+-- the wire type of the records of a field that is not packed
+abbrev pub record_type : Shape → Kind → ℕ
+record_type (shape.Map _) k = 2
+record_type (shape.List _) k = wire_type_of k
+record_type shape.Explicit k = wire_type_of k
+record_type shape.Implicit k = wire_type_of k
+record_type (shape.OneofMember _) k = wire_type_of k
+
+-- no further record of a field stands first
+abbrev pub GoesNoFurther : Types → FieldView → List ℕ → Type 0
+GoesNoFurther pool f s = EndsAt pool (closed_shaped f.shape f.kind) f.number (record_type f.shape f.kind) s
 
 -- a message of a type
 pub record MessageFirst (pool : Types) (m levels : ℕ) (b rest : List ℕ) : Type 0 where
@@ -271,12 +354,35 @@ pub record GroupFirst (pool : Types) (m n levels : ℕ) (b rest : List ℕ) : Ty
   pub deep : message_depth message < levels
   pub split : b ≡ canon_bytes pool m message ++ tagged n 4 rest
 
--- what marks become with those of a field's oneof, which has none yet
-pub record IsMarked (marks o new : ℕ) : Type 0 where
-  pub free : ¬ IsBitSet marks o
-  pub marked : IsBitSet new o
+-- MARKS
+
+-- what marks become with one that was not set
+pub record IsMore (marks index new : ℕ) : Type 0 where
+  pub free : ¬ IsBitSet marks index
+  pub marked : IsBitSet new index
   pub kept : (i : ℕ) → IsBitSet marks i → IsBitSet new i
 
-abbrev pub Marks : Option ℕ → ℕ → ℕ → Type 0
-Marks None marks new = new ≡ marks
-Marks (Some o) marks new = IsMarked marks o new
+-- The mark at an index is that of the oneof which follows `first` by it. That of a oneof, if it is one of the 128, was not set.
+pub record IsMarked (of : Option ℕ) (first marks new : ℕ) : Type 0 where
+  pub free : (i : ℕ) → i < 128 → of ≡ Some (first + i) → ¬ IsBitSet marks i
+  pub marked : (i : ℕ) → i < 128 → of ≡ Some (first + i) → IsBitSet new i
+  pub kept : (i : ℕ) → IsBitSet marks i → IsBitSet new i
+
+-- records that the pass reads
+pub record CanBeRead (levels : ℕ) (rs : List Record) : Type 0 where
+  pub in_range : AreInRange rs
+  pub numbered : AreNumbered rs
+  pub deep : records_depth rs ≤ levels
+
+-- no record is of a oneof; the oneof of a number is a function
+abbrev pub HasNoRecord : (ℕ → Option ℕ) → ℕ → List Record → Type 0
+HasNoRecord of o rs = AllByRecursion (λ r. of r.number ≢ Some o) rs
+
+-- of a oneof there is at most one record
+abbrev pub OneRecord : (ℕ → Option ℕ) → ℕ → List Record → Type 0
+OneRecord of o [] = Unit {0}
+OneRecord of o (r ∷ rs) = (of r.number ≡ Some o → HasNoRecord of o rs) × OneRecord of o rs
+
+-- of each of 128 oneofs
+abbrev pub OneRecordEach : (ℕ → Option ℕ) → ℕ → List Record → Type 0
+OneRecordEach of first rs = (i : ℕ) → i < 128 → OneRecord of (first + i) rs

@@ -1,11 +1,11 @@
 //! Tokens at the front of bytes, each in its shortest spelling, and the bytes after them.
 
-ghost use Rattle.std.specs.Prelude.{◌≡◌, ◌++◌, IfSome};
+ghost use Rattle.std.specs.Prelude.{◌≡◌, ◌<◌, ◌^◌, ◌++◌, ℕ, List, IfSome, IsSomeAnd};
 ghost use Rattle.std.specs.Int.{w32, w64, to_le_bytes};
 ghost use Rattle.pb_wire.specs.Varint.{shortest};
 ghost use Rattle.pb_wire.specs.Record.{len};
 ghost use Rattle.pb_wire.specs.Ranges.{IsNumber};
-ghost use Rattle.pb_canonical.specs.Parts.{tagged, payload_bytes};
+ghost use Rattle.pb_canonical.specs.Parts.{tagged, payload_bytes, IsTagged};
 
 use pb_wire::token::{Token, fixed64_token};
 use pb_wire::{put_varint, read_varint};
@@ -20,7 +20,8 @@ pub(crate) struct Tag {
 /// The varint at the front, if it is the shortest of its number.
 #[inline(always)]
 pub(crate) fn varint_first(bytes: &[u8]) -> Option<(u64, &[u8])>
-    ensures { IfSome result (λ r. bytes.now ≡ shortest r.0 ++ r.1.now) }
+    ensures split { IfSome result (λ r. bytes.now ≡ shortest r.0 ++ r.1.now) }
+    ensures complete { (n : ℕ) → (s : List ℕ) → n < 2 ^ 64 → bytes.now ≡ shortest n ++ s → IsSomeAnd result (λ r. (r.0 ≡ n) × (r.1.now ≡ s)) }
 {
     if !bytes.is_empty() && bytes[0] < 0x80 {
         return Some((u64::from(bytes[0]), &bytes[1..]));
@@ -30,7 +31,8 @@ pub(crate) fn varint_first(bytes: &[u8]) -> Option<(u64, &[u8])>
 
 /// As `varint_first`, of any size.
 fn long_varint_first(bytes: &[u8]) -> Option<(u64, &[u8])>
-    ensures { IfSome result (λ r. bytes.now ≡ shortest r.0 ++ r.1.now) }
+    ensures split { IfSome result (λ r. bytes.now ≡ shortest r.0 ++ r.1.now) }
+    ensures complete { (n : ℕ) → (s : List ℕ) → n < 2 ^ 64 → bytes.now ≡ shortest n ++ s → IsSomeAnd result (λ r. (r.0 ≡ n) × (r.1.now ≡ s)) }
 {
     let Ok((number, size)) = read_varint(bytes) else {
         return None;
@@ -48,6 +50,8 @@ fn long_varint_first(bytes: &[u8]) -> Option<(u64, &[u8])>
 pub(crate) fn tag_first(bytes: &[u8]) -> Option<(Tag, &[u8])>
     ensures tag { IfSome result (λ r. bytes.now ≡ tagged r.0.number r.0.wire_type r.1.now) }
     ensures number { IfSome result (λ r. IsNumber r.0.number) }
+    ensures wire_type { IfSome result (λ r. r.0.wire_type < 8) }
+    ensures complete { (k w : ℕ) → (s : List ℕ) → IsNumber k → w < 8 → bytes.now ≡ tagged k w s → IsSomeAnd result (λ r. IsTagged k w r.0.number r.0.wire_type × (r.1.now ≡ s)) }
 {
     let (tag, rest) = varint_first(bytes)?;
     let Ok(tag) = u32::try_from(tag) else {
@@ -63,7 +67,8 @@ pub(crate) fn tag_first(bytes: &[u8]) -> Option<(Tag, &[u8])>
 
 /// The bytes after the end tag of a group of this number.
 pub(crate) fn after_end(bytes: &[u8], number: u32) -> Option<&[u8]>
-    ensures { IfSome result (λ r. bytes.now ≡ tagged number 4 r.now) }
+    ensures split { IfSome result (λ r. bytes.now ≡ tagged number 4 r.now) }
+    ensures complete { (s : List ℕ) → IsNumber number → bytes.now ≡ tagged number 4 s → IsSomeAnd result (λ r. r.now ≡ s) }
 {
     let (tag, rest) = tag_first(bytes)?;
     if tag.number == number && tag.wire_type == 4 {
@@ -76,7 +81,8 @@ pub(crate) fn after_end(bytes: &[u8], number: u32) -> Option<&[u8]>
 /// The payload at the front, which begins with its length.
 #[inline(always)]
 pub(crate) fn payload_first(bytes: &[u8]) -> Option<(&[u8], &[u8])>
-    ensures { IfSome result (λ r. bytes.now ≡ payload_bytes (len r.0.now) ++ r.1.now) }
+    ensures split { IfSome result (λ r. bytes.now ≡ payload_bytes (len r.0.now) ++ r.1.now) }
+    ensures complete { (p s : List ℕ) → bytes.now ≡ payload_bytes (len p) ++ s → IsSomeAnd result (λ r. (r.0.now ≡ p) × (r.1.now ≡ s)) }
 {
     let (size, rest) = varint_first(bytes)?;
     if (rest.len() as u64) < size {
@@ -89,18 +95,21 @@ pub(crate) fn payload_first(bytes: &[u8]) -> Option<(&[u8], &[u8])>
 /// The eight bytes at the front.
 #[inline(always)]
 pub(crate) fn eight_first(bytes: &[u8]) -> Option<(u64, &[u8])>
-    ensures { IfSome result (λ r. bytes.now ≡ to_le_bytes w64 r.0 ++ r.1.now) }
+    ensures split { IfSome result (λ r. bytes.now ≡ to_le_bytes w64 r.0 ++ r.1.now) }
+    ensures complete { (n : ℕ) → (s : List ℕ) → n < 2 ^ 64 → bytes.now ≡ to_le_bytes w64 n ++ s → IsSomeAnd result (λ r. (r.0 ≡ n) × (r.1.now ≡ s)) }
 {
     match fixed64_token(bytes, None) {
         Token::Whole(number, size) => Some((number, &bytes[size..])),
-        _ => None,
+        Token::Short => None,
+        Token::Fault(_) => None,
     }
 }
 
 /// The four bytes at the front.
 #[inline(always)]
 pub(crate) fn four_first(bytes: &[u8]) -> Option<(u32, &[u8])>
-    ensures { IfSome result (λ r. bytes.now ≡ to_le_bytes w32 r.0 ++ r.1.now) }
+    ensures split { IfSome result (λ r. bytes.now ≡ to_le_bytes w32 r.0 ++ r.1.now) }
+    ensures complete { (n : ℕ) → (s : List ℕ) → n < 2 ^ 32 → bytes.now ≡ to_le_bytes w32 n ++ s → IsSomeAnd result (λ r. (r.0 ≡ n) × (r.1.now ≡ s)) }
 {
     let Some(front) = bytes.first_chunk() else {
         return None;

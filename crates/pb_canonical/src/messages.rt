@@ -13,7 +13,7 @@ ghost use Rattle.pb_canonical.specs.Parts.{EntryFirst, SomeEntries, HeldFirst, F
 
 use crate::first::{Tag, after_end, payload_first, tag_first, varint_first};
 use crate::keys::is_below;
-use crate::oneofs::{Met, with_field};
+use crate::oneofs::{Met, has_one_member_each, with_field};
 use crate::scalars::{is_zero, value_payload_first};
 use crate::unknown::unknowns_first;
 use pb_schema::scalars::ScalarPayload;
@@ -55,6 +55,9 @@ fn message_first<'a>(
     ensures { IfSome result (λ r. MessageFirst pool.now message_type.0 levels bytes.now r.now) }
 {
     let rest = fields_first(pool, message_type, bytes, levels)?;
+    if !has_one_member_each(pool, message_type, bytes, rest, levels) {
+        return None;
+    }
     let end = unknowns_first(pool, message_type, rest, levels)?;
     Some(end)
 }

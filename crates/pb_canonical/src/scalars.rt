@@ -1,11 +1,12 @@
 //! Payloads of scalars: which of them a value of a kind is written as.
 
-ghost use Rattle.std.specs.Prelude.{◌≡◌, ◌≢◌, ◌++◌, true, IfSome, IsUtf8};
-ghost use Rattle.pb_wire.specs.Record.{varint, fixed64, len, fixed32, wire_type as type_of};
+ghost use Rattle.std.specs.Prelude.{◌≡◌, ◌≢◌, ◌++◌, List, ℕ, IfSome, IsSomeAnd, IsUtf8};
+ghost use Rattle.std.specs.Bool.{Decides};
+ghost use Rattle.pb_wire.specs.Record.{Payload, varint, fixed64, len, fixed32, wire_type as type_of};
 ghost use Rattle.pb_wire.specs.Ranges.{IsInRange};
 ghost use Rattle.pb_schema.specs.Kinds.{wire_type_of};
 ghost use Rattle.pb_schema.specs.PayloadView.{payload_view};
-ghost use Rattle.pb_canonical.specs.Parts.{payload_bytes, is_zero, IsWritten, NumberFits, EightFits, FourFits, BytesFit};
+ghost use Rattle.pb_canonical.specs.Parts.{payload_bytes, is_zero, IsPlain, IsWritten, NumberFits, EightFits, FourFits, BytesFit};
 
 use crate::first::{eight_first, four_first, payload_first, varint_first};
 use pb_schema::scalars::ScalarPayload;
@@ -20,7 +21,7 @@ const NEGATIVE: u64 = 0xffff_ffff_8000_0000;
 /// Says that bytes are a string.
 #[inline(always)]
 fn is_string(bytes: &[u8]) -> bool
-    ensures { result ≡ true → IsUtf8 bytes.now }
+    ensures { Decides result (IsUtf8 bytes.now) }
 {
     if bytes.len() < SHORT {
         if bytes.is_ascii() {
@@ -37,6 +38,7 @@ pub(crate) fn scalar_first(bytes: &[u8], wire_type: u8) -> Option<(ScalarPayload
     ensures of_type { IfSome result (λ r. type_of (payload_view r.0) ≡ wire_type) }
     ensures plain { IfSome result (λ r. type_of (payload_view r.0) ≢ 3) }
     ensures in_range { IfSome result (λ r. IsInRange (payload_view r.0)) }
+    ensures complete { (p : Payload) → (s : List ℕ) → IsPlain wire_type p → bytes.now ≡ payload_bytes p ++ s → IsSomeAnd result (λ r. (payload_view r.0 ≡ p) × (r.1.now ≡ s)) }
 {
     match wire_type {
         0 => {
@@ -62,7 +64,7 @@ pub(crate) fn scalar_first(bytes: &[u8], wire_type: u8) -> Option<(ScalarPayload
 /// Whether a kind has the number as a varint.
 #[inline(always)]
 fn is_number(pool: &Pool, kind: Kind, number: u64) -> bool
-    ensures { result ≡ true → NumberFits pool.now kind number }
+    ensures { Decides result (NumberFits pool.now kind number) }
 {
     match kind {
         Kind::Int64 | Kind::Uint64 | Kind::Sint64 => true,
@@ -79,7 +81,7 @@ fn is_number(pool: &Pool, kind: Kind, number: u64) -> bool
 /// Whether a value of a kind is written as eight bytes.
 #[inline(always)]
 fn is_eight_bytes(kind: Kind) -> bool
-    ensures { result ≡ true → EightFits kind }
+    ensures { Decides result (EightFits kind) }
 {
     match kind {
         Kind::Fixed64 | Kind::Sfixed64 | Kind::Double => true,
@@ -90,7 +92,7 @@ fn is_eight_bytes(kind: Kind) -> bool
 /// Whether a value of a kind is written as four bytes.
 #[inline(always)]
 fn is_four_bytes(kind: Kind) -> bool
-    ensures { result ≡ true → FourFits kind }
+    ensures { Decides result (FourFits kind) }
 {
     match kind {
         Kind::Fixed32 | Kind::Sfixed32 | Kind::Float => true,
@@ -101,7 +103,7 @@ fn is_four_bytes(kind: Kind) -> bool
 /// Whether a value of a kind is written as these bytes after their length.
 #[inline(always)]
 fn is_bytes(kind: Kind, bytes: &[u8]) -> bool
-    ensures { result ≡ true → BytesFit kind bytes.now }
+    ensures { Decides result (BytesFit kind bytes.now) }
 {
     match kind {
         Kind::Text => is_string(bytes),
@@ -113,7 +115,7 @@ fn is_bytes(kind: Kind, bytes: &[u8]) -> bool
 /// Whether a value of a kind is written as a varint of the number.
 #[inline(always)]
 fn is_written_number(pool: &Pool, kind: Kind, number: u64) -> bool
-    ensures { result ≡ true → IsWritten pool.now kind (varint number) }
+    ensures { Decides result (IsWritten pool.now kind (varint number)) }
 {
     is_number(pool, kind, number)
 }
@@ -121,7 +123,7 @@ fn is_written_number(pool: &Pool, kind: Kind, number: u64) -> bool
 /// Whether a value of a kind is written as these eight bytes.
 #[inline(always)]
 fn is_written_eight(pool: &Pool, kind: Kind, number: u64) -> bool
-    ensures { result ≡ true → IsWritten pool.now kind (fixed64 number) }
+    ensures { Decides result (IsWritten pool.now kind (fixed64 number)) }
 {
     let _types = pool.messages();
     is_eight_bytes(kind)
@@ -130,7 +132,7 @@ fn is_written_eight(pool: &Pool, kind: Kind, number: u64) -> bool
 /// Whether a value of a kind is written as these four bytes.
 #[inline(always)]
 fn is_written_four(pool: &Pool, kind: Kind, number: u32) -> bool
-    ensures { result ≡ true → IsWritten pool.now kind (fixed32 number) }
+    ensures { Decides result (IsWritten pool.now kind (fixed32 number)) }
 {
     let _types = pool.messages();
     is_four_bytes(kind)
@@ -139,7 +141,7 @@ fn is_written_four(pool: &Pool, kind: Kind, number: u32) -> bool
 /// Whether a value of a kind is written as these bytes after their length.
 #[inline(always)]
 fn is_written_bytes(pool: &Pool, kind: Kind, bytes: &[u8]) -> bool
-    ensures { result ≡ true → IsWritten pool.now kind (len bytes.now) }
+    ensures { Decides result (IsWritten pool.now kind (len bytes.now)) }
 {
     let _types = pool.messages();
     is_bytes(kind, bytes)
@@ -148,7 +150,7 @@ fn is_written_bytes(pool: &Pool, kind: Kind, bytes: &[u8]) -> bool
 /// Whether a value of a kind is written as a payload. A value of a closed enum has a number that the enum declares.
 #[inline(always)]
 fn is_written(pool: &Pool, kind: Kind, payload: ScalarPayload<'_>) -> bool
-    ensures { result ≡ true → IsWritten pool.now kind (payload_view payload.entry) }
+    ensures { Decides result (IsWritten pool.now kind (payload_view payload.entry)) }
 {
     match payload {
         ScalarPayload::Varint(number) => is_written_number(pool, kind, number),
@@ -181,6 +183,8 @@ pub(crate) fn value_payload_first<'a>(
     ensures of_type { IfSome result (λ r. type_of (payload_view r.0) ≡ wire_type_of kind) }
     ensures plain { IfSome result (λ r. type_of (payload_view r.0) ≢ 3) }
     ensures value { IfSome result (λ r. IsWritten pool.now kind (payload_view r.0)) }
+    ensures complete { (p : Payload) → (s : List ℕ) → IsWritten pool.now kind p → bytes.now ≡ payload_bytes p ++ s
+        → IsSomeAnd result (λ r. (payload_view r.0 ≡ p) × (r.1.now ≡ s)) }
 {
     let (payload, rest) = scalar_first(bytes, kind.wire_type())?;
     if is_written(pool, kind, payload) {

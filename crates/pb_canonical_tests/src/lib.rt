@@ -6,6 +6,8 @@ mod first_call;
 #[cfg(test)]
 mod hostile;
 #[cfg(test)]
+mod many_oneofs;
+#[cfg(test)]
 mod rows;
 #[cfg(test)]
 mod sample;

@@ -20,7 +20,7 @@ fn is_encoded(schema: &Schema, bytes: &[u8]) -> Result<bool, Fail> {
 }
 
 /// Whether bytes are answered as `decode` and `encode` say.
-fn is_right(schema: &Schema, bytes: &[u8]) -> Result<bool, Fail> {
+pub(crate) fn is_right(schema: &Schema, bytes: &[u8]) -> Result<bool, Fail> {
     Ok(schema.is_canonical(bytes) == is_encoded(schema, bytes)?)
 }
 

@@ -14,6 +14,7 @@ ghost use Rattle.pb_c.specs.Typed.{HasType, LacksType};
 
 use crate::handle::{PoolHandle, put, take};
 use crate::told::{BAD_LIMITS, DONE, EMPTY, FAULT, FaultReport, MEMORY, NO_TYPE, Step};
+use crate::typed::canonical::is_known_canonical;
 use crate::typed::{TOO_LARGE, read_message, write_out};
 use pb_encode::{EncodeError, encode};
 use pb_schema::Pool;
@@ -22,6 +23,8 @@ use pb_wire::Limits;
 use std::alloc::Global;
 
 /// Writes the canonical bytes of the message that the bytes are, as many as the buffer holds, and reports how many there are.
+///
+/// Bytes that are canonical already, as most in a pipeline are, are checked and copied, and no message is built of them.
 ///
 /// Answers as `mb_check` does, and TOO_LARGE where the canonical bytes would be more than 2^31 - 1. They and their number are written
 /// at DONE alone, so where the reported number is above the buffer's length, call again with a buffer of that length.
@@ -115,6 +118,10 @@ fn canon_message(
     ensures refused { number < length pool.now.messages → (f : Fault) → IsFaultOf pool.now number limits bytes.now f
         → ((result ≡ FAULT) × Tells f fault.new path.old path.new) ⊎ (result ≡ MEMORY) }
 {
+    if is_known_canonical(alloc, pool, number, bytes, limits) {
+        write_out(bytes, out, size);
+        return DONE;
+    }
     match read_message(alloc, pool, number, bytes, limits, fault, path) {
         Ok(message) => write_canonical(&message, out, size),
         Err(answer) => answer,

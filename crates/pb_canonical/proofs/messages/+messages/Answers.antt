@@ -5,12 +5,17 @@ use Rattle.pb_schema.specs.PayloadView.{payload_view}
 use Rattle.pb_schema.specs.View.{field_view}
 use Rattle.pb_canonical.specs.Parts.{tagged, ValueFirst}
 use Rattle.pb_canonical.proofs.HeldLemmas.{value_as, value_from, value_shorter, entry_shorter, entries_follow, member_held, packed_held, list_held, message_value, group_value, whole_entry, each_more, each_none, entries_more, entries_none, implicit_held, explicit_held, map_held}
-use Rattle.pb_canonical.proofs.FieldLemmas.{fields_more, field_shorter, fields_none, whole_message, inner_message, group_message}
+use Rattle.pb_canonical.proofs.FieldLemmas.{fields_more, field_shorter, fields_none, fields_within, whole_message, inner_message, group_message}
 use Rattle.pb_canonical.proofs.messages.+messages.Goals as goal
 
 pub message_first-returns : goal.message_first-returns
 message_first-returns t c =
-    whole_message c.args.pool.now c.args.message_type.0 c.args.levels c.args.bytes.now c.in_ok-rest.rest.now c.in_ok-end.end.now c.in_ok-rest.ensures c.in_ok-end.ensures
+    let f = c.in_ok-rest.ensures in
+    whole_message c.args.pool.now c.args.message_type.0 c.args.levels c.args.bytes.now c.in_ok-rest.rest.now c.in_ok-end.end.now f
+    (c.has_one_member_each.ensures f.fields f.within f.deep f.split f.one_each c.if-not-has_one_member_each.false) c.in_ok-end.ensures.first
+
+pub message_first-has_one_member_each-requires-clause-shorter : goal.message_first-has_one_member_each-requires-clause-shorter
+message_first-has_one_member_each-requires-clause-shorter t c = fields_within c.args.pool.now c.args.message_type.0 0 0 c.args.levels c.args.bytes.now c.in_ok-rest.rest.now c.in_ok-rest.ensures
 
 pub fields_first-fields-smaller : goal.fields_first-fields-smaller
 fields_first-fields-smaller t c =
@@ -31,12 +36,12 @@ fields_first-returns t c = c.fields.invariant _ (fields_none c.args.pool.now c.a
 pub inner_first-returns-then-is_empty : goal.inner_first-returns-then-is_empty
 inner_first-returns-then-is_empty t c =
     inner_message c.args.pool.now c.args.message_type.0 c.args.levels (c.args.levels - 1) c.args.bytes.now c.in_ok-payload.payload.now c.in_ok-end.end.now c.in_ok-payload.rest.now
-    (omega (arith, c.if-levels-eq0.false)) c.in_ok-payload.ensures c.in_ok-end.ensures (eqb-true _ _ (sym c.is_empty.ensures ∙ c.if-is_empty.true))
+    (omega (arith, c.if-levels-eq0.false)) c.in_ok-payload.ensures.split c.in_ok-end.ensures (eqb-true _ _ (sym c.is_empty.ensures ∙ c.if-is_empty.true))
 
 pub group_first-returns : goal.group_first-returns
 group_first-returns t c =
     group_message c.args.pool.now c.args.message_type.0 c.args.number c.args.levels (c.args.levels - 1) c.args.bytes.now c.in_ok-end.end.now c.in_ok-rest.rest.now
-    (omega (arith, c.if-levels-eq0.false)) c.in_ok-end.ensures c.in_ok-rest.ensures
+    (omega (arith, c.if-levels-eq0.false)) c.in_ok-end.ensures c.in_ok-rest.ensures.split
 
 pub value_first-returns-in_ok-rest-in-Message : goal.value_first-returns-in_ok-rest-in-Message
 value_first-returns-in_ok-rest-in-Message t c =
@@ -110,13 +115,13 @@ map_first-entries-preserved t c = λ end h.
     c.entries.invariant end
     (entries_follow c.args.pool.now (field_view c.args.field.now) c.args.key c.args.tag.number c.args.levels c.entries.rest.now c.in-Some.after.now c.in_ok-found.end.now end
     (payload_view c.entries.last) (payload_view c.in_ok-found.found) c.requires.number c.requires.key
-    (subst (λ w. c.entries.rest.now ≡ tagged c.args.tag.number w c.in-Some.after.now) c.if-tag-ne2.false c.in-Some.ensures) (c.is_below.ensures c.if-not-is_below.false) c.in_ok-found.ensures h)
+    (subst (λ w. c.entries.rest.now ≡ tagged c.args.tag.number w c.in-Some.after.now) c.if-tag-ne2.false c.in-Some.ensures) (c.is_below.ensures.below c.if-not-is_below.false) c.in_ok-found.ensures h)
 
 pub entry_first-returns-then-is_empty : goal.entry_first-returns-then-is_empty
 entry_first-returns-then-is_empty t c =
     let w = c.in_ok-tag.tag.wire_type in
     whole_entry c.args.pool.now c.args.key c.args.value c.args.levels c.args.bytes.now c.in_ok-payload.payload.now c.in_ok-found.after.now c.in_ok-tag.after_tag.now c.in_ok-end.end.now
-    c.in_ok-payload.rest.now (payload_view c.in_ok-found.found) w (omega (arith, c.if-levels-eq0.false)) c.in_ok-payload.ensures c.in_ok-found.ensures.key c.in_ok-found.ensures.split
+    c.in_ok-payload.rest.now (payload_view c.in_ok-found.found) w (omega (arith, c.if-levels-eq0.false)) c.in_ok-payload.ensures.split c.in_ok-found.ensures.key c.in_ok-found.ensures.split
     (subst (λ n. c.in_ok-found.after.now ≡ tagged n w c.in_ok-tag.after_tag.now) c.if-tag-ne2.false c.in_ok-tag.ensures.tag)
     (subst (λ n. ValueFirst c.args.pool.now c.args.value n c.args.levels (tagged n w c.in_ok-tag.after_tag.now) c.in_ok-end.end.now) c.if-tag-ne2.false c.in_ok-end.ensures)
     (eqb-true _ _ (sym c.is_empty.ensures ∙ c.if-is_empty.true))

@@ -1,4 +1,4 @@
-use Rattle.std.proofs.Common.{inr, ap}
+use Rattle.std.proofs.Common.{List, ℕ, refl, inl, inr, ap, subst, arith}
 use Rattle.pb_value.specs.Canon.{canon_bytes}
 use Rattle.pb_encode.specs.Encoding.{bytes_of}
 use Rattle.pb_c.specs.Told.{IsLaid}
@@ -24,3 +24,21 @@ returns-in-Err-clause-accepted c within v text small = inr (c.in-Err.ensures.acc
 
 pub returns-in-Err-clause-oversized : goal.returns-in-Err-clause-oversized
 returns-in-Err-clause-oversized c within v text large = inr (c.in-Err.ensures.accepted within v text)
+
+pub returns-then-is_known_canonical-clause-text : goal.returns-then-is_known_canonical-clause-text
+returns-then-is_known_canonical-clause-text c = λ is.
+    let value = c.is_known_canonical.ensures.value c.if-is_known_canonical.true in
+    let same = c.is_known_canonical.ensures.only c.if-is_known_canonical.true value.0 value.1 in
+    (value.0, value.1, same.1, subst (λ (b : List ℕ). IsLaid b c.args.out.now c.write_out.new.out c.write_out.new.size) same.0 c.write_out.ensures)
+
+pub returns-then-is_known_canonical-clause-accepted : goal.returns-then-is_known_canonical-clause-accepted
+returns-then-is_known_canonical-clause-accepted c within v text small =
+    let same = c.is_known_canonical.ensures.only c.if-is_known_canonical.true v text in
+    inl (refl, subst (λ (b : List ℕ). IsLaid b c.args.out.now c.write_out.new.out c.write_out.new.size) same.0 c.write_out.ensures)
+
+pub returns-then-is_known_canonical-clause-oversized : goal.returns-then-is_known_canonical-clause-oversized
+returns-then-is_known_canonical-clause-oversized c within v text large =
+    let same = c.is_known_canonical.ensures.only c.if-is_known_canonical.true v text in absurd (omega (arith, same.1, large))
+
+pub returns-then-is_known_canonical-clause-refused : goal.returns-then-is_known_canonical-clause-refused
+returns-then-is_known_canonical-clause-refused c within f fault = absurd (c.is_known_canonical.ensures.faultless c.if-is_known_canonical.true f fault)
