@@ -1,0 +1,6 @@
+pub mod Scalars
+pub mod Fields
+pub mod Oneofs
+pub mod Pairs
+pub mod Walk
+pub mod Agrees

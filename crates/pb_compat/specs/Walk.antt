@@ -1,0 +1,68 @@
+-- How the pairs of types are walked, for private functions alone.
+use Rattle.std.specs.Prelude.{◌≡◌, ◌<◌, ◌≤◌, ◌⊎◌, ℕ, List, [], ◌∷◌, ◌++◌, length, Option, Some, None, slice_get, Contains, IsSomeAnd}
+use Rattle.std.specs.List.{AllByRecursion}
+use Rattle.pb_schema.specs.Types.{Types}
+use Rattle.pb_schema.specs.Names.{AllDiffer}
+use Rattle.pb_compat.specs.declared.difference.ComparedTypes.{ComparedTypes}
+use Rattle.pb_compat.specs.declared.difference.Step.{Step}
+use Rattle.pb_compat.specs.declared.pairs.Pairs.{Pairs}
+use Rattle.pb_compat.specs.Pairs.{leads, Reached, types_of, AreDifferences}
+
+abbrev pub pairs_of : Pairs → List (ℕ × ℕ)
+pairs_of p = p.seen.keys
+
+abbrev pub steps_of : Pairs → List (Option Step)
+steps_of p = p.steps.items
+
+-- the pair is there already, or it and its step are added
+abbrev pub Adds : (ℕ × ℕ) → Option Step → Pairs → Pairs → Type 0
+Adds q s a b =
+    (Contains (pairs_of a) q × (pairs_of b ≡ pairs_of a) × (steps_of b ≡ steps_of a))
+    ⊎ ((¬ Contains (pairs_of a) q) × (pairs_of b ≡ pairs_of a ++ q ∷ []) × (steps_of b ≡ steps_of a ++ s ∷ []))
+
+abbrev pub IsStep : Types → Types → List (ℕ × ℕ) → ℕ → (ℕ × ℕ) → Option Step → Type 0
+IsStep old new ks i p None = i ≡ 0
+IsStep old new ks i p (Some s) = (s.from < i) × IsSomeAnd (slice_get ks s.from) (λ q. leads old new q s.field ≡ Some p)
+
+abbrev pub IsWithin : Types → Types → (ℕ × ℕ) → Type 0
+IsWithin old new p = (p.0 < length old.messages) × (p.1 < length new.messages)
+
+-- pairs that are reached, each once, with how each was reached
+pub record IsWalk (old new : Types) (start : ℕ × ℕ) (ks : List (ℕ × ℕ)) (ss : List (Option Step)) : Type 0 where
+  pub size : length ss ≡ length ks
+  pub first : Contains ks start
+  pub differ : AllDiffer ks
+  pub reached : AllByRecursion (Reached old new start) ks
+  pub within : AllByRecursion (IsWithin old new) ks
+  pub steps : (i : ℕ) (p : ℕ × ℕ) (s : Option Step) → slice_get ks i ≡ Some p → slice_get ss i ≡ Some s → IsStep old new ks i p s
+
+-- the pairs that the fields of these numbers lead to from p, which is the one at i, are added
+pub record Follows (old new : Types) (i : ℕ) (p : ℕ × ℕ) (numbers : List ℕ) (a b : Pairs) : Type 0 where
+  pub added : List (ℕ × ℕ)
+  pub more : pairs_of b ≡ pairs_of a ++ added
+  pub added_steps : List (Option Step)
+  pub more_steps : steps_of b ≡ steps_of a ++ added_steps
+  pub walk : (start : ℕ × ℕ) → IsWalk old new start (pairs_of a) (steps_of a) → slice_get (pairs_of a) i ≡ Some p → IsWalk old new start (pairs_of b) (steps_of b)
+  pub listed : (k : ℕ) (q : ℕ × ℕ) → Contains numbers k → leads old new p k ≡ Some q → Contains (pairs_of b) q
+
+-- so are all pairs that fields lead to from p
+pub record FollowsAll (old new : Types) (i : ℕ) (p : ℕ × ℕ) (a b : Pairs) : Type 0 where
+  pub added : List (ℕ × ℕ)
+  pub more : pairs_of b ≡ pairs_of a ++ added
+  pub added_steps : List (Option Step)
+  pub more_steps : steps_of b ≡ steps_of a ++ added_steps
+  pub walk : (start : ℕ × ℕ) → IsWalk old new start (pairs_of a) (steps_of a) → IsWalk old new start (pairs_of b) (steps_of b)
+  pub listed : (k : ℕ) (q : ℕ × ℕ) → leads old new p k ≡ Some q → Contains (pairs_of b) q
+
+-- what the fields of the first n pairs lead to is there
+abbrev pub IsClosed : Types → Types → List (ℕ × ℕ) → ℕ → Type 0
+IsClosed old new ks n = (i k : ℕ) (p q : ℕ × ℕ) → i < n → slice_get ks i ≡ Some p → leads old new p k ≡ Some q → Contains ks q
+
+-- the first pairs are compared
+pub record AreCompared (old new : Types) (start : ℕ × ℕ) (ps : Pairs) (cs : List ComparedTypes) : Type 0 where
+  pub walk : IsWalk old new start (pairs_of ps) (steps_of ps)
+  pub closed : IsClosed old new (pairs_of ps) (length cs)
+  pub within : length cs ≤ length (pairs_of ps)
+  pub pairs : (i : ℕ) (c : ComparedTypes) → slice_get cs i ≡ Some c → slice_get (pairs_of ps) i ≡ Some (types_of c)
+  pub steps : (i : ℕ) (c : ComparedTypes) → slice_get cs i ≡ Some c → slice_get (steps_of ps) i ≡ Some c.reached_by
+  pub differences : AllByRecursion (λ c. AreDifferences old new c.old.0 c.new.0 c.differences.items) cs

@@ -1,0 +1,87 @@
+//! The comparison of two types, and of all types that their fields lead to.
+
+ghost use Rattle.std.specs.Prelude.{◌≡◌, ◌<◌, Some, length, slice_get, IfOk, OnOk};
+ghost use Rattle.pb_compat.specs.Pairs.{types_of, AreDifferences, IsComparison};
+ghost use Rattle.pb_compat.specs.Walk.{pairs_of, steps_of, FollowsAll};
+ghost use Rattle.pb_compat.specs.Pairs.{AreRising};
+ghost use Rattle.pb_schema.specs.Types.{message_fields};
+
+use crate::difference::ComparedTypes;
+use crate::differences::{differences_between, rising_numbers};
+use crate::pairs::Pairs;
+use pb_schema::{MessageId, Pool};
+use std::alloc::{AllocError, Global};
+
+/// The numbers of the fields of a type, in rising order.
+fn numbers_in(alloc: Global, pool: &Pool, message: MessageId) -> Result<Vec<u32>, AllocError>
+    requires { message.0 < length pool.now.messages }
+    ensures { IfOk result (λ v. AreRising (message_fields pool.now message.0) v.items) }
+{
+    rising_numbers(alloc, &pool.messages()[message.0].fields)
+}
+
+/// Compares the types of the pair at an index, and adds the pairs that their fields lead to.
+fn compare_types(
+    alloc: Global,
+    old: &Pool,
+    old_type: MessageId,
+    new: &Pool,
+    new_type: MessageId,
+    index: usize,
+    pairs: &mut Pairs,
+) -> Result<ComparedTypes, AllocError>
+    requires old { old_type.0 < length old.now.messages }
+    requires new { new_type.0 < length new.now.messages }
+    requires at { slice_get (pairs_of pairs.old) index ≡ Some (old_type.0, new_type.0) }
+    requires size { index < length (steps_of pairs.old) }
+    ensures types { IfOk result (λ c. types_of c ≡ (old_type.0, new_type.0)) }
+    ensures step { IfOk result (λ c. slice_get (steps_of pairs.new) index ≡ Some c.reached_by) }
+    ensures differences { IfOk result (λ c. AreDifferences old.now new.now old_type.0 new_type.0 c.differences.items) }
+    ensures followed { OnOk result (FollowsAll old.now new.now index (old_type.0, new_type.0) pairs.old pairs.new) }
+{
+    let numbers = numbers_in(alloc, old, old_type)?;
+    pairs.follow(old, old_type, new, new_type, index, &numbers)?;
+    let differences = differences_between(alloc, old, old_type, new, new_type, &numbers)?;
+    Ok(ComparedTypes {
+        old: old_type,
+        new: new_type,
+        reached_by: pairs.step(index),
+        differences,
+    })
+}
+
+/// Compares a message type of an old pool with one of a new pool, and each pair of types that fields of the same number lead to if both
+/// hold messages. Each pair is compared once, in the order in which it was reached first; the types given are the first pair.
+///
+/// It reports what happens to messages of the old type that are read as the new type (language guide, "Updating A Message Type"): of each
+/// field of an old type what its change does, by rising field number, and then whether it is renamed. docs/COMPAT.md has the rules. The only
+/// error is that memory is refused. The stack is bounded; time and memory go by the fields and oneofs of the pairs, and by the values of the
+/// closed enums that fields of them have.
+pub fn compare(
+    alloc: Global,
+    old: &Pool,
+    old_type: MessageId,
+    new: &Pool,
+    new_type: MessageId,
+) -> Result<Vec<ComparedTypes>, AllocError>
+    requires old { old_type.0 < length old.now.messages }
+    requires new { new_type.0 < length new.now.messages }
+    ensures { IfOk result (λ v. IsComparison old.now new.now (old_type.0, new_type.0) v.items) }
+{
+    let mut pairs = Pairs::new(alloc);
+    pairs.add((old_type.0, new_type.0), None)?;
+    let mut compared = Vec::new(alloc);
+    while let Some((from, to)) = pairs.get(compared.len()) {
+        let types = compare_types(
+            alloc,
+            old,
+            MessageId(from),
+            new,
+            MessageId(to),
+            compared.len(),
+            &mut pairs,
+        )?;
+        compared.push(types)?;
+    }
+    Ok(compared)
+}

@@ -1,0 +1,38 @@
+//! Whether messages of an old type can be read as a new type: each field that differs, and what the change does.
+//!
+//! ```rust
+//! use pb_compat::{Severity, compare};
+//! use pb_schema::Pool;
+//! use std::alloc::Global;
+//! use std::test::Fail;
+//!
+//! /// Whether every message of the old type p.M keeps its values if it is read as the new one.
+//! fn keeps_messages(alloc: Global, old: &Pool, new: &Pool) -> Result<bool, Fail> {
+//!     let old_type = old.message_by_name("p.M").ok_or("no old type")?;
+//!     let new_type = new.message_by_name("p.M").ok_or("no new type")?;
+//!     let compared = compare(alloc, old, old_type, new, new_type)?;
+//!     for types in &compared {
+//!         for difference in &types.differences {
+//!             if difference.severity == Severity::BreaksReading {
+//!                 return Ok(false);
+//!             }
+//!         }
+//!     }
+//!     Ok(true)
+//! }
+//! ```
+#![tactic(auto)]
+
+mod comparing;
+mod difference;
+mod differences;
+mod fields;
+pub mod laws;
+mod oneofs;
+mod pairs;
+mod report;
+mod scalars;
+
+pub use comparing::compare;
+pub use difference::{ComparedTypes, Difference, Severity, Step};
+pub use report::Report;

@@ -1,0 +1,99 @@
+//! Chains and circles of types: each pair is compared once, and the stack stays bounded.
+
+use super::fields::{compare_first, file_of, message_of};
+use pb_compat::{ComparedTypes, Severity};
+use pb_schema::{Field, Kind, MessageId, Pool, Shape};
+use std::alloc::Global;
+use std::test::Fail;
+
+fn field(alloc: Global, name: &str, number: u32, kind: Kind, shape: Shape) -> Result<Field, Fail> {
+    Ok(Field {
+        name: String::from_str(alloc, name)?,
+        number,
+        kind,
+        shape,
+    })
+}
+
+/// Types, each with a number of a kind and the next type in its field 2. The last one has the first in it.
+fn chain(alloc: Global, length: usize, kind: Kind) -> Result<Pool, Fail> {
+    let mut messages = Vec::new(alloc);
+    for index in 0..length {
+        let next = if index.saturating_add(1) == length {
+            0
+        } else {
+            index.saturating_add(1)
+        };
+        let x = field(alloc, "x", 1, kind, Shape::Implicit)?;
+        let t = field(
+            alloc,
+            "t",
+            2,
+            Kind::Message(MessageId(next)),
+            Shape::Explicit,
+        )?;
+        let name = format!(in alloc; "T{index}")?;
+        messages.push(message_of(alloc, name.as_str(), vec![in alloc; x, t]?)?)?;
+    }
+    let files = vec![in alloc; file_of(alloc, false)?]?;
+    Ok(Pool::from_parts(alloc, files, messages, Vec::new(alloc))?)
+}
+
+/// Whether a pair of a chain was reached by field 2 of the one before, and has its one difference.
+fn is_link(index: usize, types: &ComparedTypes) -> bool {
+    let reached = match types.reached_by {
+        None => index == 0,
+        Some(step) => step.from.saturating_add(1) == index && step.field == 2,
+    };
+    let reported = match types.differences.as_slice() {
+        [difference] => { difference.number == 1 && difference.severity == Severity::BreaksReading }
+        _ => false,
+    };
+    reached && reported && types.old == MessageId(index) && types.new == MessageId(index)
+}
+
+fn are_links(compared: &[ComparedTypes]) -> bool {
+    for (index, types) in compared.iter().enumerate() {
+        if !is_link(index, types) {
+            return false;
+        }
+    }
+    true
+}
+
+fn is_compared(alloc: Global, old: &Pool, new: &Pool, length: usize) -> Result<bool, Fail> {
+    let compared = compare_first(alloc, old, new)?;
+    Ok(compared.len() == length && are_links(&compared))
+}
+
+/// Whether each pair of a chain is compared once.
+fn goes_along(alloc: Global, length: usize) -> Result<bool, Fail> {
+    let old = chain(alloc, length, Kind::Int64)?;
+    let new = chain(alloc, length, Kind::Int32)?;
+    is_compared(alloc, &old, &new, length)
+}
+
+#[test]
+fn chains(rt: HostRuntime) -> Result<(), Fail> {
+    assert!(rt; goes_along(rt.alloc(), 1)? && goes_along(rt.alloc(), 10_000)?);
+    Ok(())
+}
+
+fn count_pairs(alloc: Global, old: &Pool, new: &Pool) -> Result<usize, Fail> {
+    let compared = compare_first(alloc, old, new)?;
+    Ok(compared.len())
+}
+
+/// How many pairs a circle of two types and one of three have.
+fn pairs_of_circles(alloc: Global) -> Result<usize, Fail> {
+    let old = chain(alloc, 2, Kind::Int32)?;
+    let new = chain(alloc, 3, Kind::Int32)?;
+    count_pairs(alloc, &old, &new)
+}
+
+#[test]
+fn circles(rt: HostRuntime) -> Result<(), Fail> {
+    let pairs = pairs_of_circles(rt.alloc())?;
+    assert!(rt; pairs == 6);
+    Ok(())
+}
