@@ -5,6 +5,7 @@ use Rattle.std.specs.Str.{bytes_eq}
 use Rattle.std.proofs.lemmas.Bool.{false≢true, or_parts}
 use Rattle.std.proofs.lemmas.Slice.Eq.{bytes_eq-Decides}
 use Rattle.pb_decl.specs.Decls.{DeclaredField, DeclaredMethod, DeclaredService}
+use Rattle.pb_tokens.specs.declared.grammar.Grammar.{Grammar}
 use Rattle.pb_tokens.specs.Symbols.{Symbol, word, number, text, sign}
 use Rattle.pb_tokens.specs.Language.{Language, ◌▸◌, one, Rules}
 use Rattle.pb_tokens.specs.Phrases.{keyword, mark, name, BeginsNot, option, setting, signed, value_end, enum_range, typename}
@@ -16,7 +17,7 @@ use Rattle.pb_tokens.proofs.Heads.{Headed, headed_one, headed_then, headed_separ
 use Rattle.pb_tokens.proofs.SymbolTests.{is_the_sign, reads_mark, reads_keyword}
 use Rattle.pb_tokens.proofs.KindLemmas.{first_kind, ByKind, Offers, kinds_fail, kinds_filled, reads_kinds}
 use Rattle.pb_tokens.proofs.NameLaws.{reads_name, name_first, reads_typename}
-use Rattle.pb_tokens.proofs.OptionLaws.{reads_option, reads_setting, reads_signed, reads_value_end, end_stops}
+use Rattle.pb_tokens.proofs.OptionLaws.{reads_option, reads_setting, reads_signed, reads_value_end, end_stops, end_constant}
 use Rattle.pb_tokens.proofs.RangeLaws.{reads_enum_range, enum_range_first}
 use Rattle.pb_source.specs.declared.kind.Label.TheVariants.{Unlabelled}
 use Rattle.pb_source.specs.declared.kind.EnumKind.{EnumKind}
@@ -43,8 +44,8 @@ Silent v L = Mapped {A = Unit {0}} (λ _. v) (λ rules u. L rules)
 pub reads_silent_end : {A : Type 0} {n : ℕ} (v : A) → Reads n never (Silent v (λ rules. mark ";")) (mapped (λ _. v) (mark_reader (codes ";")))
 reads_silent_end v = reads_mapped {A = Unit {0}} {R = λ rules u. mark ";"} (λ _. v) (reads_mark (codes ";"))
 
-pub reads_silent_option : {A : Type 0} {n : ℕ} (v : A) → Reads n never (Silent v option) (mapped (λ _. v) (option_reader n))
-reads_silent_option {A} {n} v = reads_mapped {A = Unit {0}} {R = λ rules u. option rules} (λ _. v) (reads_option n)
+pub reads_silent_option : (grammar : Grammar) → {A : Type 0} {n : ℕ} (v : A) → Reads n never (Silent v (option grammar)) (mapped (λ _. v) (option_reader grammar n))
+reads_silent_option grammar {A} {n} v = reads_mapped {A = Unit {0}} {R = λ rules u. option grammar rules} (λ _. v) (reads_option grammar n)
 
 pub not_empty_then : {S : Language} (s : Symbol) → (one s ▸ S) [] → ⊥
 not_empty_then s (a, b, ha, hb, j) = let e : [] ≡ s ∷ b = j ∙ ap (λ a. a ++ b) ha in cc e
@@ -54,20 +55,20 @@ closing_of_none kind h s e = ap kind (is_the_sign (codes "}") s e) ∙ h
 
 -- ---- oneofs
 
-abbrev OneofLine : OneofKind → Rules → Option DeclaredField → Language
-OneofLine in_a_oneof.Empty = Silent None (λ rules. mark ";")
-OneofLine in_a_oneof.Option = Silent None option
-OneofLine in_a_oneof.Field = Mapped Some (λ rules. field rules Unlabelled)
+abbrev OneofLine : (grammar : Grammar) → OneofKind → Rules → Option DeclaredField → Language
+OneofLine grammar in_a_oneof.Empty = Silent None (λ rules. mark ";")
+OneofLine grammar in_a_oneof.Option = Silent None (option grammar)
+OneofLine grammar in_a_oneof.Field = Mapped Some (λ rules. field grammar rules Unlabelled)
 
-oneof_offers : (n : ℕ) (k : OneofKind) → Offers n never (OneofLine k) (oneof_line n k)
-oneof_offers n in_a_oneof.Empty = reads_silent_end None
-oneof_offers n in_a_oneof.Option = reads_silent_option None
-oneof_offers n in_a_oneof.Field = reads_mapped Some (reads_field n Unlabelled)
+oneof_offers : (grammar : Grammar) → (n : ℕ) (k : OneofKind) → Offers n never (OneofLine grammar k) (oneof_line grammar n k)
+oneof_offers grammar n in_a_oneof.Empty = reads_silent_end None
+oneof_offers grammar n in_a_oneof.Option = reads_silent_option grammar None
+oneof_offers grammar n in_a_oneof.Field = reads_mapped Some (reads_field grammar n Unlabelled)
 
-oneof_filled : (k : OneofKind) (rules : Rules) (o : Option DeclaredField) → OneofLine k rules o [] → ⊥
-oneof_filled in_a_oneof.Empty rules o d = cc d.2
-oneof_filled in_a_oneof.Option rules o d = not_empty_then (word (codes "option")) d.2
-oneof_filled in_a_oneof.Field rules o d = false≢true (field_first rules Unlabelled d.0 [] d.2)
+oneof_filled : (grammar : Grammar) → (k : OneofKind) (rules : Rules) (o : Option DeclaredField) → OneofLine grammar k rules o [] → ⊥
+oneof_filled grammar in_a_oneof.Empty rules o d = cc d.2
+oneof_filled grammar in_a_oneof.Option rules o d = not_empty_then (word (codes "option")) d.2
+oneof_filled grammar in_a_oneof.Field rules o d = false≢true (field_first grammar rules Unlabelled d.0 [] d.2)
 
 begins_field : (c : List Symbol) → BeginsNot ("option" ∷ []) c → first_passes begins_type c ≡ true → first_kind oneof_kind c ≡ Some in_a_oneof.Field
 begins_field [] b h = absurd (false≢true h)
@@ -83,72 +84,72 @@ field_begins (number w ∷ c) h = tt
 field_begins (text w ∷ c) h = tt
 field_begins (sign w ∷ c) h = tt
 
-to_oneof : (rules : Rules) (o : Option DeclaredField) (c : List Symbol) → ByKind oneof_kind OneofLine rules o c → oneof_statement rules o c
-to_oneof rules o c (in_a_oneof.Empty, h, (u, e, d)) = subst (λ o. oneof_statement rules o c) (sym e) (inr d)
-to_oneof rules o c (in_a_oneof.Option, h, (u, e, d)) = subst (λ o. oneof_statement rules o c) (sym e) (inl d)
-to_oneof rules o c (in_a_oneof.Field, h, (f, e, d)) = subst (λ o. oneof_statement rules o c) (sym e) (field_begins c h, d)
+to_oneof : (grammar : Grammar) → (rules : Rules) (o : Option DeclaredField) (c : List Symbol) → ByKind oneof_kind (OneofLine grammar) rules o c → oneof_statement grammar rules o c
+to_oneof grammar rules o c (in_a_oneof.Empty, h, (u, e, d)) = subst (λ o. oneof_statement grammar rules o c) (sym e) (inr d)
+to_oneof grammar rules o c (in_a_oneof.Option, h, (u, e, d)) = subst (λ o. oneof_statement grammar rules o c) (sym e) (inl d)
+to_oneof grammar rules o c (in_a_oneof.Field, h, (f, e, d)) = subst (λ o. oneof_statement grammar rules o c) (sym e) (field_begins c h, d)
 
-of_oneof : (rules : Rules) (o : Option DeclaredField) (c : List Symbol) → oneof_statement rules o c → ByKind oneof_kind OneofLine rules o c
-of_oneof rules None c (inl d) = (in_a_oneof.Option, kind_then oneof_kind (word (codes "option")) c d, (tt, refl, d))
-of_oneof rules None c (inr d) = (in_a_oneof.Empty, kind_one oneof_kind (sign (codes ";")) c d, (tt, refl, d))
-of_oneof rules (Some f) c (b, d) = (in_a_oneof.Field, begins_field c b (field_first rules Unlabelled f c d), (f, refl, d))
+of_oneof : (grammar : Grammar) → (rules : Rules) (o : Option DeclaredField) (c : List Symbol) → oneof_statement grammar rules o c → ByKind oneof_kind (OneofLine grammar) rules o c
+of_oneof grammar rules None c (inl d) = (in_a_oneof.Option, kind_then oneof_kind (word (codes "option")) c d, (tt, refl, d))
+of_oneof grammar rules None c (inr d) = (in_a_oneof.Empty, kind_one oneof_kind (sign (codes ";")) c d, (tt, refl, d))
+of_oneof grammar rules (Some f) c (b, d) = (in_a_oneof.Field, begins_field c b (field_first grammar rules Unlabelled f c d), (f, refl, d))
 
-reads_oneof_statement : (n : ℕ) → Reads n never oneof_statement (oneof_statement_reader n)
+reads_oneof_statement : (grammar : Grammar) → (n : ℕ) → Reads n never (oneof_statement grammar) (oneof_statement_reader grammar n)
 unfolding oneof_statement_reader
-reads_oneof_statement n =
-    said_so {Q = oneof_statement}
-    (reads_kinds n never oneof_kind OneofLine (oneof_line n) (oneof_offers n) oneof_filled (λ rules. (None, sign (codes ";") ∷ [], (in_a_oneof.Empty, refl, (tt, refl, refl)))))
-    to_oneof of_oneof
+reads_oneof_statement grammar n =
+    said_so {Q = oneof_statement grammar}
+    (reads_kinds n never oneof_kind (OneofLine grammar) (oneof_line grammar n) (oneof_offers grammar n) (oneof_filled grammar) (λ rules. (None, sign (codes ";") ∷ [], (in_a_oneof.Empty, refl, (tt, refl, refl)))))
+    (to_oneof grammar) (of_oneof grammar)
 
-pub reads_oneof : (n : ℕ) → Reads n never (λ rules x. oneof rules x.0 x.1) (oneof_reader n)
+pub reads_oneof : (grammar : Grammar) → (n : ℕ) → Reads n never (λ rules x. oneof grammar rules x.0 x.1) (oneof_reader grammar n)
 unfolding oneof_reader
-reads_oneof n =
-    said_so {Q = λ rules x. oneof rules x.0 x.1}
+reads_oneof grammar n =
+    said_so {Q = λ rules x. oneof grammar rules x.0 x.1}
     (reads_behind {L = λ rules. keyword "oneof"} (reads_keyword (codes "oneof"))
     (reads_both reads_name (reads_mapped those_said
-    (reads_braced (reads_oneof_statement n)
-    (λ rules o c rest d. kinds_fail oneof_kind OneofLine is_closing (closing_of_none oneof_kind refl) rules o c rest (of_oneof rules o c d))
-    (λ rules o c d. kinds_filled oneof_kind OneofLine rules o c (of_oneof rules o c d))))))
+    (reads_braced (reads_oneof_statement grammar n)
+    (λ rules o c rest d. kinds_fail oneof_kind (OneofLine grammar) is_closing (closing_of_none oneof_kind refl) rules o c rest (of_oneof grammar rules o c d))
+    (λ rules o c d. kinds_filled oneof_kind (OneofLine grammar) rules o c (of_oneof grammar rules o c d))))))
     (λ rules x c d. (d.3.3.0, d.3.3.1, (d.0, d.1, d.2, (d.3.0, d.3.1, d.3.2, d.3.3.2, d.3.4), d.4)))
     (λ rules x c d. (d.2.0, d.2.1, d.2.2, (d.2.3.0, d.2.3.1, d.2.3.2, (d.0, d.1, d.2.3.3), d.2.3.4), d.2.4))
 
 -- ---- enums
 
-abbrev Value : Rules → EnumStatement → Language
-Value = Mapped (λ x. EnumStatement.a_value x.0 x.1) (Both (λ rules. name) (Behind (λ rules. mark "=") (Before signed value_end)))
+abbrev Value : (grammar : Grammar) → Rules → EnumStatement → Language
+Value grammar = Mapped (λ x. EnumStatement.a_value x.0 x.1) (Both (λ rules. name) (Behind (λ rules. mark "=") (Before signed (value_end grammar))))
 
-reads_value : (n : ℕ) → Reads n never Value (value_reader n)
+reads_value : (grammar : Grammar) → (n : ℕ) → Reads n never (Value grammar) (value_reader grammar n)
 unfolding value_reader
-reads_value n =
+reads_value grammar n =
     reads_mapped (λ x. EnumStatement.a_value x.0 x.1)
-    (reads_both reads_name (reads_behind {L = λ rules. mark "="} (reads_mark (codes "=")) (reads_before {L = value_end} reads_signed (reads_value_end n))))
+    (reads_both reads_name (reads_behind {L = λ rules. mark "="} (reads_mark (codes "=")) (reads_before {L = value_end grammar} reads_signed (reads_value_end grammar n))))
 
-abbrev AliasOption : Rules → EnumStatement → Language
-AliasOption = Mapped said_of_alias (Behind (λ rules. keyword "option") (Before (setting (codes "allow_alias")) (λ rules. mark ";")))
+abbrev AliasOption : (grammar : Grammar) → Rules → EnumStatement → Language
+AliasOption grammar = Mapped said_of_alias (Behind (λ rules. keyword "option") (Before (setting grammar (codes "allow_alias")) (λ rules. mark ";")))
 
-abbrev EnumLine : EnumKind → Rules → EnumStatement → Language
-EnumLine in_enum.Empty = Silent EnumStatement.nothing_said (λ rules. mark ";")
-EnumLine in_enum.Option = AliasOption
-EnumLine in_enum.Reserved = Reserved enum_range enum_range_reader EnumStatement.reserved_ranges EnumStatement.reserved_names enum_range_first
-EnumLine in_enum.Value = Value
+abbrev EnumLine : (grammar : Grammar) → EnumKind → Rules → EnumStatement → Language
+EnumLine grammar in_enum.Empty = Silent EnumStatement.nothing_said (λ rules. mark ";")
+EnumLine grammar in_enum.Option = AliasOption grammar
+EnumLine grammar in_enum.Reserved = Reserved enum_range enum_range_reader EnumStatement.reserved_ranges EnumStatement.reserved_names enum_range_first
+EnumLine grammar in_enum.Value = Value grammar
 
-enum_offers : (n : ℕ) (k : EnumKind) → Offers n never (EnumLine k) (enum_statement_line n k)
-enum_offers n in_enum.Empty = reads_silent_end EnumStatement.nothing_said
-enum_offers n in_enum.Option =
+enum_offers : (grammar : Grammar) → (n : ℕ) (k : EnumKind) → Offers n never (EnumLine grammar k) (enum_statement_line grammar n k)
+enum_offers grammar n in_enum.Empty = reads_silent_end EnumStatement.nothing_said
+enum_offers grammar n in_enum.Option =
     reads_mapped said_of_alias (reads_behind {L = λ rules. keyword "option"} (reads_keyword (codes "option"))
-    (reads_before_so {L = λ rules. mark ";"} (reads_setting (codes "allow_alias") n) (reads_mark (codes ";")) (λ rules u c rest d s. end_stops (codes ";") c rest refl d)))
-enum_offers n in_enum.Reserved = reads_reserved enum_range enum_range_reader EnumStatement.reserved_ranges EnumStatement.reserved_names enum_range_first n (reads_enum_range n)
-enum_offers n in_enum.Value = reads_value n
+    (reads_before_so {L = λ rules. mark ";"} (reads_setting grammar (codes "allow_alias") n) (reads_mark (codes ";")) (λ rules u c rest d s. end_constant (codes ";") c rest refl d)))
+enum_offers grammar n in_enum.Reserved = reads_reserved enum_range enum_range_reader EnumStatement.reserved_ranges EnumStatement.reserved_names enum_range_first n (reads_enum_range n)
+enum_offers grammar n in_enum.Value = reads_value grammar n
 
-value_first : (rules : Rules) (s : EnumStatement) (c : List Symbol) → Value rules s c → first_passes is_a_word c ≡ true
-value_first rules s c d = headed_then is_a_word (name_first d.0.0) c d.2
+value_first : (grammar : Grammar) → (rules : Rules) (s : EnumStatement) (c : List Symbol) → Value grammar rules s c → first_passes is_a_word c ≡ true
+value_first grammar rules s c d = headed_then is_a_word (name_first d.0.0) c d.2
 
-enum_filled : (k : EnumKind) (rules : Rules) (s : EnumStatement) → EnumLine k rules s [] → ⊥
-enum_filled in_enum.Empty rules s d = cc d.2
-enum_filled in_enum.Option rules s d = not_empty_then (word (codes "option")) d.2
-enum_filled in_enum.Reserved rules s d =
+enum_filled : (grammar : Grammar) → (k : EnumKind) (rules : Rules) (s : EnumStatement) → EnumLine grammar k rules s [] → ⊥
+enum_filled grammar in_enum.Empty rules s d = cc d.2
+enum_filled grammar in_enum.Option rules s d = not_empty_then (word (codes "option")) d.2
+enum_filled grammar in_enum.Reserved rules s d =
     false≢true (reserved_first enum_range enum_range_reader EnumStatement.reserved_ranges EnumStatement.reserved_names enum_range_first rules s [] d)
-enum_filled in_enum.Value rules s d = false≢true (value_first rules s [] d)
+enum_filled grammar in_enum.Value rules s d = false≢true (value_first grammar rules s [] d)
 
 begins_value : (c : List Symbol) → BeginsNot ("option" ∷ "reserved" ∷ []) c → first_passes is_a_word c ≡ true → first_kind enum_kind c ≡ Some in_enum.Value
 begins_value [] b h = absurd (false≢true h)
@@ -165,81 +166,81 @@ value_begins (number w ∷ c) h = tt
 value_begins (text w ∷ c) h = tt
 value_begins (sign w ∷ c) h = tt
 
-said_alias : (rules : Rules) (o : Option Bool) (c : List Symbol) → (keyword "option" ▸ setting (codes "allow_alias") rules o ▸ mark ";") c → enum_statement rules (said_of_alias o) c
-said_alias rules None c d = inl d
-said_alias rules (Some b) c d = d
+said_alias : (grammar : Grammar) → (rules : Rules) (o : Option Bool) (c : List Symbol) → (keyword "option" ▸ setting grammar (codes "allow_alias") rules o ▸ mark ";") c → enum_statement grammar rules (said_of_alias o) c
+said_alias grammar rules None c d = inl d
+said_alias grammar rules (Some b) c d = d
 
-to_enum : (rules : Rules) (s : EnumStatement) (c : List Symbol) → ByKind enum_kind EnumLine rules s c → enum_statement rules s c
-to_enum rules s c (in_enum.Empty, h, (u, e, d)) = subst (λ s. enum_statement rules s c) (sym e) (inr d)
-to_enum rules s c (in_enum.Option, h, (o, e, d)) = subst (λ s. enum_statement rules s c) (sym e) (said_alias rules o c d)
-to_enum rules s c (in_enum.Reserved, h, inl (ns, e, d)) = subst (λ s. enum_statement rules s c) (sym e) d
-to_enum rules s c (in_enum.Reserved, h, inr (rs, e, d)) = subst (λ s. enum_statement rules s c) (sym e) d
-to_enum rules s c (in_enum.Value, h, (x, e, d)) = subst (λ s. enum_statement rules s c) (sym e) (value_begins c h, d)
+to_enum : (grammar : Grammar) → (rules : Rules) (s : EnumStatement) (c : List Symbol) → ByKind enum_kind (EnumLine grammar) rules s c → enum_statement grammar rules s c
+to_enum grammar rules s c (in_enum.Empty, h, (u, e, d)) = subst (λ s. enum_statement grammar rules s c) (sym e) (inr d)
+to_enum grammar rules s c (in_enum.Option, h, (o, e, d)) = subst (λ s. enum_statement grammar rules s c) (sym e) (said_alias grammar rules o c d)
+to_enum grammar rules s c (in_enum.Reserved, h, inl (ns, e, d)) = subst (λ s. enum_statement grammar rules s c) (sym e) d
+to_enum grammar rules s c (in_enum.Reserved, h, inr (rs, e, d)) = subst (λ s. enum_statement grammar rules s c) (sym e) d
+to_enum grammar rules s c (in_enum.Value, h, (x, e, d)) = subst (λ s. enum_statement grammar rules s c) (sym e) (value_begins c h, d)
 
-of_enum : (rules : Rules) (s : EnumStatement) (c : List Symbol) → enum_statement rules s c → ByKind enum_kind EnumLine rules s c
-of_enum rules EnumStatement.nothing_said c (inl d) = (in_enum.Option, kind_then enum_kind (word (codes "option")) c d, (None, refl, d))
-of_enum rules EnumStatement.nothing_said c (inr d) = (in_enum.Empty, kind_one enum_kind (sign (codes ";")) c d, (tt, refl, d))
-of_enum rules (EnumStatement.allows_alias b) c d = (in_enum.Option, kind_then enum_kind (word (codes "option")) c d, (Some b, refl, d))
-of_enum rules (EnumStatement.a_value w z) c (b, d) = (in_enum.Value, begins_value c b (headed_then is_a_word (name_first w) c d), ((w, z), refl, d))
-of_enum rules (EnumStatement.reserved_ranges rs) c d = (in_enum.Reserved, kind_then enum_kind (word (codes "reserved")) c d, inr (rs, refl, d))
-of_enum rules (EnumStatement.reserved_names ns) c d = (in_enum.Reserved, kind_then enum_kind (word (codes "reserved")) c d, inl (ns, refl, d))
+of_enum : (grammar : Grammar) → (rules : Rules) (s : EnumStatement) (c : List Symbol) → enum_statement grammar rules s c → ByKind enum_kind (EnumLine grammar) rules s c
+of_enum grammar rules EnumStatement.nothing_said c (inl d) = (in_enum.Option, kind_then enum_kind (word (codes "option")) c d, (None, refl, d))
+of_enum grammar rules EnumStatement.nothing_said c (inr d) = (in_enum.Empty, kind_one enum_kind (sign (codes ";")) c d, (tt, refl, d))
+of_enum grammar rules (EnumStatement.allows_alias b) c d = (in_enum.Option, kind_then enum_kind (word (codes "option")) c d, (Some b, refl, d))
+of_enum grammar rules (EnumStatement.a_value w z) c (b, d) = (in_enum.Value, begins_value c b (headed_then is_a_word (name_first w) c d), ((w, z), refl, d))
+of_enum grammar rules (EnumStatement.reserved_ranges rs) c d = (in_enum.Reserved, kind_then enum_kind (word (codes "reserved")) c d, inr (rs, refl, d))
+of_enum grammar rules (EnumStatement.reserved_names ns) c d = (in_enum.Reserved, kind_then enum_kind (word (codes "reserved")) c d, inl (ns, refl, d))
 
-reads_enum_statement : (n : ℕ) → Reads n never enum_statement (enum_statement_reader n)
+reads_enum_statement : (grammar : Grammar) → (n : ℕ) → Reads n never (enum_statement grammar) (enum_statement_reader grammar n)
 unfolding enum_statement_reader
-reads_enum_statement n =
-    said_so {Q = enum_statement}
-    (reads_kinds n never enum_kind EnumLine (enum_statement_line n) (enum_offers n) enum_filled
+reads_enum_statement grammar n =
+    said_so {Q = enum_statement grammar}
+    (reads_kinds n never enum_kind (EnumLine grammar) (enum_statement_line grammar n) (enum_offers grammar n) (enum_filled grammar)
     (λ rules. (EnumStatement.nothing_said, sign (codes ";") ∷ [], (in_enum.Empty, refl, (tt, refl, refl)))))
-    to_enum of_enum
+    (to_enum grammar) (of_enum grammar)
 
-pub reads_enum : (n : ℕ) → Reads n never enum_line (enum_reader n)
+pub reads_enum : (grammar : Grammar) → (n : ℕ) → Reads n never (enum_line grammar) (enum_reader grammar n)
 unfolding enum_reader
-reads_enum n =
-    said_so {Q = enum_line}
+reads_enum grammar n =
+    said_so {Q = enum_line grammar}
     (reads_mapped (λ x. enum_of x.0 x.1)
     (reads_behind {L = λ rules. keyword "enum"} (reads_keyword (codes "enum"))
     (reads_both reads_name
-    (reads_braced (reads_enum_statement n)
-    (λ rules s c rest d. kinds_fail enum_kind EnumLine is_closing (closing_of_none enum_kind refl) rules s c rest (of_enum rules s c d))
-    (λ rules s c d. kinds_filled enum_kind EnumLine rules s c (of_enum rules s c d))))))
+    (reads_braced (reads_enum_statement grammar n)
+    (λ rules s c rest d. kinds_fail enum_kind (EnumLine grammar) is_closing (closing_of_none enum_kind refl) rules s c rest (of_enum grammar rules s c d))
+    (λ rules s c d. kinds_filled enum_kind (EnumLine grammar) rules s c (of_enum grammar rules s c d))))))
     (λ rules e c d. (d.0.0, d.0.1, d.1, d.2)) (λ rules e c d. ((d.0, d.1), d.2, d.3))
 
 -- ---- services
 
-abbrev MethodLine : MethodKind → Rules → Unit {0} → Language
-MethodLine in_method.Empty rules u = mark ";"
-MethodLine in_method.Option rules u = option rules
+abbrev MethodLine : (grammar : Grammar) → MethodKind → Rules → Unit {0} → Language
+MethodLine grammar in_method.Empty rules u = mark ";"
+MethodLine grammar in_method.Option rules u = option grammar rules
 
-method_offers : (n : ℕ) (k : MethodKind) → Offers n never (MethodLine k) (method_line n k)
-method_offers n in_method.Empty = reads_mark (codes ";")
-method_offers n in_method.Option = reads_option n
+method_offers : (grammar : Grammar) → (n : ℕ) (k : MethodKind) → Offers n never (MethodLine grammar k) (method_line grammar n k)
+method_offers grammar n in_method.Empty = reads_mark (codes ";")
+method_offers grammar n in_method.Option = reads_option grammar n
 
-method_filled : (k : MethodKind) (rules : Rules) (u : Unit {0}) → MethodLine k rules u [] → ⊥
-method_filled in_method.Empty rules u d = cc d
-method_filled in_method.Option rules u d = not_empty_then (word (codes "option")) d
+method_filled : (grammar : Grammar) → (k : MethodKind) (rules : Rules) (u : Unit {0}) → MethodLine grammar k rules u [] → ⊥
+method_filled grammar in_method.Empty rules u d = cc d
+method_filled grammar in_method.Option rules u d = not_empty_then (word (codes "option")) d
 
-to_method : (rules : Rules) (u : Unit {0}) (c : List Symbol) → ByKind method_kind MethodLine rules u c → method_statement rules u c
-to_method rules u c (in_method.Empty, h, d) = inr d
-to_method rules u c (in_method.Option, h, d) = inl d
+to_method : (grammar : Grammar) → (rules : Rules) (u : Unit {0}) (c : List Symbol) → ByKind method_kind (MethodLine grammar) rules u c → method_statement grammar rules u c
+to_method grammar rules u c (in_method.Empty, h, d) = inr d
+to_method grammar rules u c (in_method.Option, h, d) = inl d
 
-of_method : (rules : Rules) (u : Unit {0}) (c : List Symbol) → method_statement rules u c → ByKind method_kind MethodLine rules u c
-of_method rules u c (inl d) = (in_method.Option, kind_then method_kind (word (codes "option")) c d, d)
-of_method rules u c (inr d) = (in_method.Empty, kind_one method_kind (sign (codes ";")) c d, d)
+of_method : (grammar : Grammar) → (rules : Rules) (u : Unit {0}) (c : List Symbol) → method_statement grammar rules u c → ByKind method_kind (MethodLine grammar) rules u c
+of_method grammar rules u c (inl d) = (in_method.Option, kind_then method_kind (word (codes "option")) c d, d)
+of_method grammar rules u c (inr d) = (in_method.Empty, kind_one method_kind (sign (codes ";")) c d, d)
 
-reads_method_statement : (n : ℕ) → Reads n never method_statement (method_statement_reader n)
+reads_method_statement : (grammar : Grammar) → (n : ℕ) → Reads n never (method_statement grammar) (method_statement_reader grammar n)
 unfolding method_statement_reader
-reads_method_statement n =
-    said_so {Q = method_statement}
-    (reads_kinds n never method_kind MethodLine (method_line n) (method_offers n) method_filled (λ rules. (tt, sign (codes ";") ∷ [], (in_method.Empty, refl, refl)))) to_method of_method
+reads_method_statement grammar n =
+    said_so {Q = method_statement grammar}
+    (reads_kinds n never method_kind (MethodLine grammar) (method_line grammar n) (method_offers grammar n) (method_filled grammar) (λ rules. (tt, sign (codes ";") ∷ [], (in_method.Empty, refl, refl)))) (to_method grammar) (of_method grammar)
 
-reads_method_end : (n : ℕ) → Reads n never (λ rules (u : Unit {0}). method_end rules) (method_end_reader n)
+reads_method_end : (grammar : Grammar) → (n : ℕ) → Reads n never (λ rules (u : Unit {0}). method_end grammar rules) (method_end_reader grammar n)
 unfolding method_end_reader
-reads_method_end n =
-    said_so {Q = λ rules (u : Unit {0}). method_end rules}
+reads_method_end grammar n =
+    said_so {Q = λ rules (u : Unit {0}). method_end grammar rules}
     (reads_either {S = λ rules u. mark ";"} (is_mark (codes "{"))
-    (reads_some (reads_braced (reads_method_statement n)
-    (λ rules s c rest d. kinds_fail method_kind MethodLine is_closing (closing_of_none method_kind refl) rules s c rest (of_method rules s c d))
-    (λ rules s c d. kinds_filled method_kind MethodLine rules s c (of_method rules s c d))))
+    (reads_some (reads_braced (reads_method_statement grammar n)
+    (λ rules s c rest d. kinds_fail method_kind (MethodLine grammar) is_closing (closing_of_none method_kind refl) rules s c rest (of_method grammar rules s c d))
+    (λ rules s c d. kinds_filled method_kind (MethodLine grammar) rules s c (of_method grammar rules s c d))))
     (reads_mark (codes ";"))
     (λ rules u c d. headed_then (is_mark (codes "{")) (headed_one (is_mark (codes "{")) (sign (codes "{")) refl) c d.1)
     (λ rules u c rest d s. front_of (is_mark (codes "{")) (sign (codes ";")) c rest d))
@@ -329,60 +330,60 @@ reads_parameter n =
     reads_behind {L = λ rules. mark "("} (reads_mark (codes "("))
     (reads_before_so {L = λ rules. mark ")"} (reads_streamed n) (reads_mark (codes ")")) (λ rules u c rest d s. end_stops (codes ")") c rest refl d))
 
-reads_method : (n : ℕ) → Reads n never method (method_reader n)
+reads_method : (grammar : Grammar) → (n : ℕ) → Reads n never (method grammar) (method_reader grammar n)
 unfolding method_reader
-reads_method n =
-    said_so {Q = method}
+reads_method grammar n =
+    said_so {Q = method grammar}
     (reads_mapped method_from
     (reads_behind {L = λ rules. keyword "rpc"} (reads_keyword (codes "rpc"))
     (reads_both reads_name (reads_both (reads_parameter n)
-    (reads_behind {L = λ rules. keyword "returns"} (reads_keyword (codes "returns")) (reads_before {L = method_end} (reads_parameter n) (reads_method_end n)))))))
-    (λ rules m c d. subst (λ m. method rules m c) (sym d.1) d.2)
+    (reads_behind {L = λ rules. keyword "returns"} (reads_keyword (codes "returns")) (reads_before {L = method_end grammar} (reads_parameter n) (reads_method_end grammar n)))))))
+    (λ rules m c d. subst (λ m. method grammar rules m c) (sym d.1) d.2)
     (λ rules m c d. ((m.name, ((m.client_streams, m.input), (m.server_streams, m.output))), refl, d))
 
-abbrev ServiceLine : ServiceKind → Rules → Option DeclaredMethod → Language
-ServiceLine in_service.Empty = Silent None (λ rules. mark ";")
-ServiceLine in_service.Option = Silent None option
-ServiceLine in_service.Method = Mapped Some method
+abbrev ServiceLine : (grammar : Grammar) → ServiceKind → Rules → Option DeclaredMethod → Language
+ServiceLine grammar in_service.Empty = Silent None (λ rules. mark ";")
+ServiceLine grammar in_service.Option = Silent None (option grammar)
+ServiceLine grammar in_service.Method = Mapped Some (method grammar)
 
-service_offers : (n : ℕ) (k : ServiceKind) → Offers n never (ServiceLine k) (service_line n k)
-service_offers n in_service.Empty = reads_silent_end None
-service_offers n in_service.Option = reads_silent_option None
-service_offers n in_service.Method = reads_mapped Some (reads_method n)
+service_offers : (grammar : Grammar) → (n : ℕ) (k : ServiceKind) → Offers n never (ServiceLine grammar k) (service_line grammar n k)
+service_offers grammar n in_service.Empty = reads_silent_end None
+service_offers grammar n in_service.Option = reads_silent_option grammar None
+service_offers grammar n in_service.Method = reads_mapped Some (reads_method grammar n)
 
-service_filled : (k : ServiceKind) (rules : Rules) (o : Option DeclaredMethod) → ServiceLine k rules o [] → ⊥
-service_filled in_service.Empty rules o d = cc d.2
-service_filled in_service.Option rules o d = not_empty_then (word (codes "option")) d.2
-service_filled in_service.Method rules o d = not_empty_then (word (codes "rpc")) d.2
+service_filled : (grammar : Grammar) → (k : ServiceKind) (rules : Rules) (o : Option DeclaredMethod) → ServiceLine grammar k rules o [] → ⊥
+service_filled grammar in_service.Empty rules o d = cc d.2
+service_filled grammar in_service.Option rules o d = not_empty_then (word (codes "option")) d.2
+service_filled grammar in_service.Method rules o d = not_empty_then (word (codes "rpc")) d.2
 
-to_service : (rules : Rules) (o : Option DeclaredMethod) (c : List Symbol) → ByKind service_kind ServiceLine rules o c → service_statement rules o c
-to_service rules o c (in_service.Empty, h, (u, e, d)) = subst (λ o. service_statement rules o c) (sym e) (inr d)
-to_service rules o c (in_service.Option, h, (u, e, d)) = subst (λ o. service_statement rules o c) (sym e) (inl d)
-to_service rules o c (in_service.Method, h, (m, e, d)) = subst (λ o. service_statement rules o c) (sym e) d
+to_service : (grammar : Grammar) → (rules : Rules) (o : Option DeclaredMethod) (c : List Symbol) → ByKind service_kind (ServiceLine grammar) rules o c → service_statement grammar rules o c
+to_service grammar rules o c (in_service.Empty, h, (u, e, d)) = subst (λ o. service_statement grammar rules o c) (sym e) (inr d)
+to_service grammar rules o c (in_service.Option, h, (u, e, d)) = subst (λ o. service_statement grammar rules o c) (sym e) (inl d)
+to_service grammar rules o c (in_service.Method, h, (m, e, d)) = subst (λ o. service_statement grammar rules o c) (sym e) d
 
-of_service : (rules : Rules) (o : Option DeclaredMethod) (c : List Symbol) → service_statement rules o c → ByKind service_kind ServiceLine rules o c
-of_service rules None c (inl d) = (in_service.Option, kind_then service_kind (word (codes "option")) c d, (tt, refl, d))
-of_service rules None c (inr d) = (in_service.Empty, kind_one service_kind (sign (codes ";")) c d, (tt, refl, d))
-of_service rules (Some m) c d = (in_service.Method, kind_then service_kind (word (codes "rpc")) c d, (m, refl, d))
+of_service : (grammar : Grammar) → (rules : Rules) (o : Option DeclaredMethod) (c : List Symbol) → service_statement grammar rules o c → ByKind service_kind (ServiceLine grammar) rules o c
+of_service grammar rules None c (inl d) = (in_service.Option, kind_then service_kind (word (codes "option")) c d, (tt, refl, d))
+of_service grammar rules None c (inr d) = (in_service.Empty, kind_one service_kind (sign (codes ";")) c d, (tt, refl, d))
+of_service grammar rules (Some m) c d = (in_service.Method, kind_then service_kind (word (codes "rpc")) c d, (m, refl, d))
 
-reads_service_statement : (n : ℕ) → Reads n never service_statement (service_statement_reader n)
+reads_service_statement : (grammar : Grammar) → (n : ℕ) → Reads n never (service_statement grammar) (service_statement_reader grammar n)
 unfolding service_statement_reader
-reads_service_statement n =
-    said_so {Q = service_statement}
-    (reads_kinds n never service_kind ServiceLine (service_line n) (service_offers n) service_filled (λ rules. (None, sign (codes ";") ∷ [], (in_service.Empty, refl, (tt, refl, refl)))))
-    to_service of_service
+reads_service_statement grammar n =
+    said_so {Q = service_statement grammar}
+    (reads_kinds n never service_kind (ServiceLine grammar) (service_line grammar n) (service_offers grammar n) (service_filled grammar) (λ rules. (None, sign (codes ";") ∷ [], (in_service.Empty, refl, (tt, refl, refl)))))
+    (to_service grammar) (of_service grammar)
 
-pub reads_service : (n : ℕ) → Reads n never service (service_reader n)
+pub reads_service : (grammar : Grammar) → (n : ℕ) → Reads n never (service grammar) (service_reader grammar n)
 unfolding service_reader
-reads_service n =
-    said_so {Q = service}
+reads_service grammar n =
+    said_so {Q = service grammar}
     (reads_mapped service_from
     (reads_behind {L = λ rules. keyword "service"} (reads_keyword (codes "service"))
     (reads_both reads_name
-    (reads_braced (reads_service_statement n)
-    (λ rules s c rest d. kinds_fail service_kind ServiceLine is_closing (closing_of_none service_kind refl) rules s c rest (of_service rules s c d))
-    (λ rules s c d. kinds_filled service_kind ServiceLine rules s c (of_service rules s c d))))))
-    (λ rules s c d. subst (λ s. service rules s c) (sym d.1) (d.0.1, refl, d.2))
+    (reads_braced (reads_service_statement grammar n)
+    (λ rules s c rest d. kinds_fail service_kind (ServiceLine grammar) is_closing (closing_of_none service_kind refl) rules s c rest (of_service grammar rules s c d))
+    (λ rules s c d. kinds_filled service_kind (ServiceLine grammar) rules s c (of_service grammar rules s c d))))))
+    (λ rules s c d. subst (λ s. service grammar rules s c) (sym d.1) (d.0.1, refl, d.2))
     (λ rules s c d. ((s.name, d.0), named s (those_said d.0) d.1, d.2))
   where
     named : (s : DeclaredService) (ms : List DeclaredMethod) → s.methods ≡ ms → ◌≡◌ {A = DeclaredService} s (record { name = s.name; methods = ms })

@@ -1,6 +1,7 @@
 -- Readers that give the same where the code looks one symbol ahead.
 use Rattle.std.proofs.Common.{◌≡◌, ℕ, suc, List, [], ◌∷◌, ◌++◌, length, arith, Bool, true, false, codes, refl, ap, sym, ◌∙◌, subst, Ok, Err}
 use Rattle.std.specs.Prelude.{if◌then◌else◌}
+use Rattle.pb_tokens.specs.declared.grammar.Grammar.{Grammar}
 use Rattle.pb_tokens.specs.Symbols.{Symbol, word}
 use Rattle.pb_tokens.specs.Language.{Rules}
 use Rattle.pb_tokens.specs.Readers.Forms.{Outcome, on_outcome, answer, mapped, first_passes, is_mark, keyword_reader, mark_reader}
@@ -33,17 +34,17 @@ type_so n rules w ts = by_dot (first_passes is_dot ts)
     by_dot false = refl
 
 -- where no `<` follows the word `map`, it is a field's type
-map_then : (n : ℕ) (rules : Rules) (ts : List Symbol) → first_passes (is_mark (codes "<")) ts ≡ false
-    → map_reader n rules (word (codes "map") ∷ ts) ≡ mapped MessageStatement.a_field (field_reader (suc n) Unlabelled) rules (word (codes "map") ∷ ts)
+map_then : (grammar : Grammar) → (n : ℕ) (rules : Rules) (ts : List Symbol) → first_passes (is_mark (codes "<")) ts ≡ false
+    → map_reader grammar n rules (word (codes "map") ∷ ts) ≡ mapped MessageStatement.a_field (field_reader grammar (suc n) Unlabelled) rules (word (codes "map") ∷ ts)
 unfolding map_reader of_map_reader field_reader
-map_then n rules ts h =
+map_then grammar n rules ts h =
     rw h
-    (ap (λ o. on_outcome (on_outcome (on_outcome o (λ t r. mapped (λ x. (t, x)) (field_tail_reader (suc n)) rules r)) (λ x r. answer (field_from Unlabelled x) rules r)) (λ f r. answer (MessageStatement.a_field f) rules r))
+    (ap (λ o. on_outcome (on_outcome (on_outcome o (λ t r. mapped (λ x. (t, x)) (field_tail_reader grammar (suc n)) rules r)) (λ x r. answer (field_from Unlabelled x) rules r)) (λ f r. answer (MessageStatement.a_field f) rules r))
     (sym (type_so n rules (codes "map") ts)))
 
-pub map_is_field : (n : ℕ) (rules : Rules) (ts mid : List Symbol) → keyword_reader (codes "map") rules ts ≡ Ok (tt, mid) → first_passes (is_mark (codes "<")) mid ≡ false
-    → map_reader n rules ts ≡ mapped MessageStatement.a_field (field_reader (suc n) Unlabelled) rules ts
-map_is_field n rules ts mid h k =
+pub map_is_field : (grammar : Grammar) → (n : ℕ) (rules : Rules) (ts mid : List Symbol) → keyword_reader (codes "map") rules ts ≡ Ok (tt, mid) → first_passes (is_mark (codes "<")) mid ≡ false
+    → map_reader grammar n rules ts ≡ mapped MessageStatement.a_field (field_reader grammar (suc n) Unlabelled) rules ts
+map_is_field grammar n rules ts mid h k =
     let a = (reads_keyword {n = length ts} {e = never} (codes "map")).sound rules ts tt mid (omega arith) h in
     let e : ts ≡ word (codes "map") ∷ mid = a.joined ∙ ap (λ c. c ++ mid) a.derived in
-    subst (λ ts. map_reader n rules ts ≡ mapped MessageStatement.a_field (field_reader (suc n) Unlabelled) rules ts) (sym e) (map_then n rules mid k)
+    subst (λ ts. map_reader grammar n rules ts ≡ mapped MessageStatement.a_field (field_reader grammar (suc n) Unlabelled) rules ts) (sym e) (map_then grammar n rules mid k)

@@ -4,6 +4,7 @@ use Rattle.std.specs.Str.{bytes_eq}
 use Rattle.std.proofs.lemmas.Bool.{false≢true}
 use Rattle.std.proofs.lemmas.Slice.Eq.{bytes_eq-Decides}
 use Rattle.pb_decl.specs.Decls.{DeclaredField}
+use Rattle.pb_tokens.specs.declared.grammar.Grammar.{Grammar}
 use Rattle.pb_tokens.specs.Symbols.{Symbol, word, number, text, sign}
 use Rattle.pb_tokens.specs.Language.{Language, ◌▸◌, ◌or◌, Rules}
 use Rattle.pb_tokens.specs.Said.{TypeSaid, a_scalar, a_name}
@@ -26,24 +27,24 @@ use Rattle.pb_source.specs.Readers.Lines.{field_tail_reader, field_from, field_r
 -- ---- fields
 
 -- word "=" integer [ opts ] ";"
-abbrev pub Tail : Rules → List ℕ × (ℕ × Option Bool) → Language
-Tail rules x = name x.0 ▸ mark "=" ▸ counted rules x.1.0 ▸ field_end rules x.1.1
+abbrev pub Tail : (grammar : Grammar) → Rules → List ℕ × (ℕ × Option Bool) → Language
+Tail grammar rules x = name x.0 ▸ mark "=" ▸ counted rules x.1.0 ▸ field_end grammar rules x.1.1
 
-pub reads_field_tail : (n : ℕ) → Reads n never Tail (field_tail_reader n)
+pub reads_field_tail : (grammar : Grammar) → (n : ℕ) → Reads n never (Tail grammar) (field_tail_reader grammar n)
 unfolding field_tail_reader
-reads_field_tail n = reads_both reads_name (reads_behind {L = λ rules. mark "="} (reads_mark (codes "=")) (reads_both reads_counted (reads_field_end n)))
+reads_field_tail grammar n = reads_both reads_name (reads_behind {L = λ rules. mark "="} (reads_mark (codes "=")) (reads_both reads_counted (reads_field_end grammar n)))
 
-tail_first : (rules : Rules) (x : List ℕ × (ℕ × Option Bool)) (c : List Symbol) → Tail rules x c → first_passes is_a_word c ≡ true
-tail_first rules x c d = headed_then is_a_word (name_first x.0) c d
+tail_first : (grammar : Grammar) → (rules : Rules) (x : List ℕ × (ℕ × Option Bool)) (c : List Symbol) → Tail grammar rules x c → first_passes is_a_word c ≡ true
+tail_first grammar rules x c d = headed_then is_a_word (name_first x.0) c d
 
-tail_stops : (rules : Rules) (x : List ℕ × (ℕ × Option Bool)) (c rest : List Symbol) → Tail rules x c → IsStop is_dot (c ++ rest)
-tail_stops rules x c rest d = stops_front is_a_word is_dot (word_or_sign (codes ".")) c rest (tail_first rules x c d)
+tail_stops : (grammar : Grammar) → (rules : Rules) (x : List ℕ × (ℕ × Option Bool)) (c rest : List Symbol) → Tail grammar rules x c → IsStop is_dot (c ++ rest)
+tail_stops grammar rules x c rest d = stops_front is_a_word is_dot (word_or_sign (codes ".")) c rest (tail_first grammar rules x c d)
 
-pub reads_field : (n : ℕ) (l : Label) → Reads n never (λ rules. field rules l) (field_reader n l)
+pub reads_field : (grammar : Grammar) → (n : ℕ) (l : Label) → Reads n never (λ rules. field grammar rules l) (field_reader grammar n l)
 unfolding field_reader
-reads_field n l =
-    said_so {Q = λ rules. field rules l}
-    (reads_mapped (field_from l) (reads_both_so (reads_type n) (reads_field_tail n) (λ rules x c rest d s. tail_stops rules x c rest d)))
+reads_field grammar n l =
+    said_so {Q = λ rules. field grammar rules l}
+    (reads_mapped (field_from l) (reads_both_so (reads_type n) (reads_field_tail grammar n) (λ rules x c rest d s. tail_stops grammar rules x c rest d)))
     (λ rules f c d. (d.0.0, d.0.1.0, d.0.1.1.0, d.0.1.1.1, d.1, d.2)) (λ rules f c d. ((d.0, (d.1, (d.2, d.3))), d.4, d.5))
 
 -- a word, or a dot
@@ -58,25 +59,25 @@ typed_first (a_scalar k) c (w, h, d) = headed_one begins_type (word w) refl c d
 typed_first (a_name n) c (inl (ws, e, d), f) = headed_separated name (mark ".") begins_type (λ w. headed_one begins_type (word w) refl) ws c d
 typed_first (a_name n) c (inr (ws, e, d), f) = headed_then begins_type (headed_one begins_type (sign (codes ".")) refl) c d
 
-pub field_first : (rules : Rules) (l : Label) (f : DeclaredField) → Headed begins_type (field rules l f)
-field_first rules l f c (t, w, n, p, e, d) = headed_then begins_type (typed_first t) c d
+pub field_first : (grammar : Grammar) → (rules : Rules) (l : Label) (f : DeclaredField) → Headed begins_type (field grammar rules l f)
+field_first grammar rules l f c (t, w, n, p, e, d) = headed_then begins_type (typed_first t) c d
 
 -- ---- maps
 
-abbrev MapTail : Rules → MapDecl → Language
-MapTail =
+abbrev MapTail : (grammar : Grammar) → Rules → MapDecl → Language
+MapTail grammar =
     Behind (λ rules. mark "<") (Mapped map_from
-    (Both (λ rules. key_type) (Behind (λ rules. mark ",") (Both (λ rules. typed) (Behind (λ rules. mark ">") Tail)))))
+    (Both (λ rules. key_type) (Behind (λ rules. mark ",") (Both (λ rules. typed) (Behind (λ rules. mark ">") (Tail grammar))))))
 
-reads_map_tail : (n : ℕ) → Reads n never MapTail (map_tail_reader n)
+reads_map_tail : (grammar : Grammar) → (n : ℕ) → Reads n never (MapTail grammar) (map_tail_reader grammar n)
 unfolding map_tail_reader
-reads_map_tail n =
+reads_map_tail grammar n =
     reads_behind {L = λ rules. mark "<"} (reads_mark (codes "<"))
     (reads_mapped map_from
     (reads_both reads_key
     (reads_behind {L = λ rules. mark ","} (reads_mark (codes ","))
-    (reads_both_so (reads_type n) (reads_behind {L = λ rules. mark ">"} (reads_mark (codes ">")) (reads_field_tail n))
-    (λ rules x c rest d s. mark_stops {S = Tail rules x} (codes ">") c rest refl d)))))
+    (reads_both_so (reads_type n) (reads_behind {L = λ rules. mark ">"} (reads_mark (codes ">")) (reads_field_tail grammar n))
+    (λ rules x c rest d s. mark_stops {S = Tail grammar rules x} (codes ">") c rest refl d)))))
 
 -- { "." word }
 abbrev Words : Rules → List (List ℕ) → Language
@@ -89,32 +90,32 @@ reads_dotted n =
     (λ rules ws c d. headed_then is_dot (headed_one is_dot (sign (codes ".")) refl) c d)
     (λ rules ws c rest d s. ap (λ c. first_passes is_dot (c ++ rest)) d.1 ∙ fails_rest is_dot rest s)
 
-abbrev OfMap : Rules → DeclaredField → Language
-OfMap = Mapped (field_from Unlabelled) (Both (Mapped (λ ws. type_of (codes "map" ∷ ws)) Words) Tail)
+abbrev OfMap : (grammar : Grammar) → Rules → DeclaredField → Language
+OfMap grammar = Mapped (field_from Unlabelled) (Both (Mapped (λ ws. type_of (codes "map" ∷ ws)) Words) (Tail grammar))
 
-reads_of_map : (n : ℕ) → Reads n never OfMap (of_map_reader n)
+reads_of_map : (grammar : Grammar) → (n : ℕ) → Reads n never (OfMap grammar) (of_map_reader grammar n)
 unfolding of_map_reader
-reads_of_map n =
+reads_of_map grammar n =
     reads_mapped (field_from Unlabelled)
-    (reads_both_so (reads_mapped (λ ws. type_of (codes "map" ∷ ws)) (reads_dotted n)) (reads_less (suc n) n never Tail (field_tail_reader (suc n)) (omega arith) (reads_field_tail (suc n)))
-    (λ rules x c rest d s. tail_stops rules x c rest d))
+    (reads_both_so (reads_mapped (λ ws. type_of (codes "map" ∷ ws)) (reads_dotted n)) (reads_less (suc n) n never (Tail grammar) (field_tail_reader grammar (suc n)) (omega arith) (reads_field_tail grammar (suc n)))
+    (λ rules x c rest d s. tail_stops grammar rules x c rest d))
 
-not_less : (rules : Rules) (f : DeclaredField) (c rest : List Symbol) → OfMap rules f c → first_passes (is_mark (codes "<")) (c ++ rest) ≡ false
-not_less rules f c rest (x, e, (a, b, (ws, i, inl d), hb, j)) =
+not_less : (grammar : Grammar) → (rules : Rules) (f : DeclaredField) (c rest : List Symbol) → OfMap grammar rules f c → first_passes (is_mark (codes "<")) (c ++ rest) ≡ false
+not_less grammar rules f c rest (x, e, (a, b, (ws, i, inl d), hb, j)) =
     ap (λ c. first_passes (is_mark (codes "<")) (c ++ rest)) j ∙ ap (first_passes (is_mark (codes "<"))) (append_assoc a b rest)
     ∙ front_of_one {S = fullname ws} (is_mark (codes "<")) (sign (codes ".")) a (b ++ rest) d
-not_less rules f c rest (x, e, (a, b, (ws, i, inr d), hb, j)) =
+not_less grammar rules f c rest (x, e, (a, b, (ws, i, inr d), hb, j)) =
     ap (λ c. first_passes (is_mark (codes "<")) (c ++ rest)) (j ∙ ap (λ a. a ++ b) d.1)
-    ∙ fails_front is_a_word (is_mark (codes "<")) (word_or_sign (codes "<")) b rest (tail_first rules x.1 b hb)
+    ∙ fails_front is_a_word (is_mark (codes "<")) (word_or_sign (codes "<")) b rest (tail_first grammar rules x.1 b hb)
 
-abbrev MapOrField : Rules → MessageStatement → Language
-MapOrField = Behind (λ rules. keyword "map") (λ rules st. Mapped MessageStatement.a_map MapTail rules st or Mapped MessageStatement.a_field OfMap rules st)
+abbrev MapOrField : (grammar : Grammar) → Rules → MessageStatement → Language
+MapOrField grammar = Behind (λ rules. keyword "map") (λ rules st. Mapped MessageStatement.a_map (MapTail grammar) rules st or Mapped MessageStatement.a_field (OfMap grammar) rules st)
 
 -- a map field, or a field without a label whose type begins with the word `map`
-abbrev pub MapLine : Rules → MessageStatement → Language
-MapLine rules st ts =
-    ((m : MapDecl) × (st ≡ MessageStatement.a_map m) × map_line rules m ts)
-    ⊎ ((f : DeclaredField) × (st ≡ MessageStatement.a_field f) × (first_passes (is_keyword (codes "map")) ts ≡ true) × field rules Unlabelled f ts)
+abbrev pub MapLine : (grammar : Grammar) → Rules → MessageStatement → Language
+MapLine grammar rules st ts =
+    ((m : MapDecl) × (st ≡ MessageStatement.a_map m) × map_line grammar rules m ts)
+    ⊎ ((f : DeclaredField) × (st ≡ MessageStatement.a_field f) × (first_passes (is_keyword (codes "map")) ts ≡ true) × field grammar rules Unlabelled f ts)
 
 words_behind : (rules : Rules) (w : List ℕ) (ws : List (List ℕ)) (a p : List Symbol) → name w a → Words rules ws p → fullname (w ∷ ws) (a ++ p)
 words_behind rules w [] a p ha (inl (s, t, hs, ht, i)) = absurd ht
@@ -125,9 +126,9 @@ behind_words : (rules : Rules) (w : List ℕ) (ws : List (List ℕ)) (u : List S
 behind_words rules w [] u d = ([], d, inr (refl, refl))
 behind_words rules w (v ∷ ws) u (a, b, ha, hb, j) = (b, j ∙ ap (λ a. a ++ b) ha, inl hb)
 
-to_map_line : (rules : Rules) (st : MessageStatement) (c : List Symbol) → MapOrField rules st c → MapLine rules st c
-to_map_line rules st c (a, b, ha, inl (m, e, (s, t, hs, (x, i, d), k)), j) = inl (map_from x, e ∙ ap MessageStatement.a_map i, (a, b, ha, (s, t, hs, d, k), j))
-to_map_line rules st c (a, b, ha, inr (f, e, (x, i, (p, q, (ws, k, dw), hq, l))), j) =
+to_map_line : (grammar : Grammar) → (rules : Rules) (st : MessageStatement) (c : List Symbol) → MapOrField grammar rules st c → MapLine grammar rules st c
+to_map_line grammar rules st c (a, b, ha, inl (m, e, (s, t, hs, (x, i, d), k)), j) = inl (map_from x, e ∙ ap MessageStatement.a_map i, (a, b, ha, (s, t, hs, d, k), j))
+to_map_line grammar rules st c (a, b, ha, inr (f, e, (x, i, (p, q, (ws, k, dw), hq, l))), j) =
     inr (
       f,
       e,
@@ -142,14 +143,14 @@ to_map_line rules st c (a, b, ha, inr (f, e, (x, i, (p, q, (ws, k, dw), hq, l)))
       ),
     )
 
-module _ (rules : Rules) (st : MessageStatement) (c : List Symbol) (f : DeclaredField) (e : st ≡ MessageStatement.a_field f) (h : first_passes (is_keyword (codes "map")) c ≡ true)
-    (t : TypeSaid) (x : List ℕ × (ℕ × Option Bool)) (i : f ≡ field_from Unlabelled (t, x)) (u r : List Symbol) (hr : Tail rules x r) (j : c ≡ u ++ r) where
+module _ (grammar : Grammar) (rules : Rules) (st : MessageStatement) (c : List Symbol) (f : DeclaredField) (e : st ≡ MessageStatement.a_field f) (h : first_passes (is_keyword (codes "map")) c ≡ true)
+    (t : TypeSaid) (x : List ℕ × (ℕ × Option Bool)) (i : f ≡ field_from Unlabelled (t, x)) (u r : List Symbol) (hr : (Tail grammar) rules x r) (j : c ≡ u ++ r) where
   no_dot : Dotted rules t u → ⊥
   no_dot (a, b, ha, hb, k) =
       let s : c ≡ sign (codes ".") ∷ (b ++ r) = j ∙ ap (λ u. u ++ r) (k ∙ ap (λ a. a ++ b) ha) in
       false≢true (sym (ap (first_passes (is_keyword (codes "map"))) s) ∙ h)
 
-  of_words : Undotted rules t u → MapOrField rules st c
+  of_words : Undotted rules t u → MapOrField grammar rules st c
   of_words ([], k, d) = absurd d
   of_words (w ∷ ws, k, d) =
       let z = behind_words rules w ws u d in
@@ -162,26 +163,26 @@ module _ (rules : Rules) (st : MessageStatement) (c : List Symbol) (f : Declared
         s ∙ ap (λ w. word w ∷ (z.0 ++ r)) is_it,
       )
 
-  of_typed : Dotted rules t u ⊎ Undotted rules t u → MapOrField rules st c
+  of_typed : Dotted rules t u ⊎ Undotted rules t u → MapOrField grammar rules st c
   of_typed (inl d) = absurd (no_dot d)
   of_typed (inr d) = of_words d
 
-of_map_line : (rules : Rules) (st : MessageStatement) (c : List Symbol) → MapLine rules st c → MapOrField rules st c
-of_map_line rules st c (inl (m, e, (a, b, ha, (s, t, hs, d, k), j))) =
+of_map_line : (grammar : Grammar) → (rules : Rules) (st : MessageStatement) (c : List Symbol) → MapLine grammar rules st c → MapOrField grammar rules st c
+of_map_line grammar rules st c (inl (m, e, (a, b, ha, (s, t, hs, d, k), j))) =
     (a, b, ha, inl (m, e, (s, t, hs, ((m.key, (m.value, (m.name, (m.number, m.packed)))), refl, d), k)), j)
-of_map_line rules st c (inr (f, e, h, (t, w, n, p, i, (u, r, hu, hr, j)))) = of_typed rules st c f e h t (w, (n, p)) i u r hr j (typed_so rules t u hu)
+of_map_line grammar rules st c (inr (f, e, h, (t, w, n, p, i, (u, r, hu, hr, j)))) = of_typed grammar rules st c f e h t (w, (n, p)) i u r hr j (typed_so rules t u hu)
 
-pub reads_map : (n : ℕ) → Reads n never MapLine (map_reader n)
+pub reads_map : (grammar : Grammar) → (n : ℕ) → Reads n never (MapLine grammar) (map_reader grammar n)
 unfolding map_reader
-reads_map n =
-    said_so {Q = MapLine}
+reads_map grammar n =
+    said_so {Q = MapLine grammar}
     (reads_behind {L = λ rules. keyword "map"} (reads_keyword (codes "map"))
-    (reads_either (is_mark (codes "<")) (reads_mapped MessageStatement.a_map (reads_less (suc n) n never MapTail (map_tail_reader (suc n)) (omega arith) (reads_map_tail (suc n))))
-    (reads_mapped MessageStatement.a_field (reads_of_map n))
+    (reads_either (is_mark (codes "<")) (reads_mapped MessageStatement.a_map (reads_less (suc n) n never (MapTail grammar) (map_tail_reader grammar (suc n)) (omega arith) (reads_map_tail grammar (suc n))))
+    (reads_mapped MessageStatement.a_field (reads_of_map grammar n))
     (λ rules st c d. headed_then (is_mark (codes "<")) (headed_one (is_mark (codes "<")) (sign (codes "<")) refl) c d.2)
-    (λ rules st c rest d s. not_less rules d.0 c rest d.2)))
-    to_map_line of_map_line
+    (λ rules st c rest d s. not_less grammar rules d.0 c rest d.2)))
+    (to_map_line grammar) (of_map_line grammar)
 
-pub map_line_first : (rules : Rules) (st : MessageStatement) (c : List Symbol) → MapLine rules st c → first_passes (is_keyword (codes "map")) c ≡ true
-map_line_first rules st c (inl (m, e, d)) = headed_then (is_keyword (codes "map")) (headed_one (is_keyword (codes "map")) (word (codes "map")) refl) c d
-map_line_first rules st c (inr (f, e, h, d)) = h
+pub map_line_first : (grammar : Grammar) → (rules : Rules) (st : MessageStatement) (c : List Symbol) → MapLine grammar rules st c → first_passes (is_keyword (codes "map")) c ≡ true
+map_line_first grammar rules st c (inl (m, e, d)) = headed_then (is_keyword (codes "map")) (headed_one (is_keyword (codes "map")) (word (codes "map")) refl) c d
+map_line_first grammar rules st c (inr (f, e, h, d)) = h

@@ -4,6 +4,7 @@ use Rattle.std.specs.Prelude.{if◌then◌else◌}
 use Rattle.std.specs.Str.{bytes_eq}
 use Rattle.std.proofs.lemmas.Bool.{false≢true, or_parts}
 use Rattle.std.proofs.lemmas.Slice.Eq.{bytes_eq-Decides}
+use Rattle.pb_tokens.specs.declared.grammar.Grammar.{Grammar}
 use Rattle.pb_tokens.specs.declared.rule.Rule.TheVariants.{SyntaxFirst as syntax_first}
 use Rattle.pb_tokens.specs.Symbols.{Symbol, word, number, text, sign}
 use Rattle.pb_tokens.specs.Language.{Language, ◌▸◌, ◌or◌, one, nothing, Rules}
@@ -23,9 +24,10 @@ use Rattle.pb_tokens.proofs.RangeLaws.{reads_utf8}
 use Rattle.pb_source.specs.declared.kind.FileKind.{FileKind}
 use Rattle.pb_source.specs.declared.kind.FileKind.TheVariants as kind
 use Rattle.pb_source.specs.Meaning.{FileStatement, all_said, packages_said}
-use Rattle.pb_source.specs.Grammar.{enum_line, message, room, service, access, file_statement, syntax_line, file}
-use Rattle.pb_source.specs.Readers.Lines.{access_reader, import_reader, package_reader, file_kind, file_line, file_statement_reader, syntax_word_in, syntax_text_in, syntax_reader, is_package, file_reader}
+use Rattle.pb_source.specs.Grammar.{enum_line, extend, message, room, service, access, file_statement, syntax_line, file}
+use Rattle.pb_source.specs.Readers.Lines.{extend_reader, access_reader, import_reader, package_reader, file_kind, file_line, file_statement_reader, syntax_word_in, syntax_text_in, syntax_reader, is_package, file_reader}
 use Rattle.pb_source.proofs.StatementKinds.{kind_one, kind_then, kind_front}
+use Rattle.pb_source.proofs.ExtensionLaws.{Beyond, offers_beyond, beyond_filled, beyond_kind, reads_extend}
 use Rattle.pb_source.proofs.BodyLaws.{Silent, reads_silent_end, reads_silent_option, not_empty_then, reads_enum, reads_service}
 use Rattle.pb_source.proofs.MessageLaws.{reads_message, file_message_first}
 
@@ -104,74 +106,80 @@ reads_package n =
 abbrev pub Once : Bool → FileStatement → Type 0
 Once said s = (said ≡ false) ⊎ (is_package s ≡ false)
 
-abbrev pub StatementOnce : Bool → Rules → FileStatement → Language
-StatementOnce said rules s ts = Once said s × file_statement rules s ts
+abbrev pub StatementOnce : (grammar : Grammar) → Bool → Rules → FileStatement → Language
+StatementOnce grammar said rules s ts = Once said s × file_statement grammar rules s ts
 
-abbrev FileLine : Bool → FileKind → Rules → FileStatement → Language
-FileLine said kind.Empty = Silent FileStatement.nothing_said (λ rules. mark ";")
-FileLine said kind.Option = Silent FileStatement.nothing_said option
-FileLine said kind.Import = Mapped {A = Bool × List ℕ} (λ x. FileStatement.an_import x.0 x.1) Import
-FileLine true kind.Package = λ rules s ts. ⊥
-FileLine false kind.Package = Mapped FileStatement.a_package Package
-FileLine said kind.Message = Mapped FileStatement.a_message (λ rules. message rules (room rules))
-FileLine said kind.Enum = Mapped FileStatement.an_enum enum_line
-FileLine said kind.Service = Mapped FileStatement.a_service service
+abbrev FileLine : (grammar : Grammar) → Bool → FileKind → Rules → FileStatement → Language
+FileLine grammar said kind.Empty = Silent FileStatement.nothing_said (λ rules. mark ";")
+FileLine grammar said kind.Option = Silent FileStatement.nothing_said (option grammar)
+FileLine grammar said kind.Import = Mapped {A = Bool × List ℕ} (λ x. FileStatement.an_import x.0 x.1) Import
+FileLine grammar true kind.Package = λ rules s ts. ⊥
+FileLine grammar false kind.Package = Mapped FileStatement.a_package Package
+FileLine grammar said kind.Message = Mapped FileStatement.a_message (λ rules. message grammar rules (room rules))
+FileLine grammar said kind.Enum = Mapped FileStatement.an_enum (enum_line grammar)
+FileLine grammar said kind.Service = Mapped FileStatement.a_service (service grammar)
+FileLine grammar said kind.Extend = Beyond grammar FileStatement.nothing_said (extend grammar)
 
-file_offers : (n : ℕ) (said : Bool) (k : FileKind) → Offers n never (FileLine said k) (file_line n said k)
-file_offers n said kind.Empty = reads_silent_end FileStatement.nothing_said
-file_offers n said kind.Option = reads_silent_option FileStatement.nothing_said
-file_offers n said kind.Import = reads_mapped {A = Bool × List ℕ} (λ x. FileStatement.an_import x.0 x.1) reads_import
-file_offers n true kind.Package = λ rules s c d. d
-file_offers n false kind.Package = reads_mapped FileStatement.a_package (reads_package n)
-file_offers n said kind.Message = reads_mapped FileStatement.a_message (reads_message n)
-file_offers n said kind.Enum = reads_mapped FileStatement.an_enum (reads_enum n)
-file_offers n said kind.Service = reads_mapped FileStatement.a_service (reads_service n)
+file_offers : (grammar : Grammar) → (n : ℕ) (said : Bool) (k : FileKind) → Offers n never (FileLine grammar said k) (file_line grammar n said k)
+file_offers grammar n said kind.Empty = reads_silent_end FileStatement.nothing_said
+file_offers grammar n said kind.Option = reads_silent_option grammar FileStatement.nothing_said
+file_offers grammar n said kind.Import = reads_mapped {A = Bool × List ℕ} (λ x. FileStatement.an_import x.0 x.1) reads_import
+file_offers grammar n true kind.Package = λ rules s c d. d
+file_offers grammar n false kind.Package = reads_mapped FileStatement.a_package (reads_package n)
+file_offers grammar n said kind.Message = reads_mapped FileStatement.a_message (reads_message grammar n)
+file_offers grammar n said kind.Enum = reads_mapped FileStatement.an_enum (reads_enum grammar n)
+file_offers grammar n said kind.Service = reads_mapped FileStatement.a_service (reads_service grammar n)
+file_offers grammar n said kind.Extend = offers_beyond grammar FileStatement.nothing_said (extend grammar) (extend_reader grammar n) (reads_extend grammar n)
 
-file_filled : (said : Bool) (k : FileKind) (rules : Rules) (s : FileStatement) → FileLine said k rules s [] → ⊥
-file_filled said kind.Empty rules s d = cc d.2
-file_filled said kind.Option rules s d = not_empty_then (word (codes "option")) d.2
-file_filled said kind.Import rules s d = not_empty_then (word (codes "import")) d.2
-file_filled true kind.Package rules s d = d
-file_filled false kind.Package rules s d = not_empty_then (word (codes "package")) d.2.2
-file_filled said kind.Message rules s d = false≢true (file_message_first rules d.0 [] d.2)
-file_filled said kind.Enum rules s d = not_empty_then (word (codes "enum")) d.2.3
-file_filled said kind.Service rules s d = not_empty_then (word (codes "service")) d.2.2
+file_filled : (grammar : Grammar) → (said : Bool) (k : FileKind) (rules : Rules) (s : FileStatement) → FileLine grammar said k rules s [] → ⊥
+file_filled grammar said kind.Empty rules s d = cc d.2
+file_filled grammar said kind.Option rules s d = not_empty_then (word (codes "option")) d.2
+file_filled grammar said kind.Import rules s d = not_empty_then (word (codes "import")) d.2
+file_filled grammar true kind.Package rules s d = d
+file_filled grammar false kind.Package rules s d = not_empty_then (word (codes "package")) d.2.2
+file_filled grammar said kind.Message rules s d = false≢true (file_message_first grammar rules d.0 [] d.2)
+file_filled grammar said kind.Enum rules s d = not_empty_then (word (codes "enum")) d.2.3
+file_filled grammar said kind.Service rules s d = not_empty_then (word (codes "service")) d.2.2
+file_filled grammar said kind.Extend rules s d = beyond_filled grammar FileStatement.nothing_said (extend grammar) rules s (λ d. not_empty_then (word (codes "extend")) d.2) d
 
-package_so : (said : Bool) (rules : Rules) (s : FileStatement) (c : List Symbol) → FileLine said kind.Package rules s c → StatementOnce said rules s c
-package_so true rules s c d = absurd d
-package_so false rules s c (p, e, (ws, i, d)) = subst (λ s. StatementOnce false rules s c) (sym e) (inl refl, (ws, i, d))
+package_so : (grammar : Grammar) → (said : Bool) (rules : Rules) (s : FileStatement) (c : List Symbol) → FileLine grammar said kind.Package rules s c → StatementOnce grammar said rules s c
+package_so grammar true rules s c d = absurd d
+package_so grammar false rules s c (p, e, (ws, i, d)) = subst (λ s. StatementOnce grammar false rules s c) (sym e) (inl refl, (ws, i, d))
 
-to_file : (said : Bool) (rules : Rules) (s : FileStatement) (c : List Symbol) → ByKind file_kind (FileLine said) rules s c → StatementOnce said rules s c
-to_file said rules s c (kind.Empty, h, (u, e, d)) = subst (λ s. StatementOnce said rules s c) (sym e) (inr refl, inr d)
-to_file said rules s c (kind.Option, h, (u, e, d)) = subst (λ s. StatementOnce said rules s c) (sym e) (inr refl, inl d)
-to_file said rules s c (kind.Import, h, (x, e, d)) = subst (λ s. StatementOnce said rules s c) (sym e) (inr refl, d)
-to_file said rules s c (kind.Package, h, d) = package_so said rules s c d
-to_file said rules s c (kind.Message, h, (m, e, d)) = subst (λ s. StatementOnce said rules s c) (sym e) (inr refl, d)
-to_file said rules s c (kind.Enum, h, (m, e, d)) = subst (λ s. StatementOnce said rules s c) (sym e) (inr refl, d)
-to_file said rules s c (kind.Service, h, (m, e, d)) = subst (λ s. StatementOnce said rules s c) (sym e) (inr refl, d)
+to_file : (grammar : Grammar) → (said : Bool) (rules : Rules) (s : FileStatement) (c : List Symbol) → ByKind file_kind (FileLine grammar said) rules s c → StatementOnce grammar said rules s c
+to_file grammar said rules s c (kind.Empty, h, (u, e, d)) = subst (λ s. StatementOnce grammar said rules s c) (sym e) (inr refl, inr (inl d))
+to_file grammar said rules s c (kind.Extend, h, (u, e, d)) = subst (λ s. StatementOnce grammar said rules s c) (sym e) (inr refl, inr (inr d))
+to_file grammar said rules s c (kind.Option, h, (u, e, d)) = subst (λ s. StatementOnce grammar said rules s c) (sym e) (inr refl, inl d)
+to_file grammar said rules s c (kind.Import, h, (x, e, d)) = subst (λ s. StatementOnce grammar said rules s c) (sym e) (inr refl, d)
+to_file grammar said rules s c (kind.Package, h, d) = package_so grammar said rules s c d
+to_file grammar said rules s c (kind.Message, h, (m, e, d)) = subst (λ s. StatementOnce grammar said rules s c) (sym e) (inr refl, d)
+to_file grammar said rules s c (kind.Enum, h, (m, e, d)) = subst (λ s. StatementOnce grammar said rules s c) (sym e) (inr refl, d)
+to_file grammar said rules s c (kind.Service, h, (m, e, d)) = subst (λ s. StatementOnce grammar said rules s c) (sym e) (inr refl, d)
 
-of_package : (said : Bool) (rules : Rules) (p : List ℕ) (c : List Symbol) → Once said (FileStatement.a_package p) → Package rules p c → FileLine said kind.Package rules (FileStatement.a_package p) c
-of_package true rules p c (inl h) d = absurd (false≢true (sym h))
-of_package true rules p c (inr h) d = absurd (false≢true (sym h))
-of_package false rules p c o d = (p, refl, d)
+of_package : (grammar : Grammar) → (said : Bool) (rules : Rules) (p : List ℕ) (c : List Symbol) → Once said (FileStatement.a_package p) → Package rules p c → FileLine grammar said kind.Package rules (FileStatement.a_package p) c
+of_package grammar true rules p c (inl h) d = absurd (false≢true (sym h))
+of_package grammar true rules p c (inr h) d = absurd (false≢true (sym h))
+of_package grammar false rules p c o d = (p, refl, d)
 
-of_file : (said : Bool) (rules : Rules) (s : FileStatement) (c : List Symbol) → StatementOnce said rules s c → ByKind file_kind (FileLine said) rules s c
-of_file said rules FileStatement.nothing_said c (o, inl d) = (kind.Option, kind_then file_kind (word (codes "option")) c d, (tt, refl, d))
-of_file said rules FileStatement.nothing_said c (o, inr d) = (kind.Empty, kind_one file_kind (sign (codes ";")) c d, (tt, refl, d))
-of_file said rules (FileStatement.an_import p f) c (o, d) = (kind.Import, kind_then file_kind (word (codes "import")) c d, ((p, f), refl, d))
-of_file said rules (FileStatement.a_package p) c (o, d) = (kind.Package, kind_then file_kind (word (codes "package")) c d.2, of_package said rules p c o d)
-of_file said rules (FileStatement.a_message m) c (o, d) =
-    (kind.Message, kind_front file_kind kind.Message (is_keyword (codes "message")) (λ s h. ap file_kind (is_the_word (codes "message") s h)) c (file_message_first rules m c d), (m, refl, d))
-of_file said rules (FileStatement.an_enum e) c (o, d) = (kind.Enum, kind_then file_kind (word (codes "enum")) c d.3, (e, refl, d))
-of_file said rules (FileStatement.a_service s) c (o, d) = (kind.Service, kind_then file_kind (word (codes "service")) c d.2, (s, refl, d))
+of_file : (grammar : Grammar) → (said : Bool) (rules : Rules) (s : FileStatement) (c : List Symbol) → StatementOnce grammar said rules s c → ByKind file_kind (FileLine grammar said) rules s c
+of_file grammar said rules FileStatement.nothing_said c (o, inl d) = (kind.Option, kind_then file_kind (word (codes "option")) c d, (tt, refl, d))
+of_file grammar said rules FileStatement.nothing_said c (o, inr (inl d)) = (kind.Empty, kind_one file_kind (sign (codes ";")) c d, (tt, refl, d))
+of_file grammar said rules FileStatement.nothing_said c (o, inr (inr d)) =
+    (kind.Extend, beyond_kind grammar file_kind kind.Extend (extend grammar rules) c (λ d. kind_then file_kind (word (codes "extend")) c d.2) d, (tt, refl, d))
+of_file grammar said rules (FileStatement.an_import p f) c (o, d) = (kind.Import, kind_then file_kind (word (codes "import")) c d, ((p, f), refl, d))
+of_file grammar said rules (FileStatement.a_package p) c (o, d) = (kind.Package, kind_then file_kind (word (codes "package")) c d.2, of_package grammar said rules p c o d)
+of_file grammar said rules (FileStatement.a_message m) c (o, d) =
+    (kind.Message, kind_front file_kind kind.Message (is_keyword (codes "message")) (λ s h. ap file_kind (is_the_word (codes "message") s h)) c (file_message_first grammar rules m c d), (m, refl, d))
+of_file grammar said rules (FileStatement.an_enum e) c (o, d) = (kind.Enum, kind_then file_kind (word (codes "enum")) c d.3, (e, refl, d))
+of_file grammar said rules (FileStatement.a_service s) c (o, d) = (kind.Service, kind_then file_kind (word (codes "service")) c d.2, (s, refl, d))
 
-pub reads_file_statement : (n : ℕ) (said : Bool) → Reads n never (StatementOnce said) (file_statement_reader n said)
+pub reads_file_statement : (grammar : Grammar) → (n : ℕ) (said : Bool) → Reads n never (StatementOnce grammar said) (file_statement_reader grammar n said)
 unfolding file_statement_reader
-reads_file_statement n said =
-    said_so {Q = StatementOnce said}
-    (reads_kinds n never file_kind (FileLine said) (file_line n said) (file_offers n said) (file_filled said)
+reads_file_statement grammar n said =
+    said_so {Q = StatementOnce grammar said}
+    (reads_kinds n never file_kind (FileLine grammar said) (file_line grammar n said) (file_offers grammar n said) (file_filled grammar said)
     (λ rules. (FileStatement.nothing_said, sign (codes ";") ∷ [], (kind.Empty, refl, (tt, refl, refl)))))
-    (to_file said) (of_file said)
+    (to_file grammar said) (of_file grammar said)
 
 -- ---- the syntax
 
@@ -261,12 +269,12 @@ pub at_most_one : (said : Bool) → count said ≤ 1
 at_most_one true = omega arith
 at_most_one false = omega arith
 
-module _ (n : ℕ) where
-  statement_full : (said : Bool) (rules : Rules) (s : FileStatement) (c : List Symbol) → StatementOnce said rules s c → 1 ≤ length c
-  statement_full said rules s c d = kinds_filled file_kind (FileLine said) rules s c (of_file said rules s c d)
+module _ (grammar : Grammar) (n : ℕ) where
+  statement_full : (said : Bool) (rules : Rules) (s : FileStatement) (c : List Symbol) → StatementOnce grammar said rules s c → 1 ≤ length c
+  statement_full said rules s c d = kinds_filled file_kind (FileLine grammar said) rules s c (of_file grammar said rules s c d)
 
   abbrev All : Bool → Rules → List FileStatement → Language
-  All = Each n is_package StatementOnce (file_statement_reader n) (reads_file_statement n) statement_full
+  All = Each n is_package (StatementOnce grammar) (file_statement_reader grammar n) (reads_file_statement grammar n) statement_full
 
   few : (rules : Rules) (said : Bool) (ss : List FileStatement) (c : List Symbol) → All said rules ss c → count said + length (all_said packages_said ss) ≤ 1
   few rules said [] c d = let l = at_most_one said in omega arith
@@ -276,11 +284,11 @@ module _ (n : ℕ) where
       let k = length-append (packages_said s) (all_said packages_said ss) in
       omega arith
 
-  to_until : (rules : Rules) (said : Bool) (ss : List FileStatement) (c : List Symbol) → All said rules ss c → Until (file_statement rules) nothing ss c
+  to_until : (rules : Rules) (said : Bool) (ss : List FileStatement) (c : List Symbol) → All said rules ss c → Until (file_statement grammar rules) nothing ss c
   to_until rules said [] c d = d
   to_until rules said (s ∷ ss) c (a, b, ha, hb, j) = (a, b, ha.1, to_until rules (said_behind said s) ss b hb, j)
 
-  of_until : (rules : Rules) (said : Bool) (ss : List FileStatement) (c : List Symbol) → count said + length (all_said packages_said ss) ≤ 1 → Until (file_statement rules) nothing ss c → All said rules ss c
+  of_until : (rules : Rules) (said : Bool) (ss : List FileStatement) (c : List Symbol) → count said + length (all_said packages_said ss) ≤ 1 → Until (file_statement grammar rules) nothing ss c → All said rules ss c
   of_until rules said [] c l d = d
   of_until rules said (s ∷ ss) c l (a, b, ha, hb, j) =
       let k = length-append (packages_said s) (all_said packages_said ss) in
@@ -289,17 +297,17 @@ module _ (n : ℕ) where
       (a, b, (o, ha), of_until rules (said_behind said s) ss b (omega arith) hb, j)
 
   -- the reader of files reads files, exactly
-  pub reads_file : Reads n always file (file_reader n)
+  pub reads_file : Reads n always (file grammar) (file_reader grammar n)
   unfolding file_reader
   reads_file =
-      said_so {Q = file}
-      (reads_behind {L = syntax_line} reads_syntax (reads_to_end n is_package StatementOnce (file_statement_reader n) (reads_file_statement n) statement_full n (omega arith) false))
+      said_so {Q = file grammar}
+      (reads_behind {L = syntax_line} reads_syntax (reads_to_end n is_package (StatementOnce grammar) (file_statement_reader grammar n) (reads_file_statement grammar n) statement_full n (omega arith) false))
       (λ rules ss c d. (let l = few rules false ss d.1 d.3 in omega arith, (d.0, d.1, d.2, to_until rules false ss d.1 d.3, d.4)))
       (λ rules ss c d. (d.1.0, d.1.1, d.1.2, of_until rules false ss d.1.1 (let l = d.0 in omega arith) d.1.3, d.1.4))
 
 -- a file has a symbol
-pub file_not_empty : (rules : Rules) (ss : List FileStatement) → file rules ss [] → ⊥
-file_not_empty rules ss (l, (a, b, ha, hb, j)) = by_syntax a ha j
+pub file_not_empty : (grammar : Grammar) → (rules : Rules) (ss : List FileStatement) → file grammar rules ss [] → ⊥
+file_not_empty grammar rules ss (l, (a, b, ha, hb, j)) = by_syntax a ha j
   where
     no_symbol : (s : Symbol) (x y z : List Symbol) → x ≡ s ∷ [] → [] ≡ (x ++ y) ++ z → ⊥
     no_symbol s x y z e j = let f : [] ≡ s ∷ (y ++ z) = j ∙ ap (λ x. (x ++ y) ++ z) e in absurd (cc f)

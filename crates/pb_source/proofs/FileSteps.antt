@@ -1,6 +1,7 @@
 -- What the statements of a file come to, one after another.
 use Rattle.std.proofs.Common.{◌≡◌, ◌≤◌, ℕ, List, [], ◌∷◌, ◌++◌, length, length-append, Bool, true, false, ◌||◌, refl, ap, ◌∙◌, arith, Ok}
 use Rattle.std.specs.Prelude.{if◌then◌else◌}
+use Rattle.pb_tokens.specs.declared.grammar.Grammar.{Grammar}
 use Rattle.pb_tokens.specs.declared.symbol.Placed.{Placed}
 use Rattle.pb_tokens.specs.Language.{all_rules}
 use Rattle.pb_tokens.specs.Readers.Given.{symbols_from}
@@ -32,10 +33,10 @@ or_if true b = refl
 or_if false b = refl
 
 -- what is read behind a package is none
-pub read_once : (ps : List Placed) (here after : ℕ) (said : Bool) (s : FileStatement)
-    → ((n : ℕ) → length ps ≤ n → file_statement_reader n said all_rules (symbols_from ps here) ≡ Ok (s, symbols_from ps after)) → Once said s
-read_once ps here after said s h =
-    let r = reads_file_statement (length ps) said in
+pub read_once : (grammar : Grammar) → (ps : List Placed) (here after : ℕ) (said : Bool) (s : FileStatement)
+    → ((n : ℕ) → length ps ≤ n → file_statement_reader grammar n said all_rules (symbols_from ps here) ≡ Ok (s, symbols_from ps after)) → Once said s
+read_once grammar ps here after said s h =
+    let r = reads_file_statement grammar (length ps) said in
     let t = r.sound all_rules (symbols_from ps here) s (symbols_from ps after) (let e = length_from ps here in omega arith) (h (length ps) (omega arith)) in
     t.derived.0
 

@@ -2,6 +2,8 @@
 use Rattle.std.proofs.Common.{◌≡◌, ℕ, zero, suc, ◌+◌, ◌-◌, ◌≤◌, List, [], ◌∷◌, Bool, true, false, codes, ap, ◌∙◌, subst, Option, Some, None, Err, arith, ◌⊎◌, inl, inr, ℤ}
 use Rattle.std.specs.Prelude.{option_map}
 use Rattle.pb_decl.specs.Decls.{DeclaredMessage}
+use Rattle.pb_tokens.specs.declared.grammar.Grammar.{Grammar}
+use Rattle.pb_tokens.specs.declared.grammar.Grammar.TheVariants.{Strict, Proto3}
 use Rattle.pb_tokens.specs.declared.rule.Rule.{Rule}
 use Rattle.pb_tokens.proofs.Growing.{Grows, grows_same, grows_mapped, grows_both, grows_behind, grows_before, grows_choice, GrowsSome, grows_kinds, grows_guarded, grows_until, grows_to_end, grows_listed, grows_fullname, grows_typename, grows_option, grows_setting, grows_field_end, grows_value_end, grows_type}
 use Rattle.pb_tokens.specs.declared.rule.Rule.TheVariants.{NestsBounded as nests_bounded}
@@ -16,6 +18,8 @@ use Rattle.pb_source.specs.declared.kind.FileKind.{FileKind}
 use Rattle.pb_source.specs.declared.kind.FileKind.TheVariants as in_file
 use Rattle.pb_source.specs.declared.kind.MessageKind.{MessageKind}
 use Rattle.pb_source.specs.declared.kind.MessageKind.TheVariants as in_message
+use Rattle.pb_source.specs.declared.kind.ExtendKind.{ExtendKind}
+use Rattle.pb_source.specs.declared.kind.ExtendKind.TheVariants as in_extend
 use Rattle.pb_source.specs.declared.kind.EnumKind.{EnumKind}
 use Rattle.pb_source.specs.declared.kind.EnumKind.TheVariants as in_enum
 use Rattle.pb_source.specs.declared.kind.OneofKind.{OneofKind}
@@ -25,7 +29,7 @@ use Rattle.pb_source.specs.declared.kind.ServiceKind.TheVariants as in_service
 use Rattle.pb_source.specs.declared.kind.MethodKind.{MethodKind}
 use Rattle.pb_source.specs.declared.kind.MethodKind.TheVariants as in_method
 use Rattle.pb_source.specs.Meaning.{MessageStatement, EnumStatement, FileStatement, those_said, message_of, enum_of}
-use Rattle.pb_source.specs.Readers.Lines.{import_reader, syntax_reader, field_from, map_from, said_of_alias, method_from, service_from, is_closing, is_package, braced, field_tail_reader, field_reader, map_tail_reader, dotted_reader, of_map_reader, map_reader, oneof_kind, oneof_line, oneof_statement_reader, oneof_reader, reserved_reader, value_reader, enum_kind, enum_statement_line, enum_statement_reader, enum_reader, message_kind, message_statement_line, message_statement_reader, message_line_reader, last_statement_reader, room_statement_reader, streams, streamed_reader, method_kind, method_line, method_statement_reader, method_end_reader, parameter_reader, method_reader, service_kind, service_line, service_statement_reader, service_reader, package_reader, file_kind, file_line, file_statement_reader, file_reader}
+use Rattle.pb_source.specs.Readers.Lines.{dropped, extend_kind, extension_line, extension_reader, extend_reader, extensions_reader, import_reader, syntax_reader, field_from, map_from, said_of_alias, method_from, service_from, is_closing, is_package, braced, field_tail_reader, field_reader, map_tail_reader, dotted_reader, of_map_reader, map_reader, oneof_kind, oneof_line, oneof_statement_reader, oneof_reader, reserved_reader, value_reader, enum_kind, enum_statement_line, enum_statement_reader, enum_reader, message_kind, message_statement_line, message_statement_reader, message_line_reader, last_statement_reader, room_statement_reader, streams, streamed_reader, method_kind, method_line, method_statement_reader, method_end_reader, parameter_reader, method_reader, service_kind, service_line, service_statement_reader, service_reader, package_reader, file_kind, file_line, file_statement_reader, file_reader}
 
 -- ---- repetition
 
@@ -34,51 +38,51 @@ grows_braced n g = grows_behind (grows_same (mark_reader (codes "{"))) (grows_un
 
 -- ---- the lines of the grammar
 
-grows_field_tail : (n : ℕ) → Grows (field_tail_reader n) (field_tail_reader (suc n))
+grows_field_tail : (grammar : Grammar) → (n : ℕ) → Grows (field_tail_reader grammar n) (field_tail_reader grammar (suc n))
 unfolding field_tail_reader
-grows_field_tail n = grows_both (grows_same name_reader)
-    (grows_behind (grows_same (mark_reader (codes "="))) (grows_both (grows_same counted_reader) (grows_field_end n)))
+grows_field_tail grammar n = grows_both (grows_same name_reader)
+    (grows_behind (grows_same (mark_reader (codes "="))) (grows_both (grows_same counted_reader) (grows_field_end grammar n)))
 
-grows_field : (n : ℕ) (l : Label) → Grows (field_reader n l) (field_reader (suc n) l)
+grows_field : (grammar : Grammar) → (n : ℕ) (l : Label) → Grows (field_reader grammar n l) (field_reader grammar (suc n) l)
 unfolding field_reader
-grows_field n l = grows_mapped (field_from l) (grows_both (grows_type n) (grows_field_tail n))
+grows_field grammar n l = grows_mapped (field_from l) (grows_both (grows_type n) (grows_field_tail grammar n))
 
-grows_map_tail : (n : ℕ) → Grows (map_tail_reader n) (map_tail_reader (suc n))
+grows_map_tail : (grammar : Grammar) → (n : ℕ) → Grows (map_tail_reader grammar n) (map_tail_reader grammar (suc n))
 unfolding map_tail_reader
-grows_map_tail n =
+grows_map_tail grammar n =
     grows_behind (grows_same (mark_reader (codes "<"))) (grows_mapped map_from
     (grows_both (grows_same key_reader)
     (grows_behind (grows_same (mark_reader (codes ",")))
-    (grows_both (grows_type n) (grows_behind (grows_same (mark_reader (codes ">"))) (grows_field_tail n))))))
+    (grows_both (grows_type n) (grows_behind (grows_same (mark_reader (codes ">"))) (grows_field_tail grammar n))))))
 
 grows_dotted : (n : ℕ) → Grows (dotted_reader n) (dotted_reader (suc n))
 unfolding dotted_reader
 grows_dotted n = grows_choice is_dot (grows_behind (grows_same (mark_reader (codes "."))) (grows_fullname n)) (grows_same (answer []))
 
-grows_of_map : (n : ℕ) → Grows (of_map_reader n) (of_map_reader (suc n))
+grows_of_map : (grammar : Grammar) → (n : ℕ) → Grows (of_map_reader grammar n) (of_map_reader grammar (suc n))
 unfolding of_map_reader
-grows_of_map n =
-    grows_mapped (field_from Unlabelled) (grows_both (grows_mapped (λ ws. type_of (codes "map" ∷ ws)) (grows_dotted n)) (grows_field_tail (suc n)))
+grows_of_map grammar n =
+    grows_mapped (field_from Unlabelled) (grows_both (grows_mapped (λ ws. type_of (codes "map" ∷ ws)) (grows_dotted n)) (grows_field_tail grammar (suc n)))
 
-grows_map : (n : ℕ) → Grows (map_reader n) (map_reader (suc n))
+grows_map : (grammar : Grammar) → (n : ℕ) → Grows (map_reader grammar n) (map_reader grammar (suc n))
 unfolding map_reader
-grows_map n =
+grows_map grammar n =
     grows_behind (grows_same (keyword_reader (codes "map")))
-    (grows_choice (is_mark (codes "<")) (grows_mapped MessageStatement.a_map (grows_map_tail (suc n))) (grows_mapped MessageStatement.a_field (grows_of_map n)))
+    (grows_choice (is_mark (codes "<")) (grows_mapped MessageStatement.a_map (grows_map_tail grammar (suc n))) (grows_mapped MessageStatement.a_field (grows_of_map grammar n)))
 
-grows_oneof_statement : (n : ℕ) → Grows (oneof_statement_reader n) (oneof_statement_reader (suc n))
+grows_oneof_statement : (grammar : Grammar) → (n : ℕ) → Grows (oneof_statement_reader grammar n) (oneof_statement_reader grammar (suc n))
 unfolding oneof_statement_reader
-grows_oneof_statement n = grows_kinds oneof_kind (oneof_line n) (oneof_line (suc n)) line
+grows_oneof_statement grammar n = grows_kinds oneof_kind (oneof_line grammar n) (oneof_line grammar (suc n)) line
   where
-    line : (k : OneofKind) → GrowsSome (oneof_line n k) (oneof_line (suc n) k)
+    line : (k : OneofKind) → GrowsSome (oneof_line grammar n k) (oneof_line grammar (suc n) k)
     line in_a_oneof.Empty = grows_same (mapped (λ _. None) (mark_reader (codes ";")))
-    line in_a_oneof.Option = grows_mapped (λ _. None) (grows_option n)
-    line in_a_oneof.Field = grows_mapped Some (grows_field n Unlabelled)
+    line in_a_oneof.Option = grows_mapped (λ _. None) (grows_option grammar n)
+    line in_a_oneof.Field = grows_mapped Some (grows_field grammar n Unlabelled)
 
-grows_oneof : (n : ℕ) → Grows (oneof_reader n) (oneof_reader (suc n))
+grows_oneof : (grammar : Grammar) → (n : ℕ) → Grows (oneof_reader grammar n) (oneof_reader grammar (suc n))
 unfolding oneof_reader
-grows_oneof n = grows_behind (grows_same (keyword_reader (codes "oneof")))
-    (grows_both (grows_same name_reader) (grows_mapped those_said (grows_braced n (grows_oneof_statement n))))
+grows_oneof grammar n = grows_behind (grows_same (keyword_reader (codes "oneof")))
+    (grows_both (grows_same name_reader) (grows_mapped those_said (grows_braced n (grows_oneof_statement grammar n))))
 
 grows_reserved : {A : Type 0} (n : ℕ) (range : Reader (ℤ × ℤ)) (of_ranges : List (ℤ × ℤ) → A) (of_names : List (List ℕ) → A)
     → Grows (reserved_reader n range of_ranges of_names) (reserved_reader (suc n) range of_ranges of_names)
@@ -88,37 +92,65 @@ grows_reserved n range of_ranges of_names =
     (grows_choice is_text (grows_mapped of_names (grows_before (grows_listed n (grows_same utf8_reader)) (grows_same (mark_reader (codes ";")))))
     (grows_mapped of_ranges (grows_before (grows_listed n (grows_same range)) (grows_same (mark_reader (codes ";"))))))
 
-grows_value : (n : ℕ) → Grows (value_reader n) (value_reader (suc n))
+grows_value : (grammar : Grammar) → (n : ℕ) → Grows (value_reader grammar n) (value_reader grammar (suc n))
 unfolding value_reader
-grows_value n =
+grows_value grammar n =
     grows_mapped (λ x. EnumStatement.a_value x.0 x.1)
     (grows_both (grows_same name_reader)
-    (grows_behind (grows_same (mark_reader (codes "="))) (grows_before (grows_same signed_reader) (grows_value_end n))))
+    (grows_behind (grows_same (mark_reader (codes "="))) (grows_before (grows_same signed_reader) (grows_value_end grammar n))))
 
-grows_enum_statement : (n : ℕ) → Grows (enum_statement_reader n) (enum_statement_reader (suc n))
+grows_enum_statement : (grammar : Grammar) → (n : ℕ) → Grows (enum_statement_reader grammar n) (enum_statement_reader grammar (suc n))
 unfolding enum_statement_reader
-grows_enum_statement n = grows_kinds enum_kind (enum_statement_line n) (enum_statement_line (suc n)) line
+grows_enum_statement grammar n = grows_kinds enum_kind (enum_statement_line grammar n) (enum_statement_line grammar (suc n)) line
   where
-    line : (k : EnumKind) → GrowsSome (enum_statement_line n k) (enum_statement_line (suc n) k)
+    line : (k : EnumKind) → GrowsSome (enum_statement_line grammar n k) (enum_statement_line grammar (suc n) k)
     line in_enum.Empty = grows_same (mapped (λ _. EnumStatement.nothing_said) (mark_reader (codes ";")))
     line in_enum.Option =
         grows_mapped said_of_alias
         (grows_behind (grows_same (keyword_reader (codes "option")))
-        (grows_before (grows_setting n (codes "allow_alias")) (grows_same (mark_reader (codes ";")))))
+        (grows_before (grows_setting grammar n (codes "allow_alias")) (grows_same (mark_reader (codes ";")))))
     line in_enum.Reserved = grows_reserved n enum_range_reader EnumStatement.reserved_ranges EnumStatement.reserved_names
-    line in_enum.Value = grows_value n
+    line in_enum.Value = grows_value grammar n
 
-grows_enum : (n : ℕ) → Grows (enum_reader n) (enum_reader (suc n))
+grows_enum : (grammar : Grammar) → (n : ℕ) → Grows (enum_reader grammar n) (enum_reader grammar (suc n))
 unfolding enum_reader
-grows_enum n = grows_mapped (λ x. enum_of x.0 x.1)
-    (grows_behind (grows_same (keyword_reader (codes "enum"))) (grows_both (grows_same name_reader) (grows_braced n (grows_enum_statement n))))
+grows_enum grammar n = grows_mapped (λ x. enum_of x.0 x.1)
+    (grows_behind (grows_same (keyword_reader (codes "enum"))) (grows_both (grows_same name_reader) (grows_braced n (grows_enum_statement grammar n))))
+
+-- ---- extensions
+
+grows_extension : (grammar : Grammar) → (n : ℕ) → Grows (extension_reader grammar n) (extension_reader grammar (suc n))
+unfolding extension_reader
+grows_extension grammar n = grows_kinds extend_kind (extension_line grammar n) (extension_line grammar (suc n)) line
+  where
+    line : (k : ExtendKind) → GrowsSome (extension_line grammar n k) (extension_line grammar (suc n) k)
+    line in_extend.Empty = grows_same (mark_reader (codes ";"))
+    line in_extend.Repeated = grows_mapped (λ _. tt) (grows_behind (grows_same (keyword_reader (codes "repeated"))) (grows_field grammar n Repeated))
+    line in_extend.Optional = grows_mapped (λ _. tt) (grows_behind (grows_same (keyword_reader (codes "optional"))) (grows_field grammar n Optional))
+    line in_extend.Field = grows_mapped (λ _. tt) (grows_field grammar n Unlabelled)
+
+grows_extend : (grammar : Grammar) → (n : ℕ) → Grows (extend_reader grammar n) (extend_reader grammar (suc n))
+unfolding extend_reader
+grows_extend grammar n =
+    grows_behind (grows_same (keyword_reader (codes "extend")))
+    (grows_behind (grows_mapped (λ _. tt) (grows_typename n)) (grows_mapped (λ _. tt) (grows_braced n (grows_extension grammar n))))
+
+grows_extensions : (grammar : Grammar) → (n : ℕ) → Grows (extensions_reader grammar n) (extensions_reader grammar (suc n))
+unfolding extensions_reader
+grows_extensions grammar n =
+    grows_behind (grows_same (keyword_reader (codes "extensions")))
+    (grows_behind (grows_mapped (λ _. tt) (grows_listed n (grows_same message_range_reader))) (grows_value_end grammar n))
+
+grows_dropped : {A : Type 0} (grammar : Grammar) (v : A) {p q : Reader (Unit {0})} → Grows p q → GrowsSome (dropped grammar v p) (dropped grammar v q)
+grows_dropped Strict v g = tt
+grows_dropped Proto3 v g = grows_mapped (λ _. v) g
 
 -- ---- messages
 
-grows_message_statement : (n : ℕ) (p q : Option (Reader DeclaredMessage)) → GrowsSome p q
-    → Grows (message_statement_reader n p) (message_statement_reader (suc n) q)
+grows_message_statement : (grammar : Grammar) → (n : ℕ) (p q : Option (Reader DeclaredMessage)) → GrowsSome p q
+    → Grows (message_statement_reader grammar n p) (message_statement_reader grammar (suc n) q)
 unfolding message_statement_reader
-grows_message_statement n p q g = grows_kinds message_kind (message_statement_line n p) (message_statement_line (suc n) q) line
+grows_message_statement grammar n p q g = grows_kinds message_kind (message_statement_line grammar n p) (message_statement_line grammar (suc n) q) line
   where
     inner : (x y : Option (Reader DeclaredMessage)) → GrowsSome x y
         → GrowsSome (option_map (mapped MessageStatement.a_message) x) (option_map (mapped MessageStatement.a_message) y)
@@ -127,17 +159,19 @@ grows_message_statement n p q g = grows_kinds message_kind (message_statement_li
     inner (Some x) None h = absurd h
     inner (Some x) (Some y) h = grows_mapped MessageStatement.a_message h
 
-    line : (k : MessageKind) → GrowsSome (message_statement_line n p k) (message_statement_line (suc n) q k)
+    line : (k : MessageKind) → GrowsSome (message_statement_line grammar n p k) (message_statement_line grammar (suc n) q k)
     line in_message.Empty = grows_same (mapped (λ _. MessageStatement.nothing_said) (mark_reader (codes ";")))
-    line in_message.Option = grows_mapped (λ _. MessageStatement.nothing_said) (grows_option n)
+    line in_message.Option = grows_mapped (λ _. MessageStatement.nothing_said) (grows_option grammar n)
     line in_message.Message = inner p q g
-    line in_message.Enum = grows_mapped MessageStatement.an_enum (grows_enum n)
-    line in_message.Oneof = grows_mapped (λ x. MessageStatement.a_oneof x.0 x.1) (grows_oneof n)
+    line in_message.Enum = grows_mapped MessageStatement.an_enum (grows_enum grammar n)
+    line in_message.Oneof = grows_mapped (λ x. MessageStatement.a_oneof x.0 x.1) (grows_oneof grammar n)
     line in_message.Reserved = grows_reserved n message_range_reader MessageStatement.reserved_ranges MessageStatement.reserved_names
-    line in_message.Repeated = grows_mapped MessageStatement.a_field (grows_behind (grows_same (keyword_reader (codes "repeated"))) (grows_field n Repeated))
-    line in_message.Optional = grows_mapped MessageStatement.a_field (grows_behind (grows_same (keyword_reader (codes "optional"))) (grows_field n Optional))
-    line in_message.Map = grows_map n
-    line in_message.Field = grows_mapped MessageStatement.a_field (grows_field n Unlabelled)
+    line in_message.Repeated = grows_mapped MessageStatement.a_field (grows_behind (grows_same (keyword_reader (codes "repeated"))) (grows_field grammar n Repeated))
+    line in_message.Optional = grows_mapped MessageStatement.a_field (grows_behind (grows_same (keyword_reader (codes "optional"))) (grows_field grammar n Optional))
+    line in_message.Map = grows_map grammar n
+    line in_message.Field = grows_mapped MessageStatement.a_field (grows_field grammar n Unlabelled)
+    line in_message.Extend = grows_dropped grammar MessageStatement.nothing_said (grows_extend grammar n)
+    line in_message.Extensions = grows_dropped grammar MessageStatement.nothing_said (grows_extensions grammar n)
 
 grows_message_line : {p q : Reader MessageStatement} (n : ℕ) → Grows p q → Grows (message_line_reader n p) (message_line_reader (suc n) q)
 unfolding message_line_reader
@@ -145,20 +179,20 @@ grows_message_line n g =
     grows_mapped (λ x. message_of x.0 x.1)
     (grows_behind (grows_same (keyword_reader (codes "message"))) (grows_both (grows_same name_reader) (grows_braced n g)))
 
-grows_last_statement : (n : ℕ) → Grows (last_statement_reader n) (last_statement_reader (suc n))
+grows_last_statement : (grammar : Grammar) → (n : ℕ) → Grows (last_statement_reader grammar n) (last_statement_reader grammar (suc n))
 unfolding last_statement_reader
-grows_last_statement n =
+grows_last_statement grammar n =
     grows_guarded nests_bounded (is_keyword (codes "message"))
-    (grows_mapped MessageStatement.a_message (grows_message_line n (grows_message_statement n None None tt)))
-    (grows_message_statement n None None tt)
+    (grows_mapped MessageStatement.a_message (grows_message_line n (grows_message_statement grammar n None None tt)))
+    (grows_message_statement grammar n None None tt)
 
-grows_room : (n room : ℕ) → Grows (room_statement_reader n room) (room_statement_reader (suc n) room)
+grows_room : (grammar : Grammar) → (n room : ℕ) → Grows (room_statement_reader grammar n room) (room_statement_reader grammar (suc n) room)
 unfolding room_statement_reader
-grows_room n zero = grows_last_statement n
-grows_room n (suc room) =
-    grows_message_statement n (Some (message_line_reader n (room_statement_reader n room)))
-    (Some (message_line_reader (suc n) (room_statement_reader (suc n) room)))
-    (grows_message_line n (grows_room n room))
+grows_room grammar n zero = grows_last_statement grammar n
+grows_room grammar n (suc room) =
+    grows_message_statement grammar n (Some (message_line_reader n (room_statement_reader grammar n room)))
+    (Some (message_line_reader (suc n) (room_statement_reader grammar (suc n) room)))
+    (grows_message_line n (grows_room grammar n room))
 
 -- ---- services
 
@@ -168,44 +202,44 @@ grows_streamed n =
     grows_choice streams (grows_mapped (λ t. (true, t)) (grows_behind (grows_same (keyword_reader (codes "stream"))) (grows_typename n)))
     (grows_mapped (λ t. (false, t)) (grows_typename n))
 
-grows_method_statement : (n : ℕ) → Grows (method_statement_reader n) (method_statement_reader (suc n))
+grows_method_statement : (grammar : Grammar) → (n : ℕ) → Grows (method_statement_reader grammar n) (method_statement_reader grammar (suc n))
 unfolding method_statement_reader
-grows_method_statement n = grows_kinds method_kind (method_line n) (method_line (suc n)) line
+grows_method_statement grammar n = grows_kinds method_kind (method_line grammar n) (method_line grammar (suc n)) line
   where
-    line : (k : MethodKind) → GrowsSome (method_line n k) (method_line (suc n) k)
+    line : (k : MethodKind) → GrowsSome (method_line grammar n k) (method_line grammar (suc n) k)
     line in_method.Empty = grows_same (mark_reader (codes ";"))
-    line in_method.Option = grows_option n
+    line in_method.Option = grows_option grammar n
 
-grows_method_end : (n : ℕ) → Grows (method_end_reader n) (method_end_reader (suc n))
+grows_method_end : (grammar : Grammar) → (n : ℕ) → Grows (method_end_reader grammar n) (method_end_reader grammar (suc n))
 unfolding method_end_reader
-grows_method_end n = grows_choice (is_mark (codes "{")) (grows_mapped (λ _. tt) (grows_braced n (grows_method_statement n)))
+grows_method_end grammar n = grows_choice (is_mark (codes "{")) (grows_mapped (λ _. tt) (grows_braced n (grows_method_statement grammar n)))
     (grows_same (mark_reader (codes ";")))
 
 grows_parameter : (n : ℕ) → Grows (parameter_reader n) (parameter_reader (suc n))
 unfolding parameter_reader
 grows_parameter n = grows_behind (grows_same (mark_reader (codes "("))) (grows_before (grows_streamed n) (grows_same (mark_reader (codes ")"))))
 
-grows_method : (n : ℕ) → Grows (method_reader n) (method_reader (suc n))
+grows_method : (grammar : Grammar) → (n : ℕ) → Grows (method_reader grammar n) (method_reader grammar (suc n))
 unfolding method_reader
-grows_method n =
+grows_method grammar n =
     grows_mapped method_from (grows_behind (grows_same (keyword_reader (codes "rpc")))
     (grows_both (grows_same name_reader)
     (grows_both (grows_parameter n)
-    (grows_behind (grows_same (keyword_reader (codes "returns"))) (grows_before (grows_parameter n) (grows_method_end n))))))
+    (grows_behind (grows_same (keyword_reader (codes "returns"))) (grows_before (grows_parameter n) (grows_method_end grammar n))))))
 
-grows_service_statement : (n : ℕ) → Grows (service_statement_reader n) (service_statement_reader (suc n))
+grows_service_statement : (grammar : Grammar) → (n : ℕ) → Grows (service_statement_reader grammar n) (service_statement_reader grammar (suc n))
 unfolding service_statement_reader
-grows_service_statement n = grows_kinds service_kind (service_line n) (service_line (suc n)) line
+grows_service_statement grammar n = grows_kinds service_kind (service_line grammar n) (service_line grammar (suc n)) line
   where
-    line : (k : ServiceKind) → GrowsSome (service_line n k) (service_line (suc n) k)
+    line : (k : ServiceKind) → GrowsSome (service_line grammar n k) (service_line grammar (suc n) k)
     line in_service.Empty = grows_same (mapped (λ _. None) (mark_reader (codes ";")))
-    line in_service.Option = grows_mapped (λ _. None) (grows_option n)
-    line in_service.Method = grows_mapped Some (grows_method n)
+    line in_service.Option = grows_mapped (λ _. None) (grows_option grammar n)
+    line in_service.Method = grows_mapped Some (grows_method grammar n)
 
-grows_service : (n : ℕ) → Grows (service_reader n) (service_reader (suc n))
+grows_service : (grammar : Grammar) → (n : ℕ) → Grows (service_reader grammar n) (service_reader grammar (suc n))
 unfolding service_reader
-grows_service n = grows_mapped service_from
-    (grows_behind (grows_same (keyword_reader (codes "service"))) (grows_both (grows_same name_reader) (grows_braced n (grows_service_statement n))))
+grows_service grammar n = grows_mapped service_from
+    (grows_behind (grows_same (keyword_reader (codes "service"))) (grows_both (grows_same name_reader) (grows_braced n (grows_service_statement grammar n))))
 
 -- ---- files
 
@@ -214,23 +248,24 @@ unfolding package_reader
 grows_package n = grows_mapped joined
     (grows_behind (grows_same (keyword_reader (codes "package"))) (grows_before (grows_fullname n) (grows_same (mark_reader (codes ";")))))
 
-grows_file_statement : (n : ℕ) (said : Bool) → Grows (file_statement_reader n said) (file_statement_reader (suc n) said)
+grows_file_statement : (grammar : Grammar) → (n : ℕ) (said : Bool) → Grows (file_statement_reader grammar n said) (file_statement_reader grammar (suc n) said)
 unfolding file_statement_reader
-grows_file_statement n said = grows_kinds file_kind (file_line n said) (file_line (suc n) said) (line said)
+grows_file_statement grammar n said = grows_kinds file_kind (file_line grammar n said) (file_line grammar (suc n) said) (line said)
   where
-    line : (said : Bool) (k : FileKind) → GrowsSome (file_line n said k) (file_line (suc n) said k)
+    line : (said : Bool) (k : FileKind) → GrowsSome (file_line grammar n said k) (file_line grammar (suc n) said k)
     line said in_file.Empty = grows_same (mapped (λ _. FileStatement.nothing_said) (mark_reader (codes ";")))
-    line said in_file.Option = grows_mapped (λ _. FileStatement.nothing_said) (grows_option n)
+    line said in_file.Option = grows_mapped (λ _. FileStatement.nothing_said) (grows_option grammar n)
     line said in_file.Import = grows_same (mapped (λ x. FileStatement.an_import x.0 x.1) import_reader)
     line true in_file.Package = tt
     line false in_file.Package = grows_mapped FileStatement.a_package (grows_package n)
-    line said in_file.Message = grows_mapped FileStatement.a_message (grows_message_line n (grows_room n 63))
-    line said in_file.Enum = grows_mapped FileStatement.an_enum (grows_enum n)
-    line said in_file.Service = grows_mapped FileStatement.a_service (grows_service n)
+    line said in_file.Message = grows_mapped FileStatement.a_message (grows_message_line n (grows_room grammar n 63))
+    line said in_file.Enum = grows_mapped FileStatement.an_enum (grows_enum grammar n)
+    line said in_file.Service = grows_mapped FileStatement.a_service (grows_service grammar n)
+    line said in_file.Extend = grows_dropped grammar FileStatement.nothing_said (grows_extend grammar n)
 
-grows_file : (n : ℕ) → Grows (file_reader n) (file_reader (suc n))
+grows_file : (grammar : Grammar) → (n : ℕ) → Grows (file_reader grammar n) (file_reader grammar (suc n))
 unfolding file_reader
-grows_file n = grows_behind (grows_same syntax_reader) (grows_to_end n is_package false [] (grows_file_statement n))
+grows_file grammar n = grows_behind (grows_same syntax_reader) (grows_to_end n is_package false [] (grows_file_statement grammar n))
 
 -- ---- further by any number
 
@@ -243,21 +278,21 @@ sucs_is zero n = omega arith
 sucs_is (suc k) n = let e = sucs_is k n in omega arith
 
 -- a file that is refused with a symbol is refused so however far the reader may go
-module _ (rules : Rules) (ts : List Symbol) (t : Symbol) (x : List Symbol) (why : Option Rule) where
+module _ (grammar : Grammar) (rules : Rules) (ts : List Symbol) (t : Symbol) (x : List Symbol) (why : Option Rule) where
   apart : {A : Type 0} {o : Outcome A} {w : Option Rule} → o ≡ Err (t ∷ x, why) → o ≡ Err ([], w) → ⊥
   apart {w = w} e f =
       let same : ◌≡◌ {A = List Symbol × Option Rule} (t ∷ x, why) ([], w) = cc (e, f) in let none : t ∷ x ≡ [] = ap (λ z. z.0) same in absurd (cc none)
 
-  once : (n : ℕ) → (file_reader (suc n) rules ts ≡ file_reader n rules ts) ⊎ ((w : Option Rule) × (file_reader n rules ts ≡ Err ([], w)))
-      → file_reader n rules ts ≡ Err (t ∷ x, why) → file_reader (suc n) rules ts ≡ Err (t ∷ x, why)
+  once : (n : ℕ) → (file_reader grammar (suc n) rules ts ≡ file_reader grammar n rules ts) ⊎ ((w : Option Rule) × (file_reader grammar n rules ts ≡ Err ([], w)))
+      → file_reader grammar n rules ts ≡ Err (t ∷ x, why) → file_reader grammar (suc n) rules ts ≡ Err (t ∷ x, why)
   once n (inl e) h = e ∙ h
   once n (inr (w, e)) h = absurd (apart h e)
 
-  further : (n k : ℕ) → file_reader n rules ts ≡ Err (t ∷ x, why) → file_reader (sucs k n) rules ts ≡ Err (t ∷ x, why)
+  further : (n k : ℕ) → file_reader grammar n rules ts ≡ Err (t ∷ x, why) → file_reader grammar (sucs k n) rules ts ≡ Err (t ∷ x, why)
   further n zero h = h
-  further n (suc k) h = once (sucs k n) ((grows_file (sucs k n)).grows rules ts) (further n k h)
+  further n (suc k) h = once (sucs k n) ((grows_file grammar (sucs k n)).grows rules ts) (further n k h)
 
-  pub refused_further : (n m : ℕ) → n ≤ m → file_reader n rules ts ≡ Err (t ∷ x, why) → file_reader m rules ts ≡ Err (t ∷ x, why)
+  pub refused_further : (n m : ℕ) → n ≤ m → file_reader grammar n rules ts ≡ Err (t ∷ x, why) → file_reader grammar m rules ts ≡ Err (t ∷ x, why)
   refused_further n m l h =
       let e = sucs_is (m - n) n in let same : sucs (m - n) n ≡ m = omega arith in
-      subst (λ k. file_reader k rules ts ≡ Err (t ∷ x, why)) same (further n (m - n) h)
+      subst (λ k. file_reader grammar k rules ts ≡ Err (t ∷ x, why)) same (further n (m - n) h)

@@ -14,6 +14,8 @@ pub mod FieldLaws
 pub mod ReservedLaws
 -- oneofs, enums and services
 pub mod BodyLaws
+-- extensions
+pub mod ExtensionLaws
 -- messages
 pub mod MessageLaws
 -- files
@@ -31,6 +33,8 @@ pub mod SourceLaws
 pub mod NestLemmas
 -- for the law that a source is one file, or has one fault
 pub mod OneSource
+-- for the law that a source of the strict grammar is one of all of proto3
+pub mod StrictFiles
 -- for `parse`: what it tells is the declaration, or the fault and no other
 pub mod ParseLemmas
 -- for the statements of a message, with the room that is left for nested messages
@@ -46,3 +50,5 @@ pub mod Bridges
 -- ---- worked out by the rules
 -- small files with their declarations and faults
 mod GrammarRows
+-- small files of all of proto3, too
+mod LenientRows

@@ -4,6 +4,7 @@ use Rattle.std.specs.Prelude.{if◌then◌else◌}
 use Rattle.std.specs.Str.{bytes_eq}
 use Rattle.std.proofs.lemmas.Bool.{false≢true}
 use Rattle.pb_decl.specs.Decls.{DeclaredMessage}
+use Rattle.pb_tokens.specs.declared.grammar.Grammar.{Grammar}
 use Rattle.pb_tokens.specs.declared.rule.Rule.TheVariants.{NestsBounded as nests_bounded}
 use Rattle.pb_tokens.specs.Symbols.{Symbol, word, number, text, sign}
 use Rattle.pb_tokens.specs.Language.{all_rules}
@@ -28,8 +29,8 @@ no_such_kind (e ∷ es) other k w n o h = by_test (bytes_eq w e.0) refl (no_such
 abbrev other_words : List (List ℕ × Option MessageKind)
 other_words =
     (codes "enum", Some kind.Enum) ∷ (codes "option", Some kind.Option) ∷ (codes "oneof", Some kind.Oneof) ∷ (codes "reserved", Some kind.Reserved)
-    ∷ (codes "optional", Some kind.Optional) ∷ (codes "repeated", Some kind.Repeated) ∷ (codes "required", None) ∷ (codes "extend", None)
-    ∷ (codes "extensions", None) ∷ (codes "map", Some kind.Map) ∷ []
+    ∷ (codes "optional", Some kind.Optional) ∷ (codes "repeated", Some kind.Repeated) ∷ (codes "required", None) ∷ (codes "extend", Some kind.Extend)
+    ∷ (codes "extensions", Some kind.Extensions) ∷ (codes "map", Some kind.Map) ∷ []
 
 is_message : (s : Symbol) → message_kind s ≡ Some kind.Message → is_keyword (codes "message") s ≡ true
 is_message (word w) h = by_test (bytes_eq w (codes "message")) refl
@@ -54,50 +55,50 @@ not_message s k h n = by_test (is_keyword (codes "message") s) refl
     by_test false f = f
 
 -- the reader of the messages that may stand in one with this room, if any may
-abbrev pub inner_in : ℕ → ℕ → Option (Reader DeclaredMessage)
-inner_in n zero = None
-inner_in n (suc room) = Some (message_reader n room)
+abbrev pub inner_in : (grammar : Grammar) → ℕ → ℕ → Option (Reader DeclaredMessage)
+inner_in grammar n zero = None
+inner_in grammar n (suc room) = Some (message_reader grammar n room)
 
-of_kind : (n : ℕ) (inner : Option (Reader DeclaredMessage)) (s : Symbol) (ts : List Symbol) (k : Option MessageKind) → message_kind s ≡ k
-    → message_statement_reader n inner all_rules (s ∷ ts) ≡ on_kind (message_statement_line n inner) k all_rules (s ∷ ts)
+of_kind : (grammar : Grammar) → (n : ℕ) (inner : Option (Reader DeclaredMessage)) (s : Symbol) (ts : List Symbol) (k : Option MessageKind) → message_kind s ≡ k
+    → message_statement_reader grammar n inner all_rules (s ∷ ts) ≡ on_kind (message_statement_line grammar n inner) k all_rules (s ∷ ts)
 unfolding message_statement_reader
-of_kind n inner s ts k h = ap (λ k. on_kind (message_statement_line n inner) k all_rules (s ∷ ts)) h
+of_kind grammar n inner s ts k h = ap (λ k. on_kind (message_statement_line grammar n inner) k all_rules (s ∷ ts)) h
 
-other_in_room : (n room : ℕ) (s : Symbol) (ts : List Symbol) (k : Option MessageKind) → message_kind s ≡ k → (k ≡ Some kind.Message → ⊥)
-    → room_statement_reader n room all_rules (s ∷ ts) ≡ on_kind (message_statement_line n (inner_in n room)) k all_rules (s ∷ ts)
+other_in_room : (grammar : Grammar) → (n room : ℕ) (s : Symbol) (ts : List Symbol) (k : Option MessageKind) → message_kind s ≡ k → (k ≡ Some kind.Message → ⊥)
+    → room_statement_reader grammar n room all_rules (s ∷ ts) ≡ on_kind (message_statement_line grammar n (inner_in grammar n room)) k all_rules (s ∷ ts)
 unfolding room_statement_reader last_statement_reader
-other_in_room n zero s ts k h m = rw (not_message s k h m) (of_kind n None s ts k h)
-other_in_room n (suc room) s ts k h m = of_kind n (Some (message_reader n room)) s ts k h
+other_in_room grammar n zero s ts k h m = rw (not_message s k h m) (of_kind grammar n None s ts k h)
+other_in_room grammar n (suc room) s ts k h m = of_kind grammar n (Some (message_reader grammar n room)) s ts k h
 
 not_plain : (k : MessageKind) → is_plain k ≡ true → Some k ≡ Some kind.Message → ⊥
 not_plain k p e = let q : k ≡ kind.Message = cc e in false≢true (sym (ap is_plain q) ∙ p)
 
 -- a statement that is no message
-pub plain_in_room : (n room : ℕ) (read : List Symbol) (s : Symbol) (ts : List Symbol) (k : MessageKind) → read ≡ s ∷ ts → message_kind s ≡ Some k → is_plain k ≡ true
-    → room_statement_reader n room all_rules read ≡ if_some (message_statement_line n (inner_in n room) k) all_rules read
-plain_in_room n room read s ts k e h p = rw e (other_in_room n room s ts (Some k) h (not_plain k p))
+pub plain_in_room : (grammar : Grammar) → (n room : ℕ) (read : List Symbol) (s : Symbol) (ts : List Symbol) (k : MessageKind) → read ≡ s ∷ ts → message_kind s ≡ Some k → is_plain k ≡ true
+    → room_statement_reader grammar n room all_rules read ≡ if_some (message_statement_line grammar n (inner_in grammar n room) k) all_rules read
+plain_in_room grammar n room read s ts k e h p = rw e (other_in_room grammar n room s ts (Some k) h (not_plain k p))
 
 -- what begins no statement
-pub none_in_room : (n room : ℕ) (read : List Symbol) (s : Symbol) (ts : List Symbol) → read ≡ s ∷ ts → message_kind s ≡ None
-    → room_statement_reader n room all_rules read ≡ Err (read, None)
-none_in_room n room read s ts e h = rw e (other_in_room n room s ts None h (λ e. cc e))
+pub none_in_room : (grammar : Grammar) → (n room : ℕ) (read : List Symbol) (s : Symbol) (ts : List Symbol) → read ≡ s ∷ ts → message_kind s ≡ None
+    → room_statement_reader grammar n room all_rules read ≡ Err (read, None)
+none_in_room grammar n room read s ts e h = rw e (other_in_room grammar n room s ts None h (λ e. cc e))
 
 -- a message where room is left
-pub message_in_room : (n room : ℕ) (read : List Symbol) (s : Symbol) (ts : List Symbol) → 0 < room → read ≡ s ∷ ts → message_kind s ≡ Some kind.Message
-    → room_statement_reader n room all_rules read ≡ mapped MessageStatement.a_message (message_reader n (room - 1)) all_rules read
+pub message_in_room : (grammar : Grammar) → (n room : ℕ) (read : List Symbol) (s : Symbol) (ts : List Symbol) → 0 < room → read ≡ s ∷ ts → message_kind s ≡ Some kind.Message
+    → room_statement_reader grammar n room all_rules read ≡ mapped MessageStatement.a_message (message_reader grammar n (room - 1)) all_rules read
 unfolding room_statement_reader
-message_in_room n zero read s ts l e h = absurd (omega arith)
-message_in_room n (suc room) read s ts l e h =
+message_in_room grammar n zero read s ts l e h = absurd (omega arith)
+message_in_room grammar n (suc room) read s ts l e h =
     let less : room ≡ suc room - 1 = omega arith in
-    rw e (of_kind n (Some (message_reader n room)) s ts (Some kind.Message) h ∙ ap (λ r. mapped MessageStatement.a_message (message_reader n r) all_rules (s ∷ ts)) less)
+    rw e (of_kind grammar n (Some (message_reader grammar n room)) s ts (Some kind.Message) h ∙ ap (λ r. mapped MessageStatement.a_message (message_reader grammar n r) all_rules (s ∷ ts)) less)
 
 -- a message where no room is left
-pub message_too_deep : (n : ℕ) (read : List Symbol) (s : Symbol) (ts : List Symbol) → read ≡ s ∷ ts → message_kind s ≡ Some kind.Message
-    → room_statement_reader n 0 all_rules read ≡ Err (read, Some nests_bounded)
+pub message_too_deep : (grammar : Grammar) → (n : ℕ) (read : List Symbol) (s : Symbol) (ts : List Symbol) → read ≡ s ∷ ts → message_kind s ≡ Some kind.Message
+    → room_statement_reader grammar n 0 all_rules read ≡ Err (read, Some nests_bounded)
 unfolding room_statement_reader last_statement_reader
-message_too_deep n read s ts e h = rw (e, is_message s h) refl
+message_too_deep grammar n read s ts e h = rw (e, is_message s h) refl
 
-pub no_room_statement : (room n : ℕ) → room_statement_reader n room all_rules [] ≡ Err ([], None)
+pub no_room_statement : (grammar : Grammar) → (room n : ℕ) → room_statement_reader grammar n room all_rules [] ≡ Err ([], None)
 unfolding room_statement_reader last_statement_reader message_statement_reader
-no_room_statement zero n = refl
-no_room_statement (suc room) n = refl
+no_room_statement grammar zero n = refl
+no_room_statement grammar (suc room) n = refl

@@ -7,6 +7,8 @@ use Rattle.pb_decl.specs.Decls.{DeclaredField, DeclaredEnum, DeclaredMessage, De
 use Rattle.pb_tokens.specs.Phrases.{keyword, mark, name, Until, Listed, BeginsNot, fullname, counted, signed, option, setting, field_end, value_end}
 use Rattle.pb_tokens.specs.Phrases.{key_type, typename, typed, message_range, enum_range, utf8_text}
 use Rattle.pb_tokens.specs.declared.rule.Rule.TheVariants.{SyntaxFirst as syntax_first, NestsBounded as nests_bounded}
+use Rattle.pb_tokens.specs.declared.grammar.Grammar.{Grammar}
+use Rattle.pb_tokens.specs.declared.grammar.Grammar.TheVariants.{Strict, Proto3}
 use Rattle.pb_tokens.specs.Symbols.{Symbol, text}
 use Rattle.pb_tokens.specs.Language.{Language, ◌▸◌, ◌or◌, one, nothing, Rules, all_rules}
 use Rattle.pb_tokens.specs.Said.{TypeSaid, joined}
@@ -18,25 +20,25 @@ use Rattle.pb_source.specs.Meaning.{those_said, field_of, message_of, enum_of, a
 -- ---- fields
 
 -- type word "=" integer [ opts ] ";"
-abbrev pub field : Rules → Label → DeclaredField → Language
-field rules l f ts =
+abbrev pub field : Grammar → Rules → Label → DeclaredField → Language
+field g rules l f ts =
     (t : TypeSaid) × (w : List ℕ) × (n : ℕ) × (packed : Option Bool) × (f ≡ field_of l t w n packed)
-    × (typed t ▸ name w ▸ mark "=" ▸ counted rules n ▸ field_end rules packed) ts
+    × (typed t ▸ name w ▸ mark "=" ▸ counted rules n ▸ field_end g rules packed) ts
 
 -- map       = "map" "<" keytype "," type ">" word "=" integer [ opts ] ";"
-abbrev pub map_line : Rules → MapDecl → Language
-map_line rules m =
-    keyword "map" ▸ mark "<" ▸ key_type m.key ▸ mark "," ▸ typed m.value ▸ mark ">" ▸ name m.name ▸ mark "=" ▸ counted rules m.number ▸ field_end rules m.packed
+abbrev pub map_line : Grammar → Rules → MapDecl → Language
+map_line g rules m =
+    keyword "map" ▸ mark "<" ▸ key_type m.key ▸ mark "," ▸ typed m.value ▸ mark ">" ▸ name m.name ▸ mark "=" ▸ counted rules m.number ▸ field_end g rules m.packed
 
 -- { option | type word "=" integer [ opts ] ";" | ";" }, of which a field says something
-abbrev pub oneof_statement : Rules → Option DeclaredField → Language
-oneof_statement rules None = option rules or mark ";"
-oneof_statement rules (Some f) = λ ts. BeginsNot ("option" ∷ []) ts × field rules Unlabelled f ts
+abbrev pub oneof_statement : Grammar → Rules → Option DeclaredField → Language
+oneof_statement g rules None = option g rules or mark ";"
+oneof_statement g rules (Some f) = λ ts. BeginsNot ("option" ∷ []) ts × field g rules Unlabelled f ts
 
 -- oneof     = "oneof" word "{" { option | type word "=" integer [ opts ] ";" | ";" } "}"
-abbrev pub oneof : Rules → List ℕ → List DeclaredField → Language
-oneof rules n fs ts =
-    (ss : List (Option DeclaredField)) × (fs ≡ those_said ss) × (keyword "oneof" ▸ name n ▸ mark "{" ▸ Until (oneof_statement rules) (mark "}") ss) ts
+abbrev pub oneof : Grammar → Rules → List ℕ → List DeclaredField → Language
+oneof g rules n fs ts =
+    (ss : List (Option DeclaredField)) × (fs ≡ those_said ss) × (keyword "oneof" ▸ name n ▸ mark "{" ▸ Until (oneof_statement g rules) (mark "}") ss) ts
 
 -- ---- reserved
 
@@ -50,45 +52,72 @@ names_line rules ns = keyword "reserved" ▸ Listed (utf8_text rules) ns ▸ mar
 -- ---- enums
 
 -- { option | reserved | ";" | word "=" [ "-" ] integer [ opts ] ";" }
-abbrev pub enum_statement : Rules → EnumStatement → Language
-enum_statement rules EnumStatement.nothing_said = (keyword "option" ▸ setting (codes "allow_alias") rules None ▸ mark ";") or mark ";"
-enum_statement rules (EnumStatement.allows_alias b) = keyword "option" ▸ setting (codes "allow_alias") rules (Some b) ▸ mark ";"
-enum_statement rules (EnumStatement.a_value w z) = λ ts. BeginsNot ("option" ∷ "reserved" ∷ []) ts × (name w ▸ mark "=" ▸ signed rules z ▸ value_end rules) ts
-enum_statement rules (EnumStatement.reserved_ranges rs) = ranges_line (enum_range rules) rs
-enum_statement rules (EnumStatement.reserved_names ns) = names_line rules ns
+abbrev pub enum_statement : Grammar → Rules → EnumStatement → Language
+enum_statement g rules EnumStatement.nothing_said = (keyword "option" ▸ setting g (codes "allow_alias") rules None ▸ mark ";") or mark ";"
+enum_statement g rules (EnumStatement.allows_alias b) = keyword "option" ▸ setting g (codes "allow_alias") rules (Some b) ▸ mark ";"
+enum_statement g rules (EnumStatement.a_value w z) = λ ts. BeginsNot ("option" ∷ "reserved" ∷ []) ts × (name w ▸ mark "=" ▸ signed rules z ▸ value_end g rules) ts
+enum_statement g rules (EnumStatement.reserved_ranges rs) = ranges_line (enum_range rules) rs
+enum_statement g rules (EnumStatement.reserved_names ns) = names_line rules ns
 
 -- enum      = "enum" word "{" { option | reserved | ";" | word "=" [ "-" ] integer [ opts ] ";" } "}"
-abbrev pub enum_line : Rules → DeclaredEnum → Language
-enum_line rules e ts =
-    (n : List ℕ) × (ss : List EnumStatement) × (e ≡ enum_of n ss) × (keyword "enum" ▸ name n ▸ mark "{" ▸ Until (enum_statement rules) (mark "}") ss) ts
+abbrev pub enum_line : Grammar → Rules → DeclaredEnum → Language
+enum_line g rules e ts =
+    (n : List ℕ) × (ss : List EnumStatement) × (e ≡ enum_of n ss) × (keyword "enum" ▸ name n ▸ mark "{" ▸ Until (enum_statement g rules) (mark "}") ss) ts
+
+-- ---- extensions
+
+-- a line that the strict grammar has not
+abbrev pub beyond_strict : Grammar → Language → Language
+beyond_strict Strict L = λ ts. ⊥
+beyond_strict Proto3 L = L
+
+-- [ "repeated" | "optional" ] type word "=" integer [ opts ] ";"
+abbrev pub extended_field : Grammar → Rules → DeclaredField → Language
+extended_field g rules f =
+    (keyword "repeated" ▸ field g rules Repeated f) or (keyword "optional" ▸ field g rules Optional f)
+    or (λ ts. BeginsNot ("repeated" ∷ "optional" ∷ "required" ∷ []) ts × field g rules Unlabelled f ts)
+
+-- { field | ";" }
+abbrev pub extension : Grammar → Rules → Unit {0} → Language
+extension g rules u ts = mark ";" ts ⊎ ((f : DeclaredField) × extended_field g rules f ts)
+
+-- extend    = "extend" typename "{" { field | ";" } "}"
+abbrev pub extend : Grammar → Rules → Language
+extend g rules ts =
+    (n : List ℕ) × (us : List (Unit {0})) × (keyword "extend" ▸ typename n ▸ mark "{" ▸ Until (extension g rules) (mark "}") us) ts
+
+-- extensions = "extensions" range { "," range } [ opts ] ";"
+abbrev pub extensions : Grammar → Rules → Language
+extensions g rules ts = (rs : List (ℤ × ℤ)) × (keyword "extensions" ▸ Listed (message_range rules) rs ▸ value_end g rules) ts
 
 -- ---- messages
 
 -- A field begins with its label, or with its type, which none of these words begins. (`map` begins one where no `<` follows.)
-abbrev pub unlabelled : Rules → DeclaredField → Language
-unlabelled rules f ts =
+abbrev pub unlabelled : Grammar → Rules → DeclaredField → Language
+unlabelled g rules f ts =
     BeginsNot ("message" ∷ "enum" ∷ "option" ∷ "oneof" ∷ "reserved" ∷ "optional" ∷ "repeated" ∷ "required" ∷ "extend" ∷ "extensions" ∷ []) ts
-    × field rules Unlabelled f ts
+    × field g rules Unlabelled f ts
 
--- { field | enum | message | option | oneof | map | reserved | ";" }, where Message has the messages that may stand here;
+-- { field | enum | message | option | oneof | map | reserved | ";" }, in all of proto3 extend | extensions too, where Message has the messages that may stand here;
 -- field     = [ "repeated" | "optional" ] type word "=" integer [ opts ] ";"
-abbrev pub message_statement : Rules → (DeclaredMessage → Language) → MessageStatement → Language
-message_statement rules Message MessageStatement.nothing_said = option rules or mark ";"
-message_statement rules Message (MessageStatement.a_field f) =
-    (keyword "repeated" ▸ field rules Repeated f) or (keyword "optional" ▸ field rules Optional f) or unlabelled rules f
-message_statement rules Message (MessageStatement.a_map m) = map_line rules m
-message_statement rules Message (MessageStatement.a_oneof n fs) = oneof rules n fs
-message_statement rules Message (MessageStatement.a_message m) = Message m
-message_statement rules Message (MessageStatement.an_enum e) = enum_line rules e
-message_statement rules Message (MessageStatement.reserved_ranges rs) = ranges_line (message_range rules) rs
-message_statement rules Message (MessageStatement.reserved_names ns) = names_line rules ns
+abbrev pub message_statement : Grammar → Rules → (DeclaredMessage → Language) → MessageStatement → Language
+message_statement g rules Message MessageStatement.nothing_said =
+    option g rules or mark ";" or beyond_strict g (extend g rules) or beyond_strict g (extensions g rules)
+message_statement g rules Message (MessageStatement.a_field f) =
+    (keyword "repeated" ▸ field g rules Repeated f) or (keyword "optional" ▸ field g rules Optional f) or unlabelled g rules f
+message_statement g rules Message (MessageStatement.a_map m) = map_line g rules m
+message_statement g rules Message (MessageStatement.a_oneof n fs) = oneof g rules n fs
+message_statement g rules Message (MessageStatement.a_message m) = Message m
+message_statement g rules Message (MessageStatement.an_enum e) = enum_line g rules e
+message_statement g rules Message (MessageStatement.reserved_ranges rs) = ranges_line (message_range rules) rs
+message_statement g rules Message (MessageStatement.reserved_names ns) = names_line rules ns
 
 -- message   = "message" word "{" { statement } "}", in a nest of at most this many
-abbrev pub message : Rules → ℕ → DeclaredMessage → Language
-message rules zero m ts = ⊥
-message rules (suc room) m ts =
+abbrev pub message : Grammar → Rules → ℕ → DeclaredMessage → Language
+message g rules zero m ts = ⊥
+message g rules (suc room) m ts =
     (n : List ℕ) × (ss : List MessageStatement) × (m ≡ message_of n ss)
-    × (keyword "message" ▸ name n ▸ mark "{" ▸ Until (message_statement rules (message rules room)) (mark "}") ss) ts
+    × (keyword "message" ▸ name n ▸ mark "{" ▸ Until (message_statement g rules (message g rules room)) (mark "}") ss) ts
 
 -- Where the rule on nests is left out, one more may stand: what is told of it is told at its first word.
 abbrev pub room : Rules → ℕ
@@ -102,32 +131,32 @@ streamed true n = keyword "stream" ▸ typename n
 streamed false n = λ ts. BeginsNot ("stream" ∷ []) ts × typename n ts
 
 -- { option | ";" }
-abbrev pub method_statement : Rules → Unit {0} → Language
-method_statement rules u = option rules or mark ";"
+abbrev pub method_statement : Grammar → Rules → Unit {0} → Language
+method_statement g rules u = option g rules or mark ";"
 
 -- ( ";" | "{" { option | ";" } "}" )
-abbrev pub method_end : Rules → Language
-method_end rules ts = mark ";" ts ⊎ ((us : List (Unit {0})) × (mark "{" ▸ Until (method_statement rules) (mark "}") us) ts)
+abbrev pub method_end : Grammar → Rules → Language
+method_end g rules ts = mark ";" ts ⊎ ((us : List (Unit {0})) × (mark "{" ▸ Until (method_statement g rules) (mark "}") us) ts)
 
 -- "(" [ "stream" ] typename ")"
 abbrev pub parameter : Bool → List ℕ → Language
 parameter is_streamed n = mark "(" ▸ streamed is_streamed n ▸ mark ")"
 
 -- rpc       = "rpc" word "(" [ "stream" ] typename ")" "returns" "(" [ "stream" ] typename ")" ( ";" | "{" { option | ";" } "}" )
-abbrev pub method : Rules → DeclaredMethod → Language
-method rules m =
-    keyword "rpc" ▸ name m.name ▸ parameter m.client_streams m.input ▸ keyword "returns" ▸ parameter m.server_streams m.output ▸ method_end rules
+abbrev pub method : Grammar → Rules → DeclaredMethod → Language
+method g rules m =
+    keyword "rpc" ▸ name m.name ▸ parameter m.client_streams m.input ▸ keyword "returns" ▸ parameter m.server_streams m.output ▸ method_end g rules
 
 -- { option | rpc | ";" }, of which a method says something
-abbrev pub service_statement : Rules → Option DeclaredMethod → Language
-service_statement rules None = option rules or mark ";"
-service_statement rules (Some m) = method rules m
+abbrev pub service_statement : Grammar → Rules → Option DeclaredMethod → Language
+service_statement g rules None = option g rules or mark ";"
+service_statement g rules (Some m) = method g rules m
 
 -- service   = "service" word "{" { option | rpc | ";" } "}"
-abbrev pub service : Rules → DeclaredService → Language
-service rules s ts =
+abbrev pub service : Grammar → Rules → DeclaredService → Language
+service g rules s ts =
     (ss : List (Option DeclaredMethod)) × (s.methods ≡ those_said ss)
-    × (keyword "service" ▸ name s.name ▸ mark "{" ▸ Until (service_statement rules) (mark "}") ss) ts
+    × (keyword "service" ▸ name s.name ▸ mark "{" ▸ Until (service_statement g rules) (mark "}") ss) ts
 
 -- ---- files
 
@@ -136,16 +165,16 @@ abbrev pub access : Bool → Language
 access true = keyword "public"
 access false = keyword "weak" or nothing
 
--- { import | package | option | message | enum | service | ";" };
+-- { import | package | option | message | enum | service | ";" }, in all of proto3 extend too;
 -- import    = "import" [ "weak" | "public" ] text ";"
 -- package   = "package" fullname ";"
-abbrev pub file_statement : Rules → FileStatement → Language
-file_statement rules FileStatement.nothing_said = option rules or mark ";"
-file_statement rules (FileStatement.an_import is_public n) = keyword "import" ▸ access is_public ▸ utf8_text rules n ▸ mark ";"
-file_statement rules (FileStatement.a_package p) = λ ts. (ws : List (List ℕ)) × (p ≡ joined ws) × (keyword "package" ▸ fullname ws ▸ mark ";") ts
-file_statement rules (FileStatement.a_message m) = message rules (room rules) m
-file_statement rules (FileStatement.an_enum e) = enum_line rules e
-file_statement rules (FileStatement.a_service s) = service rules s
+abbrev pub file_statement : Grammar → Rules → FileStatement → Language
+file_statement g rules FileStatement.nothing_said = option g rules or mark ";" or beyond_strict g (extend g rules)
+file_statement g rules (FileStatement.an_import is_public n) = keyword "import" ▸ access is_public ▸ utf8_text rules n ▸ mark ";"
+file_statement g rules (FileStatement.a_package p) = λ ts. (ws : List (List ℕ)) × (p ≡ joined ws) × (keyword "package" ▸ fullname ws ▸ mark ";") ts
+file_statement g rules (FileStatement.a_message m) = message g rules (room rules) m
+file_statement g rules (FileStatement.an_enum e) = enum_line g rules e
+file_statement g rules (FileStatement.a_service s) = service g rules s
 
 -- syntax    = "syntax" "=" text ";". Where the rule on it is left out, any symbol may stand first, and any text.
 abbrev pub syntax_line : Rules → Language
@@ -154,9 +183,13 @@ syntax_line rules ts =
     ⊎ ((rules syntax_first ≡ false) × (s : Symbol) × (b : List ℕ) × (one s ▸ mark "=" ▸ one (text b) ▸ mark ";") ts)
 
 -- file      = syntax { statement }, with at most one package
-abbrev pub file : Rules → List FileStatement → Language
-file rules ss ts = (length (all_said packages_said ss) ≤ 1) × (syntax_line rules ▸ Until (file_statement rules) nothing ss) ts
+abbrev pub file : Grammar → Rules → List FileStatement → Language
+file g rules ss ts = (length (all_said packages_said ss) ≤ 1) × (syntax_line rules ▸ Until (file_statement g rules) nothing ss) ts
 
 -- The symbols are those of a file, and mean this.
+abbrev pub FileSyntaxIn : Grammar → List ℕ → List Symbol → DeclaredFile → Type 0
+FileSyntaxIn g n ts d = (ss : List FileStatement) × file g all_rules ss ts × (d ≡ file_of n ss)
+
+-- the same in the strict grammar
 abbrev pub FileSyntax : List ℕ → List Symbol → DeclaredFile → Type 0
-FileSyntax n ts d = (ss : List FileStatement) × file all_rules ss ts × (d ≡ file_of n ss)
+FileSyntax = FileSyntaxIn Strict

@@ -80,6 +80,8 @@ is_member kind.Message = false
 is_member kind.Enum = false
 is_member kind.Oneof = false
 is_member kind.Reserved = false
+is_member kind.Extend = false
+is_member kind.Extensions = false
 
 -- the kind begins no message
 abbrev pub is_plain : MessageKind → Bool
@@ -93,3 +95,5 @@ is_plain kind.Option = true
 is_plain kind.Enum = true
 is_plain kind.Oneof = true
 is_plain kind.Reserved = true
+is_plain kind.Extend = true
+is_plain kind.Extensions = true

@@ -3,11 +3,13 @@ use Rattle.std.specs.Prelude.{ℕ, zero, suc, ◌^◌, ◌-◌, ◌<◌, ◌≤�
 use Rattle.std.specs.Str.Lossy.{utf8_valid_len}
 use Rattle.pb_decl.specs.Decls.{DeclaredFile}
 use Rattle.pb_tokens.specs.Tokens.{PlacedToken, AreTokens, LexFault}
+use Rattle.pb_tokens.specs.declared.grammar.Grammar.{Grammar}
+use Rattle.pb_tokens.specs.declared.grammar.Grammar.TheVariants.{Strict, Proto3}
 use Rattle.pb_tokens.specs.Symbols.{Symbol, PlacedSymbol, AreSymbols}
 use Rattle.pb_tokens.specs.declared.fault.SourceCause.{SourceCause}
 use Rattle.pb_tokens.specs.declared.fault.SourceCause.TheVariants.{SourceTooLarge, BadUtf8}
-use Rattle.pb_source.specs.Grammar.{FileSyntax}
-use Rattle.pb_source.specs.SyntaxFault.{SyntaxFault}
+use Rattle.pb_source.specs.Grammar.{FileSyntaxIn}
+use Rattle.pb_source.specs.SyntaxFault.{SyntaxFaultIn}
 
 abbrev pub symbols_alone : List PlacedSymbol → List Symbol
 symbols_alone = map (λ p. p.symbol)
@@ -18,22 +20,38 @@ place_in [] end k = end
 place_in (p ∷ ps) end zero = p.at
 place_in (p ∷ ps) end (suc k) = place_in ps end k
 
--- the bytes are a source of this name that declares d
-pub record IsSource (name bytes : List ℕ) (d : DeclaredFile) : Type 0 where
+-- the bytes are a source of this name that declares d, by a grammar
+pub record IsSourceIn (grammar : Grammar) (name bytes : List ℕ) (d : DeclaredFile) : Type 0 where
   pub size : length bytes ≤ 2 ^ 31 - 1
   pub valid : IsUtf8 bytes
   pub tokens : List PlacedToken
   pub lexed : AreTokens bytes tokens
   pub symbols : List PlacedSymbol
   pub read : AreSymbols tokens symbols
-  pub means : FileSyntax name (symbols_alone symbols) d
+  pub means : FileSyntaxIn grammar name (symbols_alone symbols) d
 
--- the one fault of bytes that are no source
-pub data HasFault (bytes : List ℕ) : ℕ → SourceCause → Type 0 where
-  too_large : 2 ^ 31 - 1 < length bytes → HasFault bytes (2 ^ 31 - 1) SourceTooLarge
-  bad_utf8 : length bytes ≤ 2 ^ 31 - 1 → ¬ IsUtf8 bytes → HasFault bytes (utf8_valid_len bytes) BadUtf8
-  in_token : {place : ℕ} {c : SourceCause} → length bytes ≤ 2 ^ 31 - 1 → IsUtf8 bytes → LexFault bytes place c → HasFault bytes place c
+-- the one fault of bytes that are no source by a grammar
+pub data HasFaultIn (grammar : Grammar) (bytes : List ℕ) : ℕ → SourceCause → Type 0 where
+  too_large : 2 ^ 31 - 1 < length bytes → HasFaultIn grammar bytes (2 ^ 31 - 1) SourceTooLarge
+  bad_utf8 : length bytes ≤ 2 ^ 31 - 1 → ¬ IsUtf8 bytes → HasFaultIn grammar bytes (utf8_valid_len bytes) BadUtf8
+  in_token : {place : ℕ} {c : SourceCause} → length bytes ≤ 2 ^ 31 - 1 → IsUtf8 bytes → LexFault bytes place c → HasFaultIn grammar bytes place c
   in_syntax :
       {ts : List PlacedToken} {ss : List PlacedSymbol} {k : ℕ} {c : SourceCause}
       → length bytes ≤ 2 ^ 31 - 1 → IsUtf8 bytes → AreTokens bytes ts → AreSymbols ts ss
-      → SyntaxFault (symbols_alone ss) k c → HasFault bytes (place_in ss (length bytes) k) c
+      → SyntaxFaultIn grammar (symbols_alone ss) k c → HasFaultIn grammar bytes (place_in ss (length bytes) k) c
+
+-- ---- by the strict grammar
+
+abbrev pub IsSource : List ℕ → List ℕ → DeclaredFile → Type 0
+IsSource = IsSourceIn Strict
+
+abbrev pub HasFault : List ℕ → ℕ → SourceCause → Type 0
+HasFault = HasFaultIn Strict
+
+-- ---- by that of all of proto3
+
+abbrev pub IsLenientSource : List ℕ → List ℕ → DeclaredFile → Type 0
+IsLenientSource = IsSourceIn Proto3
+
+abbrev pub HasLenientFault : List ℕ → ℕ → SourceCause → Type 0
+HasLenientFault = HasFaultIn Proto3

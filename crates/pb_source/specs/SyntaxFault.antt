@@ -1,5 +1,7 @@
 -- The one fault of symbols that are no file: where they stop beginning one, and why.
 use Rattle.std.specs.Prelude.{◌≡◌, ◌≢◌, ℕ, suc, ◌<◌, List, [], length, take}
+use Rattle.pb_tokens.specs.declared.grammar.Grammar.{Grammar}
+use Rattle.pb_tokens.specs.declared.grammar.Grammar.TheVariants.{Strict}
 use Rattle.pb_tokens.specs.Symbols.{Symbol}
 use Rattle.pb_tokens.specs.Language.{Language, Rules, all_rules, without, cause_of, Begins}
 use Rattle.pb_tokens.specs.declared.rule.Rule.{Rule}
@@ -20,5 +22,9 @@ pub data Fault {A : Type 0} (File : Rules → A → Language) (ts : List Symbol)
       {k : ℕ} {c : SourceCause} → k < length ts → Begins (File all_rules) (take k ts) → ¬ Begins (File all_rules) (take (suc k) ts)
       → IsCause File (take (suc k) ts) c → Fault File ts k c
 
+abbrev pub SyntaxFaultIn : Grammar → List Symbol → ℕ → SourceCause → Type 0
+SyntaxFaultIn grammar = Fault (file grammar)
+
+-- that of the strict grammar
 abbrev pub SyntaxFault : List Symbol → ℕ → SourceCause → Type 0
-SyntaxFault = Fault file
+SyntaxFault = SyntaxFaultIn Strict

@@ -11,6 +11,7 @@ pub(crate) enum FileKind {
     Message,
     Enum,
     Service,
+    Extend,
 }
 
 /// What begins in a message.
@@ -26,6 +27,18 @@ pub(crate) enum MessageKind {
     Optional,
     /// The word `map`: a map field, or a field whose type is named so.
     Map,
+    /// A field without a label.
+    Field,
+    Extend,
+    Extensions,
+}
+
+/// What begins in a block of `extend`.
+#[derive(Clone, Copy, PartialEq, Eq)]
+pub(crate) enum ExtendKind {
+    Empty,
+    Repeated,
+    Optional,
     /// A field without a label.
     Field,
 }

@@ -1,4 +1,5 @@
-//! Sources of proto3: which file a source declares, by its grammar. Its tokens and the readers of single lines stand in `pb_tokens`.
+//! Sources of proto3: which file a source declares, by the strict grammar (`parse`) or by that of all of proto3 (`parse_lenient`). Its tokens and the
+//! readers of single lines stand in `pb_tokens`.
 //!
 //! ```rust
 //! use pb_source::parse;
@@ -34,4 +35,4 @@ mod parsing;
 mod source;
 
 pub use pb_tokens::{SourceCause, SourceFault, Token, TokenKind, lex};
-pub use source::parse;
+pub use source::{parse, parse_lenient};

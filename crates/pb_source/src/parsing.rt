@@ -3,6 +3,7 @@
 
 mod declared;
 mod enums;
+mod extensions;
 mod fields;
 mod files;
 mod kinds;

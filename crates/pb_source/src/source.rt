@@ -7,11 +7,13 @@ ghost use Rattle.pb_tokens.specs.declared.fault.SourceCause.{SourceCause};
 ghost use Rattle.pb_tokens.specs.Fault.{fault, out_of_memory};
 ghost use Rattle.pb_tokens.specs.Language.{told};
 ghost use Rattle.pb_tokens.specs.SymbolView.{symbols_of};
-ghost use Rattle.pb_source.specs.Source.{place_in, IsSource, HasFault};
+ghost use Rattle.pb_tokens.specs.declared.grammar.Grammar.{Grammar};
+ghost use Rattle.pb_source.specs.Source.{place_in, IsSourceIn, HasFaultIn, IsSource, HasFault, IsLenientSource, HasLenientFault};
 ghost use Rattle.pb_source.specs.Readers.Told.{fault_at};
 
 use crate::parsing::file;
 use pb_decl::FileDecl;
+use pb_tokens::grammar::Grammar;
 use pb_tokens::refusal::Refusal;
 use pb_tokens::rule::Rule;
 use pb_tokens::symbol::Placed;
@@ -72,9 +74,10 @@ fn text_of(source: &[u8]) -> Result<&str, SourceFault>
     ensures size { IfOk result (λ t. length source.now ≤ 2 ^ 31 - 1) }
     ensures valid { IfOk result (λ t. IsUtf8 source.now) }
     ensures text { IfOk result (λ t. t.now ≡ source.now) }
-    ensures fault { IfErr result (λ e. HasFault source.now e.byte e.cause) }
-    ensures only_fault { IfErr result (λ e. (place : ℕ) (cause : SourceCause) → HasFault source.now place cause → (place ≡ e.byte) × (cause ≡ e.cause)) }
-    ensures no_source { IfErr result (λ e. (name : List ℕ) (d : DeclaredFile) → IsSource name source.now d → ⊥) }
+    ensures fault { IfErr result (λ e. (grammar : Grammar) → HasFaultIn grammar source.now e.byte e.cause) }
+    ensures only_fault { IfErr result (λ e. (grammar : Grammar) (place : ℕ) (cause : SourceCause) → HasFaultIn grammar source.now place cause
+        → (place ≡ e.byte) × (cause ≡ e.cause)) }
+    ensures no_source { IfErr result (λ e. (grammar : Grammar) (name : List ℕ) (d : DeclaredFile) → IsSourceIn grammar name source.now d → ⊥) }
 {
     if source.len() > MAX_BYTES {
         return Err(SourceFault {
@@ -91,6 +94,29 @@ fn text_of(source: &[u8]) -> Result<&str, SourceFault>
     }
 }
 
+/// What a source declares by a grammar, as the file of this name.
+fn parse_by(
+    alloc: Global,
+    grammar: Grammar,
+    name: &str,
+    source: &[u8],
+) -> Result<FileDecl, SourceFault>
+    ensures source { IfOk result (λ f. IsSourceIn grammar name.now source.now (file_view f)) }
+    ensures fault { IfErr result (λ e. (e ≡ out_of_memory) ⊎ HasFaultIn grammar source.now e.byte e.cause) }
+
+    // The declaration of a source is answered, and the fault of what is none, unless memory runs out.
+    ensures accepted { (d : DeclaredFile) → IsSourceIn grammar name.now source.now d → MatchResult result (λ f. file_view f ≡ d) (λ e. e ≡ out_of_memory) }
+    ensures refused { (place : ℕ) (cause : SourceCause) → HasFaultIn grammar source.now place cause
+        → MatchResult result (λ f. ⊥) (λ e. (e ≡ fault place cause) ⊎ (e ≡ out_of_memory)) }
+{
+    let text = text_of(source)?;
+    let symbols = source_symbols(alloc, text)?;
+    match file(alloc, grammar, name, &symbols) {
+        Ok(decl) => Ok(decl),
+        Err(refusal) => Err(fault_of(&symbols, source.len() as u64, refusal)),
+    }
+}
+
 /// What a source of proto3 declares, as the file of this name.
 ///
 /// The fault is that of the source's size or of its UTF-8, else the first of its tokens, else the first of its grammar, or `Memory`. (Protocol
@@ -104,10 +130,21 @@ pub fn parse(alloc: Global, name: &str, source: &[u8]) -> Result<FileDecl, Sourc
     ensures refused { (place : ℕ) (cause : SourceCause) → HasFault source.now place cause
         → MatchResult result (λ f. ⊥) (λ e. (e ≡ fault place cause) ⊎ (e ≡ out_of_memory)) }
 {
-    let text = text_of(source)?;
-    let symbols = source_symbols(alloc, text)?;
-    match file(alloc, name, &symbols) {
-        Ok(decl) => Ok(decl),
-        Err(refusal) => Err(fault_of(&symbols, source.len() as u64, refusal)),
-    }
+    parse_by(alloc, Grammar::Strict, name, source)
+}
+
+/// What a source of all of proto3 declares, as the file of this name.
+///
+/// Beside what `parse` takes it reads and drops option names with parts in parentheses, floating constants and constants in braces, blocks of
+/// `extend`, and ranges of `extensions`. The fault is told as `parse` tells it. (Protocol Buffers Language Specification (Proto3))
+pub fn parse_lenient(alloc: Global, name: &str, source: &[u8]) -> Result<FileDecl, SourceFault>
+    ensures source { IfOk result (λ f. IsLenientSource name.now source.now (file_view f)) }
+    ensures fault { IfErr result (λ e. (e ≡ out_of_memory) ⊎ HasLenientFault source.now e.byte e.cause) }
+
+    // The declaration of a source is answered, and the fault of what is none, unless memory runs out.
+    ensures accepted { (d : DeclaredFile) → IsLenientSource name.now source.now d → MatchResult result (λ f. file_view f ≡ d) (λ e. e ≡ out_of_memory) }
+    ensures refused { (place : ℕ) (cause : SourceCause) → HasLenientFault source.now place cause
+        → MatchResult result (λ f. ⊥) (λ e. (e ≡ fault place cause) ⊎ (e ≡ out_of_memory)) }
+{
+    parse_by(alloc, Grammar::Proto3, name, source)
 }

@@ -6,6 +6,8 @@ mod calls;
 #[cfg(test)]
 mod first_call;
 #[cfg(test)]
+mod lenient;
+#[cfg(test)]
 mod parsing;
 #[cfg(test)]
 mod rows;

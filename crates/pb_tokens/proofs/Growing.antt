@@ -3,12 +3,16 @@ use Rattle.std.proofs.Common.{◌≡◌, ℕ, zero, suc, ◌+◌, ◌-◌, List,
 use Rattle.std.specs.Prelude.{if◌then◌else◌}
 use Rattle.pb_tokens.specs.declared.rule.Rule.{Rule}
 use Rattle.pb_tokens.specs.declared.rule.Rule.TheVariants.{OptionsKnown as options_known}
+use Rattle.pb_tokens.specs.declared.bracket.Bracket.{Bracket}
+use Rattle.pb_tokens.specs.declared.bracket.Bracket.TheVariants.{Curly}
+use Rattle.pb_tokens.specs.declared.grammar.Grammar.{Grammar}
+use Rattle.pb_tokens.specs.declared.grammar.Grammar.TheVariants.{Strict, Proto3}
 use Rattle.pb_tokens.specs.Symbols.{Symbol}
 use Rattle.pb_tokens.specs.Language.{Rules}
 use Rattle.pb_tokens.specs.Said.{a_name, joined, last_said}
 use Rattle.pb_tokens.specs.Phrases.{is_the_name}
 use Rattle.pb_tokens.specs.Readers.Forms.{Outcome, Reader, on_outcome, answer, chain, mapped, both, behind, before, choice, by_kind, on_kind, if_some, guarded, ruled, first_passes, symbol, plain, judged, tested, is_mark, keyword_reader, mark_reader, until, separated, to_end}
-use Rattle.pb_tokens.specs.Readers.Phrases.{name_reader, plus_or_minus_reader, integer_in, part_in, truth_in, type_of, is_dot, is_text, is_number, is_comma, no_default, listed, fullname_reader, typename_reader, constant_reader, optname_reader, assignment_reader, option_reader, said_reader, setting_reader, field_option_reader, options_reader, field_end_reader, value_end_reader, type_reader}
+use Rattle.pb_tokens.specs.Readers.Phrases.{is_word, numeral_reader, open_behind, closed_reader, aggregate_reader, signed_value_reader, unquoted_reader, part_reader, name_reader, plus_or_minus_reader, integer_in, part_in, truth_in, type_of, is_dot, is_text, is_number, is_comma, no_default, listed, fullname_reader, typename_reader, constant_reader, optname_reader, assignment_reader, option_reader, said_reader, setting_reader, field_option_reader, options_reader, field_end_reader, value_end_reader, type_reader}
 
 -- the second may go further than the first
 pub record Grows {A : Type 0} (p q : Reader A) : Type 0 where
@@ -151,52 +155,80 @@ grows_typename n =
     grows_choice is_dot (grows_behind (grows_same (mark_reader (codes "."))) (grows_mapped (λ ws. 46 ∷ joined ws) (grows_fullname n)))
     (grows_mapped joined (grows_fullname n))
 
-grows_constant : (n : ℕ) → Grows (constant_reader n) (constant_reader (suc n))
+grows_aggregate : (n : ℕ) → Grows (aggregate_reader n) (aggregate_reader (suc n))
+unfolding aggregate_reader
+grows_aggregate n = grows_behind (grows_same (mark_reader (codes "{"))) (grows_closed n (Curly ∷ []))
+  where
+    grows_closed : (n : ℕ) (bs : List Bracket) → Grows (closed_reader n bs) (closed_reader (suc n) bs)
+    grows_closed zero [] = record { grows = λ rules ts. inl refl }
+    grows_closed zero (b ∷ bs) = record { grows = λ rules ts. inr (None, refl) }
+    grows_closed (suc n) [] = record { grows = λ rules ts. inl refl }
+    grows_closed (suc n) (b ∷ bs) = grows_chain (grows_same (symbol (plain (open_behind (b ∷ bs))))) (grows_closed n)
+
+grows_signed_value : (g : Grammar) (n : ℕ) → Grows (signed_value_reader g n) (signed_value_reader g (suc n))
+unfolding signed_value_reader
+grows_signed_value Strict n =
+    grows_behind (grows_same plus_or_minus_reader)
+    (grows_choice is_number (grows_same (mapped (λ _. tt) (symbol (plain integer_in)))) (grows_mapped (λ _. tt) (grows_fullname n)))
+grows_signed_value Proto3 n =
+    grows_behind (grows_same plus_or_minus_reader) (grows_choice is_word (grows_mapped (λ _. tt) (grows_fullname n)) (grows_same numeral_reader))
+
+grows_unquoted : (g : Grammar) (n : ℕ) → Grows (unquoted_reader g n) (unquoted_reader g (suc n))
+unfolding unquoted_reader
+grows_unquoted Strict n = grows_signed_value Strict n
+grows_unquoted Proto3 n = grows_choice (is_mark (codes "{")) (grows_aggregate n) (grows_signed_value Proto3 n)
+
+grows_constant : (g : Grammar) (n : ℕ) → Grows (constant_reader g n) (constant_reader g (suc n))
 unfolding constant_reader
-grows_constant n =
-    grows_choice is_text (grows_same (tested is_text))
-    (grows_behind (grows_same plus_or_minus_reader)
-    (grows_choice is_number (grows_same (mapped (λ _. tt) (symbol (plain integer_in)))) (grows_mapped (λ _. tt) (grows_fullname n))))
+grows_constant g n = grows_choice is_text (grows_same (tested is_text)) (grows_unquoted g n)
 
-grows_optname : (n : ℕ) → Grows (optname_reader n) (optname_reader (suc n))
+grows_part : (g : Grammar) (n : ℕ) → Grows (part_reader g n) (part_reader g (suc n))
+unfolding part_reader
+grows_part Strict n = grows_same (symbol (judged options_known part_in))
+grows_part Proto3 n =
+    grows_choice (is_mark (codes "("))
+    (grows_behind (grows_same (mark_reader (codes "("))) (grows_before (grows_mapped (λ _. codes "(") (grows_typename n)) (grows_same (mark_reader (codes ")")))))
+    (grows_same name_reader)
+
+grows_optname : (g : Grammar) (n : ℕ) → Grows (optname_reader g n) (optname_reader g (suc n))
 unfolding optname_reader
-grows_optname n = grows_separated n is_dot (grows_same (symbol (judged options_known part_in))) (grows_same (mark_reader (codes ".")))
+grows_optname g n = grows_separated n is_dot (grows_part g n) (grows_same (mark_reader (codes ".")))
 
-grows_assignment : (n : ℕ) → Grows (assignment_reader n) (assignment_reader (suc n))
+grows_assignment : (g : Grammar) (n : ℕ) → Grows (assignment_reader g n) (assignment_reader g (suc n))
 unfolding assignment_reader
-grows_assignment n = grows_behind (grows_mapped (λ _. tt) (grows_optname n)) (grows_behind (grows_same (mark_reader (codes "="))) (grows_constant n))
+grows_assignment g n = grows_behind (grows_mapped (λ _. tt) (grows_optname g n)) (grows_behind (grows_same (mark_reader (codes "="))) (grows_constant g n))
 
-pub grows_option : (n : ℕ) → Grows (option_reader n) (option_reader (suc n))
+pub grows_option : (g : Grammar) (n : ℕ) → Grows (option_reader g n) (option_reader g (suc n))
 unfolding option_reader
-grows_option n = grows_behind (grows_same (keyword_reader (codes "option"))) (grows_before (grows_assignment n) (grows_same (mark_reader (codes ";"))))
+grows_option g n = grows_behind (grows_same (keyword_reader (codes "option"))) (grows_before (grows_assignment g n) (grows_same (mark_reader (codes ";"))))
 
-grows_said : (n : ℕ) (b : Bool) → Grows (said_reader n b) (said_reader (suc n) b)
-grows_said n true = grows_same (mapped Some (symbol (plain truth_in)))
-grows_said n false = grows_mapped (λ _. None) (grows_constant n)
+grows_said : (g : Grammar) (n : ℕ) (b : Bool) → Grows (said_reader g n b) (said_reader g (suc n) b)
+grows_said g n true = grows_same (mapped Some (symbol (plain truth_in)))
+grows_said g n false = grows_mapped (λ _. None) (grows_constant g n)
 
-pub grows_setting : (n : ℕ) (v : List ℕ) → Grows (setting_reader n v) (setting_reader (suc n) v)
+pub grows_setting : (g : Grammar) (n : ℕ) (v : List ℕ) → Grows (setting_reader g n v) (setting_reader g (suc n) v)
 unfolding setting_reader
-grows_setting n v = grows_chain (grows_optname n) (λ name. grows_behind (grows_same (mark_reader (codes "="))) (grows_said n (is_the_name v name)))
+grows_setting g n v = grows_chain (grows_optname g n) (λ name. grows_behind (grows_same (mark_reader (codes "="))) (grows_said g n (is_the_name v name)))
 
-grows_field_option : (n : ℕ) → Grows (field_option_reader n) (field_option_reader (suc n))
+grows_field_option : (g : Grammar) (n : ℕ) → Grows (field_option_reader g n) (field_option_reader g (suc n))
 unfolding field_option_reader
-grows_field_option n =
-    grows_kinds no_default (λ _. Some (setting_reader n (codes "packed"))) (λ _. Some (setting_reader (suc n) (codes "packed")))
-    (λ k. grows_setting n (codes "packed"))
+grows_field_option g n =
+    grows_kinds no_default (λ _. Some (setting_reader g n (codes "packed"))) (λ _. Some (setting_reader g (suc n) (codes "packed")))
+    (λ k. grows_setting g n (codes "packed"))
 
 grows_options : {I : Type 0} {p q : Reader I} (n : ℕ) → Grows p q → Grows (options_reader n p) (options_reader (suc n) q)
 unfolding options_reader
 grows_options n g = grows_behind (grows_same (mark_reader (codes "[")))
     (grows_before (grows_listed n g) (grows_same (behind (mark_reader (codes "]")) (mark_reader (codes ";")))))
 
-pub grows_field_end : (n : ℕ) → Grows (field_end_reader n) (field_end_reader (suc n))
+pub grows_field_end : (g : Grammar) (n : ℕ) → Grows (field_end_reader g n) (field_end_reader g (suc n))
 unfolding field_end_reader
-grows_field_end n = grows_choice (is_mark (codes "[")) (grows_mapped (last_said None) (grows_options n (grows_field_option n)))
+grows_field_end g n = grows_choice (is_mark (codes "[")) (grows_mapped (last_said None) (grows_options n (grows_field_option g n)))
     (grows_same (mapped (λ _. None) (mark_reader (codes ";"))))
 
-pub grows_value_end : (n : ℕ) → Grows (value_end_reader n) (value_end_reader (suc n))
+pub grows_value_end : (g : Grammar) (n : ℕ) → Grows (value_end_reader g n) (value_end_reader g (suc n))
 unfolding value_end_reader
-grows_value_end n = grows_choice (is_mark (codes "[")) (grows_mapped (λ _. tt) (grows_options n (grows_assignment n))) (grows_same (mark_reader (codes ";")))
+grows_value_end g n = grows_choice (is_mark (codes "[")) (grows_mapped (λ _. tt) (grows_options n (grows_assignment g n))) (grows_same (mark_reader (codes ";")))
 
 pub grows_type : (n : ℕ) → Grows (type_reader n) (type_reader (suc n))
 unfolding type_reader

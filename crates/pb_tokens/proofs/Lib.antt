@@ -37,6 +37,8 @@ pub mod SomeReading
 pub mod UntilSteps
 -- for loops over items with a separator between
 pub mod SeparatedSteps
+-- for the loop over an aggregate
+pub mod AggregateSteps
 -- for what is read where no symbol is left
 pub mod NoSymbols
 -- for number words, by the integer as the code counts it
@@ -67,10 +69,16 @@ pub mod Growing
 -- ---- the lines that statements are made of: their readers keep what they owe
 -- names and types
 pub mod NameLaws
+-- aggregates
+pub mod AggregateLaws
+-- floating literals, and the integers among them
+pub mod FloatLaws
 -- integers, constants and options
 pub mod OptionLaws
 -- ranges, and texts that are UTF-8
 pub mod RangeLaws
+-- what the strict grammar takes, the other takes
+pub mod StrictLines
 -- ---- worked out by the rules
 -- small sources with their tokens and faults, and the integers of number words
 mod Rows

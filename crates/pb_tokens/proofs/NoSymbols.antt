@@ -1,12 +1,12 @@
 -- What readers say of no symbols: they are refused, since something was expected.
 use Rattle.std.proofs.Common.{◌≡◌, ℕ, zero, suc, [], refl, None, Err}
 use Rattle.pb_tokens.specs.Language.{all_rules}
-use Rattle.pb_tokens.specs.declared.rule.Rule.TheVariants.{OptionsKnown}
+use Rattle.pb_tokens.specs.declared.grammar.Grammar.{Grammar}
+use Rattle.pb_tokens.specs.declared.grammar.Grammar.TheVariants.{Strict, Proto3}
 use Rattle.pb_tokens.specs.declared.parsing.ranges.Within.{Within}
 use Rattle.pb_tokens.specs.declared.parsing.ranges.Within.TheVariants.{Message, Enum}
-use Rattle.pb_tokens.specs.Readers.Forms.{symbol, judged}
 use Rattle.pb_tokens.specs.RangeView.{range_within}
-use Rattle.pb_tokens.specs.Readers.Phrases.{part_in, range_reader, limited_reader, signed_reader, name_reader, utf8_reader, optname_reader, assignment_reader, field_option_reader}
+use Rattle.pb_tokens.specs.Readers.Phrases.{part_reader, range_reader, limited_reader, signed_reader, name_reader, utf8_reader, optname_reader, assignment_reader, field_option_reader}
 
 pub no_name : (n : ℕ) → name_reader all_rules [] ≡ Err ([], None)
 unfolding name_reader
@@ -16,17 +16,21 @@ pub no_text : (n : ℕ) → utf8_reader all_rules [] ≡ Err ([], None)
 unfolding utf8_reader
 no_text n = refl
 
-pub no_field_option : (n : ℕ) → field_option_reader n all_rules [] ≡ Err ([], None)
+pub no_field_option : (g : Grammar) (n : ℕ) → field_option_reader g n all_rules [] ≡ Err ([], None)
 unfolding field_option_reader
-no_field_option n = refl
+no_field_option g n = refl
 
-pub no_assignment : (n : ℕ) → assignment_reader n all_rules [] ≡ Err ([], None)
-unfolding assignment_reader optname_reader
-no_assignment zero = refl
-no_assignment (suc n) = refl
+pub no_part : (g : Grammar) (n : ℕ) → part_reader g n all_rules [] ≡ Err ([], None)
+unfolding part_reader name_reader
+no_part Strict n = refl
+no_part Proto3 n = refl
 
-pub no_part : (n : ℕ) → symbol (judged OptionsKnown part_in) all_rules [] ≡ Err ([], None)
-no_part n = refl
+pub no_assignment : (g : Grammar) (n : ℕ) → assignment_reader g n all_rules [] ≡ Err ([], None)
+unfolding assignment_reader optname_reader part_reader name_reader
+no_assignment Strict zero = refl
+no_assignment Strict (suc n) = refl
+no_assignment Proto3 zero = refl
+no_assignment Proto3 (suc n) = refl
 
 pub no_range : (within : Within) (n : ℕ) → range_within within all_rules [] ≡ Err ([], None)
 unfolding range_reader limited_reader signed_reader

@@ -8,6 +8,13 @@ use Rattle.pb_tokens.specs.declared.fault.SourceCause.TheVariants.{BadToken, Ope
 use Rattle.pb_tokens.specs.declared.token.TokenKind.{TokenKind}
 use Rattle.pb_tokens.specs.declared.token.TokenKind.TheVariants.{Word, Number, Text, Sign}
 use Rattle.pb_tokens.proofs.TextLemmas.{no_escape}
+use Rattle.pb_tokens.specs.Floats.{is_decimals, exponent_in, power_in}
+use Rattle.pb_tokens.specs.Aggregates.{role_of, Balanced}
+use Rattle.pb_tokens.specs.Phrases.{part, floating, constant}
+use Rattle.pb_tokens.specs.Language.{all_rules}
+use Rattle.pb_tokens.specs.declared.bracket.Bracket.TheVariants.{Curly, Square, Angle}
+use Rattle.pb_tokens.specs.declared.bracket.Role.TheVariants.{Plain, Opens, Closes}
+use Rattle.pb_tokens.specs.declared.grammar.Grammar.TheVariants.{Proto3}
 
 -- ---- tokens
 
@@ -160,3 +167,102 @@ no_decimal = refl
 
 one_too_large : integer_of (codes "2147483648") ≡ Some 2147483648
 one_too_large = refl
+
+-- ---- floating literals
+
+all_decimals : is_decimals (codes "08") ≡ true
+all_decimals = refl
+
+not_decimals : is_decimals (codes "0x1") ≡ false
+not_decimals = refl
+
+no_decimals : is_decimals [] ≡ false
+no_decimals = refl
+
+whole_exponent : exponent_in (codes "E10") ≡ Some false
+whole_exponent = refl
+
+open_exponent : exponent_in (codes "e") ≡ Some true
+open_exponent = refl
+
+no_exponent : exponent_in (codes "ee") ≡ None
+no_exponent = refl
+
+no_letter : exponent_in (codes "f5") ≡ None
+no_letter = refl
+
+whole_power : power_in (codes "12e5") ≡ Some false
+whole_power = refl
+
+open_power : power_in (codes "12e") ≡ Some true
+open_power = refl
+
+no_power : power_in (codes "12") ≡ None
+no_power = refl
+
+no_base : power_in (codes "e5") ≡ None
+no_base = refl
+
+-- 1.5e-3
+a_float : floating (Symbol.number (codes "1") ∷ Symbol.sign (codes ".") ∷ Symbol.number (codes "5e") ∷ Symbol.sign (codes "-") ∷ Symbol.number (codes "3") ∷ [])
+a_float = inl (
+  Symbol.number (codes "1") ∷ [],
+  _,
+  (codes "1", refl, refl),
+  (
+    Symbol.sign (codes ".") ∷ [],
+    _,
+    refl,
+    inr (inl (codes "5e", true, refl, (Symbol.number (codes "5e") ∷ [], _, refl, (Symbol.sign (codes "-") ∷ [], _, inl refl, (codes "3", refl, refl), refl), refl))),
+    refl,
+  ),
+  refl,
+)
+
+-- .5
+a_point : floating (Symbol.sign (codes ".") ∷ Symbol.number (codes "5") ∷ [])
+a_point = inr (inr (Symbol.sign (codes ".") ∷ [], _, refl, inl (codes "5", refl, refl), refl))
+
+-- ---- aggregates
+
+opens_curly : role_of (Symbol.sign (codes "{")) ≡ Opens Curly
+opens_curly = refl
+
+closes_curly : role_of (Symbol.sign (codes "}")) ≡ Closes Curly
+closes_curly = refl
+
+opens_square : role_of (Symbol.sign (codes "[")) ≡ Opens Square
+opens_square = refl
+
+closes_square : role_of (Symbol.sign (codes "]")) ≡ Closes Square
+closes_square = refl
+
+opens_angle : role_of (Symbol.sign (codes "<")) ≡ Opens Angle
+opens_angle = refl
+
+closes_angle : role_of (Symbol.sign (codes ">")) ≡ Closes Angle
+closes_angle = refl
+
+no_bracket : role_of (Symbol.sign (codes "(")) ≡ Plain
+no_bracket = refl
+
+-- { a: [ ] }
+an_aggregate : constant Proto3
+    (Symbol.sign (codes "{") ∷ Symbol.word (codes "a") ∷ Symbol.sign (codes ":") ∷ Symbol.sign (codes "[") ∷ Symbol.sign (codes "]") ∷ Symbol.sign (codes "}") ∷ [])
+an_aggregate = inr (inr (
+  Symbol.sign (codes "{") ∷ [],
+  _,
+  refl,
+  (
+    Symbol.word (codes "a") ∷ Symbol.sign (codes ":") ∷ Symbol.sign (codes "[") ∷ Symbol.sign (codes "]") ∷ [],
+    Symbol.sign (codes "}") ∷ [],
+    Balanced.plain refl (Balanced.plain refl (Balanced.nested {inside = []} {close = Symbol.sign (codes "]") ∷ []} {ts = []} refl Balanced.none (Symbol.sign (codes "]"), refl, refl) Balanced.none refl)),
+    (Symbol.sign (codes "}"), refl, refl),
+    refl,
+  ),
+  refl,
+))
+
+-- (a) is a part of an option's name that counts as no word
+an_extension : part Proto3 all_rules (codes "(") (Symbol.sign (codes "(") ∷ Symbol.word (codes "a") ∷ Symbol.sign (codes ")") ∷ [])
+an_extension = inr (refl, (codes "a", (Symbol.sign (codes "(") ∷ [], _, refl, (Symbol.word (codes "a") ∷ [], _, inl (codes "a" ∷ [], refl, refl), refl, refl), refl)))

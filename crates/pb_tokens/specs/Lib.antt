@@ -9,6 +9,8 @@ pub mod SymbolView
 pub mod Integers
 pub mod Language
 pub mod Said
+pub mod Floats
+pub mod Aggregates
 pub mod Phrases
 pub mod PhraseView
 pub mod Digits

@@ -11,6 +11,11 @@ use Rattle.pb_tokens.specs.Symbols.{word, number, text, sign}
 use Rattle.pb_tokens.specs.Integers.{integer_of}
 use Rattle.pb_tokens.specs.Language.{Language, ◌▸◌, ◌or◌, one, nothing, Rules}
 use Rattle.pb_tokens.specs.Said.{TypeSaid, a_scalar, a_name, joined, last_said}
+use Rattle.pb_tokens.specs.Floats.{is_decimals, power_in, exponent_in}
+use Rattle.pb_tokens.specs.Aggregates.{Balanced, closing}
+use Rattle.pb_tokens.specs.declared.bracket.Bracket.TheVariants.{Curly}
+use Rattle.pb_tokens.specs.declared.grammar.Grammar.{Grammar}
+use Rattle.pb_tokens.specs.declared.grammar.Grammar.TheVariants.{Strict, Proto3}
 
 -- ---- words, signs and repetition
 
@@ -56,6 +61,11 @@ BeginsNot vs (sign c ∷ ts) = Unit {0}
 abbrev pub fullname : List (List ℕ) → Language
 fullname = Separated name (mark ".")
 
+-- typename  = [ "." ] fullname
+abbrev pub typename : List ℕ → Language
+typename n ts =
+    ((ws : List (List ℕ)) × (n ≡ joined ws) × fullname ws ts) ⊎ ((ws : List (List ℕ)) × (n ≡ 46 ∷ joined ws) × (mark "." ▸ fullname ws) ts)
+
 -- ---- integers
 
 abbrev pub integer : ℕ → Language
@@ -80,26 +90,57 @@ signed rules z ts =
 abbrev pub plus_or_minus : Language
 plus_or_minus = mark "-" or mark "+" or nothing
 
+-- decimals
+abbrev pub decimals : Language
+decimals ts = (w : List ℕ) × (is_decimals w ≡ true) × one (number w) ts
+
+-- what follows an exponent in a word: its sign and decimals, where the word has its letter alone
+abbrev pub exponent_end : Bool → Language
+exponent_end false = nothing
+exponent_end true = (mark "-" or mark "+") ▸ decimals
+
+-- decimals exponent
+abbrev pub powered : Language
+powered ts = (w : List ℕ) × (is_open : Bool) × (power_in w ≡ Some is_open) × (one (number w) ▸ exponent_end is_open) ts
+
+-- exponent
+abbrev pub exponent : Language
+exponent ts = (w : List ℕ) × (is_open : Bool) × (exponent_in w ≡ Some is_open) × (one (word w) ▸ exponent_end is_open) ts
+
+-- floatLit  = decimals "." [ decimals ] [ exponent ] | decimals exponent | "." decimals [ exponent ]; `inf` and `nan` are names
+abbrev pub floating : Language
+floating = (decimals ▸ mark "." ▸ (decimals or powered or exponent or nothing)) or powered or (mark "." ▸ (decimals or powered))
+
+-- "{" { any symbol } "}", with balanced brackets
+abbrev pub aggregate : Language
+aggregate = mark "{" ▸ Balanced ▸ closing Curly
+
 -- constant  = [ "-" | "+" ] integer | [ "-" | "+" ] fullname | text
-abbrev pub constant : Language
-constant ts =
+abbrev pub plain_constant : Language
+plain_constant ts =
     ((b : List ℕ) × one (text b) ts) ⊎ (((n : ℕ) × (plus_or_minus ▸ integer n) ts) ⊎ ((ws : List (List ℕ)) × (plus_or_minus ▸ fullname ws) ts))
 
--- A part of an option's name. Where the rule on options is left out a parenthesis is one.
-abbrev pub part : Rules → List ℕ → Language
-part rules w ts = name w ts ⊎ ((rules options_known ≡ false) × (w ≡ codes "(") × mark "(" ts)
+-- In all of proto3: constant | [ "-" | "+" ] floatLit | aggregate
+abbrev pub constant : Grammar → Language
+constant Strict = plain_constant
+constant Proto3 = plain_constant or (plus_or_minus ▸ floating) or aggregate
 
--- optname   = word { "." word }
-abbrev pub optname : Rules → List (List ℕ) → Language
-optname rules = Separated (part rules) (mark ".")
+-- A part of an option's name. In all of proto3: word | "(" typename ")". Where the rule on options is left out a parenthesis is one.
+abbrev pub part : Grammar → Rules → List ℕ → Language
+part Strict rules w ts = name w ts ⊎ ((rules options_known ≡ false) × (w ≡ codes "(") × mark "(" ts)
+part Proto3 rules w ts = name w ts ⊎ ((w ≡ codes "(") × ((n : List ℕ) × (mark "(" ▸ typename n ▸ mark ")") ts))
+
+-- optname   = part { "." part }
+abbrev pub optname : Grammar → Rules → List (List ℕ) → Language
+optname g rules = Separated (part g rules) (mark ".")
 
 -- optname "=" constant
-abbrev pub assignment : Rules → Language
-assignment rules ts = (n : List (List ℕ)) × (optname rules n ▸ mark "=" ▸ constant) ts
+abbrev pub assignment : Grammar → Rules → Language
+assignment g rules ts = (n : List (List ℕ)) × (optname g rules n ▸ mark "=" ▸ constant g) ts
 
 -- option    = "option" optname "=" constant ";"
-abbrev pub option : Rules → Language
-option rules = keyword "option" ▸ assignment rules ▸ mark ";"
+abbrev pub option : Grammar → Rules → Language
+option g rules = keyword "option" ▸ assignment g rules ▸ mark ";"
 
 abbrev pub truth : Bool → Language
 truth true = keyword "true"
@@ -112,25 +153,26 @@ is_the_name v (w ∷ []) = bytes_eq w v
 is_the_name v (w ∷ u ∷ ws) = false
 
 -- an assignment where the option of this name is true or false, and what is said of it
-abbrev pub setting : List ℕ → Rules → Option Bool → Language
-setting v rules (Some b) ts = (optname rules (v ∷ []) ▸ mark "=" ▸ truth b) ts
-setting v rules None ts = (n : List (List ℕ)) × (is_the_name v n ≡ false) × (optname rules n ▸ mark "=" ▸ constant) ts
+abbrev pub setting : Grammar → List ℕ → Rules → Option Bool → Language
+setting g v rules (Some b) ts = (optname g rules (v ∷ []) ▸ mark "=" ▸ truth b) ts
+setting g v rules None ts = (n : List (List ℕ)) × (is_the_name v n ≡ false) × (optname g rules n ▸ mark "=" ▸ constant g) ts
 
 -- in a field `default` begins no option's name
-abbrev pub field_option : Rules → Option Bool → Language
-field_option rules s ts = BeginsNot ("default" ∷ []) ts × setting (codes "packed") rules s ts
+abbrev pub field_option : Grammar → Rules → Option Bool → Language
+field_option g rules s ts = BeginsNot ("default" ∷ []) ts × setting g (codes "packed") rules s ts
 
 -- opts      = "[" optname "=" constant { "," optname "=" constant } "]"
 abbrev pub options : {I : Type 0} → (I → Language) → List I → Language
 options Option is = mark "[" ▸ Listed Option is ▸ mark "]" ▸ mark ";"
 
 -- [ opts ] ";"
-abbrev pub field_end : Rules → Option Bool → Language
-field_end rules packed ts = ((packed ≡ None) × mark ";" ts) ⊎ ((ss : List (Option Bool)) × (packed ≡ last_said None ss) × options (field_option rules) ss ts)
+abbrev pub field_end : Grammar → Rules → Option Bool → Language
+field_end g rules packed ts =
+    ((packed ≡ None) × mark ";" ts) ⊎ ((ss : List (Option Bool)) × (packed ≡ last_said None ss) × options (field_option g rules) ss ts)
 
 -- the same behind an enum's value, where no option means anything
-abbrev pub value_end : Rules → Language
-value_end rules ts = mark ";" ts ⊎ ((us : List (Unit {0})) × options (λ _. assignment rules) us ts)
+abbrev pub value_end : Grammar → Rules → Language
+value_end g rules ts = mark ";" ts ⊎ ((us : List (Unit {0})) × options (λ _. assignment g rules) us ts)
 
 -- ---- types
 
@@ -160,11 +202,6 @@ key_words =
 -- keytype   = an integer scalar word, "bool" or "string"
 abbrev pub key_type : TypeCode → Language
 key_type c ts = (w : List ℕ) × (found_in key_words w ≡ Some c) × name w ts
-
--- typename  = [ "." ] fullname
-abbrev pub typename : List ℕ → Language
-typename n ts =
-    ((ws : List (List ℕ)) × (n ≡ joined ws) × fullname ws ts) ⊎ ((ws : List (List ℕ)) × (n ≡ 46 ∷ joined ws) × (mark "." ▸ fullname ws) ts)
 
 -- type      = scalar word | typename; a scalar's word alone always means the scalar
 abbrev pub typed : TypeSaid → Language

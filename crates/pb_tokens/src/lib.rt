@@ -1,11 +1,13 @@
 //! Which tokens a source of proto3 is, and the readers of symbols that the parser of `pb_source` is made of.
 //!
-//! An inner crate: `pb_source` stands on it, and publishes what stands at its root and the law of tokens. The modules `symbol`, `symbols`, `refusal`,
+//! An inner crate: `pb_source` stands on it, and publishes what stands at its root and the law of tokens. The modules `grammar`, `symbol`, `symbols`, `refusal`,
 //! `rule` and `parsing` are for its parser.
 #![tactic(auto)]
 
+mod bracket;
 mod bytes;
 mod fault;
+pub mod grammar;
 pub mod laws;
 mod lexing;
 mod meaning;

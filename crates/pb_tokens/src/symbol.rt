@@ -3,7 +3,7 @@
 ghost use Rattle.std.specs.Prelude.{◌≡◌};
 ghost use Rattle.pb_tokens.specs.SymbolView.{symbol_of};
 ghost use Rattle.pb_tokens.specs.Readers.Forms.{is_keyword, is_mark};
-ghost use Rattle.pb_tokens.specs.Readers.Phrases.{is_text, is_number};
+ghost use Rattle.pb_tokens.specs.Readers.Phrases.{is_text, is_word, is_number};
 
 /// A token, or texts that follow one another, joined.
 #[derive(Drop)]
@@ -48,6 +48,16 @@ pub(crate) fn is_text(symbol: &Symbol) -> bool
 {
     match symbol {
         Symbol::Text(_) => true,
+        _ => false,
+    }
+}
+
+/// Whether the symbol is a word.
+pub(crate) fn is_word(symbol: &Symbol) -> bool
+    ensures { result ≡ is_word (symbol_of symbol.now) }
+{
+    match symbol {
+        Symbol::Word(_) => true,
         _ => false,
     }
 }

@@ -13,6 +13,7 @@ use crate::kind::EnumKind;
 use crate::parsing::kinds::enum_kind;
 use crate::parsing::statement::EnumSaid;
 use pb_decl::EnumDecl;
+use pb_tokens::grammar::Grammar;
 use pb_tokens::parsing::numbers::signed;
 use pb_tokens::parsing::options::{setting, value_end};
 use pb_tokens::parsing::ranges::{Within, names_line, ranges_line};
@@ -25,14 +26,19 @@ use std::alloc::{AllocError, Global};
 
 /// Reads a value.
 #[tactic(auto, unfolding(crate::specs::Readers::Lines::value_reader))]
-fn enum_value(alloc: Global, symbols: &[Placed], at: usize) -> Result<(EnumSaid, usize), Refusal>
+fn enum_value(
+    alloc: Global,
+    grammar: Grammar,
+    symbols: &[Placed],
+    at: usize,
+) -> Result<(EnumSaid, usize), Refusal>
     ensures within { IfOk result (λ x. (at < x.1) × (x.1 ≤ length symbols.now)) }
-    ensures read { ReadsInSteps symbols.now at (λ x. (enum_statement_view x.0, x.1)) result value_reader }
+    ensures read { ReadsInSteps symbols.now at (λ x. (enum_statement_view x.0, x.1)) result (value_reader grammar) }
 {
     let (name, after) = name(symbols, at)?;
     let after = mark("=", symbols, after)?;
     let (number, after) = signed(symbols, after)?;
-    let after = value_end(alloc, symbols, after)?;
+    let after = value_end(alloc, grammar, symbols, after)?;
     let name = String::from_str(alloc, name)?;
     Ok((EnumSaid::Value((name, number)), after))
 }
@@ -67,11 +73,12 @@ fn reserved(alloc: Global, symbols: &[Placed], at: usize) -> Result<(EnumSaid, u
 #[tactic(auto, unfolding(crate::specs::Readers::Lines::enum_statement_reader))]
 fn enum_statement(
     alloc: Global,
+    grammar: Grammar,
     symbols: &[Placed],
     at: usize,
 ) -> Result<(EnumSaid, usize), Refusal>
     ensures within { IfOk result (λ x. (at < x.1) × (x.1 ≤ length symbols.now)) }
-    ensures read { ReadsInSteps symbols.now at (λ x. (enum_statement_view x.0, x.1)) result enum_statement_reader }
+    ensures read { ReadsInSteps symbols.now at (λ x. (enum_statement_view x.0, x.1)) result (enum_statement_reader grammar) }
 {
     let Some(first) = symbol_at(symbols, at) else {
         return Err(Refusal::At { at, rule: None });
@@ -83,7 +90,7 @@ fn enum_statement(
         }
         Some(EnumKind::Option) => {
             let after = keyword("option", symbols, at)?;
-            let (said, after) = setting(alloc, "allow_alias", symbols, after)?;
+            let (said, after) = setting(alloc, grammar, "allow_alias", symbols, after)?;
             let after = mark(";", symbols, after)?;
             Ok((option_said(said), after))
         }
@@ -92,7 +99,7 @@ fn enum_statement(
             Ok((reserved, after))
         }
         Some(EnumKind::Value) => {
-            let (value, after) = enum_value(alloc, symbols, at)?;
+            let (value, after) = enum_value(alloc, grammar, symbols, at)?;
             Ok((value, after))
         }
         None => Err(Refusal::At { at, rule: None }),
@@ -142,6 +149,7 @@ fn empty_enum(alloc: Global, name: &str) -> Result<EnumDecl, AllocError>
 /// Reads the statements of an enum of this name, and the closing brace.
 fn enum_body(
     alloc: Global,
+    grammar: Grammar,
     name: &str,
     symbols: &[Placed],
     at: usize,
@@ -149,12 +157,12 @@ fn enum_body(
     requires { at ≤ length symbols.now }
     ensures within { IfOk result (λ x. (at < x.1) × (x.1 ≤ length symbols.now)) }
     ensures read { ReadsInSteps symbols.now at (λ x. (enum_view x.0, x.1)) result
-        (λ n. mapped (enum_of name.now) (until n is_closing (enum_statement_reader n) (mark_reader (codes "}")) [])) }
+        (λ n. mapped (enum_of name.now) (until n is_closing (enum_statement_reader grammar n) (mark_reader (codes "}")) [])) }
 {
     let mut decl = empty_enum(alloc, name)?;
     let mut here = at;
     while !begins_with_mark("}", symbols, here) {
-        let (statement, after) = enum_statement(alloc, symbols, here)?;
+        let (statement, after) = enum_statement(alloc, grammar, symbols, here)?;
         add_enum_statement(&mut decl, statement)?;
         here = after;
     }
@@ -166,15 +174,16 @@ fn enum_body(
 #[tactic(auto, unfolding(crate::specs::Readers::Lines::enum_reader))]
 pub(crate) fn enum_line(
     alloc: Global,
+    grammar: Grammar,
     symbols: &[Placed],
     at: usize,
 ) -> Result<(EnumDecl, usize), Refusal>
     ensures within { IfOk result (λ x. (at < x.1) × (x.1 ≤ length symbols.now)) }
-    ensures read { ReadsInSteps symbols.now at (λ x. (enum_view x.0, x.1)) result enum_reader }
+    ensures read { ReadsInSteps symbols.now at (λ x. (enum_view x.0, x.1)) result (enum_reader grammar) }
 {
     let after = keyword("enum", symbols, at)?;
     let (name, after) = name(symbols, after)?;
     let after = mark("{", symbols, after)?;
-    let (decl, after) = enum_body(alloc, name, symbols, after)?;
+    let (decl, after) = enum_body(alloc, grammar, name, symbols, after)?;
     Ok((decl, after))
 }

@@ -2,7 +2,7 @@
 
 ghost use Rattle.std.specs.Prelude.{◌≡◌, ◌≤◌, ◌<◌, ◌++◌, [], length, map, codes, string_bytes, option_map, option_to_list, IfOk, OnOk};
 ghost use Rattle.pb_decl.specs.View.{field_view};
-ghost use Rattle.pb_tokens.specs.Readers.Forms.{mapped, until, mark_reader};
+ghost use Rattle.pb_tokens.specs.Readers.Forms.{behind, mapped, until, keyword_reader, mark_reader};
 ghost use Rattle.pb_tokens.specs.PhraseView.{type_view};
 ghost use Rattle.pb_tokens.specs.Readers.Given.{ReadsInSteps};
 ghost use Rattle.pb_source.specs.Meaning.{is_repeated_label, is_optional_label, field_of, those_said};
@@ -14,6 +14,7 @@ use crate::kind::{Label, OneofKind};
 use crate::parsing::kinds::oneof_kind;
 use crate::parsing::statement::{MapSaid, MessageSaid};
 use pb_decl::FieldDecl;
+use pb_tokens::grammar::Grammar;
 use pb_tokens::parsing::numbers::counted;
 use pb_tokens::parsing::options::{field_end, option};
 use pb_tokens::parsing::single::{begins_with_mark, keyword, mark, name, symbol_at};
@@ -80,17 +81,18 @@ pub(crate) fn field_of(
 #[tactic(auto, unfolding(crate::specs::Readers::Lines::field_tail_reader))]
 fn field_tail<'a>(
     alloc: Global,
+    grammar: Grammar,
     symbols: &[Placed<'a>],
     at: usize,
 ) -> Result<(FieldTail<'a>, usize), Refusal>
     ensures within { IfOk result (λ x. (at < x.1) × (x.1 ≤ length symbols.now)) }
     ensures bound { IfOk result (λ x. x.0.number ≤ 2147483647) }
-    ensures read { ReadsInSteps symbols.now at (λ x. ((x.0.name.now, (x.0.number, x.0.packed)), x.1)) result field_tail_reader }
+    ensures read { ReadsInSteps symbols.now at (λ x. ((x.0.name.now, (x.0.number, x.0.packed)), x.1)) result (field_tail_reader grammar) }
 {
     let (name, after) = name(symbols, at)?;
     let after = mark("=", symbols, after)?;
     let (number, after) = counted(symbols, after)?;
-    let (packed, after) = field_end(alloc, symbols, after)?;
+    let (packed, after) = field_end(alloc, grammar, symbols, after)?;
     let tail = FieldTail {
         name,
         number,
@@ -103,33 +105,56 @@ fn field_tail<'a>(
 #[tactic(auto, unfolding(crate::specs::Readers::Lines::field_reader))]
 pub(crate) fn field(
     alloc: Global,
+    grammar: Grammar,
     label: Label,
     symbols: &[Placed],
     at: usize,
 ) -> Result<(FieldDecl, usize), Refusal>
     ensures within { IfOk result (λ x. (at < x.1) × (x.1 ≤ length symbols.now)) }
-    ensures read { ReadsInSteps symbols.now at (λ x. (field_view x.0, x.1)) result (λ n. field_reader n label) }
+    ensures read { ReadsInSteps symbols.now at (λ x. (field_view x.0, x.1)) result (λ n. field_reader grammar n label) }
 {
     let (said, after) = typed(alloc, symbols, at)?;
-    let (tail, after) = field_tail(alloc, symbols, after)?;
+    let (tail, after) = field_tail(alloc, grammar, symbols, after)?;
     let name = String::from_str(alloc, tail.name)?;
     let field = field_of(label, said, name, tail.number, tail.packed);
     Ok((field, after))
 }
 
+/// Reads a field behind the word of its label.
+pub(crate) fn labelled_field(
+    alloc: Global,
+    grammar: Grammar,
+    word: &str,
+    label: Label,
+    symbols: &[Placed],
+    at: usize,
+) -> Result<(FieldDecl, usize), Refusal>
+    ensures within { IfOk result (λ x. (at < x.1) × (x.1 ≤ length symbols.now)) }
+    ensures read { ReadsInSteps symbols.now at (λ x. (field_view x.0, x.1)) result (λ n. behind (keyword_reader word.now) (field_reader grammar n label)) }
+{
+    let after = keyword(word, symbols, at)?;
+    let (field, after) = field(alloc, grammar, label, symbols, after)?;
+    Ok((field, after))
+}
+
 /// Reads a map behind its word.
 #[tactic(auto, unfolding(crate::specs::Readers::Lines::map_tail_reader))]
-fn map_tail(alloc: Global, symbols: &[Placed], at: usize) -> Result<(MapSaid, usize), Refusal>
+fn map_tail(
+    alloc: Global,
+    grammar: Grammar,
+    symbols: &[Placed],
+    at: usize,
+) -> Result<(MapSaid, usize), Refusal>
     ensures within { IfOk result (λ x. (at < x.1) × (x.1 ≤ length symbols.now)) }
     ensures bound { IfOk result (λ x. x.0.number ≤ 2147483647) }
-    ensures read { ReadsInSteps symbols.now at (λ x. (map_view x.0, x.1)) result map_tail_reader }
+    ensures read { ReadsInSteps symbols.now at (λ x. (map_view x.0, x.1)) result (map_tail_reader grammar) }
 {
     let after = mark("<", symbols, at)?;
     let (key, after) = key_type(symbols, after)?;
     let after = mark(",", symbols, after)?;
     let (value, after) = typed(alloc, symbols, after)?;
     let after = mark(">", symbols, after)?;
-    let (tail, after) = field_tail(alloc, symbols, after)?;
+    let (tail, after) = field_tail(alloc, grammar, symbols, after)?;
     let name = String::from_str(alloc, tail.name)?;
     let map = MapSaid {
         key,
@@ -145,19 +170,20 @@ fn map_tail(alloc: Global, symbols: &[Placed], at: usize) -> Result<(MapSaid, us
 #[tactic(auto, unfolding(crate::specs::Readers::Lines::map_reader))]
 pub(crate) fn map_or_field(
     alloc: Global,
+    grammar: Grammar,
     symbols: &[Placed],
     at: usize,
 ) -> Result<(MessageSaid, usize), Refusal>
     ensures within { IfOk result (λ x. (at < x.1) × (x.1 ≤ length symbols.now)) }
     ensures bound { IfOk result (λ x. IsCounted x.0) }
-    ensures read { ReadsInSteps symbols.now at (λ x. (message_statement_view x.0, x.1)) result map_reader }
+    ensures read { ReadsInSteps symbols.now at (λ x. (message_statement_view x.0, x.1)) result (map_reader grammar) }
 {
     let after = keyword("map", symbols, at)?;
     if begins_with_mark("<", symbols, after) {
-        let (map, after) = map_tail(alloc, symbols, after)?;
+        let (map, after) = map_tail(alloc, grammar, symbols, after)?;
         return Ok((MessageSaid::Map(map), after));
     }
-    let (field, after) = field(alloc, Label::Unlabelled, symbols, at)?;
+    let (field, after) = field(alloc, grammar, Label::Unlabelled, symbols, at)?;
     Ok((MessageSaid::Field(field), after))
 }
 
@@ -165,11 +191,12 @@ pub(crate) fn map_or_field(
 #[tactic(auto, unfolding(crate::specs::Readers::Lines::oneof_statement_reader))]
 fn oneof_statement(
     alloc: Global,
+    grammar: Grammar,
     symbols: &[Placed],
     at: usize,
 ) -> Result<(Option<FieldDecl>, usize), Refusal>
     ensures within { IfOk result (λ x. (at < x.1) × (x.1 ≤ length symbols.now)) }
-    ensures read { ReadsInSteps symbols.now at (λ x. (option_map field_view x.0, x.1)) result oneof_statement_reader }
+    ensures read { ReadsInSteps symbols.now at (λ x. (option_map field_view x.0, x.1)) result (oneof_statement_reader grammar) }
 {
     let Some(first) = symbol_at(symbols, at) else {
         return Err(Refusal::At { at, rule: None });
@@ -180,11 +207,11 @@ fn oneof_statement(
             Ok((None, after))
         }
         Some(OneofKind::Option) => {
-            let after = option(alloc, symbols, at)?;
+            let after = option(alloc, grammar, symbols, at)?;
             Ok((None, after))
         }
         Some(OneofKind::Field) => {
-            let (field, after) = field(alloc, Label::Unlabelled, symbols, at)?;
+            let (field, after) = field(alloc, grammar, Label::Unlabelled, symbols, at)?;
             Ok((Some(field), after))
         }
         None => Err(Refusal::At { at, rule: None }),
@@ -204,18 +231,19 @@ fn push_said(fields: &mut Vec<FieldDecl>, said: Option<FieldDecl>) -> Result<(),
 /// Reads the statements of a oneof, and the closing brace.
 fn oneof_body(
     alloc: Global,
+    grammar: Grammar,
     symbols: &[Placed],
     at: usize,
 ) -> Result<(Vec<FieldDecl>, usize), Refusal>
     requires { at ≤ length symbols.now }
     ensures within { IfOk result (λ x. (at < x.1) × (x.1 ≤ length symbols.now)) }
     ensures read { ReadsInSteps symbols.now at (λ x. (map field_view x.0.items, x.1)) result
-        (λ n. mapped those_said (until n is_closing (oneof_statement_reader n) (mark_reader (codes "}")) [])) }
+        (λ n. mapped those_said (until n is_closing (oneof_statement_reader grammar n) (mark_reader (codes "}")) [])) }
 {
     let mut fields = Vec::new(alloc);
     let mut here = at;
     while !begins_with_mark("}", symbols, here) {
-        let (said, after) = oneof_statement(alloc, symbols, here)?;
+        let (said, after) = oneof_statement(alloc, grammar, symbols, here)?;
         push_said(&mut fields, said)?;
         here = after;
     }
@@ -227,16 +255,17 @@ fn oneof_body(
 #[tactic(auto, unfolding(crate::specs::Readers::Lines::oneof_reader))]
 pub(crate) fn oneof(
     alloc: Global,
+    grammar: Grammar,
     symbols: &[Placed],
     at: usize,
 ) -> Result<((String, Vec<FieldDecl>), usize), Refusal>
     ensures within { IfOk result (λ x. (at < x.1) × (x.1 ≤ length symbols.now)) }
-    ensures read { ReadsInSteps symbols.now at (λ x. ((string_bytes x.0.0, map field_view x.0.1.items), x.1)) result oneof_reader }
+    ensures read { ReadsInSteps symbols.now at (λ x. ((string_bytes x.0.0, map field_view x.0.1.items), x.1)) result (oneof_reader grammar) }
 {
     let after = keyword("oneof", symbols, at)?;
     let (name, after) = name(symbols, after)?;
     let after = mark("{", symbols, after)?;
-    let (fields, after) = oneof_body(alloc, symbols, after)?;
+    let (fields, after) = oneof_body(alloc, grammar, symbols, after)?;
     let name = String::from_str(alloc, name)?;
     Ok(((name, fields), after))
 }

@@ -5,22 +5,24 @@ ghost use Rattle.std.specs.Str.{bytes_eq};
 ghost use Rattle.pb_decl.specs.View.{file_view};
 ghost use Rattle.pb_tokens.specs.Language.{all_rules};
 ghost use Rattle.pb_tokens.specs.declared.rule.Rule.TheVariants.{SyntaxFirst};
-ghost use Rattle.pb_tokens.specs.Readers.Forms.{symbol, judged, to_end};
+ghost use Rattle.pb_tokens.specs.Readers.Forms.{symbol, judged, if_some, to_end};
 ghost use Rattle.pb_tokens.specs.Readers.Given.{symbols_from, Fails, Reads, ReadsInSteps};
 ghost use Rattle.pb_source.specs.Meaning.{FileStatement, file_of};
-ghost use Rattle.pb_source.specs.Readers.Lines.{access_reader, import_reader, package_reader, file_statement_reader, file_reader};
+ghost use Rattle.pb_source.specs.Readers.Lines.{dropped, extend_reader, access_reader, import_reader, package_reader, file_statement_reader, file_reader};
 ghost use Rattle.pb_source.specs.Readers.Lines.{is_package, syntax_reader, syntax_word_in, syntax_text_in};
 ghost use Rattle.pb_source.specs.StatementView.{file_statement_view};
 
 use crate::kind::FileKind;
 use crate::parsing::declared::{FileParts, add_file_statement};
 use crate::parsing::enums::enum_line;
+use crate::parsing::extensions::extend;
 use crate::parsing::kinds::file_kind;
 use crate::parsing::messages::message;
 use crate::parsing::scopes::file_of;
 use crate::parsing::services::service;
 use crate::parsing::statement::FileSaid;
 use pb_decl::FileDecl;
+use pb_tokens::grammar::Grammar;
 use pb_tokens::parsing::names::{joined, words};
 use pb_tokens::parsing::options::option;
 use pb_tokens::parsing::single::{begins_with, keyword, mark, symbol_at, utf8_text};
@@ -132,16 +134,37 @@ fn package(alloc: Global, symbols: &[Placed], at: usize) -> Result<(String, usiz
     Ok((name, after))
 }
 
+/// Reads a block of `extend`, of which nothing is kept. The strict grammar has none.
+fn extend_statement(
+    alloc: Global,
+    grammar: Grammar,
+    symbols: &[Placed],
+    at: usize,
+) -> Result<(FileSaid, usize), Refusal>
+    ensures within { IfOk result (λ x. (at < x.1) × (x.1 ≤ length symbols.now)) }
+    ensures read { ReadsInSteps symbols.now at (λ x. (file_statement_view x.0, x.1)) result
+        (λ n. if_some (dropped grammar FileStatement.nothing_said (extend_reader grammar n))) }
+{
+    match grammar {
+        Grammar::Strict => Err(Refusal::At { at, rule: None }),
+        Grammar::Proto3 => {
+            let after = extend(alloc, grammar, symbols, at)?;
+            Ok((FileSaid::Nothing, after))
+        }
+    }
+}
+
 /// Reads a statement of a file: no package, where one has been said.
 #[tactic(auto, unfolding(crate::specs::Readers::Lines::file_statement_reader))]
 fn file_statement(
     alloc: Global,
+    grammar: Grammar,
     packaged: bool,
     symbols: &[Placed],
     at: usize,
 ) -> Result<(FileSaid, usize), Refusal>
     ensures within { IfOk result (λ x. (at < x.1) × (x.1 ≤ length symbols.now)) }
-    ensures read { ReadsInSteps symbols.now at (λ x. (file_statement_view x.0, x.1)) result (λ n. file_statement_reader n packaged) }
+    ensures read { ReadsInSteps symbols.now at (λ x. (file_statement_view x.0, x.1)) result (λ n. file_statement_reader grammar n packaged) }
 {
     let Some(first) = symbol_at(symbols, at) else {
         return Err(Refusal::At { at, rule: None });
@@ -152,7 +175,7 @@ fn file_statement(
             Ok((FileSaid::Nothing, after))
         }
         Some(FileKind::Option) => {
-            let after = option(alloc, symbols, at)?;
+            let after = option(alloc, grammar, symbols, at)?;
             Ok((FileSaid::Nothing, after))
         }
         Some(FileKind::Import) => {
@@ -167,16 +190,20 @@ fn file_statement(
             Ok((FileSaid::Package(package), after))
         }
         Some(FileKind::Message) => {
-            let (message, after) = message(alloc, ROOM, symbols, at)?;
+            let (message, after) = message(alloc, grammar, ROOM, symbols, at)?;
             Ok((FileSaid::Message(message), after))
         }
         Some(FileKind::Enum) => {
-            let (decl, after) = enum_line(alloc, symbols, at)?;
+            let (decl, after) = enum_line(alloc, grammar, symbols, at)?;
             Ok((FileSaid::Enum(decl), after))
         }
         Some(FileKind::Service) => {
-            let (service, after) = service(alloc, symbols, at)?;
+            let (service, after) = service(alloc, grammar, symbols, at)?;
             Ok((FileSaid::Service(service), after))
+        }
+        Some(FileKind::Extend) => {
+            let (nothing, after) = extend_statement(alloc, grammar, symbols, at)?;
+            Ok((nothing, after))
         }
         None => Err(Refusal::At { at, rule: None }),
     }
@@ -197,18 +224,24 @@ fn is_package(statement: &FileSaid) -> bool
 }
 
 /// Reads statements up to the end, of which at most one is a package.
-fn file_body(alloc: Global, name: &str, symbols: &[Placed], at: usize) -> Result<FileDecl, Refusal>
+fn file_body(
+    alloc: Global,
+    grammar: Grammar,
+    name: &str,
+    symbols: &[Placed],
+    at: usize,
+) -> Result<FileDecl, Refusal>
     requires { at ≤ length symbols.now }
     ensures read { IfOk result (λ d. (ss : List FileStatement) × (file_view d ≡ file_of name.now ss)
-        × ((n : ℕ) → length symbols.now ≤ n → to_end n is_package (file_statement_reader n) false [] all_rules (symbols_from symbols.now at) ≡ Ok (ss, []))) }
+        × ((n : ℕ) → length symbols.now ≤ n → to_end n is_package (file_statement_reader grammar n) false [] all_rules (symbols_from symbols.now at) ≡ Ok (ss, []))) }
     ensures refused { IfErr result (λ e. (n : ℕ) → length symbols.now ≤ n
-        → Fails symbols.now e (to_end n is_package (file_statement_reader n) false [] all_rules (symbols_from symbols.now at))) }
+        → Fails symbols.now e (to_end n is_package (file_statement_reader grammar n) false [] all_rules (symbols_from symbols.now at))) }
 {
     let mut parts = FileParts::new(alloc);
     let mut here = at;
     let mut packaged = false;
     while here < symbols.len() {
-        let (statement, after) = file_statement(alloc, packaged, symbols, here)?;
+        let (statement, after) = file_statement(alloc, grammar, packaged, symbols, here)?;
         packaged |= is_package(&statement);
         add_file_statement(&mut parts, statement)?;
         here = after;
@@ -219,12 +252,17 @@ fn file_body(alloc: Global, name: &str, symbols: &[Placed], at: usize) -> Result
 
 /// Reads a file of this name.
 #[tactic(auto, unfolding(crate::specs::Readers::Lines::file_reader))]
-pub(crate) fn file(alloc: Global, name: &str, symbols: &[Placed]) -> Result<FileDecl, Refusal>
+pub(crate) fn file(
+    alloc: Global,
+    grammar: Grammar,
+    name: &str,
+    symbols: &[Placed],
+) -> Result<FileDecl, Refusal>
     ensures read { IfOk result (λ d. (ss : List FileStatement) × (file_view d ≡ file_of name.now ss)
-        × ((n : ℕ) → length symbols.now ≤ n → file_reader n all_rules (symbols_from symbols.now 0) ≡ Ok (ss, []))) }
-    ensures refused { IfErr result (λ e. (n : ℕ) → length symbols.now ≤ n → Fails symbols.now e (file_reader n all_rules (symbols_from symbols.now 0))) }
+        × ((n : ℕ) → length symbols.now ≤ n → file_reader grammar n all_rules (symbols_from symbols.now 0) ≡ Ok (ss, []))) }
+    ensures refused { IfErr result (λ e. (n : ℕ) → length symbols.now ≤ n → Fails symbols.now e (file_reader grammar n all_rules (symbols_from symbols.now 0))) }
 {
     let after = syntax(symbols, 0)?;
-    let decl = file_body(alloc, name, symbols, after)?;
+    let decl = file_body(alloc, grammar, name, symbols, after)?;
     Ok(decl)
 }

@@ -3,9 +3,11 @@
 ghost use Rattle.std.specs.Prelude.{◌≡◌};
 ghost use Rattle.pb_tokens.specs.Symbols.{word as a_word};
 ghost use Rattle.pb_tokens.specs.SymbolView.{symbol_of};
-ghost use Rattle.pb_source.specs.Readers.Lines.{file_kind, message_kind, enum_kind, oneof_kind, service_kind, method_kind};
+ghost use Rattle.pb_source.specs.Readers.Lines.{file_kind, message_kind, extend_kind, enum_kind, oneof_kind, service_kind, method_kind};
 
-use crate::kind::{EnumKind, FileKind, MessageKind, MethodKind, OneofKind, ServiceKind};
+use crate::kind::{
+    EnumKind, ExtendKind, FileKind, MessageKind, MethodKind, OneofKind, ServiceKind,
+};
 use pb_tokens::symbol::{Symbol, is_mark};
 
 /// The kind of a statement of a file.
@@ -25,6 +27,7 @@ pub(crate) fn file_kind(symbol: &Symbol) -> Option<FileKind>
         "message" => Some(FileKind::Message),
         "enum" => Some(FileKind::Enum),
         "service" => Some(FileKind::Service),
+        "extend" => Some(FileKind::Extend),
         _ => None,
     }
 }
@@ -42,7 +45,9 @@ fn message_word(word: &str) -> Option<MessageKind>
         "repeated" => Some(MessageKind::Repeated),
         "optional" => Some(MessageKind::Optional),
         "map" => Some(MessageKind::Map),
-        "required" | "extend" | "extensions" => None,
+        "extend" => Some(MessageKind::Extend),
+        "extensions" => Some(MessageKind::Extensions),
+        "required" => None,
         _ => Some(MessageKind::Field),
     }
 }
@@ -60,6 +65,27 @@ pub(crate) fn message_kind(symbol: &Symbol) -> Option<MessageKind>
     match symbol {
         Symbol::Word(word) => message_word(word),
         _ => None,
+    }
+}
+
+/// The kind of a statement of a block of `extend`.
+pub(crate) fn extend_kind(symbol: &Symbol) -> Option<ExtendKind>
+    ensures { result ≡ extend_kind (symbol_of symbol.now) }
+{
+    if is_mark(symbol, ";") {
+        return Some(ExtendKind::Empty);
+    }
+    if is_mark(symbol, ".") {
+        return Some(ExtendKind::Field);
+    }
+    let Symbol::Word(word) = symbol else {
+        return None;
+    };
+    match *word {
+        "repeated" => Some(ExtendKind::Repeated),
+        "optional" => Some(ExtendKind::Optional),
+        "required" => None,
+        _ => Some(ExtendKind::Field),
     }
 }
 

@@ -1,23 +1,25 @@
 //! Messages.
 
 ghost use Rattle.std.specs.Prelude.{◌≡◌, ◌≤◌, ◌<◌, [], length, codes, IfOk, Option, Some, true};
-ghost use Rattle.pb_decl.specs.View.{message_view, field_view};
+ghost use Rattle.pb_decl.specs.View.{message_view};
 ghost use Rattle.pb_decl.specs.Decls.{DeclaredMessage};
-ghost use Rattle.pb_tokens.specs.Readers.Forms.{Reader, if_some, behind, mapped, until, keyword_reader, mark_reader};
+ghost use Rattle.pb_tokens.specs.Readers.Forms.{Reader, if_some, mapped, until, mark_reader};
 ghost use Rattle.pb_tokens.specs.Readers.Phrases.{message_range_reader};
 ghost use Rattle.pb_tokens.specs.Readers.Given.{ReadsInSteps};
 ghost use Rattle.pb_source.specs.Meaning.{MessageStatement, message_of};
-ghost use Rattle.pb_source.specs.Readers.Lines.{is_closing, field_reader, reserved_reader, message_statement_line, room_statement_reader, message_reader};
+ghost use Rattle.pb_source.specs.Readers.Lines.{is_closing, reserved_reader, dropped, extend_reader, extensions_reader, message_statement_line, room_statement_reader, message_reader};
 ghost use Rattle.pb_source.specs.StatementView.{message_statement_view};
 ghost use Rattle.pb_source.specs.PartsView.{is_member, is_plain, IsCounted};
 
 use crate::kind::{Label, MessageKind};
 use crate::parsing::declared::{MessageParts, add_statement, message_of};
 use crate::parsing::enums::enum_line;
-use crate::parsing::fields::{field, map_or_field, oneof};
+use crate::parsing::extensions::{extend, extensions};
+use crate::parsing::fields::{field, labelled_field, map_or_field, oneof};
 use crate::parsing::kinds::message_kind;
 use crate::parsing::statement::MessageSaid;
-use pb_decl::{FieldDecl, MessageDecl};
+use pb_decl::MessageDecl;
+use pb_tokens::grammar::Grammar;
 use pb_tokens::parsing::options::option;
 use pb_tokens::parsing::ranges::{Within, names_line, ranges_line};
 use pb_tokens::parsing::single::{
@@ -45,25 +47,52 @@ fn reserved(alloc: Global, symbols: &[Placed], at: usize) -> Result<(MessageSaid
     Ok((MessageSaid::Ranges(ranges), after))
 }
 
-/// Reads a field behind the word of its label.
-fn labelled_field(
+/// Reads a block of `extend`, of which nothing is kept. The strict grammar has none.
+fn extend_statement(
     alloc: Global,
-    word: &str,
-    label: Label,
+    grammar: Grammar,
     symbols: &[Placed],
     at: usize,
-) -> Result<(FieldDecl, usize), Refusal>
+) -> Result<(MessageSaid, usize), Refusal>
     ensures within { IfOk result (λ x. (at < x.1) × (x.1 ≤ length symbols.now)) }
-    ensures read { ReadsInSteps symbols.now at (λ x. (field_view x.0, x.1)) result (λ n. behind (keyword_reader word.now) (field_reader n label)) }
+    ensures bound { IfOk result (λ x. IsCounted x.0) }
+    ensures read { ReadsInSteps symbols.now at (λ x. (message_statement_view x.0, x.1)) result
+        (λ n. if_some (dropped grammar MessageStatement.nothing_said (extend_reader grammar n))) }
 {
-    let after = keyword(word, symbols, at)?;
-    let (field, after) = field(alloc, label, symbols, after)?;
-    Ok((field, after))
+    match grammar {
+        Grammar::Strict => Err(Refusal::At { at, rule: None }),
+        Grammar::Proto3 => {
+            let after = extend(alloc, grammar, symbols, at)?;
+            Ok((MessageSaid::Nothing, after))
+        }
+    }
+}
+
+/// Reads ranges of extensions, of which nothing is kept. The strict grammar has none.
+fn extensions_statement(
+    alloc: Global,
+    grammar: Grammar,
+    symbols: &[Placed],
+    at: usize,
+) -> Result<(MessageSaid, usize), Refusal>
+    ensures within { IfOk result (λ x. (at < x.1) × (x.1 ≤ length symbols.now)) }
+    ensures bound { IfOk result (λ x. IsCounted x.0) }
+    ensures read { ReadsInSteps symbols.now at (λ x. (message_statement_view x.0, x.1)) result
+        (λ n. if_some (dropped grammar MessageStatement.nothing_said (extensions_reader grammar n))) }
+{
+    match grammar {
+        Grammar::Strict => Err(Refusal::At { at, rule: None }),
+        Grammar::Proto3 => {
+            let after = extensions(alloc, grammar, symbols, at)?;
+            Ok((MessageSaid::Nothing, after))
+        }
+    }
 }
 
 /// Reads a field of this kind, or a map.
 fn member(
     alloc: Global,
+    grammar: Grammar,
     kind: MessageKind,
     symbols: &[Placed],
     at: usize,
@@ -72,23 +101,37 @@ fn member(
     ensures within { IfOk result (λ x. (at < x.1) × (x.1 ≤ length symbols.now)) }
     ensures bound { IfOk result (λ x. IsCounted x.0) }
     ensures read { (inner : Option (Reader DeclaredMessage))
-        → ReadsInSteps symbols.now at (λ x. (message_statement_view x.0, x.1)) result (λ n. if_some (message_statement_line n inner kind)) }
+        → ReadsInSteps symbols.now at (λ x. (message_statement_view x.0, x.1)) result (λ n. if_some (message_statement_line grammar n inner kind)) }
 {
     match kind {
         MessageKind::Repeated => {
-            let (field, after) = labelled_field(alloc, "repeated", Label::Repeated, symbols, at)?;
+            let (field, after) = labelled_field(
+                alloc,
+                grammar,
+                "repeated",
+                Label::Repeated,
+                symbols,
+                at,
+            )?;
             Ok((MessageSaid::Field(field), after))
         }
         MessageKind::Optional => {
-            let (field, after) = labelled_field(alloc, "optional", Label::Optional, symbols, at)?;
+            let (field, after) = labelled_field(
+                alloc,
+                grammar,
+                "optional",
+                Label::Optional,
+                symbols,
+                at,
+            )?;
             Ok((MessageSaid::Field(field), after))
         }
         MessageKind::Map => {
-            let (member, after) = map_or_field(alloc, symbols, at)?;
+            let (member, after) = map_or_field(alloc, grammar, symbols, at)?;
             Ok((member, after))
         }
         MessageKind::Field => {
-            let (field, after) = field(alloc, Label::Unlabelled, symbols, at)?;
+            let (field, after) = field(alloc, grammar, Label::Unlabelled, symbols, at)?;
             Ok((MessageSaid::Field(field), after))
         }
         MessageKind::Empty
@@ -96,13 +139,16 @@ fn member(
         | MessageKind::Message
         | MessageKind::Enum
         | MessageKind::Oneof
-        | MessageKind::Reserved => unreachable!(),
+        | MessageKind::Reserved
+        | MessageKind::Extend
+        | MessageKind::Extensions => unreachable!(),
     }
 }
 
 /// Reads a statement of this kind, which is no message.
 fn plain_statement(
     alloc: Global,
+    grammar: Grammar,
     kind: MessageKind,
     symbols: &[Placed],
     at: usize,
@@ -111,7 +157,7 @@ fn plain_statement(
     ensures within { IfOk result (λ x. (at < x.1) × (x.1 ≤ length symbols.now)) }
     ensures bound { IfOk result (λ x. IsCounted x.0) }
     ensures read { (inner : Option (Reader DeclaredMessage))
-        → ReadsInSteps symbols.now at (λ x. (message_statement_view x.0, x.1)) result (λ n. if_some (message_statement_line n inner kind)) }
+        → ReadsInSteps symbols.now at (λ x. (message_statement_view x.0, x.1)) result (λ n. if_some (message_statement_line grammar n inner kind)) }
 {
     match kind {
         MessageKind::Message => unreachable!(),
@@ -120,23 +166,31 @@ fn plain_statement(
             Ok((MessageSaid::Nothing, after))
         }
         MessageKind::Option => {
-            let after = option(alloc, symbols, at)?;
+            let after = option(alloc, grammar, symbols, at)?;
             Ok((MessageSaid::Nothing, after))
         }
         MessageKind::Enum => {
-            let (inner, after) = enum_line(alloc, symbols, at)?;
+            let (inner, after) = enum_line(alloc, grammar, symbols, at)?;
             Ok((MessageSaid::Enum(inner), after))
         }
         MessageKind::Oneof => {
-            let ((name, fields), after) = oneof(alloc, symbols, at)?;
+            let ((name, fields), after) = oneof(alloc, grammar, symbols, at)?;
             Ok((MessageSaid::Oneof(name, fields), after))
         }
         MessageKind::Reserved => {
             let (reserved, after) = reserved(alloc, symbols, at)?;
             Ok((reserved, after))
         }
+        MessageKind::Extend => {
+            let (nothing, after) = extend_statement(alloc, grammar, symbols, at)?;
+            Ok((nothing, after))
+        }
+        MessageKind::Extensions => {
+            let (nothing, after) = extensions_statement(alloc, grammar, symbols, at)?;
+            Ok((nothing, after))
+        }
         MessageKind::Repeated | MessageKind::Optional | MessageKind::Map | MessageKind::Field => {
-            let (member, after) = member(alloc, kind, symbols, at)?;
+            let (member, after) = member(alloc, grammar, kind, symbols, at)?;
             Ok((member, after))
         }
     }
@@ -146,13 +200,14 @@ fn plain_statement(
 #[cycle(message)]
 fn message_statement(
     alloc: Global,
+    grammar: Grammar,
     room: u8,
     symbols: &[Placed],
     at: usize,
 ) -> Result<(MessageSaid, usize), Refusal>
     ensures within { IfOk result (λ x. (at < x.1) × (x.1 ≤ length symbols.now)) }
     ensures bound { IfOk result (λ x. IsCounted x.0) }
-    ensures read { ReadsInSteps symbols.now at (λ x. (message_statement_view x.0, x.1)) result (λ n. room_statement_reader n room) }
+    ensures read { ReadsInSteps symbols.now at (λ x. (message_statement_view x.0, x.1)) result (λ n. room_statement_reader grammar n room) }
 {
     let Some(first) = symbol_at(symbols, at) else {
         return Err(Refusal::At { at, rule: None });
@@ -165,11 +220,11 @@ fn message_statement(
                     rule: Some(Rule::NestsBounded),
                 });
             }
-            let (inner, after) = message(alloc, room - 1, symbols, at)?;
+            let (inner, after) = message(alloc, grammar, room - 1, symbols, at)?;
             Ok((MessageSaid::Message(inner), after))
         }
         Some(kind) => {
-            let (statement, after) = plain_statement(alloc, kind, symbols, at)?;
+            let (statement, after) = plain_statement(alloc, grammar, kind, symbols, at)?;
             Ok((statement, after))
         }
         None => Err(Refusal::At { at, rule: None }),
@@ -180,6 +235,7 @@ fn message_statement(
 #[cycle(message)]
 fn message_body(
     alloc: Global,
+    grammar: Grammar,
     room: u8,
     name: &str,
     symbols: &[Placed],
@@ -188,12 +244,12 @@ fn message_body(
     requires { at ≤ length symbols.now }
     ensures within { IfOk result (λ x. (at < x.1) × (x.1 ≤ length symbols.now)) }
     ensures read { ReadsInSteps symbols.now at (λ x. (message_view x.0, x.1)) result
-        (λ n. mapped (message_of name.now) (until n is_closing (room_statement_reader n room) (mark_reader (codes "}")) [])) }
+        (λ n. mapped (message_of name.now) (until n is_closing (room_statement_reader grammar n room) (mark_reader (codes "}")) [])) }
 {
     let mut parts = MessageParts::new(alloc);
     let mut here = at;
     while !begins_with_mark("}", symbols, here) {
-        let (statement, after) = message_statement(alloc, room, symbols, here)?;
+        let (statement, after) = message_statement(alloc, grammar, room, symbols, here)?;
         add_statement(alloc, &mut parts, statement)?;
         here = after;
     }
@@ -206,16 +262,17 @@ fn message_body(
 #[cycle(message)]
 pub(crate) fn message(
     alloc: Global,
+    grammar: Grammar,
     room: u8,
     symbols: &[Placed],
     at: usize,
 ) -> Result<(MessageDecl, usize), Refusal>
     ensures within { IfOk result (λ x. (at < x.1) × (x.1 ≤ length symbols.now)) }
-    ensures read { ReadsInSteps symbols.now at (λ x. (message_view x.0, x.1)) result (λ n. message_reader n room) }
+    ensures read { ReadsInSteps symbols.now at (λ x. (message_view x.0, x.1)) result (λ n. message_reader grammar n room) }
 {
     let after = keyword("message", symbols, at)?;
     let (name, after) = name(symbols, after)?;
     let after = mark("{", symbols, after)?;
-    let (decl, after) = message_body(alloc, room, name, symbols, after)?;
+    let (decl, after) = message_body(alloc, grammar, room, name, symbols, after)?;
     Ok((decl, after))
 }

@@ -11,6 +11,7 @@ ghost use Rattle.pb_source.specs.Readers.Lines.{method_reader, service_statement
 use crate::kind::{MethodKind, ServiceKind};
 use crate::parsing::kinds::{method_kind, service_kind};
 use pb_decl::{MethodDecl, ServiceDecl};
+use pb_tokens::grammar::Grammar;
 use pb_tokens::parsing::names::typename;
 use pb_tokens::parsing::options::option;
 use pb_tokens::parsing::single::{begins_with, begins_with_mark, keyword, mark, name, symbol_at};
@@ -55,9 +56,14 @@ fn parameter(
 
 /// Reads a statement of a method: an option, or `;` alone.
 #[tactic(auto, unfolding(crate::specs::Readers::Lines::method_statement_reader))]
-fn method_statement(alloc: Global, symbols: &[Placed], at: usize) -> Result<usize, Refusal>
+fn method_statement(
+    alloc: Global,
+    grammar: Grammar,
+    symbols: &[Placed],
+    at: usize,
+) -> Result<usize, Refusal>
     ensures within { IfOk result (λ after. (at < after) × (after ≤ length symbols.now)) }
-    ensures read { ReadsInSteps symbols.now at (λ after. (tt, after)) result method_statement_reader }
+    ensures read { ReadsInSteps symbols.now at (λ after. (tt, after)) result (method_statement_reader grammar) }
 {
     let Some(first) = symbol_at(symbols, at) else {
         return Err(Refusal::At { at, rule: None });
@@ -68,7 +74,7 @@ fn method_statement(alloc: Global, symbols: &[Placed], at: usize) -> Result<usiz
             Ok(after)
         }
         Some(MethodKind::Option) => {
-            let after = option(alloc, symbols, at)?;
+            let after = option(alloc, grammar, symbols, at)?;
             Ok(after)
         }
         None => Err(Refusal::At { at, rule: None }),
@@ -76,15 +82,20 @@ fn method_statement(alloc: Global, symbols: &[Placed], at: usize) -> Result<usiz
 }
 
 /// Reads the statements of a method, and the closing brace.
-fn method_body(alloc: Global, symbols: &[Placed], at: usize) -> Result<usize, Refusal>
+fn method_body(
+    alloc: Global,
+    grammar: Grammar,
+    symbols: &[Placed],
+    at: usize,
+) -> Result<usize, Refusal>
     requires { at ≤ length symbols.now }
     ensures within { IfOk result (λ after. (at < after) × (after ≤ length symbols.now)) }
     ensures read { ReadsInSteps symbols.now at (λ after. (tt, after)) result
-        (λ n. mapped {B = Unit {0}} (λ _. tt) (until n is_closing (method_statement_reader n) (mark_reader (codes "}")) [])) }
+        (λ n. mapped {B = Unit {0}} (λ _. tt) (until n is_closing (method_statement_reader grammar n) (mark_reader (codes "}")) [])) }
 {
     let mut here = at;
     while !begins_with_mark("}", symbols, here) {
-        let next = method_statement(alloc, symbols, here)?;
+        let next = method_statement(alloc, grammar, symbols, here)?;
         here = next;
     }
     let after = mark("}", symbols, here)?;
@@ -93,13 +104,18 @@ fn method_body(alloc: Global, symbols: &[Placed], at: usize) -> Result<usize, Re
 
 /// Reads the end of a method.
 #[tactic(auto, unfolding(crate::specs::Readers::Lines::method_end_reader))]
-fn method_end(alloc: Global, symbols: &[Placed], at: usize) -> Result<usize, Refusal>
+fn method_end(
+    alloc: Global,
+    grammar: Grammar,
+    symbols: &[Placed],
+    at: usize,
+) -> Result<usize, Refusal>
     ensures within { IfOk result (λ after. (at < after) × (after ≤ length symbols.now)) }
-    ensures read { ReadsInSteps symbols.now at (λ after. (tt, after)) result method_end_reader }
+    ensures read { ReadsInSteps symbols.now at (λ after. (tt, after)) result (method_end_reader grammar) }
 {
     if begins_with_mark("{", symbols, at) {
         let after = mark("{", symbols, at)?;
-        let after = method_body(alloc, symbols, after)?;
+        let after = method_body(alloc, grammar, symbols, after)?;
         return Ok(after);
     }
     let after = mark(";", symbols, at)?;
@@ -108,16 +124,21 @@ fn method_end(alloc: Global, symbols: &[Placed], at: usize) -> Result<usize, Ref
 
 /// Reads a method.
 #[tactic(auto, unfolding(crate::specs::Readers::Lines::method_reader))]
-fn method(alloc: Global, symbols: &[Placed], at: usize) -> Result<(MethodDecl, usize), Refusal>
+fn method(
+    alloc: Global,
+    grammar: Grammar,
+    symbols: &[Placed],
+    at: usize,
+) -> Result<(MethodDecl, usize), Refusal>
     ensures within { IfOk result (λ x. (at < x.1) × (x.1 ≤ length symbols.now)) }
-    ensures read { ReadsInSteps symbols.now at (λ x. (method_view x.0, x.1)) result method_reader }
+    ensures read { ReadsInSteps symbols.now at (λ x. (method_view x.0, x.1)) result (method_reader grammar) }
 {
     let after = keyword("rpc", symbols, at)?;
     let (name, after) = name(symbols, after)?;
     let ((client_stream, input), after) = parameter(alloc, symbols, after)?;
     let after = keyword("returns", symbols, after)?;
     let ((server_stream, output), after) = parameter(alloc, symbols, after)?;
-    let after = method_end(alloc, symbols, after)?;
+    let after = method_end(alloc, grammar, symbols, after)?;
     let name = String::from_str(alloc, name)?;
     let method = MethodDecl {
         name,
@@ -133,11 +154,12 @@ fn method(alloc: Global, symbols: &[Placed], at: usize) -> Result<(MethodDecl, u
 #[tactic(auto, unfolding(crate::specs::Readers::Lines::service_statement_reader))]
 fn service_statement(
     alloc: Global,
+    grammar: Grammar,
     symbols: &[Placed],
     at: usize,
 ) -> Result<(Option<MethodDecl>, usize), Refusal>
     ensures within { IfOk result (λ x. (at < x.1) × (x.1 ≤ length symbols.now)) }
-    ensures read { ReadsInSteps symbols.now at (λ x. (option_map method_view x.0, x.1)) result service_statement_reader }
+    ensures read { ReadsInSteps symbols.now at (λ x. (option_map method_view x.0, x.1)) result (service_statement_reader grammar) }
 {
     let Some(first) = symbol_at(symbols, at) else {
         return Err(Refusal::At { at, rule: None });
@@ -148,11 +170,11 @@ fn service_statement(
             Ok((None, after))
         }
         Some(ServiceKind::Option) => {
-            let after = option(alloc, symbols, at)?;
+            let after = option(alloc, grammar, symbols, at)?;
             Ok((None, after))
         }
         Some(ServiceKind::Method) => {
-            let (method, after) = method(alloc, symbols, at)?;
+            let (method, after) = method(alloc, grammar, symbols, at)?;
             Ok((Some(method), after))
         }
         None => Err(Refusal::At { at, rule: None }),
@@ -172,18 +194,19 @@ fn push_said(methods: &mut Vec<MethodDecl>, said: Option<MethodDecl>) -> Result<
 /// Reads the statements of a service, and the closing brace.
 fn service_body(
     alloc: Global,
+    grammar: Grammar,
     symbols: &[Placed],
     at: usize,
 ) -> Result<(Vec<MethodDecl>, usize), Refusal>
     requires { at ≤ length symbols.now }
     ensures within { IfOk result (λ x. (at < x.1) × (x.1 ≤ length symbols.now)) }
     ensures read { ReadsInSteps symbols.now at (λ x. (map method_view x.0.items, x.1)) result
-        (λ n. mapped those_said (until n is_closing (service_statement_reader n) (mark_reader (codes "}")) [])) }
+        (λ n. mapped those_said (until n is_closing (service_statement_reader grammar n) (mark_reader (codes "}")) [])) }
 {
     let mut methods = Vec::new(alloc);
     let mut here = at;
     while !begins_with_mark("}", symbols, here) {
-        let (said, after) = service_statement(alloc, symbols, here)?;
+        let (said, after) = service_statement(alloc, grammar, symbols, here)?;
         push_said(&mut methods, said)?;
         here = after;
     }
@@ -195,16 +218,17 @@ fn service_body(
 #[tactic(auto, unfolding(crate::specs::Readers::Lines::service_reader))]
 pub(crate) fn service(
     alloc: Global,
+    grammar: Grammar,
     symbols: &[Placed],
     at: usize,
 ) -> Result<(ServiceDecl, usize), Refusal>
     ensures within { IfOk result (λ x. (at < x.1) × (x.1 ≤ length symbols.now)) }
-    ensures read { ReadsInSteps symbols.now at (λ x. (service_view x.0, x.1)) result service_reader }
+    ensures read { ReadsInSteps symbols.now at (λ x. (service_view x.0, x.1)) result (service_reader grammar) }
 {
     let after = keyword("service", symbols, at)?;
     let (name, after) = name(symbols, after)?;
     let after = mark("{", symbols, after)?;
-    let (methods, after) = service_body(alloc, symbols, after)?;
+    let (methods, after) = service_body(alloc, grammar, symbols, after)?;
     let name = String::from_str(alloc, name)?;
     Ok((ServiceDecl { name, methods }, after))
 }

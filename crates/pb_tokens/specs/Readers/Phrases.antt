@@ -1,11 +1,21 @@
 -- The readers of the lines that statements are made of: of each line of `Phrases` one.
-use Rattle.std.specs.Prelude.{ℕ, nat_le, ℤ, pos, neg_ℤ, List, [], ◌∷◌, codes, Bool, true, false, if◌then◌else◌, Option, Some, None, option_map}
+use Rattle.std.specs.Prelude.{ℕ, zero, suc, nat_le, ℤ, pos, neg_ℤ, List, [], ◌∷◌, codes, Bool, true, false, if◌then◌else◌, Option, Some, None, Err, option_map}
 use Rattle.std.specs.Str.{bytes_eq, is_utf8}
 use Rattle.pb_decl.specs.declared.decl.TypeCode.{TypeCode}
 use Rattle.pb_tokens.specs.declared.rule.Rule.TheVariants.{NumbersFit as numbers_fit, OptionsKnown as options_known, TextsValid as texts_valid}
 use Rattle.pb_tokens.specs.Symbols.{Symbol, word, number, text, sign}
 use Rattle.pb_tokens.specs.Integers.{integer_of}
 use Rattle.pb_tokens.specs.Said.{TypeSaid, a_scalar, a_name, joined, last_said}
+use Rattle.pb_tokens.specs.Floats.{scaled_in, fraction_in, begun_in, is_decimals}
+use Rattle.pb_tokens.specs.Aggregates.{role_of, same_bracket}
+use Rattle.pb_tokens.specs.declared.bracket.Bracket.{Bracket}
+use Rattle.pb_tokens.specs.declared.bracket.Bracket.TheVariants.{Curly}
+use Rattle.pb_tokens.specs.declared.bracket.Role.{Role}
+use Rattle.pb_tokens.specs.declared.bracket.Role.TheVariants.{Plain, Opens, Closes}
+use Rattle.pb_tokens.specs.declared.parsing.floats.Begun.{Begun}
+use Rattle.pb_tokens.specs.declared.parsing.floats.Begun.TheVariants.{Whole, Open, MayPoint, MustPoint}
+use Rattle.pb_tokens.specs.declared.grammar.Grammar.{Grammar}
+use Rattle.pb_tokens.specs.declared.grammar.Grammar.TheVariants.{Strict, Proto3}
 use Rattle.pb_tokens.specs.Phrases.{is_the_name, found_in, key_words, scalar_code, end_behind}
 use Rattle.pb_tokens.specs.Readers.Forms.{Reader, answer, chain, mapped, behind, before, choice, by_kind, symbol, plain}
 use Rattle.pb_tokens.specs.Readers.Forms.{judged, is_keyword, is_mark, tested, keyword_reader, mark_reader, separated}
@@ -78,6 +88,12 @@ is_text (word w) = false
 is_text (number w) = false
 is_text (sign c) = false
 
+abbrev pub is_word : Symbol → Bool
+is_word (word w) = true
+is_word (number w) = false
+is_word (text b) = false
+is_word (sign c) = false
+
 abbrev pub is_number : Symbol → Bool
 is_number (number w) = true
 is_number (word w) = false
@@ -89,11 +105,92 @@ unfoldable pub plus_or_minus_reader : Reader (Unit {0})
 plus_or_minus_reader =
     choice (is_mark (codes "-")) (mark_reader (codes "-")) (choice (is_mark (codes "+")) (mark_reader (codes "+")) (answer tt))
 
--- constant  = [ "-" | "+" ] integer | [ "-" | "+" ] fullname | text
-unfoldable pub constant_reader : ℕ → Reader (Unit {0})
-constant_reader n =
-    choice is_text (tested is_text)
-    (behind plus_or_minus_reader (choice is_number (mapped (λ _. tt) (symbol (plain integer_in))) (mapped (λ _. tt) (fullname_reader n))))
+-- decimals
+abbrev pub decimals_in : Symbol → Option (Unit {0})
+decimals_in (number w) = if is_decimals w then Some tt else None
+decimals_in (word w) = None
+decimals_in (text b) = None
+decimals_in (sign c) = None
+
+-- "-" | "+"
+unfoldable pub sign_reader : Reader (Unit {0})
+sign_reader = choice (is_mark (codes "-")) (mark_reader (codes "-")) (mark_reader (codes "+"))
+
+-- the sign and the decimals of an exponent, where they follow
+unfoldable pub exponent_end_reader : Bool → Reader (Unit {0})
+exponent_end_reader true = behind sign_reader (symbol (plain decimals_in))
+exponent_end_reader false = answer tt
+
+-- decimals [ exponent ]
+unfoldable pub scaled_reader : Reader (Unit {0})
+scaled_reader = chain (symbol (plain scaled_in)) exponent_end_reader
+
+abbrev pub begins_fraction : Symbol → Bool
+begins_fraction (word w) = true
+begins_fraction (number w) = true
+begins_fraction (text b) = false
+begins_fraction (sign c) = false
+
+-- [ decimals ] [ exponent ]
+unfoldable pub fraction_reader : Reader (Unit {0})
+fraction_reader = choice begins_fraction (chain (symbol (plain fraction_in)) exponent_end_reader) (answer tt)
+
+-- the rest of what a number word begins
+unfoldable pub begun_end_reader : Begun → Reader (Unit {0})
+begun_end_reader Whole = answer tt
+begun_end_reader Open = exponent_end_reader true
+begun_end_reader MayPoint = choice is_dot (behind (mark_reader (codes ".")) fraction_reader) (answer tt)
+begun_end_reader MustPoint = behind (mark_reader (codes ".")) fraction_reader
+
+-- an integer or a floating literal, without its sign
+unfoldable pub numeral_reader : Reader (Unit {0})
+numeral_reader = choice is_dot (behind (mark_reader (codes ".")) scaled_reader) (chain (symbol (plain begun_in)) begun_end_reader)
+
+abbrev pub behind_role : Bracket → List Bracket → Role → Option (List Bracket)
+behind_role b bs Plain = Some (b ∷ bs)
+behind_role b bs (Opens c) = Some (c ∷ b ∷ bs)
+behind_role b bs (Closes c) = if same_bracket b c then Some bs else None
+
+-- the brackets that are open, the last one first, behind one more symbol
+abbrev pub open_behind : List Bracket → Symbol → Option (List Bracket)
+open_behind [] s = None
+open_behind (b ∷ bs) s = behind_role b bs (role_of s)
+
+-- symbols up to that which closes the first bracket that is open
+abbrev pub closed_reader : ℕ → List Bracket → Reader (Unit {0})
+closed_reader zero [] = answer tt
+closed_reader zero (b ∷ bs) = λ rules ts. Err ([], None)
+closed_reader (suc n) [] = answer tt
+closed_reader (suc n) (b ∷ bs) = chain (symbol (plain (open_behind (b ∷ bs)))) (closed_reader n)
+
+-- "{" { any symbol } "}"
+unfoldable pub aggregate_reader : ℕ → Reader (Unit {0})
+aggregate_reader n = behind (mark_reader (codes "{")) (closed_reader n (Curly ∷ []))
+
+-- integer | fullname
+abbrev pub plain_value_reader : ℕ → Reader (Unit {0})
+plain_value_reader n = choice is_number (mapped (λ _. tt) (symbol (plain integer_in))) (mapped (λ _. tt) (fullname_reader n))
+
+-- integer | floatLit | fullname
+abbrev pub any_value_reader : ℕ → Reader (Unit {0})
+any_value_reader n = choice is_word (mapped (λ _. tt) (fullname_reader n)) numeral_reader
+
+-- the same with its sign
+unfoldable pub signed_value_reader : Grammar → ℕ → Reader (Unit {0})
+signed_value_reader Strict n = behind plus_or_minus_reader (plain_value_reader n)
+signed_value_reader Proto3 n = behind plus_or_minus_reader (any_value_reader n)
+
+abbrev pub braced_value_reader : ℕ → Reader (Unit {0})
+braced_value_reader n = choice (is_mark (codes "{")) (aggregate_reader n) (signed_value_reader Proto3 n)
+
+-- a constant that is no text
+unfoldable pub unquoted_reader : Grammar → ℕ → Reader (Unit {0})
+unquoted_reader Strict n = signed_value_reader Strict n
+unquoted_reader Proto3 n = braced_value_reader n
+
+-- constant
+unfoldable pub constant_reader : Grammar → ℕ → Reader (Unit {0})
+constant_reader g n = choice is_text (tested is_text) (unquoted_reader g n)
 
 abbrev pub part_in : Symbol → Option (List ℕ × Bool)
 part_in (word w) = Some (w, true)
@@ -101,17 +198,27 @@ part_in (sign c) = if bytes_eq c (codes "(") then Some (codes "(", false) else N
 part_in (number w) = None
 part_in (text b) = None
 
--- optname   = word { "." word }
-unfoldable pub optname_reader : ℕ → Reader (List (List ℕ))
-optname_reader n = separated n is_dot (symbol (judged options_known part_in)) (mark_reader (codes "."))
+-- word | "(" typename ")"
+abbrev pub any_part_reader : ℕ → Reader (List ℕ)
+any_part_reader n =
+    choice (is_mark (codes "(")) (behind (mark_reader (codes "(")) (before (mapped (λ _. codes "(") (typename_reader n)) (mark_reader (codes ")")))) name_reader
+
+-- a part of an option's name
+unfoldable pub part_reader : Grammar → ℕ → Reader (List ℕ)
+part_reader Strict n = symbol (judged options_known part_in)
+part_reader Proto3 n = any_part_reader n
+
+-- optname   = part { "." part }
+unfoldable pub optname_reader : Grammar → ℕ → Reader (List (List ℕ))
+optname_reader g n = separated n is_dot (part_reader g n) (mark_reader (codes "."))
 
 -- optname "=" constant
-unfoldable pub assignment_reader : ℕ → Reader (Unit {0})
-assignment_reader n = behind (mapped (λ _. tt) (optname_reader n)) (behind (mark_reader (codes "=")) (constant_reader n))
+unfoldable pub assignment_reader : Grammar → ℕ → Reader (Unit {0})
+assignment_reader g n = behind (mapped (λ _. tt) (optname_reader g n)) (behind (mark_reader (codes "=")) (constant_reader g n))
 
 -- option    = "option" optname "=" constant ";"
-unfoldable pub option_reader : ℕ → Reader (Unit {0})
-option_reader n = behind (keyword_reader (codes "option")) (before (assignment_reader n) (mark_reader (codes ";")))
+unfoldable pub option_reader : Grammar → ℕ → Reader (Unit {0})
+option_reader g n = behind (keyword_reader (codes "option")) (before (assignment_reader g n) (mark_reader (codes ";")))
 
 abbrev pub truth_in : Symbol → Option Bool
 truth_in (word w) = found_in ((codes "true", true) ∷ (codes "false", false) ∷ []) w
@@ -120,19 +227,19 @@ truth_in (text b) = None
 truth_in (sign c) = None
 
 -- the constant, which is true or false where the option is the one that counts
-abbrev pub said_reader : ℕ → Bool → Reader (Option Bool)
-said_reader n true = mapped Some (symbol (plain truth_in))
-said_reader n false = mapped (λ _. None) (constant_reader n)
+abbrev pub said_reader : Grammar → ℕ → Bool → Reader (Option Bool)
+said_reader g n true = mapped Some (symbol (plain truth_in))
+said_reader g n false = mapped (λ _. None) (constant_reader g n)
 
 -- optname "=" constant, and what is said of the option of this name
-unfoldable pub setting_reader : ℕ → List ℕ → Reader (Option Bool)
-setting_reader n v = chain (optname_reader n) (λ name. behind (mark_reader (codes "=")) (said_reader n (is_the_name v name)))
+unfoldable pub setting_reader : Grammar → ℕ → List ℕ → Reader (Option Bool)
+setting_reader g n v = chain (optname_reader g n) (λ name. behind (mark_reader (codes "=")) (said_reader g n (is_the_name v name)))
 
 abbrev pub no_default : Symbol → Option (Unit {0})
 no_default s = if is_keyword (codes "default") s then None else Some tt
 
-unfoldable pub field_option_reader : ℕ → Reader (Option Bool)
-field_option_reader n = by_kind no_default (λ _. Some (setting_reader n (codes "packed")))
+unfoldable pub field_option_reader : Grammar → ℕ → Reader (Option Bool)
+field_option_reader g n = by_kind no_default (λ _. Some (setting_reader g n (codes "packed")))
 
 -- opts ";"
 unfoldable pub options_reader : {I : Type 0} → ℕ → Reader I → Reader (List I)
@@ -140,12 +247,12 @@ options_reader n item =
     behind (mark_reader (codes "[")) (before (listed n item) (behind (mark_reader (codes "]")) (mark_reader (codes ";"))))
 
 -- [ opts ] ";"
-unfoldable pub field_end_reader : ℕ → Reader (Option Bool)
-field_end_reader n =
-    choice (is_mark (codes "[")) (mapped (last_said None) (options_reader n (field_option_reader n))) (mapped (λ _. None) (mark_reader (codes ";")))
+unfoldable pub field_end_reader : Grammar → ℕ → Reader (Option Bool)
+field_end_reader g n =
+    choice (is_mark (codes "[")) (mapped (last_said None) (options_reader n (field_option_reader g n))) (mapped (λ _. None) (mark_reader (codes ";")))
 
-unfoldable pub value_end_reader : ℕ → Reader (Unit {0})
-value_end_reader n = choice (is_mark (codes "[")) (mapped (λ _. tt) (options_reader n (assignment_reader n))) (mark_reader (codes ";"))
+unfoldable pub value_end_reader : Grammar → ℕ → Reader (Unit {0})
+value_end_reader g n = choice (is_mark (codes "[")) (mapped (λ _. tt) (options_reader n (assignment_reader g n))) (mark_reader (codes ";"))
 
 -- ---- types
 

@@ -18,7 +18,7 @@ use crate::text::digit_of;
 const TOO_LARGE: u64 = 1 << 32;
 
 /// The number of these digits, at most `TOO_LARGE`.
-fn digits(base: u32, bytes: &[u8]) -> Option<u64>
+pub(crate) fn digits(base: u32, bytes: &[u8]) -> Option<u64>
     requires two { 2 ≤ base }
     requires base { base ≤ 16 }
     ensures { result ≡ option_map capped (digits_of base bytes.now) }
@@ -45,7 +45,7 @@ fn next_value(base: u32, value: u64, digit: u32) -> u64
 }
 
 /// The integer that a number word spells, at most `TOO_LARGE`.
-fn integer_of(word: &[u8]) -> Option<u64>
+pub(crate) fn integer_of(word: &[u8]) -> Option<u64>
     ensures { result ≡ option_map capped (integer_of word.now) }
 {
     if word.is_empty() {

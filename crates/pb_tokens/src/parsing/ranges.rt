@@ -105,8 +105,8 @@ fn next_range(within: Within, symbols: &[Placed], at: usize) -> Result<((i32, i3
     Ok((range, after))
 }
 
-/// Reads ranges with commas between.
-fn ranges(
+/// Reads ranges with commas between, as `ranges_line` does up to its `;`.
+pub fn ranges(
     alloc: Global,
     within: Within,
     symbols: &[Placed],

@@ -4,12 +4,12 @@ ghost use Rattle.std.specs.Prelude.{◌≡◌, ◌≤◌, ◌<◌, ◌+◌, [], 
 ghost use Rattle.std.specs.Str.{is_utf8};
 ghost use Rattle.pb_tokens.specs.SymbolView.{symbol_of};
 ghost use Rattle.pb_tokens.specs.Readers.Forms.{first_passes, is_keyword, is_mark, tested, keyword_reader, mark_reader};
-ghost use Rattle.pb_tokens.specs.Readers.Phrases.{is_text, is_number, name_reader, utf8_reader};
+ghost use Rattle.pb_tokens.specs.Readers.Phrases.{is_text, is_word, is_number, name_reader, utf8_reader};
 ghost use Rattle.pb_tokens.specs.Readers.Given.{symbols_from, Reads};
 
 use crate::refusal::Refusal;
 use crate::rule::Rule;
-use crate::symbol::{Placed, Symbol, is_keyword, is_mark, is_number, is_text};
+use crate::symbol::{Placed, Symbol, is_keyword, is_mark, is_number, is_text, is_word};
 
 /// The symbol at an index; None where it is behind the last.
 pub fn symbol_at<'t, 'a>(symbols: &'t [Placed<'a>], at: usize) -> Option<&'t Placed<'a>>
@@ -46,6 +46,16 @@ pub fn begins_with_text(symbols: &[Placed], at: usize) -> bool
 {
     match symbol_at(symbols, at) {
         Some(first) => is_text(&first.symbol),
+        None => false,
+    }
+}
+
+/// Whether the symbol at the index is a word.
+pub(crate) fn begins_with_word(symbols: &[Placed], at: usize) -> bool
+    ensures { result ≡ first_passes is_word (symbols_from symbols.now at) }
+{
+    match symbol_at(symbols, at) {
+        Some(first) => is_word(&first.symbol),
         None => false,
     }
 }

@@ -8,7 +8,7 @@ use Rattle.pb_source.proofs.parsing.files.file_body.Given as goal
 
 abbrev pub invariant-loop-here : goal.invariant-loop-here
 invariant-loop-here l =
-    (front : List FileStatement) × FileHolds l.parts front × Packaged l.packaged front × HasReadOn is_package file_statement_reader l.symbols l.at l.packaged front l.here
+    (front : List FileStatement) × FileHolds l.parts front × Packaged l.packaged front × HasReadOn is_package (file_statement_reader l.grammar) l.symbols l.at l.packaged front l.here
 
 abbrev pub decreases-loop-here : goal.decreases-loop-here
 decreases-loop-here l = length l.symbols - l.here

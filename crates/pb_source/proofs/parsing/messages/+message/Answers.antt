@@ -47,35 +47,35 @@ message-returns-clause-read t c = λ n l.
 
 -- ---- the statements of a message
 
-pub message_body-loop-alloc-init : goal.message_body-loop-alloc-init
-message_body-loop-alloc-init t c =
-    ([], c.new-parts.ensures, starts is_closing (λ n. room_statement_reader n c.args.room) (mark_reader (codes "}")) c.args.symbols.now c.args.at (omega arith))
+pub message_body-loop-grammar-init : goal.message_body-loop-grammar-init
+message_body-loop-grammar-init t c =
+    ([], c.new-parts.ensures, starts is_closing (λ n. room_statement_reader c.args.grammar n c.args.room) (mark_reader (codes "}")) c.args.symbols.now c.args.at (omega arith))
 
 pub message_body-add_statement-requires : goal.message_body-add_statement-requires
 message_body-add_statement-requires t c = c.in_ok-statement.ensures.bound
 
-pub message_body-loop-alloc-preserved : goal.message_body-loop-alloc-preserved
-message_body-loop-alloc-preserved t c =
-    let i = c.loop-alloc.invariant in (
+pub message_body-loop-grammar-preserved : goal.message_body-loop-grammar-preserved
+message_body-loop-grammar-preserved t c =
+    let i = c.loop-grammar.invariant in (
       i.0 ++ (message_statement_view c.in_ok-statement.statement) ∷ [],
       c.in_ok-add_statement.ensures i.0 i.1,
-      goes_on is_closing (λ n. room_statement_reader n c.args.room) (mark_reader (codes "}")) c.args.symbols.now c.args.at i.0 c.loop-alloc.here c.in_ok-statement.after (message_statement_view c.in_ok-statement.statement) i.2
-          c.in_ok-statement.ensures.within.0 c.in_ok-statement.ensures.within.1 (sym c.loop-alloc-test.true ∙ c.begins_with_mark.ensures) c.in_ok-statement.ensures.read,
+      goes_on is_closing (λ n. room_statement_reader c.args.grammar n c.args.room) (mark_reader (codes "}")) c.args.symbols.now c.args.at i.0 c.loop-grammar.here c.in_ok-statement.after (message_statement_view c.in_ok-statement.statement) i.2
+          c.in_ok-statement.ensures.within.0 c.in_ok-statement.ensures.within.1 (sym c.loop-grammar-test.true ∙ c.begins_with_mark.ensures) c.in_ok-statement.ensures.read,
     )
 
 pub message_body-returns-in_err-statement-clause-read : goal.message_body-returns-in_err-statement-clause-read
 message_body-returns-in_err-statement-clause-read t c =
     let p = err_from_is_err_and c.from_residual.result c.from_residual.ensures.1 in
-    let i = c.loop-alloc.invariant in
+    let i = c.loop-grammar.invariant in
     rw (p.1, p.2)
-    (refuses is_closing (λ n. room_statement_reader n c.args.room) (mark_reader (codes "}")) c.args.symbols.now (message_of c.args.name.now) c.args.at i.0 c.loop-alloc.here _ i.2
-    (sym c.loop-alloc-test.true ∙ c.begins_with_mark.ensures) (no_room_statement c.args.room) c.in_err-statement.ensures.read)
+    (refuses is_closing (λ n. room_statement_reader c.args.grammar n c.args.room) (mark_reader (codes "}")) c.args.symbols.now (message_of c.args.name.now) c.args.at i.0 c.loop-grammar.here _ i.2
+    (sym c.loop-grammar-test.true ∙ c.begins_with_mark.ensures) (no_room_statement c.args.grammar c.args.room) c.in_err-statement.ensures.read)
 
 pub message_body-returns-clause-read : goal.message_body-returns-clause-read
 message_body-returns-clause-read t c = λ n l.
-    let i = c.loop-alloc.invariant in
-    ends is_closing (λ n. room_statement_reader n c.args.room) (mark_reader (codes "}")) c.args.symbols.now (message_of c.args.name.now) c.args.at i.0 c.loop-alloc.here c.in_ok-after.after i.2
-    (sym c.loop-alloc-test.false ∙ c.begins_with_mark.ensures) c.in_ok-after.ensures.read n l
+    let i = c.loop-grammar.invariant in
+    ends is_closing (λ n. room_statement_reader c.args.grammar n c.args.room) (mark_reader (codes "}")) c.args.symbols.now (message_of c.args.name.now) c.args.at i.0 c.loop-grammar.here c.in_ok-after.after i.2
+    (sym c.loop-grammar-test.false ∙ c.begins_with_mark.ensures) c.in_ok-after.ensures.read n l
     ∙ ap (λ d. Ok (d, symbols_from c.args.symbols.now c.in_ok-after.after)) (sym (c.in_ok-decl.ensures i.0 i.1))
 
 -- ---- a statement
@@ -83,40 +83,40 @@ message_body-returns-clause-read t c = λ n l.
 pub message_statement-returns-in_default-clause-read : goal.message_statement-returns-in_default-clause-read
 message_statement-returns-in_default-clause-read t c = λ n l.
     let e : symbols_from c.args.symbols.now c.args.at ≡ [] = search rules in
-    rw e (no_room_statement c.args.room n)
+    rw e (no_room_statement c.args.grammar c.args.room n)
 
 pub message_statement-returns-then-room-eq0-clause-read : goal.message_statement-returns-then-room-eq0-clause-read
 message_statement-returns-then-room-eq0-clause-read t c = λ n l.
     let k : message_kind (symbol_of c.in-Some.first.now.symbol) ≡ Some kind.Message = cc in
-    rw c.if-room-eq0.true (message_too_deep n _ _ _ c.in-Some.ensures.found.1 k)
+    rw c.if-room-eq0.true (message_too_deep c.args.grammar n _ _ _ c.in-Some.ensures.found.1 k)
 
 pub message_statement-returns-in_err-inner-in-Some-Message-clause-read : goal.message_statement-returns-in_err-inner-in-Some-Message-clause-read
 message_statement-returns-in_err-inner-in-Some-Message-clause-read t c =
     let p = err_from_is_err_and c.from_residual.result c.from_residual.ensures.1 in
     let k : message_kind (symbol_of c.in-Some.first.now.symbol) ≡ Some kind.Message = cc in
     let left : 0 < c.args.room = omega arith in
-    rw (p.1, p.2) (λ n l. rw (message_in_room n c.args.room _ _ _ left c.in-Some.ensures.found.1 k) (mapped_fails MessageStatement.a_message c.args.symbols.now _ _ (c.in_err-inner-in-Some-Message.ensures.read n l)))
+    rw (p.1, p.2) (λ n l. rw (message_in_room c.args.grammar n c.args.room _ _ _ left c.in-Some.ensures.found.1 k) (mapped_fails MessageStatement.a_message c.args.symbols.now _ _ (c.in_err-inner-in-Some-Message.ensures.read n l)))
 
 pub message_statement-returns-in_ok-inner-in-Some-Message-clause-read : goal.message_statement-returns-in_ok-inner-in-Some-Message-clause-read
 message_statement-returns-in_ok-inner-in-Some-Message-clause-read t c = λ n l.
     let k : message_kind (symbol_of c.in-Some.first.now.symbol) ≡ Some kind.Message = cc in
     let left : 0 < c.args.room = omega arith in
-    message_in_room n c.args.room _ _ _ left c.in-Some.ensures.found.1 k ∙ mapped_reads MessageStatement.a_message _ _ _ (c.in_ok-inner-in-Some-Message.ensures.read n l)
+    message_in_room c.args.grammar n c.args.room _ _ _ left c.in-Some.ensures.found.1 k ∙ mapped_reads MessageStatement.a_message _ _ _ (c.in_ok-inner-in-Some-Message.ensures.read n l)
 
 pub message_statement-returns-in_err-statement-in-Some-message_kind-clause-read : goal.message_statement-returns-in_err-statement-in-Some-message_kind-clause-read
 message_statement-returns-in_err-statement-in-Some-message_kind-clause-read t c =
     let p = err_from_is_err_and c.from_residual-in_err-statement-in-Some-message_kind.result c.from_residual-in_err-statement-in-Some-message_kind.ensures.1 in
     let k : message_kind (symbol_of c.in-Some.first.now.symbol) ≡ Some c.in-Some-message_kind.kind = cc in
     let plain : is_plain c.in-Some-message_kind.kind ≡ true = search rules in
-    rw (p.1, p.2) (λ n l. rw (plain_in_room n c.args.room _ _ _ c.in-Some-message_kind.kind c.in-Some.ensures.found.1 k plain) (c.in_err-statement-in-Some-message_kind.ensures.read (inner_in n c.args.room) n l))
+    rw (p.1, p.2) (λ n l. rw (plain_in_room c.args.grammar n c.args.room _ _ _ c.in-Some-message_kind.kind c.in-Some.ensures.found.1 k plain) (c.in_err-statement-in-Some-message_kind.ensures.read (inner_in c.args.grammar n c.args.room) n l))
 
 pub message_statement-returns-in_ok-statement-in-Some-message_kind-clause-read : goal.message_statement-returns-in_ok-statement-in-Some-message_kind-clause-read
 message_statement-returns-in_ok-statement-in-Some-message_kind-clause-read t c = λ n l.
     let k : message_kind (symbol_of c.in-Some.first.now.symbol) ≡ Some c.in-Some-message_kind.kind = cc in
     let plain : is_plain c.in-Some-message_kind.kind ≡ true = search rules in
-    plain_in_room n c.args.room _ _ _ c.in-Some-message_kind.kind c.in-Some.ensures.found.1 k plain ∙ c.in_ok-statement-in-Some-message_kind.ensures.read (inner_in n c.args.room) n l
+    plain_in_room c.args.grammar n c.args.room _ _ _ c.in-Some-message_kind.kind c.in-Some.ensures.found.1 k plain ∙ c.in_ok-statement-in-Some-message_kind.ensures.read (inner_in c.args.grammar n c.args.room) n l
 
 pub message_statement-returns-in-None-clause-read : goal.message_statement-returns-in-None-clause-read
 message_statement-returns-in-None-clause-read t c = λ n l.
     let k : message_kind (symbol_of c.in-Some.first.now.symbol) ≡ None = cc in
-    none_in_room n c.args.room _ _ _ c.in-Some.ensures.found.1 k
+    none_in_room c.args.grammar n c.args.room _ _ _ c.in-Some.ensures.found.1 k

@@ -15,9 +15,9 @@ decreases-message_body l = 3 * l.room + 1
 abbrev pub decreases-message_statement : goal.decreases-message_statement
 decreases-message_statement l = 3 * l.room
 
-abbrev pub invariant-message_body-loop-alloc : goal.invariant-message_body-loop-alloc
-invariant-message_body-loop-alloc l =
-    (front : List MessageStatement) × HoldsSaid l.parts front × HasRead is_closing (λ n. room_statement_reader n l.room) (mark_reader (codes "}")) l.symbols l.at front l.here
+abbrev pub invariant-message_body-loop-grammar : goal.invariant-message_body-loop-grammar
+invariant-message_body-loop-grammar l =
+    (front : List MessageStatement) × HoldsSaid l.parts front × HasRead is_closing (λ n. room_statement_reader l.grammar n l.room) (mark_reader (codes "}")) l.symbols l.at front l.here
 
-abbrev pub decreases-message_body-loop-alloc : goal.decreases-message_body-loop-alloc
-decreases-message_body-loop-alloc l = length l.symbols - l.here
+abbrev pub decreases-message_body-loop-grammar : goal.decreases-message_body-loop-grammar
+decreases-message_body-loop-grammar l = length l.symbols - l.here

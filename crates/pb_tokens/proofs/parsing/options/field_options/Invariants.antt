@@ -5,7 +5,7 @@ use Rattle.pb_tokens.proofs.SeparatedSteps.{HasRead}
 use Rattle.pb_tokens.proofs.parsing.options.field_options.Given as goal
 
 abbrev pub invariant-loop-alloc : goal.invariant-loop-alloc
-invariant-loop-alloc l = HasRead is_comma field_option_reader (mark_reader (codes ",")) l.symbols l.at l.options.items l.here
+invariant-loop-alloc l = HasRead is_comma (field_option_reader l.grammar) (mark_reader (codes ",")) l.symbols l.at l.options.items l.here
 
 abbrev pub decreases-loop-alloc : goal.decreases-loop-alloc
 decreases-loop-alloc l = length l.symbols - l.here

@@ -1,0 +1,136 @@
+-- The readers of blocks of `extend` and of ranges of extensions read them.
+use Rattle.std.proofs.Common.{◌≡◌, ℕ, List, [], ◌∷◌, ◌++◌, Bool, true, false, ◌||◌, codes, refl, ap, sym, subst, Option, Some, None, ◌⊎◌, inl, inr, ℤ}
+use Rattle.std.specs.Str.{bytes_eq}
+use Rattle.std.proofs.lemmas.Bool.{false≢true}
+use Rattle.std.proofs.lemmas.Slice.Eq.{bytes_eq-Decides}
+use Rattle.pb_decl.specs.Decls.{DeclaredField}
+use Rattle.pb_tokens.specs.declared.grammar.Grammar.{Grammar}
+use Rattle.pb_tokens.specs.declared.grammar.Grammar.TheVariants.{Strict, Proto3}
+use Rattle.pb_tokens.specs.Symbols.{Symbol, word, number, text, sign}
+use Rattle.pb_tokens.specs.Language.{Language, ◌▸◌, ◌or◌, Rules}
+use Rattle.pb_tokens.specs.Phrases.{keyword, mark, BeginsNot, Until, Listed, typename, message_range, assignment, value_end}
+use Rattle.pb_tokens.specs.Readers.Forms.{Reader, first_passes}
+use Rattle.pb_tokens.specs.Readers.Phrases.{is_comma, message_range_reader}
+use Rattle.pb_tokens.proofs.ReaderLaws.{Reads, IsStop}
+use Rattle.pb_tokens.proofs.Compose.{never, reads_mapped, reads_behind, reads_behind_so, reads_some, said_so}
+use Rattle.pb_tokens.proofs.Heads.{filled_front, stops_rest, front_of_one}
+use Rattle.pb_tokens.proofs.SymbolTests.{reads_mark, reads_keyword}
+use Rattle.pb_tokens.proofs.KindLemmas.{first_kind, ByKind, Offers, kinds_fail, kinds_filled, reads_kinds}
+use Rattle.pb_tokens.proofs.NameLaws.{reads_typename}
+use Rattle.pb_tokens.proofs.OptionLaws.{reads_listed, stops_listed, mark_stops, reads_value_end}
+use Rattle.pb_tokens.proofs.RangeLaws.{reads_message_range, message_range_first, begins_bound, is_to}
+use Rattle.pb_source.specs.declared.kind.Label.TheVariants.{Unlabelled, Repeated, Optional}
+use Rattle.pb_source.specs.declared.kind.ExtendKind.{ExtendKind}
+use Rattle.pb_source.specs.declared.kind.ExtendKind.TheVariants as kind
+use Rattle.pb_source.specs.Grammar.{field, beyond_strict, extended_field, extension, extend, extensions}
+use Rattle.pb_source.specs.Readers.Lines.{is_closing, dropped, extend_kind, extension_line, extension_reader, extend_reader, extensions_reader}
+use Rattle.pb_source.proofs.StatementKinds.{kind_other, not_in_table, kind_one, kind_then, reads_braced}
+use Rattle.pb_source.proofs.FieldLaws.{reads_field, begins_type, field_first}
+use Rattle.pb_source.proofs.BodyLaws.{Silent, not_empty_then, closing_of_none}
+
+-- ---- extensions
+
+abbrev label_words : List (List ℕ × Option ExtendKind)
+label_words = (codes "repeated", Some kind.Repeated) ∷ (codes "optional", Some kind.Optional) ∷ (codes "required", None) ∷ []
+
+module _ (grammar : Grammar) where
+  abbrev Line : ExtendKind → Rules → Unit {0} → Language
+  Line kind.Empty rules u ts = mark ";" ts
+  Line kind.Repeated rules u ts = (f : DeclaredField) × (keyword "repeated" ▸ field grammar rules Repeated f) ts
+  Line kind.Optional rules u ts = (f : DeclaredField) × (keyword "optional" ▸ field grammar rules Optional f) ts
+  Line kind.Field rules u ts = (f : DeclaredField) × field grammar rules Unlabelled f ts
+
+  offers : (n : ℕ) (k : ExtendKind) → Offers n never (Line k) (extension_line grammar n k)
+  offers n kind.Empty = reads_mark (codes ";")
+  offers n kind.Repeated = reads_some (reads_behind {L = λ rules. keyword "repeated"} (reads_keyword (codes "repeated")) (reads_field grammar n Repeated))
+  offers n kind.Optional = reads_some (reads_behind {L = λ rules. keyword "optional"} (reads_keyword (codes "optional")) (reads_field grammar n Optional))
+  offers n kind.Field = reads_some (reads_field grammar n Unlabelled)
+
+  filled : (k : ExtendKind) (rules : Rules) (u : Unit {0}) → Line k rules u [] → ⊥
+  filled kind.Empty rules u d = cc d
+  filled kind.Repeated rules u d = not_empty_then (word (codes "repeated")) d.1
+  filled kind.Optional rules u d = not_empty_then (word (codes "optional")) d.1
+  filled kind.Field rules u d = false≢true (field_first grammar rules Unlabelled d.0 [] d.1)
+
+  begins_field : (c : List Symbol) → BeginsNot ("repeated" ∷ "optional" ∷ "required" ∷ []) c → first_passes begins_type c ≡ true → first_kind extend_kind c ≡ Some kind.Field
+  begins_field [] b h = absurd (false≢true h)
+  begins_field (word w ∷ c) b h = kind_other label_words (Some kind.Field) w b
+  begins_field (sign w ∷ c) b h = ap extend_kind (ap sign ((bytes_eq-Decides w (codes ".")).0 h))
+  begins_field (number w ∷ c) b h = absurd (false≢true h)
+  begins_field (text w ∷ c) b h = absurd (false≢true h)
+
+  field_begins : (c : List Symbol) → first_kind extend_kind c ≡ Some kind.Field → BeginsNot ("repeated" ∷ "optional" ∷ "required" ∷ []) c
+  field_begins [] h = tt
+  field_begins (word w ∷ c) h = not_in_table label_words kind.Field w ((λ e. cc e), ((λ e. cc e), ((λ e. cc e), tt))) h
+  field_begins (number w ∷ c) h = tt
+  field_begins (text w ∷ c) h = tt
+  field_begins (sign w ∷ c) h = tt
+
+  to_extension : (rules : Rules) (u : Unit {0}) (c : List Symbol) → ByKind extend_kind Line rules u c → extension grammar rules u c
+  to_extension rules u c (kind.Empty, h, d) = inl d
+  to_extension rules u c (kind.Repeated, h, (f, d)) = inr (f, inl d)
+  to_extension rules u c (kind.Optional, h, (f, d)) = inr (f, inr (inl d))
+  to_extension rules u c (kind.Field, h, (f, d)) = inr (f, inr (inr (field_begins c h, d)))
+
+  of_extension : (rules : Rules) (u : Unit {0}) (c : List Symbol) → extension grammar rules u c → ByKind extend_kind Line rules u c
+  of_extension rules u c (inl d) = (kind.Empty, kind_one extend_kind (sign (codes ";")) c d, d)
+  of_extension rules u c (inr (f, inl d)) = (kind.Repeated, kind_then extend_kind (word (codes "repeated")) c d, (f, d))
+  of_extension rules u c (inr (f, inr (inl d))) = (kind.Optional, kind_then extend_kind (word (codes "optional")) c d, (f, d))
+  of_extension rules u c (inr (f, inr (inr (b, d)))) = (kind.Field, begins_field c b (field_first grammar rules Unlabelled f c d), (f, d))
+
+  reads_extension : (n : ℕ) → Reads n never (extension grammar) (extension_reader grammar n)
+  unfolding extension_reader
+  reads_extension n =
+      said_so {Q = extension grammar}
+      (reads_kinds n never extend_kind Line (extension_line grammar n) (offers n) filled (λ rules. (tt, sign (codes ";") ∷ [], (kind.Empty, refl, refl)))) to_extension of_extension
+
+  pub reads_extend : (n : ℕ) → Reads n never (λ rules (u : Unit {0}). extend grammar rules) (extend_reader grammar n)
+  unfolding extend_reader
+  reads_extend n =
+      said_so {Q = λ rules (u : Unit {0}). extend grammar rules}
+      (reads_behind {L = λ rules. keyword "extend"} (reads_keyword (codes "extend"))
+      (reads_behind_so {L = λ rules ts. (t : List ℕ) × typename t ts} (reads_some (reads_typename n))
+      (reads_some (reads_braced (reads_extension n)
+      (λ rules u c rest d. kinds_fail extend_kind Line is_closing (closing_of_none extend_kind refl) rules u c rest (of_extension rules u c d))
+      (λ rules u c d. kinds_filled extend_kind Line rules u c (of_extension rules u c d))))
+      (λ rules u c rest d s. mark_stops {S = Until (extension grammar rules) (mark "}") d.0} (codes "{") c rest refl d.1)))
+      (λ rules u c d. (d.3.2.0, d.3.3.0, (d.0, d.1, d.2, (d.3.0, d.3.1, d.3.2.1, d.3.3.1, d.3.4), d.4)))
+      (λ rules u c d. (d.2.0, d.2.1, d.2.2, (d.2.3.0, d.2.3.1, (d.0, d.2.3.2), (d.1, d.2.3.3), d.2.3.4), d.2.4))
+
+  -- a line that the strict grammar has not
+  abbrev pub Beyond : {A : Type 0} → A → (Rules → Language) → Rules → A → Language
+  Beyond v L = Silent v (λ rules. beyond_strict grammar (L rules))
+
+  -- ---- ranges of extensions
+
+  ends_ranges : (rules : Rules) (c rest : List Symbol) → value_end grammar rules c → IsStop (λ s. is_to s || is_comma s) (c ++ rest)
+  ends_ranges rules c rest (inl d) = stops_listed is_to (codes ";") c rest refl refl d
+  ends_ranges rules c rest (inr (us, d)) =
+      stops_rest (λ s. is_to s || is_comma s) (c ++ rest)
+      (front_of_one {S = Listed (λ _. assignment grammar rules) us ▸ mark "]" ▸ mark ";"} (λ s. is_to s || is_comma s) (sign (codes "[")) c rest d)
+
+  pub reads_extensions : (n : ℕ) → Reads n never (λ rules (u : Unit {0}). extensions grammar rules) (extensions_reader grammar n)
+  unfolding extensions_reader
+  reads_extensions n =
+      said_so {Q = λ rules (u : Unit {0}). extensions grammar rules}
+      (reads_behind {L = λ rules. keyword "extensions"} (reads_keyword (codes "extensions"))
+      (reads_behind_so {L = λ rules ts. (rs : List (ℤ × ℤ)) × Listed (message_range rules) rs ts}
+      (reads_some (reads_listed is_to (reads_message_range n) refl (λ rules r c d. filled_front begins_bound c (message_range_first rules r c d)))) (reads_value_end grammar n)
+      (λ rules u c rest d s. ends_ranges rules c rest d)))
+      (λ rules u c d. (d.3.2.0, (d.0, d.1, d.2, (d.3.0, d.3.1, d.3.2.1, d.3.3, d.3.4), d.4)))
+      (λ rules u c d. (d.1.0, d.1.1, d.1.2, (d.1.3.0, d.1.3.1, (d.0, d.1.3.2), d.1.3.3, d.1.3.4), d.1.4))
+
+-- what all of proto3 has is offered there, and nothing in the strict grammar
+pub offers_beyond : {A : Type 0} {n : ℕ} (grammar : Grammar) (v : A) (L : Rules → Language) (p : Reader (Unit {0})) → Reads n never (λ rules (u : Unit {0}). L rules) p
+    → Offers n never (Beyond grammar v L) (dropped grammar v p)
+offers_beyond Strict v L p r = λ rules s c d. d.2
+offers_beyond {A} {n} Proto3 v L p r = reads_mapped {A = Unit {0}} {R = λ rules u. L rules} (λ _. v) r
+
+pub beyond_filled : {A : Type 0} (grammar : Grammar) (v : A) (L : Rules → Language) (rules : Rules) (s : A) → (L rules [] → ⊥) → Beyond grammar v L rules s [] → ⊥
+beyond_filled Strict v L rules s none d = d.2
+beyond_filled Proto3 v L rules s none d = none d.2
+
+pub beyond_kind : {K : Type 0} (grammar : Grammar) (kind : Symbol → Option K) (k : K) (L : Language) (c : List Symbol) → (L c → first_kind kind c ≡ Some k)
+    → beyond_strict grammar L c → first_kind kind c ≡ Some k
+beyond_kind Strict kind k L c f d = absurd d
+beyond_kind Proto3 kind k L c f d = f d

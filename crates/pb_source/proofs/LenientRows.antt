@@ -1,0 +1,151 @@
+-- Small files of all of proto3 by their symbols: what they declare, or their fault, worked out by the rules.
+use Prim.Native.String.{String}
+use Rattle.std.proofs.Common.{◌≡◌, ℕ, zero, suc, ◌≤◌, List, [], ◌∷◌, ◌++◌, codes, refl, Option, Some, None, Err, lit≤, arith, false, true, pos}
+use Rattle.pb_decl.specs.Decls.{DeclaredField, DeclaredFile, message as message_decl, no_messages, more_messages}
+use Rattle.pb_decl.specs.declared.decl.TypeCode.TheVariants as code
+use Rattle.pb_tokens.specs.declared.fault.SourceCause.TheVariants.{Unexpected}
+use Rattle.pb_tokens.specs.declared.rule.Rule.{Rule}
+use Rattle.pb_tokens.specs.declared.grammar.Grammar.TheVariants.{Proto3}
+use Rattle.pb_tokens.specs.Symbols.{Symbol, word, number, text, sign}
+use Rattle.pb_tokens.specs.Language.{all_rules}
+use Rattle.pb_tokens.specs.Said.{a_scalar}
+use Rattle.pb_tokens.specs.Readers.Forms.{Outcome}
+use Rattle.pb_tokens.specs.Readers.Phrases.{name_reader, fullname_reader, typename_reader, limited_reader, signed_reader, plus_or_minus_reader, sign_reader, exponent_end_reader, scaled_reader, fraction_reader, begun_end_reader, numeral_reader, aggregate_reader, signed_value_reader, unquoted_reader, constant_reader, part_reader, optname_reader, assignment_reader, option_reader, setting_reader, field_option_reader, options_reader, field_end_reader, value_end_reader, type_reader, key_reader, range_reader, utf8_reader}
+use Rattle.pb_tokens.proofs.ToEnd.{always}
+use Rattle.pb_source.specs.declared.kind.Label.TheVariants.{Unlabelled, Repeated}
+use Rattle.pb_source.specs.Meaning.{FileStatement, MessageStatement, field_of, message_of}
+use Rattle.pb_source.specs.Grammar.{file, FileSyntaxIn}
+use Rattle.pb_source.specs.SyntaxFault.{SyntaxFaultIn}
+use Rattle.pb_source.specs.Readers.Lines.{field_tail_reader, field_reader, map_tail_reader, dotted_reader, of_map_reader, map_reader, oneof_statement_reader, oneof_reader, reserved_reader, value_reader, enum_statement_reader, enum_reader, extension_reader, extend_reader, extensions_reader, message_statement_reader, message_line_reader, last_statement_reader, room_statement_reader, streamed_reader, method_statement_reader, method_end_reader, parameter_reader, method_reader, service_statement_reader, service_reader, access_reader, import_reader, package_reader, file_statement_reader, syntax_reader, file_reader}
+use Rattle.pb_source.proofs.FaultLemmas.{refused_so, read_words}
+use Rattle.pb_source.proofs.FileLaws.{reads_file}
+
+abbrev w : String → Symbol
+w s = word (codes s)
+
+abbrev m : String → Symbol
+m s = sign (codes s)
+
+abbrev d : String → Symbol
+d s = number (codes s)
+
+abbrev proto3 : List Symbol
+proto3 = w "syntax" ∷ m "=" ∷ text (codes "proto3") ∷ m ";" ∷ []
+
+-- the reader of files, with those of its lines
+opened : ℕ → List Symbol → Outcome (List FileStatement)
+unfolding
+    name_reader fullname_reader typename_reader limited_reader signed_reader plus_or_minus_reader sign_reader exponent_end_reader scaled_reader fraction_reader begun_end_reader
+    numeral_reader aggregate_reader signed_value_reader unquoted_reader constant_reader part_reader optname_reader assignment_reader option_reader setting_reader
+    field_option_reader options_reader field_end_reader value_end_reader type_reader key_reader field_tail_reader field_reader map_tail_reader dotted_reader of_map_reader map_reader
+    oneof_statement_reader oneof_reader range_reader utf8_reader reserved_reader value_reader enum_statement_reader enum_reader extension_reader extend_reader extensions_reader
+    message_statement_reader message_line_reader last_statement_reader room_statement_reader streamed_reader method_statement_reader method_end_reader parameter_reader method_reader
+    service_statement_reader service_reader access_reader import_reader package_reader file_statement_reader syntax_reader file_reader
+opened n ts = file_reader Proto3 n all_rules ts
+
+abbrev sucs : ℕ → ℕ → ℕ
+sucs zero n = n
+sucs (suc k) n = suc (sucs k n)
+
+at_least : (P : ℕ → Type 0) (k : ℕ) → ((n : ℕ) → P (sucs k n)) → (n : ℕ) → k ≤ n → P n
+at_least P zero f n l = f n
+at_least P (suc k) f zero l = absurd (omega arith)
+at_least P (suc k) f (suc n) l = at_least (λ n. P (suc n)) k f n (omega arith)
+
+abbrev empty_file : DeclaredFile
+empty_file = record {
+  name = codes "m.proto";
+  package_name = [];
+  imports = [];
+  public_indexes = [];
+  messages = no_messages;
+  enums = [];
+  services = [];
+  is_proto2 = false;
+}
+
+-- option (a.b).c = -1.5e-3;
+abbrev custom : List Symbol
+custom = w "option" ∷ m "(" ∷ w "a" ∷ m "." ∷ w "b" ∷ m ")" ∷ m "." ∷ w "c" ∷ m "=" ∷ m "-" ∷ d "1" ∷ m "." ∷ d "5e" ∷ m "-" ∷ d "3" ∷ m ";" ∷ []
+
+a_custom_option : FileSyntaxIn Proto3 (codes "m.proto") (proto3 ++ custom) empty_file
+unfolding opened
+a_custom_option =
+    (FileStatement.nothing_said ∷ [], read_words always (file Proto3) (file_reader Proto3) (reads_file Proto3) (proto3 ++ custom) (FileStatement.nothing_said ∷ []) 25 (lit≤ tt) refl, refl)
+
+-- option a = { b [ < > ] };
+abbrev in_braces : List Symbol
+in_braces = w "option" ∷ w "a" ∷ m "=" ∷ m "{" ∷ w "b" ∷ m "[" ∷ m "<" ∷ m ">" ∷ m "]" ∷ m "}" ∷ m ";" ∷ []
+
+an_aggregate : FileSyntaxIn Proto3 (codes "m.proto") (proto3 ++ in_braces) empty_file
+unfolding opened
+an_aggregate =
+    (FileStatement.nothing_said ∷ [], read_words always (file Proto3) (file_reader Proto3) (reads_file Proto3) (proto3 ++ in_braces) (FileStatement.nothing_said ∷ []) 20 (lit≤ tt) refl, refl)
+
+-- extend .X { int32 a = 1; repeated int32 b = 2; ; }
+abbrev block : List Symbol
+block =
+    w "extend" ∷ m "." ∷ w "X" ∷ m "{" ∷ w "int32" ∷ w "a" ∷ m "=" ∷ d "1" ∷ m ";" ∷ w "repeated" ∷ w "int32" ∷ w "b" ∷ m "=" ∷ d "2" ∷ m ";" ∷ m ";" ∷ m "}" ∷ []
+
+a_block : FileSyntaxIn Proto3 (codes "m.proto") (proto3 ++ block) empty_file
+unfolding opened
+a_block = (FileStatement.nothing_said ∷ [], read_words always (file Proto3) (file_reader Proto3) (reads_file Proto3) (proto3 ++ block) (FileStatement.nothing_said ∷ []) 25 (lit≤ tt) refl, refl)
+
+-- message M { extensions 5 to max [a = 1]; repeated int32 b = 1 [(packed) = 1.5, packed = true]; }
+abbrev said : List Symbol
+said =
+    w "message" ∷ w "M" ∷ m "{" ∷ w "extensions" ∷ d "5" ∷ w "to" ∷ w "max" ∷ m "[" ∷ w "a" ∷ m "=" ∷ d "1" ∷ m "]" ∷ m ";"
+    ∷ w "repeated" ∷ w "int32" ∷ w "b" ∷ m "=" ∷ d "1" ∷ m "[" ∷ m "(" ∷ w "packed" ∷ m ")" ∷ m "=" ∷ d "1" ∷ m "." ∷ d "5" ∷ m "," ∷ w "packed" ∷ m "=" ∷ w "true" ∷ m "]" ∷ m ";"
+    ∷ m "}" ∷ []
+
+abbrev packed_field : DeclaredField
+packed_field = field_of Repeated (a_scalar code.Int32) (codes "b") 1 (Some true)
+
+abbrev declared : List FileStatement
+declared = FileStatement.a_message (message_of (codes "M") (MessageStatement.nothing_said ∷ MessageStatement.a_field packed_field ∷ [])) ∷ []
+
+packed_alone_counts : FileSyntaxIn Proto3 (codes "m.proto") (proto3 ++ said) (record {
+  name = codes "m.proto";
+  package_name = [];
+  imports = [];
+  public_indexes = [];
+  messages = more_messages
+      (message_decl (record { name = codes "M"; fields = packed_field ∷ []; enums = []; oneofs = []; reserved = []; reserved_names = []; is_entry = false }) no_messages) no_messages;
+  enums = [];
+  services = [];
+  is_proto2 = false;
+})
+unfolding opened
+packed_alone_counts = (declared, read_words always (file Proto3) (file_reader Proto3) (reads_file Proto3) (proto3 ++ said) declared 45 (lit≤ tt) refl, refl)
+
+-- ---- faults
+
+abbrev Refuses : List Symbol → List Symbol → Option Rule → ℕ → Type 0
+Refuses ts rest why n = file_reader Proto3 n all_rules ts ≡ Err (rest, why)
+
+-- option a = { [ }
+abbrev unbalanced : List Symbol
+unbalanced = proto3 ++ w "option" ∷ w "a" ∷ m "=" ∷ m "{" ∷ m "[" ∷ m "}" ∷ []
+
+another_bracket : SyntaxFaultIn Proto3 unbalanced 9 Unexpected
+unfolding opened
+another_bracket =
+    refused_so always (file Proto3) (file_reader Proto3) (reads_file Proto3) unbalanced (m "}" ∷ []) None (λ e. cc e) (at_least (Refuses unbalanced (m "}" ∷ []) None) 10 (λ n. refl))
+
+-- option a = 08; is no integer, and no floating literal without its point
+abbrev pointless : List Symbol
+pointless = proto3 ++ w "option" ∷ w "a" ∷ m "=" ∷ d "08" ∷ m ";" ∷ []
+
+no_point : SyntaxFaultIn Proto3 pointless 8 Unexpected
+unfolding opened
+no_point =
+    refused_so always (file Proto3) (file_reader Proto3) (reads_file Proto3) pointless (m ";" ∷ []) None (λ e. cc e) (at_least (Refuses pointless (m ";" ∷ []) None) 9 (λ n. refl))
+
+-- extend X { required
+abbrev labelled : List Symbol
+labelled = proto3 ++ w "extend" ∷ w "X" ∷ m "{" ∷ w "required" ∷ []
+
+no_label : SyntaxFaultIn Proto3 labelled 7 Unexpected
+unfolding opened
+no_label =
+    refused_so always (file Proto3) (file_reader Proto3) (reads_file Proto3) labelled (w "required" ∷ []) None (λ e. cc e) (at_least (Refuses labelled (w "required" ∷ []) None) 8 (λ n. refl))

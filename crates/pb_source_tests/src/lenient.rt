@@ -1,0 +1,166 @@
+//! Sources of all of proto3: what is read and dropped, and the faults of it.
+
+use pb_source::{parse, parse_lenient};
+use std::alloc::Global;
+use std::test::Fail;
+
+/// A row: a source behind its syntax and a blank, and another source that declares the same to `protoc`, with options that say nothing left out,
+/// and which the strict grammar takes; or the byte and the cause of the fault.
+const ROWS: &str = "
+option (a) = 1; => 
+option (a.b).c.(.d.e) = -1.5; => 
+option a = 1.; option b = 1.e5; option c = .5E+3; option d = +1e-3; option e = -.5; option f = 08.5; option g = inf; option h = -nan; option i = 1e5; option j = 1.5e5; option k = 1.e-5; => 
+option (a) = { b: 1 c { d: [1, 2] e < f: 'x' > } -1.5 { } }; => 
+option a = {}; => 
+message M { repeated int32 a = 1 [(x) = 1, packed = true, (y).z = {a: [b]}]; } => message M { repeated int32 a = 1 [packed = true]; }
+message M { repeated int32 a = 1 [(packed) = 1.5, (packed).b = false]; } => message M { repeated int32 a = 1; }
+message M { map<int32, string> a = 1 [(x) = {}]; option (y) = 1.5; oneof o { option (z) = 1; int32 b = 2 [(x) = -inf]; } } => message M { map<int32, string> a = 1; oneof o { int32 b = 2; } }
+enum E { option (x) = {}; option allow_alias = true; A = 0 [(y) = {}]; B = 0 [(y) = 0x1F, z = .5]; } => enum E { option allow_alias = true; A = 0; B = 0; }
+enum E { option (allow_alias) = 5; A = 0; } => enum E { A = 0; }
+message M { } service S { option (x) = 1e-3; rpc A (M) returns (M) { option (google.api.http) = { get: '/v1/{name=*}' additional_bindings { } }; } } => message M { } service S { rpc A (M) returns (M); }
+extend google.protobuf.FieldOptions { string s = 50000; repeated int32 t = 50001 [(u) = 1]; optional .a.B v = 50002; ; } => 
+extend .X { } => 
+message M { extend X { int32 y = 1; } int32 a = 1; extensions 100 to 199, 300 to max [declaration = {number: 100}, verification = UNVERIFIED]; extensions 5; } => message M { int32 a = 1; }
+option a = 1x; => 30 Unexpected
+option a = 08; => 32 Unexpected
+option a = 1e; => 32 Unexpected
+option a = 1ee; => 30 Unexpected
+option a = 1e5.5; => 33 Unexpected
+option a = 0x1.5; => 33 Unexpected
+option a = 0x; => 30 Unexpected
+option a = 1.5.5; => 33 Unexpected
+option a = 1.f; => 32 Unexpected
+option a = .e5; => 31 Unexpected
+option a = 1e-; => 33 Unexpected
+option a = --1; => 31 Unexpected
+option a = 'x' {}; => 34 Unexpected
+option a = { b: [1, 2 }; => 41 Unexpected
+option a = { < ] }; => 34 Unexpected
+option a = { } }; => 34 Unexpected
+option a = [1]; => 30 Unexpected
+option a = {; => 32 Unexpected
+option (a = 1; => 29 Unexpected
+option () = 1; => 27 Unexpected
+option (a)b = 1; => 29 Unexpected
+option (a.) = 1; => 29 Unexpected
+extend X { required int32 a = 1; } => 30 Unexpected
+extend X { map<int32, int32> a = 1; } => 33 Unexpected
+extend { } => 26 Unexpected
+extend X { int32 a = 2147483648; } => 40 NumberTooLarge
+extend X  => 28 Unexpected
+message M { extensions; } => 41 Unexpected
+message M { extensions 1 [];  } => 45 Unexpected
+message M { extensions 2147483648; } => 42 NumberTooLarge
+message M { required int32 a = 1; } => 31 Unexpected
+message M { repeated int32 a = 1 [packed = 1.5]; } => 62 Unexpected
+message M { int32 a = 1 [default = 1]; } => 44 Unexpected
+enum E { option allow_alias = {}; } => 49 Unexpected
+service S { extend X { } } => 31 Unexpected
+enum E { extend = 1; extensions = 2; extend X { } } => 63 Unexpected
+";
+
+/// Whether a row's source declares what the other one does, or has the fault that it tells, or this one.
+fn holds(alloc: Global, row: &str, otherwise: &str) -> Result<bool, Fail> {
+    let (written, wanted) = row.split_once(" => ").ok_or("no source")?;
+    let source = format!(in alloc; "syntax = \"proto3\"; {written}")?;
+    let same = format!(in alloc; "syntax = \"proto3\"; {wanted}")?;
+    match parse_lenient(alloc, "m.proto", source.as_bytes()) {
+        Ok(decl) => match parse(alloc, "m.proto", same.as_bytes()) {
+            Ok(other) => Ok(decl == other),
+            Err(fault) => {
+                let told = format!(in alloc; "{} {}", fault.byte, fault.cause)?;
+                Ok(told.as_str() == otherwise)
+            }
+        },
+        Err(fault) => {
+            let told = format!(in alloc; "{} {}", fault.byte, fault.cause)?;
+            Ok(told.as_str() == wanted || told.as_str() == otherwise)
+        }
+    }
+}
+
+#[test]
+fn sources(rt: HostRuntime) -> Result<(), Fail> {
+    for row in ROWS.lines() {
+        assert!(rt; row.is_empty() || holds(rt.alloc(), row, "")?, "{row}");
+    }
+    Ok(())
+}
+
+/// Where an allocation is refused, which `.ci/growths` does, that is told at byte 0, or the answer stands.
+#[test]
+fn allocations(rt: HostRuntime) -> Result<(), Fail> {
+    for row in ROWS.lines() {
+        assert!(rt;
+            row.is_empty() || holds(rt.alloc(), row, "0 Memory")?,
+            "{row}"
+        );
+    }
+    Ok(())
+}
+
+/// What a source is refused with; nothing where it is taken.
+fn told(alloc: Global, source: &[u8]) -> Result<String, Fail> {
+    match parse_lenient(alloc, "m.proto", source) {
+        Ok(_) => Ok(String::new(alloc)),
+        Err(fault) => Ok(format!(in alloc; "{} {}", fault.byte, fault.cause)?),
+    }
+}
+
+#[test]
+fn other_syntax(rt: HostRuntime) -> Result<(), Fail> {
+    let alloc = rt.alloc();
+    assert!(rt; told(alloc, b"")?.as_str() == "0 NotProto3");
+    assert!(rt; told(alloc, b"syntax = \"proto2\";")?.as_str() == "9 NotProto3");
+    Ok(())
+}
+
+/// This sign 2^18 times.
+fn many(alloc: Global, sign: &str) -> Result<String, Fail> {
+    let mut text = String::from_str(alloc, sign)?;
+    for _ in 0..18 {
+        let half = String::from_str(alloc, text.as_str())?;
+        text.push_str(&half)?;
+    }
+    Ok(text)
+}
+
+/// Many brackets are read in linear time, and take no more stack than one.
+#[test]
+fn deep_aggregates(rt: HostRuntime) -> Result<(), Fail> {
+    let alloc = rt.alloc();
+    let mut source = String::from_str(alloc, "syntax = \"proto3\"; option a = ")?;
+    source.push_str(&many(alloc, "{")?)?;
+    assert!(rt; told(alloc, source.as_bytes())?.as_str() == "262174 Unexpected");
+    source.push_str(&many(alloc, "}")?)?;
+    source.push(';')?;
+    assert!(rt; told(alloc, source.as_bytes())?.as_str() == "");
+    source.push('}')?;
+    assert!(rt; told(alloc, source.as_bytes())?.as_str() == "524319 Unexpected");
+    Ok(())
+}
+
+/// A source of all kinds of lines, whose prefixes are refused or taken.
+const WHOLE: &str =
+    "syntax = \"proto3\"; package p; import 'a'; option (x).y = { a: 1 b { c: [ 1.5e-3, 'd' ] } }; extend .X { repeated int32 a = 1 [(y) = -.5]; }
+message M { extensions 4 to max [z = 1.]; oneof o { M m = 1 [(z) = inf]; } map<string, M> n = 2; extend X { M m = 3; } }
+enum E { option (w) = {}; A = 0 [(v) = 1e5]; } service S { rpc A (M) returns (stream M) { option (u) = { get: '/' }; } }";
+
+/// Whether a prefix of the source is taken, or is refused no further than its end.
+fn prefix_holds(alloc: Global, len: usize) -> Result<bool, Fail> {
+    let bytes = WHOLE.as_bytes();
+    let front = bytes.get(..len).ok_or("no prefix")?;
+    match parse_lenient(alloc, "m.proto", front) {
+        Ok(_) => Ok(true),
+        Err(fault) => Ok(fault.byte <= len as u64),
+    }
+}
+
+#[test]
+fn prefixes(rt: HostRuntime) -> Result<(), Fail> {
+    for len in 0..WHOLE.len() {
+        assert!(rt; prefix_holds(rt.alloc(), len)?, "{len}");
+    }
+    assert!(rt; told(rt.alloc(), WHOLE.as_bytes())?.as_str() == "");
+    Ok(())
+}
