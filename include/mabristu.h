@@ -31,7 +31,7 @@ extern "C" {
 #endif
 
 /* What this header says. A library that answers another number has other calls. */
-#define MB_INTERFACE 2
+#define MB_INTERFACE 3
 uint32_t mb_interface(void);
 
 /* What a call answers. Numbers from 50 on are the causes why a set, a source or declarations are refused, as docs/ERRORS.md lists them. */
@@ -44,6 +44,7 @@ enum {
     MB_PART = 5,        /* the bytes end before their frame does: come again with more */
     MB_ABSENT = 6,      /* the type has no such field; the message has nothing at the place, or nothing that is asked for there */
     MB_BAD_PLACE = 7,   /* the steps say no place */
+    MB_BAD_VALUE = 8,   /* the value is none: of no kind, too large for its kind, or its string is not given or not UTF-8 */
     MB_FAULT = 13,      /* the bytes have a fault, which is reported */
     MB_MEMORY = 14,     /* memory ran out: the same call may be made again */
     MB_TOO_LARGE = 31   /* what would be written has more than MB_MAX_BYTES bytes */
@@ -313,6 +314,39 @@ uint32_t mb_message_fields(struct mb_message *message, const struct mb_value *pl
  * written as the buffer holds. */
 uint32_t mb_message_key(struct mb_message *message, const struct mb_value *place, size_t place_len, const struct mb_bytes *keys, size_t keys_len,
                         size_t index, struct mb_value *key, uint8_t *out, size_t out_len);
+
+/* Changes at a place. The value is given as mb_message_get reports one: of the kind of the field's values, or also of the kind that struct mb_field has.
+ * A string, or bytes, are those of the index that the number says, among the strings, where keys of the place are too. MB_MESSAGE is an empty message,
+ * whose number is not read: set, push or insert it, and then change what is in it. For example lines[2].price = 9: {MB_FIELD, 3}, {MB_INDEX, 2},
+ * {MB_FIELD, 1}, and the value {MB_INT32, 9}; and name = "pen": {MB_FIELD, 2}, and the value {MB_STRING, 0}, with the one string "pen".
+ *
+ * MB_ABSENT: the message whose field is to be changed is not there, or the place does not end as the call wants it. MB_BAD_PLACE as mb_message_get has
+ * it. MB_BAD_VALUE: the value is of no kind, too large for its kind, or its string is not among the strings or not UTF-8. And the numbers of causes why
+ * the message refuses a change: 21, the type has no such field; 22, the value or the key is of another kind; 23, the call is for a field of another
+ * shape, as a push to a field of one value; 27, the message would nest more than 100 levels deep; 30, a closed enum has no such value. Where the answer
+ * is another than MB_DONE the message is as it was. */
+
+/* Sets a field of one value, which the place ends at. Another member of its oneof is cleared. The default value clears a field without presence. */
+uint32_t mb_message_set(struct mb_message *message, const struct mb_value *place, size_t place_len, const struct mb_bytes *strings, size_t strings_len,
+                        const struct mb_value *value);
+
+/* Clears the field that the place ends at, of whichever shape. One that is not set stays so. */
+uint32_t mb_message_clear(struct mb_message *message, const struct mb_value *place, size_t place_len, const struct mb_bytes *strings, size_t strings_len);
+
+/* Puts a value at the end of the list that the place ends at, which may be empty. */
+uint32_t mb_message_push(struct mb_message *message, const struct mb_value *place, size_t place_len, const struct mb_bytes *strings, size_t strings_len,
+                         const struct mb_value *value);
+
+/* Puts a value under the key that the place ends at, after the map, which may be empty. What was under the key is replaced. */
+uint32_t mb_message_insert(struct mb_message *message, const struct mb_value *place, size_t place_len, const struct mb_bytes *strings,
+                           size_t strings_len, const struct mb_value *value);
+
+/* Removes the entry of the key that the place ends at, after the map. Where there is none nothing changes. */
+uint32_t mb_message_remove(struct mb_message *message, const struct mb_value *place, size_t place_len, const struct mb_bytes *strings, size_t strings_len);
+
+/* Drops the unknown records of the message at the place, but not of messages in it. */
+uint32_t mb_message_drop_unknown(struct mb_message *message, const struct mb_value *place, size_t place_len, const struct mb_bytes *strings,
+                                 size_t strings_len);
 
 /* Frees what a handle holds. One that holds nothing stays as it is. */
 void mb_message_free(struct mb_message *message);

@@ -3,6 +3,7 @@
  * the first number of growths with which it answers as with ample memory. */
 #include "mabristu.h"
 
+#include <stdbool.h>
 #include <stdio.h>
 #include <stdlib.h>
 #include <string.h>
@@ -117,6 +118,53 @@ static uint32_t message_read(struct told *told) { return mb_message_read(&held, 
 static uint32_t message_fields(struct told *told) { return mb_message_fields(&held, article, 2, NULL, 0, told->numbers, 16, &told->size); }
 static uint32_t message_key(struct told *told) { return mb_message_key(&held, entry, 1, NULL, 0, 1, &told->value, told->out, sizeof told->out); }
 static uint32_t message_no_key(struct told *told) { return mb_message_key(&held, entry, 1, NULL, 0, 2, &told->value, told->out, sizeof told->out); }
+/* Makes a change in a message that was decoded for it with ample memory. A change that is refused has to leave the message as it was: then it answers 99. */
+static uint32_t changed(uint32_t (*change)(struct mb_message *))
+{
+    static struct told none;
+    static uint8_t before[4096], after[4096];
+    struct mb_message work = {0};
+    size_t before_len = 0, after_len = 0;
+    long given = granted, made_before = asked;
+    granted = 1 << 30;
+    uint32_t answer = mb_message_decode(&pool, type, message.at, message.len, LIMITS, &work, &none.fault, none.path, 0);
+    if (answer == MB_DONE)
+        answer = mb_message_encode(&work, before, sizeof before, &before_len);
+    granted = given;
+    asked = made_before;
+    uint32_t changed = change(&work);
+    made_before = asked;
+    granted = 1 << 30;
+    if (answer == MB_DONE)
+        answer = mb_message_encode(&work, after, sizeof after, &after_len);
+    mb_message_free(&work);
+    asked = made_before;
+    bool is_same = before_len == after_len && memcmp(before, after, after_len) == 0;
+    return answer != MB_DONE || (changed != MB_DONE && !is_same) || (changed == MB_DONE && is_same) ? 99 : changed;
+}
+static const struct mb_value address_of[] = {{MB_FIELD, 6}, {MB_FIELD, 1}}, bytes_of[] = {{MB_FIELD, 6}, {MB_FIELD, 2}};
+static const struct mb_value new_entry[] = {{MB_FIELD, 4}, {MB_STRING, 1}}, unknown_of[] = {{MB_FIELD, 3}, {MB_INDEX, 9}};
+static const struct mb_value discount = {MB_INT32, 7}, text_value = {MB_STRING, 0}, empty_message = {MB_MESSAGE, 0};
+static const struct mb_bytes two[] = {{(const uint8_t *)"spring", 6}, {(const uint8_t *)"autumn", 6}};
+static const struct mb_value bytes_value = {MB_BYTES, 1};
+static uint32_t set_one(struct mb_message *it) { return mb_message_set(it, address_of, 2, two, 2, &text_value); }
+static uint32_t set_bytes(struct mb_message *it) { return mb_message_set(it, bytes_of, 2, two, 2, &bytes_value); }
+static uint32_t set_wrong(struct mb_message *it) { return mb_message_set(it, address_of, 2, two, 2, &discount); }
+static uint32_t clear_one(struct mb_message *it) { return mb_message_clear(it, article, 3, NULL, 0); }
+static uint32_t push_one(struct mb_message *it) { return mb_message_push(it, article, 1, NULL, 0, &empty_message); }
+static uint32_t insert_one(struct mb_message *it) { return mb_message_insert(it, new_entry, 2, two, 2, &discount); }
+static uint32_t insert_none(struct mb_message *it) { return mb_message_insert(it, new_entry, 2, two, 1, &discount); }
+static uint32_t remove_one(struct mb_message *it) { return mb_message_remove(it, ENTRY); }
+static uint32_t drop_nothing(struct mb_message *it) { return mb_message_drop_unknown(it, unknown_of, 2, NULL, 0); }
+static uint32_t message_set(struct told *told) { (void)told; return changed(set_one); }
+static uint32_t message_set_bytes(struct told *told) { (void)told; return changed(set_bytes); }
+static uint32_t message_set_wrong(struct told *told) { (void)told; return changed(set_wrong); }
+static uint32_t message_clear(struct told *told) { (void)told; return changed(clear_one); }
+static uint32_t message_push(struct told *told) { (void)told; return changed(push_one); }
+static uint32_t message_insert(struct told *told) { (void)told; return changed(insert_one); }
+static uint32_t message_insert_none(struct told *told) { (void)told; return changed(insert_none); }
+static uint32_t message_remove(struct told *told) { (void)told; return changed(remove_one); }
+static uint32_t message_drop_nothing(struct told *told) { (void)told; return changed(drop_nothing); }
 #define ADDRESS address, 2, &told->value, told->out, sizeof told->out, FAULT
 static uint32_t find_address(struct told *told) { return mb_find(&pool, type, message.at, message.len, LIMITS, ADDRESS); }
 static uint32_t find_address_cut(struct told *told) { return mb_find(&pool, type, message.at, message.len - 1, LIMITS, ADDRESS); }
@@ -141,9 +189,13 @@ static const struct { const char *name; uint32_t (*call)(struct told *told); uin
     {"mb_message_get", message_get, MB_DONE}, {"mb_message_get of no place", message_get_bad, MB_BAD_PLACE},
     {"mb_message_read", message_read, MB_DONE}, {"mb_message_fields", message_fields, MB_DONE},
     {"mb_message_key", message_key, MB_DONE}, {"mb_message_key of no key", message_no_key, MB_ABSENT},
+    {"mb_message_set of a string", message_set, MB_DONE}, {"mb_message_set of bytes", message_set_bytes, MB_DONE},
+    {"mb_message_set of another kind", message_set_wrong, 22}, {"mb_message_clear", message_clear, MB_DONE}, {"mb_message_push", message_push, MB_DONE},
+    {"mb_message_insert", message_insert, MB_DONE}, {"mb_message_insert of no place", message_insert_none, MB_BAD_PLACE},
+    {"mb_message_remove", message_remove, MB_DONE}, {"mb_message_drop_unknown of no message", message_drop_nothing, MB_ABSENT},
     {"mb_find", find_address, MB_DONE}, {"mb_find in a cut message", find_address_cut, MB_FAULT},
 };
-#define OF_SHOP 8
+#define OF_SHOP 17
 
 static struct mb_bytes read_file(const char *path)
 {

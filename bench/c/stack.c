@@ -77,6 +77,20 @@ static const struct mb_bytes key = {(const uint8_t *)"z", 1};
 static uint32_t get_one(struct mb_message *message) { return mb_message_get(message, PLACE, &value); }
 static uint32_t fields_one(struct mb_message *message) { return mb_message_fields(message, PLACE, numbers, 16, &size); }
 static uint32_t key_one(struct mb_message *message) { return mb_message_key(message, place, 2 * DEPTH - 1, &key, 1, 16, &value, out, sizeof out); }
+/* Changes of the innermost message; its place ends at no field. */
+static const struct mb_value empty = {MB_MESSAGE, 0};
+static uint32_t set_one(struct mb_message *message) { return mb_message_set(message, PLACE, &empty); }
+static uint32_t push_one(struct mb_message *message) { return mb_message_push(message, PLACE, &empty); }
+static uint32_t insert_one(struct mb_message *message) { return mb_message_insert(message, PLACE, &empty); }
+static uint32_t remove_one(struct mb_message *message) { return mb_message_remove(message, PLACE); }
+static uint32_t clear_one(struct mb_message *message) { return mb_message_clear(message, place, 2 * DEPTH - 1, &key, 1); }
+static uint32_t drop_one(struct mb_message *message) { return mb_message_drop_unknown(message, PLACE); }
+static uint32_t set_held(void) { return on_message(set_one); }
+static uint32_t push_held(void) { return on_message(push_one); }
+static uint32_t insert_held(void) { return on_message(insert_one); }
+static uint32_t remove_held(void) { return on_message(remove_one); }
+static uint32_t clear_held(void) { return on_message(clear_one); }
+static uint32_t drop_held(void) { return on_message(drop_one); }
 static uint32_t get_held(void) { return on_message(get_one); }
 static uint32_t fields_held(void) { return on_message(fields_one); }
 static uint32_t key_held(void) { return on_message(key_one); }
@@ -138,7 +152,14 @@ static const struct { const char *name; uint32_t (*call)(void); } calls[] = {
     {"mb_message_decode of turned maps, mb_message_show and mb_message_free", show_held}, {"mb_pool_field", find_field},
     {"mb_message_decode of turned maps, mb_message_get and mb_message_free", get_held},
     {"mb_message_decode of turned maps, mb_message_fields and mb_message_free", fields_held},
-    {"mb_message_decode of turned maps, mb_message_key and mb_message_free", key_held}, {"mb_find of no scalar", find_nested},
+    {"mb_message_decode of turned maps, mb_message_key and mb_message_free", key_held},
+    {"mb_message_decode of turned maps, mb_message_set of no field, and mb_message_free", set_held},
+    {"mb_message_decode of turned maps, mb_message_push of no field, and mb_message_free", push_held},
+    {"mb_message_decode of turned maps, mb_message_insert and mb_message_free", insert_held},
+    {"mb_message_decode of turned maps, mb_message_remove and mb_message_free", remove_held},
+    {"mb_message_decode of turned maps, mb_message_clear and mb_message_free", clear_held},
+    {"mb_message_decode of turned maps, mb_message_drop_unknown and mb_message_free", drop_held},
+    {"mb_find of no scalar", find_nested},
     {"mb_pool_counts", counts_of}, {"mb_pool_message", type_at}, {"mb_pool_field_at", field_at}, {"mb_pool_oneof of no oneof", no_oneof},
     {"mb_pool_enum of no enum", no_enum}, {"mb_pool_enum_value of no enum", no_value}, {"mb_pool_file", file_at},
 };

@@ -3,7 +3,7 @@ Canonical bytes and listing once more, of a message that the library holds: tool
 tool.py empty SET TYPE FILE. How many parts of a set lenient reading leaves out: tool.py omitted SET. What a
 field is: tool.py field SET TYPE NAME. What a message has, a place a line: tool.py read [--lenient] SET TYPE FILE, as read.c prints it. The
 scalar at a path of field numbers, such as 3.1: tool.py find [--lenient] SET TYPE FILE PATH. What a set
-declares: tool.py types [--lenient] SET"""
+declares: tool.py types [--lenient] SET. Changes of a message, and its bytes: tool.py change SET TYPE FILE CHANGE.., as change.c says"""
 import sys
 
 import mabristu
@@ -65,6 +65,25 @@ def types(schema):
         yield from (f"value {it.name} {name} {number}\n" for name, number in it.values)
 
 
+def parsed(word, strings):
+    """The kind and the number of a step or a value. A string is put among the strings, and its index is the number."""
+    kind, _, number = word.partition(",")
+    if kind != "s" and not number.startswith(","):
+        return int(kind), int(number)
+    strings.append((number if kind == "s" else number[1:]).encode())
+    return STRING if kind == "s" else int(kind), len(strings) - 1
+
+
+def change(message, word):
+    """Makes the change that a word says, as in set:21,3/22,0/21,2=5,7, and gives the line of the answer."""
+    said, _, value = word.partition("=")
+    call, _, place = said.partition(":")
+    strings = []
+    steps = [parsed(step, strings) for step in place.split("/") if step]
+    given = parsed(value, strings) if value else None
+    return f"{call} {message._change(call, steps, strings, given)}\n"
+
+
 def told(command, *words):
     """What a command prints, a part at a time."""
     if command == "short":
@@ -79,6 +98,11 @@ def told(command, *words):
     elif command == "types":
         *options, set_name = words
         yield from types(mabristu.Pool(read(set_name), lenient="--lenient" in options).schema())
+    elif command == "change":
+        set_name, type_name, name, *changes = words
+        message = mabristu.Pool(read(set_name))[type_name].decode(read(name))
+        yield from [change(message, word) for word in changes]
+        yield message.encode().hex() + "\n"
     elif command == "omitted":
         yield f"{mabristu.Pool(read(words[0]), lenient=True).left_out}\n"
     elif command == "find":

@@ -2,7 +2,8 @@
 //! Canonical bytes and listing once more, of a message that the library holds: tool encode|list [--lenient] SET TYPE FILE, and of an empty message: tool empty
 //! SET TYPE FILE. How many parts of a set lenient reading leaves out: tool omitted SET. What a field is: tool field SET TYPE NAME. What a message has, a
 //! place a line: tool read [--lenient] SET TYPE FILE, as read.c prints it. The scalar at a path of field numbers, such as 3.1: tool find [--lenient] SET TYPE
-//! FILE PATH. What a set declares: tool types [--lenient] SET
+//! FILE PATH. What a set declares: tool types [--lenient] SET. Changes of a message, and its bytes: tool change SET TYPE FILE CHANGE.., as change.c says
+mod changes;
 mod files;
 mod values;
 
@@ -70,6 +71,14 @@ fn run(words: &[&str]) -> Result<(), Failure> {
     }
     if let ["field", set, type_name, name] = words {
         return field(&message_type(&Pool::link(&read(set)?).map_err(of_set)?, type_name)?, name);
+    }
+    if let ["change", set, name, file, changes @ ..] = words {
+        let found = message_type(&Pool::link(&read(set)?).map_err(of_set)?, name)?;
+        let mut message = found.decode(&read(file)?).map_err(refused)?;
+        for word in changes {
+            print(changes::change(&mut message, word).as_bytes())?;
+        }
+        return print(&hexadecimal(&message.encode().map_err(refused)?));
     }
     if let ["find", options @ .., set, name, file, path] = words {
         let set = read(set)?;

@@ -49,8 +49,8 @@ bool set_limits(Py_ssize_t max_bytes, Py_ssize_t max_depth, struct limits *limit
 PyObject *refuse(uint32_t answer, const struct report *report);
 PyObject *refuse_link(uint32_t answer, const struct report *report, const struct mb_refusal *refusal, const uint8_t *text, PyObject *names);
 
-/* What _refused.py, _frames.py and _schema.py define. */
-extern PyObject *make_fault, *make_link, *frames_class, *schema_class;
+/* What _refused.py, _frames.py, _schema.py and _change.py define. */
+extern PyObject *make_fault, *make_link, *frames_class, *schema_class, *change_functions;
 
 /* The written bytes as str or bytes. */
 PyObject *as_bytes(const uint8_t *at, size_t len);
@@ -92,7 +92,10 @@ typedef struct node {
     size_t hint;       /* about how many bytes it has */
     struct node *root; /* none of a message that holds itself */
     MessageType *type; /* of a message */
-    uint32_t key;      /* of a map, the kind of its keys */
+    uint32_t field;    /* of a list or map, the number of its field, the kind of its values, that of its keys, and the number of the values' type */
+    uint32_t kind;
+    uint32_t key;
+    uint32_t of;
     struct mb_value *place;
     size_t place_len;
     struct mb_bytes *keys;
@@ -108,8 +111,9 @@ bool make_message_types(void);
 
 /* The type of a number. Without a name, NULL, the library is asked for it. */
 MessageType *type_by_number(Pool *pool, uint32_t number, PyObject *name);
-/* The field of a name, or NULL with KeyError. The reference is borrowed. */
+/* The field of a name or a number, or NULL with KeyError. The reference is borrowed. */
 Field *field_by_name(MessageType *type, PyObject *name);
+Field *field_by_number(MessageType *type, uint32_t number);
 /* What an unset field reads as. */
 PyObject *default_of(const struct mb_field *field);
 

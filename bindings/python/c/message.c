@@ -1,6 +1,6 @@
 /* Messages that the library holds, and their parts. A message stays on the thread that made it: another one may not use it, and where another one
  * drops it, its memory is kept until the first thread makes its next message. */
-#include "common.h"
+#include "node.h"
 
 PyObject *message_type, *list_type, *map_type;
 
@@ -93,7 +93,7 @@ static void node_dealloc(PyObject *self)
 }
 
 /* The handle that a node's message is in, or NULL, with an exception, on another thread. */
-static struct mb_message *handle_of(Node *node)
+struct mb_message *handle_of(Node *node)
 {
     Node *root = node->root == NULL ? node : node->root;
 
@@ -231,19 +231,7 @@ static PyObject *message_get_type(PyObject *self, void *Py_UNUSED(which))
 
 /* ---- What is at a place ---- */
 
-
-#define PLACE(node) (node)->place, (node)->place_len, (node)->keys, (node)->keys_len
-
-/* A place one step further in than a node: on the stack where it is short. A string as a key is kept by whoever gave it. */
-struct reached {
-    struct mb_value *place;
-    struct mb_bytes *keys;
-    size_t place_len, keys_len;
-    struct mb_value short_place[16];
-    struct mb_bytes short_keys[8];
-};
-
-static void leave(struct reached *reached)
+void leave(struct reached *reached)
 {
     if (reached->place != reached->short_place)
         PyMem_Free(reached->place);
@@ -251,13 +239,12 @@ static void leave(struct reached *reached)
         PyMem_Free(reached->keys);
 }
 
-/* Goes one step further. Returns whether there was memory for it; else an exception is set. */
-static bool reach(const Node *node, struct mb_value step, PyObject *key, struct reached *reached)
+bool reach(const Node *node, const struct mb_value *step, PyObject *key, struct reached *reached)
 {
-    size_t len = node->place_len + 1, keys_len = node->keys_len + (key != NULL);
+    size_t len = node->place_len + (step != NULL), keys_len = node->keys_len + (key != NULL);
 
     reached->place = len <= 16 ? reached->short_place : PyMem_Malloc(len * sizeof *reached->place);
-    reached->keys = keys_len <= 8 ? reached->short_keys : PyMem_Malloc(keys_len * sizeof *reached->keys);
+    reached->keys = keys_len < 8 ? reached->short_keys : PyMem_Malloc((keys_len + 1) * sizeof *reached->keys);
     if (reached->place == NULL || reached->keys == NULL) {
         leave(reached);
         PyErr_NoMemory();
@@ -267,18 +254,19 @@ static bool reach(const Node *node, struct mb_value step, PyObject *key, struct 
         reached->place[i] = node->place[i];
     for (size_t i = 0; i < node->keys_len; i++)
         reached->keys[i] = node->keys[i];
+    if (step != NULL)
+        reached->place[node->place_len] = *step;
     if (key != NULL) {
-        step.number = node->keys_len;
+        reached->place[node->place_len].number = node->keys_len;
         reached->keys[node->keys_len] = (struct mb_bytes){(const uint8_t *)PyBytes_AsString(key), (size_t)PyBytes_Size(key)};
     }
-    reached->place[node->place_len] = step;
     reached->place_len = len;
     reached->keys_len = keys_len;
     return true;
 }
 
 /* A part one step further in than a node, with the key of that step where it has one. */
-static Node *part_of(Node *node, PyObject *of, struct mb_value step, PyObject *key)
+Node *part_of(Node *node, PyObject *of, struct mb_value step, PyObject *key)
 {
     Node *part = new_node(of);
     size_t keys = node->keys_len + (key != NULL);
@@ -311,7 +299,7 @@ static Node *part_of(Node *node, PyObject *of, struct mb_value step, PyObject *k
     return part;
 }
 
-static PyObject *nothing_there(uint32_t answer)
+PyObject *nothing_there(uint32_t answer)
 {
     if (answer != MB_ABSENT && answer != MB_BAD_PLACE)
         return refuse(answer, NULL);
@@ -372,15 +360,25 @@ static PyObject *value_at(const struct reached *place, struct mb_message *handle
     }
 }
 
+/* What the field of a list or a map says of its values and keys. */
+static void set_field_of(Node *part, const struct mb_field *field)
+{
+    part->field = field->number;
+    part->kind = field->kind;
+    part->key = field->key;
+    part->of = (uint32_t)field->type_of;
+}
+
 /* The list, map or message one step further in than a node, as a part. */
-static PyObject *inner_part(Node *node, struct mb_value step, PyObject *key, const struct mb_value *value, uint32_t kind_of_keys)
+static PyObject *inner_part(Node *node, struct mb_value step, PyObject *key, const struct mb_value *value, const struct mb_field *field)
 {
     Node *root = node->root == NULL ? node : node->root;
     Node *part = part_of(node, value->kind == MB_LIST ? list_type : value->kind == MB_MAP ? map_type : message_type, step, key);
 
     if (part == NULL)
         return NULL;
-    part->key = kind_of_keys;
+    if (field != NULL)
+        set_field_of(part, field);
     if (value->kind == MB_MESSAGE) {
         part->type = type_by_number(root->type->pool, (uint32_t)value->number, NULL);
         if (part->type == NULL)
@@ -395,7 +393,7 @@ static bool is_part(const struct mb_value *value)
 }
 
 /* What is one step further in, or NULL: with an exception, or without one where nothing is there. */
-static PyObject *inner(Node *node, struct mb_value step, PyObject *key, uint32_t kind_of_keys)
+static PyObject *inner(Node *node, struct mb_value step, PyObject *key, const struct mb_field *field)
 {
     struct mb_message *handle = handle_of(node);
     struct mb_value value = {0, 0};
@@ -403,11 +401,11 @@ static PyObject *inner(Node *node, struct mb_value step, PyObject *key, uint32_t
     PyObject *result = NULL;
     uint32_t answer;
 
-    if (handle == NULL || !reach(node, step, key, &place))
+    if (handle == NULL || !reach(node, &step, key, &place))
         return NULL;
     answer = mb_message_get(handle, PLACE(&place), &value);
     if (answer == MB_DONE)
-        result = is_part(&value) ? inner_part(node, step, key, &value, kind_of_keys) : value_at(&place, handle, &value);
+        result = is_part(&value) ? inner_part(node, step, key, &value, field) : value_at(&place, handle, &value);
     else if (answer != MB_ABSENT && answer != MB_BAD_PLACE)
         refuse(answer, NULL);
     leave(&place);
@@ -434,13 +432,13 @@ static PyObject *node_read(PyObject *self, PyObject *args)
     if (kind == 0 && key == NULL) {
         answer = mb_message_get(handle, PLACE(node), &value);
     } else {
-        if (!reach(node, step, key, &place))
+        if (!reach(node, &step, key, &place))
             return NULL;
         answer = mb_message_get(handle, PLACE(&place), &value);
         if (answer == MB_DONE && (value.kind == MB_STRING || value.kind == MB_BYTES))
             found = read_bytes(&place, handle, (size_t)value.number, false);
         else if (answer == MB_DONE && is_part(&value))
-            found = inner_part(node, step, key, &value, 0);
+            found = inner_part(node, step, key, &value, NULL);
         leave(&place);
     }
     if (answer != MB_DONE)
@@ -453,7 +451,7 @@ static PyObject *node_read(PyObject *self, PyObject *args)
 }
 
 /* Whether an argument is a field, or the name or the number of one, of the type of a message. Of a number nothing else is known. */
-static bool field_of(Node *node, PyObject *name, struct mb_field *field)
+bool field_of(Node *node, PyObject *name, struct mb_field *field)
 {
     Field *found;
 
@@ -484,14 +482,22 @@ static PyObject *message_subscript(PyObject *self, PyObject *name)
     if (!field_of(node, name, &field))
         return NULL;
     struct mb_value step = {MB_FIELD, field.number};
-    found = inner(node, step, NULL, field.key);
+    found = inner(node, step, NULL, &field);
+    /* Of a list or a map that a number led to, the kind of its values is looked for. */
+    if (found != NULL && field.kind == 0 && (Py_TYPE(found) == (PyTypeObject *)list_type || Py_TYPE(found) == (PyTypeObject *)map_type)) {
+        Field *whole = field_by_number(node->type, field.number);
+        if (whole == NULL)
+            Py_CLEAR(found);
+        else
+            set_field_of((Node *)found, &whole->is);
+    }
     if (found != NULL || PyErr_Occurred())
         return found;
     /* Nothing is set there. */
     if (field.shape >= 3) {
         Node *part = part_of(node, field.shape == 3 ? list_type : map_type, step, NULL);
         if (part != NULL)
-            part->key = field.key;
+            set_field_of(part, &field);
         return (PyObject *)part;
     }
     return default_of(&field);
@@ -508,7 +514,7 @@ static int message_contains(PyObject *self, PyObject *name)
         return -1;
     struct mb_value step = {MB_FIELD, field.number};
     struct reached place;
-    if (!reach(node, step, NULL, &place))
+    if (!reach(node, &step, NULL, &place))
         return -1;
     uint32_t answer = mb_message_get(handle, PLACE(&place), &value);
     leave(&place);
@@ -521,7 +527,7 @@ static int message_contains(PyObject *self, PyObject *name)
 
 PyDoc_STRVAR(numbers_doc, "numbers()\n--\n\nThe numbers of the fields that are set, rising.");
 
-static PyObject *message_numbers(PyObject *self, PyObject *Py_UNUSED(ignored))
+PyObject *message_numbers(PyObject *self, PyObject *Py_UNUSED(ignored))
 {
     Node *node = (Node *)self;
     struct mb_message *handle = handle_of(node);
@@ -574,7 +580,7 @@ static PyObject *message_get(PyObject *self, PyObject *args)
 /* ---- Lists ---- */
 
 /* How many values a list or a map has, or -1. */
-static Py_ssize_t part_length(PyObject *self)
+Py_ssize_t part_length(PyObject *self)
 {
     Node *node = (Node *)self;
     struct mb_message *handle = handle_of(node);
@@ -599,7 +605,7 @@ static PyObject *list_item(PyObject *self, Py_ssize_t index)
 
     if (index >= 0) {
         struct mb_value step = {MB_INDEX, (uint64_t)index};
-        found = inner((Node *)self, step, NULL, 0);
+        found = inner((Node *)self, step, NULL, NULL);
     }
     if (found == NULL && !PyErr_Occurred())
         PyErr_SetString(PyExc_IndexError, "the list is shorter");
@@ -655,7 +661,7 @@ static uint32_t kind_of_keys(Node *node)
 }
 
 /* The step of a key, and its bytes where it is a string. Returns whether the object can be a key: without an exception where it is of another type. */
-static bool step_of_key(Node *node, PyObject *key, struct mb_value *step, PyObject **bytes)
+bool step_of_key(Node *node, PyObject *key, struct mb_value *step, PyObject **bytes)
 {
     int is_too_large = 0;
 
@@ -694,7 +700,7 @@ static PyObject *under(Node *node, PyObject *key)
 
     if (!step_of_key(node, key, &step, &bytes))
         return NULL;
-    found = inner(node, step, bytes, 0);
+    found = inner(node, step, bytes, NULL);
     Py_XDECREF(bytes);
     return found;
 }
@@ -857,6 +863,10 @@ static PyObject *made_list_type(void)
 {
     static PyMethodDef methods[] = {
         {"_read", node_read, METH_VARARGS, read_doc},
+        {"append", list_append, METH_O, append_doc},
+        {"extend", list_extend, METH_O, extend_doc},
+        {"clear", part_clear, METH_NOARGS, clear_doc},
+        {"_make", list_make, METH_NOARGS, make_doc},
         {NULL, NULL, 0, NULL},
     };
     static PyType_Slot slots[] = {
@@ -869,6 +879,7 @@ static PyObject *made_list_type(void)
         {Py_sq_item, list_item},
         {Py_mp_length, part_length},
         {Py_mp_subscript, list_subscript},
+        {Py_mp_ass_subscript, list_assign},
         {0, NULL},
     };
     static PyType_Spec spec = {"mabristu.List", sizeof(Node), 0, Py_TPFLAGS_DEFAULT, slots};
@@ -884,6 +895,8 @@ static PyObject *made_map_type(void)
         {"items", map_items, METH_NOARGS, items_doc},
         {"_key", map_key, METH_O, key_doc},
         {"_read", node_read, METH_VARARGS, read_doc},
+        {"clear", part_clear, METH_NOARGS, clear_doc},
+        {"_make", map_make, METH_O, make_doc},
         {NULL, NULL, 0, NULL},
     };
     static PyType_Slot slots[] = {
@@ -895,6 +908,7 @@ static PyObject *made_map_type(void)
         {Py_tp_iter, map_iter},
         {Py_mp_length, part_length},
         {Py_mp_subscript, map_subscript},
+        {Py_mp_ass_subscript, map_assign},
         {Py_sq_contains, map_contains},
         {0, NULL},
     };
@@ -911,6 +925,10 @@ static PyObject *made_message_type(void)
         {"listing", message_listing, METH_NOARGS, listing_doc},
         {"get", message_get, METH_VARARGS, get_doc},
         {"numbers", message_numbers, METH_NOARGS, numbers_doc},
+        {"to_dict", message_to_dict, METH_NOARGS, to_dict_doc},
+        {"drop_unknown", message_drop_unknown, METH_NOARGS, drop_unknown_doc},
+        {"_make", message_make, METH_O, make_doc},
+        {"_change", message_change, METH_VARARGS, change_doc},
         {"_read", node_read, METH_VARARGS, read_doc},
         {NULL, NULL, 0, NULL},
     };
@@ -919,7 +937,8 @@ static PyObject *made_message_type(void)
         {NULL, NULL, NULL, NULL, NULL},
     };
     static PyType_Slot slots[] = {
-        {Py_tp_doc, "A message that the library holds. order[\"number\"] is the value of a field; \"number\" in order says whether it is set."},
+        {Py_tp_doc, "A message that the library holds. order[\"number\"] is the value of a field; \"number\" in order says whether"
+                    " it is set. order[\"number\"] = 1 sets it, del order[\"number\"] clears it, and an iteration gives the fields that are set, by rising number."},
         {Py_tp_new, no_new},
         {Py_tp_dealloc, node_dealloc},
         {Py_tp_repr, message_repr},
@@ -927,7 +946,9 @@ static PyObject *made_message_type(void)
         {Py_tp_hash, PyObject_HashNotImplemented},
         {Py_tp_methods, methods},
         {Py_tp_getset, getset},
+        {Py_tp_iter, message_iter},
         {Py_mp_subscript, message_subscript},
+        {Py_mp_ass_subscript, message_assign},
         {Py_sq_contains, message_contains},
         {0, NULL},
     };

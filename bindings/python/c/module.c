@@ -95,10 +95,11 @@ PyMODINIT_FUNC PyInit__mabristu(void)
     make_link = taken("mabristu._refused", "refused");
     frames_class = taken("mabristu._frames", "Frames");
     schema_class = taken("mabristu._schema", "Schema");
+    change_functions = PyImport_ImportModule("mabristu._change");
     pool_type = make_pool_type();
     message_type_type = make_message_type_type();
     field_type = make_field_type();
-    if (make_fault == NULL || make_link == NULL || frames_class == NULL || schema_class == NULL || !make_message_types() ||
+    if (make_fault == NULL || make_link == NULL || frames_class == NULL || schema_class == NULL || change_functions == NULL || !make_message_types() ||
         (module = PyModule_Create(&definition)) == NULL)
         return NULL;
     if (!add(module, "Pool", pool_type) || !add(module, "MessageType", message_type_type) || !add(module, "Field", field_type) ||

@@ -51,6 +51,8 @@ PyObject *refuse(uint32_t answer, const struct report *report)
         PyErr_SetString(PyExc_ValueError, "the name of a source is not UTF-8");
         return NULL;
     default:
+        if (answer >= 21 && answer <= 30)
+            return raise_made(PyObject_CallFunction(make_link, "sI", "change", answer));
         PyErr_Format(PyExc_SystemError, "mabristu answers %u", (unsigned)answer);
         return NULL;
     }

@@ -289,16 +289,6 @@ Field *field_by_name(MessageType *type, PyObject *name)
     return keep_field(type, name, &is);
 }
 
-PyDoc_STRVAR(field_doc, "field(name)\n--\n\nThe field of a simple name, as number. KeyError where there is none.");
-
-static PyObject *type_field(PyObject *self, PyObject *name)
-{
-    Field *field = field_by_name((MessageType *)self, name);
-
-    Py_XINCREF(field);
-    return (PyObject *)field;
-}
-
 /* The field at an index of a type. The reference is borrowed. */
 static Field *field_at(MessageType *type, size_t index)
 {
@@ -317,6 +307,60 @@ static Field *field_at(MessageType *type, size_t index)
         field->detail = detail;
     }
     return field;
+}
+
+Field *field_by_number(MessageType *type, uint32_t number)
+{
+    struct mb_type is;
+    struct mb_field at;
+    uint32_t detail = 0;
+    PyObject *key = PyLong_FromUnsignedLong(number), *name, *found;
+
+    if (key == NULL)
+        return NULL;
+    found = PyDict_GetItemWithError(type->fields, key);
+    if (found != NULL || PyErr_Occurred() || (name = read_message(type->pool, type->number, &is)) == NULL) {
+        Py_DECREF(key);
+        return (Field *)found;
+    }
+    for (size_t i = 0; name != NULL && i < is.fields; i++) {
+        Py_DECREF(name);
+        name = read_field_at(type->pool, type->number, i, &at, &detail);
+        if (name != NULL && at.number == number) {
+            found = (PyObject *)field_at(type, i);
+            break;
+        }
+    }
+    /* Numbers are kept beside the names. */
+    if (found != NULL && PyDict_SetItem(type->fields, key, found) < 0)
+        found = NULL;
+    if (found == NULL && !PyErr_Occurred())
+        PyErr_Format(PyExc_KeyError, "field %lu unknown", (unsigned long)number);
+    Py_XDECREF(name);
+    Py_DECREF(key);
+    return (Field *)found;
+}
+
+PyDoc_STRVAR(from_dict_doc,
+"from_dict(fields)\n--\n\nA message with these fields, by their names, as to_dict gives them: messages and maps are dicts, lists are lists.");
+
+static PyObject *type_from_dict(PyObject *self, PyObject *fields)
+{
+    PyObject *function = PyObject_GetAttrString(change_functions, "from_dict");
+    PyObject *answer = function == NULL ? NULL : PyObject_CallFunctionObjArgs(function, self, fields, NULL);
+
+    Py_XDECREF(function);
+    return answer;
+}
+
+PyDoc_STRVAR(field_doc, "field(name)\n--\n\nThe field of a simple name, as number. KeyError where there is none.");
+
+static PyObject *type_field(PyObject *self, PyObject *name)
+{
+    Field *field = field_by_name((MessageType *)self, name);
+
+    Py_XINCREF(field);
+    return (PyObject *)field;
 }
 
 static PyObject *type_get_fields(PyObject *self, void *Py_UNUSED(which))
@@ -715,6 +759,7 @@ PyObject *make_message_type_type(void)
         {"find", KEYWORDS(type_find), METH_VARARGS | METH_KEYWORDS, find_doc},
         {"_find", KEYWORDS(type_find_reported), METH_VARARGS | METH_KEYWORDS, find_reported_doc},
         {"new", type_empty, METH_NOARGS, new_doc},
+        {"from_dict", type_from_dict, METH_O, from_dict_doc},
         {"field", type_field, METH_O, field_doc},
         {"frames", KEYWORDS(type_frames), METH_VARARGS | METH_KEYWORDS, frames_doc},
         {"_frame", type_frame, METH_VARARGS, frame_doc},

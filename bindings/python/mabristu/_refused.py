@@ -6,7 +6,7 @@ __all__ = ["CAUSES", "Refused"]
 CAUSES = {}
 for _first, _names in (
     (1, "Truncated PastEnd VarintTooLong TagTooLarge NumberZero BadType StrayEnd WrongEnd LengthTooLarge BadText TooDeep InputTooLarge"),
-    (31, "TooLarge"),
+    (21, "NoSuchField WrongKind WrongShape DefaultStored TwoMembers KnownAsUnknown TooDeep Memory OtherType NoSuchValue TooLarge"),
     (50, "SourceTooLarge"),
     (52, "MissingName BadLabel BadTypeNumber Extension NotProto3 Required Group"),
     (60, "DefaultValue BadUtf8 BadToken OpenComment OpenText Unexpected NumberTooLarge CustomOption NotProto3 NestedTooDeep"),

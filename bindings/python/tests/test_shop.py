@@ -345,6 +345,132 @@ class Parts(Shop):
         self.assertEqual(line["article"], "bolt M8")
 
 
+class Changes(Shop):
+    def test_scalars(self):
+        order = self.order()
+        values = {"number": 2**64 - 1, "placed_on": "h\u00e9", "state": 1, "gift": False, "card": "4000", "corrections": [-1, 2**31 - 1], "discounts": {"a": -3}}
+        for name, value in values.items():
+            order[name] = value
+        self.assertEqual(order.to_dict(), values)
+        # By hand: 1 varint 2^64 - 1; 2 "h\xc3\xa9"; 4 {1: "a", 2: -3}; 5 "4000"; 7 1; 8 packed zigzag 1 and 2^32 - 2; 9 0.
+        self.assertEqual(order.encode().hex(), "08ffffffffffffffffff01" "120368c3a9" "220e0a016110fdffffffffffffffff01" "2a0434303030" "3801" "420601feffffff0f" "4800")
+        order[1] = 5
+        order[self.order.field("state")] = 0
+        self.assertEqual([order["number"], "state" in order, [it.name for it in order]], [5, False, ["number", "placed_on", "discounts", "card", "corrections", "gift"]])
+
+    def test_nested(self):
+        order = self.order.decode(self.data)
+        order["lines"][0]["price"] = 3
+        order["lines"][-1]["article"] = "nut"
+        order["invoice"]["signature"] = bytearray(b"ab")
+        self.assertEqual([order["lines"][0]["price"], order["lines"][1]["article"], order["invoice"]["signature"]], [3.0, "nut", b"ab"])
+        order["card"] = "4000"
+        self.assertEqual([order["card"], order["invoice"], "invoice" in order], ["4000", None, False])
+        order["invoice"] = {"address": "Main Street 1"}
+        self.assertEqual([order["card"], order["invoice"].to_dict()], [None, {"address": "Main Street 1"}])
+        order["invoice"] = {}
+        self.assertEqual([order["invoice"].to_dict(), "invoice" in order], [{}, True])
+
+    def test_lists(self):
+        order = self.order.decode(self.data)
+        order["corrections"].append(7)
+        order["corrections"].extend(range(2))
+        order["corrections"][0] = 9
+        self.assertEqual(list(order["corrections"]), [9, 2, 7, 0, 1])
+        del order["corrections"][1:3]
+        self.assertEqual(list(order["corrections"]), [9, 0, 1])
+        order["lines"].append({"article": "washer", "pieces": 3})
+        order["lines"][0] = {"article": "nut"}
+        self.assertEqual([it["article"] for it in order["lines"]], ["nut", "torque wrench", "washer"])
+        self.assertEqual(order["lines"][0].to_dict(), {"article": "nut"})
+        order["lines"] = ({"pieces": it} for it in (1, 2))
+        self.assertEqual([it["pieces"] for it in order["lines"]], [1, 2])
+        order["lines"].clear()
+        order[8].append(3)
+        self.assertEqual([list(order["lines"]), list(order[8])], [[], [9, 0, 1, 3]])
+
+    def test_maps(self):
+        order = self.order.decode(self.data)
+        order["discounts"]["new"] = 1
+        order["discounts"]["loyal"] = 2
+        del order["discounts"]["spring"]
+        self.assertEqual(order["discounts"].items(), [("loyal", 2), ("new", 1)])
+        order["discounts"] = {"b": 1}
+        order["discounts"]["a"] = 0
+        self.assertEqual(order.to_dict()["discounts"], {"a": 0, "b": 1})
+        other = self.order()
+        other["discounts"], other["corrections"] = order["discounts"], order["corrections"]
+        self.assertEqual(other.to_dict(), {"discounts": {"a": 0, "b": 1}, "corrections": [-1, 2]})
+        order["discounts"].clear()
+        self.assertNotIn("discounts", order)
+        pool = Pool.of_sources({"a.proto": 'syntax = "proto3"; message A { map<sint64, A> a = 1; map<bool, bytes> b = 2; float f = 3; fixed64 g = 4; }'})
+        message = pool["A"].from_dict({"a": {-1: {"f": 0.5}, 2: {}}, "b": {True: b"x"}, "g": 2**63})
+        message["a"][-1]["a"] = {7: {"g": 1}}
+        message["a"][5] = {"b": {}}
+        self.assertEqual(message.to_dict(), {"a": {-1: {"a": {7: {"g": 1}}, "f": 0.5}, 2: {}, 5: {}}, "b": {True: b"x"}, "g": 2**63})
+        self.assertEqual(pool["A"].decode(message.encode()), message)
+
+    def test_clear(self):
+        order = self.order.decode(self.data)
+        del order["number"]
+        del order["lines"][0]["article"]
+        del order["invoice"]
+        self.assertEqual([order["number"], "article" in order["lines"][0], order["invoice"]], [0, False, None])
+        order = self.order.decode(b"\x08\x05\xfa\x06\x01\x07")
+        order.drop_unknown()
+        self.assertEqual(order.encode(), b"\x08\x05")
+
+    def test_dicts(self):
+        order = self.order.decode(self.data)
+        self.assertEqual(order.to_dict(), {
+            "number": 4711, "placed_on": "2024-05-17", "discounts": {"loyal": 3, "spring": 5}, "state": 1, "corrections": [-1, 2], "gift": False,
+            "lines": [{"article": "bolt M8", "pieces": 200, "price": 0.35}, {"article": "torque wrench", "pieces": 1, "price": 89.5}],
+            "invoice": {"address": "Main Street 1", "signature": b"\x01\xff"},
+        })
+        order.drop_unknown()
+        self.assertEqual(self.order.from_dict(order.to_dict()), order)
+        self.assertEqual(self.order.from_dict({}).encode(), b"")
+
+    def test_refusals(self):
+        order = self.order.decode(self.data)
+        before = order.encode()
+
+        def assign(part, name, value):
+            part[name] = value
+
+        for name, value in (("number", -1), ("number", 2**64), ("number", 10**30), ("state", 2**31), ("corrections", [1, -2**31 - 1]), ("discounts", {"a": 2**31})):
+            self.assertRaises(ValueError, assign, order, name, value)
+        for name, value in (("number", "1"), ("number", True), ("number", 1.0), ("number", None), ("placed_on", b"a"), ("gift", 1), ("lines", 5), ("lines", [5]),
+                            ("lines", {}), ("corrections", "12"), ("discounts", [1]), ("discounts", {1: 1}), ("invoice", "x"), ("invoice", {"signature": "x"})):
+            self.assertRaises(TypeError, assign, order, name, value)
+        for name, value in (("nothing", 1), (99, 1), ("invoice", {"nothing": 1}), ("lines", [{}, {"nothing": 1}])):
+            self.assertRaises(KeyError, assign, order, name, value)
+        self.assertRaises(UnicodeEncodeError, assign, order, "placed_on", "\ud800")
+        self.assertRaises(IndexError, assign, order["corrections"], 9, 1)
+        self.assertRaises(TypeError, assign, order["corrections"], slice(0, 1), [1])
+        self.assertRaises(KeyError, order["discounts"].__delitem__, "nothing")
+        self.assertRaises(TypeError, order["lines"].__delitem__, 0)
+        self.assertRaises(TypeError, order["lines"].append, {"pieces": "x"})
+        self.assertRaises(ValueError, order["corrections"].append, 2**31)
+        self.assertRaises(KeyError, self.order.from_dict, {"nothing": 1})
+        self.assertRaises(TypeError, self.order.from_dict, [1])
+        self.assertEqual(order.encode(), before)
+        line = order["lines"][1]
+        order["lines"].clear()
+        self.assertRaises(LookupError, assign, line, "pieces", 1)
+
+    def test_causes(self):
+        pool = Pool.of_sources({"a.proto": 'syntax = "proto3"; message A { A a = 1; }'})
+        message = pool["A"]()
+        part = message
+        for _ in range(100):
+            part["a"] = {}
+            part = part["a"]
+        refused = self.refused(part.__setitem__, "a", {})
+        self.assertEqual([refused.cause, refused.number, str(refused)], ["TooDeep", 27, "change cause TooDeep"])
+        self.assertEqual(message.encoded_length(), len(message.encode()))
+
+
 class Find(Shop):
     def test_values(self):
         find = lambda *names: self.order.find(self.data, *names)

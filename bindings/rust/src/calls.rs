@@ -1,13 +1,14 @@
 //! The numbers and calls of mabristu.h.
 use crate::structs::{Bytes, Counts, Enum, Fault, Field, File, Frame, Handle, MessageHandle, Refusal, Step, Type, Value};
 
-pub const INTERFACE: u32 = 2;
+pub const INTERFACE: u32 = 3;
 // What a call answers. Numbers from 50 on are the causes why declarations are refused.
 pub const DONE: u32 = 0;
 pub const BAD_LIMITS: u32 = 1;
 pub const NO_TYPE: u32 = 2;
 pub const PART: u32 = 5;
 pub const ABSENT: u32 = 6;
+pub const BAD_VALUE: u32 = 8;
 pub const FAULT: u32 = 13;
 pub const MEMORY: u32 = 14;
 pub const TOO_LARGE: u32 = 31;
@@ -82,5 +83,11 @@ extern "C" {
         numbers: *mut u32, numbers_len: usize, count: &mut usize) -> u32;
     pub fn mb_message_key(message: Message, place: *const Value, place_len: usize, keys: *const Bytes, keys_len: usize,
         index: usize, key: &mut Value, out: Out, out_len: usize) -> u32;
+    pub fn mb_message_set(message: Message, place: *const Value, place_len: usize, strings: *const Bytes, strings_len: usize, value: &Value) -> u32;
+    pub fn mb_message_clear(message: Message, place: *const Value, place_len: usize, strings: *const Bytes, strings_len: usize) -> u32;
+    pub fn mb_message_push(message: Message, place: *const Value, place_len: usize, strings: *const Bytes, strings_len: usize, value: &Value) -> u32;
+    pub fn mb_message_insert(message: Message, place: *const Value, place_len: usize, strings: *const Bytes, strings_len: usize, value: &Value) -> u32;
+    pub fn mb_message_remove(message: Message, place: *const Value, place_len: usize, strings: *const Bytes, strings_len: usize) -> u32;
+    pub fn mb_message_drop_unknown(message: Message, place: *const Value, place_len: usize, strings: *const Bytes, strings_len: usize) -> u32;
     pub fn mb_message_free(message: *mut MessageHandle);
 }

@@ -37,11 +37,15 @@ pub enum Error {
     Source { file: String, byte: u64, cause: Cause },
     /// Declarations do not link.
     Link { file: String, name: String, cause: Cause },
+    /// A message refuses a change.
+    Change { cause: Cause },
+    /// A value is out of the range of its kind, or is a list or a map.
+    BadValue,
     /// A limit is above the greatest.
     BadLimits,
     /// The pool has no such message type.
     NoType,
-    /// The message type has no such field.
+    /// The message type has no such field, or the message has nothing there.
     NoField,
     /// What would be written has more than 2^31 - 1 bytes.
     TooLarge,
@@ -55,7 +59,11 @@ impl Error {
     /// The cause of a refusal, if it has one.
     pub fn cause(&self) -> Option<Cause> {
         match self {
-            Error::Fault { cause, .. } | Error::Set { cause, .. } | Error::Source { cause, .. } | Error::Link { cause, .. } => Some(*cause),
+            Error::Fault { cause, .. }
+            | Error::Set { cause, .. }
+            | Error::Source { cause, .. }
+            | Error::Link { cause, .. }
+            | Error::Change { cause } => Some(*cause),
             Error::TooLarge => Some(Cause(calls::TOO_LARGE)),
             _ => None,
         }
@@ -66,7 +74,7 @@ impl Error {
 #[rustfmt::skip]
 const CAUSES: [(u32, &str); 8] = [
     (1, "Truncated PastEnd VarintTooLong TagTooLarge NumberZero BadType StrayEnd WrongEnd LengthTooLarge BadText TooDeep InputTooLarge"),
-    (31, "TooLarge"),
+    (21, "NoSuchField WrongKind WrongShape DefaultStored TwoMembers KnownAsUnknown TooDeep Memory OtherType NoSuchValue TooLarge"),
     (50, "SourceTooLarge"),
     (52, "MissingName BadLabel BadTypeNumber Extension NotProto3 Required Group"),
     (60, "DefaultValue BadUtf8 BadToken OpenComment OpenText Unexpected NumberTooLarge CustomOption NotProto3 NestedTooDeep"),
@@ -86,6 +94,8 @@ impl fmt::Display for Error {
             Error::Set { file, cause } => write!(f, "set file {file} cause {cause}"),
             Error::Source { file, byte, cause } => write!(f, "source {file} byte {byte} cause {cause}"),
             Error::Link { file, name, cause } => write!(f, "link {} at {} cause {cause}", dash(file), dash(name)),
+            Error::Change { cause } => write!(f, "change cause {cause}"),
+            Error::BadValue => f.write_str("the value is out of range"),
             Error::BadLimits => f.write_str("a limit is above the greatest"),
             Error::NoType => f.write_str("type unknown"),
             Error::NoField => f.write_str("field unknown"),

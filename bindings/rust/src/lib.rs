@@ -13,10 +13,11 @@
 //! ```
 //!
 //! Types come from a descriptor set ([`Pool::link`]) or from sources of proto3 ([`Pool::of_sources`]). A [`MessageType`] checks, rewrites and lists bytes,
-//! splits streams, and decodes a [`Message`]. What is refused is an [`Error`] with the byte, the path and the cause.
+//! splits streams, and decodes a [`Message`], which is read by places ([`Part`]) and changed at places ([`PartMut`]). What is refused is an [`Error`] with the byte, the path and the cause.
 //!
 //! A [`Pool`] and a [`MessageType`] may go to another thread, and a clone of them is cheap; a [`Message`] stays on its thread.
 mod calls;
+mod change;
 mod error;
 mod frames;
 mod message;
@@ -28,6 +29,7 @@ mod structs;
 mod told;
 mod value;
 
+pub use change::PartMut;
 pub use error::{Cause, Error, Step, StreamError};
 pub use frames::{Frame, Frames};
 pub use message::Message;

@@ -26,11 +26,11 @@ impl From<&str> for Key {
 /// A place in a message: `message.field("lines")?.index(2).field("price")?`. It leads there whether or not anything is set.
 #[derive(Clone)]
 pub struct Part<'a> {
-    message: &'a Message,
+    pub(crate) message: &'a Message,
     /// The type of what is there, if that is a message, or of the messages in a list or map.
     message_type: Option<MessageType>,
-    steps: Vec<Reported>,
-    keys: Vec<Vec<u8>>,
+    pub(crate) steps: Vec<Reported>,
+    pub(crate) keys: Vec<Vec<u8>>,
 }
 
 impl Message {
@@ -47,6 +47,12 @@ impl Message {
     /// The value of a field, by its simple name, or None where it is not set.
     pub fn get(&self, name: &str) -> Result<Option<Value>, Error> {
         self.field(name)?.get()
+    }
+}
+
+impl From<String> for Key {
+    fn from(key: String) -> Key {
+        Key::String(key)
     }
 }
 
@@ -166,6 +172,16 @@ impl<'a> Part<'a> {
                 return Ok(numbers);
             }
         }
+    }
+
+    /// The fields that are set in the message that is here, by rising number, as the numbers and the places of what they hold.
+    pub fn fields(&self) -> Result<impl Iterator<Item = (u32, Part<'a>)> + '_, Error> {
+        Ok(self.numbers()?.into_iter().map(|number| (number, self.number(number))))
+    }
+
+    /// The entries of the map that is here, by rising keys: each key, and the place of its value.
+    pub fn entries(&self) -> Result<impl Iterator<Item = (Key, Part<'a>)> + '_, Error> {
+        Ok(self.keys()?.into_iter().map(|key| (key.clone(), self.key(key))))
     }
 
     /// The keys of the map that is here, in order.

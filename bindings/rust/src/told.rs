@@ -25,6 +25,8 @@ impl Told {
             calls::BAD_LIMITS => Error::BadLimits,
             calls::NO_TYPE => Error::NoType,
             calls::ABSENT => Error::NoField,
+            calls::BAD_VALUE => Error::BadValue,
+            21..=30 => Error::Change { cause: Cause(answer) },
             calls::TOO_LARGE => Error::TooLarge,
             calls::MEMORY => Error::Memory,
             _ => Error::Answer(answer),

@@ -53,3 +53,52 @@ pub(crate) fn scalar(&Reported { kind, number }: &Reported, bytes: Vec<u8>) -> O
         _ => return None,
     })
 }
+
+/// A value as the library takes it, of a string or bytes with the index that these have among the strings.
+pub(crate) fn given(value: &Value, index: usize) -> (Reported, Option<&[u8]>) {
+    let (kind, number) = match value {
+        Value::Double(value) => (calls::DOUBLE, value.to_bits()),
+        Value::Float(value) => (calls::FLOAT, u64::from(value.to_bits())),
+        Value::Int64(value) => (calls::INT64, *value as u64),
+        Value::Uint64(value) => (calls::UINT64, *value),
+        Value::Int32(value) => (calls::INT32, i64::from(*value) as u64),
+        Value::Uint32(value) => (calls::UINT32, u64::from(*value)),
+        Value::Bool(value) => (calls::BOOL, u64::from(*value)),
+        Value::Enum(value) => (calls::ENUM, i64::from(*value) as u64),
+        Value::String(_) => (calls::STRING, index as u64),
+        Value::Bytes(_) => (calls::BYTES, index as u64),
+        Value::Message(_) => (calls::MESSAGE, 0),
+        Value::List(_) => (calls::LIST, 0),
+        Value::Map(_) => (calls::MAP, 0),
+    };
+    let bytes = match value {
+        Value::String(text) => Some(text.as_bytes()),
+        Value::Bytes(bytes) => Some(&bytes[..]),
+        _ => None,
+    };
+    (Reported { kind, number }, bytes)
+}
+
+macro_rules! from {
+    ($($variant:ident $kind:ty),*) => {
+        $(impl From<$kind> for Value {
+            fn from(value: $kind) -> Value {
+                Value::$variant(value)
+            }
+        })*
+    };
+}
+
+from!(Double f64, Float f32, Int64 i64, Uint64 u64, Int32 i32, Uint32 u32, Bool bool, String String, Bytes Vec<u8>);
+
+impl From<&str> for Value {
+    fn from(value: &str) -> Value {
+        Value::String(value.to_owned())
+    }
+}
+
+impl From<&[u8]> for Value {
+    fn from(value: &[u8]) -> Value {
+        Value::Bytes(value.to_owned())
+    }
+}

@@ -42,3 +42,5 @@ pub mod PlaceAnswers
 pub mod FoundTelling
 -- for `mb_canon`: bytes that are the canonical bytes of their message
 pub mod Copied
+-- what is answered of a change
+pub mod ChangeAnswers

@@ -12,6 +12,10 @@ mod typed;
 pub use handle::PoolHandle;
 pub use handle::seal::Seal;
 pub use handle::shared::Shared;
+pub use message::change::{
+    mb_message_clear, mb_message_drop_unknown, mb_message_insert, mb_message_push,
+    mb_message_remove, mb_message_set,
+};
 pub use message::decode::mb_message_decode;
 pub use message::encode::{mb_message_encode, mb_message_encoded_length};
 pub use message::fields::mb_message_fields;

@@ -1,5 +1,6 @@
 //! Messages that stay with the library, each behind a handle of its own.
 
+pub(crate) mod change;
 pub(crate) mod decode;
 pub(crate) mod encode;
 pub(crate) mod fields;

@@ -27,6 +27,9 @@ pub const ABSENT: u32 = 6;
 /// The steps say no place.
 pub const BAD_PLACE: u32 = 7;
 
+/// The value is none.
+pub const BAD_VALUE: u32 = 8;
+
 /// The bytes have a fault, which is told.
 pub const FAULT: u32 = 13;
 
@@ -34,7 +37,7 @@ pub const FAULT: u32 = 13;
 pub const MEMORY: u32 = 14;
 
 /// Which calls the library has: the number of the header.
-const INTERFACE: u32 = 2;
+const INTERFACE: u32 = 3;
 
 /// A fault of bytes, but for its path.
 #[repr(C)]
