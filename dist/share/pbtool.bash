@@ -7,8 +7,9 @@ _pbtool() {
         return
     fi
     case $command in
-        raw) flags="--short --help -h" ;;
-        check | show | frames | types) flags="--lenient --help -h" ;;
+        raw) flags="--short --nested --help -h" ;;
+        show | frames) flags="--decimal --lenient --help -h" ;;
+        check | types) flags="--lenient --help -h" ;;
         canon) flags="--out --lenient --help -h" ;;
         json) flags="--pretty --lenient --help -h" ;;
         compile) flags="-I --help -h" ;;

@@ -42,4 +42,6 @@ pub use pb_stream::{DelimitedReader, read_delimited, write_delimited};
 
 // What messages print as.
 pub use pb_json::{JsonCause, JsonError, JsonForm, Layout, Names, Refusal, write_json};
-pub use pb_listing::{write_listing, write_message, write_types};
+pub use pb_listing::{
+    FloatForm, write_listing, write_message, write_message_as, write_nested, write_types,
+};

@@ -9,9 +9,13 @@ use Rattle.clap.specs.Simple.{on_top}
 use Rattle.clap.specs.declared.builder.ArgAction.TheVariants.{Append, Set, SetTrue}
 use Rattle.pb_command.specs.declared.command.Command.{Command}
 use Rattle.pb_command.specs.declared.command.Command.TheVariants.{Raw, Check, Show, Canon, Json, Frames, Types, Compile}
+use Rattle.pb_command.specs.declared.command.RawForm.{RawForm}
+use Rattle.pb_command.specs.declared.command.RawForm.TheVariants.{Listing, Nested, Shortest}
 use Rattle.pb_command.specs.declared.command.Roots.{Roots}
 use Rattle.pb_command.specs.declared.command.Source.{Source}
 use Rattle.pb_command.specs.CompileAnswer.{texts_of}
+use Rattle.pb_listing.specs.declared.form.FloatForm.{FloatForm}
+use Rattle.pb_listing.specs.declared.form.FloatForm.TheVariants.{Bits, Decimal}
 use Rattle.pb_json.specs.declared.form.Layout.{Layout}
 use Rattle.pb_json.specs.declared.form.Layout.TheVariants.{Compact, Indented}
 use Rattle.pb_files.specs.declared.set_file.Reading.{Reading}
@@ -24,9 +28,12 @@ short_rule = record (new_rule (codes "short")) { long = Some (codes "short"); ac
 abbrev pub wanted : Text → Rule
 wanted id = record (new_rule id) { required = true }
 
--- `raw [--short] FILE`
+abbrev pub nested_rule : Rule
+nested_rule = record (new_rule (codes "nested")) { long = Some (codes "nested"); action = Some SetTrue }
+
+-- `raw [--short] [--nested] FILE`
 abbrev pub raw_command : App
-raw_command = with_rule (with_rule (new_app (codes "raw")) short_rule) (wanted (codes "FILE"))
+raw_command = with_rule (with_rule (with_rule (new_app (codes "raw")) short_rule) nested_rule) (wanted (codes "FILE"))
 
 abbrev pub lenient_rule : Rule
 lenient_rule = record (new_rule (codes "lenient")) { long = Some (codes "lenient"); action = Some SetTrue }
@@ -38,8 +45,12 @@ of_source a = with_rule (with_rule (with_rule (with_rule a lenient_rule) (wanted
 abbrev pub check_command : App
 check_command = of_source (new_app (codes "check"))
 
+abbrev pub decimal_rule : Rule
+decimal_rule = record (new_rule (codes "decimal")) { long = Some (codes "decimal"); action = Some SetTrue }
+
+-- `show [--decimal] [--lenient] SET TYPE FILE`
 abbrev pub show_command : App
-show_command = of_source (new_app (codes "show"))
+show_command = of_source (with_rule (new_app (codes "show")) decimal_rule)
 
 abbrev pub out_rule : Rule
 out_rule = record (new_rule (codes "out")) { long = Some (codes "out"); action = Some Set }
@@ -55,8 +66,9 @@ pretty_rule = record (new_rule (codes "pretty")) { long = Some (codes "pretty");
 abbrev pub json_command : App
 json_command = of_source (with_rule (new_app (codes "json")) pretty_rule)
 
+-- `frames [--decimal] [--lenient] SET TYPE FILE`
 abbrev pub frames_command : App
-frames_command = of_source (new_app (codes "frames"))
+frames_command = of_source (with_rule (new_app (codes "frames")) decimal_rule)
 
 -- `types [--lenient] SET [NAME]`
 abbrev pub types_command : App
@@ -120,6 +132,24 @@ reading_of false = Strict
 abbrev pub IsReading : List Row → Reading → Type 0
 IsReading rows r = r ≡ reading_of (flag_of (codes "lenient") rows)
 
+-- how records are shown, by whether their shortest encoding is wanted, and whether payloads are listed
+abbrev pub raw_form_of : Bool → Bool → RawForm
+raw_form_of true nested = Shortest
+raw_form_of false true = Nested
+raw_form_of false false = Listing
+
+abbrev pub IsRawForm : List Row → RawForm → Type 0
+IsRawForm rows f = f ≡ raw_form_of (flag_of (codes "short") rows) (flag_of (codes "nested") rows)
+
+-- how floats are listed, by whether the flag is given
+abbrev pub floats_of : Bool → FloatForm
+floats_of true = Decimal
+floats_of false = Bits
+
+-- floats are listed so by these words
+abbrev pub AreFloats : List Row → FloatForm → Type 0
+AreFloats rows f = f ≡ floats_of (flag_of (codes "decimal") rows)
+
 -- how JSON is laid out, by whether the flag is given
 abbrev pub layout_of : Bool → Layout
 layout_of true = Indented
@@ -136,14 +166,14 @@ AreRoots rows r = (r.root.now ≡ value_of (codes "ROOT") rows) × (texts_of r.o
 
 -- the command has this name, these flags and these values
 abbrev pub IsNamed : Text → List Row → Command → Type 0
-IsNamed name rows (Raw short file) = (name ≡ codes "raw") × (short ≡ flag_of (codes "short") rows) × (file.now ≡ value_of (codes "FILE") rows)
+IsNamed name rows (Raw form file) = (name ≡ codes "raw") × IsRawForm rows form × (file.now ≡ value_of (codes "FILE") rows)
 IsNamed name rows (Check source) = (name ≡ codes "check") × IsSource rows source
-IsNamed name rows (Show source) = (name ≡ codes "show") × IsSource rows source
+IsNamed name rows (Show floats source) = (name ≡ codes "show") × AreFloats rows floats × IsSource rows source
 IsNamed name rows (Canon to source) =
     (name ≡ codes "canon") × (option_map (λ path. path.now) to ≡ option_of (codes "out") rows) × IsSource rows source
 IsNamed name rows (Json layout source) =
     (name ≡ codes "json") × (layout ≡ layout_of (flag_of (codes "pretty") rows)) × IsSource rows source
-IsNamed name rows (Frames source) = (name ≡ codes "frames") × IsSource rows source
+IsNamed name rows (Frames floats source) = (name ≡ codes "frames") × AreFloats rows floats × IsSource rows source
 IsNamed name rows (Types reading set type_name) =
     (name ≡ codes "types") × IsReading rows reading × (set.now ≡ value_of (codes "SET") rows)
     × (option_map (λ n. n.now) type_name ≡ option_of (codes "NAME") rows)

@@ -8,14 +8,16 @@ ghost use Rattle.pb_files.specs.FileMap.{IsHonest, IsSaved, IsUnsaved};
 ghost use Rattle.pb_files.specs.Report.{device_line, memory_line};
 ghost use Rattle.pb_output.specs.Sending.{Cut, Sent, SentOrCut};
 ghost use Rattle.pb_cli.specs.Running.{DoesNamed, RefusesWords};
-ghost use Rattle.pb_cli.specs.Words.{AreRoots, IsMatched, IsSource, flag_of, layout_of, reading_of, value_of, values_of, tool, tool_names, words_of};
+ghost use Rattle.pb_cli.specs.Words.{AreRoots, IsMatched, IsRawForm, IsSource, flag_of, floats_of, layout_of, reading_of};
+ghost use Rattle.pb_cli.specs.Words.{value_of, values_of, tool, tool_names, words_of};
 ghost use Rattle.pb_command.specs.declared.command.Command.{Command as Told};
 
 use crate::words::definition;
 use clap::error::ErrorKind;
 use clap::{ArgMatches, Error};
 use pb_command::{
-    Afterwards, Command, Files, Layout, Reading, Refusal, Roots, Source, execute_then,
+    Afterwards, Command, Files, FloatForm, Layout, RawForm, Reading, Refusal, Roots, Source,
+    execute_then,
 };
 use pb_wire::{Output, write_all};
 use std::alloc::Global;
@@ -143,9 +145,9 @@ fn command_of<'m>(matches: &'m ArgMatches<'_>) -> Command<'m>
     ensures { IsMatched (subcommand_rows_of matches.now) result }
 {
     if let Some(inner) = matches.subcommand_matches("raw") {
-        let short = flag(inner, "short");
+        let form = raw_form(inner);
         let file = value(inner, "FILE");
-        return Command::Raw { short, file };
+        return Command::Raw { form, file };
     }
     if let Some(inner) = matches.subcommand_matches("check") {
         return Command::Check {
@@ -154,6 +156,7 @@ fn command_of<'m>(matches: &'m ArgMatches<'_>) -> Command<'m>
     }
     if let Some(inner) = matches.subcommand_matches("show") {
         return Command::Show {
+            floats: floats(inner),
             source: source(inner),
         };
     }
@@ -172,6 +175,7 @@ fn command_of<'m>(matches: &'m ArgMatches<'_>) -> Command<'m>
     }
     if let Some(inner) = matches.subcommand_matches("frames") {
         return Command::Frames {
+            floats: floats(inner),
             source: source(inner),
         };
     }
@@ -204,6 +208,19 @@ fn source<'a>(matches: &ArgMatches<'a>) -> Source<'a>
     }
 }
 
+/// How records are shown. Of their shortest encoding no payload is listed, so `--short` comes first.
+fn raw_form(matches: &ArgMatches<'_>) -> RawForm
+    ensures { IsRawForm (rows_of (found_of matches.now)) result }
+{
+    if flag(matches, "short") {
+        RawForm::Shortest
+    } else if flag(matches, "nested") {
+        RawForm::Nested
+    } else {
+        RawForm::Listing
+    }
+}
+
 /// How a set is read.
 fn reading(matches: &ArgMatches<'_>) -> Reading
     ensures { result ≡ reading_of (flag_of (codes "lenient") (rows_of (found_of matches.now))) }
@@ -212,6 +229,17 @@ fn reading(matches: &ArgMatches<'_>) -> Reading
         Reading::Lenient
     } else {
         Reading::Strict
+    }
+}
+
+/// How floats are listed.
+fn floats(matches: &ArgMatches<'_>) -> FloatForm
+    ensures { result ≡ floats_of (flag_of (codes "decimal") (rows_of (found_of matches.now))) }
+{
+    if flag(matches, "decimal") {
+        FloatForm::Decimal
+    } else {
+        FloatForm::Bits
     }
 }
 

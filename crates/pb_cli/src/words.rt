@@ -3,7 +3,7 @@ ghost use Rattle.std.specs.Prelude.{◌≡◌, false, IfOk};
 ghost use Rattle.clap.specs.Words.{app_of, rule_of};
 ghost use Rattle.clap.specs.declared.builder.command.Command.TheViews.{out-Command};
 ghost use Rattle.pb_cli.specs.Words.{canon_command, check_command, compile_command, frames_command, json_command, raw_command, show_command, types_command};
-ghost use Rattle.pb_cli.specs.Words.{directory_rule, lenient_rule, of_source, tool, tool_top, wanted};
+ghost use Rattle.pb_cli.specs.Words.{decimal_rule, directory_rule, lenient_rule, nested_rule, of_source, tool, tool_top, wanted};
 
 use clap::{Arg, ArgAction, Command};
 use std::alloc::{AllocError, Global};
@@ -55,7 +55,9 @@ fn raw<'a>(alloc: Global) -> Result<Command<'a>, AllocError>
         .about("Print the records of a message, without its schema")
         .after_help("From a pipe: curl -s URL | ./pbtool raw /dev/stdin");
     let with_short = command.arg(short)?;
-    let whole = with_short.arg(file)?;
+    let nested = nested_option(alloc);
+    let with_nested = with_short.arg(nested)?;
+    let whole = with_nested.arg(file)?;
     Ok(whole)
 }
 
@@ -73,7 +75,9 @@ fn show<'a>(alloc: Global) -> Result<Command<'a>, AllocError>
     ensures local { IfOk result (λ c. (out-Command c).has_globals ≡ false) }
 {
     let command = Command::new(alloc, "show").about("Print the fields of a message");
-    let whole = with_source(alloc, command)?;
+    let decimal = decimal_option(alloc);
+    let with_decimal = command.arg(decimal)?;
+    let whole = with_source(alloc, with_decimal)?;
     Ok(whole)
 }
 
@@ -114,7 +118,9 @@ fn frames<'a>(alloc: Global) -> Result<Command<'a>, AllocError>
     let command = Command::new(alloc, "frames").about(
         "Print the messages of a stream, each behind its length",
     );
-    let whole = with_source(alloc, command)?;
+    let decimal = decimal_option(alloc);
+    let with_decimal = command.arg(decimal)?;
+    let whole = with_source(alloc, with_decimal)?;
     Ok(whole)
 }
 
@@ -163,6 +169,28 @@ fn directory_option<'a>(alloc: Global) -> Arg<'a>
         .short('I')
         .action(ArgAction::Append)
         .help("Look here for a source or an import that is not under ROOT; may be repeated")
+}
+
+/// The flag for payloads that are listed as messages.
+fn nested_option<'a>(alloc: Global) -> Arg<'a>
+    ensures rule { rule_of result ≡ nested_rule }
+    ensures local { result.global ≡ false }
+{
+    Arg::new(alloc, "nested")
+        .long("nested")
+        .action(ArgAction::SetTrue)
+        .help("Print a payload that is a list of records itself as a message")
+}
+
+/// The flag for floats in decimal.
+fn decimal_option<'a>(alloc: Global) -> Arg<'a>
+    ensures rule { rule_of result ≡ decimal_rule }
+    ensures local { result.global ≡ false }
+{
+    Arg::new(alloc, "decimal")
+        .long("decimal")
+        .action(ArgAction::SetTrue)
+        .help("Print floats in decimal, and not by their bits")
 }
 
 /// The command with the arguments that name a message and its type.

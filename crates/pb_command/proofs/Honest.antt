@@ -82,21 +82,21 @@ module _ {F : Type 0} (contents : F → Option FileMap) (is_steady : F → Bool)
 
     -- over honest files
     pub right_of_map : (command : Command) (a : Answer) → RightOf contents is_steady files command a → Answers map command a
-    right_of_map (Raw short file) a h =
-        answer_whole full short file.now (map file.now) a (subst (λ (o : Option (List ℕ)). RawAnswer full short file.now o a) (h.1 map honest) h.2)
+    right_of_map (Raw form file) a h =
+        answer_whole full form file.now (map file.now) a (subst (λ (o : Option (List ℕ)). RawAnswer full form file.now o a) (h.1 map honest) h.2)
     right_of_map (Check source) a h =
         type_of_map _ _ source.reading source.type_name.now source.set.now source.file.now a
         (λ pool m. message_map _ _ _ _ form.Check pool m a (λ f known. known map honest) (λ v known. known.1 map honest)) h
-    right_of_map (Show source) a h =
+    right_of_map (Show floats source) a h =
         type_of_map _ _ source.reading source.type_name.now source.set.now source.file.now a
-        (λ pool m. message_map _ _ _ _ form.Listing pool m a (λ f known. known map honest) (λ v known. known.1 map honest)) h
+        (λ pool m. message_map _ _ _ _ (form.Listing floats) pool m a (λ f known. known map honest) (λ v known. known.1 map honest)) h
     right_of_map (Canon to source) a h =
         type_of_map _ _ source.reading source.type_name.now source.set.now source.file.now a
         (λ pool m. message_map _ _ _ _ (canonical_form to) pool m a (λ f known. known map honest) (λ v known. known.1 map honest)) h
     right_of_map (Json layout source) a h =
         type_of_map _ _ source.reading source.type_name.now source.set.now source.file.now a
         (λ pool m. message_map _ _ _ _ (form.Json layout) pool m a (λ f known. known map honest) (λ v known. known.1 map honest)) h
-    right_of_map (Frames source) a h =
+    right_of_map (Frames floats source) a h =
         type_of_map _ _ source.reading source.type_name.now source.set.now source.file.now a
         (λ pool m. frames_map _ _ _ _ _ _ source.file.now pool m a (λ text known. known.1 map honest) (λ count text f known. known.1 map honest)
         (λ text known. known.1 map honest)) h
@@ -104,34 +104,34 @@ module _ {F : Type 0} (contents : F → Option FileMap) (is_steady : F → Bool)
     right_of_map (Compile roots out names) a h = compile_of_map contents is_steady files (roots_of roots) out.now (texts_of names.now) a map honest h
 
     pub begun_of_map : (command : Command) (text : List ℕ) → BegunOf contents is_steady files command text → Begins map command text
-    begun_of_map (Raw short file) text h = h
+    begun_of_map (Raw form file) text h = h
     begun_of_map (Check source) text h = h
-    begun_of_map (Show source) text h = h
+    begun_of_map (Show floats source) text h = h
     begun_of_map (Canon to source) text h = h
     begun_of_map (Json layout source) text h = h
     begun_of_map (command.Types reading set name) text h = h
     begun_of_map (Compile roots out names) text h = h
-    begun_of_map (Frames source) text (inl nothing) = inl nothing
-    begun_of_map (Frames source) text (inr h) =
+    begun_of_map (Frames floats source) text (inl nothing) = inl nothing
+    begun_of_map (Frames floats source) text (inr h) =
         let at = type_at source.reading source.type_name.now h.0 h.1 h.2 (map source.set.now) (h.3 map honest) h.4 in
         inr (at.0, h.1, h.2, sym at.1, at.2, h.6 map honest)
 
   -- over any files
   pub right_of_any : (command : Command) (a : Answer) → RightOf contents is_steady files command a → AnyAnswers command a
-  right_of_any (Raw short file) a h = (h.0, h.2)
+  right_of_any (Raw form file) a h = (h.0, h.2)
   right_of_any (Check source) a h =
       type_any _ _ _ _ source.reading source.type_name.now source.set.now source.file.now a
       (λ pool m. message_map _ _ _ _ form.Check pool m a (λ f known. tt) (λ v known. known.0)) h
-  right_of_any (Show source) a h =
+  right_of_any (Show floats source) a h =
       type_any _ _ _ _ source.reading source.type_name.now source.set.now source.file.now a
-      (λ pool m. message_map _ _ _ _ form.Listing pool m a (λ f known. tt) (λ v known. known.0)) h
+      (λ pool m. message_map _ _ _ _ (form.Listing floats) pool m a (λ f known. tt) (λ v known. known.0)) h
   right_of_any (Canon to source) a h =
       type_any _ _ _ _ source.reading source.type_name.now source.set.now source.file.now a
       (λ pool m. message_map _ _ _ _ (canonical_form to) pool m a (λ f known. tt) (λ v known. known.0)) h
   right_of_any (Json layout source) a h =
       type_any _ _ _ _ source.reading source.type_name.now source.set.now source.file.now a
       (λ pool m. message_map _ _ _ _ (form.Json layout) pool m a (λ f known. tt) (λ v known. known.0)) h
-  right_of_any (Frames source) a h =
+  right_of_any (Frames floats source) a h =
       type_any _ _ _ _ source.reading source.type_name.now source.set.now source.file.now a
       (λ pool m. frames_map _ _ _ _ _ _ source.file.now pool m a (λ text known. known.0) (λ count text f known. known.0) (λ text known. known.0)) h
   right_of_any (command.Types reading set name) a h =
@@ -139,13 +139,13 @@ module _ {F : Type 0} (contents : F → Option FileMap) (is_steady : F → Bool)
   right_of_any (Compile roots out names) a h = compile_of_any contents is_steady files (roots_of roots) out.now (texts_of names.now) a h
 
   pub begun_of_any : (command : Command) (text : List ℕ) → BegunOf contents is_steady files command text → AnyBegins command text
-  begun_of_any (Raw short file) text h = h
+  begun_of_any (Raw form file) text h = h
   begun_of_any (Check source) text h = h
-  begun_of_any (Show source) text h = h
+  begun_of_any (Show floats source) text h = h
   begun_of_any (Canon to source) text h = h
   begun_of_any (Json layout source) text h = h
   begun_of_any (command.Types reading set name) text h = h
   begun_of_any (Compile roots out names) text h = h
-  begun_of_any (Frames source) text (inl nothing) =
-      (record { files = []; messages = []; enums = [] }, 0, (0, subst (λ (t : List ℕ). AreFrames (record { files = []; messages = []; enums = [] }) 0 0 t) (sym nothing) none))
-  begun_of_any (Frames source) text (inr h) = (h.1, h.2, h.5)
+  begun_of_any (Frames floats source) text (inl nothing) =
+      (record { files = []; messages = []; enums = [] }, 0, (0, subst (λ (t : List ℕ). AreFrames floats (record { files = []; messages = []; enums = [] }) 0 0 t) (sym nothing) none))
+  begun_of_any (Frames floats source) text (inr h) = (h.1, h.2, h.5)

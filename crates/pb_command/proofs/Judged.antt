@@ -1,5 +1,5 @@
 -- What is known of records that were read.
-use Rattle.std.proofs.Common.{◌≡◌, ℕ, ◌+◌, ◌<◌, ◌≤◌, List, length, take, Bool, Option, None, Some, refl, subst, arith}
+use Rattle.std.proofs.Common.{◌≡◌, ℕ, ◌+◌, ◌<◌, ◌≤◌, List, length, take, Option, None, Some, refl, subst, arith}
 use Rattle.std.specs.Prelude.{option_map}
 use Rattle.std.proofs.lemmas.List.{length-take, take-take, take_all}
 use Rattle.pb_wire.specs.Record.{Record}
@@ -7,8 +7,9 @@ use Rattle.pb_wire.specs.Fault.{Fault}
 use Rattle.pb_wire.specs.Schema.{Schema, blank}
 use Rattle.pb_wire.specs.Grammar.{IsText, HasFault, bad, bad_front, too_large}
 use Rattle.pb_wire.specs.Limits.{Bounds}
-use Rattle.pb_files.specs.Answer.{Answer, done, refused}
-use Rattle.pb_command.specs.RawAnswer.{RawAnswer, missing, shown, faulty, shown_as}
+use Rattle.pb_files.specs.Answer.{Answer, refused}
+use Rattle.pb_command.specs.RawAnswer.{RawAnswer, ShownAnswer, missing, shown, faulty}
+use Rattle.pb_command.specs.declared.command.RawForm.{RawForm}
 use Rattle.pb_files.specs.Report.{fault_line}
 
 -- the first bytes of a text within the limit are all of it
@@ -35,20 +36,20 @@ fault_whole S c limits b f (too_large long h e) =
     too_large (front_long limits.bytes b long) (rw front at h) e
 
 shown_whole :
-    (limits : Bounds) (short : Bool) (path : List ℕ) (a : Answer) (o : Option (List ℕ)) (t : List ℕ) (rs : List Record)
-    → option_map (take (limits.bytes + 1)) o ≡ Some t → IsText blank tt limits t rs → a ≡ done (shown_as short rs)
-    → RawAnswer limits short path o a
-shown_whole limits short path a None t rs there is_text e = absurd (cc)
-shown_whole limits short path a (Some b) t rs there is_text e =
+    (limits : Bounds) (form : RawForm) (path : List ℕ) (a : Answer) (o : Option (List ℕ)) (t : List ℕ) (rs : List Record)
+    → option_map (take (limits.bytes + 1)) o ≡ Some t → IsText blank tt limits t rs → ShownAnswer form rs a
+    → RawAnswer limits form path o a
+shown_whole limits form path a None t rs there is_text e = absurd (cc)
+shown_whole limits form path a (Some b) t rs there is_text e =
     let front : t ≡ take (limits.bytes + 1) b = cc in
     shown refl (text_whole limits b rs (subst (λ (u : List ℕ). IsText blank tt limits u rs) front is_text)) e
 
 faulty_whole :
-    (limits : Bounds) (short : Bool) (path : List ℕ) (a : Answer) (o : Option (List ℕ)) (t : List ℕ) (f : Fault)
+    (limits : Bounds) (form : RawForm) (path : List ℕ) (a : Answer) (o : Option (List ℕ)) (t : List ℕ) (f : Fault)
     → option_map (take (limits.bytes + 1)) o ≡ Some t → HasFault blank tt limits t f → a ≡ refused (fault_line f)
-    → RawAnswer limits short path o a
-faulty_whole limits short path a None t f there has_fault e = absurd (cc)
-faulty_whole limits short path a (Some b) t f there has_fault e =
+    → RawAnswer limits form path o a
+faulty_whole limits form path a None t f there has_fault e = absurd (cc)
+faulty_whole limits form path a (Some b) t f there has_fault e =
     let front : t ≡ take (limits.bytes + 1) b = cc in
     faulty refl (fault_whole blank tt limits b f (subst (λ (u : List ℕ). HasFault blank tt limits u f) front has_fault)) e
 
@@ -58,8 +59,8 @@ none_whole n (Some b) nothing = absurd (cc)
 
 -- the answer over the first bytes, one more than the limit, is the answer over all of them
 pub answer_whole :
-    (limits : Bounds) (short : Bool) (path : List ℕ) (o : Option (List ℕ)) (a : Answer)
-    → RawAnswer limits short path (option_map (take (limits.bytes + 1)) o) a → RawAnswer limits short path o a
-answer_whole limits short path o a (missing nothing e) = missing (none_whole (limits.bytes + 1) o nothing) e
-answer_whole limits short path o a (shown {text} {records} there is_text e) = shown_whole limits short path a o text records there is_text e
-answer_whole limits short path o a (faulty {text} {f} there has_fault e) = faulty_whole limits short path a o text f there has_fault e
+    (limits : Bounds) (form : RawForm) (path : List ℕ) (o : Option (List ℕ)) (a : Answer)
+    → RawAnswer limits form path (option_map (take (limits.bytes + 1)) o) a → RawAnswer limits form path o a
+answer_whole limits form path o a (missing nothing e) = missing (none_whole (limits.bytes + 1) o nothing) e
+answer_whole limits form path o a (shown {text} {records} there is_text e) = shown_whole limits form path a o text records there is_text e
+answer_whole limits form path o a (faulty {text} {f} there has_fault e) = faulty_whole limits form path a o text f there has_fault e

@@ -17,10 +17,12 @@ use Rattle.pb_stream.specs.Frame.{Frame, FrameFault}
 use Rattle.pb_stream.specs.Stream.{Stream}
 use Rattle.pb_stream.specs.Taking.{Counts, TakesNone}
 use Rattle.pb_files.specs.Answer.{done, stopped, broken}
-use Rattle.pb_command.specs.FramesAnswer.{AreFrames, none, one_more, BeginsWith, no_frame, frame_more, frame_lines, ended, no_frame_there, input_failed}
+use Rattle.pb_listing.specs.declared.form.FloatForm.{FloatForm}
+use Rattle.pb_listing.specs.Putting.{PutsSome}
+use Rattle.pb_command.specs.FramesAnswer.{AreFrames, none, one_more, AreFrameLines, BeginsWith, no_frame, frame_more, ended, no_frame_there, input_failed}
 use Rattle.pb_files.specs.Refusal.{ByRefusal}
 use Rattle.pb_output.specs.Sink.{Puts}
-use Rattle.pb_command.specs.Streaming.{FramesBegunIn, FramesIn, IsToldOfFrame, PutsFrames, PutsNext, ReadsFrame, RefusesFrame, read_lines}
+use Rattle.pb_command.specs.Streaming.{AreReadLines, FramesBegunIn, FramesIn, IsToldOfFrame, ReadsFrame, RefusesFrame}
 use Rattle.pb_output.specs.declared.sink.Sink.{Sink}
 use Rattle.pb_command.specs.declared.frames.Next.{Next}
 use Rattle.pb_files.specs.declared.report.Refusal.{Refusal}
@@ -54,9 +56,9 @@ frame_has_byte {rest = rest} frame =
 
 -- so many frames have no fewer bytes
 frames_size :
-    {pool : Types} {m : ℕ} {input : List ℕ} {count offset : ℕ} {text rest : List ℕ} → BeginsWith pool m input count offset text rest → count ≤ offset
+    {floats : FloatForm} {pool : Types} {m : ℕ} {input : List ℕ} {count offset : ℕ} {text rest : List ℕ} → BeginsWith floats pool m input count offset text rest → count ≤ offset
 frames_size no_frame = omega arith
-frames_size (frame_more size before frame is) =
+frames_size (frame_more size before frame is lines) =
     let fewer = frames_size before in
     let one = frame_has_byte frame in
     omega (arith, fewer, one, is)
@@ -68,8 +70,8 @@ no_bytes (x ∷ xs) e = absurd (omega (arith, e))
 -- WHAT WAS READ
 
 -- so many frames of an input were read, with these lines, and the reader goes on
-pub record AreRead {I : Type 0} (left : I → Option (List ℕ)) (is_steady : I → Bool) (start now : Stream I) (count : ℕ) (text : List ℕ) : Type 0 where
-  pub frames : AreFrames start.pool start.kind count text
+pub record AreRead {I : Type 0} (left : I → Option (List ℕ)) (is_steady : I → Bool) (floats : FloatForm) (start now : Stream I) (count : ℕ) (text : List ℕ) : Type 0 where
+  pub frames : AreFrames floats start.pool start.kind count text
   pub pool : now.pool ≡ start.pool
   pub kind : now.kind ≡ start.kind
   pub limits : now.limits ≡ full
@@ -77,33 +79,31 @@ pub record AreRead {I : Type 0} (left : I → Option (List ℕ)) (is_steady : I 
   pub steady : is_steady start.input ≡ true → is_steady now.input ≡ true
   pub known :
       (input : List ℕ) → left start.input ≡ Some input → length input < 2 ^ 64
-      → (rest : List ℕ) × (left now.input ≡ Some rest) × BeginsWith start.pool start.kind input count now.taken text rest
+      → (rest : List ℕ) × (left now.input ≡ Some rest) × BeginsWith floats start.pool start.kind input count now.taken text rest
       × (now.taken + length rest ≡ length input)
 
 -- they were put
 pub record IsStreaming
-    {D I : Type 0} (written : D → Option (List ℕ)) (failures : D → ℕ) (left : I → Option (List ℕ)) (is_steady : I → Bool) (old new : D) (a b : Sink)
-    (start now : Stream I) (count : ℕ) : Type 0 where
+    {D I : Type 0} (written : D → Option (List ℕ)) (failures : D → ℕ) (left : I → Option (List ℕ)) (is_steady : I → Bool) (floats : FloatForm) (old new : D)
+    (a b : Sink) (start now : Stream I) (count : ℕ) : Type 0 where
   pub text : List ℕ
   pub put : Puts written failures old new a b text
-  pub read : AreRead left is_steady start now count text
+  pub read : AreRead left is_steady floats start now count text
 
 -- one more frame is known
 known_more :
-    {old new : Option (List ℕ)} (pool : Types) (kind : ℕ) (input rest text : List ℕ) (count before after : ℕ) (m : Message) → old ≡ Some rest
-    → IsSomeAnd new (Frame pool kind full rest m) → Counts before after old new → BeginsWith pool kind input count before text rest
-    → before + length rest ≡ length input → length input < 2 ^ 64
-    → (left : List ℕ) × (new ≡ Some left) × BeginsWith pool kind input (suc count) after (text ++ frame_lines pool kind count before (after - before) m) left
-    × (after + length left ≡ length input)
-known_more {new = None} pool kind input rest text count before after m is framed counts begins total small = absurd framed
-known_more {old} {new = Some left} pool kind input rest text count before after m is framed counts begins total small =
+    {old new : Option (List ℕ)} (floats : FloatForm) (pool : Types) (kind : ℕ) (input rest text lines : List ℕ) (count before after : ℕ) (m : Message)
+    → old ≡ Some rest → IsSomeAnd new (Frame pool kind full rest m) → Counts before after old new → BeginsWith floats pool kind input count before text rest
+    → before + length rest ≡ length input → length input < 2 ^ 64 → AreFrameLines floats pool kind count before (after - before) m lines
+    → (left : List ℕ) × (new ≡ Some left) × BeginsWith floats pool kind input (suc count) after (text ++ lines) left × (after + length left ≡ length input)
+known_more {new = None} floats pool kind input rest text lines count before after m is framed counts begins total small are = absurd framed
+known_more {old} {new = Some left} floats pool kind input rest text lines count before after m is framed counts begins total small are =
     let sizes = taken_size before after old (Some left) rest left is refl (omega (arith, total, small)) counts in
     let size = sizes.0 in
     let end = sizes.1 in (
       left,
       refl,
-      subst (λ (n : ℕ). BeginsWith pool kind input (suc count) n (text ++ frame_lines pool kind count before (after - before) m) left) end
-          (frame_more (after - before) begins framed size),
+      subst (λ (n : ℕ). BeginsWith floats pool kind input (suc count) n (text ++ lines) left) end (frame_more (after - before) begins framed size are),
       omega (arith, size, end, total),
     )
 
@@ -127,8 +127,8 @@ none_left (Some xs) (Some ys) rest is h =
     let same : xs ≡ rest = cc in
     sym same ∙ h.0 ∙ h.1
 
-module _ {I : Type 0} {left : I → Option (List ℕ)} {is_steady : I → Bool} where
-  pub read_start : (r : Stream I) → r.taken ≡ 0 → r.finished ≡ false → r.limits ≡ full → AreRead left is_steady r r 0 []
+module _ {I : Type 0} {left : I → Option (List ℕ)} {is_steady : I → Bool} {floats : FloatForm} where
+  pub read_start : (r : Stream I) → r.taken ≡ 0 → r.finished ≡ false → r.limits ≡ full → AreRead left is_steady floats r r 0 []
   read_start r first open_ limits = record {
     frames = none;
     pool = refl;
@@ -137,19 +137,20 @@ module _ {I : Type 0} {left : I → Option (List ℕ)} {is_steady : I → Bool} 
     goes_on = open_;
     steady = λ s. s;
     known = λ input is small.
-        (input, is, subst (λ (n : ℕ). BeginsWith r.pool r.kind input 0 n [] input) (sym first) no_frame, omega (arith, first));
+        (input, is, subst (λ (n : ℕ). BeginsWith floats r.pool r.kind input 0 n [] input) (sym first) no_frame, omega (arith, first));
   }
 
   -- one more frame was read
   read_more :
-      {start now next : Stream I} {count : ℕ} {text : List ℕ} (m : Message) → AreRead left is_steady start now count text → next.pool ≡ now.pool
+      {start now next : Stream I} {count : ℕ} {text lines : List ℕ} (m : Message) → AreRead left is_steady floats start now count text → next.pool ≡ now.pool
       → next.kind ≡ now.kind → next.limits ≡ now.limits → next.finished ≡ false → (is_steady now.input ≡ true → is_steady next.input ≡ true)
       → IsWellFormed start.pool start.kind m
       → IfSome (left now.input) (λ rest. IsSomeAnd (left next.input) (Frame now.pool now.kind now.limits rest m))
       → Counts now.taken next.taken (left now.input) (left next.input)
-      → AreRead left is_steady start next (suc count) (text ++ frame_lines start.pool start.kind count now.taken (next.taken - now.taken) m)
-  read_more {start = start} {now = now} {next = next} {count = count} {text = text} m h pool kind limits open_ steady well frame counts = record {
-    frames = one_more h.frames well now.taken (next.taken - now.taken);
+      → AreFrameLines floats start.pool start.kind count now.taken (next.taken - now.taken) m lines
+      → AreRead left is_steady floats start next (suc count) (text ++ lines)
+  read_more {start = start} {now = now} {next = next} {count = count} {text = text} {lines = lines} m h pool kind limits open_ steady well frame counts are = record {
+    frames = one_more h.frames well now.taken (next.taken - now.taken) are;
     pool = pool ∙ h.pool;
     kind = kind ∙ h.kind;
     limits = limits ∙ h.limits;
@@ -157,30 +158,31 @@ module _ {I : Type 0} {left : I → Option (List ℕ)} {is_steady : I → Bool} 
     steady = λ s. steady (h.steady s);
     known = λ input is small.
         let before = h.known input is small in
-        known_more start.pool start.kind input before.0 text count now.taken next.taken m before.1
-        (frame_there (left next.input) m before.0 h.pool h.kind h.limits before.1 frame) counts before.2 before.3 small;
+        known_more floats start.pool start.kind input before.0 text lines count now.taken next.taken m before.1
+        (frame_there (left next.input) m before.0 h.pool h.kind h.limits before.1 frame) counts before.2 before.3 small are;
   }
 
   -- as a step tells it
   pub read_next :
-      {start now next : Stream I} {count : ℕ} {text : List ℕ} (m : Message) → AreRead left is_steady start now count text
-      → ReadsFrame left is_steady now next m → AreRead left is_steady start next (count + 1) (text ++ read_lines count now next m)
-  read_next m h step =
+      {start now next : Stream I} {count : ℕ} {text : List ℕ} (m : Message) (lines : List ℕ) → AreRead left is_steady floats start now count text
+      → ReadsFrame left is_steady now next m → AreReadLines floats count now next m lines → AreRead left is_steady floats start next (count + 1) (text ++ lines)
+  read_next m lines h step are =
       let well = rw (h.pool, h.kind) at step.well in
-      rw (h.pool, h.kind, add-one) (read_more m h step.same.0 step.same.1 step.same.2 step.goes_on step.steady well step.frame step.counted)
+      let same = rw (h.pool, h.kind) at are in
+      rw add-one (read_more m h step.same.0 step.same.1 step.same.2 step.goes_on step.steady well step.frame step.counted same)
 
   -- WHAT IT COMES TO
 
   -- the lines are printed before more is known
-  pub read_begun : {start now : Stream I} {count : ℕ} {text : List ℕ} → AreRead left is_steady start now count text → FramesBegunIn left is_steady start.input start.pool start.kind text
+  pub read_begun : {start now : Stream I} {count : ℕ} {text : List ℕ} → AreRead left is_steady floats start now count text → FramesBegunIn left is_steady start.input floats start.pool start.kind text
   read_begun {now = now} {count = count} h =
       ((count, h.frames), λ bytes steady is. (bytes, refl, λ small. let before = h.known bytes is small in (count, now.taken, before.0, before.2)))
 
   -- nothing is left
   read_all :
-      {start now : Stream I} {count : ℕ} {text : List ℕ} (path : List ℕ) → AreRead left is_steady start now count text
+      {start now : Stream I} {count : ℕ} {text : List ℕ} (path : List ℕ) → AreRead left is_steady floats start now count text
       → ((rest input : List ℕ) → left now.input ≡ Some rest → length input < 2 ^ 64 → count ≤ now.taken → now.taken + length rest ≡ length input → rest ≡ [])
-      → FramesIn left is_steady start.input path start.pool start.kind (done text)
+      → FramesIn left is_steady start.input floats path start.pool start.kind (done text)
   read_all {start = start} {now = now} {count = count} {text = text} path h nothing =
       ended (
         (count, h.frames),
@@ -191,7 +193,7 @@ module _ {I : Type 0} {left : I → Option (List ℕ)} {is_steady : I → Bool} 
               let before = h.known bytes is small in (
                 count,
                 now.taken,
-                subst (BeginsWith start.pool start.kind bytes count now.taken text)
+                subst (BeginsWith floats start.pool start.kind bytes count now.taken text)
                     (nothing before.0 bytes before.1 small (frames_size before.2) before.3) before.2,
               ),
         ),
@@ -200,23 +202,23 @@ module _ {I : Type 0} {left : I → Option (List ℕ)} {is_steady : I → Bool} 
 
   -- the reader says so
   pub read_to_end :
-      {start now : Stream I} {count : ℕ} {text : List ℕ} (path : List ℕ) (after : Option (List ℕ)) → AreRead left is_steady start now count text
-      → TakesNone (left now.input) after → FramesIn left is_steady start.input path start.pool start.kind (done text)
+      {start now : Stream I} {count : ℕ} {text : List ℕ} (path : List ℕ) (after : Option (List ℕ)) → AreRead left is_steady floats start now count text
+      → TakesNone (left now.input) after → FramesIn left is_steady start.input floats path start.pool start.kind (done text)
   read_to_end {now = now} path after h takes = read_all path h (λ rest input is small fewer total. none_left (left now.input) after rest is takes)
 
   -- the frames are as many as bytes can be
   pub read_most :
-      {start now : Stream I} {count : ℕ} {text : List ℕ} (path : List ℕ) → AreRead left is_steady start now count text → 2 ^ 64 - 1 ≤ count
-      → FramesIn left is_steady start.input path start.pool start.kind (done text)
+      {start now : Stream I} {count : ℕ} {text : List ℕ} (path : List ℕ) → AreRead left is_steady floats start now count text → 2 ^ 64 - 1 ≤ count
+      → FramesIn left is_steady start.input floats path start.pool start.kind (done text)
   read_most {now = now} path h most = read_all path h (λ rest input is small fewer total. no_bytes rest (omega (arith, most, small, fewer, total)))
 
   -- what follows is refused
   pub read_refused :
       {start now : Stream I} {count : ℕ} {text : List ℕ} (path : Bor (List ℕ)) (e : DecodeError) (r : Refusal)
-      → AreRead left is_steady start now count text → IsToldOfFrame count path e r → RefusesFrame left is_steady now e
-      → ByRefusal (λ line. FramesIn left is_steady start.input path.now start.pool start.kind (stopped text line))
-      (λ device. FramesIn left is_steady start.input path.now start.pool start.kind (broken text device))
-      (FramesBegunIn left is_steady start.input start.pool start.kind text) r
+      → AreRead left is_steady floats start now count text → IsToldOfFrame count path e r → RefusesFrame left is_steady now e
+      → ByRefusal (λ line. FramesIn left is_steady start.input floats path.now start.pool start.kind (stopped text line))
+      (λ device. FramesIn left is_steady start.input floats path.now start.pool start.kind (broken text device))
+      (FramesBegunIn left is_steady start.input floats start.pool start.kind text) r
   read_refused {now = now} {count = count} path (decode.Fault byte steps cause) r h told refused =
       rw told
       (no_frame_there {f = fault byte steps.items cause} (
@@ -233,8 +235,9 @@ module _ {I : Type 0} {left : I → Option (List ℕ)} {is_steady : I → Bool} 
   read_refused path decode.Memory r h told refused = rw told (read_begun h)
   read_refused path decode.Finished r h told refused = absurd refused.why
 
-  -- ONE STEP
+-- ONE STEP
 
+module _ {I : Type 0} {left : I → Option (List ℕ)} {is_steady : I → Bool} where
   -- the frame that the reader tells
   pub reads_frame :
       {old new : Stream I} (d : Dynamic) → (new.pool ≡ old.pool) × (new.kind ≡ old.kind) × (new.limits ≡ old.limits) → new.finished ≡ false
@@ -252,13 +255,13 @@ module _ {I : Type 0} {left : I → Option (List ℕ)} {is_steady : I → Bool} 
 
 -- its lines, as they were put
 pub lines_read :
-    {D I : Type 0} {written : D → Option (List ℕ)} {failures : D → ℕ} {d0 d1 : D} {a b : Sink} (old new : Stream I) (d : Dynamic)
+    {D I : Type 0} {written : D → Option (List ℕ)} {failures : D → ℕ} {d0 d1 : D} {a b : Sink} (floats : FloatForm) (old new : Stream I) (d : Dynamic)
     (index offset size : ℕ) → (d.pool ≡ old.pool) × (d.kind ≡ old.kind) → offset ≡ old.taken → size ≡ new.taken - offset
-    → Puts written failures d0 d1 a b (frame_lines d.pool d.kind index offset size d.body)
-    → Puts written failures d0 d1 a b (read_lines index old new d.body)
-lines_read old new d index offset size typed begins sized put = rw (sized, begins, typed.0, typed.1) at put
+    → PutsSome written failures d0 d1 a b (AreFrameLines floats d.pool d.kind index offset size d.body)
+    → PutsSome written failures d0 d1 a b (AreReadLines floats index old new d.body)
+lines_read floats old new d index offset size typed begins sized put = (put.0, rw (sized, begins, typed.0, typed.1) at put.1, put.2)
 
 pub streaming_start :
-    {D I : Type 0} {written : D → Option (List ℕ)} {failures : D → ℕ} {left : I → Option (List ℕ)} {is_steady : I → Bool} {d : D} {a : Sink} (r : Stream I)
-    → r.taken ≡ 0 → r.finished ≡ false → r.limits ≡ full → IsStreaming written failures left is_steady d d a a r r 0
-streaming_start r first open_ limits = record { text = []; put = puts_none; read = read_start r first open_ limits }
+    {D I : Type 0} {written : D → Option (List ℕ)} {failures : D → ℕ} {left : I → Option (List ℕ)} {is_steady : I → Bool} {d : D} {a : Sink}
+    (floats : FloatForm) (r : Stream I) → r.taken ≡ 0 → r.finished ≡ false → r.limits ≡ full → IsStreaming written failures left is_steady floats d d a a r r 0
+streaming_start floats r first open_ limits = record { text = []; put = puts_none; read = read_start r first open_ limits }

@@ -11,6 +11,7 @@ use Rattle.pb_value.specs.Derives.{Text}
 use Rattle.pb_value.specs.WellFormed.{IsWellFormed}
 use Rattle.pb_stream.specs.Frame.{FrameFault}
 use Rattle.pb_files.specs.Answer.{Answer, Ends}
+use Rattle.pb_listing.specs.declared.form.FloatForm.{FloatForm}
 use Rattle.pb_command.specs.CompileAnswer.{CompileAnswer, roots_of, texts_of}
 use Rattle.pb_files.specs.FileMap.{FileMap}
 use Rattle.pb_command.specs.FramesAnswer.{AreFrames, BeginsWith, FramesAnswer}
@@ -42,21 +43,21 @@ module _ (content : Option (List ℕ)) where
   TextAt pool m v = (text : List ℕ) × (content ≡ Some text) × Text pool m full text v
 
   -- the bytes are frames with these lines
-  abbrev pub FramesAt : Types → ℕ → List ℕ → Type 0
-  FramesAt pool m text =
-      (input : List ℕ) × (content ≡ Some input) × (length input < 2 ^ 64 → (count : ℕ) × (offset : ℕ) × BeginsWith pool m input count offset text [])
+  abbrev pub FramesAt : FloatForm → Types → ℕ → List ℕ → Type 0
+  FramesAt floats pool m text =
+      (input : List ℕ) × (content ≡ Some input) × (length input < 2 ^ 64 → (count : ℕ) × (offset : ℕ) × BeginsWith floats pool m input count offset text [])
 
   -- they begin with this number of frames with these lines, and what follows is no frame
-  abbrev pub FrameFaultAt : Types → ℕ → ℕ → List ℕ → Fault → Type 0
-  FrameFaultAt pool m count text f =
+  abbrev pub FrameFaultAt : FloatForm → Types → ℕ → ℕ → List ℕ → Fault → Type 0
+  FrameFaultAt floats pool m count text f =
       (input : List ℕ) × (content ≡ Some input)
-      × (length input < 2 ^ 64 → (offset : ℕ) × (rest : List ℕ) × BeginsWith pool m input count offset text rest × FrameFault pool m full rest f)
+      × (length input < 2 ^ 64 → (offset : ℕ) × (rest : List ℕ) × BeginsWith floats pool m input count offset text rest × FrameFault pool m full rest f)
 
   -- they begin with frames with these lines
-  abbrev pub FramesBegunAt : Types → ℕ → List ℕ → Type 0
-  FramesBegunAt pool m text =
+  abbrev pub FramesBegunAt : FloatForm → Types → ℕ → List ℕ → Type 0
+  FramesBegunAt floats pool m text =
       (input : List ℕ) × (content ≡ Some input)
-      × (length input < 2 ^ 64 → (count : ℕ) × (offset : ℕ) × (rest : List ℕ) × BeginsWith pool m input count offset text rest)
+      × (length input < 2 ^ 64 → (count : ℕ) × (offset : ℕ) × (rest : List ℕ) × BeginsWith floats pool m input count offset text rest)
 
 module _ (map : FileMap) where
   abbrev pub MessageComesTo : Form → Source → Answer → Type 0
@@ -64,35 +65,35 @@ module _ (map : FileMap) where
       TypeAnswer (λ content. content ≡ map s.set.now) (map s.file.now ≡ None)
       (MessageAnswer (FaultAt (map s.file.now)) (TextAt (map s.file.now)) form) s.reading s.type_name.now s.set.now s.file.now
 
-  abbrev pub FramesComeTo : Source → Answer → Type 0
-  FramesComeTo s =
+  abbrev pub FramesComeTo : FloatForm → Source → Answer → Type 0
+  FramesComeTo floats s =
       TypeAnswer (λ content. content ≡ map s.set.now) (map s.file.now ≡ None)
-      (FramesAnswer (FramesAt (map s.file.now)) (FrameFaultAt (map s.file.now)) (λ pool m text. ⊥) s.file.now)
+      (FramesAnswer (FramesAt (map s.file.now) floats) (FrameFaultAt (map s.file.now) floats) (λ pool m text. ⊥) s.file.now)
       s.reading s.type_name.now s.set.now s.file.now
 
   abbrev pub Answers : Command → Answer → Type 0
-  Answers (Raw short file) = RawAnswer full short file.now (map file.now)
+  Answers (Raw form file) = RawAnswer full form file.now (map file.now)
   Answers (Check source) = MessageComesTo form.Check source
-  Answers (Show source) = MessageComesTo form.Listing source
+  Answers (Show floats source) = MessageComesTo (form.Listing floats) source
   Answers (Canon to source) = MessageComesTo (canonical_form to) source
   Answers (Json layout source) = MessageComesTo (form.Json layout) source
-  Answers (Frames source) = FramesComeTo source
+  Answers (Frames floats source) = FramesComeTo floats source
   Answers (command.Types reading set name) = TypesAnswer (λ content. content ≡ map set.now) reading set.now (option_map (λ n. n.now) name)
   Answers (Compile roots out names) = CompileAnswer (λ path content. content ≡ map path) (λ path. ⊥) (roots_of roots) out.now (texts_of names.now)
 
   -- what is printed before the answer is known: of frames those that were read, and else nothing
   abbrev pub Begins : Command → List ℕ → Type 0
-  Begins (Raw short file) text = text ≡ []
+  Begins (Raw form file) text = text ≡ []
   Begins (Check source) text = text ≡ []
-  Begins (Show source) text = text ≡ []
+  Begins (Show floats source) text = text ≡ []
   Begins (Canon to source) text = text ≡ []
   Begins (Json layout source) text = text ≡ []
   Begins (command.Types reading set name) text = text ≡ []
   Begins (Compile roots out names) text = text ≡ []
-  Begins (Frames source) text =
+  Begins (Frames floats source) text =
       (text ≡ [])
       ⊎ ((set : List ℕ) × (pool : Types) × (m : ℕ) × (map source.set.now ≡ Some set) × HasType source.reading source.type_name.now set pool m
-      × FramesBegunAt (map source.file.now) pool m text)
+      × FramesBegunAt (map source.file.now) floats pool m text)
 
 -- OVER ANY FILES, also those that report nothing of what they hold
 
@@ -100,35 +101,35 @@ abbrev pub AnyMessage : Form → Source → Answer → Type 0
 AnyMessage form s =
     TypeAnswer (λ content. ⊤) ⊤ (MessageAnswer (λ pool m f. ⊤) IsWellFormed form) s.reading s.type_name.now s.set.now s.file.now
 
-abbrev pub AnyFrames : Types → ℕ → List ℕ → Type 0
-AnyFrames pool m text = (count : ℕ) × AreFrames pool m count text
+abbrev pub AnyFrames : FloatForm → Types → ℕ → List ℕ → Type 0
+AnyFrames floats pool m text = (count : ℕ) × AreFrames floats pool m count text
 
-abbrev pub AnyStream : Source → Answer → Type 0
-AnyStream s =
-    TypeAnswer (λ content. ⊤) ⊤ (FramesAnswer AnyFrames (λ pool m count text f. AreFrames pool m count text) AnyFrames s.file.now)
+abbrev pub AnyStream : FloatForm → Source → Answer → Type 0
+AnyStream floats s =
+    TypeAnswer (λ content. ⊤) ⊤ (FramesAnswer (AnyFrames floats) (λ pool m count text f. AreFrames floats pool m count text) (AnyFrames floats) s.file.now)
     s.reading s.type_name.now s.set.now s.file.now
 
 -- the answer has the form of one: of raw records it is that of some bytes, of sources that of some at each path, and else of some set, and of some
 -- messages of the type
 abbrev pub AnyAnswers : Command → Answer → Type 0
-AnyAnswers (Raw short file) a = (content : Option (List ℕ)) × RawAnswer full short file.now content a
+AnyAnswers (Raw form file) a = (content : Option (List ℕ)) × RawAnswer full form file.now content a
 AnyAnswers (Check source) a = AnyMessage form.Check source a
-AnyAnswers (Show source) a = AnyMessage form.Listing source a
+AnyAnswers (Show floats source) a = AnyMessage (form.Listing floats) source a
 AnyAnswers (Canon to source) a = AnyMessage (canonical_form to) source a
 AnyAnswers (Json layout source) a = AnyMessage (form.Json layout) source a
-AnyAnswers (Frames source) a = AnyStream source a
+AnyAnswers (Frames floats source) a = AnyStream floats source a
 AnyAnswers (command.Types reading set name) a = TypesAnswer (λ content. ⊤) reading set.now (option_map (λ n. n.now) name) a
 AnyAnswers (Compile roots out names) a = CompileAnswer (λ path content. ⊤) (λ path. ⊤) (roots_of roots) out.now (texts_of names.now) a
 
 abbrev pub AnyBegins : Command → List ℕ → Type 0
-AnyBegins (Raw short file) text = text ≡ []
+AnyBegins (Raw form file) text = text ≡ []
 AnyBegins (Check source) text = text ≡ []
-AnyBegins (Show source) text = text ≡ []
+AnyBegins (Show floats source) text = text ≡ []
 AnyBegins (Canon to source) text = text ≡ []
 AnyBegins (Json layout source) text = text ≡ []
 AnyBegins (command.Types reading set name) text = text ≡ []
 AnyBegins (Compile roots out names) text = text ≡ []
-AnyBegins (Frames source) text = (pool : Types) × (m : ℕ) × AnyFrames pool m text
+AnyBegins (Frames floats source) text = (pool : Types) × (m : ℕ) × AnyFrames floats pool m text
 
 -- THE END OF A RUN
 

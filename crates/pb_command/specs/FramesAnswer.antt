@@ -7,29 +7,34 @@ use Rattle.pb_value.specs.Data.{Message}
 use Rattle.pb_value.specs.WellFormed.{IsWellFormed}
 use Rattle.pb_stream.specs.Frame.{Frame}
 use Rattle.pb_files.specs.Answer.{Answer, done, stopped, broken}
-use Rattle.pb_listing.specs.Listing.{message_lines}
+use Rattle.pb_listing.specs.declared.form.FloatForm.{FloatForm}
+use Rattle.pb_listing.specs.ListingAs.{AreMessageLines}
 use Rattle.pb_listing.specs.RawListing.{line}
 use Rattle.pb_files.specs.Report.{frame_fault_line}
 
--- the lines of a frame: which one it is, where it begins and how many bytes it has, and its message one level in
-abbrev pub frame_lines : Types → ℕ → ℕ → ℕ → ℕ → Message → List ℕ
-frame_lines pool m index offset size v =
-    line 0 (codes "frame " ++ decimal index ++ codes " at " ++ decimal offset ++ codes " size " ++ decimal size) ++ message_lines pool 1 m v
+-- the line of a frame: which one it is, where it begins and how many bytes it has
+abbrev pub frame_line : ℕ → ℕ → ℕ → List ℕ
+frame_line index offset size = line 0 (codes "frame " ++ decimal index ++ codes " at " ++ decimal offset ++ codes " size " ++ decimal size)
 
--- the lines of a number of frames, whatever their places
-pub data AreFrames (pool : Types) (m : ℕ) : ℕ → List ℕ → Type 0 where
-  none : AreFrames pool m 0 []
+-- the bytes are the lines of a frame: this one, and its message one level in, with floats listed so
+abbrev pub AreFrameLines : FloatForm → Types → ℕ → ℕ → ℕ → ℕ → Message → List ℕ → Type 0
+AreFrameLines floats pool m index offset size v s =
+    (inside : List ℕ) × (s ≡ frame_line index offset size ++ inside) × AreMessageLines floats pool 1 m v inside
+
+-- the lines of so many frames, whatever their places
+pub data AreFrames (floats : FloatForm) (pool : Types) (m : ℕ) : ℕ → List ℕ → Type 0 where
+  none : AreFrames floats pool m 0 []
   one_more :
-      {count : ℕ} {text : List ℕ} {v : Message} → AreFrames pool m count text → IsWellFormed pool m v → (offset size : ℕ)
-      → AreFrames pool m (suc count) (text ++ frame_lines pool m count offset size v)
+      {count : ℕ} {text lines : List ℕ} {v : Message} → AreFrames floats pool m count text → IsWellFormed pool m v → (offset size : ℕ)
+      → AreFrameLines floats pool m count offset size v lines → AreFrames floats pool m (suc count) (text ++ lines)
 
--- an input begins with this number of frames, of this number of bytes and with these lines, and the rest follows
-pub data BeginsWith (pool : Types) (m : ℕ) (input : List ℕ) : ℕ → ℕ → List ℕ → List ℕ → Type 0 where
-  no_frame : BeginsWith pool m input 0 0 [] input
+-- an input begins with so many frames, of so many bytes and with these lines, and the rest follows
+pub data BeginsWith (floats : FloatForm) (pool : Types) (m : ℕ) (input : List ℕ) : ℕ → ℕ → List ℕ → List ℕ → Type 0 where
+  no_frame : BeginsWith floats pool m input 0 0 [] input
   frame_more :
-      {count offset : ℕ} {text rest after : List ℕ} {v : Message} (size : ℕ) → BeginsWith pool m input count offset text rest
-      → Frame pool m full rest v after → length rest ≡ size + length after
-      → BeginsWith pool m input (suc count) (offset + size) (text ++ frame_lines pool m count offset size v) after
+      {count offset : ℕ} {text lines rest after : List ℕ} {v : Message} (size : ℕ) → BeginsWith floats pool m input count offset text rest
+      → Frame pool m full rest v after → length rest ≡ size + length after → AreFrameLines floats pool m count offset size v lines
+      → BeginsWith floats pool m input (suc count) (offset + size) (text ++ lines) after
 
 -- Where these say of a type that an input is frames with these lines, that after a number of frames with these lines something is no frame, and that the input
 -- failed after frames with these lines.

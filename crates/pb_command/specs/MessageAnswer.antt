@@ -7,7 +7,8 @@ use Rattle.pb_value.specs.Data.{Message}
 use Rattle.pb_value.specs.Dynamic.{Dynamic}
 use Rattle.pb_encode.specs.Encoding.{bytes_of}
 use Rattle.pb_files.specs.Answer.{Answer, done, saves, refused}
-use Rattle.pb_listing.specs.Listing.{listing}
+use Rattle.pb_listing.specs.declared.form.FloatForm.{FloatForm}
+use Rattle.pb_listing.specs.ListingAs.{IsListing}
 use Rattle.pb_listing.specs.RawListing.{line_feed}
 use Rattle.pb_files.specs.Report.{fault_line, too_large_line}
 use Rattle.pb_command.specs.JsonAnswer.{JsonAnswer}
@@ -19,10 +20,14 @@ pub data CanonAnswer (bytes : List ℕ) (made answer : Answer) : Type 0 where
   fits : length bytes < 2 ^ 31 → answer ≡ made → CanonAnswer bytes made answer
   too_large : 2 ^ 31 ≤ length bytes → answer ≡ refused too_large_line → CanonAnswer bytes made answer
 
+-- its listing is printed, with floats listed so
+abbrev pub ListingAnswer : FloatForm → Dynamic → Answer → Type 0
+ListingAnswer floats m answer = (text : List ℕ) × IsListing floats m text × (answer ≡ done text)
+
 -- what is made of a message
 abbrev pub FormAnswer : Form → Dynamic → Answer → Type 0
 FormAnswer Check m answer = answer ≡ done (codes "ok\n")
-FormAnswer Listing m answer = answer ≡ done (listing m)
+FormAnswer (Listing floats) m answer = ListingAnswer floats m answer
 FormAnswer (Json layout) m answer = JsonAnswer layout m answer
 FormAnswer Canonical m answer = CanonAnswer (bytes_of m) (done (encode_lower (bytes_of m) ++ line_feed)) answer
 FormAnswer (CanonicalFile path) m answer = CanonAnswer (bytes_of m) (saves path.now (bytes_of m)) answer

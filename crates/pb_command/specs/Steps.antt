@@ -14,6 +14,7 @@ use Rattle.pb_json.specs.declared.error.JsonError.TheVariants as json_error
 use Rattle.pb_json.specs.declared.form.Layout.{Layout}
 use Rattle.pb_decl.specs.Decls.{DeclaredFile}
 use Rattle.pb_files.specs.Answer.{Answer, stopped, broken, device_failed, IsPrinted}
+use Rattle.pb_listing.specs.declared.form.FloatForm.{FloatForm}
 use Rattle.pb_command.specs.Answers.{FaultAt, TextAt, FramesAt, FrameFaultAt, FramesBegunAt, AnyFrames, canonical_form}
 use Rattle.pb_command.specs.CompileAnswer.{CompileAnswer, roots_of, texts_of, told_of}
 use Rattle.pb_files.specs.FileMap.{FileMap, IsHonest}
@@ -33,6 +34,7 @@ use Rattle.pb_files.specs.declared.set_file.Reading.{Reading}
 use Rattle.pb_command.specs.declared.command.Command.{Command}
 use Rattle.pb_command.specs.declared.command.Command.TheVariants.{Raw, Check, Show, Canon, Json, Frames, Compile}
 use Rattle.pb_command.specs.declared.command.Command.TheVariants as command
+use Rattle.pb_command.specs.declared.command.RawForm.{RawForm}
 use Rattle.pb_command.specs.declared.command.Source.{Source}
 use Rattle.pb_command.specs.declared.form.Form.{Form}
 use Rattle.pb_command.specs.declared.form.Form.TheVariants as form
@@ -45,7 +47,7 @@ abbrev pub Judges :
     Bounds → List ℕ → (Option (List ℕ) → Type 0) → Result (Vec ℕ Global) Refusal → Type 0
 Judges limits path IsRead (Ok v) = IsRead (Some v.items) × IsSomeText blank tt limits v.items
 Judges limits path IsRead (Err e) =
-    (short : Bool) → Refuses (λ a. (content : Option (List ℕ)) × IsRead content × RawAnswer limits short path content a) e
+    (form : RawForm) → Refuses (λ a. (content : Option (List ℕ)) × IsRead content × RawAnswer limits form path content a) e
 
 -- THE STEPS OF A COMMAND
 
@@ -98,17 +100,17 @@ module _ {F : Type 0} (contents : F → Option FileMap) (is_steady : F → Bool)
       (λ pool m v. IsWellFormed pool m v × OfFiles contents is_steady files path (λ content. TextAt content pool m v)) form pool m a
 
   -- or its frames are shown
-  abbrev pub StreamAt : Types → ℕ → List ℕ → Answer → Type 0
-  StreamAt pool m path a =
+  abbrev pub StreamAt : FloatForm → Types → ℕ → List ℕ → Answer → Type 0
+  StreamAt floats pool m path a =
       IsMissing path a
-      ⊎ FramesAnswer (λ pool m text. AnyFrames pool m text × OfFiles contents is_steady files path (λ content. FramesAt content pool m text))
-      (λ pool m count text f. AreFrames pool m count text × OfFiles contents is_steady files path (λ content. FrameFaultAt content pool m count text f))
-      (λ pool m text. AnyFrames pool m text × OfFiles contents is_steady files path (λ content. ⊥)) path pool m a
+      ⊎ FramesAnswer (λ pool m text. AnyFrames floats pool m text × OfFiles contents is_steady files path (λ content. FramesAt content floats pool m text))
+      (λ pool m count text f. AreFrames floats pool m count text × OfFiles contents is_steady files path (λ content. FrameFaultAt content floats pool m count text f))
+      (λ pool m text. AnyFrames floats pool m text × OfFiles contents is_steady files path (λ content. ⊥)) path pool m a
 
   -- what is printed of them before that is known
-  abbrev pub StreamBegunAt : Types → ℕ → List ℕ → List ℕ → Type 0
-  StreamBegunAt pool m path text =
-      (text ≡ []) ⊎ (AnyFrames pool m text × OfFiles contents is_steady files path (λ content. FramesBegunAt content pool m text))
+  abbrev pub StreamBegunAt : FloatForm → Types → ℕ → List ℕ → List ℕ → Type 0
+  StreamBegunAt floats pool m path text =
+      (text ≡ []) ⊎ (AnyFrames floats pool m text × OfFiles contents is_steady files path (λ content. FramesBegunAt content floats pool m text))
 
   -- COMMANDS
 
@@ -121,20 +123,20 @@ module _ {F : Type 0} (contents : F → Option FileMap) (is_steady : F → Bool)
       s.reading s.type_name.now s.set.now s.file.now
 
   -- what `frames` answers
-  abbrev pub StreamOf : Source → Answer → Type 0
-  StreamOf s =
+  abbrev pub StreamOf : FloatForm → Source → Answer → Type 0
+  StreamOf floats s =
       TypeAnswer (IsReadOf contents is_steady files (full.bytes + 1) s.set.now) (OfFiles contents is_steady files s.file.now (λ content. content ≡ None))
-      (FramesAnswer (λ pool m text. AnyFrames pool m text × OfFiles contents is_steady files s.file.now (λ content. FramesAt content pool m text))
-      (λ pool m count text f. AreFrames pool m count text × OfFiles contents is_steady files s.file.now (λ content. FrameFaultAt content pool m count text f))
-      (λ pool m text. AnyFrames pool m text × OfFiles contents is_steady files s.file.now (λ content. ⊥)) s.file.now)
+      (FramesAnswer (λ pool m text. AnyFrames floats pool m text × OfFiles contents is_steady files s.file.now (λ content. FramesAt content floats pool m text))
+      (λ pool m count text f. AreFrames floats pool m count text × OfFiles contents is_steady files s.file.now (λ content. FrameFaultAt content floats pool m count text f))
+      (λ pool m text. AnyFrames floats pool m text × OfFiles contents is_steady files s.file.now (λ content. ⊥)) s.file.now)
       s.reading s.type_name.now s.set.now s.file.now
 
   -- what `frames` prints before that is known
-  abbrev pub StreamBegun : Source → List ℕ → Type 0
-  StreamBegun s text =
+  abbrev pub StreamBegun : FloatForm → Source → List ℕ → Type 0
+  StreamBegun floats s text =
       (text ≡ [])
       ⊎ ((set : List ℕ) × (pool : Types) × (m : ℕ) × IsReadOf contents is_steady files (full.bytes + 1) s.set.now (Some set)
-      × HasType s.reading s.type_name.now set pool m × AnyFrames pool m text × OfFiles contents is_steady files s.file.now (λ content. FramesBegunAt content pool m text))
+      × HasType s.reading s.type_name.now set pool m × AnyFrames floats pool m text × OfFiles contents is_steady files s.file.now (λ content. FramesBegunAt content floats pool m text))
 
   -- what `types` answers
   abbrev pub TypesOf : Reading → List ℕ → Option (List ℕ) → Answer → Type 0
@@ -170,22 +172,22 @@ module _ {F : Type 0} (contents : F → Option FileMap) (is_steady : F → Bool)
 
   -- a command's right answers, and what is printed before they are known
   abbrev pub RightOf : Command → Answer → Type 0
-  RightOf (Raw short file) a =
-      (content : Option (List ℕ)) × IsReadOf contents is_steady files (full.bytes + 1) file.now content × RawAnswer full short file.now content a
+  RightOf (Raw form file) a =
+      (content : Option (List ℕ)) × IsReadOf contents is_steady files (full.bytes + 1) file.now content × RawAnswer full form file.now content a
   RightOf (Check source) a = MessageOf form.Check source a
-  RightOf (Show source) a = MessageOf form.Listing source a
+  RightOf (Show floats source) a = MessageOf (form.Listing floats) source a
   RightOf (Canon to source) a = MessageOf (canonical_form to) source a
   RightOf (Json layout source) a = MessageOf (form.Json layout) source a
-  RightOf (Frames source) a = StreamOf source a
+  RightOf (Frames floats source) a = StreamOf floats source a
   RightOf (command.Types reading set name) a = TypesOf reading set.now (option_map (λ n. n.now) name) a
   RightOf (Compile roots out names) a = CompileOf (roots_of roots) out.now (texts_of names.now) a
 
   abbrev pub BegunOf : Command → List ℕ → Type 0
-  BegunOf (Raw short file) text = IsNothing text
+  BegunOf (Raw form file) text = IsNothing text
   BegunOf (Check source) text = IsNothing text
-  BegunOf (Show source) text = IsNothing text
+  BegunOf (Show floats source) text = IsNothing text
   BegunOf (Canon to source) text = IsNothing text
   BegunOf (Json layout source) text = IsNothing text
-  BegunOf (Frames source) text = StreamBegun source text
+  BegunOf (Frames floats source) text = StreamBegun floats source text
   BegunOf (command.Types reading set name) text = IsNothing text
   BegunOf (Compile roots out names) text = IsNothing text

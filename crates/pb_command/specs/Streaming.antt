@@ -12,8 +12,10 @@ use Rattle.pb_stream.specs.Stream.{Stream}
 use Rattle.pb_stream.specs.Taking.{Counts, TakesNone}
 use Rattle.pb_files.specs.Answer.{Answer, stopped, broken, done}
 use Rattle.pb_command.specs.Answers.{FramesAt, FrameFaultAt, FramesBegunAt, AnyFrames}
-use Rattle.pb_command.specs.FramesAnswer.{AreFrames, FramesAnswer, frame_lines}
+use Rattle.pb_command.specs.FramesAnswer.{AreFrameLines, AreFrames, FramesAnswer}
 use Rattle.pb_files.specs.Refusal.{ByRefusal}
+use Rattle.pb_listing.specs.declared.form.FloatForm.{FloatForm}
+use Rattle.pb_listing.specs.Putting.{PutsSome}
 use Rattle.pb_output.specs.Sink.{Puts}
 use Rattle.pb_files.specs.Known.{OfInput}
 use Rattle.pb_output.specs.declared.sink.Sink.{Sink}
@@ -45,42 +47,42 @@ pub record RefusesFrame {I : Type 0} (left : I → Option (List ℕ)) (is_steady
   pub why : IfRefused error (λ f. IfSome (left old.input) (λ rest. FrameFault old.pool old.kind old.limits rest f))
   pub failed : is_steady old.input ≡ true → error ≢ decode.Device
 
--- the lines of the frame that a reader read
-abbrev pub read_lines : {I : Type 0} → ℕ → Stream I → Stream I → Message → List ℕ
-read_lines index old new m = frame_lines old.pool old.kind index old.taken (new.taken - old.taken) m
+-- the bytes are the lines of the frame that a reader read
+abbrev pub AreReadLines : {I : Type 0} → FloatForm → ℕ → Stream I → Stream I → Message → List ℕ → Type 0
+AreReadLines floats index old new m s = AreFrameLines floats old.pool old.kind index old.taken (new.taken - old.taken) m s
 
 -- the lines of the next frame were put; or nothing is left, or what is left is refused
 abbrev pub PutsNext :
     {D I : Type 0} (written : D → Option (List ℕ)) (failures : D → ℕ) (left : I → Option (List ℕ)) (is_steady : I → Bool) (old new : D) (a b : Sink)
-    (before after : Stream I) (index : ℕ) (path : Bor (List ℕ)) → Next → Type 0
-PutsNext written failures left is_steady old new a b before after index path Put =
-    (m : Message) × ReadsFrame left is_steady before after m × Puts written failures old new a b (read_lines index before after m)
-PutsNext written failures left is_steady old new a b before after index path End =
+    (before after : Stream I) (floats : FloatForm) (index : ℕ) (path : Bor (List ℕ)) → Next → Type 0
+PutsNext written failures left is_steady old new a b before after floats index path Put =
+    (m : Message) × ReadsFrame left is_steady before after m × PutsSome written failures old new a b (AreReadLines floats index before after m)
+PutsNext written failures left is_steady old new a b before after floats index path End =
     TakesNone (left before.input) (left after.input) × Puts written failures old new a b []
-PutsNext written failures left is_steady old new a b before after index path (Refused e) =
+PutsNext written failures left is_steady old new a b before after floats index path (Refused e) =
     (error : DecodeError) × RefusesFrame left is_steady before error × IsToldOfFrame index path error e × Puts written failures old new a b []
 
 -- ALL OF THEM
 
 module _ {I : Type 0} (left : I → Option (List ℕ)) (is_steady : I → Bool) (input : I) where
   -- what comes of the frames of an input
-  abbrev pub FramesIn : List ℕ → Types → ℕ → Answer → Type 0
-  FramesIn path =
-      FramesAnswer (λ pool m text. AnyFrames pool m text × OfInput left is_steady input (λ content. FramesAt content pool m text))
-      (λ pool m count text f. AreFrames pool m count text × OfInput left is_steady input (λ content. FrameFaultAt content pool m count text f))
-      (λ pool m text. AnyFrames pool m text × OfInput left is_steady input (λ content. ⊥)) path
+  abbrev pub FramesIn : FloatForm → List ℕ → Types → ℕ → Answer → Type 0
+  FramesIn floats path =
+      FramesAnswer (λ pool m text. AnyFrames floats pool m text × OfInput left is_steady input (λ content. FramesAt content floats pool m text))
+      (λ pool m count text f. AreFrames floats pool m count text × OfInput left is_steady input (λ content. FrameFaultAt content floats pool m count text f))
+      (λ pool m text. AnyFrames floats pool m text × OfInput left is_steady input (λ content. ⊥)) path
 
   -- what is printed of them before that is known
-  abbrev pub FramesBegunIn : Types → ℕ → List ℕ → Type 0
-  FramesBegunIn pool m text = AnyFrames pool m text × OfInput left is_steady input (λ content. FramesBegunAt content pool m text)
+  abbrev pub FramesBegunIn : FloatForm → Types → ℕ → List ℕ → Type 0
+  FramesBegunIn floats pool m text = AnyFrames floats pool m text × OfInput left is_steady input (λ content. FramesBegunAt content floats pool m text)
 
   -- the lines of frames were put, up to the end or to why what follows is refused, or up to where the output had failed
   abbrev pub PutsFrames :
-      {D : Type 0} (written : D → Option (List ℕ)) (failures : D → ℕ) (old new : D) (a b : Sink) (path : List ℕ) (pool : Types) (m : ℕ)
+      {D : Type 0} (written : D → Option (List ℕ)) (failures : D → ℕ) (old new : D) (a b : Sink) (floats : FloatForm) (path : List ℕ) (pool : Types) (m : ℕ)
       → Option Refusal → Type 0
-  PutsFrames written failures old new a b path pool m None =
+  PutsFrames written failures old new a b floats path pool m None =
       (text : List ℕ) × Puts written failures old new a b text
-      × (FramesIn path pool m (done text) ⊎ ((b.failed ≡ true) × FramesBegunIn pool m text))
-  PutsFrames written failures old new a b path pool m (Some e) =
+      × (FramesIn floats path pool m (done text) ⊎ ((b.failed ≡ true) × FramesBegunIn floats pool m text))
+  PutsFrames written failures old new a b floats path pool m (Some e) =
       (text : List ℕ) × Puts written failures old new a b text
-      × ByRefusal (λ line. FramesIn path pool m (stopped text line)) (λ device. FramesIn path pool m (broken text device)) (FramesBegunIn pool m text) e
+      × ByRefusal (λ line. FramesIn floats path pool m (stopped text line)) (λ device. FramesIn floats path pool m (broken text device)) (FramesBegunIn floats pool m text) e

@@ -2,6 +2,7 @@
 
 use pb_files::Reading;
 use pb_json::Layout;
+use pb_listing::FloatForm;
 
 /// Where messages and their type are read: the file of the messages, and the type's name in the descriptor set of another
 /// file, which is read strictly or leniently.
@@ -20,20 +21,32 @@ pub struct Roots<'a> {
     pub others: &'a [&'a str],
 }
 
+/// How the records of a file are shown.
+#[derive(Clone, Copy, Debug, PartialEq, Eq)]
+pub enum RawForm {
+    /// A line each.
+    Listing,
+    /// A line each, but a payload that is a list of records itself is listed as a message.
+    Nested,
+    /// Their shortest encoding, as one line of hexadecimal.
+    Shortest,
+}
+
 /// A command with its values.
 #[derive(Clone, Copy, Debug, PartialEq, Eq)]
 pub enum Command<'a> {
-    /// Shows the records of a file: a line each, or with `short` their shortest spelling in hexadecimal.
+    /// Shows the records of a file in a form.
     Raw {
-        short: bool,
+        form: RawForm,
         file: &'a str,
     },
     /// Says that a file is a message of a type.
     Check {
         source: Source<'a>,
     },
-    /// Shows the message of a file.
+    /// Shows the message of a file, with its floats in a form.
     Show {
+        floats: FloatForm,
         source: Source<'a>,
     },
     /// Writes the canonical bytes of a file's message: as a line of hexadecimal, or to the file `out`.
@@ -46,8 +59,9 @@ pub enum Command<'a> {
         layout: Layout,
         source: Source<'a>,
     },
-    /// Shows the messages of a file, each after its length.
+    /// Shows the messages of a file, each after its length, with their floats in a form.
     Frames {
+        floats: FloatForm,
         source: Source<'a>,
     },
     /// Shows what a descriptor set declares, and what reading left out of it: all of it, or the message type or enum of a name.

@@ -97,9 +97,16 @@ fn perform<'a, F: Files, O: Output>(
     ensures unfailing { F.is_steady files.old ≡ true → F.takes_writes files.old ≡ true → F.failures files.new ≡ F.failures files.old }
 {
     match command {
-        Command::Raw { short, file } => raw(alloc, Limits::FULL, *short, file, files, out),
+        Command::Raw { form, file } => raw(alloc, Limits::FULL, *form, file, files, out),
         Command::Check { source } => message(alloc, afterwards, Form::Check, source, files, out),
-        Command::Show { source } => message(alloc, afterwards, Form::Listing, source, files, out),
+        Command::Show { floats, source } => message(
+            alloc,
+            afterwards,
+            Form::Listing(*floats),
+            source,
+            files,
+            out,
+        ),
         Command::Canon { out: to, source } => message(
             alloc,
             afterwards,
@@ -116,7 +123,9 @@ fn perform<'a, F: Files, O: Output>(
             files,
             out,
         ),
-        Command::Frames { source } => frames(alloc, afterwards, source, files, out),
+        Command::Frames { floats, source } => frames(
+            alloc, afterwards, *floats, source, files, out,
+        ),
         Command::Types { reading, set, name } => types(
             alloc, afterwards, *reading, set, *name, files, out,
         ),

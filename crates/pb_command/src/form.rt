@@ -5,9 +5,8 @@ ghost use Rattle.hex.specs.Hex.{encode_lower};
 ghost use Rattle.pb_encode.specs.Encoding.{bytes_of};
 ghost use Rattle.pb_files.specs.Answer.{done, saves, refused};
 ghost use Rattle.pb_files.specs.FileMap.{IsSaved, IsUnsaved};
-ghost use Rattle.pb_listing.specs.Listing.{listing};
 ghost use Rattle.pb_command.specs.JsonAnswer.{JsonAnswer};
-ghost use Rattle.pb_command.specs.MessageAnswer.{CanonAnswer, FormAnswer};
+ghost use Rattle.pb_command.specs.MessageAnswer.{CanonAnswer, FormAnswer, ListingAnswer};
 ghost use Rattle.pb_listing.specs.RawListing.{line_feed};
 ghost use Rattle.pb_files.specs.Refusal.{KeepsFailures, Refuses};
 ghost use Rattle.pb_files.specs.Report.{too_large_line};
@@ -17,7 +16,7 @@ ghost use Rattle.pb_command.specs.Steps.{Comes, IsNothing, NoFile, WritesLine};
 use pb_encode::{EncodeError, encode};
 use pb_files::{Files, OUTPUT, Refusal};
 use pb_json::{JsonError, JsonForm, Layout, Names, write_json};
-use pb_listing::write_message;
+use pb_listing::{FloatForm, write_message_as};
 use pb_output::Sink;
 use pb_value::DynamicMessage;
 use pb_wire::{DeviceFault, Output, write_all};
@@ -27,7 +26,8 @@ use pb_wire::{DeviceFault, Output, write_all};
 pub enum Form<'a> {
     /// A line that says that it is one.
     Check,
-    Listing,
+    /// Its listing, with floats in a form.
+    Listing(FloatForm),
     /// Its JSON text, and a line feed.
     Json(Layout),
     /// Its canonical bytes, as a line of hexadecimal.
@@ -51,7 +51,7 @@ pub fn make<'a, F: Files, O: Output>(
 {
     match form {
         Form::Check => print_ok(out),
-        Form::Listing => print_listing(message, out),
+        Form::Listing(floats) => print_listing(floats, message, out),
         Form::Json(layout) => print_json(layout, message, out),
         Form::Canonical => print_canonical(message, out),
         Form::CanonicalFile(path) => save_canonical(message, path, files),
@@ -69,13 +69,14 @@ fn print_ok<'a, O: Output>(out: &mut O) -> Result<(), Refusal<'a>>
 }
 
 fn print_listing<'a, O: Output>(
+    floats: FloatForm,
     message: &DynamicMessage<'_>,
     out: &mut O,
 ) -> Result<(), Refusal<'a>>
     ensures { Comes (Sent O.written O.failures out.old out.new) (Cut O.written O.failures out.old out.new) NoFile (λ _. ⊥)
-        (λ a. a ≡ done (listing message.now)) IsNothing result }
+        (ListingAnswer floats message.now) IsNothing result }
 {
-    match write_message(out, message) {
+    match write_message_as(out, message, floats) {
         Ok(()) => Ok(()),
         Err(_) => Err(Refusal::Device(OUTPUT)),
     }

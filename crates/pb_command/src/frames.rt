@@ -1,10 +1,10 @@
 //! The messages of a file, each after its length.
 
-ghost use Rattle.std.specs.Prelude.{◌≡◌, ◌++◌, ◌<◌, false, codes, decimal, length, true};
+ghost use Rattle.std.specs.Prelude.{◌≡◌, ◌<◌, false, length, true};
 ghost use Rattle.pb_wire.specs.Limits.{full};
 ghost use Rattle.pb_files.specs.FileMap.{IsSaved, IsUnsaved};
-ghost use Rattle.pb_command.specs.FramesAnswer.{frame_lines};
-ghost use Rattle.pb_listing.specs.RawListing.{line};
+ghost use Rattle.pb_command.specs.FramesAnswer.{AreFrameLines, frame_line};
+ghost use Rattle.pb_listing.specs.Putting.{PutsSome};
 ghost use Rattle.pb_output.specs.Sending.{Cut, Sent};
 ghost use Rattle.pb_output.specs.Sink.{Puts};
 ghost use Rattle.pb_command.specs.Steps.{Comes, NoFile, StreamAt, StreamBegun, StreamBegunAt, StreamOf};
@@ -15,7 +15,7 @@ use crate::afterwards::{Afterwards, part_with};
 use crate::command::Source;
 use pb_decode::DecodeError;
 use pb_files::{Files, OUTPUT, Refusal, find_type, open_file};
-use pb_listing::put_listing_at;
+use pb_listing::{FloatForm, put_listing_as};
 use pb_output::Sink;
 use pb_schema::{MessageId, Pool};
 use pb_stream::DelimitedReader;
@@ -38,18 +38,19 @@ enum Next<'a> {
 pub fn frames<'a, F: Files, O: Output>(
     alloc: Global,
     afterwards: Afterwards,
+    floats: FloatForm,
     source: &Source<'a>,
     files: &mut F,
     out: &mut O,
 ) -> Result<(), Refusal<'a>>
     ensures comes { Comes (Sent O.written O.failures out.old out.new) (Cut O.written O.failures out.old out.new)
         (IsSaved F.contents files.old files.new) (IsUnsaved F.contents F.failures files.old files.new)
-        (StreamOf F.contents F.is_steady files.old source.now) (StreamBegun F.contents F.is_steady files.old source.now) result }
+        (StreamOf F.contents F.is_steady files.old floats source.now) (StreamBegun F.contents F.is_steady files.old floats source.now) result }
     ensures kept { KeepsFailures F.failures files.old files.new result }
     ensures unfailing { F.is_steady files.old ≡ true → F.failures files.new ≡ F.failures files.old }
 {
     let (pool, kind) = find_type(alloc, source.reading, source.set, source.type_name, files)?;
-    let answer = frames_at(alloc, &pool, kind, source.file, files, out);
+    let answer = frames_at(alloc, floats, &pool, kind, source.file, files, out);
     part_with(pool, afterwards);
     answer
 }
@@ -57,6 +58,7 @@ pub fn frames<'a, F: Files, O: Output>(
 /// Shows the messages of a type that the file at a path holds.
 fn frames_at<'a, F: Files, O: Output>(
     alloc: Global,
+    floats: FloatForm,
     pool: &Pool,
     message_type: MessageId,
     path: &'a str,
@@ -66,18 +68,19 @@ fn frames_at<'a, F: Files, O: Output>(
     requires { message_type.0 < length pool.now.messages }
     ensures comes { Comes (Sent O.written O.failures out.old out.new) (Cut O.written O.failures out.old out.new)
         (IsSaved F.contents files.old files.new) (IsUnsaved F.contents F.failures files.old files.new)
-        (StreamAt F.contents F.is_steady files.old pool.now message_type.0 path.entry.now)
-        (StreamBegunAt F.contents F.is_steady files.old pool.now message_type.0 path.entry.now) result }
+        (StreamAt F.contents F.is_steady files.old floats pool.now message_type.0 path.entry.now)
+        (StreamBegunAt F.contents F.is_steady files.old floats pool.now message_type.0 path.entry.now) result }
     ensures kept { KeepsFailures F.failures files.old files.new result }
     ensures unfailing { F.is_steady files.old ≡ true → F.failures files.new ≡ F.failures files.old }
 {
     let input = open_file(path, files)?;
     let mut reader = DelimitedReader::new(alloc, pool, message_type, input, Limits::FULL);
-    write_frames(&mut reader, path, out)
+    write_frames(floats, &mut reader, path, out)
 }
 
 /// Writes the lines of the frames that are left, and then reports why what follows them is refused, if it is.
 fn write_frames<'a, I: Input + Drop, O: Output>(
+    floats: FloatForm,
     reader: &mut DelimitedReader<'_, I>,
     path: &'a str,
     out: &mut O,
@@ -86,11 +89,11 @@ fn write_frames<'a, I: Input + Drop, O: Output>(
     requires open { reader.old.finished ≡ false }
     requires full { reader.old.limits ≡ full }
     ensures { Comes (Sent O.written O.failures out.old out.new) (Cut O.written O.failures out.old out.new) NoFile (λ _. ⊥)
-        (FramesIn I.left I.is_steady reader.old.input path.entry.now reader.old.pool reader.old.kind)
-        (FramesBegunIn I.left I.is_steady reader.old.input reader.old.pool reader.old.kind) result }
+        (FramesIn I.left I.is_steady reader.old.input floats path.entry.now reader.old.pool reader.old.kind)
+        (FramesBegunIn I.left I.is_steady reader.old.input floats reader.old.pool reader.old.kind) result }
 {
     let mut sink = Sink::new();
-    let stop = put_frames(&mut sink, out, reader, path);
+    let stop = put_frames(&mut sink, out, floats, reader, path);
     let Ok(()) = sink.finish(out) else {
         return Err(Refusal::Device(OUTPUT));
     };
@@ -104,6 +107,7 @@ fn write_frames<'a, I: Input + Drop, O: Output>(
 fn put_frames<'a, I: Input + Drop, O: Output>(
     sink: &mut Sink,
     out: &mut O,
+    floats: FloatForm,
     reader: &mut DelimitedReader<'_, I>,
     path: &'a str,
 ) -> Option<Refusal<'a>>
@@ -111,13 +115,13 @@ fn put_frames<'a, I: Input + Drop, O: Output>(
     requires open { reader.old.finished ≡ false }
     requires full { reader.old.limits ≡ full }
     ensures { PutsFrames I.left I.is_steady reader.old.input O.written O.failures out.old out.new sink.old sink.new
-        path.entry.now reader.old.pool reader.old.kind result }
+        floats path.entry.now reader.old.pool reader.old.kind result }
 {
     for index in 0..u64::MAX {
         if sink.has_failed() {
             return None;
         }
-        match put_next(sink, out, index, reader, path) {
+        match put_next(sink, out, floats, index, reader, path) {
             Next::Put => {}
             Next::End => return None,
             Next::Refused(refusal) => return Some(refusal),
@@ -130,12 +134,13 @@ fn put_frames<'a, I: Input + Drop, O: Output>(
 fn put_next<'a, I: Input + Drop, O: Output>(
     sink: &mut Sink,
     out: &mut O,
+    floats: FloatForm,
     index: u64,
     reader: &mut DelimitedReader<'_, I>,
     path: &'a str,
 ) -> Next<'a>
     requires { reader.old.finished ≡ false }
-    ensures { PutsNext O.written O.failures I.left I.is_steady out.old out.new sink.old sink.new reader.old reader.new index path.entry result }
+    ensures { PutsNext O.written O.failures I.left I.is_steady out.old out.new sink.old sink.new reader.old reader.new floats index path.entry result }
 {
     let offset = reader.taken();
     match reader.next() {
@@ -143,7 +148,7 @@ fn put_next<'a, I: Input + Drop, O: Output>(
         Ok(Some(message)) => {
             let _body = message.body();
             let size = reader.taken() - offset;
-            put_frame(sink, out, index, offset, size, &message);
+            put_frame(sink, out, floats, index, offset, size, &message);
             Next::Put
         }
         Err(error) => Next::Refused(refusal_at(index, path, error)),
@@ -154,21 +159,21 @@ fn put_next<'a, I: Input + Drop, O: Output>(
 fn put_frame<O: Output>(
     sink: &mut Sink,
     out: &mut O,
+    floats: FloatForm,
     index: u64,
     offset: u64,
     size: u64,
     message: &DynamicMessage<'_>,
 )
-    ensures { Puts O.written O.failures out.old out.new sink.old sink.new
-        (frame_lines message.now.pool message.now.kind index offset size message.now.body) }
+    ensures { PutsSome O.written O.failures out.old out.new sink.old sink.new
+        (AreFrameLines floats message.now.pool message.now.kind index offset size message.now.body) }
 {
     put_frame_line(sink, out, index, offset, size);
-    put_listing_at(sink, out, 1, message);
+    put_listing_as(sink, out, 1, message, floats);
 }
 
 fn put_frame_line<O: Output>(sink: &mut Sink, out: &mut O, index: u64, offset: u64, size: u64)
-    ensures { Puts O.written O.failures out.old out.new sink.old sink.new
-        (line 0 (codes "frame " ++ decimal index ++ codes " at " ++ decimal offset ++ codes " size " ++ decimal size)) }
+    ensures { Puts O.written O.failures out.old out.new sink.old sink.new (frame_line index offset size) }
 {
     sink.make_room(out, 128);
     sink.held.push(b"frame ");

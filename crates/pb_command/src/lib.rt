@@ -15,7 +15,8 @@ mod sources;
 mod types;
 
 pub use afterwards::Afterwards;
-pub use command::{Command, Roots, Source};
+pub use command::{Command, RawForm, Roots, Source};
 pub use executing::{execute, execute_then};
 pub use pb_files::{Files, HostFiles, MemFiles, Reading, Refusal};
 pub use pb_json::Layout;
+pub use pb_listing::FloatForm;

@@ -1,20 +1,24 @@
 -- The lines of a message, part by part.
-use Rattle.std.proofs.Common.{◌≡◌, ℕ, suc, ◌+◌, ◌<◌, ◌≤◌, max, List, [], ◌∷◌, ◌++◌, length, take, drop, get_or, append_assoc, Option, None, Some, sym, ap, ◌∙◌, arith, codes}
+use Rattle.std.proofs.Common.{◌≡◌, ℕ, suc, ◌+◌, ◌<◌, ◌≤◌, max, List, [], ◌∷◌, ◌++◌, length, take, drop, get_or, append_assoc, Option, None, Some, refl, sym, ap, ◌∙◌, subst, arith, codes, rules}
+use Rattle.std.specs.Prelude.{MatchOption}
 use Rattle.std.proofs.lemmas.Grind.{flat_map-append}
 use Rattle.std.proofs.lemmas.List.{drop_more, take-append-drop}
 use Rattle.std.specs.List.{flat_map}
-use Rattle.std.specs.Option.{option_map_or}
 use Rattle.pb_wire.specs.Record.{depth, group_depth, group_of, records_depth}
 use Rattle.pb_wire.specs.Unknown.{payload_of, records_of}
 use Rattle.pb_wire.specs.declared.unknown.Unknown.{Unknown}
 use Rattle.pb_schema.specs.declared.types.Kind.{Kind}
+use Rattle.pb_schema.specs.Scalar.{float, double}
 use Rattle.pb_schema.specs.Types.{FieldView, Types, field_numbered}
 use Rattle.pb_value.specs.Data.{Datum, scalar, message, levels_of, levels_in_entry, datums_depth, entries_depth, holding_depth, fields_depth}
 use Rattle.pb_value.specs.View.{key_view, value_view, values_view, entries_view, content_view, fields_view}
 use Rattle.pb_value.specs.declared.body.Content.{Content}
 use Rattle.pb_value.specs.declared.body.MapKey.{MapKey}
-use Rattle.pb_value.specs.declared.body.Value.{Value}
-use Rattle.pb_listing.specs.Listing.{text_byte, unknown_lines, datum_lines, each_lines, entries_lines, holding_lines, fields_lines, bracketed}
+use Rattle.pb_value.specs.declared.body.Value.{Value, the_lemmas as value_lemmas}
+use Rattle.pb_value.specs.declared.body.Value.TheVariants as value
+use Rattle.pb_listing.specs.declared.form.FloatForm.{FloatForm}
+use Rattle.pb_listing.specs.Listing.{text_byte, unknown_lines, bracketed}
+use Rattle.pb_listing.specs.ListingAs.{AreDatumLines, AreEachLines, AreEntriesLines, AreFieldsLines, AreHoldingLines}
 use Rattle.pb_listing.specs.RawListing.{record_lines, group_lines}
 
 -- the elements from an index on, by the one that stands there
@@ -65,37 +69,59 @@ group_next level xs i x below is = (
   ap (λ (ys : List (ℕ × Unknown)). group_depth (group_of (records_of ys))) (from_item xs i x below is),
 )
 
+-- VALUES
+
+pub value_view-F32 : (n : ℕ) → value_view (value.F32 n) ≡ scalar (float n)
+value_view-F32 n = search (rules, value_lemmas)
+
+pub value_view-F64 : (n : ℕ) → value_view (value.F64 n) ≡ scalar (double n)
+value_view-F64 n = search (rules, value_lemmas)
+
 -- FIELDS
 
-pub fields_next :
-    (pool : Types) (level : ℕ) (all : List FieldView) (before after : List (ℕ × Content)) (n : ℕ) (h : Content) (f : FieldView)
-    → before ≡ (n, h) ∷ after → field_numbered n all ≡ Some f
-    → fields_lines pool level all (fields_view before) ≡ holding_lines pool level f (content_view h) ++ fields_lines pool level all (fields_view after)
-fields_next pool level all before after n h f split found =
-    ap (λ (fs : List (ℕ × Content)). fields_lines pool level all (fields_view fs)) split
-    ∙ ap (λ (o : Option FieldView). option_map_or (λ (g : FieldView). holding_lines pool level g (content_view h)) o [] ++ fields_lines pool level all (fields_view after)) found
+-- a field and those after it
+pub fields_join :
+    (floats : FloatForm) (pool : Types) (level : ℕ) (all : List FieldView) (before after : List (ℕ × Content)) (n : ℕ) (h : Content) (f : FieldView)
+    → before ≡ (n, h) ∷ after → field_numbered n all ≡ Some f → (first rest : List ℕ) → AreHoldingLines floats pool level f (content_view h) first
+    → AreFieldsLines floats pool level all (fields_view after) rest → AreFieldsLines floats pool level all (fields_view before) (first ++ rest)
+fields_join floats pool level all before after n h f split found first rest is others =
+    subst (λ (fs : List (ℕ × Content)). AreFieldsLines floats pool level all (fields_view fs) (first ++ rest)) (sym split) (
+      first,
+      rest,
+      refl,
+      subst (λ (o : Option FieldView). MatchOption o (first ≡ []) (λ g. AreHoldingLines floats pool level g (content_view h) first)) (sym found) is,
+      others,
+    )
 
 pub fields_deep :
     (before after : List (ℕ × Content)) (n : ℕ) (h : Content) → before ≡ (n, h) ∷ after
     → fields_depth (fields_view before) ≡ max (holding_depth (content_view h)) (fields_depth (fields_view after))
 fields_deep before after n h split = ap (λ (fs : List (ℕ × Content)). fields_depth (fields_view fs)) split
 
--- a field that the type does not have prints as nothing
+-- a field that the type does not have has no line
 pub fields_skip :
-    (pool : Types) (level : ℕ) (all : List FieldView) (before after : List (ℕ × Content)) (n : ℕ) (h : Content)
-    → before ≡ (n, h) ∷ after → field_numbered n all ≡ None
-    → fields_lines pool level all (fields_view before) ≡ [] ++ fields_lines pool level all (fields_view after)
-fields_skip pool level all before after n h split none =
-    ap (λ (fs : List (ℕ × Content)). fields_lines pool level all (fields_view fs)) split
-    ∙ ap (λ (o : Option FieldView). option_map_or (λ (g : FieldView). holding_lines pool level g (content_view h)) o [] ++ fields_lines pool level all (fields_view after)) none
+    (floats : FloatForm) (pool : Types) (level : ℕ) (all : List FieldView) (before after : List (ℕ × Content)) (n : ℕ) (h : Content)
+    → before ≡ (n, h) ∷ after → field_numbered n all ≡ None → (rest : List ℕ) → AreFieldsLines floats pool level all (fields_view after) rest
+    → AreFieldsLines floats pool level all (fields_view before) rest
+fields_skip floats pool level all before after n h split none rest others =
+    let nothing : List ℕ = [] in
+    subst (λ (fs : List (ℕ × Content)). AreFieldsLines floats pool level all (fields_view fs) rest) (sym split) (
+      nothing,
+      rest,
+      refl,
+      subst (λ (o : Option FieldView). MatchOption o (nothing ≡ nothing) (λ g. AreHoldingLines floats pool level g (content_view h) nothing)) (sym none) refl,
+      others,
+    )
 
 -- ENTRIES
 
-pub entries_next :
-    (pool : Types) (level : ℕ) (k : Kind) (name : List ℕ) (before after : List (MapKey × Value)) (key : MapKey) (v : Value) → before ≡ (key, v) ∷ after
-    → entries_lines pool level k name (entries_view before)
-    ≡ datum_lines pool level k (name ++ bracketed (key_view key)) (value_view v) ++ entries_lines pool level k name (entries_view after)
-entries_next pool level k name before after key v split = ap (λ (es : List (MapKey × Value)). entries_lines pool level k name (entries_view es)) split
+pub entries_join :
+    (floats : FloatForm) (pool : Types) (level : ℕ) (k : Kind) (name : List ℕ) (before after : List (MapKey × Value)) (key : MapKey) (v : Value)
+    → before ≡ (key, v) ∷ after → (first rest : List ℕ) → AreDatumLines floats pool level k (name ++ bracketed (key_view key)) (value_view v) first
+    → AreEntriesLines floats pool level k name (entries_view after) rest → AreEntriesLines floats pool level k name (entries_view before) (first ++ rest)
+entries_join floats pool level k name before after key v split first rest is others =
+    subst (λ (es : List (MapKey × Value)). AreEntriesLines floats pool level k name (entries_view es) (first ++ rest)) (sym split)
+    (first, rest, refl, is, others)
 
 -- a message of an entry stands at the entry's level, so its lines stand no deeper than those of another value
 pub entries_deep :
@@ -109,14 +135,15 @@ entry_deep (message m) = omega arith
 
 -- ELEMENTS
 
-abbrev pub each_from : Types → ℕ → Kind → List ℕ → ℕ → List Value → List ℕ
-each_from pool level k name i vs = each_lines pool level k name (values_view (drop i vs))
+pub each_join :
+    (floats : FloatForm) (pool : Types) (level : ℕ) (k : Kind) (name : List ℕ) (vs : List Value) (i : ℕ) (v : Value) → i < length vs → v ≡ get_or vs i v
+    → (first rest : List ℕ) → AreDatumLines floats pool level k name (value_view v) first
+    → AreEachLines floats pool level k name (values_view (drop (i + 1) vs)) rest → AreEachLines floats pool level k name (values_view (drop i vs)) (first ++ rest)
+each_join floats pool level k name vs i v below at first rest is others =
+    subst (λ (ws : List Value). AreEachLines floats pool level k name (values_view ws) (first ++ rest)) (sym (from_item vs i v below at))
+    (first, rest, refl, is, others)
 
-pub each_next :
-    (pool : Types) (level : ℕ) (k : Kind) (name : List ℕ) (vs : List Value) (i : ℕ) (v : Value) → i < length vs → v ≡ get_or vs i v
-    → (each_from pool level k name i vs ≡ datum_lines pool level k name (value_view v) ++ each_from pool level k name (i + 1) vs)
-    × (datums_depth (values_view (drop i vs)) ≡ max (levels_of (value_view v)) (datums_depth (values_view (drop (i + 1) vs))))
-each_next pool level k name vs i v below is = (
-  ap (λ (ws : List Value). each_lines pool level k name (values_view ws)) (from_item vs i v below is),
-  ap (λ (ws : List Value). datums_depth (values_view ws)) (from_item vs i v below is),
-)
+pub each_deep :
+    (vs : List Value) (i : ℕ) (v : Value) → i < length vs → v ≡ get_or vs i v
+    → datums_depth (values_view (drop i vs)) ≡ max (levels_of (value_view v)) (datums_depth (values_view (drop (i + 1) vs)))
+each_deep vs i v below at = ap (λ (ws : List Value). datums_depth (values_view ws)) (from_item vs i v below at)

@@ -16,13 +16,6 @@ module _ {D : Type 0} {written : D → Option (List ℕ)} {failures : D → ℕ}
   pub left_start : {d : D} {a : Sink} (level below : ℕ) (whole : List ℕ) → level + below ≤ 101 → IsLeft written failures d d a a level below whole whole
   left_start level below whole within = record { within = within; front = []; joined = refl; put = puts_none }
 
-  -- the same where an iterator has all of it left
-  pub left_start_at :
-      {X : Type 0} {d : D} {a : Sink} (level : ℕ) (below : X → ℕ) (text : X → List ℕ) (left whole : X) → left ≡ whole → level + below whole ≤ 101
-      → IsLeft written failures d d a a level (below left) (text left) (text whole)
-  left_start_at {X} {d} {a} level below text left whole e within =
-      subst (λ (x : X). IsLeft written failures d d a a level (below x) (text x) (text whole)) (sym e) (left_start level (below whole) (text whole) within)
-
   -- a part is put
   pub left_more :
       {d0 d1 d2 : D} {a b c : Sink} {level below : ℕ} {rest whole : List ℕ} (part_below rest_below : ℕ) (part after : List ℕ)

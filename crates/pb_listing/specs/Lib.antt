@@ -1,6 +1,10 @@
 pub mod RawListing
 pub mod Listing
+pub mod FloatText
+pub mod ListingAs
+pub mod Putting
 pub mod Label
 pub mod Borrowed
+pub mod NestedListing
 pub mod TypesListing
 pub mod FieldOwner

@@ -56,11 +56,6 @@ scalar_text names (bytes s) = codes "h'" ++ encode_lower s ++ codes "'"
 abbrev pub names_of_kind : Types → Kind → List (List ℕ × ℤ)
 names_of_kind pool k = option_map_or (λ e. enum_values pool e) (enum_of_kind k) []
 
--- a value that is no message; of a message nothing
-abbrev pub datum_text : List (List ℕ × ℤ) → Datum → List ℕ
-datum_text names (scalar x) = scalar_text names x
-datum_text names (message b) = []
-
 -- a map's key behind the name of the map: it is written like a value, and is no enum's
 abbrev pub bracketed : Scalar → List ℕ
 bracketed key = codes "[" ++ scalar_text [] key ++ codes "]"

@@ -1,7 +1,6 @@
 //! The listing of a message by its pool.
 
-ghost use Rattle.std.specs.Prelude.{◌++◌, ◌+◌, ◌<◌, ◌≤◌, suc, [], codes, length, MatchResult};
-ghost use Rattle.std.specs.Option.{option_map_or};
+ghost use Rattle.std.specs.Prelude.{◌++◌, ◌+◌, ◌<◌, ◌≤◌, suc, codes, length, MatchResult};
 ghost use Rattle.pb_schema.specs.Kinds.{message_of_kind};
 ghost use Rattle.pb_schema.specs.Rules.{NamesType};
 ghost use Rattle.pb_schema.specs.Types.{message_fields};
@@ -9,17 +8,21 @@ ghost use Rattle.pb_schema.specs.View.{field_view};
 ghost use Rattle.pb_value.specs.Data.{message_depth, fields_depth, holding_depth, datums_depth, entries_depth, levels_of};
 ghost use Rattle.pb_value.specs.View.{body_view, content_view, entries_view, fields_view, value_view, values_view};
 ghost use Rattle.pb_listing.specs.Label.{key_text, label_text};
-ghost use Rattle.pb_listing.specs.Listing.{datum_lines, datum_text, each_lines, entries_lines, fields_lines, holding_lines};
-ghost use Rattle.pb_listing.specs.Listing.{listing, listing_at, message_lines, names_of_kind};
+ghost use Rattle.pb_listing.specs.Listing.{listing, listing_at};
+ghost use Rattle.pb_listing.specs.ListingAs.{AreDatumLines, AreEachLines, AreEntriesLines, AreFieldsLines, AreHoldingLines};
+ghost use Rattle.pb_listing.specs.ListingAs.{AreLinesInside, AreMessageLines, AreScalarLines, IsListing, IsListingAt};
+ghost use Rattle.pb_listing.specs.Putting.{CutSome, PutsSome, SentSome};
 ghost use Rattle.pb_listing.specs.RawListing.{indent, line};
 ghost use Rattle.pb_output.specs.Sending.{Cut, Sent};
 ghost use Rattle.pb_output.specs.Sink.{Puts};
 
+use crate::context::Context;
+use crate::form::FloatForm;
 use crate::records::{DEEPEST, push_indent, put_end};
 use crate::unknown::put_unknown;
 use crate::values::{put_key, put_scalar};
 use pb_output::Sink;
-use pb_schema::{Field, Kind, MessageId, Pool};
+use pb_schema::{Field, Kind, MessageId};
 use pb_value::{Body, Content, DynamicMessage, MapKey, Value};
 use pb_wire::{DeviceFault, Output};
 use std::collections::BTreeMap;
@@ -31,8 +34,8 @@ struct Label<'a> {
     key: Option<&'a MapKey>,
 }
 
-/// Writes the listing of a message: its fields by rising number, and then its unknown records. An error says that the output
-/// failed, after a beginning of the listing.
+/// Writes the listing of a message: its fields by rising number, and then its unknown records. Floats are listed by their bits. An
+/// error says that the output failed, after a prefix of the listing.
 pub fn write_message<O: Output>(
     out: &mut O,
     message: &DynamicMessage<'_>,
@@ -40,12 +43,24 @@ pub fn write_message<O: Output>(
     ensures { MatchResult result (λ _. Sent O.written O.failures out.old out.new (listing message.now))
         (λ _. Cut O.written O.failures out.old out.new (listing message.now)) }
 {
+    write_message_as(out, message, FloatForm::Bits)
+}
+
+/// As `write_message`, with floats in a form.
+pub fn write_message_as<O: Output>(
+    out: &mut O,
+    message: &DynamicMessage<'_>,
+    floats: FloatForm,
+) -> Result<(), DeviceFault>
+    ensures { MatchResult result (λ _. SentSome O.written O.failures out.old out.new (IsListing floats message.now))
+        (λ _. CutSome O.written O.failures out.old out.new (IsListing floats message.now)) }
+{
     let mut sink = Sink::new();
-    put_listing_at(&mut sink, out, 0, message);
+    put_listing_as(&mut sink, out, 0, message, floats);
     sink.finish(out)
 }
 
-/// The listing of a message, at the level of what is no frame's, or of what is.
+/// Puts the listing of a message at a level: 0 of a whole message, 1 of one in a frame. Floats are listed by their bits.
 pub fn put_listing_at<O: Output>(
     sink: &mut Sink,
     out: &mut O,
@@ -55,14 +70,31 @@ pub fn put_listing_at<O: Output>(
     requires { level ≤ 1 }
     ensures { Puts O.written O.failures out.old out.new sink.old sink.new (listing_at level message.now) }
 {
-    let body = message.body();
+    put_listing_as(sink, out, level, message, FloatForm::Bits);
+}
+
+/// As `put_listing_at`, with floats in a form.
+pub fn put_listing_as<O: Output>(
+    sink: &mut Sink,
+    out: &mut O,
+    level: usize,
+    message: &DynamicMessage<'_>,
+    floats: FloatForm,
+)
+    requires { level ≤ 1 }
+    ensures { PutsSome O.written O.failures out.old out.new sink.old sink.new (IsListingAt floats level message.now) }
+{
+    let context = Context {
+        pool: message.pool(),
+        floats,
+    };
     put_message(
         sink,
         out,
         level,
-        message.pool(),
+        &context,
         message.message_type(),
-        body,
+        message.body(),
     );
 }
 
@@ -72,16 +104,17 @@ fn put_message<O: Output>(
     sink: &mut Sink,
     out: &mut O,
     level: usize,
-    pool: &Pool,
+    context: &Context<'_>,
     message_type: MessageId,
     body: &Body,
 )
     requires low { level ≤ 101 }
-    requires within { message_type.0 < length pool.now.messages }
+    requires within { message_type.0 < length context.now.pool.now.messages }
     ensures { level + message_depth (body_view body.now) ≤ 101
-        → Puts O.written O.failures out.old out.new sink.old sink.new (message_lines pool.now level message_type.0 (body_view body.now)) }
+        → PutsSome O.written O.failures out.old out.new sink.old sink.new
+        (AreMessageLines context.now.floats context.now.pool.now level message_type.0 (body_view body.now)) }
 {
-    put_fields(sink, out, level, pool, message_type, &body.fields);
+    put_fields(sink, out, level, context, message_type, &body.fields);
     put_unknown(sink, out, level, &body.unknown);
 }
 
@@ -90,22 +123,22 @@ fn put_fields<O: Output>(
     sink: &mut Sink,
     out: &mut O,
     level: usize,
-    pool: &Pool,
+    context: &Context<'_>,
     message_type: MessageId,
     fields: &BTreeMap<u32, Content>,
 )
     requires low { level ≤ 101 }
-    requires within { message_type.0 < length pool.now.messages }
+    requires within { message_type.0 < length context.now.pool.now.messages }
     ensures { level + fields_depth (fields_view fields.now.entries) ≤ 101
-        → Puts O.written O.failures out.old out.new sink.old sink.new
-        (fields_lines pool.now level (message_fields pool.now message_type.0) (fields_view fields.now.entries)) }
+        → PutsSome O.written O.failures out.old out.new sink.old sink.new
+        (AreFieldsLines context.now.floats context.now.pool.now level (message_fields context.now.pool.now message_type.0) (fields_view fields.now.entries)) }
 {
     for (number, content) in fields {
-        if sink.has_failed() {
+        if context.is_over(sink) {
             return;
         }
-        if let Some(field) = pool.field_by_number(message_type, *number) {
-            put_content(sink, out, level, pool, field, content);
+        if let Some(field) = context.pool.field_by_number(message_type, *number) {
+            put_content(sink, out, level, context, field, content);
         }
     }
 }
@@ -115,24 +148,24 @@ fn put_content<O: Output>(
     sink: &mut Sink,
     out: &mut O,
     level: usize,
-    pool: &Pool,
+    context: &Context<'_>,
     field: &Field,
     content: &Content,
 )
     requires low { level ≤ 101 }
-    requires kind { NamesType (length pool.now.messages) (length pool.now.enums) field.now.kind }
+    requires kind { NamesType (length context.now.pool.now.messages) (length context.now.pool.now.enums) field.now.kind }
     ensures { level + holding_depth (content_view content.now) ≤ 101
-        → Puts O.written O.failures out.old out.new sink.old sink.new
-        (holding_lines pool.now level (field_view field.now) (content_view content.now)) }
+        → PutsSome O.written O.failures out.old out.new sink.old sink.new
+        (AreHoldingLines context.now.floats context.now.pool.now level (field_view field.now) (content_view content.now)) }
 {
     let name = field.name.as_str();
     match content {
         Content::One(value) => {
             let label = Label { name, key: None };
-            put_value(sink, out, level, pool, field.kind, label, value);
+            put_value(sink, out, level, context, field.kind, label, value);
         }
-        Content::List(values) => put_values(sink, out, level, pool, field.kind, name, values),
-        Content::Map(entries) => put_entries(sink, out, level, pool, field.kind, name, entries),
+        Content::List(values) => put_values(sink, out, level, context, field.kind, name, values),
+        Content::Map(entries) => put_entries(sink, out, level, context, field.kind, name, entries),
     }
 }
 
@@ -142,23 +175,23 @@ fn put_values<O: Output>(
     sink: &mut Sink,
     out: &mut O,
     level: usize,
-    pool: &Pool,
+    context: &Context<'_>,
     kind: Kind,
     name: &str,
     values: &Vec<Value>,
 )
     requires low { level ≤ 101 }
-    requires kind { NamesType (length pool.now.messages) (length pool.now.enums) kind }
+    requires kind { NamesType (length context.now.pool.now.messages) (length context.now.pool.now.enums) kind }
     ensures { level + datums_depth (values_view values.now.items) ≤ 101
-        → Puts O.written O.failures out.old out.new sink.old sink.new
-        (each_lines pool.now level kind name.now (values_view values.now.items)) }
+        → PutsSome O.written O.failures out.old out.new sink.old sink.new
+        (AreEachLines context.now.floats context.now.pool.now level kind name.now (values_view values.now.items)) }
 {
     for value in values {
-        if sink.has_failed() {
+        if context.is_over(sink) {
             return;
         }
         let label = Label { name, key: None };
-        put_value(sink, out, level, pool, kind, label, value);
+        put_value(sink, out, level, context, kind, label, value);
     }
 }
 
@@ -168,26 +201,26 @@ fn put_entries<O: Output>(
     sink: &mut Sink,
     out: &mut O,
     level: usize,
-    pool: &Pool,
+    context: &Context<'_>,
     kind: Kind,
     name: &str,
     entries: &BTreeMap<MapKey, Value>,
 )
     requires low { level ≤ 101 }
-    requires kind { NamesType (length pool.now.messages) (length pool.now.enums) kind }
+    requires kind { NamesType (length context.now.pool.now.messages) (length context.now.pool.now.enums) kind }
     ensures { level + entries_depth (entries_view entries.now.entries) ≤ 101
-        → Puts O.written O.failures out.old out.new sink.old sink.new
-        (entries_lines pool.now level kind name.now (entries_view entries.now.entries)) }
+        → PutsSome O.written O.failures out.old out.new sink.old sink.new
+        (AreEntriesLines context.now.floats context.now.pool.now level kind name.now (entries_view entries.now.entries)) }
 {
     for (key, value) in entries {
-        if sink.has_failed() {
+        if context.is_over(sink) {
             return;
         }
         let label = Label {
             name,
             key: Some(key),
         };
-        put_value(sink, out, level, pool, kind, label, value);
+        put_value(sink, out, level, context, kind, label, value);
     }
 }
 
@@ -197,23 +230,23 @@ fn put_value<O: Output>(
     sink: &mut Sink,
     out: &mut O,
     level: usize,
-    pool: &Pool,
+    context: &Context<'_>,
     kind: Kind,
     label: Label<'_>,
     value: &Value,
 )
     requires low { level ≤ 101 }
-    requires kind { NamesType (length pool.now.messages) (length pool.now.enums) kind }
+    requires kind { NamesType (length context.now.pool.now.messages) (length context.now.pool.now.enums) kind }
     ensures { level + levels_of (value_view value.now) ≤ 101
-        → Puts O.written O.failures out.old out.new sink.old sink.new
-        (datum_lines pool.now level kind (label_text label.entry) (value_view value.now)) }
+        → PutsSome O.written O.failures out.old out.new sink.old sink.new
+        (AreDatumLines context.now.floats context.now.pool.now level kind (label_text label.entry) (value_view value.now)) }
 {
     let Value::Message(body) = value else {
-        put_scalar_line(sink, out, level, pool, kind, label, value);
+        put_scalar_line(sink, out, level, context, kind, label, value);
         return;
     };
     put_start(sink, out, level, label);
-    put_inside(sink, out, level, pool, kind, body);
+    put_inside(sink, out, level, context, kind, body);
     put_end(sink, out, level);
 }
 
@@ -223,20 +256,20 @@ fn put_inside<O: Output>(
     sink: &mut Sink,
     out: &mut O,
     level: usize,
-    pool: &Pool,
+    context: &Context<'_>,
     kind: Kind,
     body: &Body,
 )
     requires low { level ≤ 101 }
-    requires kind { NamesType (length pool.now.messages) (length pool.now.enums) kind }
+    requires kind { NamesType (length context.now.pool.now.messages) (length context.now.pool.now.enums) kind }
     ensures { level + suc (message_depth (body_view body.now)) ≤ 101
-        → Puts O.written O.failures out.old out.new sink.old sink.new
-        (option_map_or (λ m. message_lines pool.now (suc level) m (body_view body.now)) (message_of_kind kind) []) }
+        → PutsSome O.written O.failures out.old out.new sink.old sink.new
+        (AreLinesInside context.now.floats context.now.pool.now level (message_of_kind kind) (body_view body.now)) }
 {
     let Some(id) = kind.message() else { return };
     // No message nests so deep.
     if level < DEEPEST {
-        put_message(sink, out, level + 1, pool, id, body);
+        put_message(sink, out, level + 1, context, id, body);
     }
 }
 
@@ -245,19 +278,19 @@ fn put_scalar_line<O: Output>(
     sink: &mut Sink,
     out: &mut O,
     level: usize,
-    pool: &Pool,
+    context: &Context<'_>,
     kind: Kind,
     label: Label<'_>,
     value: &Value,
 )
     requires low { level ≤ 101 }
-    requires kind { NamesType (length pool.now.messages) (length pool.now.enums) kind }
-    ensures { Puts O.written O.failures out.old out.new sink.old sink.new
-        (line level (label_text label.entry ++ codes ": " ++ datum_text (names_of_kind pool.now kind) (value_view value.now))) }
+    requires kind { NamesType (length context.now.pool.now.messages) (length context.now.pool.now.enums) kind }
+    ensures { PutsSome O.written O.failures out.old out.new sink.old sink.new
+        (AreScalarLines context.now.floats context.now.pool.now level kind (label_text label.entry) (value_view value.now)) }
 {
     put_label(sink, out, level, label);
     sink.put(out, b": ");
-    put_scalar(sink, out, pool, kind, value);
+    put_scalar(sink, out, context, kind, value);
     sink.put(out, b"\n");
 }
 

@@ -23,7 +23,7 @@ pub(crate) const DEEPEST: usize = 101;
 
 /// No line of a record is longer, but for the bytes of a payload: the indentation, a mark, two numbers of at most twenty
 /// digits and a word.
-const LINE: usize = 256;
+pub(crate) const LINE: usize = 256;
 
 /// Writes a line for each record that the bytes spell, groups nested. They are bytes that `judge_raw` takes within
 /// `Limits::FULL`: of any others it writes the whole records before the first fault. An error says that the output failed, after
@@ -55,7 +55,7 @@ fn put_listing<O: Output>(sink: &mut Sink, out: &mut O, level: usize, bytes: &[u
 }
 
 #[cycle(listing)]
-fn put_record_lines<O: Output>(
+pub(crate) fn put_record_lines<O: Output>(
     sink: &mut Sink,
     out: &mut O,
     level: usize,
@@ -204,7 +204,13 @@ pub(crate) fn put_end<O: Output>(sink: &mut Sink, out: &mut O, level: usize)
 
 /// What stands before a record's value.
 #[inline]
-fn push_start(buffer: &mut OutputBuffer, level: usize, mark: &[u8], number: u32, word: &[u8])
+pub(crate) fn push_start(
+    buffer: &mut OutputBuffer,
+    level: usize,
+    mark: &[u8],
+    number: u32,
+    word: &[u8],
+)
     requires low { level ≤ 101 }
     requires mark { length mark.now ≤ 2 }
     requires room { length buffer.old + 224 + length word.now ≤ 4096 }

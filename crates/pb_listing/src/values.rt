@@ -1,15 +1,19 @@
 //! The values of a message's listing.
 
-ghost use Rattle.std.specs.Prelude.{◌≡◌, ◌++◌, ◌<◌, ◌≤◌, [], codes, decimal, length, option_map};
+ghost use Rattle.std.specs.Prelude.{◌≡◌, ◌++◌, ◌<◌, [], codes, decimal, length, option_map};
 ghost use Rattle.std.specs.Fmt.{signed_decimal};
 ghost use Rattle.std.specs.List.{flat_map};
 ghost use Rattle.hex.specs.Hex.{encode_lower};
 ghost use Rattle.pb_schema.specs.EnumValues.{value_name as named_value};
 ghost use Rattle.pb_schema.specs.Rules.{NamesType};
 ghost use Rattle.pb_value.specs.View.{key_view, value_view};
-ghost use Rattle.pb_listing.specs.Listing.{bool_text, datum_text, enum_text, names_of_kind, scalar_text, text_byte};
+ghost use Rattle.pb_listing.specs.FloatText.{IsDatumText};
+ghost use Rattle.pb_listing.specs.Listing.{bool_text, enum_text, names_of_kind, scalar_text, text_byte};
+ghost use Rattle.pb_listing.specs.Putting.{PutsSome};
 ghost use Rattle.pb_output.specs.Sink.{Puts};
 
+use crate::context::Context;
+use crate::floats::{put_double, put_float};
 use pb_output::Sink;
 use pb_schema::{Kind, Pool};
 use pb_value::{MapKey, Value};
@@ -19,13 +23,13 @@ use pb_wire::Output;
 pub(crate) fn put_scalar<O: Output>(
     sink: &mut Sink,
     out: &mut O,
-    pool: &Pool,
+    context: &Context<'_>,
     kind: Kind,
     value: &Value,
 )
-    requires { NamesType (length pool.now.messages) (length pool.now.enums) kind }
-    ensures { Puts O.written O.failures out.old out.new sink.old sink.new
-        (datum_text (names_of_kind pool.now kind) (value_view value.now)) }
+    requires { NamesType (length context.now.pool.now.messages) (length context.now.pool.now.enums) kind }
+    ensures { PutsSome O.written O.failures out.old out.new sink.old sink.new
+        (IsDatumText context.now.floats (names_of_kind context.now.pool.now kind) (value_view value.now)) }
 {
     match value {
         Value::I32(number) => put_integer(sink, out, i64::from(*number)),
@@ -33,9 +37,9 @@ pub(crate) fn put_scalar<O: Output>(
         Value::U32(number) => put_natural(sink, out, u64::from(*number)),
         Value::U64(number) => put_natural(sink, out, *number),
         Value::Bool(flag) => put_bool(sink, out, *flag),
-        Value::F32(bits) => put_bits(sink, out, &bits.to_be_bytes()),
-        Value::F64(bits) => put_bits(sink, out, &bits.to_be_bytes()),
-        Value::Enum(number) => put_enum(sink, out, pool, kind, *number),
+        Value::F32(bits) => put_float(sink, out, context.floats, *bits),
+        Value::F64(bits) => put_double(sink, out, context.floats, *bits),
+        Value::Enum(number) => put_enum(sink, out, context.pool, kind, *number),
         Value::Text(text) => put_text(sink, out, text.as_str().as_bytes()),
         Value::Bytes(bytes) => put_bytes(sink, out, bytes),
         Value::Message(_) => {}
@@ -78,16 +82,6 @@ fn put_bool<O: Output>(sink: &mut Sink, out: &mut O, flag: bool)
     } else {
         sink.put(out, b"false")
     }
-}
-
-/// The bits of a float, the highest first.
-fn put_bits<O: Output>(sink: &mut Sink, out: &mut O, bytes: &[u8])
-    requires { length bytes.now ≤ 8 }
-    ensures { Puts O.written O.failures out.old out.new sink.old sink.new (codes "0x" ++ encode_lower bytes.now) }
-{
-    sink.make_room(out, 18);
-    sink.held.push(b"0x");
-    sink.held.push_hex(bytes);
 }
 
 /// The name of an enum's value, or its number where no value has it.

@@ -3,8 +3,10 @@
 
 mod calls;
 mod compiled;
+mod decimal;
 mod json;
 mod lenient;
+mod nested;
 mod typed;
 
 use pb_cli::{Files, HostFiles, MemFiles, run};
@@ -257,6 +259,8 @@ const NO_COMMANDS: &[&[&str]] = &[
     &["raw", "--help"],
     &["raw", "f", "g"],
     &["raw", "--long", "f"],
+    &["raw", "--nested=1", "f"],
+    &["show", "--nested", "f", "T", "f"],
     &["check"],
     &["show", "f", "T"],
     &["canon", "--out", "f", "T", "f"],
@@ -264,6 +268,8 @@ const NO_COMMANDS: &[&[&str]] = &[
     &["json", "f", "T"],
     &["json", "--pretty", "--short", "f", "T", "f"],
     &["show", "--pretty", "f", "T", "f"],
+    &["show", "--decimal=1", "f", "T", "f"],
+    &["canon", "--decimal", "f", "T", "f"],
     &["raw", "--lenient", "f"],
     &["types"],
     &["types", "f", "N", "g"],

@@ -2,11 +2,15 @@
 //! rows of the command for the same bytes.
 
 use super::{FLAT, NONE, files_of};
-use pb_cli::{Afterwards, Command, Layout, Reading, Source, execute, execute_then, run_then};
+use pb_cli::{
+    Afterwards, Command, FloatForm, Layout, Reading, Source, execute, execute_then, run_then,
+};
 use pb_decode::decode;
 use pb_descr::{FileDecl, read_set};
 use pb_link::link;
-use pb_listing::{write_listing, write_message, write_shortest, write_types};
+use pb_listing::{
+    write_listing, write_message, write_message_as, write_nested, write_shortest, write_types,
+};
 use pb_schema::Pool;
 use pb_wire::{FailurePlan, Limits, MemOutput};
 use std::alloc::Global;
@@ -79,6 +83,32 @@ fn message(rt: HostRuntime) -> Result<(), Fail> {
     Ok(())
 }
 
+/// The listing of a message of the pool's type M, with floats in decimal; its field `a` is an int32.
+fn listed_as(alloc: Global, pool: &Pool, bytes: &[u8]) -> Result<MemOutput, Fail> {
+    let message_type = pool.message_by_name("M").ok_or("no type M")?;
+    let message = decode(alloc, pool, message_type, bytes, Limits::FULL)?;
+    let mut out = output(alloc);
+    write_message_as(&mut out, &message, FloatForm::Decimal)?;
+    Ok(out)
+}
+
+#[test]
+fn message_in_decimal(rt: HostRuntime) -> Result<(), Fail> {
+    let pool = pool(rt.alloc())?;
+    let lines = listed_as(rt.alloc(), &pool, MESSAGE)?;
+    assert!(rt; lines.bytes() == b"a: 150\n".as_slice());
+    Ok(())
+}
+
+// Records in a payload of another's.
+#[test]
+fn nested_records(rt: HostRuntime) -> Result<(), Fail> {
+    let mut lines = output(rt.alloc());
+    write_nested(&mut lines, b"\x0a\x03\x12\x01\x7a")?;
+    assert!(rt; lines.bytes() == b"1 len 3 {\n  2 len 1 7a\n}\n".as_slice());
+    Ok(())
+}
+
 /// The listing of what a set declares.
 fn types_listed(alloc: Global, set: &str) -> Result<MemOutput, Fail> {
     let bytes = hex::decode(alloc, set)?;
@@ -133,7 +163,13 @@ fn commands(rt: HostRuntime) -> Result<(), Fail> {
         ..source
     };
     let rows: [(Command<'_>, Comes); 8] = [
-        (Command::Show { source }, (0, b"a: 150\n", b"")),
+        (
+            Command::Show {
+                floats: FloatForm::Decimal,
+                source,
+            },
+            (0, b"a: 150\n", b""),
+        ),
         (Command::Check { source }, (0, b"ok\n", b"")),
         (Command::Canon { out: None, source }, (0, b"089601\n", b"")),
         (
@@ -144,7 +180,10 @@ fn commands(rt: HostRuntime) -> Result<(), Fail> {
             (0, b"{\n  \"a\": 150\n}\n", b""),
         ),
         (
-            Command::Frames { source: frames },
+            Command::Frames {
+                floats: FloatForm::Bits,
+                source: frames,
+            },
             (0, b"frame 0 at 0 size 4\n  a: 150\n", b""),
         ),
         (

@@ -4,7 +4,7 @@ use Rattle.pb_command.proofs.Streams.{read_begun, read_most, read_next, read_ref
 use Rattle.pb_command.proofs.frames.put_frames.Goals as goal
 
 pub loop-index-init : goal.loop-index-init
-loop-index-init g c = streaming_start c.args.reader.now c.requires.first c.requires.open c.requires.full
+loop-index-init g c = streaming_start c.args.floats c.args.reader.now c.requires.first c.requires.open c.requires.full
 
 pub put_next-requires : goal.put_next-requires
 put_next-requires g c = c.loop-index.invariant.read.goes_on
@@ -13,7 +13,7 @@ pub loop-index-preserved : goal.loop-index-preserved
 loop-index-preserved g c =
     let before = c.loop-index.invariant in
     let step = rw c.in-Put.is at c.put_next.ensures in
-    record { text = _; put = puts_then before.put step.2; read = read_next step.0 before.read step.1 }
+    record { text = _; put = puts_then before.put step.2.2; read = read_next step.0 step.2.0 before.read step.1 step.2.1 }
 
 pub returns-then-has_failed : goal.returns-then-has_failed
 returns-then-has_failed g c =

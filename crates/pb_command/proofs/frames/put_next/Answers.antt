@@ -15,7 +15,7 @@ returns-in-Ok-Some g c =
       c.in-Ok-Some.message.body,
       reads_frame c.in-Ok-Some.message c.in-Ok-Some.ensures.same c.in-Ok-Some.ensures.goes_on c.in-Ok-Some.ensures.stays typed well frame
           c.in-Ok-Some.ensures.counted,
-      lines_read c.args.reader.now c.next.new.self c.in-Ok-Some.message c.args.index c.taken-offset.result _ typed c.taken-offset.ensures
+      lines_read c.args.floats c.args.reader.now c.next.new.self c.in-Ok-Some.message c.args.index c.taken-offset.result _ typed c.taken-offset.ensures
           (ap (λ n. n - c.taken-offset.result) c.taken.ensures) c.put_frame.ensures,
     )
 

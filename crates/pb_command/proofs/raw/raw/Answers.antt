@@ -18,8 +18,8 @@ returns-in_err-text-clause-comes g c =
     (refused_comes (Sent g.O.Output.written g.O.Output.failures c.args.out.now c.args.out.now) (Cut g.O.Output.written g.O.Output.failures c.args.out.now c.args.out.now)
     (IsSaved g.F.Files.contents c.args.files.now c.read_judged.new.files) (IsUnsaved g.F.Files.contents g.F.Files.failures c.args.files.now c.read_judged.new.files)
     (λ a. (content : Option (List ℕ)) × IsReadOf g.F.Files.contents g.F.Files.is_steady c.args.files.now (c.args.limits.bytes + 1) c.args.path.now content
-    × RawAnswer c.args.limits c.args.short c.args.path.now content a) IsNothing c.in_err-text.field-0.0
-    (refl, Appends-nil (g.O.Output.written c.args.out.now)) c.in_err-text.ensures.files refl (c.in_err-text.ensures.judged c.args.short))
+    × RawAnswer c.args.limits c.args.form c.args.path.now content a) IsNothing c.in_err-text.field-0.0
+    (refl, Appends-nil (g.O.Output.written c.args.out.now)) c.in_err-text.ensures.files refl (c.in_err-text.ensures.judged c.args.form))
 
 pub returns-in_err-show-clause-comes : goal.returns-in_err-show-clause-comes
 returns-in_err-show-clause-comes g c =
@@ -29,7 +29,7 @@ returns-in_err-show-clause-comes g c =
     rw (p.1, p.2)
     (shown_comes (Sent g.O.Output.written g.O.Output.failures c.args.out.now c.show.new.out) (Cut g.O.Output.written g.O.Output.failures c.args.out.now c.show.new.out)
     (IsSaved g.F.Files.contents c.args.files.now c.read_judged.new.files) (IsUnsaved g.F.Files.contents g.F.Files.failures c.args.files.now c.read_judged.new.files)
-    c.args.limits c.args.short c.args.path.now
+    c.args.limits c.args.form c.args.path.now
     (IsReadOf g.F.Files.contents g.F.Files.is_steady c.args.files.now (c.args.limits.bytes + 1) c.args.path.now)
     c.in_ok-text.text.items judged.1.0 (Err c.in_err-show.field-0.0) judged.0 judged.1.1 c.in_ok-text.ensures.files
     (c.in_err-show.ensures judged.1.0 (rw c.as_slice.ensures.value whole)))
@@ -40,7 +40,7 @@ returns-clause-comes g c =
     let whole = text_in_full (omega (arith, c.requires.bytes)) c.requires.depth judged.1.1 in
     shown_comes (Sent g.O.Output.written g.O.Output.failures c.args.out.now c.show.new.out) (Cut g.O.Output.written g.O.Output.failures c.args.out.now c.show.new.out)
     (IsSaved g.F.Files.contents c.args.files.now c.read_judged.new.files) (IsUnsaved g.F.Files.contents g.F.Files.failures c.args.files.now c.read_judged.new.files)
-    c.args.limits c.args.short c.args.path.now
+    c.args.limits c.args.form c.args.path.now
     (IsReadOf g.F.Files.contents g.F.Files.is_steady c.args.files.now (c.args.limits.bytes + 1) c.args.path.now)
     c.in_ok-text.text.items judged.1.0 (Ok tt) judged.0 judged.1.1 c.in_ok-text.ensures.files
     (c.in_ok-show.ensures judged.1.0 (rw c.as_slice.ensures.value whole))

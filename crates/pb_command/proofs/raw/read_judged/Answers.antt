@@ -12,9 +12,9 @@ returns-in_err-text-clause-judged g c =
     let p = err_from_is_err_and c.from_residual.result c.from_residual.ensures.1 in
     let IsRead : Option (List ℕ) → Type 0 =
     IsReadOf g.F.Files.contents g.F.Files.is_steady c.args.files.now (c.args.limits.bytes + 1) c.args.path.now in
-    rw (p.1, p.2) (λ short.
+    rw (p.1, p.2) (λ form.
     refuses_map (λ a. IsRead None × (a ≡ device_failed c.args.path.now))
-    (λ a. (content : Option (List ℕ)) × IsRead content × RawAnswer c.args.limits short c.args.path.now content a) c.in_err-text.field-0.0
+    (λ a. (content : Option (List ℕ)) × IsRead content × RawAnswer c.args.limits form c.args.path.now content a) c.in_err-text.field-0.0
     (λ a h. (None, h.0, missing refl h.1)) c.in_err-text.ensures.refused)
 
 pub returns-in_err-judge_raw-clause-judged : goal.returns-in_err-judge_raw-clause-judged

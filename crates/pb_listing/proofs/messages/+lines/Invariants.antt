@@ -2,26 +2,27 @@ use Rattle.std.proofs.Common.{◌+◌, ◌≤◌, drop}
 use Rattle.pb_schema.specs.Types.{message_fields}
 use Rattle.pb_value.specs.Data.{datums_depth, entries_depth, fields_depth}
 use Rattle.pb_value.specs.View.{values_view, entries_view, fields_view}
-use Rattle.pb_listing.specs.Listing.{each_lines, entries_lines, fields_lines}
-use Rattle.pb_listing.proofs.ListingLemmas.{each_from}
-use Rattle.pb_listing.proofs.PuttingLemmas.{IsLeft}
+use Rattle.pb_listing.specs.ListingAs.{AreEachLines, AreEntriesLines, AreFieldsLines}
+use Rattle.pb_listing.proofs.MeantLemmas.{IsBegun}
 use Rattle.pb_listing.proofs.messages.+lines.Given as goal
 
 abbrev pub invariant-put_fields-loop-number : goal.invariant-put_fields-loop-number
 invariant-put_fields-loop-number g l =
     l.level + fields_depth (fields_view l.fields.entries) ≤ 101
-    → IsLeft g.O.Output.written g.O.Output.failures l.initial.out l.out l.initial.sink l.sink l.level (fields_depth (fields_view l.number-iterator))
-    (fields_lines l.pool l.level (message_fields l.pool l.message_type.0) (fields_view l.number-iterator))
-    (fields_lines l.pool l.level (message_fields l.pool l.message_type.0) (fields_view l.fields.entries))
+    → IsBegun g.O.Output.written g.O.Output.failures l.initial.out l.out l.initial.sink l.sink l.level (fields_depth (fields_view l.number-iterator))
+    (AreFieldsLines l.context.floats l.context.pool.now l.level (message_fields l.context.pool.now l.message_type.0) (fields_view l.number-iterator))
+    (AreFieldsLines l.context.floats l.context.pool.now l.level (message_fields l.context.pool.now l.message_type.0) (fields_view l.fields.entries))
 
 abbrev pub invariant-put_values-loop-value : goal.invariant-put_values-loop-value
 invariant-put_values-loop-value g l =
     l.level + datums_depth (values_view l.values.items) ≤ 101
-    → IsLeft g.O.Output.written g.O.Output.failures l.initial.out l.out l.initial.sink l.sink l.level (datums_depth (values_view (drop l.value-index l.values.items)))
-    (each_from l.pool l.level l.kind l.name l.value-index l.values.items) (each_lines l.pool l.level l.kind l.name (values_view l.values.items))
+    → IsBegun g.O.Output.written g.O.Output.failures l.initial.out l.out l.initial.sink l.sink l.level (datums_depth (values_view (drop l.value-index l.values.items)))
+    (AreEachLines l.context.floats l.context.pool.now l.level l.kind l.name (values_view (drop l.value-index l.values.items)))
+    (AreEachLines l.context.floats l.context.pool.now l.level l.kind l.name (values_view l.values.items))
 
 abbrev pub invariant-put_entries-loop-key : goal.invariant-put_entries-loop-key
 invariant-put_entries-loop-key g l =
     l.level + entries_depth (entries_view l.entries.entries) ≤ 101
-    → IsLeft g.O.Output.written g.O.Output.failures l.initial.out l.out l.initial.sink l.sink l.level (entries_depth (entries_view l.key-iterator))
-    (entries_lines l.pool l.level l.kind l.name (entries_view l.key-iterator)) (entries_lines l.pool l.level l.kind l.name (entries_view l.entries.entries))
+    → IsBegun g.O.Output.written g.O.Output.failures l.initial.out l.out l.initial.sink l.sink l.level (entries_depth (entries_view l.key-iterator))
+    (AreEntriesLines l.context.floats l.context.pool.now l.level l.kind l.name (entries_view l.key-iterator))
+    (AreEntriesLines l.context.floats l.context.pool.now l.level l.kind l.name (entries_view l.entries.entries))

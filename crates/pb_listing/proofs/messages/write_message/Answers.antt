@@ -1,5 +1,7 @@
-use Rattle.pb_output.proofs.SinkLemmas.{finished}
+use Rattle.pb_listing.proofs.BitsLemmas.{listing_went}
 use Rattle.pb_listing.proofs.messages.write_message.Goals as goal
 
 pub returns : goal.returns
-returns g c = finished c.new-sink.ensures c.put_listing_at.ensures c.finish.ensures
+returns g c =
+    listing_went g.O.Output.written g.O.Output.failures c.args.out.now c.write_message_as.new.out c.args.message.now c.write_message_as.result
+    c.write_message_as.ensures

@@ -1,6 +1,6 @@
 use Rattle.std.proofs.Common.{append_assoc, refl}
 use Rattle.pb_output.proofs.SinkLemmas.{puts_held, puts_then}
-use Rattle.pb_listing.proofs.values.put_bits.Goals as goal
+use Rattle.pb_listing.proofs.floats.put_bits.Goals as goal
 
 pub returns : goal.returns
 returns g c = puts_then c.make_room.ensures.kept (puts_held refl refl (rw (c.push_hex.ensures.after, c.push.ensures.after) (simp append_assoc)))
