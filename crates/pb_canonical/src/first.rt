@@ -51,7 +51,8 @@ pub(crate) fn tag_first(bytes: &[u8]) -> Option<(Tag, &[u8])>
     ensures tag { IfSome result (λ r. bytes.now ≡ tagged r.0.number r.0.wire_type r.1.now) }
     ensures number { IfSome result (λ r. IsNumber r.0.number) }
     ensures wire_type { IfSome result (λ r. r.0.wire_type < 8) }
-    ensures complete { (k w : ℕ) → (s : List ℕ) → IsNumber k → w < 8 → bytes.now ≡ tagged k w s → IsSomeAnd result (λ r. IsTagged k w r.0.number r.0.wire_type × (r.1.now ≡ s)) }
+    ensures complete { (k w : ℕ) → (s : List ℕ) → IsNumber k → w < 8 → bytes.now ≡ tagged k w s
+        → IsSomeAnd result (λ r. IsTagged k w r.0.number r.0.wire_type × (r.1.now ≡ s)) }
 {
     let (tag, rest) = varint_first(bytes)?;
     let Ok(tag) = u32::try_from(tag) else {

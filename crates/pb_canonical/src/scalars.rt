@@ -38,7 +38,8 @@ pub(crate) fn scalar_first(bytes: &[u8], wire_type: u8) -> Option<(ScalarPayload
     ensures of_type { IfSome result (λ r. type_of (payload_view r.0) ≡ wire_type) }
     ensures plain { IfSome result (λ r. type_of (payload_view r.0) ≢ 3) }
     ensures in_range { IfSome result (λ r. IsInRange (payload_view r.0)) }
-    ensures complete { (p : Payload) → (s : List ℕ) → IsPlain wire_type p → bytes.now ≡ payload_bytes p ++ s → IsSomeAnd result (λ r. (payload_view r.0 ≡ p) × (r.1.now ≡ s)) }
+    ensures complete { (p : Payload) → (s : List ℕ) → IsPlain wire_type p → bytes.now ≡ payload_bytes p ++ s
+        → IsSomeAnd result (λ r. (payload_view r.0 ≡ p) × (r.1.now ≡ s)) }
 {
     match wire_type {
         0 => {

@@ -62,7 +62,8 @@ fn inside_first(bytes: &[u8], levels: u8) -> Option<&[u8]>
 /// Whether a record of this number and wire type counts for a field of a message type. Of a closed enum it need not be declared.
 fn fits_at(pool: &Pool, message_type: MessageId, tag: Tag) -> bool
     requires { message_type.0 < length pool.now.messages }
-    ensures { (p : Payload) → type_of p ≡ tag.wire_type → type_of p ≢ 0 → counts pool.now (message_fields pool.now message_type.0) (record_of tag.number p) ≡ result }
+    ensures { (p : Payload) → type_of p ≡ tag.wire_type → type_of p ≢ 0
+        → counts pool.now (message_fields pool.now message_type.0) (record_of tag.number p) ≡ result }
 {
     match pool.field_by_number(message_type, tag.number) {
         Some(field) => fits(field, tag.wire_type),

@@ -40,7 +40,8 @@ fn add_changes(
     requires kind { NamesType (length old.now.messages) (length old.now.enums) from.now.kind }
     requires key { HasKeyKind from.now.shape }
     ensures { OnOk result (differences.new.items ≡ differences.old.items ++ differences_of number
-        (option_to_list (change_of_field old.now new.now crowded (field_view from.now) (field_view to.now)) ++ renaming_of (field_view from.now) (field_view to.now))) }
+        (option_to_list (change_of_field old.now new.now crowded (field_view from.now) (field_view to.now))
+        ++ renaming_of (field_view from.now) (field_view to.now))) }
 {
     if let Some(severity) = change_of(old, new, crowded, from, to) {
         differences.push(Difference { number, severity })?;
