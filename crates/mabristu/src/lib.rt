@@ -19,7 +19,10 @@ pub use pb_link::{LinkCause, LinkError, link, resolve, to_decls};
 pub use pb_schema::{
     EnumId, EnumType, Field, FileInfo, Kind, MessageId, MessageType, Pool, PoolError, Shape,
 };
-pub use pb_source::{SourceCause, SourceFault, parse};
+pub use pb_source::{SourceCause, SourceFault, parse, parse_lenient};
+
+// What a change of a schema does to old messages.
+pub use pb_compat::{ComparedTypes, Difference, Severity, Step, compare};
 
 // Messages: what they hold, changes, what is at a place of one, and changes there.
 pub use pb_place::{
