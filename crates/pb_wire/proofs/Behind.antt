@@ -1,4 +1,4 @@
--- The records that stand before a record tell its step of a path, and nothing else of its fault.
+-- The records before a record determine its step of a path, and nothing else of its fault.
 use Rattle.std.proofs.Common.{◌≡◌, ℕ, List, [], ◌∷◌, ap}
 use Rattle.pb_wire.specs.Record.{Record}
 use Rattle.pb_wire.specs.Fault.{Fault, fault, step, Place}
@@ -12,7 +12,7 @@ again :
     {f : Fault} {byte : ℕ} {steps others : List PathStep} {c : Cause} → f ≡ fault byte steps c → fault f.byte others f.cause ≡ fault byte others c
 again {others = others} is = ap (λ (z : Fault). fault z.byte others z.cause) is
 
--- the fault of a record, whichever whole records stand before it
+-- the fault of a record, whichever whole records come before it
 pub behind :
     {S : Schema} {o : Open S.Context} {others : List Record} {room : ℕ} {p : Place} {f : Fault} (before : List Record) → RecordFault S o others room p f
     → (path : List PathStep) × RecordFault S o before room p (fault f.byte path f.cause)

@@ -1,5 +1,5 @@
--- Where a fault is told: between the place that is read from and the end of the input, and Truncated at that end. InputTooLarge is
--- never told of bytes within the limit.
+-- Where a fault is reported: between the place that is read from and the end of the input, and Truncated at that end. InputTooLarge is
+-- never reported of bytes within the limit.
 use Rattle.std.proofs.Common.{◌≡◌, ◌≢◌, ℕ, ◌+◌, ◌≤◌, List, [], take, sym, ap, ◌∙◌, arith, Option}
 use Rattle.std.proofs.lemmas.List.{length-take}
 use Rattle.std.proofs.lemmas.Str.{utf8_valid_len_le}
@@ -45,7 +45,7 @@ told_at {p} {f} {byte} {steps} {c} low high is ne nl =
       small = λ h. nl (sym e ∙ h);
     }
 
--- a fault of another cause, where one stands
+-- a fault of another cause, where one is
 told_here : {p : Place} {f : Fault} {steps : List PathStep} {c : Cause} → f ≡ fault p.at steps c → c ≢ Truncated → c ≢ InputTooLarge → Told p f
 told_here {p} is ne nl = told_at {p = p} (omega arith) (omega arith) is ne nl
 

@@ -6,7 +6,7 @@ use Rattle.std.specs.Array.{IsFirstChunk}
 use Rattle.pb_wire.specs.Fault.{place, Moves}
 
 module _ (b : List ℕ) (at : ℕ) (inside : at ≤ length b) where
-  -- what stands from the index on, as code slices it
+  -- what comes from the index on, as code slices it
   behind : take (length b - at) (drop at b) ≡ drop at b
   behind = take_all (length b - at) (drop at b) (omega (arith, length-drop at b))
 

@@ -226,7 +226,7 @@ records_spelled-AreRecords rs b h small =
     ap (λ (z : List ℕ). (front_within (suc (length b)) z).records) (sym whole) ∙ ap (λ (z : Front). z.records) read
     ∙ ap (λ (z : Front). z.records) (prepend-front (group_of rs) []) ∙ records_in-group_of rs
 
--- of the shortest spelling
+-- of the shortest encoding
 shortest-long : (n : ℕ) → n < 2 ^ 64 → Long n (shortest n)
 shortest-long n h = record { ends = shortest-ends n; value = rw (groups_value-shortest n) (mod-eq_of_lt h) }
 

@@ -30,7 +30,7 @@ bytes_between b front at here moves =
     let size : length front ≡ here - at = let e = moves.at in omega (arith, e) in
     sym (ap (take (here - at)) moves.given ∙ take_at front (drop here b) (here - at) size)
 
--- whole records stand between the places
+-- whole records lie between the places
 pub records_between :
     (room : ℕ) (b : List ℕ) (at here : ℕ) (rs : List Record) → Front room (place b at) rs (place b here) → AreRecords rs (take (here - at) (drop at b))
 records_between room b at here rs front = subst (AreRecords rs) (bytes_between b front.spelled.0 at here front.spelled.2) front.spelled.1
@@ -57,7 +57,7 @@ pub group_read :
     (room k : ℕ) (p q : Place) → 0 < room → (rs : List Record) × ReadsAll (room - 1) (Some k) p rs q → (payload : Payload) × ReadsValue room k 3 p payload q
 group_read room k p q some (rs, all) = (_, group_value room k p q rs some all)
 
--- a record has a fault, behind a front of whole records
+-- a record has a fault, after a prefix of whole records
 pub bad_behind :
     (innermost : Option ℕ) (b : List ℕ) (at here room k : ℕ) (rs : List Record) (old new : List PathStep) (e : ReadError)
     → (innermost ≡ None → here < length b) → Front room (place b at) rs (place b here)
@@ -73,7 +73,7 @@ bad_behind innermost b at here room k rs old new (errors.Fault w) goes front e b
 abbrev pub count : {A : Type 0} → (A → ℕ) → ℕ → List A → ℕ
 count number k xs = length (filter (λ x. number x == k) xs)
 
--- it is told by the numbers alone
+-- it is determined by the field numbers alone
 count_numbers : {A : Type 0} (number : A → ℕ) (k : ℕ) (xs : List A) → count number k xs ≡ count (λ n. n) k (map number xs)
 count_numbers number k [] = refl
 count_numbers {A} number k (x ∷ xs) = by_test (number x == k) (count_numbers number k xs)
@@ -125,7 +125,7 @@ text_accepted S c limits b (Ok u) fault text = tt
 text_accepted S c limits b (Err raw.Memory) fault text = refl
 text_accepted S c limits b (Err (raw.Fault byte path cause)) fault text = absurd (text_not_both fault text)
 
--- a fault is told
+-- a fault is reported
 pub fault_told :
     (S : Schema) (c : S.Context) (limits : Bounds) (b : List ℕ) (r : Result Unit RawError) → IfOk r (λ _. IsSomeText S c limits b)
     → IfErr r (λ e. IfRawFault e (HasFault S c limits b)) → (f : Fault) → HasFault S c limits b f → IsErrAnd r (λ e. IfRawFault e (λ g. g ≡ f))

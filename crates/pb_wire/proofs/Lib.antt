@@ -1,13 +1,13 @@
 -- ---- what the code reads and writes
 -- for `put_varint` and the loop that reads a varint: the number that groups of seven bits make
 pub mod VarintLemmas
--- for `varint_token`: what a varint of the bytes before a known end tells of the place where they begin
+-- for `varint_token`: what a varint of the bytes before a known end says of the place where they begin
 pub mod TokenLemmas
 -- for the readers of records and those that judge them: the parts of tags, and places as bytes are passed
 pub mod ReadingLemmas
 -- for the numbers of four and of eight bytes: their bytes at an index, as code slices them
 pub mod FixedLemmas
--- for what reads records and what writes them: what each variant of `Unknown` stands for
+-- for what reads records and what writes them: what each variant of `Unknown` means
 pub mod UnknownLemmas
 -- for the loops of `can_write` and `write_raw`: lists of records, one by one
 pub mod WritingLemmas
@@ -18,7 +18,7 @@ pub mod Transfers
 -- ---- the law of one fault, from bytes to texts
 -- for one reading of bytes at most, and for `can_write`: no spelling begins another
 pub mod Unique
--- for all that stands behind some bytes: the same bytes lead to the same place
+-- for all that follows some bytes: the same bytes lead to the same place
 pub mod Places
 -- each token has one reading or one fault
 pub mod Tokens
@@ -26,7 +26,7 @@ pub mod Tokens
 pub mod Elements
 -- two fronts of whole records from one place: one goes as far as the other, or a record follows
 pub mod Fronts
--- for the path of a fault: the records before a record tell its step there, and nothing else
+-- for the path of a fault: the records before a record determine its step there, and nothing else
 pub mod Behind
 -- bytes that are read whole have no fault, and others at most one
 pub mod OneFault
@@ -39,7 +39,7 @@ pub mod ExactLemmas
 -- ---- the laws beside it
 -- for the law of longer texts: a fault other than the end of the input stays the fault when more bytes come
 pub mod Longer
--- for the law of a fault's byte: where a fault is told, between the place that is read from and the end of the input
+-- for the law of a fault's byte: where a fault is reported, between the place that is read from and the end of the input
 pub mod FaultBounds
 -- for the law of a fault's path: how many steps it has, by the levels left
 pub mod PathBounds
@@ -57,7 +57,7 @@ pub mod RecordIterRuns
 -- for `judge_raw`: bytes that are judged as records, from one place to a later one
 pub mod JudgingLemmas
 -- ---- what is written
--- for the law of the shortest spelling: it is a spelling, and none is shorter
+-- for the law of the shortest encoding: it is a spelling, and none is shorter
 pub mod ShortestLemmas
 -- for the law of reading back: records come back from each of their spellings
 pub mod InsideLemmas

@@ -1,4 +1,4 @@
--- A fault other than Truncated is the fault of every longer text.
+-- A fault other than Truncated is the fault of every longer input.
 use Rattle.std.proofs.Common.{◌≡◌, ◌≢◌, ℕ, zero, suc, ◌+◌, ◌-◌, ◌*◌, ◌<◌, ◌≤◌, List, [], ◌∷◌, ◌++◌, length, take, refl, sym, ap, subst, ◌∙◌, arith, append_assoc, length-append, Option, Some, None, ◌⊎◌, inl, inr, All, IsUtf8}
 use Rattle.std.specs.Prelude.{option_map}
 use Rattle.std.specs.Str.Lossy.{utf8_valid_len}
@@ -145,7 +145,7 @@ read_longer S (records c) room p more (inr some) (front, q, w, m, inr e) = absur
 
 -- ---- whole texts, and those past the limit on their length
 
--- a settled fault of the bytes within the limit is told as it is
+-- a settled fault of the bytes within the limit is reported as it is
 pub beyond_settled : (n : ℕ) (f : Fault) → (IsCut f → ⊥) → f ≡ beyond n f
 beyond_settled n f not_cut = by_cause f.byte f.path f.cause not_cut
   where

@@ -26,7 +26,7 @@ no_record_over (inl e) h = no_record_at_end e h
 no_record_over {S} {c} {room} {q} (inr e) h =
     let size = fewer h.1 h.5 in let none : length q.rest ≡ 0 = ap length e.1 in let some = record_some h in omega (arith, size, none, some)
 
--- behind a front of what is read whole stands a record, the end tag, or the end
+-- after a prefix that is read completely comes a record, the end tag, or the end
 read_from :
     {S : Schema} (o : Open S.Context) {room : ℕ} {p q : Place} (front : List ℕ) → Whole S (context_of o) room front → Moves p front q
     → IsRead S o room p → Begins o q → RecordAt S (context_of o) room q ⊎ EndAt o q
@@ -293,7 +293,7 @@ same_before {q = q} {a = a} {b = b} {rs = rs} {ss = ss} e h m g n =
     let ends : a ++ q.rest ≡ b ++ q.rest = sym m.given ∙ n.given ∙ ap (λ (z : Place). b ++ z.rest) (sym e) in
     same_records rs ss a h (rw (sym (append_cancel_right a b q.rest ends)) at g)
 
--- behind a front of sound records stands a further one, or that which has the fault
+-- after a prefix of sound records comes a further one, or that which has the fault
 fault_from :
     {S : Schema} {o : Open S.Context} {room : ℕ} {p q : Place} {f : Fault} (front : List ℕ) → Bad S o room p f → (w : Whole S (context_of o) room front)
     → Moves p front q → Begins o q → RecordAt S (context_of o) room q ⊎ RecordFault S o w.0 room q f

@@ -182,7 +182,7 @@ pub value_from_group :
 value_from_group room k q steps (errors.Fault w) h bad = bad_group_value room k q steps w h bad
 value_from_group room k q steps errors.Memory h bad = tt
 
--- a value has a fault, behind a front of whole records
+-- a value has a fault, after a prefix of whole records
 pub bad_after :
     (innermost : Option ℕ) (b : List ℕ) (at here start room k code : ℕ) (rs : List Record) (old new : List PathStep) (e : ReadError)
     → (innermost ≡ None → here < length b) → (front : Front room (place b at) rs (place b here)) → HasTag (place b here) k code (place b start)
@@ -203,7 +203,7 @@ from_front raw.Memory limits b steps max room w long is_max is_depth bad told = 
 from_front (raw.Fault byte path cause) limits b steps max room w long is_max is_depth bad told =
     HasFault.bad_front long (rw (is_max, is_depth) at bad) (rw (← is_max) told)
 
--- the records of a number among those that a list stands for
+-- the records of a number among those that a list means
 pub same_count : (k : ℕ) (xs : List (ℕ × Unknown)) → length (filter (λ r. r.number == k) (records_of xs)) ≡ length (filter (λ x. x.0 == k) xs)
 same_count k [] = refl
 same_count k (x ∷ xs) = by_test (x.0 == k) (same_count k xs)

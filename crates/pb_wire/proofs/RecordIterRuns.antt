@@ -27,7 +27,7 @@ abbrev pub given_ok : List (ℕ × Payload) → List Given
 given_ok [] = []
 given_ok (x ∷ xs) = Ok x ∷ given_ok xs
 
--- a fault behind records, at a turn of a `for`
+-- a fault after records, at a turn of a `for`
 pub fault_after :
     (s t u : Rest) (xs : List Given) (ys : List (ℕ × Payload)) (r : Option Given) (x : Given) (w : WireFault) (items : List Item)
     → Yields NextGives s xs t → xs ≡ given_ok ys → r ≡ Some x → x ≡ Err w → NextGives t r u → Gives s items
@@ -93,7 +93,7 @@ all_numbers (x ∷ xs) (y ∷ ys) e =
     ap (λ (z : ℕ). z ∷ map (λ y. y.0) ys) (sym (ap (λ (z : ℕ × Seen). z.0) first))
     ∙ ap (λ (z : List ℕ). x.0 ∷ z) (all_numbers xs ys others)
 
--- no fault stands among records
+-- no fault is among records
 pub no_fault : (xs : List (ℕ × Seen)) (ys : List (ℕ × Payload)) (w : WireFault) (others : List Item) → all_ok xs ≡ map item_seen (given_ok ys) ++ Err w ∷ others → ⊥
 no_fault [] [] w others e = cc
 no_fault [] (y ∷ ys) w others e = cc
@@ -107,7 +107,7 @@ fault_follows [] (y ∷ ys) w e = cc
 fault_follows (x ∷ xs) [] w e = cc
 fault_follows (x ∷ xs) (y ∷ ys) w e = fault_follows xs ys w (let h : all_ok xs ++ Err w ∷ [] ≡ map item_seen (given_ok ys) ++ [] = cc in h)
 
--- and it is the fault that is given behind records
+-- and it is the fault that is given after records
 pub one_follows :
     (xs : List (ℕ × Seen)) (ys : List (ℕ × Payload)) (v w : WireFault) (others : List Item)
     → all_ok xs ++ Err v ∷ [] ≡ map item_seen (given_ok ys) ++ Err w ∷ others → w ≡ v

@@ -23,7 +23,7 @@ use Rattle.pb_wire.proofs.OneFault.{bad_not_record, one_record_fault}
 
 -- ---- a record is shown in one way
 
--- what stands before the end tag
+-- what comes before the end tag
 same_inside :
     (rs us : List Record) (s t e f : List ℕ) → group_of rs ≡ group_of us → AreRecords rs s → AreRecords us t → s ++ e ≡ t ++ f → s ≡ t
 same_inside [] [] s t e f g h k is = h ∙ sym k
@@ -105,7 +105,7 @@ parts {depth} {p} {q} xs h = go h.rs xs h.front h.shown h.sound h.moves
         (record { it = r; front = shown.0; shown = shown.2; sound = s; moves = split.1 })
         (record { rs = rs; front = shown.1; shown = shown.3; sound = others; moves = split.2 })
 
--- nothing stands at p
+-- nothing is at p
 ends_here : {depth : ℕ} {p q : Place} (xs : List (ℕ × Seen)) → p.rest ≡ [] → Passes depth p xs q → (xs ≡ []) × (p ≡ q)
 ends_here {depth} {p} {q} xs none h = judge (parts xs h)
   where
@@ -115,7 +115,7 @@ ends_here {depth} {p} {q} xs none h = judge (parts xs h)
         let size = fewer first.front first.moves in let n : length p.rest ≡ 0 = ap length none in let some = record_some (record_at first) in
         absurd (omega (arith, size, n, some))
 
--- a fault stands at p
+-- a fault is at p
 fails_here : {before : List Record} {depth : ℕ} {p q : Place} {f : Fault} (xs : List (ℕ × Seen)) → RecordFault blank (records tt) before depth p f → Passes depth p xs q → (xs ≡ []) × (p ≡ q)
 fails_here {depth} {p} {q} xs bad h = judge (parts xs h)
   where
@@ -191,7 +191,7 @@ record_left text is_cut at after depth x items shown (to_fault {xs = xs} {q = q}
           to_fault (rw (← same.1) at others) goes bad refl,
         )
 
--- what is told of a fault has no path
+-- what is reported of a fault has no path
 told_alike :
     (is_cut : Bool) (end byte : ℕ) (c : Cause) (a b : List PathStep)
     → as_told (if is_cut then beyond end (fault byte a c) else fault byte a c) ≡ as_told (if is_cut then beyond end (fault byte b c) else fault byte b c)

@@ -26,7 +26,7 @@ tag_here k w at rest is type small = record {
   type = type;
 }
 
--- a fault of the record that stands first
+-- a fault of the first record
 first : {b : List ℕ} {f : Fault} {bytes depth : ℕ} → length b ≤ bytes → b ≢ [] → RecordFault blank (records tt) [] depth (record { at = 0; known = None; rest = b }) f → HasFault blank tt (record { bytes = bytes; depth = depth }) b f
 first {b} fits some bad = HasFault.bad fits (Bad.at_record ([], refl, AllSound.none) (moves_nothing (record { at = 0; known = None; rest = b })) (λ h. cc, λ h. some) bad)
 
@@ -187,7 +187,7 @@ behind_a_record k is small =
     (RecordFault.varint (tag_here 1 0 2 (0x96 ∷ []) (lit< tt, lit< tt) (lit< tt) (lit< tt))
     (VarintFault.cut_short (lit< tt) (All-cons IsHigh _ [] (lit≤ tt) (All-nil IsHigh)) (λ h. cc) refl) refl))
 
--- the same behind a record of that number, and behind one of another number
+-- the same after a record of that number, and after one of another number
 cut_in_a_second_value : HasFault blank tt (record { bytes = 9; depth = 9 }) (0x08 ∷ 0x01 ∷ 0x08 ∷ 0x96 ∷ []) (fault 4 (record { number = 1; occurrence = 1 } ∷ []) Truncated)
 cut_in_a_second_value = behind_a_record 1 (lit< tt, lit< tt) (lit< tt)
 
@@ -286,7 +286,7 @@ a_large_length =
       record { given = refl; within = tt; at = refl; known = refl },
     ) (lit≤ tt) refl) refl)
 
--- a length of 5, behind which the input has one byte
+-- a length of 5, after which the input has one byte
 a_length_past_the_end : HasFault blank tt (record { bytes = 9; depth = 9 }) (0x0a ∷ 0x05 ∷ 0x01 ∷ []) (fault 3 (step 1 [] ∷ []) Truncated)
 a_length_past_the_end =
     first (lit≤ tt) (λ h. cc)
@@ -341,7 +341,7 @@ too_large_in_a_value =
     (RecordFault.varint (tag_here 1 0 0 (0x96 ∷ []) (lit< tt, lit< tt) (lit< tt) (lit< tt))
     (VarintFault.cut_short (lit< tt) (All-cons IsHigh _ [] (lit≤ tt) (All-nil IsHigh)) (λ h. cc) refl) refl)) refl
 
--- ---- what stands inside a payload
+-- ---- what lies inside a payload
 
 abbrev inside : List Record
 inside = record { number = 1; payload = varint 5 } ∷ []

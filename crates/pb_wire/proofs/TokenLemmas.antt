@@ -1,4 +1,4 @@
--- What a varint of the bytes before a known end tells of the place where they begin.
+-- What a varint of the bytes before a known end says of the place where they begin.
 use Rattle.std.proofs.Common.{◌≡◌, ◌≢◌, ℕ, ◌<◌, ◌≤◌, List, [], length, take, refl, sym, ap, subst, ◌∙◌, arith, Option, Some, None, ⊎_elim, All}
 use Rattle.std.proofs.lemmas.List.{take-append-drop, take-take, length-take, length-take-le}
 use Rattle.pb_wire.specs.Varint.{IsVarint}

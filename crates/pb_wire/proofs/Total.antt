@@ -316,7 +316,7 @@ read_more : (S : Schema) (o : Open S.Context) (room : ℕ) (p : Place) → (h : 
 read_more S (records c) room p h (front, q, w, m, over) = (h.1 ++ front, q, whole_more h front w, moves_both h.1 front h.5 m, over)
 read_more S (in_group k c) room p h (front, q, w, m, end) = (h.1 ++ front, q, whole_more h front w, moves_both h.1 front h.5 m, end)
 
--- a fault behind one whole record more
+-- a fault after one whole record more
 bad_more :
     {S : Schema} {o : Open S.Context} {room : ℕ} {p q : Place} {f : Fault} → (r : Record) (first : List ℕ) → Spells r first
     → Sound S (context_of o) room r.number r.payload → Moves p first q → Bad S o room q f → (g : Fault) × Bad S o room p g

@@ -114,7 +114,7 @@ shortest_within-more : (k n : ℕ) → 128 ≤ n → shortest_within (suc k) n �
 unfolding shortest_within
 shortest_within-more k n h = rw (le-ltb n 128 h) refl
 
--- the shortest spelling takes no more fuel than it needs
+-- the shortest encoding takes no more fuel than it needs
 shortest_within_enough : (j k n : ℕ) → n ≤ j → n ≤ k → shortest_within j n ≡ shortest_within k n
 shortest_within_enough zero k n hj hk = shortest_within-last zero n (omega arith) ∙ sym (shortest_within-last k n (omega arith))
 shortest_within_enough (suc j) zero n hj hk = shortest_within-last (suc j) n (omega arith) ∙ sym (shortest_within-last zero n (omega arith))

@@ -8,7 +8,7 @@ use Rattle.pb_wire.specs.declared.fault.PathStep.{PathStep}
 use Rattle.pb_wire.specs.Record.{Record}
 use Rattle.pb_wire.specs.Varint.{IsVarint}
 
--- the step into the record of this number that stands behind these: how many of them have the number, whatever their wire type
+-- the step into the record of this number that follows these: how many of them have the number, whatever their wire type
 abbrev pub step : ℕ → List Record → PathStep
 step k before = record { number = k; occurrence = length (filter (λ r. r.number == k) before) }
 
@@ -24,13 +24,13 @@ fault byte path cause = record { byte = byte; path = path; cause = cause }
 abbrev pub inside : PathStep → Fault → Fault
 inside s f = record f { path = s ∷ f.path }
 
--- Where a reading stands: a position, how many bytes lie before the known end, and the bytes given from here on.
+-- The place of a reading: a position, how many bytes lie before the known end, and the bytes given from here on.
 pub record Place : Type 0 where
   pub at : ℕ
   pub known : Option ℕ
   pub rest : List ℕ
 
--- the whole text, with no known end
+-- the whole input, with no known end
 abbrev pub text_at : List ℕ → Place
 text_at b = record { at = 0; known = None; rest = b }
 
@@ -50,7 +50,7 @@ window p = window_of p.known p.rest
     window_of None rest = rest
     window_of (Some e) rest = take e rest
 
--- q is where one stands after the bytes of front, which don't pass the known end
+-- q is the place after the bytes of front, which don't pass the known end
 pub record Moves (p : Place) (front : List ℕ) (q : Place) : Type 0 where
   pub given : p.rest ≡ front ++ q.rest
   pub within : IsWithin p (length front)
@@ -120,6 +120,6 @@ pub data TagFault (innermost : Option ℕ) (p : Place) (f : Fault) : Type 0 wher
   wrong_end :
       {k m : ℕ} {q : Place} → HasTag p k 4 q → innermost ≡ Some m → m ≢ k → f ≡ fault p.at [] WrongEnd → TagFault innermost p f
 
--- the place at this index of a text that has no known end
+-- the place at this index of an input that has no known end
 abbrev pub place : List ℕ → ℕ → Place
 place b at = record { at = at; known = None; rest = drop at b }

@@ -1,4 +1,4 @@
--- The fault of bytes that are no sound records: a front of whole records, and the one thing that stands after it.
+-- The fault of bytes that are no sound records: a prefix of whole records, and the one thing that comes after it.
 use Rattle.std.specs.Prelude.{◌≡◌, ◌≢◌, ℕ, suc, ◌+◌, ◌<◌, ◌≤◌, List, [], ◌∷◌, length, take, Some, None, ◌⊎◌, IsUtf8}
 use Rattle.std.specs.Str.Lossy.{utf8_valid_len}
 use Rattle.pb_wire.specs.Record.{Record}
@@ -20,7 +20,7 @@ abbrev pub Begins : {C : Type 0} → Open C → Place → Type 0
 Begins (records c) p = (p.known ≢ Some 0) × ((p.known ≡ None) → p.rest ≢ [])
 Begins (in_group k c) p = p.known ≢ Some 0
 
--- a payload that would be too deep is told before its length is read
+-- a payload that would be too deep is reported before its length is read
 abbrev pub IsAllowed : {C : Type 0} → ℕ → Reading C → Type 0
 IsAllowed room unread = Unit {0}
 IsAllowed room text = Unit {0}
@@ -51,7 +51,7 @@ mutual
         {o : Open S.Context} {room m : ℕ} {c : S.Context} {p q : Place} {f : Fault} {front : List ℕ}
         → o ≡ in_group m c → Whole S c room front → Moves p front q → q.known ≡ Some 0 → f ≡ fault q.at [] PastEnd → Bad S o room p f
 
-  -- the record that begins here, behind these whole records of what is open, has this fault
+  -- the record that begins here, after these whole records of what is open, has this fault
   pub data RecordFault (S : Schema) : Open S.Context → List Record → ℕ → Place → Fault → Type 0 where
     tag : {o : Open S.Context} {before : List Record} {room : ℕ} {p : Place} {f : Fault} → TagFault (open_group o) p f → RecordFault S o before room p f
     group_too_deep :
@@ -96,13 +96,13 @@ mutual
         → HasTag p k 2 q → S.reading (context_of o) k ≡ same_level d → HasLength q n r → Bad S (records d) room (payload_at r n) g
         → f ≡ inside (step k before) g → RecordFault S o before room p f
 
--- b is the text of these records, within the limits
+-- b is the encoding of these records, within the limits
 pub record IsText (S : Schema) (c : S.Context) (limits : Bounds) (b : List ℕ) (rs : List Record) : Type 0 where
   pub size : length b ≤ limits.bytes
   pub spelled : AreRecords rs b
   pub sound : AllSound S c limits.depth rs
 
--- a fault of the bytes within the limit, as the fault of the longer text
+-- a fault of the bytes within the limit, as the fault of the longer input
 abbrev pub beyond : ℕ → Fault → Fault
 beyond max_bytes f = by_cause f.cause
   where
@@ -110,7 +110,7 @@ beyond max_bytes f = by_cause f.cause
     by_cause Truncated = fault max_bytes [] InputTooLarge
     by_cause _ = f
 
--- b has this fault. Of a text that is too long the bytes within the limit are read first.
+-- b has this fault. Of an input that is too long the bytes within the limit are read first.
 pub data HasFault (S : Schema) (c : S.Context) (limits : Bounds) (b : List ℕ) (f : Fault) : Type 0 where
   bad : length b ≤ limits.bytes → Bad S (records c) limits.depth (text_at b) f → HasFault S c limits b f
   bad_front :

@@ -1,4 +1,4 @@
--- When a device in memory fails: at the call that comes after so many others, or never.
+-- When a device in memory fails: at the call that comes after this many others, or never.
 use Rattle.std.specs.Prelude.{ℕ, zero, suc, Option, Some, None}
 
 -- how many others come before the call that fails, after one call: a plan fails once

@@ -1,4 +1,4 @@
--- The ranges of what stands in records. A payload may have any length here.
+-- The ranges of what records hold. A payload may have any length here.
 use Rattle.std.specs.Prelude.{ℕ, ◌^◌, ◌<◌, List, [], ◌∷◌}
 use Rattle.std.specs.List.{AllByRecursion}
 use Rattle.pb_wire.specs.Record.{Payload, varint, fixed64, len, group, fixed32, Group, no_more, more, Record}

@@ -1,4 +1,4 @@
--- What the parts of the reader say of one another: places of a text that has no known end.
+-- What the parts of the reader say of one another: places of an input that has no known end.
 use Rattle.std.specs.Prelude.{◌≡◌, ℕ, ◌+◌, ◌*◌, List, ◌∷◌, reverse, Option, Some, None}
 use Rattle.pb_wire.specs.Record.{Payload, wire_type, Record}
 use Rattle.pb_wire.specs.Spell.{Body, AreRecords}
@@ -38,7 +38,7 @@ abbrev pub IfFault : ReadError → (WireFault → Type 0) → Type 0
 IfFault (errors.Fault w) P = P w
 IfFault errors.Memory P = Unit {0}
 
--- the value that begins at q, behind a tag of the number k, has a fault below these steps of the path, the last of them first
+-- the value that begins at q, after a tag of the field number k, has a fault below these steps of the path, the last of them first
 abbrev pub BadValue : ℕ → ℕ → ℕ → Place → List PathStep → WireFault → Type 0
 BadValue room k code q steps w =
     (o : Open (Unit {0})) (before : List Record) (p : Place) → HasTag p k code q
@@ -54,7 +54,7 @@ BadRecord room k p steps w =
 abbrev pub BadFrom : ℕ → Option ℕ → Place → List PathStep → WireFault → Type 0
 BadFrom room innermost p steps w = Bad blank (opened innermost) room p (fault w.byte (reverse steps) w.cause)
 
--- a fact of a fault as a reader tells it, if it is one
+-- a fact of a fault as a reader reports it, if it is one
 abbrev pub IfRawFault : RawError → (Fault → Type 0) → Type 0
 IfRawFault (raw.Fault byte path cause) P = P (fault byte path.items cause)
 IfRawFault raw.Memory P = Unit {0}

@@ -1,4 +1,4 @@
--- What an iterator over the records of a text gives.
+-- What an iterator over the records of an input gives.
 use Rattle.std.specs.Prelude.{◌≡◌, ◌≢◌, ℕ, ◌+◌, ◌*◌, List, [], ◌∷◌, ◌++◌, length, take, nat_lt, Option}
 use Rattle.std.specs.Prelude.{MatchOption, IfSome, IfOk, Result, Ok, Err, if◌then◌else◌}
 use Rattle.pb_wire.specs.Varint.{IsVarint}
@@ -47,7 +47,7 @@ pub record Encloses (k : ℕ) (inside b : List ℕ) : Type 0 where
   pub ends : IsVarint (8 * k + 4) end
   pub joined : b ≡ start ++ (inside ++ end)
 
--- x shows the payload of the record r, which b spells
+-- x shows the payload of the record r, which b encodes
 abbrev pub Shows : Seen → Record → List ℕ → Type 0
 Shows (varint n) r b = r.payload ≡ wire.varint n
 Shows (fixed64 n) r b = r.payload ≡ wire.fixed64 n
@@ -55,7 +55,7 @@ Shows (len s) r b = r.payload ≡ wire.len s
 Shows (group s) r b = (rs : List Record) × (r.payload ≡ wire.group (group_of rs)) × AreRecords rs s × Encloses r.number s b
 Shows (fixed32 n) r b = r.payload ≡ wire.fixed32 n
 
--- b is a spelling of the record r, and x shows its number and payload
+-- b is an encoding of the record r, and x shows its number and payload
 pub record IsShown (r : Record) (x : ℕ × Seen) (b : List ℕ) : Type 0 where
   pub spelled : Spells r b
   pub number : x.0 ≡ r.number
@@ -100,15 +100,15 @@ all_ok (x ∷ xs) = Ok x ∷ all_ok xs
 abbrev pub as_told : Fault → WireFault
 as_told f = record { byte = f.byte; cause = f.cause }
 
--- at the front of the bytes b, of which no more are read than the limit allows
+-- at the beginning of the bytes b, of which no more are read than the limit allows
 abbrev pub start : Bounds → List ℕ → Rest
 start limits b = record { text = take limits.bytes b; is_cut = nat_lt limits.bytes (length b); at = 0; depth = limits.depth }
 
--- the text has more bytes than its limit allows
+-- the input has more bytes than its limit allows
 abbrev pub too_large : Rest → Fault
 too_large s = fault (length s.text) [] InputTooLarge
 
--- These items are left: the records from here on. Where they lead to the end, nothing follows them, or that the text is too large.
+-- These items are left: the records from here on. Where they lead to the end, nothing follows them, or that the input is too large.
 -- Where a record has a fault, that fault follows, without its path.
 pub data Gives (s : Rest) (items : List Item) : Type 0 where
   to_end :
@@ -127,7 +127,7 @@ pub record NextGives (s : Rest) (r : Option (Result (ℕ × Payload) WireFault))
       → MatchOption r ((items ≡ []) × Gives t []) (λ x. (others : List Item) × (items ≡ item_seen x ∷ others) × Gives t others)
   pub number : IfSome r (λ x. IfOk x (λ y. IsNumber y.0))
 
--- the value that begins at p, behind the tag of a record with this wire type, has a fault
+-- the value that begins at p, after the tag of a record with this wire type, has a fault
 abbrev pub IsValueFault : ℕ → Place → WireFault → Type 0
 IsValueFault code p e =
     (o : Open (Unit {0})) (before : List Record) (room k : ℕ) (tag : Place) → HasTag tag k code p

@@ -28,7 +28,7 @@ abbrev mutual
   SpellsGroup (more k p g) b =
       (first : List ℕ) × (others : List ℕ) × Tagged k (wire_type p) (Body k p) first × SpellsGroup g others × (b ≡ first ++ others)
 
--- b is a spelling of the record
+-- b is an encoding of the record
 abbrev pub Spells : Record → List ℕ → Type 0
 Spells r b = Tagged r.number (wire_type r.payload) (Body r.number r.payload) b
 
@@ -37,7 +37,7 @@ abbrev pub AreRecords : List Record → List ℕ → Type 0
 AreRecords [] b = b ≡ []
 AreRecords (r ∷ rs) b = (first : List ℕ) × (others : List ℕ) × Spells r first × AreRecords rs others × (b ≡ first ++ others)
 
--- the shortest spelling
+-- the shortest encoding
 abbrev mutual
   pub shortest_record : ℕ → Payload → List ℕ
   shortest_record k (varint n) = shortest (8 * k + 0) ++ shortest n

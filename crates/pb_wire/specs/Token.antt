@@ -1,4 +1,4 @@
--- What is told of a token at the front of bytes that others may follow, up to a known end.
+-- What is answered about a token that begins bytes that others may follow, up to a known end.
 use Rattle.std.specs.Prelude.{◌≡◌, ◌≢◌, ℕ, ◌+◌, ◌-◌, ◌<◌, ◌≤◌, ◌^◌, List, [], length, drop, Option, option_map}
 use Rattle.std.specs.Int.{w32, w64, to_le_bytes}
 use Rattle.pb_wire.specs.Fault.{Fault, fault, Place, input_end, Leads, Reads, VarintFault, FixedFault}
@@ -6,15 +6,15 @@ use Rattle.pb_wire.specs.declared.fault.Cause.TheVariants.{Truncated}
 use Rattle.pb_wire.specs.declared.token.Token.{Token}
 use Rattle.pb_wire.specs.declared.token.Token.TheVariants as token
 
--- the place of some bytes, with so many before the known end
+-- the place of some bytes, with this many before the known end
 abbrev pub given_at : ℕ → Option ℕ → List ℕ → Place
 given_at at known rest = record { at = at; known = known; rest = rest }
 
--- where one stands after so many of the bytes
+-- the place after this many of the bytes
 abbrev pub passed : Place → ℕ → Place
 passed p size = record { at = p.at + size; known = option_map (λ e. e - size) p.known; rest = drop size p.rest }
 
--- The token at p is a number, and takes so many bytes; or it has the fault that the input ends inside it; or another fault.
+-- The token at p is a number, and takes this many bytes; or it has the fault that the input ends inside it; or another fault.
 abbrev pub Tells : (ℕ → Place → Type 0) → (Fault → Type 0) → Place → Token → Type 0
 Tells Whole Fails p (token.Whole n size) = (size ≤ length p.rest) × Whole n (passed p size)
 Tells Whole Fails p token.Short = Fails (fault (input_end p) [] Truncated)

@@ -12,17 +12,17 @@ EndsOnce [] = ⊥
 EndsOnce (b ∷ []) = b < 128
 EndsOnce (b ∷ c ∷ bs) = (128 ≤ b) × EndsOnce (c ∷ bs)
 
--- b is a spelling of n. Overlong ones are accepted, and the value is the sum modulo 2 ^ 64.
+-- b is an encoding of n. Overlong ones are accepted, and the value is the sum modulo 2 ^ 64.
 pub record IsVarint (n : ℕ) (b : List ℕ) : Type 0 where
   pub size : length b ≤ 10
   pub ends : EndsOnce b
   pub value : groups_value b % 2 ^ 64 ≡ n
 
--- the shortest spelling, of at most this many bytes and one
+-- the shortest encoding, of at most this many bytes and one
 unfoldable pub shortest_within : ℕ → ℕ → List ℕ
 shortest_within zero n = n ∷ []
 shortest_within (suc k) n = let longer = (n % 128 + 128) ∷ shortest_within k (n / 128) in if nat_lt n 128 then n ∷ [] else longer
 
--- the shortest spelling
+-- the shortest encoding
 unfoldable pub shortest : ℕ → List ℕ
 shortest n = shortest_within n n

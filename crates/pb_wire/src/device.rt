@@ -1,4 +1,4 @@
-//! Where bytes come from and go to. A contract sees the bytes that are left or written, where the device tells them,
+//! Where bytes come from and go to. A contract sees the bytes that are left or written, where the device reports them,
 //! and how often the device failed.
 
 ghost use Rattle.std.specs.Prelude.{◌≡◌, ◌≢◌, ◌<◌, ◌≤◌, ℕ, List, Bool, true, Option, length, IsOk, IfOk, OnOk, OnErr};
@@ -13,7 +13,7 @@ pub struct DeviceFault;
 
 /// Where bytes come from. A read into a slice that is not empty gives no bytes at the end of the input alone.
 pub trait Input {
-    // The bytes that are left, of an input that tells them.
+    // The bytes that are left, of an input that reports them.
     ghost left: { Self → Option (List ℕ) };
 
     // How often the input failed.
@@ -33,7 +33,7 @@ pub trait Input {
 
 /// Where bytes go to. A write of a slice that is not empty takes at least one byte, or fails and takes none.
 pub trait Output {
-    // The bytes that were written, of an output that tells them.
+    // The bytes that were written, of an output that reports them.
     ghost written: { Self → Option (List ℕ) };
 
     // How often the output failed.

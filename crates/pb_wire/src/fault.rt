@@ -29,7 +29,7 @@ pub enum Cause {
     WrongEnd,
     /// A length is above 2^31 - 1.
     LengthTooLarge,
-    /// A text is not UTF-8.
+    /// A string is not UTF-8.
     BadText,
     /// A message, an entry or a group nests too deep.
     TooDeep,
@@ -98,7 +98,7 @@ impl fmt::Display for WireFault {
 
 impl StdError for WireFault {}
 
-/// A step of a path: a record, by its number and by how many whole records of that number stand before it in the payload
+/// A step of a path: a record, by its number and by how many whole records of that number come before it in the payload
 /// that holds it, whatever their wire types.
 #[derive(Clone, Copy, Debug, PartialEq, Eq)]
 pub struct PathStep {
@@ -171,7 +171,7 @@ impl fmt::Display for RawError {
 impl StdError for RawError {}
 
 impl RawError {
-    /// The error's number: 13 for a fault and 14 for want of memory.
+    /// The error's number: 13 for a fault and 14 for out of memory.
     pub fn number(&self) -> u8
         ensures { result ≡ raw_number_of self.now }
     {
@@ -186,7 +186,7 @@ impl RawError {
     }
 }
 
-/// A fault whose path stands elsewhere, or want of memory.
+/// A fault whose path is kept elsewhere, or out of memory.
 #[derive(Debug, Drop)]
 pub(crate) enum ReadError {
     Fault(WireFault),

@@ -1,4 +1,4 @@
-//! Records of a text in turn, none of them copied.
+//! Records of an input in turn, none of them copied.
 
 ghost use Rattle.std.specs.Prelude.{if◌then◌else◌, ◌≡◌, ◌≢◌, ◌+◌, ◌-◌, ◌<◌, ◌≤◌, ◌++◌, ◌∷◌, ℕ, List, [], Ok, Err, Some, None, length, IfOk, IfErr};
 ghost use Rattle.pb_wire.specs.Record.{Record};
@@ -20,7 +20,7 @@ use crate::reading::{WireType, bytes_at, refused, tag_at, told_beyond, u32_at, u
 use std::iter::FusedIterator;
 use std::marker::Model;
 
-/// A payload, whose bytes are a part of the source. A group is what stands between its tags.
+/// A payload, whose bytes are a part of the source. A group is what lies between its tags.
 #[derive(Clone, Copy, Debug, PartialEq, Eq)]
 pub enum Payload<'a> {
     Varint(u64),
@@ -30,9 +30,9 @@ pub enum Payload<'a> {
     I32(u32),
 }
 
-/// The records of a text in turn, up to its end or its first fault, and then that fault. It takes no memory.
+/// The records of an input in turn, up to its end or its first fault, and then that fault. It takes no memory.
 ///
-/// The bytes after the first `max_bytes` are never read: behind the records that stand there whole comes
+/// The bytes after the first `max_bytes` are never read: after the records that are complete there comes
 /// `InputTooLarge`, unless a fault other than `Truncated` shows before.
 #[derive(Clone, Debug, Drop)]
 pub struct RecordIter<'a> {
@@ -54,7 +54,7 @@ impl<'a> Model for RecordIter<'a> {
 }
 
 impl<'a> RecordIter<'a> {
-    /// The records of these bytes, within the limits. On a text they come all, in order. On other bytes the records before
+    /// The records of these bytes, within the limits. On a valid input they come all, in order. On other bytes the records before
     /// the fault come, and then it.
     pub fn new(bytes: &'a [u8], limits: Limits) -> RecordIter<'a>
         ensures begins { result ≡ start limits bytes.now }
@@ -115,7 +115,7 @@ impl<'a> Iterator for RecordIter<'a> {
 
 impl<'a> FusedIterator for RecordIter<'a> {}
 
-/// A fault of the bytes that are read, as a fault of the text. Where the text goes on behind them, their end is no end
+/// A fault of the bytes that are read, as a fault of the input. Where the input goes on after them, their end is no end
 /// of a token.
 fn told(fault: WireFault, is_cut: bool, end: usize) -> WireFault
     ensures { (path : List PathStep) → result ≡ as_told (let f = fault_with fault.byte path fault.cause in if is_cut then beyond end f else f) }
@@ -127,7 +127,7 @@ fn told(fault: WireFault, is_cut: bool, end: usize) -> WireFault
     }
 }
 
-/// Reads the record that begins at an index, and tells the index after it.
+/// Reads the record that begins at an index, and returns the index after it.
 #[inline(always)]
 fn record_at(bytes: &[u8], at: usize, max_depth: u8) -> Result<(u32, Payload<'_>, usize), WireFault>
     requires at_in_bounds { at ≤ length bytes.now }
@@ -206,7 +206,7 @@ fn group_end(
     }
 }
 
-/// Finds the end of the value that begins at an index, behind a tag that begins or ends no group.
+/// Finds the end of the value that begins at an index, after a tag that begins or ends no group.
 #[inline(always)]
 pub(crate) fn value_end(bytes: &[u8], at: usize, wire_type: WireType) -> Result<usize, WireFault>
     requires at_in_bounds { at ≤ length bytes.now }

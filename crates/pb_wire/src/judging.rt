@@ -19,13 +19,13 @@ use std::alloc::Global;
 
 /// Judges bytes as `read_raw` does, without building the records: no memory is taken but for the path of a fault.
 ///
-/// Fails with the first fault of the text, if it is no list of records within the limits, or where memory runs out for
+/// Fails with the first fault of the input, if it is no list of records within the limits, or where memory runs out for
 /// the fault's path.
 pub fn judge_raw(alloc: Global, bytes: &[u8], limits: Limits) -> Result<(), RawError>
     ensures text { IfOk result (λ _. IsSomeText blank tt limits bytes.now) }
     ensures fault { IfErr result (λ e. IfRawFault e (HasFault blank tt limits bytes.now)) }
 
-    // Each text is accepted and each fault is told, unless memory runs out.
+    // Each encoding is accepted and each fault is reported, unless memory runs out.
     ensures accepted { IsSomeText blank tt limits bytes.now → MatchResult result (λ _. Unit {0}) (λ e. e ≡ RawError.Memory) }
     ensures refused { (f : Fault) → HasFault blank tt limits bytes.now f → IsErrAnd result (λ e. IfRawFault e (λ g. g ≡ f)) }
 {
@@ -58,7 +58,7 @@ fn judge_text(alloc: Global, bytes: &[u8], limits: Limits) -> Result<(), RawErro
 }
 
 /// Finds the end of the records that begin at an index: the end of the bytes, or of the tag that ends the group of this
-/// number. Where they have a fault, the steps to it from there are told, the last of them first.
+/// number. Where they have a fault, the steps to it from there are reported, the last of them first.
 #[cycle(end)]
 fn records_end(
     bytes: &[u8],
@@ -95,7 +95,7 @@ fn records_end(
 }
 
 /// Finds the end of the record whose tag begins at one index and ends at another. Where it has a fault, the steps to that
-/// from within the record are told, the last of them first.
+/// from within the record are reported, the last of them first.
 #[cycle(end)]
 fn record_end(
     bytes: &[u8],
@@ -128,7 +128,7 @@ fn record_end(
     Ok(end)
 }
 
-/// The step to a record of this number behind these bytes, which spell whole records.
+/// The step to a record of this number after these bytes, which encode whole records.
 fn step_behind(bytes: &[u8], number: u32) -> PathStep
     requires { length bytes.now < 2 ^ 31 }
     ensures { (rs : List Record) → AreRecords rs bytes.now → AllSound blank tt 100 rs → result ≡ step number rs }

@@ -14,13 +14,13 @@ ghost use Rattle.pb_wire.specs.Record.{Record};
 ghost use Rattle.pb_wire.specs.Spell.{AreRecords, shortest_records};
 ghost use Rattle.pb_wire.specs.Writable.{AreWritable};
 
-/// The shortest spelling of records that can be written is a spelling of them, and no other spelling is shorter.
+/// The shortest encoding of records that can be written is an encoding of them, and no other encoding is shorter.
 pub fn shortest_spelling()
     ensures spells { (rs : List Record) → AreInRange rs → AreWritable rs → AreRecords rs (shortest_records rs) }
     ensures least { (rs : List Record) (b : List ℕ) → AreRecords rs b → length (shortest_records rs) ≤ length b }
 {}
 
-/// Every place is read whole, or has exactly one fault; so has every frame, and every text within its limits.
+/// Every place is read whole, or has exactly one fault; so has every frame, and every input within its limits.
 pub fn one_fault<C>()
     ensures here { (reading : C → ℕ → Reading C) (group : C → ℕ → C) (o : Open C) (room : ℕ) (p : Place)
         → All IsByte p.rest
@@ -33,7 +33,7 @@ pub fn one_fault<C>()
         → Exactly (IsSomeText (schema reading group) c limits b) (HasFault (schema reading group) c limits b) }
 {}
 
-/// A fault other than the end of the input is the fault of every longer text, also of one past the limit on its length.
+/// A fault other than the end of the input is the fault of every longer input, also of one past the limit on its length.
 /// What is read whole up to a known end or the end of a group stays so.
 pub fn longer_text<C>()
     ensures fault { (reading : C → ℕ → Reading C) (group : C → ℕ → C) (o : Open C) (room : ℕ) (p : Place) (f : Fault) (more : List ℕ)
@@ -47,8 +47,8 @@ pub fn longer_text<C>()
         → IsRead (schema reading group) o room (longer p more) }
 {}
 
-/// A fault is told at a byte from the place that is read from up to the end of the input, and the end of the input is
-/// where it is told that the input ends. That the input is too large is told of longer texts alone.
+/// A fault is reported at a byte from the place that is read from up to the end of the input, and the end of the input is
+/// where it is reported that the input ends. That the input is too large is reported of longer inputs alone.
 pub fn fault_bounds<C>()
     ensures bounds { (reading : C → ℕ → Reading C) (group : C → ℕ → C) (o : Open C) (room : ℕ) (p : Place) (f : Fault)
         → Bad (schema reading group) o room p f → (p.at ≤ f.byte) × (f.byte ≤ input_end p) }
@@ -71,7 +71,7 @@ pub fn path_bounds<C>()
         → ((d : C) → UsesLevels reading d) → HasFault (schema reading group) c limits b f → length f.path ≤ limits.depth + 1 }
 {}
 
-/// Records are read back from every spelling of them, whatever the lengths in it, and from their shortest spelling also
+/// Records are read back from every encoding of them, whatever the lengths in it, and from their shortest encoding also
 /// where a payload is too long for the wire.
 pub fn read_back()
     ensures spelled { (rs : List Record) (b : List ℕ) → length b < 2 ^ 64 → AreRecords rs b → records_spelled b ≡ rs }

@@ -8,7 +8,7 @@ ghost use Rattle.pb_wire.specs.Plan.{after_call};
 use crate::device::{DeviceFault, Input, Output};
 use std::alloc::Global;
 
-/// When a device in memory fails: never, or once, at the call that comes after so many others.
+/// When a device in memory fails: never, or once, at the call that comes after this many others.
 #[derive(Clone, Copy, Debug, PartialEq, Eq)]
 pub struct FailurePlan {
     pub fails_after: Option<u64>,
@@ -72,7 +72,7 @@ impl Input for MemInput<'_> {
 
     ghost is_steady = { λ s. is_none s.plan.fails_after };
 
-    /// Gives the next bytes: as many as `most`, the room and the bytes that are left allow, or none at the call that fails
+    /// Gives the next bytes: as many as `most`, the buffer's space and the bytes that are left allow, or none at the call that fails
     /// by the plan.
     fn read(&mut self, into: &mut [u8]) -> Result<usize, DeviceFault>
         ensures count { IfOk result (λ n. n ≤ length into.new) }

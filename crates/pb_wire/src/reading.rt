@@ -34,7 +34,7 @@ pub(crate) enum WireType {
     I32,
 }
 
-/// Reads the varint that begins at an index, and tells the index after it.
+/// Reads the varint that begins at an index, and returns the index after it.
 // What each record goes through is put in place, since a call costs as much as a short record.
 #[inline(always)]
 pub(crate) fn varint_at(bytes: &[u8], at: usize) -> Result<(u64, usize), WireFault>
@@ -162,7 +162,7 @@ pub(crate) fn bytes_at(bytes: &[u8], at: usize) -> Result<(&[u8], usize), WireFa
     Ok((&bytes[start..start + size], start + size))
 }
 
-/// Reads the value that begins at an index, behind its tag. Where it has a fault, the steps to it from there are told, the
+/// Reads the value that begins at an index, after its tag. Where it has a fault, the steps to it from there are reported, the
 /// last of them first.
 #[cycle(read)]
 fn value_at(
@@ -210,8 +210,8 @@ fn value_at(
     }
 }
 
-/// Reads records up to the end of the text, or up to and with the end of the group that is open. Where they have a fault,
-/// the steps to it from there are told, the last of them first.
+/// Reads records up to the end of the input, or up to and with the end of the group that is open. Where they have a fault,
+/// the steps to it from there are reported, the last of them first.
 #[cycle(read)]
 fn records_at(
     alloc: Global,
@@ -257,7 +257,7 @@ fn records_at(
     Ok((records, here))
 }
 
-/// The step to the record of this number that stands behind these.
+/// The step to the record of this number that follows these.
 #[tactic(auto, using(crate::proofs::ReadingLemmas::same_count))]
 fn step_behind(records: &[(u32, Unknown)], number: u32) -> PathStep
     requires { length records.now < 2 ^ 32 }
@@ -290,10 +290,10 @@ pub(crate) fn is_at_end(bytes: &[u8], at: usize, innermost: Option<u32>) -> bool
     }
 }
 
-/// Reads the records that bytes spell, all of the bytes, groups nested (encoding guide, "Message Structure"). A
+/// Reads the records that bytes encode, all of the bytes, groups nested (encoding guide, "Message Structure"). A
 /// length-delimited payload is not looked into.
 ///
-/// Fails with the first fault of the text, if it is no list of records within the limits, or for want of memory.
+/// Fails with the first fault of the input, if it is no list of records within the limits, or when memory runs out.
 pub fn read_raw(
     alloc: Global,
     bytes: &[u8],
@@ -302,7 +302,7 @@ pub fn read_raw(
     ensures records { IfOk result (λ v. IsText blank tt limits bytes.now (records_of v.items)) }
     ensures fault { IfErr result (λ e. IfRawFault e (HasFault blank tt limits bytes.now)) }
 
-    // Each text is accepted and each fault is told, unless memory runs out.
+    // Each encoding is accepted and each fault is reported, unless memory runs out.
     ensures accepted { (rs : List Record) → IsText blank tt limits bytes.now rs
         → MatchResult result (λ v. records_of v.items ≡ rs) (λ e. e ≡ RawError.Memory) }
     ensures refused { (f : Fault) → HasFault blank tt limits bytes.now f → IsErrAnd result (λ e. IfRawFault e (λ g. g ≡ f)) }
@@ -358,7 +358,7 @@ pub(crate) fn below(fault: WireFault, mut steps: Vec<PathStep>) -> RawError
     }
 }
 
-/// A fault of the bytes within the limit, as the fault of the longer text.
+/// A fault of the bytes within the limit, as the fault of the longer input.
 pub(crate) fn of_longer(max_bytes: usize, fault: WireFault, mut steps: Vec<PathStep>) -> RawError
     ensures { IfRawFault result (λ f. f ≡ beyond max_bytes (fault_with fault.byte (reverse steps.items) fault.cause)) }
 {
@@ -368,7 +368,7 @@ pub(crate) fn of_longer(max_bytes: usize, fault: WireFault, mut steps: Vec<PathS
     below(told_beyond(max_bytes, fault), steps)
 }
 
-/// A fault of the first bytes of a longer text, as the fault of that text: their end is no end of a token.
+/// A fault of the first bytes of a longer input, as the fault of that input: their end is no end of a token.
 pub(crate) fn told_beyond(end: usize, fault: WireFault) -> WireFault
     ensures { (path : List PathStep) → result ≡ as_told (beyond end (fault_with fault.byte path fault.cause)) }
 {

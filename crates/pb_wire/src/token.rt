@@ -1,4 +1,4 @@
-//! Tokens at the front of bytes that others may follow, up to a known end.
+//! Tokens that begin bytes which others may follow, up to a known end.
 
 ghost use Rattle.std.specs.Prelude.{◌≡◌, ◌≢◌, ◌≤◌, ℕ, true, false, length, take, Some, MatchOption};
 ghost use Rattle.pb_wire.specs.Fault.{window};
@@ -11,7 +11,7 @@ use crate::fault::Cause;
 use crate::reading::{u32_at, u64_at};
 use crate::varint::varint_at_front;
 
-/// What stands at the front.
+/// What begins the bytes.
 #[derive(Clone, Copy, Debug, PartialEq, Eq)]
 pub enum Token {
     /// The number, and how many bytes it takes.
@@ -22,7 +22,7 @@ pub enum Token {
     Fault(Cause),
 }
 
-/// Reads the varint at the front of some bytes, with so many bytes before the known end, or with no known end. Where the
+/// Reads the varint at the start of some bytes, with this many bytes before the known end, or with no known end. Where the
 /// bytes end before the varint and before the known end, it is short.
 #[inline(always)]
 pub fn varint_token(bytes: &[u8], left: Option<u32>) -> Token
@@ -38,7 +38,7 @@ pub fn varint_token(bytes: &[u8], left: Option<u32>) -> Token
     }
 }
 
-/// Reads the eight bytes at the front of some bytes, as `varint_token` reads a varint.
+/// Reads the eight bytes that some bytes begin with, as `varint_token` reads a varint.
 #[inline(always)]
 pub fn fixed64_token(bytes: &[u8], left: Option<u32>) -> Token
     ensures { (at : ℕ) → TellsFixed64 (given_at at left bytes.now) result }
@@ -52,7 +52,7 @@ pub fn fixed64_token(bytes: &[u8], left: Option<u32>) -> Token
     }
 }
 
-/// Reads the four bytes at the front of some bytes, as `varint_token` reads a varint.
+/// Reads the four bytes that some bytes begin with, as `varint_token` reads a varint.
 #[inline(always)]
 pub fn fixed32_token(bytes: &[u8], left: Option<u32>) -> Token
     ensures { (at : ℕ) → TellsFixed32 (given_at at left bytes.now) result }
@@ -78,7 +78,7 @@ pub fn before_end(bytes: &[u8], left: Option<u32>) -> usize
     }
 }
 
-/// A token that goes on after so many bytes.
+/// A token that goes on after this many bytes.
 #[inline(always)]
 fn cut_after(size: usize, left: Option<u32>) -> Token
     ensures past { left ≡ Some size → result ≡ token.Fault PastEnd }
@@ -90,7 +90,7 @@ fn cut_after(size: usize, left: Option<u32>) -> Token
     }
 }
 
-/// Says that so many bytes pass the known end.
+/// Says that this many bytes pass the known end.
 #[inline(always)]
 fn passes_end(size: u32, left: Option<u32>) -> bool
     ensures yes { result ≡ true → MatchOption left (Unit {0}) (λ e. size ≤ e) → ⊥ }

@@ -1,4 +1,4 @@
-//! Whole texts through devices.
+//! Complete inputs through devices.
 
 ghost use Rattle.std.specs.Prelude.{◌≡◌, ◌≢◌, true, ◌<◌, ◌≤◌, Some, length, take, drop, IfOk, IfSome, IfErr, OnOk, IsErrOf};
 ghost use Rattle.std.specs.Io.KnownBytes.{Appends};

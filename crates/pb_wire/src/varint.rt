@@ -10,7 +10,7 @@ use std::marker::Model;
 /// The most bytes that a varint has.
 const MAX_LEN: usize = 10;
 
-/// Reads the varint at the front of some bytes, and tells its number and how many bytes it takes. Other bytes may
+/// Reads the varint that some bytes begin with, and returns its number and how many bytes it takes. Other bytes may
 /// follow it. Overlong spellings are read, and bits above the sixty-fourth are dropped.
 ///
 /// Fails with `VarintTooLong` where ten bytes all have the high bit, and with `Truncated` where the bytes end before.
@@ -41,7 +41,7 @@ pub(crate) fn varint_at_front(bytes: &[u8]) -> Result<(u64, usize), WireFault>
     }
 }
 
-/// The varint of two or three bytes at the front, if it is one.
+/// The varint of two or three bytes that the bytes begin with, if it is one.
 #[inline(always)]
 fn short_varint(bytes: &[u8]) -> Option<(u64, usize)>
     ensures within { IfSome result (λ found. found.1 ≤ length bytes.now) }

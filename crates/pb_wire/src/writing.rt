@@ -22,8 +22,8 @@ const NUMBERS: u32 = 0x2000_0000;
 
 /// Says whether records can be written: each number is from 1 to 2^29 - 1, and no payload is longer than 2^31 - 1.
 ///
-/// What is written can be read in one way only: a text is at most one list of records, and no spelling of a record
-/// begins a spelling of another.
+/// What is written can be read in one way only: an input is at most one list of records, and no encoding of a record
+/// begins an encoding of another.
 pub fn can_write(records: &[(u32, Unknown)]) -> bool
     ensures exact { IsTrue result ↔ AreWritable (records_of records.now) }
     ensures one_list { (rs ss : List Record) (b : List ℕ) → AreRecords rs b → AreRecords ss b → rs ≡ ss }
@@ -60,7 +60,7 @@ fn is_writable(number: u32, payload: &Unknown) -> bool
     }
 }
 
-/// The shortest spelling of records that `can_write` accepts. Fails for want of memory alone.
+/// The shortest encoding of records that `can_write` accepts. Fails only when memory runs out.
 pub fn write_raw(alloc: Global, records: &[(u32, Unknown)]) -> Result<Vec<u8>, RawError>
     requires { AreWritable (records_of records.now) }
     ensures shortest { IfOk result (λ v. v.items ≡ shortest_records (records_of records.now)) }
