@@ -119,7 +119,7 @@ module _ (a b : Declarations) (name : List ℕ) (i : ℕ) where
   pub added_one : (is_new : Bool) → NameAdded a.tree b.tree name i is_new → b.differ ≡ (a.differ && is_new) → AddedAt (name ∷ []) name a b i
   added_one is_new is differ = by_new is_new is.at_index is.tree differ
 
--- a message with what stands in it
+-- a message with what it declares
 pub message_added : (scope : Option ℕ) (t : MessageView) (fs : List (List ℕ)) (a b c d : Declarations) (i : ℕ) → flat_map names_of_field t.fields ≡ fs → AddsOne scope t.name a b i → Adds (Some i) fs b c → Adds (Some i) t.oneofs c d → AddsMessage scope t a d i
 message_added scope t fs a b c d i same first second third may =
     let name = named_in a scope t.name in

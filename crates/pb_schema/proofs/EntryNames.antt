@@ -1,4 +1,4 @@
--- The name of an entry message is a text where the field's name is: no byte of a character beyond ASCII is dropped or raised.
+-- The name of an entry message is UTF-8 where the field's name is: no byte of a character beyond ASCII is dropped or raised.
 use Rattle.std.proofs.Common.{◌≡◌, ℕ, suc, ◌-◌, ◌<◌, ◌≤◌, List, [], ◌∷◌, ◌++◌, length, get_or, codes, Bool, true, false, ◌&&◌, refl, ap, sym, ◌∙◌, subst, arith, lit<, append-nil, ◌⊎◌, inl, inr}
 use Rattle.std.specs.Prelude.{if◌then◌else◌, ◌==◌}
 use Rattle.std.specs.Char.{is_ascii_lowercase}

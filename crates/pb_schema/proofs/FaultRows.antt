@@ -1,4 +1,4 @@
--- Small texts of a message with groups and closed enums, and their faults, worked out by the rules.
+-- Small inputs for a message with groups and closed enums, and their faults, worked out by the rules.
 use Rattle.std.proofs.Common.{ℕ, ◌+◌, ◌*◌, ◌<◌, List, [], ◌∷◌, length, refl, arith, None, Some, lit<, lit≤}
 use Rattle.std.proofs.lemmas.List.Elements.{All-nil, All-cons}
 use Rattle.pb_wire.specs.Varint.{IsVarint}
@@ -45,7 +45,7 @@ length_here n at rest small = record {
   within = tt;
 }
 
--- the group of the field 3 stands first, and has a message of its type, where this fault is
+-- the group of the field 3 comes first, and has a message of its type, where this fault is
 in_the_group :
     (b : List ℕ) (g : Fault) → length b < 9 → RecordFault (schema_of pool_q) (wire.in_group 3 (a_message 1)) [] 8 (from 1 b) g
     → HasTheFault (0x1b ∷ b) (inside (step 3 []) g)

@@ -1,4 +1,4 @@
--- Names of files, which stay where they stand: each new one differs from those before.
+-- Names of files, which are borrowed: each new one differs from those before.
 use Rattle.std.proofs.Common.{◌≡◌, ℕ, ◌+◌, ◌<◌, List, [], ◌∷◌, ◌++◌, Bool, true, false, not, ◌||◌, map, take, drop, length, get_or, refl, sym, ◌∙◌, ap, if◌then◌else◌}
 use Rattle.std.specs.Borrow.{Bor}
 use Rattle.std.specs.List.{list_any}

@@ -1,5 +1,5 @@
 -- Each kind's row of the table of kinds, worked out by the definitions: its wire type, whether it may be packed, whether it may be a map's key, and
--- whether it stands in files of proto2 alone; and the types that kinds name.
+-- whether it is in files of proto2 alone; and the types that kinds name.
 use Rattle.std.proofs.Common.{◌≡◌, ℕ, true, false, Some, None, refl}
 use Rattle.std.specs.Prelude.{Bool, Option}
 use Rattle.pb_schema.specs.declared.types.Kind.{Kind}

@@ -5,7 +5,7 @@ pub mod Samples
 pub mod Rows
 -- each kind's wire type, whether it may be packed or a map's key, and whether it is of proto2 alone
 mod KindRows
--- small texts of a message with groups and closed enums, with their faults
+-- small inputs for a message with groups and closed enums, with their faults
 mod FaultRows
 -- for the law of packed lists: the numbers of a packed payload
 pub mod PackedLemmas
@@ -14,7 +14,7 @@ pub mod StepLemmas
 -- ---- the rules
 -- for `is_package`: a package's name, read from some byte on
 pub mod WordLemmas
--- for the names of entry messages: such a name is a text where the field's name is
+-- for the names of entry messages: such a name is UTF-8 where the field's name is
 pub mod EntryNames
 -- parts that break one rule each, of files, indexes, fields and syntax
 mod RuleRows
@@ -56,5 +56,5 @@ pub mod NumberLemmas
 pub mod ValueLemmas
 -- for the look-ups of a pool: fields by number and by name, types and values by name
 pub mod LookupLemmas
--- for `==` of two pools: whether what they stand for is equal
+-- for `==` of two pools: whether their mathematical values are equal
 pub mod PoolEq

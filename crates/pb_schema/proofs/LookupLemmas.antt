@@ -1,4 +1,4 @@
--- What look-ups stand on.
+-- What the proofs of look-ups use.
 use Rattle.std.proofs.Common.{◌≡◌, ◌≢◌, ℕ, zero, suc, ◌<◌, ◌≤◌, get_or, MatchOption, List, [], ◌∷◌, Bool, true, false, cond, map, length, refl, sym, ◌∙◌, ap, subst, arith, nat_lt, eqb, Option, Some, None, option_map, IfSome, find, position, Bor}
 use Rattle.std.specs.Prelude.{slice_get}
 use Rattle.std.specs.List.{AllByRecursion, flat_map, position_or_len, HoldsAt}

@@ -10,7 +10,7 @@ words = (refl, refl, refl, refl)
 package_names : (is_package [] ≡ true) × (is_package (codes "a.b") ≡ true) × (is_package (codes "a..b") ≡ false) × (is_package (codes ".a") ≡ false) × (is_package (codes "a.") ≡ false)
 package_names = (refl, refl, refl, refl, refl)
 
--- each front of a package's name is a package
+-- each prefix of a package's name is a package
 packages : packages_of (codes "a.b.c") ≡ codes "a.b.c" ∷ codes "a" ∷ codes "a.b" ∷ []
 packages = refl
 
@@ -26,7 +26,7 @@ a_file = record { name = codes "f.proto"; package_name = codes "p"; imports = []
 abbrev a_message : MessageView
 a_message = record { name = codes "M"; file = 0; parent = None; fields = []; oneofs = [] }
 
--- a value stands in the scope around its enum: beside the enum, not inside it
+-- a value is in the scope around its enum: beside the enum, not inside it
 values_beside_enums : declared_by_enum (a_file ∷ []) (a_message ∷ []) (record { name = codes "E"; file = 0; parent = None; values = (codes "V", pos 0) ∷ [] }) ≡ codes "p.E" ∷ codes "p.V" ∷ []
 values_beside_enums = refl
 

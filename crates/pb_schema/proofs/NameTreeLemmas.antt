@@ -79,13 +79,13 @@ name_at-front [] ys i h = absurd (omega (arith, h))
 name_at-front (x ∷ xs) ys zero h = refl
 name_at-front (x ∷ xs) ys (suc i) h = name_at-front xs ys i (omega (arith, h))
 
--- A NAME IN A SCOPE TELLS BOTH
+-- A NAME IN A SCOPE DETERMINES BOTH
 
--- the text has no dot
+-- the bytes have no dot
 abbrev pub HasNoDot : List ℕ → Type 0
 HasNoDot s = ¬ Contains s 46
 
--- the text is empty, or ends in a dot
+-- the bytes are none, or end in a dot
 abbrev IsDotted : List ℕ → Type 0
 IsDotted [] = Unit {0}
 IsDotted (c ∷ []) = c ≡ 46
@@ -116,7 +116,7 @@ fronts_same (c ∷ cs) (d ∷ ds) v w dx dy nv nw e =
     let same : cs ≡ ds = fronts_same cs ds v w (dotted_rest c cs dx) (dotted_rest d ds dy) nv nw (tails e) in
     ap (λ x. x ∷ cs) (heads e) ∙ ap (λ l. d ∷ l) same
 
--- what stands before a name of a scope
+-- what comes before a name of a scope
 abbrev pub before_in : List ℕ → List ℕ
 before_in [] = []
 before_in (c ∷ cs) = (c ∷ cs) ++ 46 ∷ []

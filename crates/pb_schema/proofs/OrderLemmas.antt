@@ -41,7 +41,7 @@ pub within_end : (ms : List MessageView) (n p m : ℕ) → ParentsStandBefore ms
 within_end ms n p m before h le =
     (λ e. subst (IsWithin ms p) (sym ((Decides-eqb m p).0 e)) itself, λ w. (Decides-eqb m p).1 (omega (arith, le, within_below ms n p m before h w)))
 
--- each message behind its parent
+-- each message after its parent
 pub parents_before : (ms : List MessageView) (n : ℕ) → ((i : ℕ) → i < n → FollowsParent ms i) → ParentsStandBefore ms n
 parents_before ms zero follow m p h e = absurd (omega (arith, h))
 parents_before ms (suc n) follow m p h e =

@@ -45,7 +45,7 @@ pub parts_whole : (word : List ℕ) → HasNoDot word → parts_of word ≡ word
 parts_whole [] nd = refl
 parts_whole (c ∷ cs) nd = ap (λ b. onto_parts b c (parts_of cs)) (no_dot_first c cs nd) ∙ ap (onto_first c) (parts_whole cs (no_dot_later c cs nd))
 
--- the packages that words make behind a text
+-- the packages that words make after a prefix
 abbrev pub packages_from : List ℕ → List (List ℕ) → List (List ℕ)
 packages_from front [] = []
 packages_from front (w ∷ ws) = (front ++ w) ∷ packages_from (front ++ w ++ 46 ∷ []) ws

@@ -36,7 +36,7 @@ fours_front : (xs others : List ℕ) → length xs ≡ 4 → fours_of (xs ++ oth
 fours_front (a ∷ b ∷ c ∷ d ∷ []) others size = refl
 fours_front xs others size = absurd (omega (arith, size))
 
--- what is read of spellings that stand one after another
+-- what is read of spellings one after another
 varints_back : (ps : List Payload) (s : List ℕ) → AreNumbers 0 ps s → numbers_of 0 s ≡ ps
 varints_back [] s e = ap (numbers_of 0) e
 varints_back (varint n ∷ ps) s are =

@@ -1,4 +1,4 @@
--- What `==` says of the parts of two pools: whether what they stand for is equal.
+-- What `==` says of the parts of two pools: whether their mathematical values are equal.
 use Rattle.std.proofs.Common.{◌≡◌, ℕ, List, [], ◌∷◌, map, Option, Some, None, refl, ap, subst, Global}
 use Rattle.std.proofs.lemmas.Bool.{false≢true}
 use Rattle.std.proofs.lemmas.Bool.Decides.{Decides-eqb, Decides-int_eq}

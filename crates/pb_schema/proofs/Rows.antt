@@ -51,7 +51,7 @@ v-packed = refl
 h-packed : elements kind.Fixed32 (len (0x01 ∷ 0x00 ∷ 0x00 ∷ 0x80 ∷ 0x02 ∷ 0x00 ∷ 0x00 ∷ 0x00 ∷ [])) ≡ uint32 0x80000001 ∷ uint32 2 ∷ []
 h-packed = refl
 
--- a text is one element
+-- a string is one element
 u-element : elements kind.Text (len (0x78 ∷ [])) ≡ text (0x78 ∷ []) ∷ []
 u-element = refl
 
@@ -178,7 +178,7 @@ open-in-a-oneof = refl
 open-alone : closed_shaped shape.Explicit (kind.Enum (record { 0 = 2 })) ≡ None
 open-alone = refl
 
--- what an absent field has: an empty text and +0, whose bits are all 0
+-- what an absent field has: an empty string and +0, whose bits are all 0
 defaults : map is_default (text [] ∷ bytes [] ∷ int32 (pos 0) ∷ boolean false ∷ float 0 ∷ []) ≡ true ∷ true ∷ true ∷ true ∷ true ∷ []
 defaults = refl
 

@@ -1,4 +1,4 @@
--- What the tests of names, oneofs and types stand on.
+-- What the proofs of the tests of names, oneofs and types use.
 use Rattle.std.proofs.Common.{◌≡◌, ℕ, zero, suc, ◌+◌, ◌<◌, List, [], ◌∷◌, ◌++◌, Bool, true, false, IsTrue, ◌↔◌, ◌⊎◌, inl, inr, ⊎_elim, map, length, get_or, set, take, replicate, refl, sym, ◌∙◌, ap, subst, arith, Option, Some, None, option_map, IfSome, Result, Ok, Err, IfOk}
 use Rattle.std.specs.Prelude.{slice_get}
 use Rattle.std.specs.List.{AllByRecursion}

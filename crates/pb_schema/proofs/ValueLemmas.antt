@@ -87,7 +87,7 @@ pub one_mark : (vs : List (List ℕ × ℤ)) (least x : ℤ) (d : ℕ) (marks : 
 one_mark vs least x d marks far there are =
     marked-set (λ i. (z : ℤ) → z -ℤ least ≡ pos i → IsTrue (list_any (λ v. int_eq v.1 z) vs)) marks d (λ z e. subst (λ (y : ℤ). IsTrue (list_any (λ v. int_eq v.1 y) vs)) (same_distance x z least (far ∙ sym e)) there) are
 
--- the mark of a value, where there is room for it
+-- the mark of a value, where there is space for it
 pub more_marks : (vs : List (List ℕ × ℤ)) (least x : ℤ) (o : Option ℕ) (old new : List Bool) → IfSome o (λ d. x -ℤ least ≡ pos d)
     → MatchOption o (new ≡ old) (λ d. (new ≡ old) ⊎ (new ≡ set old d true)) → list_any (λ v. int_eq v.1 x) vs ≡ true → AreMarksOf vs least old → AreMarksOf vs least new
 more_marks vs least x None old new far same there are = subst (AreMarksOf vs least) (sym same) are

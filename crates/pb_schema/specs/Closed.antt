@@ -43,7 +43,7 @@ is_declared pool k x = declares_in pool (closed_enum k) x
 
 -- RECORDS
 
--- the closed enum of the values that stand in a field; a map has entries
+-- the closed enum of the values of a field; a map has entries
 abbrev pub closed_shaped : Shape → Kind → Option ℕ
 closed_shaped (shape.Map _) k = None
 closed_shaped (shape.List _) k = closed_enum k
@@ -79,7 +79,7 @@ is_undeclared pool (Some e) (fixed32 n) = false
 abbrev pub numbered : ℕ → List Payload → List Record
 numbered n ps = map (λ p. record { number = n; payload = p }) ps
 
--- the elements of a packed list of a closed enum are records of their own; any other record stands for itself
+-- the elements of a packed list of a closed enum are records of their own; any other record is itself
 abbrev pub cut_as : Bool → Option ℕ → ℕ → Payload → List Record
 cut_as true (Some e) n (len s) = numbered n (numbers_of 0 s)
 cut_as true (Some e) n (varint i) = record { number = n; payload = varint i } ∷ []

@@ -9,7 +9,7 @@ use Rattle.pb_schema.specs.declared.types.Shape.TheVariants as shape
 use Rattle.pb_schema.specs.Types.{FieldView, Types, message_fields, field_numbered}
 use Rattle.pb_schema.specs.Kinds.{is_group, message_of_kind}
 
--- what records stand in: a message of a type, a map entry with these kinds of key and value, or a group that no schema knows
+-- what holds records: a message of a type, a map entry with these kinds of key and value, or a group that no schema knows
 pub data Context : Type 0 where
   a_message : ℕ → Context
   an_entry : Kind → Kind → Context
@@ -30,7 +30,7 @@ fields_in pool (a_message m) = message_fields pool m
 fields_in pool (an_entry key value) = key_field key ∷ value_field value ∷ []
 fields_in pool unknown_group = []
 
--- one element of a packed list of a kind; a kind that is in no packed list has none, and four bytes stand in its place
+-- one element of a packed list of a kind; a kind that is in no packed list has none, and four bytes are used in its place
 abbrev pub element_of : Kind → Element
 element_of kind.Double = eight_bytes
 element_of kind.Float = four_bytes
@@ -112,7 +112,7 @@ abbrev pub read_field : Context → Option FieldView → Reading Context
 read_field c None = wire.unread
 read_field c (Some f) = read_shaped c f.shape f.kind
 
--- what stands in a group of a kind
+-- what a group of a kind holds
 abbrev pub group_of_kind : Kind → Context
 group_of_kind k = in_group (is_group k) (message_of_kind k)
   where
@@ -133,7 +133,7 @@ abbrev pub group_of_field : Option FieldView → Context
 group_of_field None = unknown_group
 group_of_field (Some f) = group_shaped f.shape f.kind
 
--- What stands in a group of a number: in one that is a field a message of its type. Entries and groups that no schema knows have no such fields.
+-- What a group of a number holds: in one that is a field a message of its type. Entries and groups that no schema knows have no such fields.
 abbrev pub group_in : Types → Context → ℕ → Context
 group_in pool (a_message m) n = group_of_field (field_numbered n (message_fields pool m))
 group_in pool (an_entry key value) n = unknown_group

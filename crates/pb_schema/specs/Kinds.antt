@@ -31,7 +31,7 @@ wire_type_of (kind.Message _) = 2
 wire_type_of (kind.Group _) = 3
 wire_type_of (kind.ClosedEnum _) = 0
 
--- every kind but text, bytes, messages and groups may stand in a packed list
+-- every kind but string, bytes, messages and groups may be in a packed list
 abbrev pub is_packable : Kind → Bool
 is_packable kind.Double = true
 is_packable kind.Float = true
@@ -75,7 +75,7 @@ is_group (kind.Message _) = false
 is_group (kind.Group _) = true
 is_group (kind.ClosedEnum _) = false
 
--- an integer, a bool or a text may be a map's key
+-- an integer, a bool or a string may be a map's key
 abbrev pub is_key_kind : Kind → Bool
 is_key_kind kind.Double = false
 is_key_kind kind.Float = false
@@ -163,11 +163,11 @@ closed_enum (kind.Message _) = None
 closed_enum (kind.Group _) = None
 closed_enum (kind.ClosedEnum e) = Some e.0
 
--- groups and closed enums stand in files of proto2 alone
+-- groups and closed enums are in files of proto2 alone
 abbrev pub is_of_proto2 : Kind → Bool
 is_of_proto2 k = is_group k || is_some (closed_enum k)
 
--- The value that a payload of a kind stands for. An int32, uint32, sint32 or enum has the low 32 bits of the number, and ZigZag is
+-- The value that a payload of a kind encodes. An int32, uint32, sint32 or enum has the low 32 bits of the number, and ZigZag is
 -- undone after that; a bool is true for every other number than 0; a float or double stays its bits.
 abbrev pub read : Kind → Payload → Option Scalar
 read kind.Int32 (varint n) = Some (int32 (cast_signed w32 (n % 2 ^ 32)))
@@ -208,7 +208,7 @@ read (kind.Group _) p = None
 read (kind.ClosedEnum _) p = None
 
 -- The payload that a value is written as; a negative int32 or enum as all 64 bits of its two's complement. What is no value of the kind has none,
--- and the number 0 stands in its place.
+-- and the number 0 is used in its place.
 abbrev pub written : Kind → Scalar → Payload
 written kind.Int32 (int32 z) = varint (cast_unsigned w64 z)
 written kind.Int64 (int64 z) = varint (cast_unsigned w64 z)
@@ -286,7 +286,7 @@ IsOfKind (kind.Message _) v = ⊥
 IsOfKind (kind.Group _) v = ⊥
 IsOfKind (kind.ClosedEnum _) v = ⊥
 
--- the default of a kind; a message has none, and no bytes stand in its place; a closed enum has none, and 0 does
+-- the default of a kind; a message has none, and the empty bytes are used in its place; a closed enum has none, and 0 is used
 abbrev pub default_of : Kind → Scalar
 default_of kind.Double = double 0
 default_of kind.Float = float 0

@@ -41,7 +41,7 @@ abbrev pub is_package : List ℕ → Bool
 is_package [] = true
 is_package (c ∷ cs) = list_all is_word (parts_of (c ∷ cs))
 
--- the byte may stand at the start of a word of a package's name, or behind it
+-- the byte may be at the start of a word of a package's name, or after it
 abbrev pub may_stand : Bool → ℕ → Bool
 may_stand at_start c = if c == 46 then not at_start else (if at_start then begins_word c else continues_word c)
 
@@ -49,7 +49,7 @@ abbrev pub with_front : Bool → List ℕ → List (List ℕ) → List (List ℕ
 with_front true front fronts = front ∷ fronts
 with_front false front fronts = fronts
 
--- the fronts of a name that end before a dot, of which there is a front and the rest
+-- the prefixes of a name that end before a dot, where the name is a prefix that was read and the rest
 abbrev pub fronts_from : List ℕ → List ℕ → List (List ℕ)
 fronts_from front [] = []
 fronts_from front (c ∷ cs) = with_front (c == 46) front (fronts_from (front ++ c ∷ []) cs)
@@ -64,7 +64,7 @@ abbrev pub in_scope : List ℕ → List ℕ → List ℕ
 in_scope [] name = name
 in_scope (c ∷ cs) name = (c ∷ cs) ++ 46 ∷ name
 
--- the letter, made great where it is raised
+-- the letter, made upper case where it is raised
 abbrev pub raised : Bool → ℕ → ℕ
 raised raise c = if raise && is_ascii_lowercase c then c - 32 else c
 
@@ -72,7 +72,7 @@ abbrev pub unless_line : Bool → ℕ → List ℕ → List ℕ
 unless_line true c cs = cs
 unless_line false c cs = c ∷ cs
 
--- the name without `_`, with each small letter that is first or behind a `_` made great
+-- the name without `_`, with each letter that is first or after a `_` made upper case
 abbrev pub camel_case : Bool → List ℕ → List ℕ
 camel_case raise [] = []
 camel_case raise (c ∷ cs) = unless_line (c == 95) (raised raise c) (camel_case (c == 95) cs)
@@ -155,7 +155,7 @@ enum_names ts = map (enum_name ts.files ts.messages) ts.enums
 abbrev pub names_in_message : MessageView → List (List ℕ)
 names_in_message t = flat_map names_of_field t.fields ++ t.oneofs
 
--- the values of an enum stand in the scope around it
+-- the values of an enum are in the scope around it
 abbrev pub names_of_enum : EnumView → List (List ℕ)
 names_of_enum e = e.name ∷ map (λ v. v.0) e.values
 
@@ -171,7 +171,7 @@ abbrev pub declared_names : Types → List (List ℕ)
 declared_names ts =
     flat_map (declared_by_message ts.files ts.messages) ts.messages ++ flat_map (declared_by_enum ts.files ts.messages) ts.enums
 
--- no name stands twice
+-- no name is there twice
 abbrev pub AllDiffer : {X : Type 0} → List X → Type 0
 AllDiffer [] = Unit {0}
 AllDiffer (x ∷ xs) = AllByRecursion (λ y. x ≢ y) xs × AllDiffer xs

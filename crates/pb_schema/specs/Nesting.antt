@@ -11,6 +11,6 @@ pub data IsWithin (ms : List MessageView) (p : ℕ) : ℕ → Type 0 where
   itself : IsWithin ms p p
   deeper : {m q : ℕ} → parent_of ms m ≡ Some q → IsWithin ms p q → IsWithin ms p m
 
--- of the first n messages each stands behind its parent
+-- of the first n messages each comes after its parent
 abbrev pub ParentsStandBefore : List MessageView → ℕ → Type 0
 ParentsStandBefore ms n = (m p : ℕ) → m < n → parent_of ms m ≡ Some p → p < m

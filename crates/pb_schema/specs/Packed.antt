@@ -21,7 +21,7 @@ onto_varints true b ss = (b ∷ []) ∷ ss
 onto_varints false b [] = (b ∷ []) ∷ []
 onto_varints false b (s ∷ ss) = (b ∷ s) ∷ ss
 
--- the bytes, cut behind each one below 128
+-- the bytes, cut after each one below 128
 abbrev pub varints_of : List ℕ → List (List ℕ)
 varints_of [] = []
 varints_of (b ∷ bs) = onto_varints (nat_lt b 128) b (varints_of bs)

@@ -1,4 +1,4 @@
--- The payload that a borrowed one stands for.
+-- The payload that a borrowed one holds.
 use Rattle.pb_wire.specs.Record.{Payload, varint, fixed64, len, fixed32}
 use Rattle.pb_schema.specs.declared.scalars.ScalarPayload.{ScalarPayload}
 use Rattle.pb_schema.specs.declared.scalars.ScalarPayload.TheVariants.{Varint, I64, Len, I32}

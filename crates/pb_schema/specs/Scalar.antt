@@ -4,7 +4,7 @@ use Rattle.std.specs.declared.cmp.Ordering.{Ordering}
 use Rattle.std.specs.declared.cmp.Ordering.TheVariants.{Less, Equal, Greater}
 use Rattle.std.specs.Ordering.{nat_cmp, int_cmp, bool_cmp, match_ordering}
 
--- An enum's value is its number, a float's its bits, and a text its bytes.
+-- An enum's value is its number, a float's its bits, and a string its bytes.
 pub data Scalar : Type 0 where
   int32 : ℤ → Scalar
   int64 : ℤ → Scalar
@@ -35,14 +35,14 @@ is_default (enum (negsuc n)) = false
 is_default (text (x ∷ xs)) = false
 is_default (bytes (x ∷ xs)) = false
 
--- texts by their bytes
+-- strings by their bytes
 abbrev pub bytes_cmp : List ℕ → List ℕ → Ordering
 bytes_cmp [] [] = Equal
 bytes_cmp [] (y ∷ ys) = Less
 bytes_cmp (x ∷ xs) [] = Greater
 bytes_cmp (x ∷ xs) (y ∷ ys) = match_ordering (nat_cmp x y) Less (bytes_cmp xs ys) Greater
 
--- the order of the keys of one map: numbers by value, false before true, texts by bytes
+-- the order of the keys of one map: numbers by value, false before true, strings by bytes
 abbrev pub key_cmp : Scalar → Scalar → Ordering
 key_cmp (int32 x) (int32 y) = int_cmp x y
 key_cmp (int64 x) (int64 y) = int_cmp x y

@@ -1,4 +1,4 @@
--- What a pool holds: files, message types and enums, each named by its index. Names are the bytes of their texts.
+-- What a pool holds: files, message types and enums, each named by its index. Names are their bytes.
 use Rattle.std.specs.Prelude.{ℕ, ℤ, List, [], Bool, false, Option, Some, None, find, slice_get, ◌==◌}
 use Rattle.pb_schema.specs.declared.types.Kind.{Kind}
 use Rattle.pb_schema.specs.declared.types.Shape.{Shape}

@@ -1,4 +1,4 @@
--- What the parts of a pool stand for.
+-- The mathematical values of the parts of a pool.
 use Rattle.std.specs.Prelude.{ℕ, List, Option, Vec, map, option_map, string_bytes}
 use Rattle.std.specs.declared.alloc.Global.{Global}
 use Rattle.pb_schema.specs.Types.{FieldView, MessageView, EnumView, FileView, Types}
@@ -34,7 +34,7 @@ enum_view t = record {
 abbrev pub file_view : FileInfo → FileView
 file_view f = record { name = string_bytes f.name; package_name = string_bytes f.«package»; imports = f.imports.items; proto2 = f.proto2 }
 
--- what parts stand for
+-- the mathematical values of parts
 abbrev pub types_of : List FileInfo → List MessageType → List EnumType → Types
 types_of files messages enums = record { files = map file_view files; messages = map message_view messages; enums = map enum_view enums }
 

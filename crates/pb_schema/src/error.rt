@@ -18,7 +18,7 @@ pub enum PoolError {
 }
 
 impl PoolError {
-    /// The error's number: 34 for parts that break a rule and 35 for want of memory.
+    /// The error's number: 34 for parts that break a rule and 35 for out of memory.
     pub fn number(self) -> u8
         ensures { result ≡ number_of self }
     {

@@ -54,7 +54,7 @@ impl Kind {
         }
     }
 
-    /// Fields of the kind stand in files of proto2 alone: groups and closed enums.
+    /// Fields of the kind are in files of proto2 alone: groups and closed enums.
     pub fn is_of_proto2(self) -> bool
         ensures { result ≡ is_of_proto2 self }
     {

@@ -24,8 +24,8 @@ fn raised(raise: bool, byte: u8) -> u8
     }
 }
 
-/// The simple name of the entry message of a map field with this name: the name without `_`, its first letter and each one behind a
-/// `_` made great if it is small, and `Entry` behind it.
+/// The simple name of the entry message of a map field with this name: the name without `_`, its first letter and each one after a
+/// `_` made upper case, and `Entry` after it.
 pub fn entry_name(alloc: Global, name: &[u8]) -> Result<Vec<u8>, AllocError>
     ensures { IfOk result (λ v. v.items ≡ entry_name name.now) }
 {

@@ -75,7 +75,7 @@ impl Pool {
     }
 
     /// The pool of parts of which every rule is known to hold. Nothing is judged: only the tables are made that names and numbers are
-    /// looked up by. The only error is that memory is refused.
+    /// looked up by. The only error is out of memory.
     pub fn from_known_parts(
         alloc: Global,
         files: Vec<FileInfo>,
@@ -192,7 +192,7 @@ impl Pool {
         }
     }
 
-    /// Whether a number that stands in a varint is one that the closed enum of a kind doesn't declare. Its low 32 bits are asked for. A kind
+    /// Whether the number of a varint is one that the closed enum of a kind doesn't declare. Its low 32 bits are asked for. A kind
     /// that is no closed enum has no such number.
     #[inline(always)]
     pub fn is_undeclared(&self, kind: Kind, number: u64) -> bool

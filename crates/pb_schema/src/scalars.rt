@@ -1,6 +1,6 @@
 //! What the values of each kind are written as, and how they are read (encoding guide, "Scalar Value Types").
 //!
-//! Each kind has a type here that stands for it. Code over a kind takes one of them as a parameter.
+//! Each kind has a type here of its own. Code over a kind takes one of them as a parameter.
 
 ghost use Rattle.std.specs.Prelude.{◌≡◌, ◌%◌, ◌^◌, Some, None, IfOk, IfSome, IfNone, IsOk, IsTrue, string_bytes};
 ghost use Rattle.std.specs.List.{AllByRecursion};
@@ -17,7 +17,7 @@ ghost use Rattle.pb_schema.specs.PayloadView.{payload_view};
 use pb_wire::{unzigzag32, unzigzag64, zigzag32, zigzag64};
 use std::alloc::{AllocError, Global};
 
-/// What stands behind the tag of a scalar.
+/// What comes after the tag of a scalar.
 #[derive(Clone, Copy, Debug)]
 pub enum ScalarPayload<'a> {
     Varint(u64),
@@ -54,7 +54,7 @@ pub trait Scalar {
         ensures payload { payload_view result ≡ written kind (view item.now) }
         ensures in_range { IsOfKind kind (view item.now) };
 
-    /// The value that a payload stands for. None where the payload is of another wire type, or is no text. Takes memory for a text or
+    /// The value that a payload encodes. None where the payload is of another wire type, or is not UTF-8. Takes memory for a string or
     /// bytes alone.
     fn read(alloc: Global, payload: ScalarPayload<'_>) -> Result<Option<Self::Item>, AllocError>
         ensures found { IfOk result (λ o. IfSome o (λ x. read_of kind (payload_view payload.entry) ≡ Some (view x))) }
@@ -436,7 +436,7 @@ impl Scalar for Sint64 {
     }
 }
 
-/// Stands for every enum, since all are written and read alike.
+/// The kind of every enum, since all are written and read alike.
 pub struct EnumNumber;
 
 impl Scalar for EnumNumber {

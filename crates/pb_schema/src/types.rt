@@ -19,7 +19,7 @@ pub enum Kind {
     Fixed64,
     Fixed32,
     Bool,
-    /// A `string`: text in UTF-8.
+    /// A `string`, in UTF-8.
     Text,
     Bytes,
     Uint32,

@@ -1,4 +1,4 @@
--- Bits that tell which oneofs have members; lists of the oneofs' members.
+-- Bits that say which oneofs have members; lists of the oneofs' members.
 use Rattle.std.specs.Prelude.{◌≡◌, ◌<◌, ◌↔◌, ◌⊎◌, ℕ, List, [], ◌∷◌, ◌++◌, length, Bool, false, IsTrue, if◌then◌else◌, Some, option_map, Vec, slice_get}
 use Rattle.std.specs.declared.alloc.Global.{Global}
 use Rattle.pb_schema.specs.Oneofs.{is_member}
@@ -12,7 +12,7 @@ pub record NotesMember (s : Shape) (old new : List Bool) : Type 0 where
   pub size : length new ≡ length old
   pub exact : (o : ℕ) → o < length old → IsTrue (slice_index_or new o false) ↔ (IsTrue (slice_index_or old o false) ⊎ IsMemberOf o s)
 
--- a bit for each of so many oneofs says whether a field is a member
+-- a bit for each of this many oneofs says whether a field is a member
 pub record AreMembers (oneofs : ℕ) (fs : List FieldView) (bits : List Bool) : Type 0 where
   pub size : length bits ≡ oneofs
   pub exact : (o : ℕ) → o < oneofs → IsTrue (slice_index_or bits o false) ↔ HasMember o fs

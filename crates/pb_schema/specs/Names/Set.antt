@@ -4,7 +4,7 @@ use Rattle.pb_sets.specs.NameSets.{names_in}
 use Rattle.pb_schema.specs.declared.names.set.AddedNames.{AddedNames}
 use Rattle.pb_schema.specs.Names.{AllDiffer}
 
--- these names were added; where they differ they stand in their order
+-- these names were added; where they differ they are in their order
 pub record IsSetOf (names : List (List ℕ)) (s : AddedNames) : Type 0 where
   pub members : (x : List ℕ) → Contains (names_in s.set) x ↔ Contains names x
   pub differ : IsTrue s.differ ↔ AllDiffer names

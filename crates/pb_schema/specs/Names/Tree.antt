@@ -12,7 +12,7 @@ abbrev pub scope_name : List (List ℕ) → Option ℕ → List ℕ
 scope_name full_names None = []
 scope_name full_names (Some i) = name_at full_names i
 
--- the full names of scopes and words in their order, behind those before, by these words
+-- the full names of scopes and words in their order, after those before, by these words
 abbrev pub names_behind : List (List ℕ) → List (List ℕ) → List (Option ℕ × ℕ) → List (List ℕ)
 names_behind words before [] = before
 names_behind words before (n ∷ ns) =
@@ -50,7 +50,7 @@ pub record IsTree (t : NameTree) : Type 0 where
 abbrev pub Keeps : List (List ℕ) → List (List ℕ) → Type 0
 Keeps old new = (i : ℕ) (name : List ℕ) → slice_get old i ≡ Some name → slice_get new i ≡ Some name
 
--- the full name at the index; it stands last where it is new
+-- the full name at the index; it is the last where it is new
 abbrev pub IsAddedAt : List (List ℕ) → List (List ℕ) → List ℕ → ℕ → Bool → Type 0
 IsAddedAt old new name i true = (new ≡ old ++ name ∷ []) × (i ≡ length old) × ¬ Contains old name
 IsAddedAt old new name i false = (new ≡ old) × (slice_get old i ≡ Some name)
@@ -64,7 +64,7 @@ abbrev pub AddsName : NameTree → NameTree → Option ℕ → List ℕ → (ℕ
 AddsName old new scope word r =
     IsTree old → IsInTree old scope → IsTrue (is_word word) → NameAdded old new (in_scope (scope_name (full_names_of old) scope) word) r.0 r.1
 
--- the first word of a name, and what stands behind its dot
+-- the first word of a name, and what comes after its dot
 abbrev pub IsSplit : List ℕ → List ℕ → Option (List ℕ) → Type 0
 IsSplit name word None = (name ≡ word) × ¬ Contains word 46
 IsSplit name word (Some rest) = (name ≡ word ++ 46 ∷ rest) × ¬ Contains word 46

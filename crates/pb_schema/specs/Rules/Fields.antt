@@ -19,7 +19,7 @@ FieldNumbersDiffer t = AllDiffer (map (λ f. f.number) t.fields)
 abbrev pub NumbersDiffer : List MessageView → Type 0
 NumbersDiffer ms = AllByRecursion FieldNumbersDiffer ms
 
--- a type that a kind names stands in the file, or in one that the file reaches by imports
+-- a type that a kind names is in the file, or in one that the file reaches by imports
 abbrev pub TypeIsSeen : Types → ℕ → Kind → Type 0
 TypeIsSeen ts file (kind.Enum e) = IfSome (slice_get ts.enums e.0) (λ t. IsSeen ts.files file t.file)
 TypeIsSeen ts file (kind.Message m) = IfSome (slice_get ts.messages m.0) (λ t. IsSeen ts.files file t.file)

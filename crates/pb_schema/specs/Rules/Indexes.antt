@@ -1,4 +1,4 @@
--- The rules of indexes: each names something, and what is declared in a message stands in its file.
+-- The rules of indexes: each names something, and what is declared in a message is in its file.
 use Rattle.std.specs.Prelude.{◌≡◌, ℕ, ◌<◌, List, length, Option, IfSome, IsSomeAnd, slice_get}
 use Rattle.std.specs.List.{AllByRecursion}
 use Rattle.pb_schema.specs.declared.types.Kind.{Kind}
@@ -14,7 +14,7 @@ MessagesHaveFiles files ms = AllByRecursion (λ t. t.file < length files) ms
 abbrev pub EnumsHaveFiles : List FileView → List EnumView → Type 0
 EnumsHaveFiles files es = AllByRecursion (λ e. e.file < length files) es
 
--- what is declared in a message stands in the message's file
+-- what is declared in a message is in the message's file
 abbrev pub IsInFileOfParent : List MessageView → ℕ → Option ℕ → Type 0
 IsInFileOfParent ms file parent = IfSome parent (λ p. IsSomeAnd (slice_get ms p) (λ t. t.file ≡ file))
 
@@ -24,7 +24,7 @@ MessagesShareFileWithParent ms = AllByRecursion (λ t. IsInFileOfParent ms t.fil
 abbrev pub EnumsShareFileWithParent : List MessageView → List EnumView → Type 0
 EnumsShareFileWithParent ms es = AllByRecursion (λ e. IsInFileOfParent ms e.file e.parent) es
 
--- the kind names one of so many messages or enums, or neither
+-- the kind names one of this many messages or enums, or neither
 abbrev pub NamesType : ℕ → ℕ → Kind → Type 0
 NamesType messages enums (kind.Enum e) = e.0 < enums
 NamesType messages enums (kind.Message m) = m.0 < messages

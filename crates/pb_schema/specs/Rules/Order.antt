@@ -1,10 +1,10 @@
--- DECLARATION ORDER: by file; a message, then those in it, then the next one; the enums in a message behind those in the messages in it, and
+-- DECLARATION ORDER: by file; a message, then those in it, then the next one; the enums in a message after those in the messages in it, and
 -- the enums outside messages last.
 use Rattle.std.specs.Prelude.{◌≡◌, ℕ, ◌+◌, ◌<◌, ◌≤◌, ◌⊎◌, List, [], ◌∷◌, Option, Some, None}
 use Rattle.pb_schema.specs.Types.{MessageView, EnumView}
 use Rattle.pb_schema.specs.Nesting.{parent_of, IsWithin}
 
--- each element stands so to the next
+-- each element has the relation to the next
 abbrev pub InOrder : {X : Type 0} → (X → X → Type 0) → List X → Type 0
 InOrder R [] = Unit {0}
 InOrder R (x ∷ []) = Unit {0}
@@ -20,8 +20,8 @@ FollowsParent ms i = (p : ℕ) → parent_of ms i ≡ Some p → (j : ℕ) × (j
 abbrev pub MessagesStandInOrder : List MessageView → Type 0
 MessagesStandInOrder ms = FilesRise ms × ((i : ℕ) → FollowsParent ms i)
 
--- The enums in message a stand before those in message b, or they are the same: b holds a, or is a later one that is not in a. Those outside
--- messages stand last.
+-- The enums in message a come before those in message b, or they are the same: b holds a, or is a later one that is not in a. Those outside
+-- messages come last.
 abbrev pub EndsNoLater : List MessageView → Option ℕ → Option ℕ → Type 0
 EndsNoLater ms a None = Unit {0}
 EndsNoLater ms None (Some b) = ⊥

@@ -1,4 +1,4 @@
--- The rules of the syntax of files: what stands in files of proto2 alone, what in those of proto3 alone, and how their enums begin (language
+-- The rules of the syntax of files: what is allowed in files of proto2 alone, what in those of proto3 alone, and how their enums begin (language
 -- specification, proto2, "Groups", "Enumerations"; proto3, "Enumerations").
 use Rattle.std.specs.Prelude.{◌≡◌, ℕ, ℤ, pos, List, [], ◌∷◌, Bool, true, false, IfSome, slice_get}
 use Rattle.std.specs.List.{AllByRecursion}
@@ -17,7 +17,7 @@ IsNotImplicit (shape.OneofMember _) = Unit {0}
 IsNotImplicit (shape.List _) = Unit {0}
 IsNotImplicit (shape.Map _) = Unit {0}
 
--- A field in a file of proto2 always says whether it is set; groups and closed enums stand there alone.
+-- A field in a file of proto2 always says whether it is set; groups and closed enums are allowed there alone.
 abbrev pub MayStandIn : Bool → Shape → Kind → Type 0
 MayStandIn true s k = IsNotImplicit s
 MayStandIn false s k = is_of_proto2 k ≡ false

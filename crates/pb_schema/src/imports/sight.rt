@@ -32,7 +32,7 @@ impl Sight {
         })
     }
 
-    /// Goes over to what a file imports, where it is not the one at hand.
+    /// Goes over to what a file imports, where it is not the current one.
     fn look_near(&mut self, files: &[FileInfo], file: usize) -> Result<(), AllocError>
         requires imports { ImportsNameFiles (map file_view files.now) }
         requires known { KnowsSight (map file_view files.now) self.old }
@@ -48,7 +48,7 @@ impl Sight {
         Ok(())
     }
 
-    /// Goes on to all that the file at hand reaches.
+    /// Goes on to all that the current file reaches.
     fn look_far(&mut self, files: &[FileInfo]) -> Result<(), AllocError>
         requires imports { ImportsNameFiles (map file_view files.now) }
         requires known { KnowsSight (map file_view files.now) self.old }

@@ -97,7 +97,7 @@ impl Declarations {
         Ok(())
     }
 
-    /// Adds a message and all that stands in it directly. Answers the index of its name.
+    /// Adds a message and all that it declares directly. Answers the index of its name.
     fn add_message(
         &mut self,
         alloc: Global,
@@ -112,7 +112,7 @@ impl Declarations {
         Ok(index)
     }
 
-    /// Adds an enum and its values, which stand in the scope around it.
+    /// Adds an enum and its values, which are in the scope around it.
     fn add_enum(
         &mut self,
         alloc: Global,

@@ -1,4 +1,4 @@
-//! Names as words in scopes: no full name is held as text.
+//! Names as words in scopes: no full name is held as a string.
 
 ghost use Rattle.std.specs.Prelude.{◌≡◌, [], IfOk, map, option_map};
 ghost use Rattle.pb_schema.specs.View.{file_view};
@@ -60,7 +60,7 @@ impl NameTree {
     }
 }
 
-/// The first of the words that dots join, and what stands behind its dot.
+/// The first of the words that dots join, and what comes after its dot.
 fn split_word(name: &[u8]) -> (&[u8], Option<&[u8]>)
     ensures { IsSplit name.now result.0.now (option_map (λ o. o.now) result.1) }
 {

@@ -32,7 +32,7 @@ pub fn is_word(name: &[u8]) -> bool
     }
 }
 
-/// The byte may stand at the start of a word, or behind it, where words are joined by dots.
+/// The byte may be at the start of a word, or after it, where words are joined by dots.
 fn may_stand(at_start: bool, byte: u8) -> bool
     ensures { result ≡ may_stand at_start byte }
 {

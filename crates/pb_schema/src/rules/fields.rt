@@ -50,7 +50,7 @@ fn note_member(members: &mut Vec<bool>, shape: Shape)
     }
 }
 
-/// A bit for each of so many oneofs, set where a field is a member.
+/// A bit for each of this many oneofs, set where a field is a member.
 fn members_of(alloc: Global, fields: &[Field], oneofs: usize) -> Result<Vec<bool>, AllocError>
     ensures { IfOk result (λ bits. AreMembers oneofs (map field_view fields.now) bits.items) }
 {

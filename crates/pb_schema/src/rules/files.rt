@@ -27,7 +27,7 @@ pub(crate) fn files_are_named(files: &[FileInfo]) -> bool
 pub(crate) fn file_names_differ(alloc: Global, files: &[FileInfo]) -> Result<bool, AllocError>
     ensures { IfOk result (λ holds. IsTrue holds ↔ FileNamesDiffer (map file_view files.now)) }
 {
-    // The names stay where they stand: no name is copied.
+    // The names are borrowed: no name is copied.
     let mut names: IndexSet<&[u8]> = IndexSet::with_capacity(alloc, files.len())?;
     for file in files {
         let is_new = names.insert(file.name.as_str().as_bytes())?;

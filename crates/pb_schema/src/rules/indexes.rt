@@ -64,7 +64,7 @@ pub(crate) fn enums_share_file_with_parent(messages: &[MessageType], enums: &[En
     true
 }
 
-/// The kind names one of so many messages or enums.
+/// The kind names one of this many messages or enums.
 #[derive(Drop)]
 struct NamesKnownType {
     messages: usize,

@@ -70,7 +70,7 @@ pub(crate) fn messages_stand_in_order(messages: &[MessageType]) -> bool
     files_rise(messages) && all_follow_parents(messages)
 }
 
-/// The enums in one message stand before those in the other, or both are the same.
+/// The enums in one message come before those in the other, or both are the same.
 fn ends_no_later(
     messages: &[MessageType],
     before: Option<MessageId>,

@@ -1,4 +1,4 @@
-//! The rules of the syntax of files: where groups and closed enums stand, which fields are implicit, first values of enums.
+//! The rules of the syntax of files: where groups and closed enums are allowed, which fields are implicit, first values of enums.
 
 ghost use Rattle.std.specs.Prelude.{◌≡◌, ◌↔◌, IsTrue, IfSome, map, slice_get, string_bytes};
 ghost use Rattle.pb_schema.specs.View.{file_view, message_view, enum_view, types_of};
@@ -32,7 +32,7 @@ fn is_not_implicit(shape: Shape) -> bool
     }
 }
 
-/// A field of this shape and kind may stand in a file of proto2, or in one of proto3.
+/// A field of this shape and kind may be in a file of proto2, or in one of proto3.
 fn may_stand_in(proto2: bool, shape: Shape, kind: Kind) -> bool
     ensures { IsTrue result ↔ MayStandIn proto2 shape kind }
 {
@@ -68,7 +68,7 @@ struct HasRightEnum<'a> {
     enums: &'a [EnumType],
 }
 
-/// The enum at an index, if there is one, stands in a file of proto2, or in none.
+/// The enum at an index, if there is one, is in a file of proto2, or in none.
 fn enum_is_of(files: &[FileInfo], enums: &[EnumType], index: EnumId, proto2: bool) -> bool
     ensures { IsTrue result ↔ IfSome (slice_get (map enum_view enums.now) index.0) (λ t. is_proto2 (map file_view files.now) t.file ≡ proto2) }
 {

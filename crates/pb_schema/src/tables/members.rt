@@ -24,7 +24,7 @@ fn add_member(table: &mut MemberTable, field: &Field) -> Result<(), AllocError>
     Ok(())
 }
 
-/// So many oneofs without members.
+/// This many oneofs without members.
 fn no_members(alloc: Global, oneofs: usize) -> Result<MemberTable, AllocError>
     ensures { IfOk result (λ table. IsMemberTable oneofs [] table.items) }
 {

@@ -10,7 +10,7 @@ use crate::types::{Field, MessageType};
 use pb_sets::name_set::NameSet;
 use std::alloc::{AllocError, Global};
 
-/// From so many fields on a message has a table of their names; fewer are gone over.
+/// From this many fields on a message has a table of their names; fewer are searched one by one.
 const MANY: usize = 16;
 
 /// The simple names of a message's fields in their order, where there are many.

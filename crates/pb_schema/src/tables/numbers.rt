@@ -18,7 +18,7 @@ const NUMBERS_A_FIELD: usize = 8;
 pub(crate) struct NumberTable {
     /// The numbers in rising order, each with its field's index.
     rising: Vec<(u32, usize)>,
-    /// By number the index at which its field may stand. The field there is looked at before it is believed.
+    /// By number the index at which its field may be. The field there is checked before it is used.
     guesses: Vec<usize>,
 }
 
@@ -33,7 +33,7 @@ fn rising_numbers(alloc: Global, fields: &[Field]) -> Result<Vec<(u32, usize)>, 
     Ok(table)
 }
 
-/// Notes where the field of a number stands.
+/// Notes the index of the field of a number.
 fn note_place(guesses: &mut Vec<usize>, number: u32, index: usize) -> Result<(), AllocError>
     ensures longest { (most : ℕ) → number < most → length guesses.old.items ≤ most → length guesses.new.items ≤ most }
 {
@@ -47,7 +47,7 @@ fn note_place(guesses: &mut Vec<usize>, number: u32, index: usize) -> Result<(),
     Ok(())
 }
 
-/// Where the fields of small numbers stand. Where the numbers are 1, 2, 3 and so on there is nothing to note.
+/// The indexes of the fields of small numbers. Where the numbers are 1, 2, 3 and so on there is nothing to note.
 fn places_guessed(alloc: Global, fields: &[Field]) -> Result<Vec<usize>, AllocError>
     ensures few { IfOk result (λ guesses. length guesses.items ≤ 8 * length fields.now + 1) }
 {

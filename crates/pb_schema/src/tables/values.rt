@@ -61,7 +61,7 @@ fn mark(marks: &mut Vec<bool>, distance: Option<usize>)
     }
 }
 
-/// So many marks from the least number, of these values.
+/// This many marks from the least number, of these values.
 fn marks_of(
     alloc: Global,
     values: &[(String, i32)],
