@@ -1,4 +1,4 @@
--- What is begun behind the last whole record: more bytes, tokens that go on, and elements of a list.
+-- What is begun after the last whole record: more bytes, tokens that go on, and elements of a list.
 use Rattle.std.proofs.Common.{◌≡◌, ℕ, List, [], ◌∷◌, ◌++◌, map, refl, sym, ap, ◌∙◌, subst, Option, Some, IsTrue}
 use Rattle.std.specs.Prelude.{true, false, option_to_list}
 use Rattle.std.proofs.lemmas.Bool.{false≢true}
@@ -60,13 +60,13 @@ after_longer {scope = scope} {u = u} more bytes a = record {
   ends = ends_longer u more scope.end a.ends;
 }
 
--- A WHOLE RECORD: nothing is begun behind it
+-- A WHOLE RECORD: nothing is begun after it
 pub after_record :
     {pool : Types} {m depth levels : ℕ} {base : List Record} {p0 : Place} {frames : List Frame} {scope : Scope} {now : Part} {q : Place}
     → Stands pool m depth levels base p0 frames now scope q → After pool m depth levels base p0 frames step.Tag now scope q
 after_record {now = now} {q = q} s = record { before = now; place = q; stands = s; begun = nothing refl refl refl; ends = s.ends }
 
--- and where nothing is begun one stands behind a whole record
+-- and where nothing is begun the reader is after a whole record
 pub at_record :
     {pool : Types} {m depth levels : ℕ} {base : List Record} {p0 : Place} {frames : List Frame} {scope : Scope} {now : Part} {u : Place}
     → After pool m depth levels base p0 frames step.Tag now scope u → Stands pool m depth levels base p0 frames now scope u
@@ -135,9 +135,9 @@ with_next_undeclared pool n (kind.ClosedEnum e) front first v all i undeclared =
     ∙ undeclared_number pool n (kind.ClosedEnum e) (with_elements pool n (kind.ClosedEnum e) front v) (number_of a_varint_element first) undeclared
 with_next_undeclared pool n k front first v all i undeclared = absurd (false≢true undeclared)
 
--- WHAT A STEP SAYS of what stands before it
+-- WHAT A STEP SAYS of what is before it
 
--- behind the tag of a record in the part
+-- after the tag of a record in the part
 pub record AtTag (pool : Types) (m depth levels : ℕ) (base : List Record) (p0 : Place) (frames : List Frame) (now : Part) (scope : Scope) (t : Tag) (u : Place) : Type 0 where
   pub place : Place
   pub stands : Stands pool m depth levels base p0 frames now scope place
@@ -165,7 +165,7 @@ at_tag {pool} {m} {depth} {levels} {base} {p0} {frames} {scope} {next} {now} {u}
           room_for = subst (λ (z : Tag). IsRoomFor scope.room z.meant) alike room_for;
         }
 
--- behind the tag and the length of a record in the part
+-- after the tag and the length of a record in the part
 pub record AtPayload (pool : Types) (m depth levels : ℕ) (base : List Record) (p0 : Place) (frames : List Frame) (now : Part) (scope : Scope) (k : ℕ) (meant : Purpose) (n : ℕ) (u : Place) : Type 0 where
   pub place : Place
   pub length_at : Place
@@ -244,7 +244,7 @@ told_inside {pool} {m} {depth} {p0 = p0} {frames} {scope} k w g s has bad =
     subst (λ (z : PathStep). Bad (schema_of pool) (records (in_message m)) depth p0 (below (path_of frames) (in_record z g))) (step_here k scope s.records_so_far s.counted)
     (told_here (in_record (step_into k s.records_so_far) g) s (begins_at_tag s.open_now has) bad)
 
--- THE FAULT OF WHAT STANDS BEHIND A TAG is the fault of the whole, below the step of its record
+-- THE FAULT OF WHAT IS AFTER A TAG is the fault of the whole, below the step of its record
 record_fault :
     (pool : Types) (o : Open Context) (before : List Record) (room k w : ℕ) {q u : Place} (g : Fault) → HasTag q k w u → NumberFault w u g → RecordFault (schema_of pool) o before room q (in_record (step_into k before) g)
 record_fault pool o before room k w {q} {u} g has (a_varint type bad) = RecordFault.varint (subst (λ (z : ℕ). HasTag q k z u) type has) bad refl

@@ -1,9 +1,9 @@
--- What a call tells of its answer.
+-- What a call says of its answer.
 use Rattle.std.proofs.Common.{◌≡◌, ℕ, subst, sym, refl, Bool, true, false, not, Option, Some, IfSome}
 use Rattle.std.specs.Prelude.{◌==◌}
 use Rattle.std.proofs.lemmas.Bool.{eqb-true}
 
--- what is told of one that is there
+-- what is reported of one that is there
 pub told_of : {A : Type 0} (P : A → Type 0) (o : Option A) (x : A) → o ≡ Some x → IfSome o P → P x
 told_of {A} P o x is told = subst (λ (z : Option A). IfSome z P) is told
 

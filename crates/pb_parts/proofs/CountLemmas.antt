@@ -1,4 +1,4 @@
--- What a search finds among rising numbers, and what stands with each number after a change.
+-- What a search finds among rising numbers, and the count of each number after a change.
 use Rattle.std.proofs.Common.{◌≡◌, ℕ, zero, suc, ◌<◌, ◌≤◌, ◌≢◌, eqb, List, [], ◌∷◌, ◌++◌, length, get_or, set, if◌then◌else◌, Option, Some, None, is_some, Result, Ok, Err, IfOk, IfErr, refl, sym, ◌∙◌, ap, arith}
 use Rattle.std.specs.List.Sorted.{IsSearchInRange, IsBinarySearchResult, IsNonDecreasingBy}
 use Rattle.std.specs.Map.{lookup}
@@ -29,7 +29,7 @@ module _ (l : List (ℕ × ℕ)) (rising : IsRising l) (k : ℕ) where
     };
   }
 
--- WHAT STANDS WITH A NUMBER
+-- THE COUNT OF A NUMBER
 
 -- no entry before the place i has the number
 abbrev pub NoneBefore : List (ℕ × ℕ) → ℕ → ℕ → Type 0
@@ -47,7 +47,7 @@ none_before_at l k i rising is_at j lt same = omega (arith, rising j i lt is_at.
 pub none_in_gap : (l : List (ℕ × ℕ)) (k i : ℕ) → IsGapFor l k i → NoneBefore l k (length l)
 none_in_gap l k i gap j lt same = grind (arith, gap.less_before j, gap.greater_after j)
 
--- behind a list without the number stands what the rest has
+-- after a list without the number comes what the rest has
 pub found_behind : (l rest : List (ℕ × ℕ)) (k : ℕ) → NoneBefore l k (length l) → found k (l ++ rest) ≡ found k rest
 found_behind [] rest k none = refl
 found_behind (x ∷ l) rest k none = grind (arith, nat_tests, none 0 (omega arith), found_behind l rest k (none_before_tail x l k (length l) none))
@@ -62,7 +62,7 @@ found-set [] rest k v i is_at none q = absurd (omega (arith, is_at.in_range))
 found-set (x ∷ l) rest k v zero is_at none q = grind (arith, nat_tests, is_at.has_number)
 found-set (x ∷ l) rest k v (suc i) is_at none q = grind (arith, nat_tests, none 0 (omega arith), found-set l rest k v i (is_at_tail x l k i is_at) (none_before_tail x l k i none) q)
 
--- a change behind a list without the number
+-- a change after a list without the number
 pub found-changed : (l m n : List (ℕ × ℕ)) (k v : ℕ) → NoneBefore l k (length l) → ((q : ℕ) → found q n ≡ (if eqb q k then Some v else found q m)) → (q : ℕ) → found q (l ++ n) ≡ (if eqb q k then Some v else found q (l ++ m))
 found-changed [] m n k v none changed q = changed q
 found-changed (x ∷ l) m n k v none changed q = grind (arith, nat_tests, none 0 (omega arith), found-changed l m n k v (none_before_tail x l k (length l) none) changed q)

@@ -1,4 +1,4 @@
--- A decoder's frames: what is told from them, and how they change.
+-- A decoder's frames: what is reported from them, and how they change.
 use Rattle.std.proofs.Common.{◌≡◌, ℕ, ◌-◌, ◌<◌, ◌≤◌, List, [], ◌∷◌, ◌++◌, length, refl, sym, ap, ◌∙◌, subst, arith, append_assoc, Option, Some, None, IsTrue}
 use Rattle.std.specs.Prelude.{true, false, option_map, MatchOption}
 use Rattle.std.proofs.lemmas.List.{append-nil}
@@ -44,7 +44,7 @@ pub held_opened :
 held_opened (at_top v form is_open is_room is_inner is_path is_place is_base goes_on) = opened.at_top is_open is_room is_path is_place
 held_opened (inside up h begun form can deep completes is_path counts ends goes_on takes) = opened.inner (held_opened up) h begun is_path
 
--- THE FAULT TOLD: a record that has a fault where one stands gives the fault of the whole, below the numbers of the open records
+-- THE FAULT REPORTED: a record that has a fault at the reader's position gives the fault of the whole, below the numbers of the open records
 pub told :
     {pool : Types} {m depth levels : ℕ} {base : List Record} {p0 : Place} {frames : List Frame} {scope : Scope} {now : Part} {q : Place} (f : Fault)
     → (s : Stands pool m depth levels base p0 frames now scope q) → Begins s.open_now q → RecordFault (schema_of pool) s.open_now s.records_so_far scope.room q f
@@ -62,7 +62,7 @@ pub ends_longer : (q : Place) (more : List ℕ) (e : Option ℕ) → EndsAt q e 
 ends_longer q more None h = h
 ends_longer q more (Some e) h = h
 
--- behind some bytes the known end is where it was
+-- after some bytes the known end is where it was
 pub ends_along : {p q : Place} (front : List ℕ) (e : Option ℕ) → Moves p front q → EndsAt p e → EndsAt q e
 ends_along front None m h = m.known ∙ ap (option_map (λ (e : ℕ). e - length front)) h
 ends_along {p} {q} front (Some e) m (left, is, at) =
@@ -85,12 +85,12 @@ ends_back {p} {q} front e m h = by_known p.known refl e h
         let to = m.at in
         (l, is, omega (arith, enough, same, to, at))
 
--- a place is told by its known end
+-- a place is known by its known end
 pub place_up_to : (q : Place) (e : Option ℕ) → EndsAt q e → q ≡ up_to e q
 place_up_to q None h = ap (λ (z : Option ℕ). record q { known = z }) h
 place_up_to q (Some e) (left, is, at) = let same : left ≡ e - q.at = omega (arith, at) in ap (λ (z : Option ℕ). record q { known = z }) (is ∙ ap (λ (z : ℕ). Some z) same)
 
--- MORE BYTES: what stands after some bytes stands so whatever follows
+-- MORE BYTES: what is there after some bytes stays, whatever follows
 pub held_longer :
     {pool : Types} {m depth levels : ℕ} {base : List Record} {p0 : Place} {frames : List Frame} {now : Part} {o : Open Context} {room inner : ℕ} {path : List PathStep} {p : Place} {earlier : List Record} (more : List ℕ)
     → Held pool m depth levels base p0 frames now o room inner path p earlier → Held pool m depth levels base (longer p0 more) frames now o room inner path (longer p more) earlier
@@ -292,7 +292,7 @@ held_as_well {pool} {m = m} {now = now} {inner = inner} {earlier = earlier} othe
 held_as_well {pool} {now = now} {inner = inner} {earlier = earlier} other same (inside {frame = frame} up h begun form can deep completes is_path counts ends goes_on takes) =
     inside up h begun form can deep (λ p q type alike worth. completes p q type (form_through2 now other q same alike) worth) is_path counts ends (goes_on_as pool inner earlier now other same goes_on) (takes_as frame.slot frame.part now other same takes.0, takes.1)
 
--- ONE MORE RECORD: a whole sound record behind which the part is worth the records with it
+-- ONE MORE RECORD: a whole sound record after which the part is worth the records with it
 pub one_more :
     {pool : Types} {m depth levels : ℕ} {base : List Record} {p0 : Place} {frames : List Frame} {scope : Scope} {now : Part} {q u : Place} (s : Stands pool m depth levels base p0 frames now scope q) (r : Record) (next : Part)
     → RecordTo (schema_of pool) (context_of s.open_now) scope.room q r u → IsSameForm now next → IsWorth pool s.inner next ((s.earlier ++ s.records_so_far) ++ r ∷ []) → Stands pool m depth levels base p0 frames next (one_more_in r.number scope) u
@@ -313,7 +313,7 @@ one_more {pool} {scope = scope} {now = now} s r next h same worth = record {
   worth = subst (λ (z : List Record). IsWorth pool s.inner next z) (append_assoc s.earlier s.records_so_far (r ∷ [])) worth;
 }
 
--- WHAT WAS OPEN IS WHOLE: with it the outer part is worth one record more, and one stands in that behind it
+-- AN OPEN PART IS COMPLETE: with it the outer part is worth one record more, and the reader is in the outer part, after it
 pub closed_stands :
     {pool : Types} {m depth levels : ℕ} {base : List Record} {p0 : Place} {frames : List Frame} {a : Open Context} {outer : ℕ} {steps : List PathStep} {p q w : Place} {rs before : List Record} (frame : Frame)
     → Held pool m depth levels base p0 frames frame.part a frame.scope.room outer steps p before → Behind (schema_of pool) a frame.scope.room p rs q → IsPartOf frame.part (context_of a) → frame.scope.room < outer
@@ -337,7 +337,7 @@ closed_stands {pool} {a = a} {outer = outer} {steps = steps} {p = p} {rs = rs} {
   worth = subst (λ (z : List Record). IsWorth pool outer next z) (append_assoc before rs (record { number = frame.number; payload = pl } ∷ [])) worth;
 }
 
--- WHAT ENDS what is open: an end tag ends a group, and a known end a payload
+-- WHAT ENDS the open part: an end tag ends a group, and a known end a payload
 flag_held :
     {pool : Types} {m depth levels : ℕ} {base : List Record} {p0 : Place} {frame : Frame} {frames : List Frame} {now : Part} {o : Open Context} {room inner : ℕ} {path : List PathStep} {p : Place} {earlier : List Record}
     → Held pool m depth levels base p0 (frame ∷ frames) now o room inner path p earlier → opening_type frame.group ≡ open_type o
@@ -368,7 +368,7 @@ pub is_group :
     → frame.group ≡ true → s.open_now ≡ in_group frame.number (context_of s.open_now)
 is_group s some = group_held s.held some
 
--- A MESSAGE OR ENTRY THAT ENDS AT ITS KNOWN END: it goes into its slot, and one stands in what holds it
+-- A MESSAGE OR ENTRY THAT ENDS AT ITS KNOWN END: it goes into its slot, and the reader is in its parent
 pub ends_at_known_end :
     {pool : Types} {m depth levels : ℕ} {base : List Record} {p0 : Place} {frame : Frame} {frames : List Frame} {scope : Scope} {now : Part} {v : Place} (s : Stands pool m depth levels base p0 (frame ∷ frames) now scope v)
     → frame.group ≡ false → v.known ≡ Some 0

@@ -53,7 +53,7 @@ field_no_group : (c : Context) (o : Option FieldView) → IsNoGroup (read_field 
 field_no_group c None = tt
 field_no_group c (Some f) = shaped_no_group c f.shape f.kind
 
--- what a group's records stand in is the group that was begun
+-- what a group's records are in is the group that was begun
 pub group_is_open :
     {pool : Types} {m depth levels : ℕ} {base : List Record} {p0 : Place} {frame : Frame} {frames : List Frame} {scope : Scope} {us : List Record} {q : Place}
     (s : Stands pool m depth levels base p0 (frame ∷ frames) (group_part us) scope q) → s.open_now ≡ in_group frame.number unknown_group

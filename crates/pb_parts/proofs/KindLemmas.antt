@@ -15,7 +15,7 @@ use Rattle.pb_schema.specs.Closed.{closed_shaped, closed_of, is_list, is_list_fi
 use Rattle.pb_value.proofs.KnownLemmas.{IsUncut, IsWhole, IsKnown}
 use Rattle.pb_value.proofs.OneofBack.{any_of_all}
 
--- a message stands behind a length or between the tags of a group
+-- a message is after a length or between the tags of a group
 abbrev pub is_deep : ℕ → Bool
 is_deep w = (w == 2) || (w == 3)
 
@@ -41,7 +41,7 @@ deep_list p (kind.Message m) j w is e = by_two (w == 2) (w == 3) (never_packed (
 deep_list p (kind.Group m) j w is e = by_three (w == 2) (w == 3) (never_packed (w == 3) (w == 2) e)
 deep_list p k j w is e = absurd (cc)
 
--- a kind of messages behind lengths
+-- a message type after lengths
 pub by_length : (k : Kind) (j : MessageId) → message_of_kind k ≡ Some j.0 → (2 == wire_type_of k) ≡ true → k ≡ kind.Message j
 by_length (kind.Message m) j is e = let same : m.0 ≡ j.0 = cc in ap (λ (z : ℕ). kind.Message (record { 0 = z })) same
 by_length (kind.Group m) j is e = absurd (false≢true e)

@@ -1,23 +1,23 @@
--- ---- bytes, and what a call tells of them
--- for places in bytes, and the bytes behind so many of others
+-- ---- bytes, and what a call says of them
+-- for places in bytes, and the bytes after this many of others
 pub mod PlaceLemmas
--- for what a call tells of its answer: one that is there, a sign that is not set, a count that is zero
+-- for what a call says of its answer: one that is there, a sign that is not set, a count that is zero
 pub mod AnswerLemmas
--- ---- what is open, and what records make of it
--- for `occurrences`: what a search finds among rising numbers, and what stands with each number after a change
+-- ---- the open part, and what records make of it
+-- for `occurrences`: what a search finds among rising numbers, and the count of each number after a change
 pub mod CountLemmas
 -- for the counts of records, as the occurrences of steps of a path
 pub mod StepCounts
--- for what is open: a fault inside is the fault of the whole, and a payload that ends is one more record of what holds it
+-- for the open part: a fault inside is the fault of the whole, and a payload that ends is one more record of its parent
 pub mod OpenedLemmas
--- for the frames of what is open: what is told from them, and how they change
+-- for the frames of the open part: what is reported from them, and how they change
 pub mod FrameLemmas
--- for the same wherever one stands: it is well formed
+-- for the same wherever the reader is: it is well formed
 pub mod WellLemmas
 -- ---- what is opened, and what a whole record makes of its part
 -- for the messages and entries that are opened
 pub mod OpenLemmas
--- for a packed list that is open: its whole elements so far stand in the field
+-- for a packed list that is open: its whole elements so far are in the field
 pub mod PackedLemmas
 -- for an element or an entry that is opened and was not there before
 pub mod OpenMore
@@ -31,11 +31,11 @@ pub mod EntrySteps
 pub mod PackedNumbers
 -- for packed lists of closed enums, where a number that is not declared is unknown
 pub mod ClosedLists
--- for what is begun behind the last whole record: tokens that go on, payloads, elements of a list
+-- for what is begun after the last whole record: tokens that go on, payloads, elements of a list
 pub mod AfterLemmas
 -- for what a field's kind says of a record that fits it
 pub mod KindLemmas
--- for a number behind its tag
+-- for a number after its tag
 pub mod NumberSteps
 -- for a packed list: its length, its elements, their faults, and its end
 pub mod ListSteps
@@ -43,11 +43,11 @@ pub mod ListSteps
 pub mod UnknownSteps
 -- for a number that a closed enum does not declare, which goes there too
 mod UndeclaredSteps
--- for a whole payload behind its length, also where it is refused
+-- for a whole payload after its length, also where it is refused
 pub mod PayloadSteps
 -- for records that open a level below, too deep where no level is left
 pub mod DeepLemmas
--- for numbers at the front of bytes: what `pb_wire` tells of a token
+-- for numbers at the start of bytes: what `pb_wire` says of a token
 pub mod NumberTokens
 -- for a group that is open: it ends at its end tag alone
 pub mod GroupLemmas

@@ -89,7 +89,7 @@ packed_field (Some f) k w kd (e, h) = by_shape f.shape refl h
     by_shape shape.Explicit is h = absurd h
     by_shape (shape.OneofMember o) is h = absurd h
 
--- a list stands in a message, and its elements have a kind of numbers
+-- a list is in a message, and its elements have a kind of numbers
 packs : (pool : Types) (now : Part) (k : ℕ) (kd : Kind) → Means pool (part_context now) k 2 (purpose.Packed kd) → ((t : ℕ) × (v : Message) × (now ≡ message_part t v)) × IsTrue (is_packable kd)
 packs pool (message_part t v) k kd means = let found = packed_field (field_numbered k (message_fields pool t)) k 2 kd means in ((t, v, refl), found.6)
 packs pool (entry_part key k2 x d) k kd means = absurd means
@@ -160,7 +160,7 @@ at_list {pool} {m} {depth} {levels} {base} {p0} {frames} {scope} {now} {u} k kd 
           now_is = same ∙ ap (λ (z : ℕ). message_part j (with_elements pool z kd2 front w)) own ∙ ap (λ (z : Kind). message_part j (with_elements pool k z front w)) kind_is;
         }
 
--- ONE MORE ELEMENT: it goes to the end of the list, and one stands behind it
+-- ONE MORE ELEMENT: it goes to the end of the list, and the reader is after it
 pub list_goes_on :
     {pool : Types} {m depth levels : ℕ} {base : List Record} {p0 : Place} {frames : List Frame} {scope : Scope} {now : Part} {u w : Place} (k : ℕ) (kd : Kind) (outer : Option ℕ) (a : Number) (x : Scalar)
     → After pool m depth levels base p0 frames (step.Elements k kd outer) now scope u → wire_type (number_view a) ≡ wire_type_of kd → read kd (number_view a) ≡ Some x → is_undeclared pool (closed_enum kd) (number_view a) ≡ false
@@ -208,7 +208,7 @@ list_reading pool c t k kd is means =
     ap (λ (z : Context). (schema_of pool).reading z k) is ∙ ap (read_field (in_message t)) found ∙ ap (λ (z : Shape). read_shaped (in_message t) z f.kind) is_shape
     ∙ ap (read_listed (in_message t)) is_kind ∙ listed_reading (in_message t) kd can
 
--- THE END OF THE LIST: the record is whole, and one stands behind it in the part
+-- THE END OF THE LIST: the record is whole, and the reader is after it in the part
 pub list_over :
     {pool : Types} {m depth levels : ℕ} {base : List Record} {p0 : Place} {frames : List Frame} {scope : Scope} {now : Part} {u : Place} (k : ℕ) (kd : Kind) (outer : Option ℕ) → IsPool pool → CanHold pool now
     → After pool m depth levels base p0 frames (step.Elements k kd outer) now scope u → u.known ≡ Some 0
@@ -235,7 +235,7 @@ list_told {pool} {m} {depth} {p0 = p0} k kd outer g begun open_end bad =
     let list = at_list k kd outer begun in
     element_told g list.stands list.has (list_reading pool (context_of list.stands.open_now) list.message_type k kd list.stands.form list.means) list.length_is list.elements_are open_end bad
 
--- where the part holds the element too, one stands behind it
+-- where the part holds the element too, the reader is after it
 pub element_put :
     {pool : Types} {m depth levels : ℕ} {base : List Record} {p0 : Place} {frames : List Frame} {scope : Scope} {now : Part} {u w : Place} (k : ℕ) (kd : Kind) (outer : Option ℕ) (a : Number) (x : Scalar) (put : Part)
     → After pool m depth levels base p0 frames (step.Elements k kd outer) now scope u → wire_type (number_view a) ≡ wire_type_of kd → read kd (number_view a) ≡ Some x → is_undeclared pool (closed_enum kd) (number_view a) ≡ false

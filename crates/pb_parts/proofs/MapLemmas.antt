@@ -57,7 +57,7 @@ module _ {K X : Type 0} {R : K → K → Ordering} (o : IsTotalOrder R) where
   sorted_each [] es s = s
   sorted_each (x ∷ xs) es s = sorted_each xs (insert_entry R es x.0 x.1) (sorted_inserted x.0 x.1 es s)
 
-  -- WHAT STANDS under a key
+  -- WHAT IS under a key
   pub found_inserted : (k : K) (v : X) (q : K) (es : List (K × X)) → lookup (is_at (R q)) (insert_entry R es k v) ≡ cond (is_eq (R k q)) (Some v) (lookup (is_at (R q)) es)
   found_inserted k v q [] = ap (λ (b : Bool). cond b (Some v) None) (same_test o q k)
   found_inserted k v q (e ∷ es) = by_place (R k e.0) refl (found_inserted k v q es)

@@ -41,7 +41,7 @@ same_view (map_key.Bool x) (map_key.Bool y) h = ap boolean (exact_bools x y h)
 same_view (map_key.Text x) (map_key.Text y) h = ap text (exact_bytes (string_bytes x) (string_bytes y) h)
 same_view x y h = absurd (cc)
 
--- ENTRIES PUT IN AT ONCE stand for what they stand for where they are put in in turn
+-- ENTRIES PUT IN AT ONCE mean what they mean where they are put in in turn
 viewed : List (Scalar × Value) → Entries
 viewed [] = no_entries
 viewed (e ∷ es) = entry e.0 (value_view e.1) (viewed es)

@@ -1,4 +1,4 @@
--- A number behind its tag: the whole record, and what the part is worth with it.
+-- A number after its tag: the whole record, and what the part is worth with it.
 use Rattle.std.proofs.Common.{◌≡◌, ℕ, ◌%◌, ◌^◌, ◌<◌, List, [], ◌∷◌, length, map, refl, sym, ap, ◌∙◌, subst, arith, Option, Some, None, IsTrue}
 use Rattle.std.specs.Prelude.{Bool, true, false, not, ◌==◌, ◌&&◌}
 use Rattle.std.specs.Option.{option_to_list}
@@ -46,7 +46,7 @@ use Rattle.pb_parts.proofs.AfterLemmas.{at_tag}
 
 -- THE RECORD
 
--- a number behind its tag is a sound record
+-- a number after its tag is a sound record
 pub number_record :
     {S : Schema} (c : S.Context) (room k : ℕ) (a : Number) {q u w : Place} → HasTag q k (wire_type (number_view a)) u → Follows u (number_view a) w
     → RecordTo S c room q (record { number = k; payload = number_view a }) w
@@ -280,7 +280,7 @@ module _ {pool : Types} {m depth levels : ℕ} {base : List Record} {p0 : Place}
       value_stands key kd y d st (record { number = k; payload = p }) to x (ap (λ (z : ℕ). (z == 1) && fits_type (key_field key) (wire_type p)) second)
       (fits_is (value_field kd) k p (sym second) (ap (λ (z : ℕ). z == wire_type_of kd) type ∙ self_equal (wire_type_of kd))) none (ap (λ (z : Kind). elements z p) (sym is_value) ∙ is)
 
-  -- A VALUE IN A PART: one stands behind its record, and the part holds it
+  -- A VALUE IN A PART: the reader is after its record, and the part holds it
   pub scalar_record_stands : (now : Part) (meant : Purpose) (kd : Kind) → CanHold pool now → (st : Stands pool m depth levels base p0 frames now scope q)
       → RecordTo (schema_of pool) (context_of st.open_now) scope.room q (record { number = k; payload = p }) w → Means pool (part_context now) k (wire_type p) meant → scalar_kind meant ≡ Some kd
       → elements kd p ≡ x ∷ [] → (IsTrue (is_key_kind kd) → key_in (scalar x) ≡ Some x) → wire_type p ≡ wire_type_of kd → is_undeclared pool (closed_enum kd) p ≡ false → Stands pool m depth levels base p0 frames (put_datum pool k meant now (scalar x)) (one_more_in k scope) w
@@ -357,7 +357,7 @@ module _ {pool : Types} {m depth levels : ℕ} {base : List Record} {p0 u : Plac
   pub value_there : (x : Scalar) × (read kd (number_view a) ≡ Some x)
   value_there = read_some kd a (meant_type pool now k (wire_type (number_view a)) meant kd (at_tag (tag k (wire_type (number_view a)) meant) begun is).means of)
 
-  -- THE STEP: where the part holds what the number stands for, one stands behind it
+  -- THE STEP: where the part holds what the number means, the reader is after it
   pub number_put : {w : Place} (x : Scalar) (put : Part) → IsPool pool → CanHold pool now → read kd (number_view a) ≡ Some x → is_undeclared pool (closed_enum kd) (number_view a) ≡ false → Follows u (number_view a) w → put ≡ put_datum pool k meant now (scalar x)
       → Stands pool m depth levels base p0 frames put (one_more_in k scope) w
   number_put {w} x put ok can value declared follows made =

@@ -1,4 +1,4 @@
--- What pb_wire tells of a token, as what is told of a number.
+-- What pb_wire says of a token, as what is reported of a number.
 use Rattle.std.proofs.Common.{ℕ, ◌<◌, ◌^◌, ◌-◌, ◌++◌, refl, sym, ◌∙◌, arith, ◌≡◌, ◌≤◌, List, length, take, drop, ap, subst, append_assoc, Option, Some, None, IfSome}
 use Rattle.std.proofs.lemmas.List.{take-append-drop, drop-append-le, length-take}
 use Rattle.pb_wire.specs.Record.{Payload}
@@ -41,7 +41,7 @@ four_short p h = four_bytes refl h
 pub four_fault : (p : Place) (c : Cause) → TellsFixed32 p (wire.Fault c) → TellsNumber 5 p (token.Fault c)
 four_fault p c h = (h.0, four_bytes refl h.1)
 
--- WHAT IS TOLD of the number at the front of some bytes
+-- WHAT IS REPORTED of the number at the start of some bytes
 pub front_there :
     (at : ℕ) (left : Option ℕ) (rest : List ℕ) (o : Option (ℕ × ℕ)) (n size : ℕ) → o ≡ Some (n, size)
     → IfSome o (λ t. (t.1 ≤ length rest) × ReadsNumber (given_at at left rest) t.0 (passed (given_at at left rest) t.1)) → (size ≤ length rest) × ReadsNumber (given_at at left rest) n (passed (given_at at left rest) size)
@@ -61,7 +61,7 @@ number_some (number.I32 n) s (small, is) = let e = ap length is in omega (arith,
 pub size_some : (a : Number) (p : Place) (size : ℕ) → Follows p (number_view a) (passed p size) → 0 < size
 size_some a p size (front, spelled, moves) = let some = number_some a front spelled in let at = moves.at in omega (arith, some, at)
 
--- a number that stands whole in the first so many of some bytes stands whole at their front
+-- a number that is complete in a prefix of some bytes is complete in these
 pub follows_on :
     (x : Payload) (at size used : ℕ) (bytes rest : List ℕ) → rest ≡ take size bytes → used ≤ length rest → Follows (given_at at None rest) x (passed (given_at at None rest) used)
     → Follows (given_at at (Some size) bytes) x (passed (given_at at (Some size) bytes) used)

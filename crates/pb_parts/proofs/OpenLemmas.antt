@@ -102,7 +102,7 @@ message_in_pool pool k f j ok found is = named f.kind is (found_field pool k (λ
 abbrev pub payload_scope : ℕ → Place → ℕ → (ℕ → ℕ) → Scope
 payload_scope room t n counts = record { room = room; end = Some (t.at + n); counts = counts }
 
--- Behind the tag of the record of number n that comes next, and its length where it has one, a message of this type begins, in this scope.
+-- After the tag of the record of number n that comes next, and its length where it has one, a message of this type begins, in this scope.
 pub record Opens (pool : Types) (a : Open Context) (room n : ℕ) (q : Place) (j : ℕ) (group : Bool) (inner : Scope) (u : Place) : Type 0 where
   pub what : Open Context
   pub begun : Begun (schema_of pool) a room n q what inner.room u

@@ -213,7 +213,7 @@ means_group pool c k j (slot.Unknown n) means = absurd (field_slot (field_number
 
 -- A MESSAGE
 
--- what stands once the message is open that goes into a slot
+-- what holds once the message is open that goes into a slot
 abbrev IsOpen : Types → ℕ → ℕ → ℕ → List Record → Place → List Frame → Scope → ℕ → MessageId → Bool → Scope → Place → Part → Part → Slot → Type 0
 IsOpen pool m depth levels base p0 frames scope k j group inner u now left s =
     Stands pool m depth levels base p0 (record { part = left; number = k; slot = s; group = group; scope = scope } ∷ frames) (message_part j.0 (taken_message s now)) inner u
@@ -258,7 +258,7 @@ module _ {pool : Types} {m depth levels : ℕ} {base : List Record} {p0 : Place}
   into_message c v slot.Entry st opens means = absurd (field_slot (field_numbered k (message_fields pool c)) k (opening_type group) j slot.Entry means)
   into_message c v (slot.Unknown number) st opens means = absurd (field_slot (field_numbered k (message_fields pool c)) k (opening_type group) j (slot.Unknown number) means)
 
--- the message of an entry's value, behind its length
+-- the message of an entry's value, after its length
 into_entry :
     {pool : Types} {m depth levels : ℕ} {base : List Record} {p0 : Place} {frames : List Frame} {scope : Scope} {q r t : Place} (ok : IsPool pool) (k : ℕ) (j : MessageId) (n : ℕ) (counts : ℕ → ℕ) → ((i : ℕ) → counts i ≡ 0)
     → (key kd : Kind) (x : Option Scalar) (d : Option Datum) → Stands pool m depth levels base p0 frames (entry_part key kd x d) scope q → HasTag q k 2 r → HasLength r n t
@@ -273,7 +273,7 @@ into_entry {pool} {m} {depth} {levels} {base} {p0} {frames} {scope} {q} {r} {t} 
     Stands pool m depth levels base p0 (record { part = entry_part key kd x None; number = k; slot = slot.Entry; group = false; scope = scope } ∷ frames)
     (message_part j.0 z) (payload_scope scope.room t n counts) (payload_at t n)) (given_same d) named
 
--- a field's message stands a level below
+-- a field's message is a level below
 room_below : (s : Slot) (room : ℕ) → IsFieldSlot s → room_in s room ≡ room - 1
 room_below (slot.One s n) room h = refl
 room_below (slot.List n) room h = refl
@@ -288,7 +288,7 @@ some_below (slot.Map n) j room h some = some refl
 some_below slot.Entry j room h some = absurd h
 some_below (slot.Unknown n) j room h some = some refl
 
--- BEHIND ITS LENGTH
+-- AFTER ITS LENGTH
 pub message_opened :
     {pool : Types} {m depth levels : ℕ} {base : List Record} {p0 : Place} {frames : List Frame} {scope : Scope} {next : Step} {now : Part} {u t : Place} (k : ℕ) (j : MessageId) (s : Slot) (n : ℕ) (inner : Scope) (left : Part) (w : Message) → IsPool pool → CanHold pool now
     → After pool m depth levels base p0 frames next now scope u → awaited next ≡ Some (tag k 2 (purpose.Message j s)) → HasLength u n t → left ≡ without_message s now → w ≡ taken_message s now
@@ -318,7 +318,7 @@ message_opened {pool} {m} {depth} {levels} {base} {p0} {frames} {scope} {next} {
     from_part (slot.Unknown number) (entry_part key kd x d) st has means some room = absurd means
     from_part s (group_part us) st has means some room = absurd (cc)
 
--- BEHIND THE FIRST TAG OF ITS GROUP
+-- AFTER THE FIRST TAG OF ITS GROUP
 
 no_group_value : (kd : Kind) (j : ℕ) → message_of_kind kd ≡ Some j → 3 ≡ wire_type_of kd → is_of_proto2 kd ≡ false → ⊥
 no_group_value (kind.Group i) j is type none = false≢true (sym none)

@@ -1,4 +1,4 @@
--- What is open: a fault inside is the fault of the whole, and a payload that ends is one more record of what holds it.
+-- The open part: a fault inside is the fault of the whole, and a payload that ends is one more record of its parent.
 use Rattle.std.proofs.Common.{◌≡◌, ◌≢◌, ℕ, zero, suc, ◌+◌, ◌-◌, ◌*◌, ◌<◌, ◌≤◌, ◌^◌, List, [], ◌∷◌, ◌++◌, length, refl, sym, ap, ◌∙◌, subst, arith, append_assoc, Option, Some, None, All}
 use Rattle.std.specs.Prelude.{option_map}
 use Rattle.pb_wire.specs.Varint.{IsVarint}
@@ -19,7 +19,7 @@ use Rattle.pb_wire.specs.declared.fault.Cause.TheVariants.{Truncated}
 use Rattle.std.proofs.lemmas.List.Elements.{All-nil}
 use Rattle.pb_parts.specs.Open.Opened.{Behind, Begun, a_message, a_value, a_group, Opened, at_top, inner, below, outside}
 
--- WHERE A TAG STANDS A RECORD BEGINS
+-- WHERE THERE IS A TAG A RECORD BEGINS
 
 no_tag_in_nothing : {p q : Place} {k w : ℕ} → p.rest ≡ [] → HasTag p k w q → ⊥
 no_tag_in_nothing {p = p} e t = let n = fewer t.tag.0 t.tag.2 in let s = ends_some t.tag.0 t.tag.1.ends in let z : length p.rest ≡ 0 = ap length e in omega (arith, n, s, z)
@@ -30,14 +30,14 @@ begins_at_tag (in_group k c) t = λ e. no_tag_at_end e t
 
 -- A FAULT INSIDE
 
--- behind whole records, a record that has a fault gives it to what is open
+-- after whole records, a record that has a fault gives it to the open part
 pub bad_behind : {S : Schema} {o : Open S.Context} {room : ℕ} {p q : Place} {rs : List Record} {f : Fault} → Behind S o room p rs q → Begins o q → RecordFault S o rs room q f → Bad S o room p f
 bad_behind {rs = rs} h goes bad = Bad.at_record (rs, h.spelled, h.sound) h.moves goes bad
 
 one_step : (steps : List PathStep) (s : PathStep) (f : Fault) → below steps (inside s f) ≡ below (steps ++ s ∷ []) f
 one_step steps s f = ap (λ (z : List PathStep). record f { path = z }) (sym (append_assoc steps (s ∷ []) f.path))
 
--- a fault of what is open is a fault of the record that opened it
+-- a fault of the open part is a fault of the record that opened it
 pub bad_begun :
     {S : Schema} {a o : Open S.Context} {room below k : ℕ} {q u : Place} {f : Fault} (before : List Record) → Begun S a room k q o below u → Bad S o below u f → RecordFault S a before room q (inside (step k before) f)
 bad_begun {S} {a} {o} {room} {below} {k} {q} {u} {f} before (a_message {n = n} {d = d} {t = t} levels tag re l is_open is_place) bad =
@@ -55,7 +55,7 @@ begun_begins {a = a} (a_message levels tag re l is_open is_place) = begins_at_ta
 begun_begins {a = a} (a_value levels tag re l is_open is_place) = begins_at_tag a tag
 begun_begins {a = a} (a_group levels tag is_open is_place) = begins_at_tag a tag
 
--- a fault of what is open is the fault of the whole
+-- a fault of the open part is the fault of the whole
 pub lift :
     {S : Schema} {top : Open S.Context} {depth : ℕ} {p0 : Place} {o : Open S.Context} {room : ℕ} {path : List PathStep} {p : Place} (f : Fault)
     → Opened S top depth p0 o room path p → Bad S o room p f → Bad S top depth p0 (below path f)
@@ -140,7 +140,7 @@ len_record c room k n s tag l size m sound =
     (subst (λ (z : ℕ). z < 2 ^ 31) (sym size) l.small, l.length_is.0, subst (λ (z : ℕ). IsVarint z l.length_is.0) (sym size) l.length_is.1, refl) sound
     (moves_both l.length_is.0 s l.length_is.2 m)
 
--- a message or an entry that ends is one more record of what holds it
+-- a message or an entry that ends is one more record of its parent
 pub message_ends :
     {S : Schema} (c : S.Context) (room k n : ℕ) {d : S.Context} {q r t u : Place} {ss : List Record}
     → HasTag q k 2 r → S.reading c k ≡ message d → HasLength r n t → (h : Behind S (records d) room (payload_at t n) ss u) → u.known ≡ Some 0
@@ -165,7 +165,7 @@ group_ends c room k {ss = ss} tag h end =
     record_to c (suc room) k 3 (group (group_of ss)) (h.front ++ end.tag.0) tag refl (h.front, end.tag.0, SpellsGroup-from_records ss h.front h.spelled, end.tag.1, refl)
     (Sound.a_group refl h.sound) (moves_both h.front end.tag.0 h.moves end.tag.2)
 
--- what was begun ends at its known end, and is one more record of what holds it
+-- what was begun ends at its known end, and is one more record of its parent
 pub begun_ends :
     {S : Schema} (a o : Open S.Context) (room below k : ℕ) {q u v : Place} {ss : List Record} → Begun S a room k q o below u → (e : o ≡ records (context_of o)) → (h : Behind S o below u ss v) → v.known ≡ Some 0
     → (t : Place) × (n : ℕ) × RecordTo S (context_of a) room q (record { number = k; payload = len h.front }) (outside t n v)
@@ -197,7 +197,7 @@ begun_short (a_group levels tag is_open is_place) e h = absurd (cc)
 
 -- THE END OF THE INPUT
 
--- no bytes are left, and what is open does not end there
+-- no bytes are left, and the open part does not end there
 pub nothing_left : (q : Place) → q.rest ≡ [] → q.known ≢ Some 0 → VarintFault q (fault (input_end q) [] Truncated)
 nothing_left q none open_end = by_known q.known q.at q.rest none open_end
   where

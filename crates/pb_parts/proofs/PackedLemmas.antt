@@ -1,4 +1,4 @@
--- A packed list that is open: its whole elements so far stand in the field, and a fault of an element is told at once.
+-- A packed list that is open: its whole elements so far are in the field, and a fault of an element is reported at once.
 use Rattle.std.proofs.Common.{◌≡◌, ◌≢◌, ℕ, zero, suc, ◌<◌, List, [], ◌∷◌, ◌++◌, map, refl, sym, ap, ◌∙◌, subst, arith, append_assoc, Some}
 use Rattle.std.proofs.lemmas.List.{append-nil}
 use Rattle.std.specs.Prelude.{Bool, true, None}
@@ -42,7 +42,7 @@ pub element_told :
 element_told {u = u} {k = k} {front = front} g s tag re l h open_end bad =
     told_inside k 2 g s tag (RecordFault.in_a_list tag re l (front, u, h.whole, h.moves, open_end, bad) refl)
 
--- a packed list that ends is one more record, whose elements stand where they belong
+-- a packed list that ends is one more record, whose elements are where they belong
 pub list_ends :
     {pool : Types} {m depth levels : ℕ} {base : List Record} {p0 : Place} {frames : List Frame} {scope : Scope} {q r t u : Place} {n : ℕ} {e : Element} {front : List ℕ} (k : ℕ) (v : Message)
     → (s : Stands pool m depth levels base p0 frames (message_part k v) scope q) → AllDiffer (map (λ (f : FieldView). f.number) (message_fields pool k))

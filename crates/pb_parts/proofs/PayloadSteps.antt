@@ -1,4 +1,4 @@
--- A whole payload behind its length: how its record is read, what the part is worth with it, and how it is refused.
+-- A whole payload after its length: how its record is read, what the part is worth with it, and how it is refused.
 use Rattle.std.proofs.Common.{◌≡◌, ℕ, ◌<◌, ◌≤◌, ◌+◌, List, [], ◌∷◌, ◌++◌, length, take, refl, sym, ap, ◌∙◌, subst, arith, Option, Some, None, IsTrue, IsUtf8, ◌⊎◌, inl, inr}
 use Rattle.std.specs.Prelude.{Bool, true, false, ◌==◌, if◌then◌else◌}
 use Rattle.std.specs.Str.Lossy.{utf8_valid_len}
@@ -46,7 +46,7 @@ use Rattle.pb_parts.proofs.UnknownSteps.{unknown_part_stands}
 
 -- HOW THE RECORD OF A VALUE IS READ
 
--- the kind is one of texts, and the payload read as one, or of bytes, which are not looked into
+-- the kind is one of strings, and the payload read as one, or of bytes, which are not looked into
 data ReadsBytes (r : Reading Context) (kd : Kind) : Type 0 where
   a_text : kd ≡ kind.Text → r ≡ text_reading → ReadsBytes r kd
   some_bytes : kd ≡ kind.Bytes → r ≡ unread → ReadsBytes r kd
@@ -175,7 +175,7 @@ only_unknown (purpose.Entry key k) is of = absurd is
 
 -- THE VALUE
 
--- the one value that a payload of texts or bytes gives, which is a key where the kind is one of keys
+-- the one value that a payload of strings or bytes gives, which is a key where the kind is one of keys
 record Given (kd : Kind) (s : List ℕ) : Type 0 where
   value : Scalar
   reads : read kd (len s) ≡ Some value
@@ -186,7 +186,7 @@ given : {r : Reading Context} (kd : Kind) (s : List ℕ) → ReadsBytes r kd →
 given kd s (a_text is re) = subst (λ (z : Kind). Given z s) (sym is) (record { value = text s; reads = refl; alone = refl; keyed = λ _. refl })
 given kd s (some_bytes is re) = subst (λ (z : Kind). Given z s) (sym is) (record { value = bytes s; reads = refl; alone = refl; keyed = λ can. absurd (false≢true can) })
 
--- what is shown of a text that is not UTF-8 holds of the error
+-- what is shown of a string that is not UTF-8 holds of the error
 pub if_bad_text :
     (kd : Kind) (s : List ℕ) (e : PayloadError) (P : ℕ → Type 0) → IsPayloadError kd s e → ((valid : ℕ) → kd ≡ kind.Text → ¬ (IsUtf8 s) → valid ≡ utf8_valid_len s → P valid) → IfBadText e P
 if_bad_text kd s (error.BadText valid) P (is, wrong, len_is) shown = shown valid is wrong len_is
@@ -195,7 +195,7 @@ if_bad_text kd s error.Memory P h shown = tt
 pub bad_text_within : (kd : Kind) (s : List ℕ) (e : PayloadError) → IsPayloadError kd s e → IfBadText e (λ valid. valid ≤ length s)
 bad_text_within kd s e h = if_bad_text kd s e (λ valid. valid ≤ length s) h (λ valid is wrong len_is. subst (λ (z : ℕ). z ≤ length s) (sym len_is) (utf8_valid_len_le s))
 
--- THE STEP: the payload that comes next stands in full, and leads from u to w
+-- THE STEP: the payload that comes next is there in full, and leads from u to w
 module _ {pool : Types} {m depth levels : ℕ} {base : List Record} {p0 u : Place} {frames : List Frame} {scope : Scope} {now : Part} (k : ℕ) (meant : Purpose) (n : ℕ) (begun : After pool m depth levels base p0 frames (step.Payload k meant n) now scope u)
     (can : CanHold pool now) where
   -- how the record is read where it has a value
@@ -213,7 +213,7 @@ module _ {pool : Types} {m depth levels : ℕ} {base : List Record} {p0 u : Plac
   payload_sound kd s c (a_text is re) utf = Sound.a_text re (utf is)
   payload_sound kd s c (some_bytes is re) utf = Sound.some_bytes re
 
-  -- where the part holds its value, one stands behind it
+  -- where the part holds its value, the reader is after it
   pub payload_put : {w : Place} (kd : Kind) (s : List ℕ) (put : Part) → scalar_kind meant ≡ Some kd → IsPool pool → (kd ≡ kind.Text → IsUtf8 s) → length s ≡ n → Moves u s w
       → ((x : Scalar) → read kd (len s) ≡ Some x → put ≡ put_datum pool k meant now (scalar x)) → Stands pool m depth levels base p0 frames put (one_more_in k scope) w
   payload_put {w} kd s put of ok utf size moves made =
@@ -236,7 +236,7 @@ module _ {pool : Types} {m depth levels : ℕ} {base : List Record} {p0 u : Plac
       (len_record (context_of at.stands.open_now) scope.room k n s at.has at.length_is size moves (Sound.some_bytes (unread_here at unknown)))
       (subst (λ (z : Purpose). Means pool (part_context now) k 2 z) unknown at.means))
 
-  -- a text that is not UTF-8 is the fault of the whole, at its first wrong byte
+  -- a string that is not UTF-8 is the fault of the whole, at its first wrong byte
   pub text_told : {w : Place} (kd : Kind) (s : List ℕ) (valid : ℕ) → scalar_kind meant ≡ Some kd → length s ≡ n → Moves u s w → kd ≡ kind.Text → ¬ (IsUtf8 s) → valid ≡ utf8_valid_len s
       → Bad (schema_of pool) (records (in_message m)) depth p0 (below (path_of frames) (fault (u.at + valid) (next_step k scope ∷ []) BadText))
   text_told {w} kd s valid of size moves is wrong len_is =
@@ -251,7 +251,7 @@ module _ {pool : Types} {m depth levels : ℕ} {base : List Record} {p0 u : Plac
       as_text kd (a_text same re) is = re
       as_text kd (some_bytes same re) is = absurd (let both : kind.Bytes ≡ kind.Text = sym same ∙ is in cc)
 
-  -- HOW IT IS READ: its bytes are not looked into, or are a text
+  -- HOW IT IS READ: its bytes are not looked into, or are a string
   pub payload_reading : IsBytesPurpose meant → (at : AtPayload pool m depth levels base p0 frames now scope k meant n u)
       → ((schema_of pool).reading (context_of at.stands.open_now) k ≡ unread) ⊎ ((schema_of pool).reading (context_of at.stands.open_now) k ≡ text_reading)
   payload_reading is at = by_kind (scalar_kind meant) refl

@@ -1,4 +1,4 @@
--- Places in bytes, and the bytes behind so many of others.
+-- Places in bytes, and the bytes after this many of others.
 use Rattle.std.proofs.Common.{◌≡◌, ℕ, ◌+◌, ◌-◌, ◌≤◌, List, take, drop, length, refl, sym, ap, ◌∙◌, arith, length-drop, drop-drop, Option, Some, None, option_map}
 use Rattle.std.proofs.lemmas.List.{take_all, length-take-le}
 use Rattle.pb_wire.specs.Fault.{Place}
@@ -8,14 +8,14 @@ use Rattle.pb_wire.specs.Token.{given_at, passed}
 pub slice_from : (n : ℕ) (l : List ℕ) → take (length l - n) (drop n l) ≡ drop n l
 slice_from n l = take_all (length l - n) (drop n l) (let e = length-drop n l in omega (arith, e))
 
--- a slice of so many
+-- a slice of this many
 pub slice_size : (start size : ℕ) (l : List ℕ) → start + size ≤ length l → length (take ((start + size) - start) (drop start l)) ≡ size
 slice_size start size l within =
     let left = length-drop start l in
     let fits = length-take-le ((start + size) - start) (drop start l) (omega (arith, left, within)) in
     omega (arith, fits)
 
--- behind two numbers one stands behind the bytes of both
+-- two numbers take the bytes of both
 known_twice : (e : Option ℕ) (a b : ℕ) → option_map (λ (z : ℕ). z - b) (option_map (λ (z : ℕ). z - a) e) ≡ option_map (λ (z : ℕ). z - (a + b)) e
 known_twice None a b = refl
 known_twice (Some e) a b = let same : (e - a) - b ≡ e - (a + b) = omega arith in ap (λ (z : ℕ). Some z) same
@@ -27,6 +27,6 @@ passed_twice p a b =
     ∙ ap (λ (z : ℕ). record { at = z; known = option_map (λ (e : ℕ). e - (a + b)) p.known; rest = drop b (drop a p.rest) }) at
     ∙ ap (λ (z : List ℕ). record { at = p.at + (a + b); known = option_map (λ (e : ℕ). e - (a + b)) p.known; rest = z }) (drop-drop b a p.rest)
 
--- the bytes behind so many of those at a place
+-- the bytes after this many of those at a place
 pub place_behind : (at : ℕ) (left behind : Option ℕ) (rest : List ℕ) (used : ℕ) → behind ≡ option_map (λ (e : ℕ). e - used) left → passed (given_at at left rest) used ≡ given_at (at + used) behind (take (length rest - used) (drop used rest))
 place_behind at left behind rest used is = ap (λ (z : Option ℕ). given_at (at + used) z (drop used rest)) (sym is) ∙ ap (given_at (at + used) behind) (sym (slice_from used rest))

@@ -17,7 +17,7 @@ occurrence-push k (x ∷ rs) r = grind (arith, nat_tests, occurrence-push k rs r
 pub counts_of_push : (count : ℕ → ℕ) (rs : List Record) (r : Record) → CountsOf count rs → CountsOf (one_more_of r.number count) (rs ++ r ∷ [])
 counts_of_push count rs r counts k = rw (counts k) (sym (occurrence-push k rs r))
 
--- no number stands more often than there are records
+-- no number occurs more often than there are records
 pub occurrence-le-length : (k : ℕ) (rs : List Record) → (step k rs).occurrence ≤ length rs
 occurrence-le-length k [] = omega arith
 occurrence-le-length k (x ∷ rs) = grind (arith, nat_tests, occurrence-le-length k rs)

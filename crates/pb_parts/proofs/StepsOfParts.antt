@@ -51,7 +51,7 @@ module _ {pool : Types} {m depth levels : ℕ} {base : List Record} {p0 : Place}
   pub unknown_stands : IsWhole (message_fields pool k) r → counts pool (message_fields pool k) r ≡ false → Stands pool m depth levels base p0 frames (message_part k (body (fields_of v) (unknown_of v ++ r ∷ []))) (one_more_in r.number scope) u
   unknown_stands whole none = by_step (λ y. body (fields_of y) (unknown_of y ++ r ∷ [])) (λ l. message_unknown pool l k differ (s.earlier ++ s.records_so_far) r whole none)
 
--- THE END OF A GROUP: it goes into its slot, and one stands behind its end tag in what holds it
+-- THE END OF A GROUP: it goes into its slot, and the reader is after its end tag in its parent
 records_again : (rs : List Record) → records_in (group_of rs) ≡ rs
 records_again [] = refl
 records_again (r ∷ rs) = ap (λ (z : List Record). r ∷ z) (records_again rs)

@@ -35,7 +35,7 @@ use Rattle.pb_parts.proofs.AfterLemmas.{at_tag, told_here, told_inside}
 
 -- TAGS
 
--- where a whole number stands a record begins
+-- where there is a whole number a record begins
 pub begins_at_number : {C : Type 0} (o : Open C) {q u : Place} {n : ℕ} → Reads q n u → Begins o q
 begins_at_number {C} o {q} {u} {n} h = by_open o
   where
@@ -178,7 +178,7 @@ allowed_field room t k (Some f) (purpose.Entry key k2) h some = allowed_shape ro
 allowed_field room t k (Some f) (purpose.Key k2) h some = allowed_shape room t k f.kind f.shape (purpose.Key k2) h.1 some
 allowed_field room t k (Some f) (purpose.EntryValue k2) h some = allowed_shape room t k f.kind f.shape (purpose.EntryValue k2) h.1 some
 
--- in an entry nothing stands a level below
+-- in an entry nothing is a level below
 allowed_explicit : (room : ℕ) (key kd k : Kind) → IsAllowed room (read_singular (an_entry key kd) k)
 allowed_explicit room key kd (kind.Message j) = tt
 allowed_explicit room key kd kind.Text = tt

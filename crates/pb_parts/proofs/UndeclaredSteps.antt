@@ -106,7 +106,7 @@ module _ {pool : Types} {m depth levels : ℕ} {base : List Record} {p0 : Place}
   undeclared_record_stands now (purpose.Entry k2 k3) kd can st to means of type undeclared = absurd (cc)
   undeclared_record_stands now purpose.Unknown kd can st to means of type undeclared = absurd (cc)
 
--- THE STEP: where the part holds the undeclared number, one stands behind it
+-- THE STEP: where the part holds the undeclared number, the reader is after it
 pub undeclared_put :
     {pool : Types} {m depth levels : ℕ} {base : List Record} {p0 u w : Place} {frames : List Frame} {scope : Scope} {next : Step} {now : Part} (k : ℕ) (a : Number) (meant : Purpose) (kd : Kind) (put : Part)
     → After pool m depth levels base p0 frames next now scope u → awaited next ≡ Some (tag k (wire_type (number_view a)) meant) → scalar_kind meant ≡ Some kd → IsPool pool → CanHold pool now

@@ -160,7 +160,7 @@ unknown_part_stands ok k p (entry_part key kd x d) can s h means =
 unknown_part_stands ok k p (group_part us) can s h means =
     one_more s (record { number = k; payload = p }) (group_part (us ++ record { number = k; payload = p } ∷ [])) h tt (ap (λ (z : List Record). z ++ record { number = k; payload = p } ∷ []) s.worth)
 
--- THE STEP: where the part holds the unknown number, one stands behind it
+-- THE STEP: where the part holds the unknown number, the reader is after it
 pub unknown_put :
     {pool : Types} {m depth levels : ℕ} {base : List Record} {p0 u w : Place} {frames : List Frame} {scope : Scope} {next : Step} {now : Part} (k : ℕ) (a : Number) (meant : Purpose) (put : Part) → After pool m depth levels base p0 frames next now scope u
     → awaited next ≡ Some (tag k (wire_type (number_view a)) meant) → scalar_kind meant ≡ None → IsPool pool → CanHold pool now → Follows u (number_view a) w → put ≡ put_record k (number_view a) now → Stands pool m depth levels base p0 frames put (one_more_in k scope) w

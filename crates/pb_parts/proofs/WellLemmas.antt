@@ -1,4 +1,4 @@
--- What is open is well formed wherever one stands: its bytes are bytes, and what it goes on from is well formed.
+-- The open part is well formed wherever the reader is: its bytes are bytes, and what it goes on from is well formed.
 use Rattle.std.proofs.Common.{◌≡◌, ℕ, zero, suc, ◌<◌, ◌≤◌, List, [], ◌∷◌, ◌++◌, length, refl, sym, subst, arith, Option, Some, None, IfSome, IsTrue}
 use Rattle.std.specs.Prelude.{false, unwrap_or, IsSomeAnd}
 use Rattle.std.specs.List.{AllByRecursion}
@@ -53,7 +53,7 @@ begun_bytes (opened.a_value levels tag re l is_open is_place) h =
     subst (λ (z : Place). AreBytes z.rest) (sym is_place) (moved_bytes l.length_is.0 l.length_is.2 (moved_bytes tag.tag.0 tag.tag.2 h).1).1
 begun_bytes (opened.a_group levels tag is_open is_place) h = subst (λ (z : Place). AreBytes z.rest) (sym is_place) (moved_bytes tag.tag.0 tag.tag.2 h).1
 
--- the bytes of what is open
+-- the bytes of the open part
 pub held_bytes :
     {pool : Types} {m depth levels : ℕ} {base : List Record} {p0 : Place} {frames : List Frame} {now : Part} {o : Open Context} {room inner : ℕ} {path : List PathStep} {p : Place} {earlier : List Record}
     → Held pool m depth levels base p0 frames now o room inner path p earlier → AreBytes p0.rest → AreBytes p.rest
@@ -140,7 +140,7 @@ pub value_no_proto2 :
     → Stands pool m depth levels base p0 frames (entry_part key kd x d) scope q → is_of_proto2 kd ≡ false
 value_no_proto2 key kd x d s = (goes_on_held s.held).3
 
--- A PART MAY BE CHANGED wherever one stands
+-- A PART MAY BE CHANGED wherever the reader is
 pub can_hold :
     {pool : Types} {m depth levels : ℕ} {base : List Record} {p0 : Place} {frames : List Frame} {scope : Scope} {q : Place} (ok : IsPool pool) (now : Part)
     → Stands pool m depth levels base p0 frames now scope q → CanHold pool now
@@ -185,7 +185,7 @@ module _ {pool : Types} {m depth levels : ℕ} {base : List Record} {p0 : Place}
       let deep = s.deep in
       (made.0, omega (arith, low, deep))
 
--- AN ENTRY THAT GOES INTO A MAP: its key is of the kind of those that stand there
+-- AN ENTRY THAT GOES INTO A MAP: its key is of the kind of those that are there
 pub fits_keys :
     {pool : Types} {m depth levels : ℕ} {base : List Record} {p0 : Place} {frame : Frame} {frames : List Frame} {scope : Scope} {q : Place} (ok : IsPool pool) (key kd : Kind) (x : Option Scalar) (d : Option Datum) (k n : ℕ) (v : Message)
     → Stands pool m depth levels base p0 (frame ∷ frames) (entry_part key kd x d) scope q → frame.part ≡ message_part k v → frame.slot ≡ slot.Map n

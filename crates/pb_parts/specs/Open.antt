@@ -1,4 +1,4 @@
--- What is open, what records are for in it, and what they open.
+-- The open parts, what records are for in them, and what they open.
 pub mod Opened
 pub mod Frames
 pub mod PartView

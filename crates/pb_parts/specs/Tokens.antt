@@ -1,4 +1,4 @@
--- Tags, lengths and numbers at the front of bytes, and what comes next.
+-- Tags, lengths and numbers at the start of bytes, and what comes next.
 pub mod Number
 pub mod Numbers
 pub mod After

@@ -6,7 +6,7 @@ ghost use Rattle.pb_value.specs.declared.error.ValueError.TheVariants as value;
 use pb_value::ValueError;
 use std::alloc::{AllocError, AllocFailed};
 
-/// A growth was refused. What is put into a message fails for that alone, and this takes no room where it goes well.
+/// An allocation was refused. Putting something into a message fails for that alone, and this takes no space where it goes well.
 #[derive(Clone, Copy)]
 pub struct NoMemory;
 
@@ -22,7 +22,7 @@ impl<T: Drop> From<AllocFailed<T>> for NoMemory {
     }
 }
 
-/// Why a change failed that fails for want of memory alone.
+/// Why a change failed that fails only when out of memory.
 pub(crate) fn memory_alone(cause: ValueError) -> NoMemory
     requires { cause ≡ value.Memory }
 {

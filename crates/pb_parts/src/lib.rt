@@ -1,10 +1,10 @@
-//! What is open of a message while it is read, and what each record makes of it.
+//! The open parts of a message while it is read, and what each record makes of them.
 //!
 //! A part is open from the record that begins it up to its end: a message, an entry of a map, or a group of which the schema knows
-//! nothing. `tokens` tells what stands at the front of bytes, `open` what a record is for in a part and what it opens, `values` puts
+//! nothing. `tokens` says what is at the start of bytes, `open` what a record is for in a part and what it opens, `values` puts
 //! what it gives there, and `close` puts a part that ends into the one around it.
 //!
-//! An inner crate: `pb_decode` stands on it, and moves along the bytes.
+//! An inner crate: `pb_decode` is built on it, and moves along the bytes.
 #![tactic(auto)]
 
 pub mod close;

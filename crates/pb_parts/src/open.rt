@@ -1,4 +1,4 @@
-//! What is open, what records are for in it, and what they open.
+//! The open parts, what records are for in them, and what they open.
 
 pub mod known_purpose;
 pub mod occurrences;

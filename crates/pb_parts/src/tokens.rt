@@ -1,4 +1,4 @@
-//! What stands at the front of bytes, and what comes next behind it: tags, lengths and numbers.
+//! What is at the start of bytes, and what comes next after it: tags, lengths and numbers.
 
 pub mod begin;
 pub mod front;

@@ -1,4 +1,4 @@
--- What closing does, wherever one stands: behind it one stands in what holds the part. Each holds of any type, any levels, any records before and any first
+-- What closing does, wherever the reader is: after it the reader is in the parent of the part. Each holds of any type, any levels, any records before and any first
 -- place.
 use Rattle.std.specs.Prelude.{◌≡◌, ℕ, Bool, true, false, List, ◌∷◌, Some, Result, OnOk}
 use Rattle.pb_wire.specs.Record.{Record}

@@ -9,7 +9,7 @@ use Rattle.pb_parts.specs.declared.open.part.Slot.{Slot}
 use Rattle.pb_parts.specs.declared.open.part.Slot.TheVariants as slot
 use Rattle.pb_parts.specs.Open.Frames.{Part, message_part, entry_part, group_part}
 
--- an entry with this key, or with none, can go into the slot: the keys that stand in the map are of one kind with it
+-- an entry with this key, or with none, can go into the slot: the keys that are in the map are of one kind with it
 abbrev pub HasRoomFor : Slot → Part → Kind → Option Scalar → Type 0
 HasRoomFor (slot.Map n) (message_part m v) key x = FitsKeys (unwrap_or x (default_of key)) (entries_of (get_field n (fields_of v)))
 HasRoomFor (slot.Map n) (entry_part k v y d) key x = Unit {0}

@@ -1,4 +1,4 @@
--- What a run of map entries makes of the part that their map stands in.
+-- What a run of map entries makes of the part that their map is in.
 use Rattle.std.specs.Prelude.{ℕ, List, [], ◌∷◌, map}
 use Rattle.std.specs.declared.cmp.Ordering.{Ordering}
 use Rattle.std.specs.BTreeMap.{insert_entry}
@@ -20,7 +20,7 @@ abbrev pub put_pairs : List (Scalar × Datum) → Entries → Entries
 put_pairs [] es = es
 put_pairs (x ∷ xs) es = put_pairs xs (put_entry x.0 x.1 es)
 
--- each key is of one kind with those that stand there when its turn comes
+-- each key is of one kind with those that are there when its turn comes
 abbrev pub FitInTurn : List (Scalar × Datum) → Entries → Type 0
 FitInTurn [] es = Unit {0}
 FitInTurn (x ∷ xs) es = FitsKeys x.0 es × FitInTurn xs (put_entry x.0 x.1 es)
@@ -46,7 +46,7 @@ abbrev pub put_all_mapped : ℕ → List (Scalar × Datum) → Part → Part
 put_all_mapped n [] p = p
 put_all_mapped n (x ∷ xs) p = put_all_mapped n xs (put_mapped n x p)
 
--- the key of an entry is of one kind with those that stand in the map of number n
+-- the key of an entry is of one kind with those that are in the map of number n
 abbrev pub FitsMapped : ℕ → Scalar → Part → Type 0
 FitsMapped n x (message_part m v) = FitsKeys x (entries_of (get_field n (fields_of v)))
 FitsMapped n x (entry_part key k y d) = Unit {0}

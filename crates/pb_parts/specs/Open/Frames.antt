@@ -53,7 +53,7 @@ put_group (slot.List n) p us = p
 put_group (slot.Map n) p us = p
 put_group slot.Entry p us = p
 
--- An entry into a map. Where its key or value is missing the default stands there. Messages alone have maps, and no other slot takes an entry.
+-- An entry into a map. A missing key or value is the default. Messages alone have maps, and no other slot takes an entry.
 abbrev pub put_entry : Slot → Part → Kind → Kind → Option Scalar → Option Datum → Part
 put_entry (slot.Map n) (message_part m v) key k x d =
     message_part m (with_fields v (insert_at n (unwrap_or x (default_of key)) (unwrap_or d (missing (λ _ _. empty) k)) (fields_of v)))
@@ -96,7 +96,7 @@ IsSameForm (group_part us) (entry_part key k x d) = ⊥
 IsSameForm (group_part us) (group_part vs) = Unit {0}
 
 -- what is kept of an open part beside what there is of it: the levels left, where its known end is, and how many whole records of each number
--- stand in it so far
+-- are in it so far
 pub record Scope : Type 0 where
   pub room : ℕ
   pub end : Option ℕ
@@ -110,7 +110,7 @@ one_more_in k scope = record scope { counts = one_more_of k scope.counts }
 abbrev pub next_step : ℕ → Scope → PathStep
 next_step k scope = record { number = k; occurrence = scope.counts k }
 
--- a part that holds what is open inside it, the number of that record, where that goes, whether an end tag ends it, and the scope of the part up to that
+-- a part that holds the open part inside it, the number of that record, where that goes, whether an end tag ends it, and the scope of the part up to that
 -- record
 pub record Frame : Type 0 where
   pub part : Part
@@ -122,11 +122,11 @@ pub record Frame : Type 0 where
 abbrev pub frame_of : Part → ℕ → Slot → Bool → Scope → Frame
 frame_of p n s g scope = record { part = p; number = n; slot = s; group = g; scope = scope }
 
--- the wire type of a record that has a group open, or a payload behind a length
+-- the wire type of a record that has a group open, or a payload after a length
 abbrev pub opening_type : Bool → ℕ
 opening_type g = if g then 3 else 2
 
--- and that of what is open
+-- and that of the open part
 abbrev pub open_type : Open Context → ℕ
 open_type (records c) = 2
 open_type (in_group k c) = 3
@@ -203,7 +203,7 @@ Takes (slot.Unknown n) (group_part vs) (message_part m v) = ⊥
 Takes (slot.Unknown n) (group_part vs) (entry_part key k x d) = ⊥
 Takes (slot.Unknown n) (group_part vs) (group_part us) = Unit {0}
 
--- These frames, innermost first, hold what is open: it has so many levels left and may hold so many levels of values, stands below this path, begins at p,
+-- These frames, innermost first, hold the open part: it has this many levels left and may hold this many levels of values, is below this path, begins at p,
 -- and goes on from the earlier records.
 pub data Held (pool : Types) (m depth levels : ℕ) (base : List Record) (p0 : Place) :
     List Frame → Part → Open Context → ℕ → ℕ → List PathStep → Place → List Record → Type 0 where
@@ -222,8 +222,8 @@ pub data Held (pool : Types) (m depth levels : ℕ) (base : List Record) (p0 : P
       → GoesOnFrom pool inner now earlier → Takes frame.slot frame.part now × (opening_type frame.group ≡ open_type o)
       → Held pool m depth levels base p0 (frame ∷ frames) now o below inner path u earlier
 
--- What there is of the innermost part is worth the earlier records and those behind the place where one stands, and its scope tells what is left there
--- and what stood there.
+-- What there is of the innermost part is worth the earlier records and those after the reader's position, and its scope says what is left there
+-- and what was there.
 pub record Stands
     (pool : Types) (m depth levels : ℕ) (base : List Record) (p0 : Place) (frames : List Frame) (now : Part) (scope : Scope) (q : Place) : Type 0 where
   pub open_now : Open Context

@@ -1,4 +1,4 @@
--- How many whole records of each number stand in a payload so far.
+-- How many whole records of each number are in a payload so far.
 use Rattle.std.specs.Prelude.{◌≡◌, ℕ, suc, ◌<◌, ◌≤◌, List, length, slice_index_or, ◌==◌, if◌then◌else◌, Option, Some, IsSome, unwrap_or}
 use Rattle.std.specs.Map.{lookup}
 use Rattle.std.specs.BTreeMap.{BTreeMap, get}
@@ -6,11 +6,11 @@ use Rattle.std.specs.Ordering.{nat_cmp}
 use Rattle.pb_wire.specs.Record.{Record}
 use Rattle.pb_wire.specs.Fault.{step}
 
--- the count that stands first with the number
+-- the count that is first with the number
 abbrev pub found : ℕ → List (ℕ × ℕ) → Option ℕ
 found number counts = lookup (λ k. number == k) counts
 
--- how many records of the number the counts tell
+-- how many records of the number there are by the counts
 abbrev pub counts_view : List (ℕ × ℕ) → ℕ → ℕ
 counts_view counts number = unwrap_or (found number counts) 0
 

@@ -1,4 +1,4 @@
--- What is open at a place of a text: the top, and in it messages, map entries and groups, each begun behind whole sound records of what holds it.
+-- The open parts at a place of an input: the top, and in it messages, map entries and groups, each begun after whole sound records of its parent.
 use Rattle.std.specs.Prelude.{◌≡◌, ℕ, suc, ◌-◌, List, [], ◌∷◌, ◌++◌, option_map}
 use Rattle.pb_wire.specs.Record.{Record}
 use Rattle.pb_wire.specs.Spell.{AreRecords}
@@ -8,14 +8,14 @@ use Rattle.pb_wire.specs.Schema.{Schema, message, same_level, Open, records, in_
 use Rattle.pb_wire.specs.Sound.{AllSound}
 use Rattle.pb_wire.specs.Grammar.{payload_at}
 
--- these whole sound records of what is open lead from p to q
+-- these whole sound records of the open part lead from p to q
 pub record Behind (S : Schema) (o : Open S.Context) (room : ℕ) (p : Place) (rs : List Record) (q : Place) : Type 0 where
   pub front : List ℕ
   pub spelled : AreRecords rs front
   pub sound : AllSound S (context_of o) room rs
   pub moves : Moves p front q
 
--- Behind the tag that stands at q a payload or a group is open: `o`, with so many levels left, which begins at u. It stands in `a`, which has room levels
+-- After the tag that is at q a payload or a group is open: `o`, with this many levels left, which begins at u. It is in `a`, which has `room` levels
 -- left.
 pub data Begun (S : Schema) (a : Open S.Context) (room k : ℕ) (q : Place) : Open S.Context → ℕ → Place → Type 0 where
   a_message :
@@ -37,7 +37,7 @@ pub data Opened (S : Schema) (top : Open S.Context) (depth : ℕ) (p0 : Place) :
       → Opened S top depth p0 a room steps p → Behind S a room p rs q → Begun S a room k q o below u
       → path ≡ steps ++ step k rs ∷ [] → Opened S top depth p0 o below path u
 
--- the fault of what is open, as the fault of the whole
+-- the fault of the open part, as the fault of the whole
 abbrev pub below : List PathStep → Fault → Fault
 below path f = record f { path = path ++ f.path }
 

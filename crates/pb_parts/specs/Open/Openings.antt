@@ -43,7 +43,7 @@ without_message (slot.List n) p = p
 without_message (slot.Map n) p = p
 without_message (slot.Unknown n) p = p
 
--- how many levels are left in a message that is opened for a slot: that of an entry stands at the level of the entry
+-- how many levels are left in a message that is opened for a slot: that of an entry is at the level of the entry
 abbrev pub room_in : Slot → ℕ → ℕ
 room_in slot.Entry room = room
 room_in (slot.One s n) room = room - 1
@@ -51,7 +51,7 @@ room_in (slot.List n) room = room - 1
 room_in (slot.Map n) room = room - 1
 room_in (slot.Unknown n) room = room - 1
 
--- the number of the group that is open innermost, if an end tag ends what is open there
+-- the number of the group that is open innermost, if an end tag ends the open part there
 abbrev pub innermost_group : List Frame → Option ℕ
 innermost_group [] = None
 innermost_group (frame ∷ frames) = if frame.group then Some frame.number else None

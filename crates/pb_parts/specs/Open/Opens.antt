@@ -1,4 +1,4 @@
--- What opening a part does, wherever one stands: behind it one stands in the new part. Each holds of any type, any levels, any records before and any
+-- What opening a part does, wherever the reader is: after it the reader is in the new part. Each holds of any type, any levels, any records before and any
 -- first place.
 use Rattle.std.specs.Prelude.{◌≡◌, ℕ, ◌+◌, ◌<◌, List, ◌∷◌}
 use Rattle.pb_wire.specs.Record.{Record}
@@ -16,14 +16,14 @@ use Rattle.pb_parts.specs.Open.PartView.{part_view, scope_view, frame_view}
 use Rattle.pb_parts.specs.Open.Purposes.{Means, part_context}
 use Rattle.pb_parts.specs.Tokens.After.{After}
 
--- behind a length its payload is open, up to its end, and the frame is that of what holds it
+-- after a length its payload is open, up to its end, and the frame is that of its parent
 abbrev pub OpensAtLength : ℕ → Purpose → ℕ → Part → Scope → FrameKept → Part → Scope → Type 0
 OpensAtLength number meant end outer around frame inner scope =
     (pool : Types) (m depth levels n : ℕ) (base : List Record) (p0 u t : Place) (frames : List Frame)
     → IsPool pool → CanHold pool (part_view outer) → After pool m depth levels base p0 frames (step.Length number meant) (part_view outer) (scope_view around) u
     → HasLength u n t → end ≡ t.at + n → Stands pool m depth levels base p0 (frame_view frame ∷ frames) (part_view inner) (scope_view scope) (payload_at t n)
 
--- behind the first tag of a group the group is open
+-- after the first tag of a group the group is open
 abbrev pub OpensAtTag : ℕ → Purpose → Part → Scope → FrameKept → Part → Scope → Type 0
 OpensAtTag number meant outer around frame inner scope =
     (pool : Types) (m depth levels : ℕ) (base : List Record) (p0 q u : Place) (frames : List Frame)

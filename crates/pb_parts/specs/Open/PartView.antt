@@ -1,4 +1,4 @@
--- What the parts of a decoder stand for.
+-- What the parts of a decoder mean.
 use Rattle.std.specs.Prelude.{option_map}
 use Rattle.pb_wire.specs.Unknown.{records_of}
 use Rattle.pb_value.specs.View.{body_view, key_view, value_view}

@@ -1,4 +1,4 @@
--- What a record of a number and a wire type is for, by what it stands in.
+-- What a record of a number and a wire type is for, by its parent.
 use Rattle.std.specs.Prelude.{◌≡◌, ℕ, true, false, Option, Some, None, IsTrue}
 use Rattle.pb_schema.specs.declared.types.Kind.{Kind}
 use Rattle.pb_schema.specs.declared.types.Shape.{Shape}
@@ -113,7 +113,7 @@ IsNoMessage (purpose.Key k) = Unit {0}
 IsNoMessage (purpose.EntryValue k) = Unit {0}
 IsNoMessage purpose.Unknown = Unit {0}
 
--- what a record is for that stands in a context
+-- what a record is for in a context
 abbrev pub Means : Types → Context → ℕ → ℕ → Purpose → Type 0
 Means pool (a_message m) n w p = AtField (field_numbered n (message_fields pool m)) n w p
 Means pool (an_entry key k) n w p = OfEntry key k n w p

@@ -1,4 +1,4 @@
--- What is begun behind the last whole record.
+-- What is begun after the last whole record.
 use Rattle.std.specs.Prelude.{◌≡◌, ◌<◌, Bool, true, false, if◌then◌else◌, ℕ, List, [], ◌∷◌, map, Option, Some, None}
 use Rattle.pb_wire.specs.Record.{Payload, len, Record}
 use Rattle.pb_wire.specs.Fault.{Place, Moves, HasTag, HasLength}
@@ -62,7 +62,7 @@ abbrev pub with_elements : Types → ℕ → Kind → List ℕ → Message → M
 with_elements pool n (kind.ClosedEnum e) front v = with_numbers pool n (kind.ClosedEnum e) (numbers_of 0 front) v
 with_elements pool n k front v = with_each n (map scalar (elements k (len front))) v
 
--- what a record of this purpose opens stands a level below; the value of an entry stands at the level of the entry
+-- what a record of this purpose opens is a level below; the value of an entry is at the level of the entry
 abbrev pub goes_down : Purpose → Bool
 goes_down (purpose.Message j slot.Entry) = false
 goes_down (purpose.Message j (slot.One s n)) = true
@@ -94,7 +94,7 @@ end_of_part (step.Elements n k outer) end = outer
 abbrev pub part_scope : Step → Scope → Scope
 part_scope next scope = record scope { end = end_of_part next scope.end }
 
--- Behind the last whole record, which ends at q, and where the part was v with so many levels left: what comes next is `next`, one stands at u, and
+-- After the last whole record, which ends at q, and where the part was v with this many levels left: what comes next is `next`, the reader is at u, and
 -- the part is now `now`.
 pub data Underway (pool : Types) (room : ℕ) (v : Part) (q : Place) : Step → Part → Place → Type 0 where
   nothing : {next : Step} {now : Part} {u : Place} → next ≡ step.Tag → now ≡ v → u ≡ q → Underway pool room v q next now u
@@ -112,7 +112,7 @@ pub data Underway (pool : Types) (room : ℕ) (v : Part) (q : Place) : Step → 
       → Elements (element_of kd) (payload_at t n) u front → v ≡ message_part m w
       → now ≡ message_part m (with_elements pool k kd front w) → Underway pool room v q next now u
 
--- These frames and this part are what there is of the bytes from p0 on, and one stands at u, where `next` comes. The scope is that of the part; inside
+-- These frames and this part are what there is of the bytes from p0 on, and the reader is at u, where `next` comes. The scope is that of the part; inside
 -- a packed list its end is the list's.
 pub record After
     (pool : Types) (m depth levels : ℕ) (base : List Record) (p0 : Place) (frames : List Frame) (next : Step) (now : Part) (scope : Scope)

@@ -1,4 +1,4 @@
--- Numbers at the front of bytes.
+-- Numbers at the start of bytes.
 use Rattle.std.specs.Prelude.{◌≡◌, ◌≢◌, ◌≤◌, length, ℕ, []}
 use Rattle.pb_wire.specs.Record.{Payload, wire_type}
 use Rattle.pb_wire.specs.Spell.{Body}
@@ -13,7 +13,7 @@ use Rattle.pb_parts.specs.Tokens.Number.{number_view}
 abbrev pub Follows : Place → Payload → Place → Type 0
 Follows u p w = Leads (Body 0 p) u w
 
--- the number that begins here, behind a tag of this wire type, has this fault
+-- the number that begins here, after a tag of this wire type, has this fault
 pub data NumberFault (w : ℕ) (u : Place) (g : Fault) : Type 0 where
   a_varint : w ≡ 0 → VarintFault u g → NumberFault w u g
   eight_bytes : w ≡ 1 → FixedFault 8 u g → NumberFault w u g
@@ -23,11 +23,11 @@ pub data NumberFault (w : ℕ) (u : Place) (g : Fault) : Type 0 where
 abbrev pub IsCutVarint : Place → Type 0
 IsCutVarint p = VarintFault p (fault (input_end p) [] Truncated)
 
--- or inside the number, behind a tag of this wire type
+-- or inside the number, after a tag of this wire type
 abbrev pub IsCutNumber : ℕ → Place → Type 0
 IsCutNumber w p = NumberFault w p (fault (input_end p) [] Truncated)
 
--- the number at p, behind a tag of this wire type, is this one and takes so many bytes; or the input ends inside it; or it has another fault
+-- the number at p, after a tag of this wire type, is this one and takes this many bytes; or the input ends inside it; or it has another fault
 abbrev pub TellsNumber : ℕ → Place → NumberToken → Type 0
 TellsNumber w p (token.Whole a size) = (wire_type (number_view a) ≡ w) × (size ≤ length p.rest) × Follows p (number_view a) (passed p size)
 TellsNumber w p token.Short = IsCutNumber w p

@@ -1,4 +1,4 @@
--- What is told of whole tokens, wherever one stands: what comes next behind them, or that they are the fault of what is read, of any type, any levels,
+-- What is reported of whole tokens, wherever the reader is: what comes next after them, or that they are the fault of what is read, of any type, any levels,
 -- any records before and any first place.
 use Rattle.std.specs.Prelude.{◌≡◌, ◌≢◌, ℕ, ◌+◌, ◌≤◌, List, [], length, Option, Some, Result, IfErr, IfSome, IfNone}
 use Rattle.pb_wire.specs.Record.{Record}
@@ -23,16 +23,16 @@ use Rattle.pb_parts.specs.Open.PartView.{part_view, scope_view}
 use Rattle.pb_parts.specs.Tokens.After.{tag, awaited, After}
 use Rattle.pb_parts.specs.Values.PayloadValue.{IsBytesPurpose}
 
--- this is the fault of what stands from p0 on
+-- this is the fault of the bytes from p0 on
 abbrev pub IsBad : Types → ℕ → ℕ → Place → Fault → Type 0
 IsBad pool m depth p0 f = Bad (schema_of pool) (records (a_message m)) depth p0 f
 
--- a number stands here, and takes so many of the bytes
+-- a number is here, and takes this many of the bytes
 abbrev pub IsNumberAt : Place → ℕ × ℕ → Type 0
 IsNumberAt p t = (t.1 ≤ length p.rest) × Reads p t.0 (passed p t.1)
 
 -- ---- tags
--- bytes that are refused where a tag may come, with so many before the known end
+-- bytes that are refused where a tag may come, with this many before the known end
 abbrev pub RefusesTagBytes : {A : Type 0} → List ℕ → Option ℕ → Result A Cause → Type 0
 RefusesTagBytes bytes left result =
     (pool : Types) (m depth levels at : ℕ) (base : List Record) (p0 : Place) (frames : List Frame) (scope : Scope) (now : Part)
@@ -52,14 +52,14 @@ RefusesEnd innermost number result =
     → Stands pool m depth levels base p0 frames now scope q → innermost ≡ innermost_group frames → HasTag q number 4 u
     → IfErr result (λ c. IsBad pool m depth p0 (fault q.at (path_of frames) c))
 
--- the first tag of a group that is refused, where so many levels are left
+-- the first tag of a group that is refused, where this many levels are left
 abbrev pub RefusesGroup : ℕ → Option Cause → Type 0
 RefusesGroup room result =
     (pool : Types) (m depth levels number : ℕ) (base : List Record) (p0 q u : Place) (frames : List Frame) (scope : Scope) (now : Part)
     → Stands pool m depth levels base p0 frames now scope q → scope.room ≡ room → HasTag q number 3 u
     → IfSome result (λ c. IsBad pool m depth p0 (fault q.at (path_to frames scope number) c))
 
--- what comes next behind a tag in a part, where so many levels are left
+-- what comes next after a tag in a part, where this many levels are left
 abbrev pub GoesOnBehindTag : Types → PartKept → ℕ → ℕ → ℕ → Option Step → Type 0
 GoesOnBehindTag pool part room number type result =
     (m depth levels : ℕ) (base : List Record) (p0 q u : Place) (frames : List Frame) (scope : Scope)
@@ -82,7 +82,7 @@ RefusesLengthBytes bytes left result =
     → After pool m depth levels base p0 frames next now scope (given_at at left bytes) → awaited next ≡ Some (tag number 2 meant)
     → IfErr result (λ c. IsBad pool m depth p0 (fault at (path_to frames scope number) c))
 
--- a length that is refused, behind which a payload would begin at a position in a part with this end
+-- a length that is refused, after which a payload would begin at a position in a part with this end
 abbrev pub RefusesLength : {A : Type 0} → ℕ → ℕ → Option ℕ → Result A Cause → Type 0
 RefusesLength n begin end result =
     (pool : Types) (m depth levels number : ℕ) (base : List Record) (p0 u t : Place) (frames : List Frame) (scope : Scope) (now : Part) (next : Step)
@@ -90,14 +90,14 @@ RefusesLength n begin end result =
     → After pool m depth levels base p0 frames next now scope u → awaited next ≡ Some (tag number 2 meant) → Reads u n t → t.at ≡ begin → scope.end ≡ end
     → IfErr result (λ c. IsBad pool m depth p0 (fault u.at (path_to frames scope number) c))
 
--- behind the length of a packed list its elements come next, in a scope that ends with the list
+-- after the length of a packed list its elements come next, in a scope that ends with the list
 abbrev pub BeginsList : ℕ → Kind → ℕ → ScopeKept → ScopeKept → Step → Type 0
 BeginsList number kind end old new result =
     (pool : Types) (m depth levels n : ℕ) (base : List Record) (p0 u t : Place) (frames : List Frame) (now : Part)
     → After pool m depth levels base p0 frames (step.Length number (purpose.Packed kind)) now (scope_view old) u → HasLength u n t → end ≡ t.at + n
     → After pool m depth levels base p0 frames result now (scope_view new) (payload_at t n)
 
--- behind a length that opens nothing its payload comes next
+-- after a length that opens nothing its payload comes next
 abbrev pub BeginsPayload : ℕ → Purpose → ℕ → Step → Type 0
 BeginsPayload number meant size result =
     (pool : Types) (m depth levels : ℕ) (base : List Record) (p0 u t : Place) (frames : List Frame) (scope : Scope) (now : Part)

@@ -1,4 +1,4 @@
--- What a value and an unknown record make of the part that they stand in.
+-- What a value and an unknown record make of the part they belong to.
 use Rattle.std.specs.Prelude.{ℕ, [], ◌∷◌, ◌++◌, Option, Some, None}
 use Rattle.pb_wire.specs.Record.{Payload}
 use Rattle.pb_schema.specs.declared.types.Kind.{Kind}
@@ -35,7 +35,7 @@ key_in (scalar (enum z)) = None
 key_in (scalar (bytes s)) = None
 key_in (message w) = None
 
--- A value into the part that its record stands in. A record of another part, or of another purpose, puts no value.
+-- A value into the part that its record belongs to. A record of another part, or of another purpose, puts no value.
 abbrev pub put_datum : Types → ℕ → Purpose → Part → Datum → Part
 put_datum pool n (purpose.One k s) (message_part m v) d = message_part m (with_fields v (stored_at (message_fields pool m) s n (one d) (fields_of v)))
 put_datum pool n (purpose.One k s) (entry_part key kd x e) d = entry_part key kd x e
@@ -58,7 +58,7 @@ put_datum pool n purpose.Unknown p d = p
 abbrev pub with_record : ℕ → Payload → Message → Message
 with_record n p v = body (fields_of v) (unknown_of v ++ record { number = n; payload = p } ∷ [])
 
--- an unknown record into the part that it stands in; those of an entry are dropped
+-- an unknown record into the part it belongs to; those of an entry are dropped
 abbrev pub put_record : ℕ → Payload → Part → Part
 put_record n p (message_part m v) = message_part m (with_record n p v)
 put_record n p (entry_part key kd x d) = entry_part key kd x d

@@ -1,4 +1,4 @@
--- What a value that comes next does, wherever one stands: it goes into the part that its record stands in, and one stands behind it. Each holds of any type,
+-- What a value that comes next does, wherever the reader is: it goes into the part that its record belongs to, and the reader is after it. Each holds of any type,
 -- any levels, any records before and any first place.
 use Rattle.std.specs.Prelude.{◌≡◌, ℕ, ◌+◌, List, [], ◌∷◌, length, map, take, Option, Some, Result, IfOk, IfErr, OnOk}
 use Rattle.pb_wire.specs.Record.{Record, wire_type}
@@ -50,7 +50,7 @@ PutsPayload pool number meant bytes old new result =
     → After pool m depth levels base p0 frames (Payload number meant n) (part_view old) scope u → length bytes ≡ n → Moves u bytes w
     → OnOk result (Stands pool m depth levels base p0 frames (part_view new) (one_more_in number scope) w)
 
--- or they are no text, which is the fault of what is read
+-- or they are no UTF-8, which is the fault of what is read
 abbrev pub RefusesPayload : {A : Type 0} → Types → ℕ → Purpose → List ℕ → Part → Result A PayloadError → Type 0
 RefusesPayload pool number meant bytes old result =
     (m depth levels n : ℕ) (base : List Record) (p0 u w : Place) (frames : List Frame) (scope : Scope)
@@ -58,8 +58,8 @@ RefusesPayload pool number meant bytes old result =
     → IfErr result (λ e. IfBadText e (λ valid.
     Bad (schema_of pool) (records (a_message m)) depth p0 (below (path_of frames) (fault (u.at + valid) (next_step number scope ∷ []) BadText))))
 
--- where a packed list stands at the front of these bytes, with so many before the known end, it goes on behind so many of them: the part has one thing in it
--- at their front, and another behind them
+-- where a packed list is at the start of these bytes, with this many before the known end, it goes on after this many of them: the part has one thing in it
+-- at their start, and another after them
 abbrev pub ElementsGoOn : Types → ℕ → Kind → List ℕ → Option ℕ → (PartView → PartView) → (PartView → PartView) → ℕ → Type 0
 ElementsGoOn pool number kind bytes left before behind used =
     (m depth levels at : ℕ) (outer : Option ℕ) (base : List Record) (p0 : Place) (frames : List Frame) (scope : Scope) (now : PartView)
@@ -70,7 +70,7 @@ ElementsGoOn pool number kind bytes left before behind used =
 abbrev pub GoesOn : Types → ℕ → Kind → List ℕ → Option ℕ → Run → Run → ℕ → Type 0
 GoesOn pool number kind bytes left old new used = ElementsGoOn pool number kind bytes left (put_run number old) (put_run number new) used
 
--- the elements of a run at the front of these bytes, in a list of this number
+-- the elements of a run at the start of these bytes, in a list of this number
 abbrev pub TellsRun : {E : Type 0} → Types → ℕ → Kind → List ℕ → Option ℕ → Result (Run × ℕ) E → Type 0
 TellsRun pool number kind bytes left result =
     (m depth levels at : ℕ) (outer : Option ℕ) (base : List Record) (p0 : Place) (frames : List Frame) (scope : Scope) (now : PartView)

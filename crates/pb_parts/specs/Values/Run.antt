@@ -1,4 +1,4 @@
--- What a run of elements makes of the part that their list stands in.
+-- What a run of elements makes of the part that their list is in.
 use Rattle.std.specs.Prelude.{ℕ, List, [], ◌∷◌, ◌++◌, map}
 use Rattle.pb_wire.specs.Record.{Record}
 use Rattle.pb_wire.specs.Unknown.{records_of}
@@ -23,7 +23,7 @@ put_each n (d ∷ ds) p = put_each n ds (put_listed n d p)
 abbrev pub with_each : ℕ → List Datum → Message → Message
 with_each n ds v = with_fields v (push_each n ds (fields_of v))
 
--- unknown records into the part that they stand in; those of an entry are dropped
+-- unknown records into the part they belong to; those of an entry are dropped
 abbrev pub put_records : List Record → Part → Part
 put_records rs (message_part m v) = message_part m (body (fields_of v) (unknown_of v ++ rs))
 put_records rs (entry_part key k x e) = entry_part key k x e

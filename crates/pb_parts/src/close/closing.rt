@@ -131,7 +131,7 @@ pub fn put_group(slot: Slot, outer: &mut Part, records: Vec<(u32, Unknown)>) -> 
     }
 }
 
-/// An entry whose known end is reached goes into its map, and its record is counted: one stands in what holds it.
+/// An entry whose known end is reached goes into its map, and its record is counted: the reader is in its parent.
 pub fn close_entry(
     alloc: Global,
     outer: &mut Part,
@@ -155,7 +155,7 @@ pub fn close_entry(
     Ok(())
 }
 
-/// A group whose end tag is there goes among the unknown records of what holds it, and its record is counted: one stands in
+/// A group whose end tag is there goes among the unknown records of its parent, and its record is counted: the reader is in
 /// that.
 pub fn close_group(
     outer: &mut Part,

@@ -84,8 +84,8 @@ pub fn count_one(scope: &mut Scope, number: u32) -> Result<(), NoMemory>
     Ok(())
 }
 
-/// A message whose known end is reached, or whose end tag is there, goes into its slot, and its record is counted: one stands
-/// in what holds it.
+/// A message whose known end is reached, or whose end tag is there, goes into its slot, and its record is counted: the reader is
+/// in its parent.
 pub fn close_message(
     alloc: Global,
     pool: &Pool,

@@ -18,7 +18,7 @@ use pb_value::{Body, Content, MapKey, Value};
 use std::alloc::{AllocError, Global};
 use std::collections::BTreeMap;
 
-/// So many entries are sorted, and made a map of their own. Fewer cost less one by one.
+/// This many entries are sorted, and made a map of their own. Fewer cost less one by one.
 const MANY: usize = 16;
 
 /// Puts entries into a map, one by one.
@@ -120,7 +120,7 @@ fn store_entries(
     }
 }
 
-/// Puts entries into the map of a number in the part that their records stand in.
+/// Puts entries into the map of a number in the part that their records belong to.
 pub fn put_entries(
     alloc: Global,
     part: &mut Part,

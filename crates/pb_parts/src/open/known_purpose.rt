@@ -1,4 +1,4 @@
-//! What a record is for, kept for the records behind it.
+//! What a record is for, kept for the records after it.
 
 ghost use Rattle.std.specs.Prelude.{◌≡◌, true};
 ghost use Rattle.pb_parts.specs.Open.Frames.{CanHold};

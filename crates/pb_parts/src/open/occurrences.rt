@@ -1,4 +1,4 @@
-//! How often each number stood among the whole records of an open payload.
+//! How often each number occurred among the whole records of an open payload.
 
 ghost use Rattle.std.specs.Prelude.{◌≡◌, ℕ, ◌-◌, ◌^◌, ◌<◌, ◌++◌, IfOk, IfErr, OnOk, OnErr, unwrap_or};
 ghost use Rattle.pb_parts.specs.Open.Occurrences.{IsRising, IsKept, IsAt, IsGapFor, Sets, found};
@@ -7,7 +7,7 @@ use std::alloc::{AllocError, Global};
 use std::collections::BTreeMap;
 use std::marker::Model;
 
-/// How many whole records of each number stood in a payload so far. Rising and repeated numbers cost a constant each, any
+/// How many whole records of each number occurred in a payload so far. Rising and repeated numbers cost a constant each, any
 /// other order a search.
 #[derive(Drop)]
 pub struct Occurrences {

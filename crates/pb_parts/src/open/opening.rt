@@ -66,7 +66,7 @@ pub fn is_free(part: &Part, slot: Slot) -> bool
     }
 }
 
-/// Takes the message out of a slot that isn't free. Few slots are such, and what this keeps on the stack costs nothing where it stands apart.
+/// Takes the message out of a slot that isn't free. Few slots are such, and what this keeps on the stack costs nothing in a function of its own.
 #[inline(never)]
 fn take_held(alloc: Global, slot: Slot, outer: &mut Part) -> Body
     ensures taken { body_view result ≡ taken_message slot (part_view outer.old) }
@@ -117,7 +117,7 @@ pub fn room_in(slot: Slot, room: u8) -> u8
     }
 }
 
-/// The scope of a part in which no record stands yet.
+/// The scope of a part that has no record yet.
 #[inline(always)]
 fn new_scope(alloc: Global, room: u8, end: Option<u32>) -> Scope
     ensures room { result.room ≡ room }
@@ -131,8 +131,8 @@ fn new_scope(alloc: Global, room: u8, end: Option<u32>) -> Scope
     }
 }
 
-/// Behind the length of a record of a message the message is open, up to its end. It goes on from what its slot holds, and
-/// the frame is that of what holds it.
+/// After the length of a record of a message the message is open, up to its end. It goes on from what its slot holds, and
+/// the frame is that of its parent.
 #[inline(always)]
 pub fn open_message(
     alloc: Global,
@@ -158,7 +158,7 @@ pub fn open_message(
     }
 }
 
-/// Behind the length of a record of a map an entry is open, up to its end.
+/// After the length of a record of a map an entry is open, up to its end.
 #[inline(always)]
 pub fn open_entry(
     alloc: Global,
@@ -189,8 +189,8 @@ pub fn open_entry(
     }
 }
 
-/// Behind the first tag of a group that is a field its message is open. It goes on from what its slot holds, and its end is
-/// known where that of what holds it is.
+/// After the first tag of a group that is a field its message is open. It goes on from what its slot holds, and its end is
+/// known where that of its parent is.
 #[inline(always)]
 fn open_field_group(
     alloc: Global,
@@ -215,7 +215,7 @@ fn open_field_group(
     }
 }
 
-/// Behind the first tag of a group that is no field the group is open. Its end is known where that of what holds it is.
+/// After the first tag of a group that is no field the group is open. Its end is known where that of its parent is.
 #[inline(always)]
 fn open_unknown_group(alloc: Global, part: &mut Part, scope: &mut Scope, number: u32) -> Frame
     ensures { OpensAtTag number purpose.Unknown part.old scope.old result part.new scope.new }
@@ -250,7 +250,7 @@ pub fn message_slot(meant: Purpose) -> Option<(MessageId, Slot)>
     }
 }
 
-/// Behind the first tag of a group the group is open, by what its record is for.
+/// After the first tag of a group the group is open, by what its record is for.
 #[inline(always)]
 pub fn open_group(
     alloc: Global,

@@ -1,4 +1,4 @@
-//! What is open, and what there is of it.
+//! An open part, and what there is of it.
 
 use crate::open::occurrences::Occurrences;
 use pb_schema::{Kind, MessageId, Shape};
@@ -40,7 +40,7 @@ pub struct Scope {
     pub room: u8,
     /// The position where the part ends, if that is known.
     pub end: Option<u32>,
-    /// How many whole records of each number stand in it so far.
+    /// How many whole records of each number are in it so far.
     pub occurrences: Occurrences,
 }
 

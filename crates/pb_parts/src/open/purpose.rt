@@ -1,4 +1,4 @@
-//! What a record is for, by what it stands in.
+//! What a record is for, by its parent.
 
 ghost use Rattle.std.specs.Prelude.{◌≡◌, true};
 ghost use Rattle.pb_schema.specs.Fits.{fits_type};

@@ -1,4 +1,4 @@
-//! What comes behind a whole length where nothing is opened.
+//! What comes after a whole length where nothing is opened.
 
 ghost use Rattle.std.specs.Prelude.{◌≡◌, Some};
 ghost use Rattle.pb_parts.specs.declared.tokens.step.Step.TheVariants as steps;
@@ -9,7 +9,7 @@ use crate::open::purpose::Purpose;
 use crate::tokens::step::Step;
 use pb_schema::Kind;
 
-/// Behind the length of a packed list its elements come next, up to its end.
+/// After the length of a packed list its elements come next, up to its end.
 pub fn begin_list(scope: &mut Scope, number: u32, kind: Kind, end: u32) -> Step
     ensures step { result ≡ steps.Elements number kind scope.old.end }
     ensures end { scope.new.end ≡ Some end }
@@ -20,7 +20,7 @@ pub fn begin_list(scope: &mut Scope, number: u32, kind: Kind, end: u32) -> Step
     Step::Elements(number, kind, outer)
 }
 
-/// Behind a length whose record opens nothing its payload comes next.
+/// After a length whose record opens nothing its payload comes next.
 pub fn begin_payload(number: u32, purpose: Purpose, size: u32) -> Step
     ensures step { result ≡ steps.Payload number purpose size }
     ensures after { BeginsPayload number purpose size result }

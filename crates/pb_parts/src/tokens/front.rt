@@ -1,4 +1,4 @@
-//! The number of a tag or of a length, at the front of the bytes that are given.
+//! The number of a tag or of a length, at the start of the bytes that are given.
 
 ghost use Rattle.std.specs.Prelude.{◌≢◌, ℕ, IfOk, IfErr, IfSome, IfNone};
 ghost use Rattle.pb_wire.specs.Token.{given_at};
@@ -9,7 +9,7 @@ ghost use Rattle.pb_parts.specs.Tokens.Numbers.{IsCutVarint};
 use pb_wire::Cause;
 use pb_wire::token::{Token, varint_token};
 
-/// The number at the front of some bytes, with so many bytes before the known end, and how many bytes it takes. There is none
+/// The number at the start of some bytes, with this many bytes before the known end, and how many bytes it takes. There is none
 /// where the bytes end before more of them settle it.
 #[inline(always)]
 pub fn front_number(bytes: &[u8], left: Option<u32>) -> Result<Option<(u64, usize)>, Cause>

@@ -12,7 +12,7 @@ use pb_schema::scalars::low_half;
 use pb_value::Value;
 use pb_wire::{unzigzag32, unzigzag64};
 
-/// What stands behind the tag of a number.
+/// What is after the tag of a number.
 #[derive(Clone, Copy)]
 pub enum Number {
     Varint(u64),
@@ -20,7 +20,7 @@ pub enum Number {
     I32(u32),
 }
 
-/// The value of a kind that a number stands for. A number of another wire type stands for none, and gives `false`.
+/// The value of a kind that a number means. A number of another wire type means none, and gives `false`.
 #[inline(always)]
 pub fn number_value(kind: Kind, number: Number) -> Value
     ensures { IfSome (read kind (number_view number)) (λ x. value_view result ≡ scalar x) }

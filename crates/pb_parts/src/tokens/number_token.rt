@@ -1,4 +1,4 @@
-//! Numbers at the front of bytes that others may follow, up to a known end.
+//! Numbers at the start of bytes that others may follow, up to a known end.
 
 ghost use Rattle.std.specs.Prelude.{◌≡◌, ◌⊎◌, ◌<◌, ◌^◌, ℕ};
 ghost use Rattle.pb_wire.specs.Token.{given_at};
@@ -11,7 +11,7 @@ use crate::tokens::number::Number;
 use pb_wire::Cause;
 use pb_wire::token::{Token, fixed32_token, fixed64_token, varint_token};
 
-/// What stands at the front.
+/// What is at the start of the bytes.
 #[derive(Clone, Copy)]
 pub enum NumberToken {
     /// The number, and how many bytes it takes.
@@ -22,7 +22,7 @@ pub enum NumberToken {
     Fault(Cause),
 }
 
-/// The varint at the front of some bytes, with so many bytes before the known end, or with no known end.
+/// The varint at the start of some bytes, with this many bytes before the known end, or with no known end.
 #[inline(always)]
 fn varint_number(bytes: &[u8], left: Option<u32>) -> NumberToken
     ensures { (at : ℕ) → TellsNumber 0 (given_at at left bytes.now) result }
@@ -67,7 +67,7 @@ fn four_byte_number(bytes: &[u8], left: Option<u32>) -> NumberToken
     }
 }
 
-/// The number of a wire type at the front of some bytes, with so many bytes before the known end.
+/// The number of a wire type at the start of some bytes, with this many bytes before the known end.
 pub fn number_at(wire_type: u8, bytes: &[u8], left: Option<u32>) -> NumberToken
     requires { IsNumberType wire_type }
     ensures { (at : ℕ) → TellsNumber wire_type (given_at at left bytes.now) result }
@@ -75,7 +75,7 @@ pub fn number_at(wire_type: u8, bytes: &[u8], left: Option<u32>) -> NumberToken
     number_here(wire_type, bytes, left)
 }
 
-/// As `number_at`, for a loop that does little else: there a call costs too much. Elsewhere what calls it would grow too large to be inlined itself.
+/// As `number_at`, for a loop that does little else: there a call costs too much. Elsewhere what calls it would become too large to be inlined itself.
 #[inline(always)]
 pub(crate) fn number_here(wire_type: u8, bytes: &[u8], left: Option<u32>) -> NumberToken
     requires { IsNumberType wire_type }

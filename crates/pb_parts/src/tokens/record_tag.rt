@@ -16,14 +16,14 @@ pub struct RecordTag {
     pub size: usize,
 }
 
-/// How many bytes stand before the known end behind so many more.
+/// How many bytes come before the known end after this many more.
 pub fn left_behind(left: Option<u32>, used: usize) -> Option<u32>
     ensures { result ≡ option_map (λ e. e - used) left }
 {
     left.map(|left| (left as usize).saturating_sub(used) as u32)
 }
 
-/// The tag at the front of some bytes, with so many bytes before the known end, if one stands whole there.
+/// The tag at the start of some bytes, with this many bytes before the known end, if it is complete there.
 pub fn record_tag(bytes: &[u8], left: Option<u32>) -> Option<RecordTag>
     ensures within { IfSome result (λ t. (0 < t.size) × (t.size ≤ length bytes.now)) }
     ensures whole { (at : ℕ) → IfSome result (λ t. HasTag (given_at at left bytes.now) t.number t.wire_type (passed (given_at at left bytes.now) t.size)) }

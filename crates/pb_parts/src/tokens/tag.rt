@@ -45,7 +45,7 @@ pub fn group_end(innermost: Option<u32>, number: u32) -> Result<(), Cause>
     }
 }
 
-/// Why a group is refused in a part with so many levels left.
+/// Why a group is refused in a part with this many levels left.
 pub fn group_refusal(room: u8) -> Option<Cause>
     ensures allowed { IfNone result (0 < room) }
     ensures settled { IfSome result (λ c. c ≢ Truncated) }

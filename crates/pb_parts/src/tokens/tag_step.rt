@@ -1,4 +1,4 @@
-//! What comes behind a tag.
+//! What comes after a tag.
 
 ghost use Rattle.std.specs.Prelude.{◌≡◌, ◌≢◌, ◌<◌, true, false, Some};
 ghost use Rattle.pb_parts.specs.Open.Frames.{CanHold};
@@ -11,7 +11,7 @@ use crate::open::purpose::{Purpose, purpose_of};
 use crate::tokens::step::Step;
 use pb_schema::Pool;
 
-/// Says that what a record of a purpose opens stands a level below.
+/// Says that what a record of a purpose opens is a level below.
 fn goes_down(purpose: Purpose) -> bool
     ensures { result ≡ is_below purpose }
 {
@@ -41,7 +41,7 @@ pub fn has_room(room: u8, purpose: Purpose) -> bool
     !goes_down(purpose) || room > 0
 }
 
-/// The step of a value or a length behind its tag.
+/// The step of a value or a length after its tag.
 fn value_step(number: u32, wire_type: u8, purpose: Purpose) -> Step
     requires known { wire_type < 6 }
     requires no_start { wire_type ≢ 3 }
@@ -59,7 +59,7 @@ fn value_step(number: u32, wire_type: u8, purpose: Purpose) -> Step
     }
 }
 
-/// What comes behind the tag of a record, which is no group, in a part with so many levels left. There is none where the
+/// What comes after the tag of a record, which is no group, in a part with this many levels left. There is none where the
 /// record would open one level too many.
 pub fn tag_step(pool: &Pool, part: &Part, room: u8, number: u32, wire_type: u8) -> Option<Step>
     requires can { CanHold pool.now (part_view part.now) }

@@ -1,4 +1,4 @@
-//! The values of a packed list that stands whole.
+//! The values of a packed list that is complete.
 
 ghost use Rattle.std.specs.Prelude.{◌≡◌, ◌⊎◌, ◌≤◌, ◌<◌, [], None, IsTrue, length, IfOk, IfSome};
 ghost use Rattle.pb_schema.specs.Kinds.{wire_type_of, closed_enum};
@@ -13,7 +13,7 @@ use pb_schema::Kind;
 use pb_value::Value;
 use std::alloc::Global;
 
-/// Puts the value of the element at the front of some bytes behind the others, and how many bytes it takes, if it stands whole there.
+/// Puts the value of the element at the start of some bytes after the others, and how many bytes it takes, if it is complete there.
 #[inline(always)]
 fn push_value(kind: Kind, bytes: &[u8], values: &mut Vec<Value>) -> Result<Option<usize>, NoMemory>
     requires number { IsNumberType (wire_type_of kind) }
@@ -31,7 +31,7 @@ fn push_value(kind: Kind, bytes: &[u8], values: &mut Vec<Value>) -> Result<Optio
     }
 }
 
-/// Puts the values of the elements of a payload behind the others, and says whether each stands whole.
+/// Puts the values of the elements of a payload after the others, and says whether each is complete.
 #[inline(always)]
 fn push_values(kind: Kind, payload: &[u8], values: &mut Vec<Value>) -> Result<bool, NoMemory>
     requires number { IsNumberType (wire_type_of kind) }
@@ -74,7 +74,7 @@ fn push_by_kind(kind: Kind, payload: &[u8], values: &mut Vec<Value>) -> Result<b
     }
 }
 
-/// The values of a packed list whose payload this is, if each element stands whole. Its kind is not a closed enum.
+/// The values of a packed list whose payload this is, if each element is complete. Its kind is not a closed enum.
 pub fn read_list(alloc: Global, kind: Kind, payload: &[u8]) -> Result<Option<Vec<Value>>, NoMemory>
     ensures { IfOk result (λ o. IfSome o (λ values. ListGoesOn kind payload.now [] values.items (length payload.now))) }
 {

@@ -19,7 +19,7 @@ use std::alloc::{AllocError, Global};
 /// Why a payload gives no value.
 #[derive(Clone, Copy)]
 pub enum PayloadError {
-    /// A text is not UTF-8. So many of its bytes stand before the first wrong one.
+    /// A string is not UTF-8. This many of its bytes are before the first wrong one.
     BadText(usize),
     Memory,
 }
@@ -32,7 +32,7 @@ impl From<AllocError> for PayloadError {
     }
 }
 
-// What puts a value into a part fails for want of memory alone.
+// Putting a value into a part fails only when out of memory.
 impl From<NoMemory> for PayloadError {
     ghost from_gives = { λ _ e. e ≡ Memory };
 
@@ -41,7 +41,7 @@ impl From<NoMemory> for PayloadError {
     }
 }
 
-/// The value of a kind that a payload stands for, which it is copied into. There is none of a kind of another wire type.
+/// The value of a kind that a payload encodes, into which it is copied. There is none of a kind of another wire type.
 #[inline(always)]
 pub fn payload_value(alloc: Global, kind: Kind, bytes: &[u8]) -> Result<Option<Value>, PayloadError>
     ensures value { IfOk result (λ v. option_map value_view v ≡ option_map scalar (read kind (len bytes.now))) }

@@ -48,7 +48,7 @@ fn store_all(
     }
 }
 
-/// Puts values at the end of the list of a number in the part that its record stands in.
+/// Puts values at the end of the list of a number in the part that its record belongs to.
 pub fn put_elements(
     alloc: Global,
     part: &mut Part,

@@ -47,7 +47,7 @@ pub fn is_undeclared(pool: &Pool, kind: Kind, value: Number) -> bool
     pool.is_undeclared(kind, number)
 }
 
-/// Puts a number among the unknown records of the part that its record stands in.
+/// Puts a number among the unknown records of the part that its record belongs to.
 #[inline(always)]
 fn put_unknown_number(part: &mut Part, number: u32, value: Number) -> Result<(), NoMemory>
     ensures { OnOk result (part_view part.new ≡ put_record number (number_view value) (part_view part.old)) }
@@ -56,7 +56,7 @@ fn put_unknown_number(part: &mut Part, number: u32, value: Number) -> Result<(),
     put_unknown(part, number, unknown)
 }
 
-/// A number that comes next goes into the part that its record stands in, and one stands behind it.
+/// A number that comes next goes into the part that its record belongs to, and the reader is after it.
 #[inline(always)]
 pub fn put_number(
     alloc: Global,
@@ -94,7 +94,7 @@ pub fn put_number(
 }
 
 /// One more element of a packed list goes to the list's end, or among the unknown records where it is a number that its closed
-/// enum doesn't declare, and one stands behind it.
+/// enum doesn't declare, and the reader is after it.
 pub fn put_element(
     alloc: Global,
     pool: &Pool,

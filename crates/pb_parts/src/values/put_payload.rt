@@ -1,4 +1,4 @@
-//! Whole payloads behind a length go where their records' purposes say.
+//! Whole payloads after a length go where their records' purposes say.
 
 ghost use Rattle.std.specs.Prelude.{◌≡◌, ◌≤◌, Some, length, IsUtf8, option_map, OnOk, IfErr, IfNone};
 ghost use Rattle.pb_schema.specs.declared.types.Kind.TheVariants.{Text as TextKind};
@@ -24,7 +24,7 @@ use pb_schema::Pool;
 use pb_value::Value;
 use std::alloc::Global;
 
-/// Puts the value of a payload, where it has one, into the part that its record stands in.
+/// Puts the value of a payload, where it has one, into the part that its record belongs to.
 #[inline(always)]
 fn put_value(
     alloc: Global,
@@ -45,8 +45,8 @@ fn put_value(
     put_scalar(alloc, pool, part, number, purpose, value)
 }
 
-/// A payload that comes next, all of whose bytes are here, goes into the part that its record stands in, and one stands
-/// behind it. It is copied once.
+/// A payload that comes next, all of whose bytes are here, goes into the part that its record belongs to, and the reader is
+/// after it. It is copied once.
 #[inline(always)]
 pub fn put_payload(
     alloc: Global,

@@ -12,7 +12,7 @@ use crate::values::run::Run;
 use pb_wire::Unknown;
 use std::alloc::Global;
 
-/// Puts records behind others. Where there are none, they are them.
+/// Puts records after others. Where there are none, they are them.
 #[inline(always)]
 fn append(
     records: &mut Vec<(u32, Unknown)>,
@@ -28,7 +28,7 @@ fn append(
     Ok(())
 }
 
-/// Puts unknown records into the part that they stand in. An entry drops them.
+/// Puts unknown records into the part they belong to. An entry drops them.
 fn put_records(part: &mut Part, records: Vec<(u32, Unknown)>) -> Result<(), NoMemory>
     ensures { OnOk result (part_view part.new ≡ put_records (records_of records.items) (part_view part.old)) }
 {

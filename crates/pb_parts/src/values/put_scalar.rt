@@ -85,7 +85,7 @@ fn put_in_entry(key: &mut Option<MapKey>, held: &mut Option<Value>, purpose: Pur
     }
 }
 
-/// Puts a scalar into the part that its record stands in. A group holds unknown records alone.
+/// Puts a scalar into the part that its record belongs to. A group holds unknown records alone.
 #[inline(always)]
 pub fn put_scalar(
     alloc: Global,

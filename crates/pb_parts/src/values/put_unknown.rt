@@ -34,7 +34,7 @@ fn push_unknown(message: &mut Body, number: u32, unknown: Unknown) -> Result<(),
     Ok(())
 }
 
-/// Puts an unknown record into the part that it stands in. An entry drops it.
+/// Puts an unknown record into the part it belongs to. An entry drops it.
 #[inline(always)]
 pub(crate) fn put_unknown(part: &mut Part, number: u32, unknown: Unknown) -> Result<(), NoMemory>
     ensures { OnOk result (part_view part.new ≡ put_record number (payload_of unknown) (part_view part.old)) }

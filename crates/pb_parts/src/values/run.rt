@@ -33,7 +33,7 @@ fn varint_ends(bytes: &[u8]) -> usize {
     ends
 }
 
-/// How many elements of a kind end within some bytes, where they are sound: room for all of them.
+/// How many elements of a kind end within some bytes, where they are sound: space for all of them.
 pub(crate) fn room_wanted(kind: Kind, bytes: &[u8]) -> usize {
     match kind.wire_type() {
         1 => bytes.len() / 8,
@@ -42,8 +42,8 @@ pub(crate) fn room_wanted(kind: Kind, bytes: &[u8]) -> usize {
     }
 }
 
-/// Puts the element at the front of some bytes, with so many bytes before the known end, behind those of its sort, and how many
-/// bytes it takes, if it stands whole there. A number that its closed enum doesn't declare is an unknown record.
+/// Puts the element at the start of some bytes, with this many bytes before the known end, after those of its sort, and how many
+/// bytes it takes, if it is complete there. A number that its closed enum doesn't declare is an unknown record.
 #[inline(always)]
 fn add_element(
     pool: &Pool,
@@ -72,7 +72,7 @@ fn add_element(
     }
 }
 
-/// Puts the elements that stand whole at the front of some bytes, one behind another, behind those of their sorts, and how many
+/// Puts the elements that are complete at the start of some bytes, one after another, after those of their sorts, and how many
 /// bytes they take.
 fn add_elements(
     pool: &Pool,
@@ -98,7 +98,7 @@ fn add_elements(
     Ok(here)
 }
 
-/// The elements that stand whole at the front of some bytes, one behind another, with so many bytes before the known end, and how
+/// The elements that are complete at the start of some bytes, one after another, with this many bytes before the known end, and how
 /// many bytes they take. Their list has this number.
 pub fn read_run(
     alloc: Global,
@@ -117,7 +117,7 @@ pub fn read_run(
         undeclared: Vec::new(alloc),
     };
     let used = add_elements(pool, kind, number, bytes, left, &mut run)?;
-    // Undeclared numbers took none of the room.
+    // Undeclared numbers took none of the space.
     run.values.shrink_to_fit();
     Ok((run, used))
 }

@@ -1,4 +1,4 @@
--- The map that stood there, with the entries in it, is put back.
+-- The map that was there, with the entries in it, is put back.
 use Rattle.std.proofs.Common.{◌≡◌, ap, sym, ◌∙◌, subst, arith, length, vec_len}
 use Rattle.pb_value.specs.Data.{map}
 use Rattle.pb_value.specs.Change.{entries_of}

@@ -1,4 +1,4 @@
--- No element stands there yet.
+-- No element is there yet.
 use Rattle.std.proofs.Common.{refl, sym, subst, ℕ, Some}
 use Rattle.pb_parts.specs.Open.PartView.{scope_view}
 use Rattle.pb_wire.specs.Grammar.{payload_at}

@@ -1,4 +1,4 @@
--- The payload stands behind its length.
+-- The payload is after its length.
 use Rattle.std.proofs.Common.{refl}
 use Rattle.pb_parts.proofs.AfterLemmas.{after_length}
 use Rattle.pb_parts.proofs.tokens.begin.begin_payload.Goals as goal

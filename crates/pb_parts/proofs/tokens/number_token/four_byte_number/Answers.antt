@@ -1,4 +1,4 @@
--- What is told of the token is told of the number.
+-- What is reported of the token is reported of the number.
 use Rattle.std.proofs.Common.{subst, arith}
 use Rattle.pb_wire.specs.Token.{given_at, TellsFixed32}
 use Rattle.pb_wire.specs.declared.token.Token.{Token}

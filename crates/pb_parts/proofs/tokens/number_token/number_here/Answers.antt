@@ -1,4 +1,4 @@
--- The token of each wire type is told of by its own call.
+-- The token of each wire type is reported by its own call.
 use Rattle.std.proofs.Common.{◌≡◌, ℕ, sym, subst, arith}
 use Rattle.pb_wire.specs.Token.{given_at}
 use Rattle.pb_parts.specs.Tokens.Numbers.{TellsNumber}

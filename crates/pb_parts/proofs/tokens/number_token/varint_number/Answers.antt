@@ -1,4 +1,4 @@
--- What is told of the token is told of the number.
+-- What is reported of the token is reported of the number.
 use Rattle.std.proofs.Common.{subst}
 use Rattle.pb_wire.specs.Token.{given_at, TellsVarint}
 use Rattle.pb_wire.specs.declared.token.Token.{Token}

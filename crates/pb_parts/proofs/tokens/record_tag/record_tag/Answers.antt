@@ -1,4 +1,4 @@
--- The number at the front is the tag's.
+-- The number at the start is the tag's.
 use Rattle.pb_wire.specs.Token.{given_at, passed}
 use Rattle.pb_parts.proofs.NumberTokens.{number_size, front_there}
 use Rattle.pb_parts.proofs.tokens.record_tag.record_tag.Goals as goal

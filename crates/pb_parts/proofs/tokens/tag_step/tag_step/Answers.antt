@@ -1,4 +1,4 @@
--- Behind the tag its value or length comes next, unless that would open one level too many.
+-- After the tag its value or length comes next, unless that would open one level too many.
 use Rattle.std.proofs.Common.{ℕ, refl, sym, ◌∙◌, subst}
 use Rattle.pb_parts.specs.Tokens.After.{tag, IsRoomFor}
 use Rattle.pb_parts.proofs.AfterLemmas.{after_tag}

@@ -1,4 +1,4 @@
--- With one more value in their list one stands behind its element.
+-- With one more value in their list the reader is after its element.
 use Rattle.std.proofs.Common.{◌≡◌, ℕ, ◌∙◌, Option, Some, None, false, sym, ap, subst, map}
 use Rattle.pb_schema.specs.Closed.{is_undeclared}
 use Rattle.pb_schema.specs.Kinds.{closed_enum}

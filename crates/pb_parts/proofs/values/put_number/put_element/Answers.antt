@@ -1,4 +1,4 @@
--- The value goes to the end of the list, behind which one then stands.
+-- The value goes to the end of the list, and the reader is after it.
 use Rattle.std.proofs.Common.{sym, ap, ◌∙◌}
 use Rattle.pb_parts.specs.Open.PartView.{part_view}
 use Rattle.pb_parts.specs.declared.open.purpose.Purpose.TheVariants.{Element}

@@ -1,4 +1,4 @@
--- The value, or the unknown record, goes into the part, behind which one then stands.
+-- The value, or the unknown record, goes into the part, and the reader is after it.
 use Rattle.std.proofs.Common.{sym, ap, ◌∙◌}
 use Rattle.pb_parts.specs.Open.PartView.{part_view}
 use Rattle.pb_parts.specs.Values.Put.{put_datum}

@@ -1,4 +1,4 @@
--- The value, or the unknown record, goes into the part, behind which one then stands; a text that is not UTF-8 is refused.
+-- The value, or the unknown record, goes into the part, and the reader is after it; a string that is not UTF-8 is refused.
 use Rattle.std.proofs.Common.{sym, ◌∙◌, ap, Option}
 use Rattle.std.specs.Prelude.{option_map}
 use Rattle.std.proofs.lemmas.Result.{err_from_is_err_and}

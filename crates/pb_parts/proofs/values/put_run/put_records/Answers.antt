@@ -1,4 +1,4 @@
--- They stand behind the others.
+-- They are after the others.
 use Rattle.pb_value.proofs.Views.{body_view-roll, body_view-out}
 use Rattle.pb_value.proofs.MergeInPlace.{records_of-append}
 use Rattle.pb_parts.proofs.values.put_run.put_records.Goals as goal

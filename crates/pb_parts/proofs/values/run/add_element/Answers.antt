@@ -1,4 +1,4 @@
--- With one more of its sort in the part one stands behind it.
+-- With one more of its sort in the part the reader is after it.
 use Rattle.std.proofs.Common.{◌∙◌, sym, ap, subst, map}
 use Rattle.pb_wire.specs.Record.{Payload}
 use Rattle.pb_wire.specs.Token.{given_at, passed}
