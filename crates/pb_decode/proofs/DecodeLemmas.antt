@@ -23,7 +23,7 @@ some_text v t = (t.derives.records, record { size = t.size; spelled = t.derives.
 pub text_of : {pool : Types} {m : ℕ} {limits : Bounds} {b : List ℕ} → IsSomeText (schema_of pool) (a_message m) limits b → (v : Message) × Text pool m limits b v
 text_of {pool = pool} {m = m} (rs, t) = (value pool m rs, record { size = t.size; derives = record { records = rs; spelled = t.spelled; sound = t.sound; valued = refl } })
 
--- bytes are the text of a value, or have one fault
+-- bytes are the encoding of a value, or have one fault
 pub exactly_value : (pool : Types) (m : ℕ) (limits : Bounds) (b : List ℕ) → All IsByte b → Exactly ((v : Message) × Text pool m limits b v) (HasFault (schema_of pool) (a_message m) limits b)
 exactly_value pool m limits b bytes = record {
   either = by_text law.either;

@@ -98,7 +98,7 @@ takes_more {x = x} {y = y} z fits h more = takes_behind x y z h.bytes (let a = h
 pub takes_read : {pool : Types} {r s : Reading} {x y : Option (List ℕ)} {n most : ℕ} → n ≤ most → ReadsOn pool r s x y n → TakesAtMost most x y
 takes_read fits h = (h.bytes, let a = h.size in omega (arith, fits, a), h.given)
 
--- what is told of an error, said weaker
+-- what is reported of an error, said weaker
 pub if_refused_weaker : (e : DecodeError) (P Q : Fault → Type 0) → ((f : Fault) → P f → Q f) → IfRefused e P → IfRefused e Q
 if_refused_weaker (error.Fault byte path c) P Q h bad = h (fault byte path.items c) bad
 if_refused_weaker error.Memory P Q h bad = tt

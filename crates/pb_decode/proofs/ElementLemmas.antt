@@ -1,5 +1,5 @@
--- Elements of a packed list, and what is told of them.
-use Rattle.std.proofs.Common.{◌≡◌, ◌≢◌, ℕ, ◌+◌, List, [], ◌∷◌, ◌++◌, drop, length, refl, sym, ap, subst, arith, inl, inr, ◌⊎◌, Option, Some, IsTrue}
+-- Elements of a packed list, and what is reported of them.
+use Rattle.std.proofs.Common.{◌≡◌, ◌≢◌, ℕ, ◌+◌, List, [], ◌∷◌, ◌++◌, drop, length, refl, sym, ap, subst, arith, inl, inr, Option, Some, IsTrue}
 use Rattle.std.proofs.lemmas.Bool.{false≢true}
 use Rattle.pb_wire.specs.Record.{Record}
 use Rattle.pb_wire.specs.declared.fault.Cause.{Cause}
@@ -120,7 +120,7 @@ pub element_refused :
     → (here s rest).known ≢ Some 0 → c ≢ Truncated → NumberFault (wire_type_of kd) (here s rest) (fault s.at [] c) → Told pool m depth p0 (fault s.at (path_here s) c)
 element_refused s rest k kd outer c begun is goes_on not_cut bad = record { bad = element_bad s rest k kd outer s.at c begun is goes_on bad; settled = not_cut }
 
--- BEHIND AN ELEMENT the next one comes
+-- AFTER AN ELEMENT the next one comes
 pub after_reads :
     {pool : Types} {m depth levels : ℕ} {base : List Record} {p0 : Place} (s t : State) (size : ℕ) (rest : List ℕ) → t.at ≡ s.at + size → t.scope.end ≡ s.scope.end → AfterAt pool m depth levels base p0 t (passed (here s rest) size)
     → Reads pool m depth levels base p0 t (drop size rest)

@@ -1,4 +1,4 @@
--- What ends where a reader stands.
+-- What ends where a reader is.
 use Rattle.std.proofs.Common.{◌≡◌, ℕ, ◌-◌, ◌≤◌, List, [], ◌∷◌, ◌++◌, map, reverse, refl, sym, ap, ◌∙◌, subst, arith, append-nil, Option, Some, None, option_map}
 use Rattle.std.specs.Prelude.{Bool, true, false, if◌then◌else◌, is_some}
 use Rattle.std.proofs.lemmas.List.{reverse-append, map-append}
@@ -6,32 +6,26 @@ use Rattle.pb_wire.specs.Record.{Record}
 use Rattle.pb_wire.specs.declared.fault.Cause.TheVariants.{PastEnd}
 use Rattle.pb_wire.specs.declared.fault.PathStep.{PathStep}
 use Rattle.pb_wire.specs.Fault.{fault, Place}
-use Rattle.pb_wire.specs.Schema.{Open, records}
+use Rattle.pb_wire.specs.Schema.{records}
 use Rattle.pb_wire.specs.Grammar.{Bad}
 use Rattle.pb_schema.specs.declared.types.Kind.{Kind}
 use Rattle.pb_schema.specs.Types.{Types}
 use Rattle.pb_schema.specs.Rules.{IsPool}
-use Rattle.pb_schema.specs.Scalar.{Scalar}
-use Rattle.pb_schema.specs.Context.{Context, a_message as in_message, schema_of}
-use Rattle.pb_value.specs.Data.{Datum}
+use Rattle.pb_schema.specs.Context.{a_message as in_message, schema_of}
 use Rattle.pb_parts.specs.declared.open.part.Frame.{Frame as FrameKept}
 use Rattle.pb_parts.specs.declared.open.part.Part.{Part as PartKept}
-use Rattle.pb_parts.specs.declared.open.part.Slot.{Slot}
-use Rattle.pb_parts.specs.declared.open.part.Slot.TheVariants as slot
 use Rattle.pb_parts.specs.declared.tokens.step.Step.{Step}
 use Rattle.pb_parts.specs.declared.tokens.step.Step.TheVariants as step
-use Rattle.pb_parts.specs.Open.Frames.{Part, message_part, entry_part, group_part, CanHold, Scope, Frame, frame_of, one_more_in, up_to, path_of, Held, inside, Stands}
+use Rattle.pb_parts.specs.Open.Frames.{Part, Scope, Frame, frame_of, one_more_in, up_to, path_of, Stands}
 use Rattle.pb_parts.specs.Open.PartView.{part_view, scope_view, frame_view}
-use Rattle.pb_parts.specs.Close.Closing.{HasRoomFor}
 use Rattle.pb_parts.specs.Open.Openings.{innermost_group}
 use Rattle.pb_parts.specs.Tokens.After.{After}
 use Rattle.pb_decode.specs.Reader.{State, frames_view, left_of, here, own_step, path_here, Reads, StandsAt, Told}
 use Rattle.pb_parts.proofs.AfterLemmas.{after_record, at_record}
 use Rattle.pb_parts.proofs.GroupLemmas.{past_end_told}
-use Rattle.pb_parts.proofs.WellLemmas.{fits_keys}
 use Rattle.pb_decode.proofs.FewRecords.{counts_fit}
 use Rattle.pb_parts.proofs.ListSteps.{at_list, list_over}
-use Rattle.pb_decode.proofs.ListHolds.{list_can_hold}
+use Rattle.pb_whole.proofs.ListHolds.{list_can_hold}
 
 -- frames are kept outermost first, so the last is the innermost
 pub frames_split : (fs gs : List FrameKept) (f : FrameKept) → fs ≡ gs ++ f ∷ [] → frames_view fs ≡ frame_view f ∷ frames_view gs
@@ -41,7 +35,7 @@ frames_split fs gs f is = ap frames_view is ∙ ap reverse (map-append frame_vie
 pub frames_popped : (fs gs : List FrameKept) (f : FrameKept) (p : PartKept) → fs ≡ gs ++ f ∷ [] → p ≡ f.part → frames_view fs ≡ frame_of (part_view p) f.number f.slot f.group (scope_view f.scope) ∷ frames_view gs
 frames_popped fs gs f p is same = frames_split fs gs f is ∙ ap (λ (z : PartKept). frame_of (part_view z) f.number f.slot f.group (scope_view f.scope) ∷ frames_view gs) (sym same)
 
--- AT A TAG one stands behind a whole record of the innermost part
+-- AT A TAG the reader is after a whole record of the innermost part
 pub standing :
     {pool : Types} {m depth levels : ℕ} {base : List Record} {p0 : Place} (s : State) (rest : List ℕ) (frames : List Frame) (now : Part) → Reads pool m depth levels base p0 s rest → s.next ≡ step.Tag → s.frames ≡ frames → s.now ≡ now
     → Stands pool m depth levels base p0 frames now s.scope (here s rest)
@@ -50,7 +44,7 @@ standing {pool} {m} {depth} {levels} {base} {p0} s rest frames now begun tag aro
     (subst (λ (z : List Frame). Stands pool m depth levels base p0 z s.now s.scope (here s rest)) around
     (at_record (subst (λ (z : Step). After pool m depth levels base p0 s.frames z s.now s.scope (here s rest)) tag begun)))
 
--- and where that ended, one stands in the part that holds it
+-- and where that ended, the reader is in the part that holds it
 closed_here : (s t : State) (end : Option ℕ) (rest : List ℕ) → t.at ≡ s.at → t.scope.end ≡ end → up_to end (here s rest) ≡ here t rest
 closed_here s t end rest at is =
     ap (λ (z : Option ℕ). up_to z (here s rest)) (sym is)
@@ -62,29 +56,6 @@ pub closed_reads :
 closed_reads {pool} {m} {depth} {levels} {base} {p0} s t end rest at tag is h =
     subst (λ (z : Step). After pool m depth levels base p0 t.frames z t.now t.scope (here t rest)) (sym tag)
     (after_record (subst (StandsAt pool m depth levels base p0 t) (closed_here s t end rest at is) h))
-
--- THE PART THAT HOLDS THE INNERMOST may be changed
-pub frame_can_hold :
-    {pool : Types} {m depth levels : ℕ} {base : List Record} {p0 : Place} {frame : Frame} {frames : List Frame} {scope : Scope} {now : Part} {q : Place} → Stands pool m depth levels base p0 (frame ∷ frames) now scope q → CanHold pool frame.part
-frame_can_hold {pool} {m} {depth} {levels} {base} {p0} {frame} {frames} {scope} {now} {q} s = from_held s.held
-  where
-    from_held : {o : Open Context} {room inner : ℕ} {path : List PathStep} {p : Place} {earlier : List Record} → Held pool m depth levels base p0 (frame ∷ frames) now o room inner path p earlier → CanHold pool frame.part
-    from_held (inside up h begun form can deep completes is_path counts ends goes_on takes) = can
-
--- its map has keys of the kind of the entry's key
-pub entry_has_room :
-    {pool : Types} {m depth levels : ℕ} {base : List Record} {p0 : Place} {frame : Frame} {frames : List Frame} {scope : Scope} {q : Place} (ok : IsPool pool) (key kd : Kind) (x : Option Scalar) (d : Option Datum)
-    → Stands pool m depth levels base p0 (frame ∷ frames) (entry_part key kd x d) scope q → HasRoomFor frame.slot frame.part key x
-entry_has_room {pool} {m} {depth} {levels} {base} {p0} {frame} {frames} {scope} {q} ok key kd x d s = by_slot frame.slot frame.part refl refl
-  where
-    by_slot : (t : Slot) (p : Part) → frame.slot ≡ t → frame.part ≡ p → HasRoomFor t p key x
-    by_slot (slot.Map n) (message_part k v) is_slot is_part = fits_keys ok key kd x d k n v s is_part is_slot
-    by_slot (slot.Map n) (entry_part k2 v2 y e) is_slot is_part = tt
-    by_slot (slot.Map n) (group_part us) is_slot is_part = tt
-    by_slot (slot.One sh n) p is_slot is_part = tt
-    by_slot (slot.List n) p is_slot is_part = tt
-    by_slot slot.Entry p is_slot is_part = tt
-    by_slot (slot.Unknown n) p is_slot is_part = tt
 
 -- THE FRAME THAT IS TAKEN OUT, where no end tag ends what was open in it, and where one does
 

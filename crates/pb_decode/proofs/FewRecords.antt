@@ -1,4 +1,4 @@
--- Each record takes a byte at least, so no count passes the position where one stands.
+-- Each record takes a byte at least, so no count passes the reader's position.
 use Rattle.std.proofs.Common.{◌≡◌, ℕ, ◌+◌, ◌≤◌, List, [], ◌∷◌, length, ap, ◌∙◌, arith, length-append}
 use Rattle.pb_wire.specs.Record.{Record}
 use Rattle.pb_wire.specs.Spell.{AreRecords}
@@ -40,7 +40,7 @@ pub counts_fit :
     {pool : Types} {m depth levels : ℕ} {base : List Record} {p0 : Place} {frames : List Frame} {scope : Scope} {now : Part} {q : Place} (k : ℕ) → Stands pool m depth levels base p0 frames now scope q → scope.counts k ≤ q.at
 counts_fit {scope = scope} k s = counts_behind scope.counts k s.behind s.counted
 
--- and those of what holds it
+-- and those of its parent
 pub frame_counts_fit :
     {pool : Types} {m depth levels : ℕ} {base : List Record} {p0 : Place} {frame : Frame} {frames : List Frame} {scope : Scope} {now : Part} {q : Place} (k : ℕ)
     → Stands pool m depth levels base p0 (frame ∷ frames) now scope q → frame.scope.counts k ≤ q.at

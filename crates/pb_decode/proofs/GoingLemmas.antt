@@ -1,4 +1,4 @@
--- What has been taken is a text, or is cut short, and nothing else.
+-- What has been taken is an encoding, or is cut short, and nothing else.
 use Rattle.std.proofs.Common.{◌≡◌, ◌+◌, ℕ, List, [], ◌∷◌, ◌++◌, length, refl, sym, subst, inl, inr}
 use Rattle.std.specs.Prelude.{All}
 use Rattle.std.proofs.lemmas.List.Elements.{All-from_recursion}

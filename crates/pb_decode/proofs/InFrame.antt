@@ -70,7 +70,7 @@ rest_left None y size bytes v few given w = tt
 rest_left (Some left) None size bytes v few given w = absurd given
 rest_left (Some left) (Some rest) size bytes v few given w = ap (λ (z : List ℕ). Some z) (sym (ap (drop size) given ∙ drop_at bytes rest size (all_there size few w).size_is))
 
--- and where all bytes of the frame are given as a text
+-- and where all bytes of the frame are given as an encoding
 pub text_frame :
     {pool : Types} {k : ℕ} {limits : Bounds} (x y : Option (List ℕ)) (size : ℕ) (bytes : List ℕ) (v : Message) → length bytes ≡ size → Consumes x y bytes → Text pool k limits bytes v → IfSome x (λ left. IsFrameOf pool k limits size left v)
 text_frame None y size bytes v all given t = tt
@@ -103,7 +103,7 @@ bad_frame pool (Some left) None size bytes f (inl all) given bad = absurd given
 bad_frame pool {k} {depth} (Some left) (Some rest) size bytes f (inl all) given bad =
     subst (λ (z : List ℕ). BadFrame pool k depth 0 size z f) (sym given) (bad_longer rest bad (never_cut (record { left = size; known = refl; enough = omega (arith, all) }) bad))
 
--- where it is told
+-- where it is reported
 pub low_byte : (pool : Types) {k depth size : ℕ} {bytes : List ℕ} (f : Fault) → BadFrom pool (further (origin k depth [] (Some size)) bytes) f → f.byte ≤ length bytes
 low_byte pool {bytes = bytes} f bad = let high = (bad_told bad).high in omega (arith, high)
 

@@ -1,4 +1,4 @@
--- The same bytes at a later position: their fault stands as much later, and nothing else of it changes.
+-- The same bytes at a later position: their fault is as much later, and nothing else of it changes.
 use Rattle.std.proofs.Common.{◌≡◌, ℕ, ◌+◌, ◌*◌, List, [], ◌∷◌, take, ap, ◌∙◌, arith, Option}
 use Rattle.std.specs.Str.Lossy.{utf8_valid_len}
 use Rattle.pb_wire.specs.Varint.{IsVarint}

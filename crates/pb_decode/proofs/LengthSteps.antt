@@ -1,4 +1,4 @@
--- A reader that stands where something begins.
+-- A reader where something begins.
 use Rattle.std.proofs.Common.{◌≡◌, ℕ, ◌-◌, List, [], ◌∷◌, ◌++◌, map, reverse, refl, sym, ap, ◌∙◌, subst, option_map}
 use Rattle.std.proofs.lemmas.List.{map-append, reverse-append}
 use Rattle.pb_wire.specs.Record.{Record}
@@ -21,7 +21,7 @@ use Rattle.pb_parts.proofs.AfterLemmas.{after_record}
 pub frames_pushed : (fs : List FrameKept) (f : FrameKept) → frames_view (fs ++ f ∷ []) ≡ frame_view f ∷ frames_view fs
 frames_pushed fs f = ap reverse (map-append frame_view fs (f ∷ [])) ∙ reverse-append (map frame_view fs) (frame_view f ∷ [])
 
--- where a reader stands is told by its position, its end and the bytes that are left
+-- where a reader is, is known by its position, its end and the bytes that are left
 place_here : (s : State) (rest : List ℕ) (u : Place) → u ≡ record u { known = option_map (λ (e : ℕ). e - u.at) s.scope.end } → u.at ≡ s.at → u.rest ≡ rest → u ≡ here s rest
 place_here s rest u is at same =
     is ∙ ap (λ (z : ℕ). record { at = z; known = option_map (λ (e : ℕ). e - z) s.scope.end; rest = u.rest }) at
@@ -33,14 +33,14 @@ pub after_here :
 after_here {pool} {m} {depth} {levels} {base} {p0} s rest u a at same =
     subst (After pool m depth levels base p0 s.frames s.next s.now s.scope) (place_here s rest u (place_up_to u s.scope.end a.ends) at same) a
 
--- behind a whole record, or where a part begins, a tag comes next
+-- after a whole record, or where a part begins, a tag comes next
 pub stands_here :
     {pool : Types} {m depth levels : ℕ} {base : List Record} {p0 : Place} (s : State) (rest : List ℕ) (u : Place) → Stands pool m depth levels base p0 s.frames s.now s.scope u → s.next ≡ step.Tag → u.at ≡ s.at → u.rest ≡ rest
     → Reads pool m depth levels base p0 s rest
 stands_here {pool} {m} {depth} {levels} {base} {p0} s rest u h tag at same =
     after_here s rest u (subst (λ (z : Step). After pool m depth levels base p0 s.frames z s.now s.scope u) (sym tag) (after_record h)) at same
 
--- a reader in what is opened stands where it begins
+-- a reader in what is opened is where it begins
 pub entered :
     {pool : Types} {m depth levels : ℕ} {base : List Record} {p0 : Place} (r : Reader) (part : PartKept) (scope : ScopeKept) (frame : FrameKept) (frames : List Frame) (q : Place) → frames_view r.frames.items ≡ frame_view frame ∷ frames
     → r.part ≡ part → r.scope ≡ scope → r.step ≡ step.Tag → q.at ≡ r.at → Stands pool m depth levels base p0 (frame_view frame ∷ frames) (part_view part) (scope_view scope) q → Reads pool m depth levels base p0 (state_view r) q.rest

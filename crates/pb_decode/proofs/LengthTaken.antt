@@ -20,7 +20,7 @@ use Rattle.pb_decode.specs.Reader.{State, left_of, here, own_step, path_here, Re
 use Rattle.pb_parts.proofs.FrameLemmas.{ends_along}
 use Rattle.pb_parts.proofs.TokenTold.{length_refused}
 
--- BEHIND THE LENGTH the known end is where it was
+-- AFTER THE LENGTH the known end is where it was
 pub length_ends :
     {pool : Types} {m depth levels : ℕ} {base : List Record} {p0 : Place} (s : State) (rest : List ℕ) (n size : ℕ) → Reads pool m depth levels base p0 s rest
     → ReadsNumber (here s rest) n (passed (here s rest) size) → EndsAt (passed (here s rest) size) s.scope.end
@@ -32,7 +32,7 @@ pub at_length :
     → After pool m depth levels base p0 s.frames (step.Length k p) s.now s.scope (here s rest)
 at_length {pool} {m} {depth} {levels} {base} {p0} s rest k p begun is = subst (λ (z : Step). After pool m depth levels base p0 s.frames z s.now s.scope (here s rest)) is begun
 
--- A FAULT below the step of the record is one where the reader stands
+-- A FAULT below the step of the record is one where the reader is
 length_told :
     (pool : Types) (m depth : ℕ) (p0 : Place) (s : State) (k : ℕ) (p : Purpose) (byte : ℕ) (c : Cause) → s.next ≡ step.Length k p
     → Bad (schema_of pool) (records (in_message m)) depth p0 (fault byte (path_of s.frames ++ next_step k s.scope ∷ []) c) → Bad (schema_of pool) (records (in_message m)) depth p0 (fault byte (path_here s) c)
@@ -52,7 +52,7 @@ pub length_short :
 length_short {pool} {m} {depth} {levels} {base} {p0} s rest k p begun is bad =
     cut (length_told pool m depth p0 s k p (input_end (here s rest)) Truncated is (length_refused k p (fault (input_end (here s rest)) [] Truncated) begun (ap awaited is) (LengthFault.token bad)))
 
--- WHAT IS TOLD of the number at the front of the bytes
+-- WHAT IS REPORTED of the number at the start of the bytes
 pub number_there :
     (s : State) (left : Option ℕ) (rest : List ℕ) (o : Option (ℕ × ℕ)) (n size : ℕ) → left ≡ left_of s → o ≡ Some (n, size)
     → IfSome o (λ t. (t.1 ≤ length rest) × ReadsNumber (given_at s.at left rest) t.0 (passed (given_at s.at left rest) t.1)) → (size ≤ length rest) × ReadsNumber (here s rest) n (passed (here s rest) size)

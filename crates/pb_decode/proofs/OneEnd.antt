@@ -1,4 +1,4 @@
--- Where bytes end inside a text, one thing is open, and so much of it is given.
+-- Where bytes end inside an encoding, one thing is open, and so much of it is given.
 use Rattle.std.proofs.Common.{◌≡◌, ◌≢◌, ◌⊎◌, ℕ, suc, ◌+◌, ◌-◌, List, [], ◌∷◌, length, refl, sym, ap, ◌∙◌, subst, arith, inl, inr, Option, Some, None, length-append, option_map}
 use Rattle.pb_wire.specs.Record.{Record}
 use Rattle.pb_wire.specs.declared.fault.PathStep.{PathStep}
@@ -17,7 +17,7 @@ use Rattle.pb_decode.specs.Pending.{Unfinished, in_tag, in_number, in_length, in
 use Rattle.pb_parts.proofs.OpenedLemmas.{begins_at_tag, bad_behind, bad_begun}
 use Rattle.pb_decode.proofs.OneElement.{one_front, varint_open, element_open}
 
--- THE SAME FROM THE TOP: behind whole records the bytes end in what comes next, or in what is begun there
+-- THE SAME FROM THE TOP: after whole records the bytes end in what comes next, or in what is begun there
 pub data EndsIn (S : Schema) : Open S.Context → ℕ → Place → ℕ → ℕ → ℕ → Type 0 where
   here :
       {o : Open S.Context} {room held contexts declared lists : ℕ} {p q : Place} {rs : List Record}
@@ -102,7 +102,7 @@ begun_bad :
     → (f : Fault) × RecordFault S a before room q f
 begun_bad before begun inner = let told = end_bad (goes_inside begun) inner in (_, bad_begun before begun told.1)
 
--- ONE PLACE: no whole record stands behind either front
+-- ONE PLACE: no whole record is after either prefix
 one_place :
     {S : Schema} {o : Open S.Context} {room : ℕ} {p q r : Place} {rs ss : List Record} → Behind S o room p rs q → Behind S o room p ss r → (f : Fault) × RecordFault S o rs room q f → (g : Fault) × RecordFault S o ss room r g → q ≡ r
 one_place {S} {o} {room} {p} {q} {r} {rs} {ss} b d f g = judge (align rs ss b.front d.front b.spelled d.spelled b.sound d.sound b.moves d.moves)
@@ -122,14 +122,14 @@ same_value S c {k} {l} {d} {e} same x y = let both = sym x ∙ ap (S.reading c) 
 same_list : (S : Schema) (c : S.Context) {k l : ℕ} {d e : Element} → k ≡ l → S.reading c k ≡ packed d → S.reading c l ≡ packed e → d ≡ e
 same_list S c {k} {l} {d} {e} same x y = let both = sym x ∙ ap (S.reading c) same ∙ y in cc
 
--- the same length, behind the same tag
+-- the same length, after the same tag
 one_size : {q r t u : Place} {n m : ℕ} → q ≡ r → HasLength q n t → HasLength r m u → (n ≡ m) × (t ≡ u)
 one_size {t = t} {n = n} same l k = one_length (subst (λ (z : Place). HasLength z n t) same l) k
 
 one_payload : (t u : Place) (n m : ℕ) → n ≡ m → t ≡ u → payload_at t n ≡ payload_at u m
 one_payload t u n m size place = ap (λ (z : ℕ). payload_at t z) size ∙ ap (λ (z : Place). payload_at z m) place
 
--- how a length is read tells what it opens
+-- how a length is read says what it opens
 no_both : {C : Type 0} (r : Reading C) {d e : C} → r ≡ message d → r ≡ same_level e → ⊥
 no_both r {d} {e} x y = let both = sym x ∙ y in absurd (cc)
 
@@ -272,7 +272,7 @@ one_end {S} {o} {room} {h2 = h2} {d2 = d2} (deeper {o = x} {below = low} {u = u}
     let r = one_end inner there in
     (r.0, is ∙ ap (λ (m : ℕ). suc m) r.1 ∙ sym is2, r.2)
 
--- THE LAW: of a text that ends inside there is one count of each
+-- THE LAW: of an encoding that ends inside there is one count of each
 pub one_ending :
     {S : Schema} {c : S.Context} {depth : ℕ} {b : List ℕ} {h k d h2 k2 d2 : ℕ} → EndsInside S c depth b h k d → EndsInside S c depth b h2 k2 d2 → (h ≡ h2) × (k ≡ k2) × (d ≡ d2)
 one_ending x y = one_end (ends_in x) (ends_in y)

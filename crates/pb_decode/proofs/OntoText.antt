@@ -1,4 +1,4 @@
--- Bytes from position 0 on, with no known end: a text onto what the reader began with, or its fault.
+-- Bytes from position 0 on, with no known end: an input onto what the reader began with, or its fault.
 use Rattle.std.proofs.Common.{◌≡◌, ℕ, zero, suc, ◌+◌, ◌<◌, ◌≤◌, ◌^◌, List, [], ◌++◌, take, length, refl, sym, ap, ◌∙◌, subst, arith, append-nil, length-append, inl, inr, ◌⊎◌, All, Some, None}
 use Rattle.pb_wire.specs.Record.{Payload, Record}
 use Rattle.pb_wire.specs.Ranges.{IsByte}
@@ -32,6 +32,7 @@ use Rattle.pb_decode.specs.Reader.{State, Stops, over, cut}
 use Rattle.pb_decode.specs.Reader.Origin.{origin, further, TookFrom, IsWhole, BadFrom, ToldFrom}
 use Rattle.pb_decode.specs.Onto.{IsTextOnto}
 use Rattle.pb_decode.specs.Push.{Took}
+use Rattle.pb_whole.proofs.Top.{nothing_good}
 use Rattle.pb_decode.proofs.OriginLemmas.{is_message, whole_there}
 
 -- THE START: the canonical records have the message as their value
@@ -66,7 +67,7 @@ text_from w size h = record {
   derives = record { records = h.records; spelled = subst (AreRecords h.records) (whole_front h) h.spelled; sound = h.sound; valued = h.valued };
 }
 
--- what a decoder has taken of a text, as a reader that began there
+-- what a decoder has taken of an encoding, as a reader that began there
 pub from_took : {pool : Types} {m : ℕ} {limits : Bounds} {b : List ℕ} (s : State) (held : List ℕ) → Took pool m limits b s held → TookFrom pool (further (origin m limits.depth [] None) b) s held
 from_took s held h = record { reads = h.reads; stops = h.stops; at = let at = h.at in omega (arith, at) }
 
@@ -100,9 +101,6 @@ exactly_onto pool m limits v b bytes = record {
     by_text (inr bad) = inr bad
 
 -- ONTO NOTHING
-pub nothing_good : (pool : Types) (m : ℕ) (v : Message) → v ≡ empty → IsWellFormed pool m v
-nothing_good pool m v none = subst (IsWellFormed pool m) (sym none) (record { parts = (tt, tt, tt, tt); depth = omega arith })
-
 nothing_derives : (pool : Types) (m depth : ℕ) (v : Message) → v ≡ empty → Derives pool m depth [] v
 unfolding value
 nothing_derives pool m depth v none = record { records = []; spelled = refl; sound = AllSound.none; valued = none ∙ sym (value_of_nothing pool 101 m) }
@@ -146,7 +144,7 @@ beyond_told {pool} {k} {limits} {base} {b} most s held is more h =
     subst (λ (n : ℕ). HasFault (schema_of pool) (a_message k) limits b (fault n [] InputTooLarge)) (sym is)
     (beyond_fault s held (omega (arith, is, more)) (subst (λ (n : ℕ). TookFrom pool (further (origin k limits.depth base None) (take n b)) s held) is h))
 
--- JOINED TEXTS: behind bytes that the message derives from
+-- JOINED INPUTS: after bytes that the message derives from
 module _ (pool : Types) (rules : IsPool pool) (m depth : ℕ) (v : Message) (good : IsWellFormed pool m v) where
   pub onto_derives : (a b : List ℕ) (w : Message) → Derives pool m depth a v → IsOnto pool m depth v b w → Derives pool m depth (a ++ b) w
   onto_derives a b w h t = record {
@@ -166,7 +164,7 @@ module _ (pool : Types) (rules : IsPool pool) (m depth : ℕ) (v : Message) (goo
         valued = g.valued ∙ ap (value pool m) behind.1 ∙ sym (onto_joined pool m v h.records behind.0 rules good (sym h.valued));
       }
 
--- a text onto the empty message is one of its value
+-- an encoding onto the empty message is one of its value
 pub text_onto_none : {pool : Types} {m : ℕ} {limits : Bounds} {b : List ℕ} (rules : IsPool pool) (v w : Message) → v ≡ empty → IsTextOnto pool m limits v b w → Text pool m limits b w
 text_onto_none {pool} {m} {limits} {b} rules v w none t = record {
   size = t.size;
@@ -192,7 +190,7 @@ mutual
   all_deeper more enough AllSound.none = AllSound.none
   all_deeper more enough (AllSound.one s h) = AllSound.one (sound_deeper more enough s) (all_deeper more enough h)
 
--- behind the canonical bytes of the message, where the wire can hold both
+-- after the canonical bytes of the message, where the wire can hold both
 pub joined_text :
     (pool : Types) (rules : IsPool pool) (m : ℕ) (limits : Bounds) (v : Message) (b : List ℕ) (w : Message) → limits.depth ≤ 100 → IsWellFormed pool m v → length (canon_bytes pool m v ++ b) < 2 ^ 31 → IsTextOnto pool m limits v b w
     → Text pool m full (canon_bytes pool m v ++ b) w

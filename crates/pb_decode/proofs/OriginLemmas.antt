@@ -15,7 +15,7 @@ use Rattle.pb_schema.specs.Context.{Context, a_message as in_message, schema_of}
 use Rattle.pb_value.specs.Data.{Message, empty}
 use Rattle.pb_value.specs.Value.{value, value_within}
 use Rattle.pb_value.proofs.MessageSteps.{value_of_nothing}
-use Rattle.pb_value.specs.WellFormed.{IsBody, IsWellFormed}
+use Rattle.pb_value.specs.WellFormed.{IsWellFormed}
 use Rattle.pb_parts.specs.declared.tokens.step.Step.{Step}
 use Rattle.pb_parts.specs.declared.tokens.step.Step.TheVariants as step
 use Rattle.pb_parts.specs.Open.Opened.{Behind}
@@ -26,12 +26,11 @@ use Rattle.pb_decode.specs.Reader.Origin.{Origin, origin, further, TookFrom, IsO
 use Rattle.pb_parts.proofs.AfterLemmas.{after_record, at_record}
 use Rattle.pb_parts.proofs.FrameLemmas.{stands_at_start}
 use Rattle.pb_decode.proofs.FinishLemmas.{cut_told}
-use Rattle.pb_parts.proofs.WellLemmas.{message_good}
-use Rattle.pb_decode.proofs.PushLemmas.{is_top}
+use Rattle.pb_whole.proofs.Top.{is_top, top_well_formed}
 
 -- MORE BYTES
 
--- a reader that took some text stands where a step goes on
+-- a reader that took some input is where a step goes on
 pub from_reading : {pool : Types} (o : Origin) (s : State) (held : List ℕ) → s.at + length held < 2 ^ 31 → TookFrom pool o s held → IsReading pool s held
 from_reading o s held small h = record {
   m = o.kind;
@@ -53,13 +52,7 @@ took_further o s t held rest more h at there = record {
 }
 
 -- THE END
--- the part is the message, of the type and the levels that it began with
-top_inner :
-    {pool : Types} {m depth levels : ℕ} {base : List Record} {p0 : Place} {now : Part} {o : Open Context} {room inner : ℕ} {path : _} {p : Place} {earlier : List Record}
-    → Held pool m depth levels base p0 [] now o room inner path p earlier → inner ≡ levels
-top_inner (at_top v form is_open is_room is_inner is_path is_place is_base goes_on) = is_inner
-
--- where nothing is open but the message, one stands behind a whole record of it
+-- where nothing is open but the message, the reader is after a whole record of it
 pub stands_over : {pool : Types} (o : Origin) (s : State) (held : List ℕ) → IsOverAt s held → TookFrom pool o s held → Stands pool o.kind o.depth 101 o.base o.place [] s.now s.scope (here s held)
 stands_over {pool} o s held ended h =
     at_record
@@ -69,7 +62,7 @@ stands_over {pool} o s held ended h =
 pub is_message : {pool : Types} (o : Origin) (s : State) (held : List ℕ) → IsOverAt s held → TookFrom pool o s held → (v : Message) × (s.now ≡ message_part o.kind v)
 is_message o s held ended h = is_top refl (stands_over o s held ended h).held
 
--- whole records lead from the top's first byte to where one stands
+-- whole records lead from the top's first byte to the reader's position
 whole_read : (pool : Types) (o : Origin) (k : ℕ) (v : Message) (scope : Scope) (q : Place) → IsOver q → Stands pool o.kind o.depth 101 o.base o.place [] (message_part k v) scope q → IsWhole pool o v
 unfolding value
 whole_read pool o k v scope q ended s = from_held s.held s.behind s.worth
@@ -96,17 +89,6 @@ pub whole_there : {pool : Types} (o : Origin) (s : State) (held : List ℕ) (k :
 whole_there {pool} o s held k w ended is h =
     whole_read pool o k w s.scope (here s held) ended.over
     (subst (λ (z : Part). Stands pool o.kind o.depth 101 o.base o.place [] z s.scope (here s held)) is (stands_over o s held ended h))
-
--- what there is of the top is well formed
-pub top_well_formed :
-    {pool : Types} {m depth : ℕ} {base : List Record} {p0 : Place} {scope : Scope} {q : Place} (k : ℕ) (w : Message) → IsPool pool → Stands pool m depth 101 base p0 [] (message_part k w) scope q → IsWellFormed pool m w
-top_well_formed {pool} {m} k w ok stands =
-    let good = message_good ok k w stands in
-    let (v, form) = is_top refl stands.held in
-    let same : k ≡ m = (let e : message_part k w ≡ message_part m v = form in cc) in
-    let inner = top_inner stands.held in
-    let low = good.1 in
-    record { parts = subst (λ (z : ℕ). IsBody pool z w) same good.0; depth = omega (arith, low, inner) }
 
 pub well_formed_over : {pool : Types} (o : Origin) (s : State) (held : List ℕ) (k : ℕ) (w : Message) → IsPool pool → IsOverAt s held → s.now ≡ message_part k w → TookFrom pool o s held → IsWellFormed pool o.kind w
 well_formed_over {pool} o s held k w ok ended is h =

@@ -16,7 +16,7 @@ pub fault_weaker : {A : Type 0} (r : Result A DecodeError) (P Q : Fault → Type
 fault_weaker (Ok a) P Q h bad = tt
 fault_weaker (Err e) P Q h bad = if_fault_weaker e P Q h bad
 
--- of what an input has left, where it tells that
+-- of what an input has left, where it says that
 pub ok_left : {A E B : Type 0} (r : Result A E) (x : Option B) (P : B → A → Type 0) → IfOk r (λ a. IfSome x (λ b. P b a)) → IfSome x (λ b. IfOk r (P b))
 ok_left r None P h = tt
 ok_left (Ok a) (Some b) P h = h

@@ -48,7 +48,7 @@ module _ {pool : Types} {m depth levels : ℕ} {base : List Record} {p0 : Place}
       let size = at.length_is.length_is.2.at in
       omega (arith, few, tag, size)
 
-  -- its bytes lead behind it
+  -- its bytes lead after it
   pub payload_moves : n ≤ length rest → Moves (here s rest) (take n rest) (passed (here s rest) n)
   payload_moves within = moves_passed (here s rest) n within (at_payload k meant n payload_next).length_is.within
 
@@ -60,7 +60,7 @@ module _ {pool : Types} {m depth levels : ℕ} {base : List Record} {p0 : Place}
   pub payload_short : IsPool pool → length rest < n → Stops pool m depth p0 s rest
   payload_short ok short = cut (payload_bad (s.at + length rest) Truncated (payload_cut k meant n payload_next (payload_can ok) payload_purpose short))
 
-  -- a text that is not UTF-8 is refused at once
+  -- a string that is not UTF-8 is refused at once
   pub payload_refused : (e : PayloadError) (valid : ℕ) → e ≡ error.BadText valid
       → IfBadText e (λ v. Bad (schema_of pool) (records (in_message m)) depth p0 (fault (s.at + v) (path_of s.frames ++ next_step k s.scope ∷ []) BadText)) → Told pool m depth p0 (fault (s.at + valid) (path_here s) BadText)
   payload_refused e valid which told =

@@ -176,7 +176,7 @@ one_at_most (entry_part key k x d) = omega arith
 one_at_most (message_part m v) = omega arith
 one_at_most (group_part us) = omega arith
 
--- the message at the level of what holds it stands in an entry
+-- the message at the level of its parent is in an entry
 no_single : (t : ℕ) (k : Kind) (d : Context) → read_singular (in_message t) k ≡ same_level d → ⊥
 no_single t kind.Text d e = absurd (cc)
 no_single t (kind.Message j) d e = absurd (cc)

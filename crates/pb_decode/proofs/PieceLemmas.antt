@@ -12,7 +12,7 @@ use Rattle.pb_decode.specs.Reader.{State, Reads, Told}
 use Rattle.pb_decode.proofs.PushLemmas.{reads_more, no_bytes}
 use Rattle.pb_parts.proofs.PlaceLemmas.{slice_from}
 
--- a fault that is settled is that of every longer text
+-- a fault that is settled is that of every longer input
 pub told_longer : {pool : Types} {m depth : ℕ} {p : Place} (more : List ℕ) (f : Fault) → Told pool m depth p f → Told pool m depth (longer p more) f
 told_longer more f h = record { bad = bad_longer more h.bad h.settled; settled = h.settled }
 
@@ -59,7 +59,7 @@ part_bytes n m l h = first n (drop m l) (others m l h)
     first (suc n) [] h = tt
     first (suc n) (x ∷ l) h = (h.0, first n l h.1)
 
--- what is told of a part is told of the whole piece
+-- what is reported of a part is reported of the whole piece
 pub told_on :
     {pool : Types} {m depth : ℕ} (p : Place) (here more : ℕ) (l : List ℕ) (f : Fault) → Told pool m depth (longer (longer p (take here l)) (take ((here + more) - here) (drop here l))) f
     → Told pool m depth (longer p l) f

@@ -16,12 +16,12 @@ use Rattle.pb_value.specs.Data.{Message, empty}
 use Rattle.pb_value.specs.Derives.{Text}
 use Rattle.pb_parts.specs.declared.tokens.step.Step.{Step}
 use Rattle.pb_parts.specs.declared.tokens.step.Step.TheVariants as step
-use Rattle.pb_parts.specs.Open.Frames.{Part, message_part, entry_part, group_part, Frame, Scope, Held, at_top, inside, IsSameForm, Stands}
+use Rattle.pb_parts.specs.Open.Frames.{Part, message_part, Frame, Scope, Held, at_top, Stands}
 use Rattle.pb_parts.specs.Tokens.After.{After}
 use Rattle.pb_decode.specs.Reader.{State, here, path_here, Reads, IsReading, Stops, over, cut, Told}
 use Rattle.pb_decode.specs.Push.{Took, IsSettled}
 use Rattle.pb_parts.proofs.AfterLemmas.{after_longer, at_record}
-use Rattle.pb_decode.proofs.FinishLemmas.{text_read}
+use Rattle.pb_whole.proofs.Top.{is_top, text_read}
 use Rattle.pb_parts.proofs.PlaceLemmas.{slice_from}
 
 -- WHAT IS HELD is the rest of the bytes
@@ -35,7 +35,7 @@ pub held_all :
     → Reads pool m depth levels base p0 s (drop n l) × Stops pool m depth p0 s (drop n l) → Reads pool m depth levels base p0 s l × Stops pool m depth p0 s l
 held_all pool m depth levels base p0 s n l none h = subst (λ (x : ℕ). Reads pool m depth levels base p0 s (drop x l) × Stops pool m depth p0 s (drop x l)) none h
 
--- MORE BYTES behind those that are held
+-- MORE BYTES after those that are held
 pub reads_more :
     {pool : Types} {m depth levels : ℕ} {base : List Record} {p0 : Place} (s : State) (held more : List ℕ) → AreBytes more
     → Reads pool m depth levels base p0 s held → Reads pool m depth levels base (longer p0 more) s (held ++ more)
@@ -56,11 +56,11 @@ pub no_bytes : (l : List ℕ) → length l ≡ 0 → l ≡ []
 no_bytes [] none = refl
 no_bytes (x ∷ l) none = absurd (omega (arith, none))
 
--- behind nothing
+-- after nothing
 pub held_behind : (n : ℕ) (held l : List ℕ) → length held ≡ 0 → held ++ take (length l - n) (drop n l) ≡ drop n l
 held_behind n held l none = ap (λ (z : List ℕ). z ++ take (length l - n) (drop n l)) (no_bytes held none) ∙ slice_from n l
 
--- what is taken of a text, with the next piece behind it
+-- what is taken of an encoding, with the next piece after it
 pub took_more :
     {pool : Types} {m : ℕ} {limits : Bounds} (b piece : List ℕ) (s t : State) (held rest : List ℕ) → Took pool m limits b s held → length b + length piece ≤ limits.bytes
     → t.at + length rest ≡ s.at + length held + length piece → Reads pool m limits.depth 101 [] (longer (text_at b) piece) t rest × Stops pool m limits.depth (longer (text_at b) piece) t rest
@@ -72,19 +72,7 @@ took_more b piece s t held rest h fits at there = record {
   size = let joined = length-append b piece in omega (arith, fits, joined);
 }
 
--- NOTHING IS OPEN BUT THE TOP: the part is the message, and no end is known
-pub is_top :
-    {pool : Types} {m depth levels : ℕ} {base : List Record} {p0 : Place} {frames : List Frame} {now : Part} {o : Open Context} {room inner : ℕ} {path : _} {p : Place} {earlier : List Record}
-    → frames ≡ [] → Held pool m depth levels base p0 frames now o room inner path p earlier → (v : Message) × (now ≡ message_part m v)
-is_top none (at_top {now = now} v form is_open is_room is_inner is_path is_place is_base goes_on) = by_part now form
-  where
-    by_part : {k : ℕ} (part : Part) → IsSameForm part (message_part k v) → (w : Message) × (part ≡ message_part k w)
-    by_part (message_part j w) same = (w, ap (λ (z : ℕ). message_part z w) same)
-    by_part (entry_part key k x d) same = absurd same
-    by_part (group_part us) same = absurd same
-is_top none (inside up h begun form can deep completes is_path counts ends goes_on takes) = absurd (cc)
-
--- no end is known of the whole text
+-- no end is known of the whole input
 pub top_known : {pool : Types} {m depth levels : ℕ} {b : List ℕ} {now : Part} {scope : Scope} {q : Place} → Stands pool m depth levels [] (text_at b) [] now scope q → q.known ≡ None
 top_known {pool} {m} {depth} {levels} {b} {now} {q = q} s = from_held (length s.behind.front) s.held s.behind.moves.known
   where
@@ -93,7 +81,7 @@ top_known {pool} {m} {depth} {levels} {b} {now} {q = q} s = from_held (length s.
         → q.known ≡ option_map (λ (e : ℕ). e - n) p.known → q.known ≡ None
     from_held n (at_top v form is_open is_room is_inner is_path is_place is_base goes_on) known = known ∙ ap (λ (z : Place). option_map (λ (e : ℕ). e - n) z.known) is_place
 
--- at the top, and behind a whole record
+-- at the top, and after a whole record
 pub stands_top :
     {pool : Types} {m depth levels : ℕ} {b : List ℕ} (s : State) (held : List ℕ) → s.frames ≡ [] → s.next ≡ step.Tag → Reads pool m depth levels [] (text_at b) s held
     → Stands pool m depth levels [] (text_at b) [] s.now s.scope (here s held)
@@ -106,7 +94,7 @@ pub top_over : {pool : Types} {m depth levels : ℕ} {b : List ℕ} (s : State) 
 top_over s held none tag h (inl ended) = let open_end = top_known (stands_top s held none tag h) in absurd (cc)
 top_over s held none tag h (inr ended) = ended.1
 
--- a whole text, at the end of its bytes
+-- a whole input, at the end of its bytes
 pub text_there :
     {pool : Types} {m : ℕ} {limits : Bounds} (b : List ℕ) (s : State) (held : List ℕ) → length b ≤ limits.bytes → s.frames ≡ [] → s.next ≡ step.Tag → held ≡ []
     → Reads pool m limits.depth 101 [] (text_at b) s held → (v : Message) × (s.now ≡ message_part m v) × Text pool m limits b v

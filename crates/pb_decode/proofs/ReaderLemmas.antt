@@ -1,4 +1,4 @@
--- A reader that takes bytes, and one that has some text read.
+-- A reader that takes bytes, and one that has some input read.
 use Rattle.std.proofs.Common.{◌≡◌, ◌≢◌, ℕ, ◌+◌, ◌-◌, List, [], ◌∷◌, ◌++◌, take, drop, length, refl, sym, ap, ◌∙◌, subst, arith, Option, Some, None, option_map, drop-drop}
 use Rattle.pb_wire.specs.Record.{Record}
 use Rattle.pb_wire.specs.declared.fault.Cause.{Cause}
@@ -40,12 +40,12 @@ taken_some pool m depth levels base p0 s n size l o some h =
     let there : Reads pool m depth levels base p0 s (drop size (take (length l - n) (drop n l))) = subst (Taken pool m depth levels base p0 s (take (length l - n) (drop n l))) some h in
     subst (Reads pool m depth levels base p0 s) (ap (drop size) (slice_from n l) ∙ drop-drop size n l) there
 
--- behind so many bytes
+-- after this many bytes
 left_passed : (e : Option ℕ) (at size : ℕ) → option_map (λ (z : ℕ). z - size) (option_map (λ (z : ℕ). z - at) e) ≡ option_map (λ (z : ℕ). z - (at + size)) e
 left_passed None at size = refl
 left_passed (Some e) at size = let same : (e - at) - size ≡ e - (at + size) = omega arith in ap (λ (z : ℕ). Some z) same
 
--- where one stands behind so many of the bytes
+-- the reader is after this many of the bytes
 pub passed_here : (s t : State) (size : ℕ) (rest : List ℕ) → t.at ≡ s.at + size → t.scope.end ≡ s.scope.end → passed (here s rest) size ≡ here t (drop size rest)
 passed_here s t size rest at end =
     ap (λ (z : Option ℕ). record { at = s.at + size; known = z; rest = drop size rest }) (left_passed s.scope.end s.at size)
@@ -66,7 +66,7 @@ own_awaited (step.Length n p) t scope is = let same : n ≡ t.number = ap_number
 own_awaited (step.Payload n p size) t scope is = absurd (cc)
 own_awaited (step.Elements n k outer) t scope is = absurd (cc)
 
--- a fault that ends what is begun behind a tag
+-- a fault that ends what is begun after a tag
 path_awaited : (s : State) (t : Tag) → awaited s.next ≡ Some t → path_of s.frames ++ next_step t.number s.scope ∷ [] ≡ path_here s
 path_awaited s t is = ap (λ (z : List PathStep). path_of s.frames ++ z) (sym (own_awaited s.next t s.scope is))
 
@@ -86,7 +86,7 @@ pub number_refused :
     → NumberFault t.type (here s rest) (fault s.at [] c) → Told pool m depth p0 (fault s.at (path_here s) c)
 number_refused s rest t c begun is not_cut bad = record { bad = number_bad s rest t s.at c begun is bad; settled = not_cut }
 
--- BEHIND A WHOLE RECORD a tag comes next
+-- AFTER A WHOLE RECORD a tag comes next
 pub stands_reads :
     {pool : Types} {m depth levels : ℕ} {base : List Record} {p0 : Place} (s t : State) (size : ℕ) (rest : List ℕ) → t.at ≡ s.at + size → t.scope.end ≡ s.scope.end → t.next ≡ step.Tag
     → StandsAt pool m depth levels base p0 t (passed (here s rest) size) → Reads pool m depth levels base p0 t (drop size rest)
@@ -94,7 +94,7 @@ stands_reads {pool} {m} {depth} {levels} {base} {p0} s t size rest at end tag h 
     subst (λ (z : Step). After pool m depth levels base p0 t.frames z t.now t.scope (here t (drop size rest))) (sym tag)
     (after_record (subst (StandsAt pool m depth levels base p0 t) (passed_here s t size rest at end) h))
 
--- what is told of an error
+-- what is reported of an error
 pub if_fault_weaker : (e : DecodeError) (P Q : Fault → Type 0) → ((f : Fault) → P f → Q f) → IfFault e P → IfFault e Q
 if_fault_weaker (error.Fault byte path c) P Q h is = h (fault byte path.items c) is
 if_fault_weaker error.Memory P Q h is = tt

@@ -1,4 +1,4 @@
--- What a reader may do wherever it has some text read.
+-- What a reader may do wherever it has some input read.
 use Rattle.std.proofs.Common.{◌≡◌, ℕ, ◌≤◌, List, arith, Some}
 use Rattle.pb_wire.specs.Record.{Record}
 use Rattle.pb_wire.specs.Fault.{Place}

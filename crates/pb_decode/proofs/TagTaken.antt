@@ -1,4 +1,4 @@
--- A tag, or the end of the input, where a reader stands behind a whole record.
+-- A tag, or the end of the input, where a reader is after a whole record.
 use Rattle.std.proofs.Common.{◌≡◌, ◌≢◌, ℕ, zero, suc, ◌+◌, ◌-◌, ◌<◌, ◌≤◌, List, [], ◌∷◌, ◌++◌, length, refl, sym, ap, ◌∙◌, subst, arith, append-nil, inl, inr, ◌⊎◌, Option, Some, None, option_map}
 use Rattle.std.specs.Prelude.{IfSome, IfNone}
 use Rattle.pb_wire.specs.Record.{Record}
@@ -37,7 +37,7 @@ light (step.Elements n k outer) = omega arith
 pub number_long : {n : ℕ} (p : Place) (size : ℕ) → HasNumber p n (passed p size) → 0 < size
 number_long p size h = let some = ends_some h.0 h.1.ends in let at = h.2.at in omega (arith, some, at)
 
--- THE NUMBER AT THE FRONT, with so many bytes before the known end
+-- THE NUMBER AT THE START, with this many bytes before the known end
 pub front_whole :
     (at : ℕ) (e f : Option ℕ) (rest : List ℕ) (o : Option (ℕ × ℕ)) (n size : ℕ) → o ≡ Some (n, size) → e ≡ f → IfSome o (λ t. (t.1 ≤ length rest) × HasNumber (given_at at e rest) t.0 (passed (given_at at e rest) t.1))
     → (size ≤ length rest) × HasNumber (given_at at f rest) n (passed (given_at at f rest) size)
@@ -52,7 +52,7 @@ front_short at e f rest o is same h =
     subst (λ (z : Option ℕ). VarintFault (given_at at z rest) (fault (input_end (given_at at z rest)) [] Truncated)) same
     (subst (λ (z : Option (ℕ × ℕ)). IfNone z (VarintFault (given_at at e rest) (fault (input_end (given_at at e rest)) [] Truncated))) is h)
 
--- WHERE A RECORD BEGINS: what is open inside something else has a known end, or ends by a tag
+-- WHERE A RECORD BEGINS: the open part inside something else has a known end, or ends by a tag
 begun_known : (pool : Types) {a o : Open Context} {room below k : ℕ} {q u : Place} (c : Context) → Begun (schema_of pool) a room k q o below u → o ≡ records c → u.known ≡ None → ⊥
 begun_known pool c (opened.a_message {n = n} levels has re l is_open is_place) is none = let never : Some n ≡ None = sym (ap (λ (z : Place). z.known) is_place) ∙ none in cc
 begun_known pool c (opened.a_value {n = n} levels has re l is_open is_place) is none = let never : Some n ≡ None = sym (ap (λ (z : Place). z.known) is_place) ∙ none in cc

@@ -12,7 +12,7 @@ use Rattle.pb_value.specs.Derives.{Text}
 use Rattle.pb_decode.specs.declared.error.DecodeError.{DecodeError}
 use Rattle.pb_decode.specs.declared.error.DecodeError.TheVariants as error
 
--- this many bytes are left at least, and the first of them are a text of v
+-- this many bytes are left at least, and the first of them are an encoding of v
 pub record IsFrameOf (pool : Types) (m : ℕ) (limits : Bounds) (size : ℕ) (left : List ℕ) (v : Message) : Type 0 where
   pub given : size ≤ length left
   pub text : Text pool m limits (take size left) v

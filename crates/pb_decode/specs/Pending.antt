@@ -1,4 +1,4 @@
--- Where the bytes of a text that goes on end: what is open there, and how much of its last token or payload is given.
+-- Where the bytes of an input that goes on end: the open part there, and how much of its last token or payload is given.
 use Rattle.std.specs.Prelude.{◌≡◌, ◌⊎◌, ℕ, suc, ◌+◌, ◌<◌, List, [], length}
 use Rattle.pb_wire.specs.Record.{Record}
 use Rattle.pb_wire.specs.declared.fault.PathStep.{PathStep}
@@ -11,7 +11,7 @@ use Rattle.pb_parts.specs.Open.Opened.{Behind, Opened}
 use Rattle.pb_parts.specs.Tokens.Numbers.{IsCutVarint, IsCutNumber}
 
 -- With this many levels left the bytes end inside the record that comes next at q, or before it: this many of its open token or payload
--- are given, this many packed lists are open in it, and this many bytes are declared for its payload of a text, of bytes or of an unknown record.
+-- are given, this many packed lists are open in it, and this many bytes are declared for its payload of a string, of bytes or of an unknown record.
 pub data Unfinished (S : Schema) (c : S.Context) (room : ℕ) (q : Place) (held lists declared : ℕ) : Type 0 where
   in_tag : IsCutVarint q → held ≡ length q.rest → lists ≡ 0 → declared ≡ 0 → Unfinished S c room q held lists declared
   in_number :
@@ -50,6 +50,6 @@ IsPending S c depth b held = (contexts : ℕ) × (declared : ℕ) × EndsInside 
 abbrev pub HasOpen : (S : Schema) → S.Context → ℕ → List ℕ → ℕ → Type 0
 HasOpen S c depth b contexts = (held : ℕ) × (declared : ℕ) × EndsInside S c depth b held contexts declared
 
--- the payload of a text, of bytes or of an unknown record is open, and this many bytes are declared for it; 0 if none is
+-- the payload of a string, of bytes or of an unknown record is open, and this many bytes are declared for it; 0 if none is
 abbrev pub IsDeclared : (S : Schema) → S.Context → ℕ → List ℕ → ℕ → Type 0
 IsDeclared S c depth b declared = (held : ℕ) × (contexts : ℕ) × EndsInside S c depth b held contexts declared

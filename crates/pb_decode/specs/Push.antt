@@ -12,19 +12,19 @@ use Rattle.pb_decode.specs.declared.error.DecodeError.{DecodeError}
 use Rattle.pb_decode.specs.declared.error.DecodeError.TheVariants.{Memory}
 use Rattle.pb_decode.specs.Reader.{State, Reads, Stops, IfFault}
 
--- A reader has read the text b, but for the bytes that it holds, of which no more can be taken.
+-- A reader has read the input b, but for the bytes that it holds, of which no more can be taken.
 pub record Took (pool : Types) (m : ℕ) (limits : Bounds) (b : List ℕ) (s : State) (held : List ℕ) : Type 0 where
   pub reads : Reads pool m limits.depth 101 [] (text_at b) s held
   pub stops : Stops pool m limits.depth (text_at b) s held
   pub at : s.at + length held ≡ length b
   pub size : length b ≤ limits.bytes
 
--- some text is read
+-- some input is read
 pub record TookSome (pool : Types) (m : ℕ) (limits : Bounds) (s : State) (held : List ℕ) : Type 0 where
   pub text : List ℕ
   pub took : Took pool m limits text s held
 
--- the bytes b, read as a text of the type within the limits, have this fault
+-- the bytes b, read as an input of the type within the limits, have this fault
 abbrev pub IsFaultOf : Types → ℕ → Bounds → List ℕ → Fault → Type 0
 IsFaultOf pool m limits b f = HasFault (schema_of pool) (a_message m) limits b f
 
@@ -41,6 +41,6 @@ pub record IsSettled (pool : Types) (m : ℕ) (limits : Bounds) (b : List ℕ) (
   pub fault : HasFault (schema_of pool) (a_message m) limits b f
   pub settled : IsCut f → ⊥
 
--- b is a text, or is cut short: more bytes may still make it one
+-- b is an encoding, or is cut short: more bytes may still make it one
 abbrev pub IsGoing : Types → ℕ → Bounds → List ℕ → Type 0
 IsGoing pool m limits b = IsSomeText (schema_of pool) (a_message m) limits b ⊎ ((f : Fault) × HasFault (schema_of pool) (a_message m) limits b f × IsCut f)

@@ -1,11 +1,6 @@
--- What a reader of a part has, and what it has found of the bytes at hand.
+-- What a reader of a part has, and what it has found of the bytes given.
 pub mod Waiting
 pub mod Origin
-pub mod Fills
-pub mod Entries
-pub mod Scalars
-pub mod Pairs
-pub mod Listed
 pub mod Steps
 pub mod Pieces
 pub mod Ended
@@ -84,7 +79,7 @@ StandsAt pool m depth levels base p0 s w = Stands pool m depth levels base p0 s.
 abbrev pub AfterAt : Types → ℕ → ℕ → ℕ → List Record → Place → State → Place → Type 0
 AfterAt pool m depth levels base p0 s w = After pool m depth levels base p0 s.frames s.next s.now s.scope w
 
--- it has read some text up to these bytes, whose positions are small
+-- it has read some input up to these bytes, whose positions are small
 pub record IsReading (pool : Types) (s : State) (rest : List ℕ) : Type 0 where
   pub m : ℕ
   pub depth : ℕ

@@ -28,7 +28,7 @@ reading_view r = record {
   held = r.held.items;
 }
 
--- the type is one of a pool, and what is kept is what is read of some text, of which no more can be taken
+-- the type is one of a pool, and what is kept is what is read of some input, of which no more can be taken
 pub record IsSound (pool : Types) (kind : ℕ) (limits : Bounds) (reading : Option Reading) : Type 0 where
   pub rules : IsPool pool
   pub within : kind < length pool.messages

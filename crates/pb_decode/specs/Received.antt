@@ -12,7 +12,7 @@ use Rattle.pb_decode.specs.Decoder.{Decoder, state_of}
 abbrev pub After : Decoder → List ℕ → Type 0
 After d b = IsSomeAnd d.reading (λ r. Took d.pool d.kind d.limits b (state_of r) r.held)
 
--- b is a text of v
+-- b is an encoding of v
 abbrev pub IsTextFor : Decoder → List ℕ → Message → Type 0
 IsTextFor d b v = Text d.pool d.kind d.limits b v
 
@@ -24,7 +24,7 @@ IsFaultFor d b f = IsFaultOf d.pool d.kind d.limits b f
 abbrev pub IsSettledFor : Decoder → List ℕ → Fault → Type 0
 IsSettledFor d b f = IsSettled d.pool d.kind d.limits b f
 
--- b is a text or is cut short
+-- b is an encoding or is cut short
 abbrev pub IsGoingFor : Decoder → List ℕ → Type 0
 IsGoingFor d b = IsGoing d.pool d.kind d.limits b
 

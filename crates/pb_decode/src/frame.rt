@@ -17,10 +17,9 @@ use crate::error::DecodeError;
 use crate::from_device::{PIECE, read_pieces};
 use crate::push::Reading;
 use crate::reader::origin::{begin_empty, finish_message, take_onward};
-use crate::reader::quick_text::read_text;
 use pb_schema::{MessageId, Pool};
 use pb_value::DynamicMessage;
-use pb_value::parts::from_well_formed;
+use pb_whole::build;
 use pb_wire::{Input, Limits};
 use std::alloc::Global;
 
@@ -44,8 +43,8 @@ fn read_first<I: Input>(
     if size == 0 {
         return Ok(0);
     }
-    let room = buffer.len().min(size);
-    let Ok(count) = input.read(&mut buffer[..room]) else {
+    let wanted = buffer.len().min(size);
+    let Ok(count) = input.read(&mut buffer[..wanted]) else {
         return Err(DecodeError::Device);
     };
     Ok(count)
@@ -69,8 +68,10 @@ fn read_at_once<'p>(
     if bytes.len() != size as usize {
         return None;
     }
-    let body = read_text(alloc, pool, message_type, bytes, limits)?;
-    Some(from_well_formed(alloc, pool, message_type, body))
+    let Ok(message) = build(alloc, pool, message_type, bytes, limits) else {
+        return None;
+    };
+    Some(message)
 }
 
 /// Takes the first bytes of a frame, which are in the buffer, and what the input gives of those after them. Returns how many
@@ -109,7 +110,7 @@ fn take_frame<I: Input>(
     Ok(count + more)
 }
 
-/// The message of a frame whose first bytes are in the buffer, read in pieces. Where they are all, none is tried again.
+/// The message of a frame whose first bytes are in the buffer, read in pieces.
 fn read_in_pieces<'p, I: Input>(
     alloc: Global,
     pool: &'p Pool,
@@ -139,8 +140,7 @@ fn read_in_pieces<'p, I: Input>(
     ensures steady { I.is_steady input.old ≡ true → result ≢ Err Device }
     ensures stays { I.is_steady input.old ≡ true → I.is_steady input.new ≡ true }
 {
-    let tried = if count == size as usize { size } else { 0 };
-    let mut reading = begin_empty(alloc, pool, message_type, limits, Some(size), tried);
+    let mut reading = begin_empty(alloc, pool, message_type, limits, Some(size));
     let _small = limits.max_bytes();
     take_frame(
         alloc,

@@ -79,8 +79,8 @@ pub(crate) fn read_pieces<I: Input>(
 {
     let mut taken = 0;
     'reading: while taken < most {
-        let room = buffer.len().min(most - taken);
-        let count = read_piece(alloc, pool, reading, input, &mut buffer[..room])?;
+        let wanted = buffer.len().min(most - taken);
+        let count = read_piece(alloc, pool, reading, input, &mut buffer[..wanted])?;
         if count == 0 {
             return Ok(taken);
         }
@@ -162,7 +162,7 @@ fn read_message<'p, I: Input>(
     ensures stays { I.is_steady input.old ≡ true → I.is_steady input.new ≡ true }
 {
     let _types = pool.messages();
-    let mut reading = begin_empty(alloc, pool, message_type, limits, None, 0);
+    let mut reading = begin_empty(alloc, pool, message_type, limits, None);
     read_within(alloc, pool, message_type, limits, &mut reading, input)?;
     finish_message(alloc, pool, message_type, reading)
 }
@@ -170,7 +170,7 @@ fn read_message<'p, I: Input>(
 /// Decodes a message of a type from what an input gives up to its end (encoding guide, "Message Structure").
 ///
 /// The answer is that of the bytes as a whole, however the input cuts them: the message's value, or [`DecodeError::Fault`]
-/// with the first byte that no text of the type can have there. [`DecodeError::Device`] says that the input failed. What is
+/// with the first byte that no encoding of the type can have there. [`DecodeError::Device`] says that the input failed. What is
 /// held meanwhile is the message so far and the bytes of one open token or payload. `message_type` is a type of the pool.
 pub fn decode_from<'p, I: Input>(
     alloc: Global,

@@ -12,7 +12,7 @@ ghost use Rattle.pb_value.specs.Data.{Message};
 ghost use Rattle.pb_value.specs.Derives.{Text};
 ghost use Rattle.pb_decode.specs.Push.{IsSettled};
 
-/// Bytes are the text of a value within the limits, or have one fault: always one of the two and never both, and at most one value.
+/// Bytes are the encoding of a value within the limits, or have one fault: always one of the two and never both, and at most one value.
 pub fn one_answer()
     ensures exactly { (pool : Types) (m : ℕ) (limits : Bounds) (b : List ℕ) → All IsByte b
         → Exactly ((v : Message) × Text pool m limits b v) (HasFault (schema_of pool) (a_message m) limits b) }
@@ -20,7 +20,7 @@ pub fn one_answer()
         → Text pool m limits b v → Text pool m limits b w → v ≡ w }
 {}
 
-/// A fault that more bytes do not change is that of every longer text, also of one past the limit on its length.
+/// A fault that more bytes do not change is that of every longer input, also of one past the limit on its length.
 pub fn settled_fault()
     ensures { (pool : Types) (m : ℕ) (limits : Bounds) (b more : List ℕ) (f : Fault)
         → IsSettled pool m limits b f → IsSettled pool m limits (b ++ more) f }

@@ -21,7 +21,6 @@
 mod error;
 mod frame;
 mod from_device;
-mod heap;
 pub mod laws;
 mod onto;
 mod push;

@@ -25,7 +25,7 @@ use pb_value::{Body, DynamicMessage};
 use pb_wire::Limits;
 use std::alloc::Global;
 
-/// Takes all bytes of a text, or of too many those within the limit.
+/// Takes all bytes of an input, or of too many those within the limit.
 fn take_within(
     alloc: Global,
     pool: &Pool,
@@ -50,14 +50,13 @@ fn take_within(
     take_onward(alloc, pool, reading, bytes)
 }
 
-/// Decodes the bytes of a text onto the body of a message. Before the place that is tried nothing is read at once.
+/// Decodes an input onto the body of a message.
 pub(crate) fn read_onto<'p>(
     alloc: Global,
     pool: &'p Pool,
     message_type: MessageId,
     body: Body,
     bytes: &[u8],
-    tried: u32,
     limits: Limits,
 ) -> Result<DynamicMessage<'p>, DecodeError>
     requires rules { IsPool pool.now }
@@ -68,8 +67,8 @@ pub(crate) fn read_onto<'p>(
     ensures value { IfOk result (λ m. IsTextOnto pool.now message_type.0 limits (body_view body) bytes.now m.body) }
     ensures fault { IfErr result (λ e. IfFault e (IsFaultOf pool.now message_type.0 limits bytes.now)) }
 {
-    let room = limits.max_depth();
-    let mut reading = begin_at(alloc, message_type, body, room, None, tried);
+    let depth_left = limits.max_depth();
+    let mut reading = begin_at(alloc, message_type, body, depth_left, None);
     take_within(alloc, pool, message_type, limits, &mut reading, bytes)?;
     finish_message(alloc, pool, message_type, reading)
 }
@@ -103,5 +102,5 @@ pub fn decode_onto<'p>(
     let kind = message.message_type();
     let _types = pool.messages();
     let _well_formed = message.body();
-    read_onto(alloc, pool, kind, message.into_body(), bytes, 0, limits)
+    read_onto(alloc, pool, kind, message.into_body(), bytes, limits)
 }

@@ -17,13 +17,13 @@ use crate::error::DecodeError;
 use crate::onto::read_onto;
 use crate::reader::fault::{fault_at, too_large};
 use crate::reader::origin::{begin_empty, finish_message};
-use crate::reader::quick_text::read_text;
 use crate::reader::state::{Reader, take_all};
 use pb_parts::error::NoMemory;
 use pb_parts::tokens::step::Step;
 use pb_schema::{MessageId, Pool};
 use pb_value::DynamicMessage;
-use pb_value::parts::{empty_body, from_well_formed};
+use pb_value::parts::empty_body;
+use pb_whole::build;
 use pb_wire::{Cause, Limits};
 use std::alloc::Global;
 
@@ -35,7 +35,7 @@ pub(crate) struct Reading {
     pub held: Vec<u8>,
 }
 
-/// Takes what is complete at the front of the bytes, where none are held, and holds the others.
+/// Takes what is complete at the start of the bytes, where none are held, and holds the others.
 fn take_front(
     alloc: Global,
     pool: &Pool,
@@ -64,7 +64,7 @@ fn rest_of(alloc: Global, bytes: &[u8], from: usize) -> Result<Vec<u8>, NoMemory
     Ok(rest)
 }
 
-/// Takes what is complete at the front of the bytes that are held, and holds the others.
+/// Takes what is complete at the start of the bytes that are held, and holds the others.
 fn take_held(alloc: Global, pool: &Pool, reading: &mut Reading) -> Result<(), DecodeError>
     requires rules { IsPool pool.now }
     requires reading { IsReading pool.now (state_view reading.old.reader) reading.old.held.items }
@@ -82,7 +82,7 @@ fn take_held(alloc: Global, pool: &Pool, reading: &mut Reading) -> Result<(), De
     Ok(())
 }
 
-/// Takes what is complete at the front of the bytes that are held and of those after them, and holds the others.
+/// Takes what is complete at the start of the bytes that are held and of those after them, and holds the others.
 fn take_joined(
     alloc: Global,
     pool: &Pool,
@@ -145,14 +145,14 @@ pub(crate) fn take_piece(
     take_front(alloc, pool, reading, &piece[here..])
 }
 
-/// How many more bytes a text may have.
-fn room_for(most: u32, reading: &Reading) -> usize
+/// How many more bytes an input may have.
+fn bytes_left(most: u32, reading: &Reading) -> usize
     ensures { result ≡ (most - reading.now.reader.at) - length reading.now.held.items }
 {
     (most.saturating_sub(reading.reader.at) as usize).saturating_sub(reading.held.len())
 }
 
-/// Takes the next piece of a text.
+/// Takes the next piece of an input.
 pub(crate) fn take_text(
     alloc: Global,
     pool: &Pool,
@@ -170,9 +170,9 @@ pub(crate) fn take_text(
         → IfErr result (λ e. IfFault e (IsSettled pool.now message_type.0 limits (b ++ piece.now))) }
 {
     let most = limits.max_bytes();
-    let room = room_for(most, reading);
-    if piece.len() > room {
-        take_piece(alloc, pool, reading, &piece[..room])?;
+    let remaining = bytes_left(most, reading);
+    if piece.len() > remaining {
+        take_piece(alloc, pool, reading, &piece[..remaining])?;
         return Err(too_large(alloc, most));
     }
     take_piece(alloc, pool, reading, piece)
@@ -184,7 +184,7 @@ pub(crate) fn start(alloc: Global, pool: &Pool, message_type: MessageId, limits:
     ensures took { ReadText pool.now message_type.0 limits [] result }
     ensures waits { Waits (state_view result.reader) result.held.items }
 {
-    begin_empty(alloc, pool, message_type, limits, None, 0)
+    begin_empty(alloc, pool, message_type, limits, None)
 }
 
 /// How many packed lists are open.
@@ -238,8 +238,8 @@ pub(crate) fn end<'p>(
     finish_message(alloc, pool, message_type, reading)
 }
 
-/// The message of a text, or its fault. What can't be read at once is read once more in pieces, of which none is tried again, so
-/// that hostile bytes are read twice.
+/// The message that an input encodes, or its fault. If `build` gives none the decoder of pieces finds the fault, which reads a byte
+/// at most twice: so hostile bytes are read three times.
 fn read_whole<'p>(
     alloc: Global,
     pool: &'p Pool,
@@ -253,18 +253,18 @@ fn read_whole<'p>(
     ensures value { IfOk result (λ m. Text pool.now message_type.0 limits bytes.now m.body) }
     ensures fault { IfErr result (λ e. IfFault e (IsFaultOf pool.now message_type.0 limits bytes.now)) }
 {
-    match read_text(alloc, pool, message_type, bytes, limits) {
-        Some(body) => Ok(from_well_formed(alloc, pool, message_type, body)),
-        None => {
+    match build(alloc, pool, message_type, bytes, limits) {
+        Ok(message) => Ok(message),
+        Err(NoMemory) => {
             let none = empty_body(alloc);
-            read_onto(alloc, pool, message_type, none, bytes, u32::MAX, limits)
+            read_onto(alloc, pool, message_type, none, bytes, limits)
         }
     }
 }
 
-/// Decodes a message of a type from the bytes of its text (encoding guide, "Message Structure").
+/// Decodes a message of a type from its encoding (encoding guide, "Message Structure").
 ///
-/// The answer is the message's value, or [`DecodeError::Fault`] with the first byte that no text of the type can have there.
+/// The answer is the message's value, or [`DecodeError::Fault`] with the first byte that no encoding of the type can have there.
 /// `message_type` is a type of the pool. Bytes past the limits are refused.
 pub fn decode<'p>(
     alloc: Global,

@@ -1,4 +1,4 @@
-//! Decoding from pieces of a text.
+//! Decoding from pieces of an encoding.
 
 ghost use Rattle.std.specs.Prelude.{◌≡◌, None};
 
@@ -10,9 +10,9 @@ use pb_wire::Limits;
 use std::alloc::Global;
 use std::marker::Model;
 
-/// Decodes a message of a type from pieces of its text.
+/// Decodes a message of a type from pieces of its encoding.
 ///
-/// What it keeps between pieces is the message so far, what is open, and the bytes of one open token or payload.
+/// What it keeps between pieces is the message so far, the open parts, and the bytes of one open token or payload.
 #[derive(Drop)]
 pub struct PushDecoder<'p> {
     alloc: Global,
@@ -79,7 +79,7 @@ impl<'p> PushDecoder<'p> {
         })
     }
 
-    /// Receives the next piece. Bytes that no text begins with are refused in the first piece that settles it, and every later
+    /// Receives the next piece. Bytes that no encoding begins with are refused in the first piece that settles it, and every later
     /// call answers [`DecodeError::Finished`].
     pub fn feed(&mut self, piece: &[u8]) -> Result<(), DecodeError>
         ensures same { (self.new.pool ≡ self.old.pool) × (self.new.kind ≡ self.old.kind) × (self.new.limits ≡ self.old.limits) }
@@ -126,7 +126,7 @@ impl<'p> PushDecoder<'p> {
         };
         end(self.alloc, self.pool, self.kind, self.limits, reading)
     }
-    /// How many bytes are held: those received of the open token, or of the payload of a text, of bytes or of an unknown
+    /// How many bytes are held: those received of the open token, or of the payload of a string, of bytes or of an unknown
     /// record. They are at most ten, or the one length declared for that payload. 0 where the decoder is finished.
     pub fn pending(&self) -> usize
         ensures held { (b : List ℕ) → After self.now b → IsPendingFor self.now b result }

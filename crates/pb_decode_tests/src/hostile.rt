@@ -212,8 +212,18 @@ fn messages_around(alloc: Global, innermost: Vec<u8>, levels: u32) -> Result<Vec
     Ok(bytes)
 }
 
-/// Whether a decoder refuses messages in messages, given in one piece, for the fault after that many records in the innermost. A reader that read
-/// the records again at each level, or at each record, would take longer than a test may.
+fn is_number_zero(error: &DecodeError) -> bool {
+    matches!(
+        error,
+        DecodeError::Fault {
+            cause: Cause::NumberZero,
+            ..
+        }
+    )
+}
+
+/// Whether messages in messages are refused at once, and by a decoder in one piece, for the fault after that many records in the innermost. A
+/// reader that read the records again at each level, or at each record, would take longer than a test may.
 pub(crate) fn is_refused_in_time(
     schema: &Schema,
     limits: Limits,
@@ -222,13 +232,12 @@ pub(crate) fn is_refused_in_time(
     let (levels, count) = word(words);
     let innermost = records_before_fault(schema.alloc, count.parse::<u32>()?)?;
     let bytes = messages_around(schema.alloc, innermost, levels.parse::<u32>()?)?;
+    let Err(at_once) = schema.decode(&bytes, limits) else {
+        return Ok(false);
+    };
     let mut decoder = schema.decoder(limits)?;
-    let answer = decoder.feed(&bytes);
-    Ok(matches!(
-        answer,
-        Err(DecodeError::Fault {
-            cause: Cause::NumberZero,
-            ..
-        })
-    ))
+    let Err(fed) = decoder.feed(&bytes) else {
+        return Ok(false);
+    };
+    Ok(is_number_zero(&at_once) && is_number_zero(&fed))
 }

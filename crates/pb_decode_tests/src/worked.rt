@@ -75,7 +75,8 @@ fn is_validated(schema: &Schema, limits: Limits, bytes: &[u8], told: &str) -> Re
     }
 }
 
-/// Whether `build` makes the message of bytes whose answer is one, and none of others. Out of memory is passed on.
+/// Whether `build` makes the message of bytes whose answer is one, so that `decode` does not read them again, and none of others. Out of memory
+/// is passed on.
 fn is_built(schema: &Schema, limits: Limits, bytes: &[u8], told: &str) -> Result<bool, Fail> {
     match schema.build(bytes, limits) {
         Ok(message) => is_answered(schema.alloc, Ok(message), told),

@@ -27,7 +27,7 @@ use Rattle.pb_parts.specs.declared.open.part.Slot.TheVariants as slot
 use Rattle.pb_parts.specs.declared.open.purpose.Purpose.TheVariants as purpose
 use Rattle.pb_parts.specs.declared.tokens.step.Step.TheVariants as step
 
--- what is open may be changed
+-- the open part may be changed
 pub open_can : {pool : Types} {now : Part} {bytes : List ℕ} {left room : ℕ} → IsPool pool → IsOpen pool now bytes left room → CanHold pool now
 open_can {now = now} ok there = can_hold ok now there.stands.1
 

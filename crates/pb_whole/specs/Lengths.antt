@@ -1,10 +1,10 @@
 -- Lengths after tags.
-use Rattle.std.specs.Prelude.{ℕ, List, Option, Some, IfSome}
+use Rattle.std.specs.Prelude.{ℕ, List, Option, IfSome}
 use Rattle.pb_wire.specs.Fault.{HasTag, HasLength}
 use Rattle.pb_wire.specs.Token.{given_at, passed}
 
 -- after any tag of this many bytes the length of a payload is read, and where the payload begins
-abbrev pub TellsLength : ℕ → List ℕ → ℕ → Option (ℕ × ℕ) → Type 0
+abbrev pub TellsLength : ℕ → List ℕ → Option ℕ → Option (ℕ × ℕ) → Type 0
 TellsLength tag_size bytes left result =
-    (at number type : ℕ) → HasTag (given_at at (Some left) bytes) number type (passed (given_at at (Some left) bytes) tag_size)
-    → IfSome result (λ t. HasLength (passed (given_at at (Some left) bytes) tag_size) t.1 (passed (given_at at (Some left) bytes) t.0))
+    (at number type : ℕ) → HasTag (given_at at left bytes) number type (passed (given_at at left bytes) tag_size)
+    → IfSome result (λ t. HasLength (passed (given_at at left bytes) tag_size) t.1 (passed (given_at at left bytes) t.0))

@@ -40,11 +40,11 @@ pub record IsListOpen (pool : Types) (number type : ℕ) (of_type : MessageId) (
   pub means : Means pool (part_context now) number type (Message of_type (ListSlot number))
 
 -- the message of one record, and its size
-abbrev pub IsMessage : {E : Type 0} → Types → ℕ → MessageId → List ℕ → ℕ → ℕ → Result (Value × ℕ) E → Type 0
-IsMessage pool number of_type bytes left room result =
-    IfOk result (λ r. ReadsRun pool number 2 (Message of_type (ListSlot number)) (value_view r.0 ∷ []) bytes left room r.1)
+abbrev pub IsMessage : {E : Type 0} → Types → ℕ → ℕ → MessageId → List ℕ → ℕ → ℕ → Result (Value × ℕ) E → Type 0
+IsMessage pool number type of_type bytes left room result =
+    IfOk result (λ r. ReadsRun pool number type (Message of_type (ListSlot number)) (value_view r.0 ∷ []) bytes left room r.1)
 
 -- the messages of several, and their size
-abbrev pub AreMessages : {E : Type 0} → Types → ℕ → MessageId → List ℕ → ℕ → ℕ → Result (Vec Value Global × ℕ) E → Type 0
-AreMessages pool number of_type bytes left room result =
-    IfOk result (λ r. ReadsRun pool number 2 (Message of_type (ListSlot number)) (map value_view r.0.items) bytes left room r.1)
+abbrev pub AreMessages : {E : Type 0} → Types → ℕ → ℕ → MessageId → List ℕ → ℕ → ℕ → Result (Vec Value Global × ℕ) E → Type 0
+AreMessages pool number type of_type bytes left room result =
+    IfOk result (λ r. ReadsRun pool number type (Message of_type (ListSlot number)) (map value_view r.0.items) bytes left room r.1)

@@ -33,7 +33,7 @@ impl Reader<'_> {
         ensures passes { Passes tag.size bytes.now result }
         ensures read { ReadsOne self.now.pool.now part.old part.new bytes.now left result }
     {
-        let Some((start, size)) = payload_after(tag.size, bytes, left) else {
+        let Some((start, size)) = payload_after(tag.size, bytes, Some(left.remaining)) else {
             return Err(NoMemory);
         };
         let end = start + size as usize;

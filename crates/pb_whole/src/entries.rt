@@ -8,6 +8,7 @@ ghost use Rattle.pb_parts.specs.Open.Purposes.{Means, part_context};
 ghost use Rattle.pb_whole.specs.Reads.{HasTagAt, IsAtTag, Passes, ReadsOne};
 ghost use Rattle.pb_whole.specs.Entries.{IsMapOpen, AddsEntry, ReadsEntries};
 
+use crate::heap::keep_heap_after_list;
 use crate::reader::{Left, Reader};
 use crate::tokens::{payload_after, tag_again};
 use pb_parts::close::closing::{key_or_default, value_or_missing};
@@ -59,7 +60,7 @@ impl Reader<'_> {
         ensures put { AddsEntry self.now.pool.now tag.number key_kind value_kind bytes.now (Some left.remaining) left.depth_left
             entries.old.items entries.new.items result }
     {
-        let Some((start, size)) = payload_after(tag.size, bytes, left) else {
+        let Some((start, size)) = payload_after(tag.size, bytes, Some(left.remaining)) else {
             return Err(NoMemory);
         };
         let mut entry = Part::Entry {
@@ -149,7 +150,9 @@ impl Reader<'_> {
         if used < tag.size {
             return Err(NoMemory);
         }
+        let held = entries.capacity();
         put_entries(self.alloc, part, tag.number, entries)?;
+        keep_heap_after_list(self.alloc, held);
         Ok(used)
     }
 }

@@ -20,7 +20,7 @@ use pb_schema::MessageId;
 impl Reader<'_> {
     /// Puts the records of a group of a number into its part, and how many bytes they take with its end tag.
     #[cycle(read)]
-    fn read_to_end(
+    pub(crate) fn read_to_end(
         &self,
         part: &mut Part,
         number: u32,
@@ -139,6 +139,9 @@ impl Reader<'_> {
         }
         let purpose = purpose_of(self.pool, part, tag.number, 3);
         match message_slot(purpose) {
+            Some((message_type, Slot::List(_))) => {
+                self.read_messages(part, tag, message_type, bytes, left)
+            }
             Some((message_type, slot)) => {
                 self.read_field_group(part, tag, message_type, slot, bytes, left)
             }

@@ -5,19 +5,20 @@
 //! gives into the part around it. A record is read from its tag on, out of all bytes that follow, and its reader returns how many
 //! bytes it takes.
 //!
-//! An inner crate. `pb_decode` does not use it yet: it is to take the place of two of its three readers.
+//! An inner crate. `pb_decode` calls `build` first, and reads by `read_records` each message and map entry that is completely in a piece.
 #![tactic(auto)]
 
 mod bytes;
 mod elements;
 mod entries;
 mod groups;
+mod heap;
 mod lists;
 mod messages;
 mod numbers;
-mod reader;
+pub mod reader;
 mod records;
-mod tokens;
+pub mod tokens;
 pub mod whole;
 
 pub use whole::build;

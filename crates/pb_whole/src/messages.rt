@@ -1,4 +1,4 @@
-//! Messages after a length. Those of one list that follow each other go to its end at once.
+//! Messages after a length. Those of one list that follow each other, and groups of one list, go to its end at once.
 
 ghost use Rattle.std.specs.Prelude.{◌≡◌, ◌≤◌, ◌<◌, ◌^◌, Some, length, IfOk};
 ghost use Rattle.pb_schema.specs.Rules.{IsPool};
@@ -44,7 +44,7 @@ impl Reader<'_> {
         if !has_room(left.depth_left, Purpose::Message(message_type, slot)) {
             return Err(NoMemory);
         }
-        let Some((start, size)) = payload_after(tag.size, bytes, left) else {
+        let Some((start, size)) = payload_after(tag.size, bytes, Some(left.remaining)) else {
             return Err(NoMemory);
         };
         let mut inner = Part::Message(message_type, take_message(self.alloc, slot, part));
@@ -68,7 +68,7 @@ impl Reader<'_> {
         }
     }
 
-    /// The message after a tag of its list, and how many bytes its record takes.
+    /// The message after a tag and a length of its list, and how many bytes its record takes.
     #[cycle(read)]
     #[inline(always)]
     fn message_after(
@@ -79,16 +79,16 @@ impl Reader<'_> {
         left: Left,
     ) -> Result<(Value, usize), NoMemory>
         requires rules { IsPool self.now.pool.now }
-        requires open { IsListOpen self.now.pool.now tag.number 2 message_type bytes.now left.remaining left.depth_left }
+        requires open { IsListOpen self.now.pool.now tag.number tag.wire_type message_type bytes.now left.remaining left.depth_left }
         requires level { 0 < left.depth_left }
         requires small { length bytes.now < 2 ^ 31 }
         requires bytes { tag.wire_type ≡ 2 }
         requires within { (0 < tag.size) × (tag.size ≤ length bytes.now) }
         requires tag { HasTagAt bytes.now (Some left.remaining) tag.number tag.wire_type tag.size }
         ensures within { IfOk result (λ r. (0 < r.1) × (r.1 ≤ length bytes.now)) }
-        ensures put { IsMessage self.now.pool.now tag.number message_type bytes.now left.remaining left.depth_left result }
+        ensures put { IsMessage self.now.pool.now tag.number tag.wire_type message_type bytes.now left.remaining left.depth_left result }
     {
-        let Some((start, size)) = payload_after(tag.size, bytes, left) else {
+        let Some((start, size)) = payload_after(tag.size, bytes, Some(left.remaining)) else {
             return Err(NoMemory);
         };
         let mut message = Part::Message(message_type, empty_body(self.alloc));
@@ -109,26 +109,95 @@ impl Reader<'_> {
         }
     }
 
-    /// The messages of the list of a number whose records follow each other from the first byte on, and how many bytes these take.
+    /// As `message_after`, where the message is a group.
+    #[cycle(read)]
+    fn group_after(
+        &self,
+        tag: RecordTag,
+        message_type: MessageId,
+        bytes: &[u8],
+        left: Left,
+    ) -> Result<(Value, usize), NoMemory>
+        requires rules { IsPool self.now.pool.now }
+        requires open { IsListOpen self.now.pool.now tag.number tag.wire_type message_type bytes.now left.remaining left.depth_left }
+        requires level { 0 < left.depth_left }
+        requires small { length bytes.now < 2 ^ 31 }
+        requires start { tag.wire_type ≡ 3 }
+        requires within { (0 < tag.size) × (tag.size ≤ length bytes.now) }
+        requires tag { HasTagAt bytes.now (Some left.remaining) tag.number tag.wire_type tag.size }
+        ensures within { IfOk result (λ r. (0 < r.1) × (r.1 ≤ length bytes.now)) }
+        ensures put { IsMessage self.now.pool.now tag.number tag.wire_type message_type bytes.now left.remaining left.depth_left result }
+    {
+        let mut message = Part::Message(message_type, empty_body(self.alloc));
+        let within = left.after(tag.size).below();
+        let size = self.read_to_end(&mut message, tag.number, &bytes[tag.size..], within)?;
+        match message {
+            Part::Message(_kind, body) => Ok((Value::Message(body), tag.size + size)),
+            Part::Entry {
+                key_kind: _,
+                value_kind: _,
+                key: _key,
+                value: _value,
+            } => Err(NoMemory),
+            Part::Group(_records) => Err(NoMemory),
+        }
+    }
+
+    /// The message after a tag of its list, by its wire type, and how many bytes its record takes.
+    #[cycle(read)]
+    #[inline(always)]
+    fn listed_after(
+        &self,
+        tag: RecordTag,
+        message_type: MessageId,
+        bytes: &[u8],
+        left: Left,
+    ) -> Result<(Value, usize), NoMemory>
+        requires rules { IsPool self.now.pool.now }
+        requires open { IsListOpen self.now.pool.now tag.number tag.wire_type message_type bytes.now left.remaining left.depth_left }
+        requires level { 0 < left.depth_left }
+        requires small { length bytes.now < 2 ^ 31 }
+        requires within { (0 < tag.size) × (tag.size ≤ length bytes.now) }
+        requires tag { HasTagAt bytes.now (Some left.remaining) tag.number tag.wire_type tag.size }
+        ensures within { IfOk result (λ r. (0 < r.1) × (r.1 ≤ length bytes.now)) }
+        ensures put { IsMessage self.now.pool.now tag.number tag.wire_type message_type bytes.now left.remaining left.depth_left result }
+    {
+        if tag.wire_type == 2 {
+            self.message_after(tag, message_type, bytes, left)
+        } else if tag.wire_type == 3 {
+            self.group_after(tag, message_type, bytes, left)
+        } else {
+            Err(NoMemory)
+        }
+    }
+
+    /// The messages of the list of a number whose records of a wire type follow each other from the first byte on, and how many bytes
+    /// these take.
     #[cycle(read)]
     fn messages_from(
         &self,
         number: u32,
+        wire_type: u8,
         message_type: MessageId,
         bytes: &[u8],
         left: Left,
     ) -> Result<(Vec<Value>, usize), NoMemory>
         requires rules { IsPool self.now.pool.now }
-        requires open { IsListOpen self.now.pool.now number 2 message_type bytes.now left.remaining left.depth_left }
+        requires open { IsListOpen self.now.pool.now number wire_type message_type bytes.now left.remaining left.depth_left }
         requires level { 0 < left.depth_left }
         requires small { length bytes.now < 2 ^ 31 }
         ensures within { IfOk result (λ r. r.1 ≤ length bytes.now) }
-        ensures put { AreMessages self.now.pool.now number message_type bytes.now left.remaining left.depth_left result }
+        ensures put { AreMessages self.now.pool.now number wire_type message_type bytes.now left.remaining left.depth_left result }
     {
         let mut messages = Vec::new(self.alloc);
         let mut here = 0;
-        while let Some(tag) = tag_again(number, 2, &bytes[here..], left.after(here).remaining) {
-            let (message, size) = self.message_after(
+        while let Some(tag) = tag_again(
+            number,
+            wire_type,
+            &bytes[here..],
+            left.after(here).remaining,
+        ) {
+            let (message, size) = self.listed_after(
                 tag,
                 message_type,
                 &bytes[here..],
@@ -152,14 +221,20 @@ impl Reader<'_> {
         left: Left,
     ) -> Result<usize, NoMemory>
         requires at_tag { IsAtTag self.now.pool.now part.old bytes.now left tag }
-        requires means { Means self.now.pool.now (part_context (part_view part.old)) tag.number 2 (purposes.Message message_type (ListSlot tag.number)) }
+        requires means { Means self.now.pool.now (part_context (part_view part.old)) tag.number tag.wire_type (purposes.Message message_type (ListSlot tag.number)) }
         ensures passes { Passes tag.size bytes.now result }
         ensures read { ReadsOne self.now.pool.now part.old part.new bytes.now left result }
     {
         if left.depth_left == 0 {
             return Err(NoMemory);
         }
-        let (messages, used) = self.messages_from(tag.number, message_type, bytes, left)?;
+        let (messages, used) = self.messages_from(
+            tag.number,
+            tag.wire_type,
+            message_type,
+            bytes,
+            left,
+        )?;
         if used < tag.size {
             return Err(NoMemory);
         }

@@ -7,14 +7,14 @@ use std::alloc::Global;
 
 /// What stays the same while a message is built.
 #[derive(Drop)]
-pub(crate) struct Reader<'p> {
-    pub(crate) alloc: Global,
-    pub(crate) pool: &'p Pool,
+pub struct Reader<'p> {
+    pub alloc: Global,
+    pub pool: &'p Pool,
 }
 
 /// What is left of a part where a record may begin in it.
 #[derive(Clone, Copy)]
-pub(crate) struct Left {
+pub struct Left {
     /// How many bytes come before its end.
     pub remaining: u32,
     /// How many levels may still be opened.
@@ -22,7 +22,7 @@ pub(crate) struct Left {
 }
 
 impl Left {
-    /// What is left after so many bytes.
+    /// What is left after this many bytes.
     #[inline(always)]
     pub(crate) fn after(self, used: usize) -> Left
         requires { used < 2 ^ 32 }

@@ -71,14 +71,9 @@ impl Reader<'_> {
         }
     }
 
-    /// Puts the records of a payload into its part.
+    /// Puts the records of a payload into its part. If one is no record or memory is refused, some of those before it may be in the part.
     #[cycle(read)]
-    pub(crate) fn read_records(
-        &self,
-        part: &mut Part,
-        bytes: &[u8],
-        left: Left,
-    ) -> Result<(), NoMemory>
+    pub fn read_records(&self, part: &mut Part, bytes: &[u8], left: Left) -> Result<(), NoMemory>
         requires can { CanRead self.now.pool.now part.old bytes.now left }
         requires whole { left.remaining ≤ length bytes.now }
         ensures { ReadsAll self.now.pool.now part.old part.new bytes.now left result }

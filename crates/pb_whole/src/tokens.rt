@@ -5,24 +5,24 @@ ghost use Rattle.pb_parts.specs.Tokens.Number.{IsNumberType};
 ghost use Rattle.pb_whole.specs.Lengths.{TellsLength};
 ghost use Rattle.pb_whole.specs.Reads.{HasTagAt};
 
-use crate::reader::Left;
 use pb_parts::tokens::front::front_number;
 use pb_parts::tokens::record_tag::{RecordTag, left_behind, record_tag};
 use pb_parts::tokens::tag::payload_size;
 
-/// Where the payload of a record begins whose tag takes this many bytes, and its size.
-fn length_after(tag_size: usize, bytes: &[u8], remaining: u32) -> Option<(usize, u32)>
+/// Where the payload of a record begins whose tag takes this many bytes, and its size. `left` is how many bytes come before the end of
+/// the part, if that is known.
+pub fn length_after(tag_size: usize, bytes: &[u8], left: Option<u32>) -> Option<(usize, u32)>
     requires within { tag_size ≤ length bytes.now }
     requires small { length bytes.now < 2 ^ 31 }
     ensures within { IfSome result (λ t. (tag_size ≤ t.0) × (t.0 ≤ length bytes.now) × (t.1 < 2 ^ 31)) }
-    ensures whole { TellsLength tag_size bytes.now remaining result }
+    ensures whole { TellsLength tag_size bytes.now left result }
 {
-    let after = left_behind(Some(remaining), tag_size);
+    let after = left_behind(left, tag_size);
     let Ok(Some((length, used))) = front_number(&bytes[tag_size..], after) else {
         return None;
     };
     let start = tag_size + used;
-    match payload_size(length, start as u32, Some(remaining)) {
+    match payload_size(length, start as u32, left) {
         Ok(size) => Some((start, size)),
         Err(_) => None,
     }
@@ -30,13 +30,13 @@ fn length_after(tag_size: usize, bytes: &[u8], remaining: u32) -> Option<(usize,
 
 /// As `length_after`, if all of the payload is there.
 #[inline(always)]
-pub(crate) fn payload_after(tag_size: usize, bytes: &[u8], left: Left) -> Option<(usize, u32)>
+pub fn payload_after(tag_size: usize, bytes: &[u8], left: Option<u32>) -> Option<(usize, u32)>
     requires within { tag_size ≤ length bytes.now }
     requires small { length bytes.now < 2 ^ 31 }
     ensures within { IfSome result (λ t. (tag_size ≤ t.0) × (t.0 + t.1 ≤ length bytes.now)) }
-    ensures whole { TellsLength tag_size bytes.now left.remaining result }
+    ensures whole { TellsLength tag_size bytes.now left result }
 {
-    let (start, size) = length_after(tag_size, bytes, left.remaining)?;
+    let (start, size) = length_after(tag_size, bytes, left)?;
     if bytes.len() - start < size as usize {
         return None;
     }

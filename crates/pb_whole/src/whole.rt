@@ -3,6 +3,7 @@
 ghost use Rattle.std.specs.Prelude.{◌≡◌, ◌<◌, length, IfOk};
 ghost use Rattle.pb_value.specs.Derives.{Text};
 
+use crate::heap::keep_heap;
 use crate::reader::{Left, Reader};
 use pb_parts::error::NoMemory;
 use pb_parts::open::part::Part;
@@ -15,7 +16,7 @@ use std::alloc::Global;
 /// Builds the message of a type whose encoding some bytes are (encoding guide, "Message Structure").
 ///
 /// `message_type` is a type of the pool. Fails where memory is refused, and where the bytes are no encoding of a message of the type
-/// within the limits: `pb_validate::judge` tells which, and has the fault.
+/// within the limits: `pb_validate::judge` says which, and reports the fault.
 pub fn build<'p>(
     alloc: Global,
     pool: &'p Pool,
@@ -41,6 +42,7 @@ pub fn build<'p>(
     };
     let mut top = Part::Message(message_type, empty_body(alloc));
     reader.read_records(&mut top, bytes, left)?;
+    keep_heap(alloc, bytes.len());
     match top {
         Part::Message(_kind, body) => Ok(from_well_formed(alloc, pool, message_type, body)),
         Part::Entry {

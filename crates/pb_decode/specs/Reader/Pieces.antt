@@ -1,4 +1,4 @@
--- What is read of a text that comes in pieces, and what taking one does.
+-- What is read of an input that comes in pieces, and what taking one does.
 use Rattle.std.specs.Prelude.{ℕ, ◌+◌, List, length, Result, IfErr, OnOk}
 use Rattle.pb_wire.specs.Record.{Record}
 use Rattle.pb_wire.specs.Fault.{Place}
@@ -19,11 +19,11 @@ received r = r.reader.at + length r.held.items
 abbrev pub ReadFrom : Types → Origin → Reading → Type 0
 ReadFrom pool o r = TookFrom pool o (state_view r.reader) r.held.items
 
--- the text b is
+-- the input b is
 abbrev pub ReadText : Types → ℕ → Bounds → List ℕ → Reading → Type 0
 ReadText pool m limits b r = Took pool m limits b (state_view r.reader) r.held.items
 
--- some text is
+-- some input is
 abbrev pub ReadSome : Types → ℕ → Bounds → Reading → Type 0
 ReadSome pool m limits r = TookSome pool m limits (state_view r.reader) r.held.items
 

@@ -2,8 +2,8 @@
 -- and any first place.
 use Rattle.std.specs.Prelude.{◌≡◌, ℕ, List, drop, Option, Some, Result, IfOk, IfErr, IfSome, OnOk}
 use Rattle.pb_wire.specs.Record.{Record, wire_type}
-use Rattle.pb_wire.specs.Fault.{Place, Moves, HasTag, HasLength, Reads as HasNumber}
-use Rattle.pb_wire.specs.Token.{given_at, passed}
+use Rattle.pb_wire.specs.Fault.{Place, Moves, HasTag, Reads as HasNumber}
+use Rattle.pb_wire.specs.Token.{passed}
 use Rattle.pb_schema.specs.declared.types.Kind.{Kind}
 use Rattle.pb_schema.specs.Types.{Types}
 use Rattle.pb_schema.specs.Rules.{IsPool}
@@ -45,7 +45,7 @@ TakesNext pool old new rest result =
     (m depth levels : ℕ) (base : List Record) (p0 : Place)
     → Reads pool m depth levels base p0 (state_view old) rest → IfOk result (λ o. Taken pool m depth levels base p0 (state_view new) rest o)
 
--- what is complete at the front is taken, if anything is
+-- what is complete at the start is taken, if anything is
 abbrev pub TakesWhole : {E : Type 0} → Types → Reader → Reader → List ℕ → Result (Option ℕ) E → Type 0
 TakesWhole pool old new rest result =
     (m depth levels : ℕ) (base : List Record) (p0 : Place)
@@ -72,14 +72,14 @@ KeepsReading pool old new result =
     → Reads pool m depth levels base p0 (state_view old) rest → OnOk result (Reads pool m depth levels base p0 (state_view new) rest)
 
 -- ---- after a value, whose bytes are these
-abbrev pub StandsBehindNumber : {A E : Type 0} → Types → Reader → Reader → ℕ → Purpose → Number → Result A E → Type 0
-StandsBehindNumber pool old new number purpose value result =
+abbrev pub IsAfterNumber : {A E : Type 0} → Types → Reader → Reader → ℕ → Purpose → Number → Result A E → Type 0
+IsAfterNumber pool old new number purpose value result =
     (m depth levels : ℕ) (base : List Record) (p0 w : Place) (rest : List ℕ)
     → Reads pool m depth levels base p0 (state_view old) rest → awaited old.step ≡ Some (tag number (wire_type (number_view value)) purpose)
     → Follows (here (state_view old) rest) (number_view value) w → OnOk result (StandsAt pool m depth levels base p0 (state_view new) w)
 
-abbrev pub StandsBehindPayload : {A : Type 0} → Types → Reader → Reader → List ℕ → Result A DecodeError → Type 0
-StandsBehindPayload pool old new bytes result =
+abbrev pub IsAfterPayload : {A : Type 0} → Types → Reader → Reader → List ℕ → Result A DecodeError → Type 0
+IsAfterPayload pool old new bytes result =
     (m depth levels : ℕ) (base : List Record) (p0 w : Place) (rest : List ℕ)
     → Reads pool m depth levels base p0 (state_view old) rest → Moves (here (state_view old) rest) bytes w
     → OnOk result (StandsAt pool m depth levels base p0 (state_view new) w)
@@ -91,8 +91,8 @@ TellsPayloadFault pool old bytes result =
     → IfErr result (λ e. IfFault e (Told pool m depth p0))
 
 -- the list goes on after an element
-abbrev pub GoesOnBehindElement : {A E : Type 0} → Types → Reader → Reader → ℕ → Kind → Number → Result A E → Type 0
-GoesOnBehindElement pool old new number kind value result =
+abbrev pub GoesOnAfterElement : {A E : Type 0} → Types → Reader → Reader → ℕ → Kind → Number → Result A E → Type 0
+GoesOnAfterElement pool old new number kind value result =
     (m depth levels : ℕ) (base : List Record) (p0 w : Place) (rest : List ℕ) (outer : Option ℕ)
     → Reads pool m depth levels base p0 (state_view old) rest → old.step ≡ Elements number kind outer → wire_type (number_view value) ≡ wire_type_of kind
     → Follows (here (state_view old) rest) (number_view value) w → OnOk result (AfterAt pool m depth levels base p0 (state_view new) w)
@@ -137,9 +137,3 @@ LeavesGroup pool old new size result =
     (m depth levels number : ℕ) (base : List Record) (p0 : Place) (rest : List ℕ)
     → Reads pool m depth levels base p0 (state_view old) rest → innermost_group (frames_view old.frames.items) ≡ Some number
     → HasTagHere (state_view old) rest number 4 size → OnOk result (Reads pool m depth levels base p0 (state_view new) (drop size rest))
-
--- a length follows a tag of this many bytes, and then the payload begins, with this many bytes before the known end
-abbrev pub TellsLengthBehind : ℕ → List ℕ → Option ℕ → Option (ℕ × ℕ) → Type 0
-TellsLengthBehind tag_size rest left result =
-    (at number type : ℕ) → HasTag (given_at at left rest) number type (passed (given_at at left rest) tag_size)
-    → IfSome result (λ t. HasLength (passed (given_at at left rest) tag_size) t.1 (passed (given_at at left rest) t.0))

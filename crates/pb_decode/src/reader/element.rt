@@ -7,7 +7,7 @@ ghost use Rattle.pb_parts.specs.Open.Frames.{CanHold};
 ghost use Rattle.pb_parts.specs.Open.PartView.{part_view};
 ghost use Rattle.pb_decode.specs.Reader.{state_view, left_of, IsReading, Passes};
 ghost use Rattle.pb_decode.specs.Reader.Waiting.{Waits};
-ghost use Rattle.pb_decode.specs.Reader.Steps.{TellsFault, TakesNext, GoesOnBehindElement};
+ghost use Rattle.pb_decode.specs.Reader.Steps.{TellsFault, TakesNext, GoesOnAfterElement};
 
 use crate::error::DecodeError;
 use crate::reader::fault::fault_at;
@@ -33,7 +33,7 @@ fn pass_element(
     requires fits { reader.old.at + size < 2 ^ 32 }
     ensures at { OnOk result ((reader.new.at ≡ reader.old.at + size) × (reader.new.step ≡ reader.old.step)) }
     ensures same_end { OnOk result (reader.new.scope.end ≡ reader.old.scope.end) }
-    ensures goes_on { GoesOnBehindElement pool.now reader.old reader.new number kind value result }
+    ensures goes_on { GoesOnAfterElement pool.now reader.old reader.new number kind value result }
 {
     put_element(alloc, pool, &mut reader.part, number, kind, value)?;
     reader.at += size as u32;

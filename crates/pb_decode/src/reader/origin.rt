@@ -27,21 +27,20 @@ use pb_value::{Body, DynamicMessage};
 use pb_wire::Limits;
 use std::alloc::Global;
 
-/// A reader at position 0 that merges what it reads into a message with this body, with `room` levels left, up to the known end if
-/// there is one. Before the place `tried` no record is read as a whole.
+/// A reader at position 0 that merges what it reads into a message with this body, with `depth_left` levels left, up to the known end if
+/// there is one.
 pub(crate) fn begin_at(
     alloc: Global,
     message_type: MessageId,
     body: Body,
-    room: u8,
+    depth_left: u8,
     end: Option<u32>,
-    tried: u32,
 ) -> Reading
-    requires { room ≤ 100 }
+    requires { depth_left ≤ 100 }
     ensures at { (result.reader.at ≡ 0) × (length result.held.items ≡ 0) }
     ensures waits { end ≡ None → Waits (state_view result.reader) result.held.items }
     ensures took { (pool : Types) (base : List Record) → message_type.0 < length pool.messages → IsWellFormed pool message_type.0 (body_view body)
-        → body_view body ≡ value pool message_type.0 base → ReadFrom pool (origin message_type.0 room base end) result }
+        → body_view body ≡ value pool message_type.0 base → ReadFrom pool (origin message_type.0 depth_left base end) result }
 {
     let occurrences = Occurrences::new(alloc);
     let frames = Vec::new(alloc);
@@ -51,35 +50,32 @@ pub(crate) fn begin_at(
             at: 0,
             part: Part::Message(message_type, body),
             scope: Scope {
-                room,
+                room: depth_left,
                 end,
                 occurrences,
             },
             frames,
             step: Step::Tag,
-            tried,
         },
         held,
     }
 }
 
-/// Where no byte is taken yet of a message that is empty so far, up to the known end if there is one. Before the place that is
-/// tried nothing is read at once.
+/// A reader at position 0 of a message that is empty so far, up to the known end if there is one.
 pub(crate) fn begin_empty(
     alloc: Global,
     pool: &Pool,
     message_type: MessageId,
     limits: Limits,
     end: Option<u32>,
-    tried: u32,
 ) -> Reading
     requires { message_type.0 < length pool.now.messages }
     ensures at { (result.reader.at ≡ 0) × (length result.held.items ≡ 0) }
     ensures waits { end ≡ None → Waits (state_view result.reader) result.held.items }
     ensures took { ReadFrom pool.now (origin message_type.0 limits.depth [] end) result }
 {
-    let room = limits.max_depth();
-    begin_at(alloc, message_type, empty_body(alloc), room, end, tried)
+    let depth_left = limits.max_depth();
+    begin_at(alloc, message_type, empty_body(alloc), depth_left, end)
 }
 
 /// Takes a piece after the bytes that are held.

@@ -1,4 +1,4 @@
-//! A reader of a message: a stack of what is open, and what comes next.
+//! A reader of a message: a stack of open parts, and what comes next.
 
 ghost use Rattle.std.specs.Prelude.{◌≡◌, ◌⊎◌, ◌+◌, ◌-◌, ◌<◌, ◌≤◌, ◌^◌, Some, drop, length, OnOk, IfOk, IfNone};
 ghost use Rattle.pb_schema.specs.Rules.{IsPool};
@@ -10,7 +10,7 @@ ghost use Rattle.pb_parts.specs.Tokens.After.{tag, awaited};
 ghost use Rattle.pb_parts.specs.Tokens.Number.{IsNumberType};
 ghost use Rattle.pb_decode.specs.Reader.{state_view, left_of, IsReading, Passes};
 ghost use Rattle.pb_decode.specs.Reader.Waiting.{Waits};
-ghost use Rattle.pb_decode.specs.Reader.Steps.{TellsFault, TakesNext, TakesAll, StandsBehindNumber};
+ghost use Rattle.pb_decode.specs.Reader.Steps.{TellsFault, TakesNext, TakesAll, IsAfterNumber};
 
 use crate::error::DecodeError;
 use crate::reader::fault::fault_at;
@@ -37,8 +37,6 @@ pub(crate) struct Reader {
     /// The parts around it, outermost first.
     pub frames: Vec<Frame>,
     pub step: Step,
-    /// Before this place nothing is tried to be read at once, since that was tried.
-    pub tried: u32,
 }
 
 /// How many bytes are left before the known end of the innermost part.
@@ -64,7 +62,7 @@ fn pass_number(
     requires fits { reader.old.at + size < 2 ^ 32 }
     ensures at { OnOk result ((reader.new.at ≡ reader.old.at + size) × (reader.new.step ≡ Tag)) }
     ensures same_end { OnOk result (reader.new.scope.end ≡ reader.old.scope.end) }
-    ensures stands { StandsBehindNumber pool.now reader.old reader.new number purpose value result }
+    ensures stands { IsAfterNumber pool.now reader.old reader.new number purpose value result }
 {
     put_number(alloc, pool, &mut reader.part, number, purpose, value)?;
     count_one(&mut reader.scope, number)?;
@@ -102,7 +100,7 @@ pub(crate) fn take_number(
     }
 }
 
-/// Takes all that is complete at the front of the bytes, and how many bytes that are.
+/// Takes all that is complete at the start of the bytes, and how many bytes that are.
 pub(crate) fn take_all(
     alloc: Global,
     pool: &Pool,

@@ -9,11 +9,11 @@ ghost use Rattle.pb_decode.specs.Reader.Steps.{TellsFault, TakesNext};
 
 use crate::error::DecodeError;
 use crate::reader::element::take_element;
-use crate::reader::quick::quick;
 use crate::reader::state::{Reader, take_number};
 use crate::reader::take_length::take_length;
 use crate::reader::take_payload::take_payload;
 use crate::reader::take_tag::take_tag;
+use crate::reader::whole_records::take_records;
 use pb_parts::tokens::step::Step;
 use pb_schema::Pool;
 use std::alloc::Global;
@@ -50,7 +50,7 @@ fn take_open(
     }
 }
 
-/// Takes what comes next at the front of the bytes: what is complete there, and how many bytes that are. There is none
+/// Takes what comes next at the start of the bytes: what is complete there, and how many bytes that are. There is none
 /// where the bytes end too early, or with the message. All records and elements that are complete one after another are
 /// taken at once, and what ends is closed.
 pub(crate) fn take_next(
@@ -66,7 +66,7 @@ pub(crate) fn take_next(
     ensures waits { IfOk result (λ o. IfNone o (Waits (state_view reader.new) bytes.now)) }
     ensures refused { TellsFault pool.now reader.old bytes.now result }
 {
-    let ahead = quick(alloc, pool, reader, bytes)?;
+    let ahead = take_records(alloc, pool, reader, bytes)?;
     match take_open(alloc, pool, reader, &bytes[ahead..])? {
         Some(size) => Ok(Some(ahead + size)),
         None if ahead > 0 => Ok(Some(ahead)),

@@ -9,7 +9,7 @@ ghost use Rattle.pb_parts.specs.Open.PartView.{part_view};
 ghost use Rattle.pb_parts.specs.Values.PayloadValue.{IsBytesPurpose};
 ghost use Rattle.pb_decode.specs.Reader.{state_view, IsReading, Passes};
 ghost use Rattle.pb_decode.specs.Reader.Waiting.{Waits};
-ghost use Rattle.pb_decode.specs.Reader.Steps.{TellsFault, TakesNext, StandsBehindPayload, TellsPayloadFault};
+ghost use Rattle.pb_decode.specs.Reader.Steps.{TellsFault, TakesNext, IsAfterPayload, TellsPayloadFault};
 
 use crate::error::DecodeError;
 use crate::reader::fault::fault_at;
@@ -40,7 +40,7 @@ fn pass_payload(
     requires fits { reader.old.at + length bytes.now < 2 ^ 32 }
     ensures at { OnOk result ((reader.new.at ≡ reader.old.at + length bytes.now) × (reader.new.step ≡ Tag)) }
     ensures same_end { OnOk result (reader.new.scope.end ≡ reader.old.scope.end) }
-    ensures stands { StandsBehindPayload pool.now reader.old reader.new bytes.now result }
+    ensures stands { IsAfterPayload pool.now reader.old reader.new bytes.now result }
     ensures refused { TellsPayloadFault pool.now reader.old bytes.now result }
 {
     match put_payload(alloc, pool, &mut reader.part, number, purpose, bytes) {

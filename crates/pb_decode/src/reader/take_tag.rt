@@ -30,7 +30,7 @@ use pb_wire::Cause;
 use std::alloc::Global;
 use std::mem;
 
-/// The number of the group that is open innermost, if an end tag ends what is open there.
+/// The number of the group that is open innermost, if an end tag ends the open part there.
 #[inline(always)]
 pub(crate) fn innermost(frames: &[Frame]) -> Option<u32>
     ensures { result ≡ innermost_group (frames_view frames.now) }
@@ -121,7 +121,7 @@ fn pass_group_start(
     }
 }
 
-/// What ends with a group goes where it belongs in what holds it, where the reader then is: the message of a field into its
+/// What ends with a group goes where it belongs in its parent, where the reader then is: the message of a field into its
 /// slot, other records among the unknown ones.
 pub(crate) fn leave_group(
     alloc: Global,

@@ -1,4 +1,4 @@
--- All bytes of the frame come with the first read, or the others are read behind them.
+-- All bytes of the frame come with the first read, or the others are read after them.
 use Rattle.std.proofs.Common.{◌≡◌, ℕ, take, length, subst}
 use Rattle.pb_decode.specs.FromDevice.{TellsFailures}
 use Rattle.pb_decode.proofs.InFrame.{text_frame, rest_text}

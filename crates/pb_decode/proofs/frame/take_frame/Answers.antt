@@ -1,4 +1,4 @@
--- The first bytes are taken, and then those that the input gives behind them.
+-- The first bytes are taken, and then those that the input gives after them.
 use Rattle.std.proofs.Common.{◌≡◌, ◌-◌, ◌<◌, ℕ, take, length, refl, arith, inl, inr, ◌⊎◌, ⊎_elim, zero, suc}
 use Rattle.std.proofs.lemmas.List.{length-take-le}
 use Rattle.std.proofs.lemmas.Result.{err_from_is_err_and}

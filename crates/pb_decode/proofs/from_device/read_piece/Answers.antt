@@ -1,4 +1,4 @@
--- What was read is the front of the buffer.
+-- What was read is a prefix of the buffer.
 use Rattle.std.proofs.Common.{take, arith}
 use Rattle.std.proofs.lemmas.List.{length-take}
 use Rattle.pb_decode.proofs.from_device.read_piece.Goals as goal

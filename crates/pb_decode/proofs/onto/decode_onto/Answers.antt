@@ -1,4 +1,4 @@
--- What is right is answered, since there is one value or one fault; and onto a message means behind any bytes that it derives from.
+-- What is right is answered, since there is one value or one fault; and onto a message means after any bytes that it derives from.
 use Rattle.std.proofs.Common.{◌≡◌, ◌++◌, rules, subst}
 use Rattle.std.proofs.lemmas.List.Elements.{All-from_get_or}
 use Rattle.pb_wire.specs.Grammar.{HasFault}

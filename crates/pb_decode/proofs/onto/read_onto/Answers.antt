@@ -16,7 +16,7 @@ use Rattle.pb_decode.proofs.onto.read_onto.Goals as goal
 pub take_within-requires-clause-took : goal.take_within-requires-clause-took
 take_within-requires-clause-took c = (
   canon c.args.pool.now c.args.message_type.0 (body_view c.args.body),
-  begun_onto c.max_depth-room.result c.args.limits.depth (state_view c.begin_at-reading.result.reader) c.begin_at-reading.result.held.items c.max_depth-room.ensures.same c.requires.rules c.requires.within c.requires.well_formed c.begin_at-reading.ensures.took,
+  begun_onto c.max_depth-depth_left.result c.args.limits.depth (state_view c.begin_at-reading.result.reader) c.begin_at-reading.result.held.items c.max_depth-depth_left.ensures.same c.requires.rules c.requires.within c.requires.well_formed c.begin_at-reading.ensures.took,
 )
 
 pub finish_message-requires-clause-took : goal.finish_message-requires-clause-took
@@ -24,7 +24,7 @@ finish_message-requires-clause-took c = (
   further (origin c.args.message_type.0 c.args.limits.depth (canon c.args.pool.now c.args.message_type.0 (body_view c.args.body)) None) c.args.bytes.now,
   refl,
   c.in_ok-take_within.ensures.took (canon c.args.pool.now c.args.message_type.0 (body_view c.args.body))
-      (begun_onto c.max_depth-room.result c.args.limits.depth (state_view c.begin_at-reading.result.reader) c.begin_at-reading.result.held.items c.max_depth-room.ensures.same c.requires.rules c.requires.within c.requires.well_formed c.begin_at-reading.ensures.took),
+      (begun_onto c.max_depth-depth_left.result c.args.limits.depth (state_view c.begin_at-reading.result.reader) c.begin_at-reading.result.held.items c.max_depth-depth_left.ensures.same c.requires.rules c.requires.within c.requires.well_formed c.begin_at-reading.ensures.took),
 )
 
 pub returns-clause-value : goal.returns-clause-value
@@ -35,7 +35,7 @@ returns-clause-value c =
     (λ m whole. text_onto m.body c.in_ok-take_within.ensures.size whole)
     (c.finish_message.ensures.whole o
     (c.in_ok-take_within.ensures.took base
-    (begun_onto c.max_depth-room.result c.args.limits.depth (state_view c.begin_at-reading.result.reader) c.begin_at-reading.result.held.items c.max_depth-room.ensures.same c.requires.rules c.requires.within c.requires.well_formed c.begin_at-reading.ensures.took)))
+    (begun_onto c.max_depth-depth_left.result c.args.limits.depth (state_view c.begin_at-reading.result.reader) c.begin_at-reading.result.held.items c.max_depth-depth_left.ensures.same c.requires.rules c.requires.within c.requires.well_formed c.begin_at-reading.ensures.took)))
 
 pub returns-clause-fault : goal.returns-clause-fault
 returns-clause-fault c =
@@ -45,4 +45,4 @@ returns-clause-fault c =
     (λ f bad. whole_fault c.args.pool.now base f c.in_ok-take_within.ensures.size bad)
     (c.finish_message.ensures.fault o
     (c.in_ok-take_within.ensures.took base
-    (begun_onto c.max_depth-room.result c.args.limits.depth (state_view c.begin_at-reading.result.reader) c.begin_at-reading.result.held.items c.max_depth-room.ensures.same c.requires.rules c.requires.within c.requires.well_formed c.begin_at-reading.ensures.took)))
+    (begun_onto c.max_depth-depth_left.result c.args.limits.depth (state_view c.begin_at-reading.result.reader) c.begin_at-reading.result.held.items c.max_depth-depth_left.ensures.same c.requires.rules c.requires.within c.requires.well_formed c.begin_at-reading.ensures.took)))

@@ -1,4 +1,4 @@
--- The bytes that are taken are a text, or have its fault.
+-- The bytes that are taken are an encoding, or have its fault.
 use Rattle.std.proofs.Common.{[], None, refl, arith}
 use Rattle.pb_wire.specs.Grammar.{HasFault}
 use Rattle.pb_schema.specs.Context.{a_message, schema_of}

@@ -1,4 +1,4 @@
--- More bytes stand behind the bytes that are held.
+-- More bytes are after the bytes that are held.
 use Rattle.std.proofs.Common.{rules, sym, subst}
 use Rattle.std.proofs.lemmas.List.Elements.{All-from_get_or, recursion_from_All}
 use Rattle.pb_wire.specs.Exact.{longer}

@@ -1,4 +1,4 @@
--- The first bytes of the piece stand behind those that are held, and the others behind these.
+-- The first bytes of the piece are after those that are held, and the others after these.
 use Rattle.std.proofs.Common.{◌≡◌, ◌+◌, ◌-◌, take, drop, length, vec_len, rules, ◌∙◌, subst, arith, length-drop}
 use Rattle.std.proofs.lemmas.List.{take_rest}
 use Rattle.std.proofs.lemmas.List.Elements.{All-from_get_or, recursion_from_All}

@@ -18,22 +18,22 @@ returns-in_err-take_piece-clause-fault c =
     let at = took.at in
     let size = took.size in
     let most = c.max_bytes-most.ensures.same in
-    let room = c.room_for-room.ensures in
-    let is : length b + c.room_for-room.result ≡ c.args.limits.bytes = omega (arith, at, size, most, room) in
+    let remaining = c.bytes_left-remaining.ensures in
+    let is : length b + c.bytes_left-remaining.result ≡ c.args.limits.bytes = omega (arith, at, size, most, remaining) in
     rw (p.1, p.2)
-    (if_fault_weaker c.in_err-take_piece.field-0.0 (Told c.args.pool.now c.args.message_type.0 c.args.limits.depth (longer (text_at b) (take c.room_for-room.result c.args.piece.now))) (IsSettled c.args.pool.now c.args.message_type.0 c.args.limits (b ++ c.args.piece.now))
-    (λ f told. front_bad b c.args.piece.now c.room_for-room.result f is (omega arith) told) (c.in_err-take_piece.ensures.refused c.args.message_type.0 c.args.limits.depth 101 [] (text_at b) took.reads))
+    (if_fault_weaker c.in_err-take_piece.field-0.0 (Told c.args.pool.now c.args.message_type.0 c.args.limits.depth (longer (text_at b) (take c.bytes_left-remaining.result c.args.piece.now))) (IsSettled c.args.pool.now c.args.message_type.0 c.args.limits (b ++ c.args.piece.now))
+    (λ f told. front_bad b c.args.piece.now c.bytes_left-remaining.result f is (omega arith) told) (c.in_err-take_piece.ensures.refused c.args.message_type.0 c.args.limits.depth 101 [] (text_at b) took.reads))
 
-pub returns-then-piece-room-clause-fault : goal.returns-then-piece-room-clause-fault
-returns-then-piece-room-clause-fault c =
+pub returns-then-piece-remaining-clause-fault : goal.returns-then-piece-remaining-clause-fault
+returns-then-piece-remaining-clause-fault c =
     λ b took.
     let at = took.at in
     let size = took.size in
     let most = c.max_bytes-most.ensures.same in
-    let room = c.room_for-room.ensures in
-    let is : length b + c.room_for-room.result ≡ c.args.limits.bytes = omega (arith, at, size, most, room) in
+    let remaining = c.bytes_left-remaining.ensures in
+    let is : length b + c.bytes_left-remaining.result ≡ c.args.limits.bytes = omega (arith, at, size, most, remaining) in
     let there = c.in_ok-take_piece.ensures.taken c.args.message_type.0 c.args.limits.depth 101 [] (text_at b) took.reads in
-    let settled = too_large b c.args.piece.now c.room_for-room.result (state_view c.take_piece.new.reading.reader) c.take_piece.new.reading.held.items is (omega arith) there.0 there.1 in
+    let settled = too_large b c.args.piece.now c.bytes_left-remaining.result (state_view c.take_piece.new.reading.reader) c.take_piece.new.reading.held.items is (omega arith) there.0 there.1 in
     if_fault_weaker c.too_large.result (λ f. f ≡ fault c.max_bytes-most.result [] InputTooLarge) (IsSettled c.args.pool.now c.args.message_type.0 c.args.limits (b ++ c.args.piece.now))
     (λ f told.
     subst (IsSettled c.args.pool.now c.args.message_type.0 c.args.limits (b ++ c.args.piece.now)) (sym told)
@@ -46,9 +46,9 @@ returns-clause-fault c =
     let at = took.at in
     let size = took.size in
     let most = c.max_bytes-most.ensures.same in
-    let room = c.room_for-room.ensures in
+    let remaining = c.bytes_left-remaining.ensures in
     fault_weaker c.take_piece-2.result (Told c.args.pool.now c.args.message_type.0 c.args.limits.depth (longer (text_at b) c.args.piece.now)) (IsSettled c.args.pool.now c.args.message_type.0 c.args.limits (b ++ c.args.piece.now))
-    (λ f told. whole_bad b c.args.piece.now f (omega (arith, at, size, most, room)) told) (c.take_piece-2.ensures.refused c.args.message_type.0 c.args.limits.depth 101 [] (text_at b) took.reads)
+    (λ f told. whole_bad b c.args.piece.now f (omega (arith, at, size, most, remaining)) told) (c.take_piece-2.ensures.refused c.args.message_type.0 c.args.limits.depth 101 [] (text_at b) took.reads)
 
 pub returns-clause-after : goal.returns-clause-after
 returns-clause-after c =
@@ -56,7 +56,7 @@ returns-clause-after c =
     let at = took.at in
     let size = took.size in
     let most = c.max_bytes-most.ensures.same in
-    let room = c.room_for-room.ensures in
+    let remaining = c.bytes_left-remaining.ensures in
     on_ok_both c.take_piece-2.result
-    (took_more b c.args.piece.now (state_view c.args.reading.now.reader) (state_view c.take_piece-2.new.reading.reader) c.args.reading.now.held.items c.take_piece-2.new.reading.held.items took (omega (arith, at, size, most, room)))
+    (took_more b c.args.piece.now (state_view c.args.reading.now.reader) (state_view c.take_piece-2.new.reading.reader) c.args.reading.now.held.items c.take_piece-2.new.reading.held.items took (omega (arith, at, size, most, remaining)))
     c.take_piece-2.ensures.at (c.take_piece-2.ensures.taken c.args.message_type.0 c.args.limits.depth 101 [] (text_at b) took.reads)

@@ -1,5 +1,5 @@
 -- The length comes after the tag, and the payload after it.
-use Rattle.std.proofs.Common.{ℕ, ◌+◌, ◌-◌, ap, ◌∙◌, Some, arith, take, drop, length, length-drop}
+use Rattle.std.proofs.Common.{ℕ, ◌+◌, ◌-◌, ap, ◌∙◌, arith, take, drop, length, length-drop}
 use Rattle.pb_wire.specs.Fault.{Place, Reads as ReadsNumber}
 use Rattle.pb_wire.specs.Token.{given_at, passed}
 use Rattle.pb_parts.proofs.PlaceLemmas.{slice_from}
@@ -33,9 +33,9 @@ pub returns-in-Ok-clause-whole : goal.returns-in-Ok-clause-whole
 returns-in-Ok-clause-whole c =
     λ at number wire_type has.
     let rest = take (length c.args.bytes.now - c.args.tag_size) (drop c.args.tag_size c.args.bytes.now) in
-    let reads : (at : ℕ) → ReadsNumber (passed (given_at at (Some c.args.remaining) c.args.bytes.now) c.args.tag_size) c.in-Ok-Some.length (passed (given_at at (Some c.args.remaining) c.args.bytes.now) (c.args.tag_size + c.in-Ok-Some.used)) =
+    let reads : (at : ℕ) → ReadsNumber (passed (given_at at c.args.left c.args.bytes.now) c.args.tag_size) c.in-Ok-Some.length (passed (given_at at c.args.left c.args.bytes.now) (c.args.tag_size + c.in-Ok-Some.used)) =
     (λ at.
     let first = front_there (at + c.args.tag_size) c.left_behind-after.result rest c.in-Ok-Some.field-0 c.in-Ok-Some.length c.in-Ok-Some.used c.in-Ok-Some.field-0-is (c.in-Ok-Some.ensures.whole (at + c.args.tag_size)) in
-    there_behind (λ (p q : Place). ReadsNumber p c.in-Ok-Some.length q) at (Some c.args.remaining) c.left_behind-after.result c.args.bytes.now c.args.tag_size c.in-Ok-Some.used c.left_behind-after.ensures first.1) in
-    length_there at (Some c.args.remaining) c.args.bytes.now c.args.tag_size (c.args.tag_size + c.in-Ok-Some.used) has reads c.in-Ok.ensures.size
+    there_behind (λ (p q : Place). ReadsNumber p c.in-Ok-Some.length q) at c.args.left c.left_behind-after.result c.args.bytes.now c.args.tag_size c.in-Ok-Some.used c.left_behind-after.ensures first.1) in
+    length_there at c.args.left c.args.bytes.now c.args.tag_size (c.args.tag_size + c.in-Ok-Some.used) has reads c.in-Ok.ensures.size
     (λ u t read is ends. c.in-Ok.ensures.whole u t read is ends)

@@ -1,4 +1,4 @@
--- The piece goes behind the bytes received.
+-- The piece goes after the bytes received.
 use Rattle.std.proofs.Common.{◌≡◌, ◌++◌, rules, sym}
 use Rattle.std.proofs.lemmas.List.Elements.{All-from_get_or, recursion_from_All}
 use Rattle.pb_wire.specs.Ranges.{IsByte, AreBytes}

@@ -1,4 +1,4 @@
--- What is open is told, and nothing else is; it is at most two parts a level, and a list.
+-- The open parts are reported, and nothing else is; they are at most two a level, and a list.
 use Rattle.std.proofs.Common.{sym}
 use Rattle.pb_decode.proofs.DecoderLemmas.{open_is, open_one, open_few}
 use Rattle.pb_decode.proofs.push_decoder.PushDecoder.frames.Goals as goal

@@ -1,4 +1,4 @@
--- What is held is told, and nothing else is; it is little.
+-- What is held is reported, and nothing else is; it is little.
 use Rattle.std.proofs.Common.{sym, arith}
 use Rattle.pb_decode.proofs.DecoderLemmas.{pending_is, pending_one, pending_few, one_declared}
 use Rattle.pb_decode.proofs.push_decoder.PushDecoder.pending.Goals as goal

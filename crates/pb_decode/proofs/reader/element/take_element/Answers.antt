@@ -1,4 +1,4 @@
--- What is told of the element is told of the text.
+-- What is reported of the element is reported of the input.
 use Rattle.std.proofs.Common.{ℕ, Option, ◌∙◌, sym, ap, subst, arith}
 use Rattle.pb_wire.specs.Fault.{fault}
 use Rattle.pb_wire.specs.Token.{given_at, passed}
@@ -10,7 +10,7 @@ use Rattle.pb_parts.specs.Tokens.Number.{IsNumberType}
 use Rattle.pb_decode.specs.Reader.{state_view, here, path_here, weight}
 use Rattle.pb_decode.proofs.ReaderLemmas.{fault_told}
 use Rattle.pb_parts.proofs.NumberTokens.{size_some}
-use Rattle.pb_decode.proofs.ListHolds.{list_can_hold}
+use Rattle.pb_whole.proofs.ListHolds.{list_can_hold}
 use Rattle.pb_decode.proofs.ElementLemmas.{list_types, element_short, element_refused, after_reads}
 use Rattle.pb_decode.proofs.WaitLemmas.{element_waits}
 use Rattle.pb_decode.proofs.reader.element.take_element.Goals as goal

@@ -7,4 +7,4 @@ use Rattle.pb_decode.proofs.reader.origin.begin_at.Goals as goal
 pub returns-clause-took : goal.returns-clause-took
 returns-clause-took c =
     λ pool base within good is.
-    took_origin pool c.args.message_type.0 c.args.room base c.args.end _ _ _ refl refl (ap frames_view c.new-frames.ensures.items) refl refl refl c.new-occurrences.ensures c.new-held.ensures.items c.requires within good is
+    took_origin pool c.args.message_type.0 c.args.depth_left base c.args.end _ _ _ refl refl (ap frames_view c.new-frames.ensures.items) refl refl refl c.new-occurrences.ensures c.new-held.ensures.items c.requires within good is

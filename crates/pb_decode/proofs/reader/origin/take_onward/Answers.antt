@@ -1,4 +1,4 @@
--- What is taken behind what is held is taken from the origin on.
+-- What is taken after what is held is taken from the origin on.
 use Rattle.std.proofs.Common.{arith}
 use Rattle.pb_decode.specs.Reader.{state_view}
 use Rattle.pb_decode.proofs.Outcomes.{on_ok_both}

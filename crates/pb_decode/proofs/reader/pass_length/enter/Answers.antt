@@ -1,4 +1,4 @@
--- The frame is pushed behind the others.
+-- The frame is pushed after the others.
 use Rattle.std.proofs.Common.{ap, ◌∙◌}
 use Rattle.pb_decode.specs.Reader.{frames_view}
 use Rattle.pb_decode.proofs.LengthSteps.{frames_pushed}

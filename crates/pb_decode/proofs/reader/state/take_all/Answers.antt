@@ -1,4 +1,4 @@
--- What is taken piece by piece is taken from the front of the bytes.
+-- What is taken piece by piece is taken from the start of the bytes.
 use Rattle.std.proofs.Common.{◌-◌, sym, ap, ◌∙◌, subst, arith, take, drop, length, length-drop}
 use Rattle.std.proofs.lemmas.Result.{err_from_is_err_and}
 use Rattle.pb_decode.specs.Reader.{state_view, IsReading, Passes}

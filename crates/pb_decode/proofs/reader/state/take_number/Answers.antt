@@ -1,4 +1,4 @@
--- What is told of the number is told of the text.
+-- What is reported of the number is reported of the input.
 use Rattle.std.proofs.Common.{ℕ, Option, Some, ◌∙◌, sym, ap, subst, arith}
 use Rattle.pb_wire.specs.Fault.{fault}
 use Rattle.pb_wire.specs.Token.{given_at, passed}

@@ -1,4 +1,4 @@
--- Where the innermost part ends the reader stands in the part that holds it.
+-- Where the innermost part ends the reader is in the part that holds it.
 use Rattle.std.proofs.Common.{◌∷◌, refl, sym, ap, ◌∙◌, arith, option_map}
 use Rattle.std.specs.Prelude.{false}
 use Rattle.pb_value.specs.View.{body_view, key_view, value_view}
@@ -9,7 +9,8 @@ use Rattle.pb_parts.specs.Open.PartView.{part_view, scope_view}
 use Rattle.pb_decode.specs.Reader.{state_view, frames_view, here}
 use Rattle.pb_decode.proofs.FewRecords.{frame_counts_fit}
 use Rattle.pb_parts.proofs.WellLemmas.{can_hold}
-use Rattle.pb_decode.proofs.EndedLemmas.{popped_open, standing, closed_reads, frame_can_hold, entry_has_room}
+use Rattle.pb_decode.proofs.EndedLemmas.{popped_open, standing, closed_reads}
+use Rattle.pb_whole.proofs.Held.{frame_can_hold, entry_has_room}
 use Rattle.pb_decode.proofs.reader.take_ended.close_innermost.Goals as goal
 
 pub close_message-requires-clause-can : goal.close_message-requires-clause-can
@@ -56,7 +57,7 @@ pub returns-in_ok-close_message-in-Message-clause-taken : goal.returns-in_ok-clo
 returns-in_ok-close_message-in-Message-clause-taken c =
     λ m depth levels base p0 rest begun.
     closed_reads (state_view c.args.reader.now)
-    (state_view (record { at = c.args.reader.now.at; part = c.close_message.new.outer; scope = c.close_message.new.scope; frames = c.pop.new.self; step = c.args.reader.now.step; tried = c.args.reader.now.tried })) c.in-Some.frame.scope.end rest refl c.requires.tag
+    (state_view (record { at = c.args.reader.now.at; part = c.close_message.new.outer; scope = c.close_message.new.scope; frames = c.pop.new.self; step = c.args.reader.now.step })) c.in-Some.frame.scope.end rest refl c.requires.tag
     c.in_ok-close_message-in-Message.ensures.same_end
     (c.in_ok-close_message-in-Message.ensures.stands m depth levels c.in-Message.field-0.0 base p0 (here (state_view c.args.reader.now) rest) (frames_view c.pop.new.self.items) (scope_view c.args.reader.now.scope)
     (standing (state_view c.args.reader.now) rest (frame_of (part_view c.replace-inner.new.dest) c.in-Some.frame.number c.in-Some.frame.slot false (scope_view c.in-Some.frame.scope) ∷ frames_view c.pop.new.self.items)
@@ -67,7 +68,7 @@ pub returns-in_ok-close_entry-in-Entry-clause-taken : goal.returns-in_ok-close_e
 returns-in_ok-close_entry-in-Entry-clause-taken c =
     λ m depth levels base p0 rest begun.
     closed_reads (state_view c.args.reader.now)
-    (state_view (record { at = c.args.reader.now.at; part = c.close_entry.new.outer; scope = c.close_entry.new.scope; frames = c.pop.new.self; step = c.args.reader.now.step; tried = c.args.reader.now.tried })) c.in-Some.frame.scope.end rest refl c.requires.tag
+    (state_view (record { at = c.args.reader.now.at; part = c.close_entry.new.outer; scope = c.close_entry.new.scope; frames = c.pop.new.self; step = c.args.reader.now.step })) c.in-Some.frame.scope.end rest refl c.requires.tag
     c.in_ok-close_entry-in-Entry.ensures.same_end
     (c.in_ok-close_entry-in-Entry.ensures.stands c.args.pool.now m depth levels base p0 (here (state_view c.args.reader.now) rest) (frames_view c.pop.new.self.items) (scope_view c.args.reader.now.scope)
     (standing (state_view c.args.reader.now) rest (frame_of (part_view c.replace-inner.new.dest) c.in-Some.frame.number c.in-Some.frame.slot false (scope_view c.in-Some.frame.scope) ∷ frames_view c.pop.new.self.items)

@@ -1,4 +1,4 @@
--- What is told of the length is told of the text, and behind it what it begins is begun.
+-- What is reported of the length is reported of the input, and after it what it begins is begun.
 use Rattle.std.proofs.Common.{ℕ, Option, refl, sym, ap, subst, arith}
 use Rattle.pb_wire.specs.Fault.{fault}
 use Rattle.pb_wire.specs.Token.{given_at, passed}

@@ -1,4 +1,4 @@
--- What comes next stands behind what was taken at once.
+-- What comes next is after what was taken at once.
 use Rattle.std.proofs.Common.{◌≡◌, ℕ, sym, subst, arith, drop, length-drop}
 use Rattle.std.proofs.lemmas.Result.{err_from_is_err_and}
 use Rattle.pb_decode.specs.Reader.{state_view, Reads, IsReading, Stops}
@@ -11,7 +11,7 @@ use Rattle.pb_decode.proofs.reader.take_next.take_next.Goals as goal
 pub take_open-requires-clause-reading : goal.take_open-requires-clause-reading
 take_open-requires-clause-reading c =
     let from = c.requires.reading in
-    subst (IsReading c.args.pool.now (state_view c.quick.new.reader)) (sym (slice_from c.in_ok-ahead.ahead c.args.bytes.now)) (record {
+    subst (IsReading c.args.pool.now (state_view c.take_records.new.reader)) (sym (slice_from c.in_ok-ahead.ahead c.args.bytes.now)) (record {
       m = from.m;
       depth = from.depth;
       levels = from.levels;
@@ -32,21 +32,21 @@ returns-in_err-size-clause-refused c =
     λ m depth levels base p0 begun.
     let p = err_from_is_err_and c.from_residual-in_err-size.result c.from_residual-in_err-size.ensures.1 in
     rw (p.1, p.2) (c.in_err-size.ensures.refused m depth levels base p0
-    (reads_slice c.args.pool.now m depth levels base p0 (state_view c.quick.new.reader) c.in_ok-ahead.ahead c.args.bytes.now (c.in_ok-ahead.ensures.taken m depth levels base p0 begun)))
+    (reads_slice c.args.pool.now m depth levels base p0 (state_view c.take_records.new.reader) c.in_ok-ahead.ahead c.args.bytes.now (c.in_ok-ahead.ensures.taken m depth levels base p0 begun)))
 
 pub returns-in-Some-clause-taken : goal.returns-in-Some-clause-taken
 returns-in-Some-clause-taken c =
     λ m depth levels base p0 begun.
     taken_some c.args.pool.now m depth levels base p0 (state_view c.take_open.new.reader) c.in_ok-ahead.ahead c.in-Some.size c.args.bytes.now c.in_ok-size.field-0 c.in-Some.is
     (c.in_ok-size.ensures.taken m depth levels base p0
-    (reads_slice c.args.pool.now m depth levels base p0 (state_view c.quick.new.reader) c.in_ok-ahead.ahead c.args.bytes.now (c.in_ok-ahead.ensures.taken m depth levels base p0 begun)))
+    (reads_slice c.args.pool.now m depth levels base p0 (state_view c.take_records.new.reader) c.in_ok-ahead.ahead c.args.bytes.now (c.in_ok-ahead.ensures.taken m depth levels base p0 begun)))
 
 pub returns-in-None-clause-taken : goal.returns-in-None-clause-taken
 returns-in-None-clause-taken c =
     λ m depth levels base p0 begun.
     (taken_none c.args.pool.now m depth levels base p0 (state_view c.take_open.new.reader) c.in_ok-ahead.ahead c.args.bytes.now c.in_ok-size.field-0 c.in-None.is
     (c.in_ok-size.ensures.taken m depth levels base p0
-    (reads_slice c.args.pool.now m depth levels base p0 (state_view c.quick.new.reader) c.in_ok-ahead.ahead c.args.bytes.now (c.in_ok-ahead.ensures.taken m depth levels base p0 begun)))).0
+    (reads_slice c.args.pool.now m depth levels base p0 (state_view c.take_records.new.reader) c.in_ok-ahead.ahead c.args.bytes.now (c.in_ok-ahead.ensures.taken m depth levels base p0 begun)))).0
 
 pub returns-in-None-2-clause-taken : goal.returns-in-None-2-clause-taken
 returns-in-None-2-clause-taken c =
@@ -55,7 +55,7 @@ returns-in-None-2-clause-taken c =
     subst (λ (z : ℕ). Reads c.args.pool.now m depth levels base p0 (state_view c.take_open.new.reader) (drop z c.args.bytes.now) × Stops c.args.pool.now m depth p0 (state_view c.take_open.new.reader) (drop z c.args.bytes.now)) nothing
     (taken_none c.args.pool.now m depth levels base p0 (state_view c.take_open.new.reader) c.in_ok-ahead.ahead c.args.bytes.now c.in_ok-size.field-0 c.in-None-2.is
     (c.in_ok-size.ensures.taken m depth levels base p0
-    (reads_slice c.args.pool.now m depth levels base p0 (state_view c.quick.new.reader) c.in_ok-ahead.ahead c.args.bytes.now (c.in_ok-ahead.ensures.taken m depth levels base p0 begun))))
+    (reads_slice c.args.pool.now m depth levels base p0 (state_view c.take_records.new.reader) c.in_ok-ahead.ahead c.args.bytes.now (c.in_ok-ahead.ensures.taken m depth levels base p0 begun))))
 
 pub returns-in-None-2-clause-waits : goal.returns-in-None-2-clause-waits
 returns-in-None-2-clause-waits c =

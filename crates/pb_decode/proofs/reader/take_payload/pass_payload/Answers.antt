@@ -1,4 +1,4 @@
--- The payload goes into the part, and its record is counted; a text that is not UTF-8 is refused.
+-- The payload goes into the part, and its record is counted; a string that is not UTF-8 is refused.
 use Rattle.std.proofs.Common.{◌+◌, length, refl, sym, subst}
 use Rattle.pb_wire.specs.Fault.{fault}
 use Rattle.pb_wire.specs.declared.fault.Cause.TheVariants.{BadText}

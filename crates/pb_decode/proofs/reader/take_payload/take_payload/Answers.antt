@@ -1,4 +1,4 @@
--- The payload stands in full, or it is cut.
+-- The payload is there in full, or it is cut.
 use Rattle.std.proofs.Common.{◌≤◌, length, ◌∙◌, ap, ◌+◌, ℕ, arith}
 use Rattle.std.proofs.lemmas.List.{length-take-le}
 use Rattle.std.proofs.lemmas.Result.{err_from_is_err_and}

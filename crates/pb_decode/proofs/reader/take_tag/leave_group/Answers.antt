@@ -1,4 +1,4 @@
--- Behind the group the reader stands in the part that holds it.
+-- After the group the reader is in the part that holds it.
 use Rattle.std.proofs.Common.{◌≡◌, ◌+◌, ◌∷◌, ℕ, drop, refl, sym, ap, ◌∙◌, subst, arith, option_map}
 use Rattle.std.specs.Prelude.{true}
 use Rattle.pb_wire.specs.Unknown.{records_of}
@@ -9,7 +9,8 @@ use Rattle.pb_parts.specs.Open.Frames.{frame_of, message_part, entry_part, group
 use Rattle.pb_parts.specs.Open.PartView.{part_view, scope_view}
 use Rattle.pb_decode.specs.Reader.{state_view, frames_view, here}
 use Rattle.pb_decode.proofs.FewRecords.{frame_counts_fit}
-use Rattle.pb_decode.proofs.EndedLemmas.{popped_group, popped_number, standing, frame_can_hold}
+use Rattle.pb_decode.proofs.EndedLemmas.{popped_group, popped_number, standing}
+use Rattle.pb_whole.proofs.Held.{frame_can_hold}
 use Rattle.pb_parts.proofs.FrameLemmas.{entry_no_group}
 use Rattle.pb_decode.proofs.LengthSteps.{stands_here}
 use Rattle.pb_decode.proofs.reader.take_tag.leave_group.Goals as goal
@@ -46,7 +47,7 @@ returns-in_ok-close_message-in-Message-clause-reads c =
     λ m depth levels number base p0 rest begun inner has.
     let around = popped_group c.args.reader.now.frames.items c.pop.new.self.items c.in-Some.frame c.replace-inner.new.dest number c.in-Some.ensures.items c.replace-inner.ensures.after inner in
     let same : number ≡ c.in-Some.frame.number = sym (popped_number c.args.reader.now.frames.items c.pop.new.self.items c.in-Some.frame number c.in-Some.ensures.items inner) in
-    stands_here (state_view (record { at = c.args.reader.now.at + c.args.size; part = c.close_message.new.outer; scope = c.close_message.new.scope; frames = c.pop.new.self; step = c.args.reader.now.step; tried = c.args.reader.now.tried })) (drop c.args.size rest)
+    stands_here (state_view (record { at = c.args.reader.now.at + c.args.size; part = c.close_message.new.outer; scope = c.close_message.new.scope; frames = c.pop.new.self; step = c.args.reader.now.step })) (drop c.args.size rest)
     (passed (here (state_view c.args.reader.now) rest) c.args.size)
     (c.in_ok-close_message-in-Message.ensures.behind m depth levels c.in-Message.field-0.0 base p0 (here (state_view c.args.reader.now) rest) (passed (here (state_view c.args.reader.now) rest) c.args.size) (frames_view c.pop.new.self.items) (scope_view c.args.reader.now.scope)
     (standing (state_view c.args.reader.now) rest
@@ -59,7 +60,7 @@ returns-in_ok-close_group-in-Group-clause-reads c =
     λ m depth levels number base p0 rest begun inner has.
     let around = popped_group c.args.reader.now.frames.items c.pop.new.self.items c.in-Some.frame c.replace-inner.new.dest number c.in-Some.ensures.items c.replace-inner.ensures.after inner in
     let same : number ≡ c.in-Some.frame.number = sym (popped_number c.args.reader.now.frames.items c.pop.new.self.items c.in-Some.frame number c.in-Some.ensures.items inner) in
-    stands_here (state_view (record { at = c.args.reader.now.at + c.args.size; part = c.close_group.new.outer; scope = c.close_group.new.scope; frames = c.pop.new.self; step = c.args.reader.now.step; tried = c.args.reader.now.tried })) (drop c.args.size rest)
+    stands_here (state_view (record { at = c.args.reader.now.at + c.args.size; part = c.close_group.new.outer; scope = c.close_group.new.scope; frames = c.pop.new.self; step = c.args.reader.now.step })) (drop c.args.size rest)
     (passed (here (state_view c.args.reader.now) rest) c.args.size)
     (c.in_ok-close_group-in-Group.ensures.stands c.args.pool.now m depth levels base p0 (here (state_view c.args.reader.now) rest) (passed (here (state_view c.args.reader.now) rest) c.args.size) (frames_view c.pop.new.self.items) (scope_view c.args.reader.now.scope)
     (standing (state_view c.args.reader.now) rest

@@ -1,4 +1,4 @@
--- Behind the tag its value or length comes next, unless that would open one level too many.
+-- After the tag its value or length comes next, unless that would open one level too many.
 use Rattle.std.proofs.Common.{◌+◌, ◌++◌, ◌∷◌, [], refl}
 use Rattle.pb_wire.specs.Fault.{fault}
 use Rattle.pb_wire.specs.Token.{passed}
@@ -15,7 +15,7 @@ pub returns-in-Some-clause-reads : goal.returns-in-Some-clause-reads
 returns-in-Some-clause-reads c =
     λ m depth levels base p0 rest begun has.
     after_reads (state_view c.args.reader.now)
-    (state_view (record { at = c.args.reader.now.at + c.args.size; part = c.args.reader.now.part; scope = c.args.reader.now.scope; frames = c.args.reader.now.frames; step = c.in-Some.step; tried = c.args.reader.now.tried })) c.args.size rest refl refl
+    (state_view (record { at = c.args.reader.now.at + c.args.size; part = c.args.reader.now.part; scope = c.args.reader.now.scope; frames = c.args.reader.now.frames; step = c.in-Some.step })) c.args.size rest refl refl
     (c.in-Some.ensures.goes_on m depth levels base p0 (here (state_view c.args.reader.now) rest) (passed (here (state_view c.args.reader.now) rest) c.args.size) (frames_view c.args.reader.now.frames.items) (scope_view c.args.reader.now.scope)
     (standing (state_view c.args.reader.now) rest (frames_view c.args.reader.now.frames.items) (part_view c.args.reader.now.part) begun c.requires.step refl refl) refl has)
 

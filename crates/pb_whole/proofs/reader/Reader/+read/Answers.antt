@@ -14,6 +14,7 @@ use Rattle.pb_parts.specs.declared.open.part.Slot.TheVariants as slot
 use Rattle.pb_parts.specs.declared.open.purpose.Purpose.TheVariants.{Message}
 use Rattle.pb_parts.specs.Open.Frames.{Part, entry_part, one_more_in, Stands}
 use Rattle.pb_parts.specs.Open.PartView.{part_view}
+use Rattle.pb_parts.specs.Open.Purposes.{Means, part_context}
 use Rattle.pb_parts.specs.Close.Mapped.{pairs_view, put_mapped, put_all_mapped}
 use Rattle.pb_parts.specs.Values.Run.{put_listed}
 use Rattle.pb_parts.proofs.PlaceLemmas.{slice_from, place_behind}
@@ -119,20 +120,22 @@ read_message-returns-in_ok-put_message-in-Message-clause-read t c =
 pub message_after-read_records-requires : goal.message_after-read_records-requires
 message_after-read_records-requires t c =
     let from = c.requires.open in
+    let number = c.args.tag.number in
     let is = ap length (slice_from c.in-Some.start c.args.bytes.now) ∙ length-drop c.in-Some.start c.args.bytes.now in
     let small = c.requires.small in
-    let has = typed_tag c.args.bytes.now (Some c.args.left.remaining) c.args.tag.number c.args.tag.wire_type 2 c.args.tag.size c.requires.bytes c.requires.tag in
+    let has = typed_tag c.args.bytes.now (Some c.args.left.remaining) number c.args.tag.wire_type 2 c.args.tag.size c.requires.bytes c.requires.tag in
+    let means = subst (λ (z : ℕ). Means c.args.self.now.pool.now (part_context from.now) number z (Message c.args.message_type (slot.List number))) c.requires.bytes from.means in
     let some = c.requires.within.0 in
     let later = c.in-Some.ensures.within.0 in
     let within = c.in-Some.ensures.within.1 in
-    let less : 16 * length (take (length c.args.bytes.now - c.in-Some.start) (drop c.in-Some.start c.args.bytes.now)) + 8 < 16 * length c.args.bytes.now + 3 = omega (arith, is, some, later, within) in (
+    let less : 16 * length (take (length c.args.bytes.now - c.in-Some.start) (drop c.in-Some.start c.args.bytes.now)) + 8 < 16 * length c.args.bytes.now + 2 = omega (arith, is, some, later, within) in (
       search (rules, less),
       (
         record {
           rules = c.requires.rules;
           is_open =
-              message_in_part c.args.bytes.now c.args.left.remaining c.args.tag.number c.args.tag.size c.in-Some.start c.in-Some.size c.args.left.depth_left (c.args.left.depth_left - 1) c.args.message_type (slot.List c.args.tag.number) from.now (body_view c.empty_body.result) c.requires.rules from.there refl has
-              (λ at. c.in-Some.ensures.whole at c.args.tag.number c.args.tag.wire_type (c.requires.tag at)) from.means (λ _. c.requires.level) refl c.empty_body.ensures;
+              message_in_part c.args.bytes.now c.args.left.remaining number c.args.tag.size c.in-Some.start c.in-Some.size c.args.left.depth_left (c.args.left.depth_left - 1) c.args.message_type (slot.List number) from.now (body_view c.empty_body.result) c.requires.rules from.there refl has
+              (λ at. c.in-Some.ensures.whole at number c.args.tag.wire_type (c.requires.tag at)) means (λ _. c.requires.level) refl c.empty_body.ensures;
           small = omega (arith, is, small);
         },
         search (rules, is),
@@ -141,22 +144,55 @@ message_after-read_records-requires t c =
 
 pub message_after-returns-in-Message-clause-put : goal.message_after-returns-in-Message-clause-put
 message_after-returns-in-Message-clause-put t c =
-    λ now means m depth levels at base p0 frames there.
+    λ now meant m depth levels at base p0 frames there.
     let number = c.args.tag.number in
     let has = typed_tag c.args.bytes.now (Some c.args.left.remaining) number c.args.tag.wire_type 2 c.args.tag.size c.requires.bytes c.requires.tag in
+    let means = subst (λ (z : ℕ). Means c.args.self.now.pool.now (part_context now) number z (Message c.args.message_type (slot.List number))) c.requires.bytes meant in
     let read = message_inside at (Some c.args.left.remaining) c.args.bytes.now number c.args.tag.size c.in-Some.start c.in-Some.size c.args.left.depth_left (c.args.left.depth_left - 1) c.args.message_type (slot.List number) now (body_view c.empty_body.result) c.requires.rules there refl (has at) (c.in-Some.ensures.whole at number c.args.tag.wire_type (c.requires.tag at)) means (λ _. c.requires.level) refl c.empty_body.ensures c.in_ok-read_records.ensures (ap part_view c.in-Message.is) in
     message_over at c.args.left.remaining c.args.bytes.now number c.in-Some.start c.in-Some.size c.args.left.depth_left (c.args.left.depth_left - 1) c.in-Message._kind.0 (slot.List number) (body_view c.in-Message.body) (put_listed number (value_view (value.Message c.in-Message.body)) now) there.1 there.2 read
     (message_listed c.args.self.now.pool.now number now c.in-Message.body)
+
+-- and so does a group
+pub group_after-read_to_end-requires : goal.group_after-read_to_end-requires
+group_after-read_to_end-requires t c =
+    let from = c.requires.open in
+    let number = c.args.tag.number in
+    let is = ap length (slice_from c.args.tag.size c.args.bytes.now) ∙ length-drop c.args.tag.size c.args.bytes.now in
+    let small = c.requires.small in
+    let some = c.requires.within.0 in
+    let within = c.requires.within.1 in
+    let start = typed_tag c.args.bytes.now (Some c.args.left.remaining) number c.args.tag.wire_type 3 c.args.tag.size c.requires.start c.requires.tag in
+    let means = subst (λ (z : ℕ). Means c.args.self.now.pool.now (part_context from.now) number z (Message c.args.message_type (slot.List number))) c.requires.start from.means in
+    let below = c.below-within.ensures ∙ ap (λ (z : Left). record { remaining = z.remaining; depth_left = z.depth_left - 1 }) c.after.ensures in
+    let less : 16 * length (take (length c.args.bytes.now - c.args.tag.size) (drop c.args.tag.size c.args.bytes.now)) + 8 < 16 * length c.args.bytes.now + 2 = omega (arith, is, some, within) in (
+      search (rules, less),
+      subst (λ (z : Left). CanRead c.args.self.now.pool.now (part_kept.Message c.args.message_type c.empty_body.result) (take (length c.args.bytes.now - c.args.tag.size) (drop c.args.tag.size c.args.bytes.now)) z) (sym below) (record {
+        rules = c.requires.rules;
+        is_open = field_group_in_part c.args.bytes.now c.args.left.remaining number c.args.tag.size (c.args.left.remaining - c.args.tag.size) c.args.left.depth_left c.args.message_type (slot.List number) from.now (body_view c.empty_body.result) c.requires.rules from.there start means c.requires.level refl c.empty_body.ensures refl;
+        small = omega (arith, is, small);
+      }),
+    )
+
+pub group_after-returns-in-Message-clause-put : goal.group_after-returns-in-Message-clause-put
+group_after-returns-in-Message-clause-put t c =
+    λ now meant m depth levels at base p0 frames there.
+    let number = c.args.tag.number in
+    let start = typed_tag c.args.bytes.now (Some c.args.left.remaining) number c.args.tag.wire_type 3 c.args.tag.size c.requires.start c.requires.tag in
+    let means = subst (λ (z : ℕ). Means c.args.self.now.pool.now (part_context now) number z (Message c.args.message_type (slot.List number))) c.requires.start meant in
+    let below = c.below-within.ensures ∙ ap (λ (z : Left). record { remaining = z.remaining; depth_left = z.depth_left - 1 }) c.after.ensures in
+    let reads = subst (λ (z : Left). ReadsToEnd c.args.self.now.pool.now number (part_view (part_kept.Message c.args.message_type c.empty_body.result)) (part_view c.read_to_end.new.part) (take (length c.args.bytes.now - c.args.tag.size) (drop c.args.tag.size c.args.bytes.now)) z.remaining z.depth_left c.in_ok-size.size) below c.in_ok-size.ensures.read in
+    let read = field_group_inside at c.args.left.remaining c.args.bytes.now number c.args.tag.size (c.args.left.remaining - c.args.tag.size) c.in_ok-size.size c.args.left.depth_left c.args.message_type (slot.List number) now (body_view c.empty_body.result) c.requires.rules there start means c.requires.level refl c.empty_body.ensures refl reads (ap part_view c.in-Message.is) in
+    field_group_over (put_listed number (value_view (value.Message c.in-Message.body)) now) there.2 read.1 read.2 (message_listed c.args.self.now.pool.now number now c.in-Message.body)
 
 -- MESSAGE BY MESSAGE
 pub messages_from-loop-tag-init : goal.messages_from-loop-tag-init
 messages_from-loop-tag-init t c = record {
   within = omega arith;
-  put = none_listed 2 c.args.number (Message c.args.message_type (slot.List c.args.number)) c.new-messages.result.items c.args.bytes.now c.args.left.remaining c.args.left.depth_left c.new-messages.ensures.items;
+  put = none_listed c.args.wire_type c.args.number (Message c.args.message_type (slot.List c.args.number)) c.new-messages.result.items c.args.bytes.now c.args.left.remaining c.args.left.depth_left c.new-messages.ensures.items;
 }
 
-pub messages_from-message_after-requires : goal.messages_from-message_after-requires
-messages_from-message_after-requires t c =
+pub messages_from-listed_after-requires : goal.messages_from-listed_after-requires
+messages_from-listed_after-requires t c =
     let here = c.loop-tag.here in
     let size = ap length (slice_from here c.args.bytes.now) ∙ length-drop here c.args.bytes.now in
     let small = c.requires.small in
@@ -166,19 +202,17 @@ messages_from-message_after-requires t c =
       (
         c.requires.rules,
         (
-          subst (λ (z : Left). IsListOpen c.args.self.now.pool.now c.in-Some.tag.number 2 c.args.message_type rest z.remaining z.depth_left) (sym c.after-in-Some.ensures)
-              (subst (λ (z : ℕ). IsListOpen c.args.self.now.pool.now z 2 c.args.message_type rest (c.args.left.remaining - here) c.args.left.depth_left) (sym c.in-Some.ensures.own.0)
-              (list_further c.loop-tag.messages.items c.args.bytes.now c.args.left.remaining c.args.left.depth_left here c.requires.open c.loop-tag.invariant.put)),
+          subst (λ (z : Left). IsListOpen c.args.self.now.pool.now c.in-Some.tag.number c.in-Some.tag.wire_type c.args.message_type rest z.remaining z.depth_left) (sym c.after-in-Some.ensures)
+              (subst (λ (z : ℕ). IsListOpen c.args.self.now.pool.now z c.in-Some.tag.wire_type c.args.message_type rest (c.args.left.remaining - here) c.args.left.depth_left) (sym c.in-Some.ensures.own.0)
+              (subst (λ (z : ℕ). IsListOpen c.args.self.now.pool.now c.args.number z c.args.message_type rest (c.args.left.remaining - here) c.args.left.depth_left) (sym c.in-Some.ensures.own.1)
+              (list_further c.loop-tag.messages.items c.args.bytes.now c.args.left.remaining c.args.left.depth_left here c.requires.open c.loop-tag.invariant.put))),
           (
             subst (λ (z : Left). 0 < z.depth_left) (sym c.after-in-Some.ensures) c.requires.level,
             (
               omega (arith, size, small),
               (
-                c.in-Some.ensures.own.1,
-                (
-                  c.in-Some.ensures.within,
-                  subst (λ (z : Left). HasTagAt rest (Some z.remaining) c.in-Some.tag.number c.in-Some.tag.wire_type c.in-Some.tag.size) (c.after.ensures ∙ sym c.after-in-Some.ensures) c.in-Some.ensures.whole,
-                ),
+                c.in-Some.ensures.within,
+                subst (λ (z : Left). HasTagAt rest (Some z.remaining) c.in-Some.tag.number c.in-Some.tag.wire_type c.in-Some.tag.size) (c.after.ensures ∙ sym c.after-in-Some.ensures) c.in-Some.ensures.whole,
               ),
             ),
           ),
@@ -196,12 +230,13 @@ messages_from-loop-tag-preserved t c =
     let enough = used.1 in
     let within = c.loop-tag.invariant.within in
     let rest = take (length c.args.bytes.now - here) (drop here c.args.bytes.now) in
-    let run = λ (n : ℕ) (z : Left). ReadsRun c.args.self.now.pool.now n 2 (Message c.args.message_type (slot.List n)) (value_view c.in_ok-message.message ∷ []) rest z.remaining z.depth_left c.in_ok-message.size in
+    let run = λ (n w : ℕ) (z : Left). ReadsRun c.args.self.now.pool.now n w (Message c.args.message_type (slot.List n)) (value_view c.in_ok-message.message ∷ []) rest z.remaining z.depth_left c.in_ok-message.size in
     record {
       within = omega (arith, size, enough, within);
-      put = values_further 2 number (Message c.args.message_type (slot.List number)) c.loop-tag.messages.items c.push.new.self.items c.in_ok-message.message c.args.bytes.now c.args.left.remaining c.args.left.depth_left here c.in_ok-message.size c.in_ok-push.ensures.items c.loop-tag.invariant.put
-          (subst (run number) c.after-in-Some.ensures
-          (subst (λ (n : ℕ). run n c.after-in-Some.result) c.in-Some.ensures.own.0 c.in_ok-message.ensures.put));
+      put = values_further c.args.wire_type number (Message c.args.message_type (slot.List number)) c.loop-tag.messages.items c.push.new.self.items c.in_ok-message.message c.args.bytes.now c.args.left.remaining c.args.left.depth_left here c.in_ok-message.size c.in_ok-push.ensures.items c.loop-tag.invariant.put
+          (subst (run number c.args.wire_type) c.after-in-Some.ensures
+          (subst (λ (w : ℕ). run number w c.after-in-Some.result) c.in-Some.ensures.own.1
+          (subst (λ (n : ℕ). run n c.in-Some.tag.wire_type c.after-in-Some.result) c.in-Some.ensures.own.0 c.in_ok-message.ensures.put)));
     }
 
 -- THEY GO to the end of their list

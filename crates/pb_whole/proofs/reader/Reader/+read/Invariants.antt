@@ -39,8 +39,14 @@ decreases-read_messages l = 16 * length l.bytes.now + 5
 abbrev pub decreases-messages_from : goal.decreases-messages_from
 decreases-messages_from l = 16 * length l.bytes.now + 4
 
+abbrev pub decreases-listed_after : goal.decreases-listed_after
+decreases-listed_after l = 16 * length l.bytes.now + 3
+
 abbrev pub decreases-message_after : goal.decreases-message_after
-decreases-message_after l = 16 * length l.bytes.now + 3
+decreases-message_after l = 16 * length l.bytes.now + 2
+
+abbrev pub decreases-group_after : goal.decreases-group_after
+decreases-group_after l = 16 * length l.bytes.now + 2
 
 abbrev pub decreases-read_message : goal.decreases-read_message
 decreases-read_message l = 16 * length l.bytes.now + 5
@@ -72,7 +78,7 @@ decreases-read_to_end-loop-tag l = length l.bytes - l.here
 abbrev pub invariant-messages_from-loop-tag : goal.invariant-messages_from-loop-tag
 invariant-messages_from-loop-tag l = record {
   within : l.here ≤ length l.bytes;
-  put : ReadsRun l.self.pool.now l.number 2 (Message l.message_type (ListSlot l.number)) (map value_view l.messages.items) l.bytes l.left.remaining l.left.depth_left l.here;
+  put : ReadsRun l.self.pool.now l.number l.wire_type (Message l.message_type (ListSlot l.number)) (map value_view l.messages.items) l.bytes l.left.remaining l.left.depth_left l.here;
 }
 
 abbrev pub decreases-messages_from-loop-tag : goal.decreases-messages_from-loop-tag

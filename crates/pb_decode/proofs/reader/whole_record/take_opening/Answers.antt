@@ -1,0 +1,19 @@
+-- After the length what the record opens is open.
+use Rattle.std.proofs.Common.{ℕ, refl, subst}
+use Rattle.pb_wire.specs.Fault.{HasTag}
+use Rattle.pb_wire.specs.Token.{passed}
+use Rattle.pb_decode.specs.Reader.{state_view, here}
+use Rattle.pb_whole.proofs.Tags.{opening_next}
+use Rattle.pb_decode.proofs.WholeRecords.{tag_stands, tag_can, length_here}
+use Rattle.pb_decode.proofs.reader.whole_record.take_opening.Goals as goal
+
+pub returns-clause-taken : goal.returns-clause-taken
+returns-clause-taken c =
+    λ m depth levels base p0 begun.
+    let p = here (state_view c.args.reader.now) c.args.bytes.now in
+    let has = subst (λ (z : ℕ). HasTag (here (state_view c.args.reader.now) c.args.bytes.now) c.args.tag.number z (passed (here (state_view c.args.reader.now) c.args.bytes.now) c.args.tag.size)) c.requires.bytes c.requires.tag in
+    let l =
+    length_here (state_view c.args.reader.now) c.args.bytes.now c.args.tag.number c.args.tag.wire_type c.args.tag.size c.in-Some.start c.in-Some.size c.left.ensures c.in-Some.ensures.whole c.requires.tag in
+    let next = opening_next c.args.tag.number c.args.purpose (tag_stands (state_view c.args.reader.now) c.args.bytes.now begun c.requires.step) has c.requires.means (c.if-not-has_room.ensures.room refl) in
+    c.in_ok-pass_length.ensures.reads c.args.pool.now m depth levels base p0 (passed p c.args.tag.size) (passed p c.in-Some.start) c.requires.rules
+    (tag_can (state_view c.args.reader.now) c.args.bytes.now c.requires.rules c.requires.reading.reads c.requires.step) next l refl

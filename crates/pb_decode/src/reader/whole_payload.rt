@@ -1,0 +1,162 @@
+//! Messages and map entries that are complete in the bytes: each is read by `pb_whole` and goes into its slot, without a frame.
+
+ghost use Rattle.std.specs.Prelude.{◌≡◌, ◌+◌, ◌≤◌, length, IfOk, IfSome, IfNone};
+ghost use Rattle.pb_schema.specs.Rules.{IsPool};
+ghost use Rattle.pb_parts.specs.declared.open.purpose.Purpose.TheVariants as purposes;
+ghost use Rattle.pb_parts.specs.declared.tokens.step.Step.TheVariants.{Tag};
+ghost use Rattle.pb_parts.specs.Open.PartView.{part_view};
+ghost use Rattle.pb_parts.specs.Open.Purposes.{Means, part_context};
+ghost use Rattle.pb_decode.specs.Reader.{state_view, IsReading};
+ghost use Rattle.pb_decode.specs.Reader.Steps.{HasTagHere, TakesWhole};
+
+use crate::reader::state::{Reader, left};
+use pb_parts::close::closing::close_entry;
+use pb_parts::close::put::close_message;
+use pb_parts::error::NoMemory;
+use pb_parts::open::opening::{is_free, room_in};
+use pb_parts::open::part::{Part, Slot};
+use pb_parts::open::purpose::Purpose;
+use pb_parts::tokens::record_tag::RecordTag;
+use pb_parts::tokens::tag_step::has_room;
+use pb_schema::{Kind, MessageId};
+use pb_value::parts::empty_body;
+use pb_whole::reader::{Left, Reader as WholeReader};
+use pb_whole::tokens::payload_after;
+
+/// Takes the message after whose tag its payload is complete, if its slot is free, and how many bytes it takes. If the payload was read
+/// and is no message, or memory was refused, `by_tokens` is set.
+pub(crate) fn take_message(
+    whole: &WholeReader<'_>,
+    reader: &mut Reader,
+    tag: RecordTag,
+    message_type: MessageId,
+    slot: Slot,
+    by_tokens: &mut bool,
+    bytes: &[u8],
+) -> Result<Option<usize>, NoMemory>
+    requires rules { IsPool whole.now.pool.now }
+    requires reading { IsReading whole.now.pool.now (state_view reader.old) bytes.now }
+    requires step { reader.old.step ≡ Tag }
+    requires bytes { tag.wire_type ≡ 2 }
+    requires within { tag.size ≤ length bytes.now }
+    requires tag { HasTagHere (state_view reader.old) bytes.now tag.number tag.wire_type tag.size }
+    requires means { Means whole.now.pool.now (part_context (part_view reader.old.part)) tag.number 2 (purposes.Message message_type slot) }
+    ensures passes { IfOk result (λ o. IfSome o (λ n. (tag.size ≤ n) × (n ≤ length bytes.now) × (reader.new.at ≡ reader.old.at + n))) }
+    ensures none { IfOk result (λ o. IfNone o (reader.new ≡ reader.old)) }
+    ensures taken { TakesWhole whole.now.pool.now reader.old reader.new bytes.now result }
+{
+    if !has_room(reader.scope.room, Purpose::Message(message_type, slot)) {
+        return Ok(None);
+    }
+    if !is_free(&reader.part, slot) {
+        return Ok(None);
+    }
+    let Some((start, size)) = payload_after(tag.size, bytes, left(reader)) else {
+        return Ok(None);
+    };
+    let end = start + size as usize;
+    let mut inner = Part::Message(message_type, empty_body(whole.alloc));
+    let within = Left {
+        remaining: size,
+        depth_left: room_in(slot, reader.scope.room),
+    };
+    let Ok(()) = whole.read_records(&mut inner, &bytes[start..], within) else {
+        *by_tokens = true;
+        return Ok(None);
+    };
+    match inner {
+        Part::Message(_kind, message) => {
+            let outer = &mut reader.part;
+            let around = &mut reader.scope;
+            close_message(
+                whole.alloc,
+                whole.pool,
+                outer,
+                around,
+                tag.number,
+                slot,
+                message,
+            )?;
+            reader.at += end as u32;
+            Ok(Some(end))
+        }
+        Part::Entry {
+            key_kind: _,
+            value_kind: _,
+            key: _key,
+            value: _value,
+        } => Ok(None),
+        Part::Group(_records) => Ok(None),
+    }
+}
+
+/// Takes the map entry after whose tag its payload is complete, and how many bytes it takes, as `take_message` does.
+pub(crate) fn take_entry(
+    whole: &WholeReader<'_>,
+    reader: &mut Reader,
+    tag: RecordTag,
+    key_kind: Kind,
+    value_kind: Kind,
+    by_tokens: &mut bool,
+    bytes: &[u8],
+) -> Result<Option<usize>, NoMemory>
+    requires rules { IsPool whole.now.pool.now }
+    requires reading { IsReading whole.now.pool.now (state_view reader.old) bytes.now }
+    requires step { reader.old.step ≡ Tag }
+    requires bytes { tag.wire_type ≡ 2 }
+    requires within { tag.size ≤ length bytes.now }
+    requires tag { HasTagHere (state_view reader.old) bytes.now tag.number tag.wire_type tag.size }
+    requires means { Means whole.now.pool.now (part_context (part_view reader.old.part)) tag.number 2 (purposes.Entry key_kind value_kind) }
+    ensures passes { IfOk result (λ o. IfSome o (λ n. (tag.size ≤ n) × (n ≤ length bytes.now) × (reader.new.at ≡ reader.old.at + n))) }
+    ensures none { IfOk result (λ o. IfNone o (reader.new ≡ reader.old)) }
+    ensures taken { TakesWhole whole.now.pool.now reader.old reader.new bytes.now result }
+{
+    if reader.scope.room == 0 {
+        return Ok(None);
+    }
+    let Some((start, size)) = payload_after(tag.size, bytes, left(reader)) else {
+        return Ok(None);
+    };
+    let end = start + size as usize;
+    let mut entry = Part::Entry {
+        key_kind,
+        value_kind,
+        key: None,
+        value: None,
+    };
+    let within = Left {
+        remaining: size,
+        depth_left: reader.scope.room - 1,
+    };
+    let Ok(()) = whole.read_records(&mut entry, &bytes[start..], within) else {
+        *by_tokens = true;
+        return Ok(None);
+    };
+    match entry {
+        Part::Entry {
+            key_kind,
+            value_kind,
+            key,
+            value,
+        } => {
+            let slot = Slot::Map(tag.number);
+            let outer = &mut reader.part;
+            let around = &mut reader.scope;
+            close_entry(
+                whole.alloc,
+                outer,
+                around,
+                tag.number,
+                slot,
+                key_kind,
+                value_kind,
+                key,
+                value,
+            )?;
+            reader.at += end as u32;
+            Ok(Some(end))
+        }
+        Part::Message(_kind, _body) => Ok(None),
+        Part::Group(_records) => Ok(None),
+    }
+}

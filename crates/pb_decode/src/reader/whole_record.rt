@@ -1,0 +1,341 @@
+//! Records of numbers and of bytes, taken whole, and what opens or ends messages, entries, lists and groups.
+
+ghost use Rattle.std.specs.Prelude.{◌≡◌, ◌⊎◌, ◌+◌, ◌≤◌, ◌<◌, ◌^◌, true, length, IfOk, IfSome, IfNone};
+ghost use Rattle.pb_schema.specs.Rules.{IsPool};
+ghost use Rattle.pb_parts.specs.declared.tokens.step.Step.TheVariants.{Tag};
+ghost use Rattle.pb_parts.specs.Open.PartView.{part_view};
+ghost use Rattle.pb_parts.specs.Open.Purposes.{Means, part_context};
+ghost use Rattle.pb_parts.specs.Open.KnownPurpose.{IsKnown};
+ghost use Rattle.pb_parts.specs.Values.PayloadValue.{IsBytesPurpose};
+ghost use Rattle.pb_parts.specs.Tokens.Number.{IsNumberType};
+ghost use Rattle.pb_decode.specs.Reader.{state_view, IsReading};
+ghost use Rattle.pb_decode.specs.Reader.Steps.{HasTagHere, TakesWhole};
+
+use crate::reader::pass_length::pass_length;
+use crate::reader::state::{Reader, left};
+use crate::reader::take_tag::{enter_group, innermost, leave_group};
+use crate::reader::whole_payload::{take_entry, take_message};
+use pb_parts::close::put::count_one;
+use pb_parts::error::NoMemory;
+use pb_parts::open::known_purpose::{KnownPurpose, purpose_by};
+use pb_parts::open::purpose::{Purpose, purpose_of};
+use pb_parts::tokens::number_token::{NumberToken, number_at};
+use pb_parts::tokens::record_tag::{RecordTag, left_behind, record_tag};
+use pb_parts::tokens::tag::group_end;
+use pb_parts::tokens::tag_step::has_room;
+use pb_parts::values::payload_value::PayloadError;
+use pb_parts::values::put_number::put_number;
+use pb_parts::values::put_payload::put_payload;
+use pb_schema::Pool;
+use pb_whole::reader::Reader as WholeReader;
+use pb_whole::tokens::{length_after, payload_after};
+use std::alloc::Global;
+
+/// Takes the record of a number, after whose tag the number is complete, and how many bytes the record takes.
+fn take_number_record(
+    alloc: Global,
+    pool: &Pool,
+    reader: &mut Reader,
+    tag: RecordTag,
+    known: &mut Option<KnownPurpose>,
+    bytes: &[u8],
+) -> Result<Option<usize>, NoMemory>
+    requires rules { IsPool pool.now }
+    requires reading { IsReading pool.now (state_view reader.old) bytes.now }
+    requires step { reader.old.step ≡ Tag }
+    requires number { IsNumberType tag.wire_type }
+    requires within { tag.size ≤ length bytes.now }
+    requires tag { HasTagHere (state_view reader.old) bytes.now tag.number tag.wire_type tag.size }
+    requires known { IsKnown pool.now known.old }
+    ensures passes { IfOk result (λ o. IfSome o (λ n. (tag.size ≤ n) × (n ≤ length bytes.now) × (reader.new.at ≡ reader.old.at + n))) }
+    ensures none { IfOk result (λ o. IfNone o (reader.new ≡ reader.old)) }
+    ensures taken { TakesWhole pool.now reader.old reader.new bytes.now result }
+    ensures known { IsKnown pool.now known.new }
+{
+    let after = left_behind(left(reader), tag.size);
+    match number_at(tag.wire_type, &bytes[tag.size..], after) {
+        NumberToken::Whole(value, size) => {
+            let purpose = purpose_by(pool, &reader.part, tag.number, tag.wire_type, known);
+            put_number(alloc, pool, &mut reader.part, tag.number, purpose, value)?;
+            count_one(&mut reader.scope, tag.number)?;
+            let used = tag.size + size;
+            reader.at += used as u32;
+            Ok(Some(used))
+        }
+        NumberToken::Short => Ok(None),
+        NumberToken::Fault(_) => Ok(None),
+    }
+}
+
+/// Says that a record of a purpose has its payload's bytes for its value, or is unknown.
+fn is_for_bytes(purpose: Purpose) -> bool
+    ensures { result ≡ true → IsBytesPurpose purpose }
+{
+    match purpose {
+        Purpose::One(_, _) => true,
+        Purpose::Element(_) => true,
+        Purpose::Key(_) => true,
+        Purpose::EntryValue(_) => true,
+        Purpose::Unknown => true,
+        Purpose::Packed(_) => false,
+        Purpose::Message(_, _) => false,
+        Purpose::Entry(_, _) => false,
+    }
+}
+
+/// Takes the record of bytes, after whose tag its payload is complete, and how many bytes the record takes.
+fn take_bytes_record(
+    alloc: Global,
+    pool: &Pool,
+    reader: &mut Reader,
+    tag: RecordTag,
+    purpose: Purpose,
+    bytes: &[u8],
+) -> Result<Option<usize>, NoMemory>
+    requires rules { IsPool pool.now }
+    requires reading { IsReading pool.now (state_view reader.old) bytes.now }
+    requires step { reader.old.step ≡ Tag }
+    requires bytes { tag.wire_type ≡ 2 }
+    requires within { tag.size ≤ length bytes.now }
+    requires tag { HasTagHere (state_view reader.old) bytes.now tag.number tag.wire_type tag.size }
+    requires means { Means pool.now (part_context (part_view reader.old.part)) tag.number 2 purpose }
+    requires purpose { IsBytesPurpose purpose }
+    ensures passes { IfOk result (λ o. IfSome o (λ n. (tag.size ≤ n) × (n ≤ length bytes.now) × (reader.new.at ≡ reader.old.at + n))) }
+    ensures none { IfOk result (λ o. IfNone o (reader.new ≡ reader.old)) }
+    ensures taken { TakesWhole pool.now reader.old reader.new bytes.now result }
+{
+    let Some((start, size)) = payload_after(tag.size, bytes, left(reader)) else {
+        return Ok(None);
+    };
+    let end = start + size as usize;
+    let payload = &bytes[start..end];
+    match put_payload(alloc, pool, &mut reader.part, tag.number, purpose, payload) {
+        Ok(()) => {
+            count_one(&mut reader.scope, tag.number)?;
+            reader.at += end as u32;
+            Ok(Some(end))
+        }
+        Err(PayloadError::BadText(_)) => Ok(None),
+        Err(PayloadError::Memory) => Err(NoMemory),
+    }
+}
+
+/// Opens the message, the entry or the packed list of a record, where a level is left for it, and how many bytes its tag and
+/// its length take.
+fn take_opening(
+    alloc: Global,
+    pool: &Pool,
+    reader: &mut Reader,
+    tag: RecordTag,
+    purpose: Purpose,
+    bytes: &[u8],
+) -> Result<Option<usize>, NoMemory>
+    requires rules { IsPool pool.now }
+    requires reading { IsReading pool.now (state_view reader.old) bytes.now }
+    requires step { reader.old.step ≡ Tag }
+    requires bytes { tag.wire_type ≡ 2 }
+    requires within { tag.size ≤ length bytes.now }
+    requires tag { HasTagHere (state_view reader.old) bytes.now tag.number tag.wire_type tag.size }
+    requires means { Means pool.now (part_context (part_view reader.old.part)) tag.number 2 purpose }
+    ensures passes { IfOk result (λ o. IfSome o (λ n. (tag.size ≤ n) × (n ≤ length bytes.now) × (reader.new.at ≡ reader.old.at + n))) }
+    ensures none { IfOk result (λ o. IfNone o (reader.new ≡ reader.old)) }
+    ensures taken { TakesWhole pool.now reader.old reader.new bytes.now result }
+{
+    if !has_room(reader.scope.room, purpose) {
+        return Ok(None);
+    }
+    let Some((start, size)) = length_after(tag.size, bytes, left(reader)) else {
+        return Ok(None);
+    };
+    let begin = reader.at + start as u32;
+    pass_length(alloc, reader, tag.number, purpose, begin, size)?;
+    Ok(Some(start))
+}
+
+/// Takes the message or the entry of a record that is complete after its tag, and how many bytes the record takes.
+fn take_inner(
+    alloc: Global,
+    pool: &Pool,
+    reader: &mut Reader,
+    tag: RecordTag,
+    purpose: Purpose,
+    by_tokens: &mut bool,
+    bytes: &[u8],
+) -> Result<Option<usize>, NoMemory>
+    requires rules { IsPool pool.now }
+    requires reading { IsReading pool.now (state_view reader.old) bytes.now }
+    requires step { reader.old.step ≡ Tag }
+    requires bytes { tag.wire_type ≡ 2 }
+    requires within { tag.size ≤ length bytes.now }
+    requires tag { HasTagHere (state_view reader.old) bytes.now tag.number tag.wire_type tag.size }
+    requires means { Means pool.now (part_context (part_view reader.old.part)) tag.number 2 purpose }
+    ensures passes { IfOk result (λ o. IfSome o (λ n. (tag.size ≤ n) × (n ≤ length bytes.now) × (reader.new.at ≡ reader.old.at + n))) }
+    ensures none { IfOk result (λ o. IfNone o (reader.new ≡ reader.old)) }
+    ensures taken { TakesWhole pool.now reader.old reader.new bytes.now result }
+{
+    let whole = WholeReader { alloc, pool };
+    match purpose {
+        Purpose::Message(kind, slot) => {
+            take_message(&whole, reader, tag, kind, slot, by_tokens, bytes)
+        }
+        Purpose::Entry(key_kind, value_kind) => {
+            take_entry(&whole, reader, tag, key_kind, value_kind, by_tokens, bytes)
+        }
+        Purpose::One(_, _)
+        | Purpose::Element(_)
+        | Purpose::Packed(_)
+        | Purpose::Key(_)
+        | Purpose::EntryValue(_)
+        | Purpose::Unknown => Ok(None),
+    }
+}
+
+/// Takes the message or the entry of a record at once, or opens what the record opens, and how many bytes that takes. A record
+/// is opened too where its payload was read and is none: it has a fault, or memory was refused, and from there on all is read token by
+/// token, so that no byte is read twice at once.
+fn take_inner_or_open(
+    alloc: Global,
+    pool: &Pool,
+    reader: &mut Reader,
+    tag: RecordTag,
+    purpose: Purpose,
+    by_tokens: &mut bool,
+    bytes: &[u8],
+) -> Result<Option<usize>, NoMemory>
+    requires rules { IsPool pool.now }
+    requires reading { IsReading pool.now (state_view reader.old) bytes.now }
+    requires step { reader.old.step ≡ Tag }
+    requires bytes { tag.wire_type ≡ 2 }
+    requires within { tag.size ≤ length bytes.now }
+    requires tag { HasTagHere (state_view reader.old) bytes.now tag.number tag.wire_type tag.size }
+    requires means { Means pool.now (part_context (part_view reader.old.part)) tag.number 2 purpose }
+    ensures passes { IfOk result (λ o. IfSome o (λ n. (tag.size ≤ n) × (n ≤ length bytes.now) × (reader.new.at ≡ reader.old.at + n))) }
+    ensures none { IfOk result (λ o. IfNone o (reader.new ≡ reader.old)) }
+    ensures taken { TakesWhole pool.now reader.old reader.new bytes.now result }
+{
+    if !*by_tokens {
+        if let Some(size) = take_inner(alloc, pool, reader, tag, purpose, by_tokens, bytes)? {
+            return Ok(Some(size));
+        }
+    }
+    take_opening(alloc, pool, reader, tag, purpose, bytes)
+}
+
+/// Takes the record of a length if its bytes are its value and are complete after its tag, or opens what it opens, and how many
+/// bytes that takes.
+fn take_length_record(
+    alloc: Global,
+    pool: &Pool,
+    reader: &mut Reader,
+    tag: RecordTag,
+    known: &mut Option<KnownPurpose>,
+    by_tokens: &mut bool,
+    bytes: &[u8],
+) -> Result<Option<usize>, NoMemory>
+    requires rules { IsPool pool.now }
+    requires reading { IsReading pool.now (state_view reader.old) bytes.now }
+    requires step { reader.old.step ≡ Tag }
+    requires bytes { tag.wire_type ≡ 2 }
+    requires within { tag.size ≤ length bytes.now }
+    requires tag { HasTagHere (state_view reader.old) bytes.now tag.number tag.wire_type tag.size }
+    requires known { IsKnown pool.now known.old }
+    ensures passes { IfOk result (λ o. IfSome o (λ n. (tag.size ≤ n) × (n ≤ length bytes.now) × (reader.new.at ≡ reader.old.at + n))) }
+    ensures none { IfOk result (λ o. IfNone o (reader.new ≡ reader.old)) }
+    ensures taken { TakesWhole pool.now reader.old reader.new bytes.now result }
+    ensures known { IsKnown pool.now known.new }
+{
+    let purpose = purpose_by(pool, &reader.part, tag.number, 2, known);
+    if is_for_bytes(purpose) {
+        take_bytes_record(alloc, pool, reader, tag, purpose, bytes)
+    } else {
+        take_inner_or_open(alloc, pool, reader, tag, purpose, by_tokens, bytes)
+    }
+}
+
+/// Opens the group whose first tag is there, where a level is left for it. Only reading finds its end, so it is not read at once.
+fn take_group_start(
+    alloc: Global,
+    pool: &Pool,
+    reader: &mut Reader,
+    tag: RecordTag,
+    bytes: &[u8],
+) -> Result<Option<usize>, NoMemory>
+    requires rules { IsPool pool.now }
+    requires reading { IsReading pool.now (state_view reader.old) bytes.now }
+    requires step { reader.old.step ≡ Tag }
+    requires start { tag.wire_type ≡ 3 }
+    requires within { tag.size ≤ length bytes.now }
+    requires tag { HasTagHere (state_view reader.old) bytes.now tag.number tag.wire_type tag.size }
+    ensures passes { IfOk result (λ o. IfSome o (λ n. (n ≡ tag.size) × (reader.new.at ≡ reader.old.at + n))) }
+    ensures none { IfOk result (λ o. IfNone o (reader.new ≡ reader.old)) }
+    ensures taken { TakesWhole pool.now reader.old reader.new bytes.now result }
+{
+    if reader.scope.room == 0 {
+        return Ok(None);
+    }
+    let meant = purpose_of(pool, &reader.part, tag.number, tag.wire_type);
+    enter_group(alloc, reader, tag.number, meant, tag.size)?;
+    Ok(Some(tag.size))
+}
+
+/// Closes the group whose last tag is there, if it is the innermost one.
+fn take_group_end(
+    alloc: Global,
+    pool: &Pool,
+    reader: &mut Reader,
+    tag: RecordTag,
+    bytes: &[u8],
+) -> Result<Option<usize>, NoMemory>
+    requires rules { IsPool pool.now }
+    requires reading { IsReading pool.now (state_view reader.old) bytes.now }
+    requires step { reader.old.step ≡ Tag }
+    requires end { tag.wire_type ≡ 4 }
+    requires within { tag.size ≤ length bytes.now }
+    requires tag { HasTagHere (state_view reader.old) bytes.now tag.number tag.wire_type tag.size }
+    ensures passes { IfOk result (λ o. IfSome o (λ n. (n ≡ tag.size) × (reader.new.at ≡ reader.old.at + n))) }
+    ensures none { IfOk result (λ o. IfNone o (reader.new ≡ reader.old)) }
+    ensures taken { TakesWhole pool.now reader.old reader.new bytes.now result }
+{
+    match group_end(innermost(&reader.frames), tag.number) {
+        Ok(()) => {
+            leave_group(alloc, pool, reader, tag.size)?;
+            Ok(Some(tag.size))
+        }
+        Err(_) => Ok(None),
+    }
+}
+
+/// Takes the record at the start of the bytes, if it is one of a number or of bytes and is complete there, or opens or closes
+/// what its tag and its length open or close, and how many bytes that takes.
+pub(crate) fn take_record(
+    alloc: Global,
+    pool: &Pool,
+    reader: &mut Reader,
+    known: &mut Option<KnownPurpose>,
+    by_tokens: &mut bool,
+    bytes: &[u8],
+) -> Result<Option<usize>, NoMemory>
+    requires rules { IsPool pool.now }
+    requires reading { IsReading pool.now (state_view reader.old) bytes.now }
+    requires step { reader.old.step ≡ Tag }
+    requires known { IsKnown pool.now known.old }
+    ensures passes { IfOk result (λ o. IfSome o (λ n. (0 < n) × (n ≤ length bytes.now) × (reader.new.at ≡ reader.old.at + n))) }
+    ensures none { IfOk result (λ o. IfNone o (reader.new ≡ reader.old)) }
+    ensures taken { TakesWhole pool.now reader.old reader.new bytes.now result }
+    ensures known { IsKnown pool.now known.new }
+{
+    let Some(tag) = record_tag(bytes, left(reader)) else {
+        return Ok(None);
+    };
+    if tag.wire_type == 2 {
+        take_length_record(alloc, pool, reader, tag, known, by_tokens, bytes)
+    } else if tag.wire_type == 0 || tag.wire_type == 1 || tag.wire_type == 5 {
+        take_number_record(alloc, pool, reader, tag, known, bytes)
+    } else if tag.wire_type == 3 {
+        take_group_start(alloc, pool, reader, tag, bytes)
+    } else if tag.wire_type == 4 {
+        take_group_end(alloc, pool, reader, tag, bytes)
+    } else {
+        Ok(None)
+    }
+}
