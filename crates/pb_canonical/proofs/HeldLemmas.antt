@@ -74,12 +74,16 @@ value_shorter pool k n levels b whole rest e v = record_shorter n (payload_of po
 
 -- PACKED LISTS
 
-number_payload : (p : Payload) → wire_type p ≢ 2 → number_bytes p ≡ payload_bytes p
+pub number_payload : (p : Payload) → wire_type p ≢ 2 → number_bytes p ≡ payload_bytes p
 number_payload (varint n) w = refl
 number_payload (fixed64 n) w = refl
 number_payload (fixed32 n) w = refl
 number_payload (group g) w = refl
 number_payload (len s) w = absurd (w refl)
+
+pub no_length : (b : List ℕ) → length b ≡ 0 → b ≡ []
+no_length [] e = refl
+no_length (x ∷ b) e = absurd (omega (arith, e))
 
 pub no_elements : (pool : Types) (k : Kind) (b : List ℕ) → length b ≡ 0 → AreElements pool k b
 no_elements pool k [] e = record { values = no_datums; within = tt; declared = refl; flat = refl; all = refl }

@@ -12,3 +12,7 @@ pub mod FieldLemmas
 pub mod SameLemmas
 -- oneofs: marks, records of members, and the fields that are written as them
 pub mod OneofLemmas
+-- what is to be found where a value, a packed list, a list or a map comes first
+pub mod ValueNext
+-- what is to be found where a field or a message comes first
+pub mod FieldNext

@@ -1,7 +1,8 @@
 -- Oneofs: marks, records of members, and the fields that are written as them.
-use Rattle.std.proofs.Common.{◌≡◌, ℕ, zero, suc, ◌+◌, ◌-◌, ◌<◌, ◌≤◌, ◌^◌, List, [], ◌∷◌, ◌++◌, length, map, take, get_or, refl, ap, sym, subst, ◌∙◌, arith, append-nil, length-append, inl, inr, Option, Some, None}
+use Rattle.std.proofs.Common.{◌≡◌, ℕ, zero, suc, ◌+◌, ◌-◌, ◌*◌, ◌<◌, ◌≤◌, ◌^◌, List, [], ◌∷◌, ◌++◌, length, map, take, get_or, refl, ap, sym, subst, ◌∙◌, arith, append-nil, length-append, inl, inr, Option, Some, None}
 use Rattle.std.specs.Prelude.{◌≢◌, Bool, true, false, ◌==◌, ◌⊎◌, if◌then◌else◌, max, option_and_then, slice_get, string_bytes, IsSomeAnd}
-use Rattle.std.proofs.lemmas.Bool.{cases_lt}
+use Rattle.std.proofs.lemmas.Bool.{cases_lt, cases_eq}
+use Rattle.std.proofs.lemmas.Nat.Bits.{and_pow, bit_at-zero}
 use Rattle.std.proofs.lemmas.List.{take_at}
 use Rattle.std.specs.Int.{IsBitSet}
 use Rattle.pb_wire.specs.Record.{Payload, varint, fixed64, len, group, fixed32, Record, group_of, depth, group_depth, records_depth, wire_type}
@@ -23,12 +24,13 @@ use Rattle.pb_value.specs.Canon.{wrapped, sealed, is_packed, payload_of, packed_
 use Rattle.pb_value.specs.WellFormed.{IsOfShape, IsDatum, AreDatums, IsHeld, IsBody, holds_declared, AreFields, HasNoMember, HasOneMemberEach, oneof_of, oneof_at}
 use Rattle.pb_value.proofs.Options.{if_some, at_some, some_of}
 use Rattle.pb_value.proofs.ChangeLemmas.{oneof_at-shape}
-use Rattle.pb_canonical.specs.Parts.{tagged, IsMore, IsMarked, CanBeRead, RawFirst, HasNoRecord, OneRecord, OneRecordEach, OneMember, OneMemberEach}
+use Rattle.pb_canonical.specs.Parts.{tagged, IsMore, IsMarked, IsTaken, CanBeRead, RawFirst, HasNoRecord, OneRecord, OneRecordEach, OneMember, OneMemberEach}
 use Rattle.pb_value.proofs.Numbers.{found_number}
 use Rattle.pb_value.proofs.WrittenLemmas.{wire_type-written}
 use Rattle.pb_value.proofs.CanonLemmas.{AreGood, AreGood-none, AreGood-append, good, numbers_at}
 use Rattle.pb_canonical.proofs.SplitLemmas.{records_shorter}
-use Rattle.pb_canonical.proofs.SameLemmas.{record_at}
+use Rattle.pb_canonical.proofs.SameLemmas.{FirstTag, record_at, record_tag}
+use Rattle.pb_value.proofs.FieldBack.{AllNumbered, holding_numbered}
 
 -- MARKS
 
@@ -37,7 +39,7 @@ some_is o j e = cc
 
 -- of a oneof that is none of the 128, and of none
 pub not_marked : (of : Option ℕ) (first marks : ℕ) → ((i : ℕ) → i < 128 → of ≢ Some (first + i)) → IsMarked of first marks marks
-not_marked of first marks h = record { free = λ i l e. absurd (h i l e); marked = λ i l e. absurd (h i l e); kept = λ i set. set }
+not_marked of first marks h = record { free = λ i l e. absurd (h i l e); marked = λ i l e. absurd (h i l e); kept = λ i set. set; only = λ i set. inl set }
 
 pub none_marked : (of : Option ℕ) (first marks : ℕ) → of ≡ None → IsMarked of first marks marks
 none_marked of first marks none = not_marked of first marks (λ i l e. absurd (cc))
@@ -53,13 +55,21 @@ is_marked o first marks index new low at more = record {
   free = λ i l e. let same : index ≡ i = (let is = some_is o (first + i) e in omega (arith, at, low, is)) in subst (λ (j : ℕ). ¬ IsBitSet marks j) same more.free;
   marked = λ i l e. let same : index ≡ i = (let is = some_is o (first + i) e in omega (arith, at, low, is)) in subst (λ (j : ℕ). IsBitSet new j) same more.marked;
   kept = more.kept;
+  only = λ i set. elim (more.only i set) [ inl old ↦ inl old | inr e ↦ inr (ap Some (omega (arith, low, at, e))) ];
 }
+
+pub is_taken : (o first marks index : ℕ) → first ≤ o → index ≡ o - first → index < 128 → IsBitSet marks index → IsTaken (Some o) first marks
+is_taken o first marks index low at below set = record { index = index; below = below; member = ap Some (omega (arith, low, at)); set = set }
 
 -- EACH ONEOF
 
 pub each_of : (all : List FieldView) (fs : Fields) → ((o : ℕ) → OneMember all o fs) → HasOneMemberEach all fs
 each_of all no_fields h = tt
 each_of all (field n g fs) h = (if_some (oneof_at all n) (λ (o : ℕ). HasNoMember all o fs) (λ o e. (h o).0 e), each_of all fs (λ o. (h o).1))
+
+pub of_each : (all : List FieldView) (fs : Fields) → HasOneMemberEach all fs → (o : ℕ) → OneMember all o fs
+of_each all no_fields h o = tt
+of_each all (field n g fs) h o = ((λ e. at_some (oneof_at all n) (λ (p : ℕ). HasNoMember all p fs) o h.0 e), of_each all fs h.1 o)
 
 -- a oneof that no field belongs to has no member
 no_member : (all : List FieldView) (o : ℕ) (fs : Fields) → ((n : ℕ) → oneof_at all n ≢ Some o) → HasNoMember all o fs × OneMember all o fs
@@ -133,23 +143,32 @@ pub record RecordsLeft (of : ℕ → Option ℕ) (first marks levels : ℕ) (rs 
   pub readable : CanBeRead levels later
   pub split : b ≡ shortest_records later
   pub whole : OneRecordEach of first later → ((i : ℕ) → i < 128 → IsBitSet marks i → HasNoRecord of (first + i) later) → OneRecordEach of first rs
+  pub back : OneRecordEach of first rs → OneRecordEach of first later × ((i : ℕ) → i < 128 → IsBitSet marks i → HasNoRecord of (first + i) later)
+
+zero_times : (n : ℕ) → 0 * n ≡ 0
+zero_times n = omega arith
+
+pub none_set : (i : ℕ) → IsBitSet 0 i → ⊥
+none_set i set = set (and_pow 0 i ∙ ap (λ (b : ℕ). b * 2 ^ i) (bit_at-zero i) ∙ zero_times (2 ^ i))
 
 pub all_left_first : (of : ℕ → Option ℕ) (first levels : ℕ) (rs : List Record) (b : List ℕ) → CanBeRead levels rs → b ≡ shortest_records rs → RecordsLeft of first 0 levels rs b
-all_left_first of first levels rs b h e = record { later = rs; readable = h; split = e; whole = λ each apart. each }
+all_left_first of first levels rs b h e = record { later = rs; readable = h; split = e; whole = λ each apart. each; back = λ each. (each, λ i l set. absurd (none_set i set)) }
 
--- the record that stands first, and those after it
+-- the record that comes first, and those after it
 pub record RecordNext (of : ℕ → Option ℕ) (first marks levels n w : ℕ) (rs : List Record) (after : List ℕ) : Type 0 where
   pub mid : List ℕ
   pub raw : RawFirst n w levels after mid
   pub step : (new : ℕ) → IsMarked (of n) first marks new → RecordsLeft of first new levels rs mid
+  pub free : OneRecordEach of first rs → IsTaken (of n) first marks → ⊥
 
 record_next_of :
     (later : List Record) (of : ℕ → Option ℕ) (first marks levels n w : ℕ) (rs : List Record) (b after : List ℕ) → n < 2 ^ 32 → w < 8 → 0 < length b → b ≡ tagged n w after
     → CanBeRead levels later → b ≡ shortest_records later
     → (OneRecordEach of first later → ((i : ℕ) → i < 128 → IsBitSet marks i → HasNoRecord of (first + i) later) → OneRecordEach of first rs)
+    → (OneRecordEach of first rs → OneRecordEach of first later × ((i : ℕ) → i < 128 → IsBitSet marks i → HasNoRecord of (first + i) later))
     → RecordNext of first marks levels n w rs after
-record_next_of [] of first marks levels n w rs b after small byte some e h split whole = absurd (omega (arith, some, ap length split))
-record_next_of (r ∷ later) of first marks levels n w rs b after small byte some e h split whole =
+record_next_of [] of first marks levels n w rs b after small byte some e h split whole back = absurd (omega (arith, some, ap length split))
+record_next_of (r ∷ later) of first marks levels n w rs b after small byte some e h split whole back =
     let mid = shortest_records later in
     let at = record_at n w r.number r.payload b after mid h.numbered.0 small byte h.in_range.0 e split in
     record {
@@ -170,14 +189,27 @@ record_next_of (r ∷ later) of first marks levels n w rs b after small byte som
             whole
             (λ i l. ((λ q. apart i l (marked.marked i l (ap of at.0 ∙ q))), each i l))
             (λ i l set. ((λ q. marked.free i l (ap of at.0 ∙ q) set), apart i l (marked.kept i set)));
+        back = λ each.
+            let held = back each in (
+              λ i l. (held.0 i l).1,
+              λ i l set. elim (marked.only i set) [ inl old ↦ (held.1 i l old).1 | inr q ↦ (held.0 i l).0 (ap of (sym at.0) ∙ q) ],
+            );
       };
+      free = λ each taken. ((back each).1 taken.index taken.below taken.set).0 (ap of (sym at.0) ∙ taken.member);
     }
 
 pub record_next :
     (of : ℕ → Option ℕ) (first marks levels n w : ℕ) (rs : List Record) (b after : List ℕ) → n < 2 ^ 32 → w < 8 → 0 < length b → b ≡ tagged n w after
     → RecordsLeft of first marks levels rs b → RecordNext of first marks levels n w rs after
 record_next of first marks levels n w rs b after small byte some e h =
-    record_next_of h.later of first marks levels n w rs b after small byte some e h.readable h.split h.whole
+    record_next_of h.later of first marks levels n w rs b after small byte some e h.readable h.split h.whole h.back
+
+records_tag_of : (later : List Record) (levels : ℕ) (b : List ℕ) → 0 < length b → CanBeRead levels later → b ≡ shortest_records later → FirstTag b
+records_tag_of [] levels b some h e = absurd (omega (arith, some, ap length e))
+records_tag_of (r ∷ later) levels b some h e = record_tag r.number r.payload b (shortest_records later) h.numbered.0 e
+
+pub records_tag : (of : ℕ → Option ℕ) (first marks levels : ℕ) (rs : List Record) (b : List ℕ) → 0 < length b → RecordsLeft of first marks levels rs b → FirstTag b
+records_tag of first marks levels rs b some h = records_tag_of h.later levels b some h.readable h.split
 
 records_ended_of : (later : List Record) (b : List ℕ) → length b ≡ 0 → b ≡ shortest_records later → later ≡ []
 records_ended_of [] b none e = refl
@@ -249,7 +281,49 @@ one_member_of pool all o (field n g fs) w h =
       one_member_of pool all o fs w.1 (right_one (oneof_at all) o (canon_holding pool f.0 g) (canon_fields pool all fs) all_records),
     )
 
--- RECORDS THAT THE PASS READS
+-- records of one number, which is that of no member
+all_apart : (of : ℕ → Option ℕ) (o n : ℕ) (rs ss : List Record) → of n ≢ Some o → AllNumbered n rs → HasNoRecord of o ss → HasNoRecord of o (rs ++ ss)
+unfolding AllNumbered
+all_apart of o n [] ss d h none = none
+all_apart of o n (r ∷ rs) ss d h none = ((λ e. d (ap of (sym h.0) ∙ e)), all_apart of o n rs ss d h.1 none)
+
+each_apart : (of : ℕ → Option ℕ) (o n : ℕ) (rs ss : List Record) → of n ≢ Some o → AllNumbered n rs → OneRecord of o ss → OneRecord of o (rs ++ ss)
+unfolding AllNumbered
+each_apart of o n [] ss d h each = each
+each_apart of o n (r ∷ rs) ss d h each = ((λ e. absurd (d (ap of (sym h.0) ∙ e))), each_apart of o n rs ss d h.1 each)
+
+holding_at : (pool : Types) (all : List FieldView) (n : ℕ) (g : Holding) (f : FieldView) → field_numbered n all ≡ Some f → AllNumbered n (canon_holding pool f g)
+holding_at pool all n g f found = subst (λ (i : ℕ). AllNumbered i (canon_holding pool f g)) (found_number n all f found) (holding_numbered pool f g)
+
+-- no member of a oneof: no record
+no_record_of : (pool : Types) (all : List FieldView) (o : ℕ) (fs : Fields) → AreFields pool all fs → HasNoMember all o fs → HasNoRecord (oneof_at all) o (canon_fields pool all fs)
+no_record_of pool all o no_fields w h = tt
+no_record_of pool all o (field n g fs) w h =
+    let f = found_at pool all n g w.0 in
+    subst (λ (x : Option FieldView). HasNoRecord (oneof_at all) o (by_field x (λ (f : FieldView). canon_holding pool f g) ++ canon_fields pool all fs)) (sym f.1)
+    (all_apart (oneof_at all) o n (canon_holding pool f.0 g) (canon_fields pool all fs) h.0 (holding_at pool all n g f.0 f.1) (no_record_of pool all o fs w.1 h.1))
+
+some_or_not : (a : Option ℕ) (o : ℕ) → (a ≡ Some o) ⊎ (a ≢ Some o)
+some_or_not None o = inr (λ e. absurd (cc))
+some_or_not (Some p) o = elim (cases_eq p o) [ inl e ↦ inl (ap Some e) | inr d ↦ inr (λ e. d (some_is p o e)) ]
+
+-- one member of a oneof: one record
+pub one_record_of : (pool : Types) (all : List FieldView) (o : ℕ) (fs : Fields) → AreFields pool all fs → OneMember all o fs → OneRecord (oneof_at all) o (canon_fields pool all fs)
+one_record_of pool all o no_fields w h = tt
+one_record_of pool all o (field n g fs) w h =
+    subst (λ (x : Option FieldView). OneRecord (oneof_at all) o (by_field x (λ (f : FieldView). canon_holding pool f g) ++ canon_fields pool all fs)) (sym f.1)
+    (by_oneof (some_or_not (oneof_at all n) o) (one_record_of pool all o fs w.1 h.1))
+  where
+    f : (f : FieldView) × (field_numbered n all ≡ Some f) × IsOfShape f.shape g
+    f = found_at pool all n g w.0
+
+    by_oneof : (oneof_at all n ≡ Some o) ⊎ (oneof_at all n ≢ Some o) → OneRecord (oneof_at all) o (canon_fields pool all fs) → OneRecord (oneof_at all) o (canon_holding pool f.0 g ++ canon_fields pool all fs)
+    by_oneof (inr d) later = each_apart (oneof_at all) o n (canon_holding pool f.0 g) (canon_fields pool all fs) d (holding_at pool all n g f.0 f.1) later
+    by_oneof (inl e) later =
+        let first = member_first pool f.0 g o (sym (oneof_at-shape all n f.0 f.1) ∙ e) f.2 in
+        subst (λ (l : List Record). OneRecord (oneof_at all) o (l ++ canon_fields pool all fs)) (sym first.1) ((λ q. no_record_of pool all o fs w.1 (h.0 e)), later)
+
+-- RECORDS THAT CAN BE READ
 
 flat_plain : (p : Payload) → wire_type p ≢ 3 → depth p ≡ 0
 flat_plain (varint n) w = refl

@@ -66,12 +66,28 @@ record_follows n (len t) s = sym (record_split n 2 (len t) (payload_bytes (len t
 record_follows n (fixed32 i) s = sym (record_split n 5 (fixed32 i) (payload_bytes (fixed32 i) ++ s) s refl (λ q. absurd (omega (arith, q))) refl)
 record_follows n (group g) s = sym (group_split n g (shortest_group g ++ tagged n 4 s) s refl)
 
-plain_follows : (n : ℕ) (p : Payload) (s : List ℕ) → wire_type p ≢ 3 → follows n p s ≡ payload_bytes p ++ s
+pub plain_follows : (n : ℕ) (p : Payload) (s : List ℕ) → wire_type p ≢ 3 → follows n p s ≡ payload_bytes p ++ s
 plain_follows n (varint i) s w = refl
 plain_follows n (fixed64 i) s w = refl
 plain_follows n (len t) s w = refl
 plain_follows n (fixed32 i) s w = refl
 plain_follows n (group g) s w = absurd (w refl)
+
+-- where a tag was read at the start of a record, it is the record's, and its payload follows
+pub front_at :
+    (n w k : ℕ) (p : Payload) (b after s : List ℕ) → k < 2 ^ 32 → n < 2 ^ 32 → w < 8 → b ≡ tagged n w after → b ≡ shortest_record k p ++ s
+    → (n ≡ k) × (wire_type p ≡ w) × (after ≡ follows k p s)
+front_at n w k p b after s low small byte e f =
+    let known = wire_type_known p in
+    let one = tag_same n w k (wire_type p) after (follows k p s) small low (omega arith) (omega (arith, known.0)) (sym e ∙ f ∙ record_follows k p s) in
+    (omega (arith, one.0, known.0), omega (arith, one.0, known.0), one.1)
+
+-- the same of a record of the tag's number
+pub front_same : (n w : ℕ) (p : Payload) (b s : List ℕ) → n < 2 ^ 32 → w < 256 → tagged n w b ≡ shortest_record n p ++ s → (wire_type p ≡ w) × (b ≡ follows n p s)
+front_same n w p b s small byte e =
+    let known = wire_type_known p in
+    let one = tag_same n w n (wire_type p) b (follows n p s) small small byte (omega (arith, known.0)) (e ∙ record_follows n p s) in
+    (omega (arith, one.0), one.1)
 
 -- a payload that is no group
 pub plain_at : (n w : ℕ) (p : Payload) (b s : List ℕ) → w ≢ 3 → IsPayloadAt n w p b s → IsPlain w p × (b ≡ payload_bytes p ++ s)
@@ -79,14 +95,14 @@ plain_at n w p b s plain h =
     let no : wire_type p ≢ 3 = λ q. plain (sym h.type ∙ q) in
     (record { type = h.type; plain = no; in_range = h.in_range }, h.split ∙ plain_follows n p s no)
 
--- what stands after a tag, where the whole begins with a record of the same number
+-- what follows a tag, where the whole begins with a record of the same number
 pub payload_at : (n w : ℕ) (p : Payload) (b s : List ℕ) → n < 2 ^ 32 → w < 256 → IsInRange p → tagged n w b ≡ shortest_record n p ++ s → IsPayloadAt n w p b s
 payload_at n w p b s small byte range e =
     let known = wire_type_known p in
     let one = tag_same n w n (wire_type p) b (follows n p s) small small byte (omega (arith, known.0)) (e ∙ record_follows n p s) in
     record { type = omega (arith, one.0); in_range = range; split = one.1 }
 
--- where a tag was read at the front of a record, it is the record's
+-- where a tag was read at the start of a record, it is the record's
 pub record_at :
     (n w k : ℕ) (p : Payload) (b after s : List ℕ) → IsNumber k → n < 2 ^ 32 → w < 8 → IsInRange p → b ≡ tagged n w after → b ≡ shortest_record k p ++ s
     → (n ≡ k) × IsPayloadAt k w p after s
@@ -95,7 +111,7 @@ record_at n w k p b after s number small byte range e f =
     let one = tag_same n w k (wire_type p) after (follows k p s) small (omega (arith, number.1)) (omega arith) (omega (arith, known.0)) (sym e ∙ f ∙ record_follows k p s) in
     (omega (arith, one.0, known.0), record { type = omega (arith, one.0, known.0); in_range = range; split = one.1 })
 
--- A TAG STANDS FIRST
+-- A TAG COMES FIRST
 
 pub record FirstTag (b : List ℕ) : Type 0 where
   pub number : ℕ
@@ -110,7 +126,7 @@ record_tag n p b s number e =
     let known = wire_type_known p in
     record { number = n; wire_type = wire_type p; rest = follows n p s; is_number = number; known = omega (arith, known.0); split = e ∙ record_follows n p s }
 
-no_bytes : (b : List ℕ) → b ≡ [] → 0 < length b → ⊥
+pub no_bytes : (b : List ℕ) → b ≡ [] → 0 < length b → ⊥
 no_bytes [] e h = omega (arith, h)
 no_bytes (x ∷ b) e h = absurd (cc)
 
@@ -134,7 +150,7 @@ all_left (x ∷ t) b s none e = absurd (omega (arith, none, ap length e, length-
 pub varint_below : (n : ℕ) (b : List ℕ) → IsVarint n b → n < 2 ^ 64
 varint_below n b v = omega (arith, v.value)
 
--- at the front of bytes that begin with the shortest varint of a number stands that varint
+-- at the start of bytes that begin with the shortest varint of a number is that varint
 pub only_front : (n : ℕ) (b s : List ℕ) → b ≡ shortest n ++ s → take (length (shortest n)) b ≡ shortest n
 only_front n b s e = ap (take (length (shortest n))) e ∙ take_at (shortest n) s (length (shortest n)) refl
 

@@ -16,6 +16,7 @@ use Rattle.pb_schema.specs.Scalar.{Scalar, int32, int64, uint32, uint64, boolean
 use Rattle.pb_schema.specs.Kinds.{wire_type_of, is_key_kind, written, IsOfKind}
 use Rattle.pb_schema.specs.Closed.{declares, is_declared, is_undeclared}
 use Rattle.pb_value.proofs.WrittenLemmas.{wire_type-written}
+use Rattle.pb_value.proofs.Numbers.{number_is}
 use Rattle.pb_value.proofs.CanonLemmas.{IsInRange-written}
 use Rattle.pb_canonical.specs.Parts.{is_zero, IsPlain, IsWritten, AreBelow, NoneBelow, StringBelow, IsSmall, NumberBelow, EightBelow, FourBelow, NumberFits, EightFits, FourFits, BytesFit}
 
@@ -230,6 +231,70 @@ given_value kind.Bytes (bytes []) h e = absurd (cc)
 given_value kind.Bytes (bytes (x ∷ s)) h e = refl
 given_value k x h e = absurd h
 
+wide : (z : ℤ) → FitsSigned w32 z → FitsSigned w64 z
+wide z f = grind (arith, ints)
+
+unzigzag-zigzag : (z : ℤ) → unzigzag (zigzag z) ≡ z
+unzigzag-zigzag (pos n) = grind (arith, nat_tests)
+unzigzag-zigzag (negsuc n) = grind (arith, nat_tests)
+
+cast_some : (z : ℤ) → FitsSigned w64 z → z ≢ pos 0 → (cast_unsigned w64 z == 0) ≡ false
+cast_some z f d = by_test (cast_unsigned w64 z == 0) refl
+  where
+    by_test : (b : Bool) → (cast_unsigned w64 z == 0) ≡ b → (cast_unsigned w64 z == 0) ≡ false
+    by_test false e = e
+    by_test true e = absurd (d (sym (to_z-of_z w64 z f) ∙ ap (cast_signed w64) (number_is (cast_unsigned w64 z) 0 e)))
+
+cast_some32 : (z : ℤ) → FitsSigned w32 z → z ≢ pos 0 → (cast_unsigned w32 z == 0) ≡ false
+cast_some32 z f d = by_test (cast_unsigned w32 z == 0) refl
+  where
+    by_test : (b : Bool) → (cast_unsigned w32 z == 0) ≡ b → (cast_unsigned w32 z == 0) ≡ false
+    by_test false e = e
+    by_test true e = absurd (d (sym (to_z-of_z w32 z f) ∙ ap (cast_signed w32) (number_is (cast_unsigned w32 z) 0 e)))
+
+zigzag_some : (z : ℤ) → z ≢ pos 0 → (zigzag z == 0) ≡ false
+zigzag_some z d = by_test (zigzag z == 0) refl
+  where
+    by_test : (b : Bool) → (zigzag z == 0) ≡ b → (zigzag z == 0) ≡ false
+    by_test false e = e
+    by_test true e = absurd (d (sym (unzigzag-zigzag z) ∙ ap unzigzag (number_is (zigzag z) 0 e)))
+
+pub default_off : true ≡ false → ⊥
+default_off e = absurd (cc)
+
+some_int32 : (z : ℤ) → is_default (int32 z) ≡ false → z ≢ pos 0
+some_int32 z e q = default_off (subst (λ (y : ℤ). is_default (int32 y) ≡ false) q e)
+
+some_int64 : (z : ℤ) → is_default (int64 z) ≡ false → z ≢ pos 0
+some_int64 z e q = default_off (subst (λ (y : ℤ). is_default (int64 y) ≡ false) q e)
+
+some_enum : (z : ℤ) → is_default (enum z) ≡ false → z ≢ pos 0
+some_enum z e q = default_off (subst (λ (y : ℤ). is_default (enum y) ≡ false) q e)
+
+-- what is no default is not written as one
+pub given_written : (k : Kind) (x : Scalar) → IsOfKind k x → is_default x ≡ false → is_zero (written k x) ≡ false
+given_written kind.Int32 (int32 z) h e = cast_some z (wide z h) (some_int32 z e)
+given_written kind.Sint32 (int32 z) h e = zigzag_some z (some_int32 z e)
+given_written kind.Sfixed32 (int32 z) h e = cast_some32 z h (some_int32 z e)
+given_written kind.Int64 (int64 z) h e = cast_some z h (some_int64 z e)
+given_written kind.Sint64 (int64 z) h e = zigzag_some z (some_int64 z e)
+given_written kind.Sfixed64 (int64 z) h e = cast_some z h (some_int64 z e)
+given_written (kind.Enum i) (enum z) h e = cast_some z (wide z h) (some_enum z e)
+given_written (kind.ClosedEnum i) (enum z) h e = cast_some z (wide z h) (some_enum z e)
+given_written kind.Uint32 (uint32 n) h e = e
+given_written kind.Fixed32 (uint32 n) h e = e
+given_written kind.Uint64 (uint64 n) h e = e
+given_written kind.Fixed64 (uint64 n) h e = e
+given_written kind.Double (double n) h e = e
+given_written kind.Float (float n) h e = e
+given_written kind.Bool (boolean true) h e = refl
+given_written kind.Bool (boolean false) h e = absurd (cc)
+given_written kind.Text (text []) h e = absurd (cc)
+given_written kind.Text (text (x ∷ s)) h e = refl
+given_written kind.Bytes (bytes []) h e = absurd (cc)
+given_written kind.Bytes (bytes (x ∷ s)) h e = refl
+given_written k x h e = absurd h
+
 -- KEYS
 
 int_less : (x y : ℤ) → x <ℤ y → int_cmp x y ≡ Less
@@ -238,18 +303,11 @@ int_less x y h = grind (arith, ints)
 nat_less : (x y : ℕ) → x < y → nat_cmp x y ≡ Less
 nat_less x y h = grind (arith, nat_tests)
 
-wide : (z : ℤ) → FitsSigned w32 z → FitsSigned w64 z
-wide z f = grind (arith, ints)
-
 below64 : (x y : ℤ) (a b : ℕ) → FitsSigned w64 x → FitsSigned w64 y → cast_unsigned w64 x ≡ a → cast_unsigned w64 y ≡ b → cast_signed w64 a <ℤ cast_signed w64 b → int_cmp x y ≡ Less
 below64 x y a b f g p q h = int_less x y (rw (to_z-of_z w64 x f, to_z-of_z w64 y g) at (rw (sym p, sym q) at h))
 
 below32 : (x y : ℤ) (a b : ℕ) → FitsSigned w32 x → FitsSigned w32 y → cast_unsigned w32 x ≡ a → cast_unsigned w32 y ≡ b → cast_signed w32 a <ℤ cast_signed w32 b → int_cmp x y ≡ Less
 below32 x y a b f g p q h = int_less x y (rw (to_z-of_z w32 x f, to_z-of_z w32 y g) at (rw (sym p, sym q) at h))
-
-unzigzag-zigzag : (z : ℤ) → unzigzag (zigzag z) ≡ z
-unzigzag-zigzag (pos n) = grind (arith, nat_tests)
-unzigzag-zigzag (negsuc n) = grind (arith, nat_tests)
 
 turned_below : (x y : ℤ) (a b : ℕ) → zigzag x ≡ a → zigzag y ≡ b → unzigzag a <ℤ unzigzag b → int_cmp x y ≡ Less
 turned_below x y a b p q h = int_less x y (rw (unzigzag-zigzag x, unzigzag-zigzag y) at (rw (sym p, sym q) at h))

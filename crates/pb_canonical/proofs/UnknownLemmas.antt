@@ -63,7 +63,7 @@ none_counts : (x : Bool) (y : Bool) → x ≡ false → (x && y) ≡ false
 none_counts false y e = refl
 none_counts true y e = absurd (cc)
 
-undeclared_counts : (x : Bool) (y : Bool) → y ≡ true → (x && not y) ≡ false
+pub undeclared_counts : (x : Bool) (y : Bool) → y ≡ true → (x && not y) ≡ false
 undeclared_counts false y e = refl
 undeclared_counts true true e = refl
 undeclared_counts true false e = absurd (cc)

@@ -1,4 +1,4 @@
--- What the parts of the pass say of the bytes at the front, and of the rest after them.
+-- What the functions say of the bytes at the start, and of the rest after them.
 use Rattle.std.specs.Prelude.{◌≡◌, ◌≢◌, ◌≤◌, ◌<◌, ℕ, suc, ◌+◌, ◌*◌, List, [], ◌∷◌, ◌++◌, length, Bool, true, false, ◌==◌, Option, Some, IsUtf8, ◌-◌, ◌^◌, ◌⊎◌, ◌<ℤ◌}
 use Rattle.std.specs.Int.{w32, w64, to_le_bytes, cast_signed, IsBitSet}
 use Rattle.std.specs.List.{AllByRecursion}
@@ -68,7 +68,7 @@ pub record IsPlain (w : ℕ) (p : Payload) : Type 0 where
   pub plain : wire_type p ≢ 3
   pub in_range : IsInRange p
 
--- after the tag of a number and a wire type stands this payload, and then more bytes
+-- after the tag of a number and a wire type this payload follows, and then more bytes
 pub record IsPayloadAt (n w : ℕ) (p : Payload) (b s : List ℕ) : Type 0 where
   pub type : wire_type p ≡ w
   pub in_range : IsInRange p
@@ -310,14 +310,14 @@ pub record IsEnd (pool : Types) (m : ℕ) (s : List ℕ) : Type 0 where
   pub stop : IsStop rest
   pub split : s ≡ shortest_records records ++ rest
 
--- after the tag of a number and a wire type stands a number that a closed enum does not declare
+-- after the tag of a number and a wire type a number follows that a closed enum does not declare
 pub record IsUndeclaredAt (pool : Types) (closed : Option ℕ) (n w : ℕ) (b : List ℕ) : Type 0 where
   pub payload : Payload
   pub rest : List ℕ
   pub at : IsPayloadAt n w payload b rest
   pub undeclared : is_undeclared pool closed payload ≡ true
 
--- no record of a number and a wire type stands first, but of an undeclared number of a closed enum
+-- no record of a number and a wire type comes first, but of an undeclared number of a closed enum
 abbrev pub EndsAt : Types → Option ℕ → ℕ → ℕ → List ℕ → Type 0
 EndsAt pool closed n w s = (t : List ℕ) → s ≡ tagged n w t → IsUndeclaredAt pool closed n w t
 
@@ -329,7 +329,7 @@ record_type shape.Explicit k = wire_type_of k
 record_type shape.Implicit k = wire_type_of k
 record_type (shape.OneofMember _) k = wire_type_of k
 
--- no further record of a field stands first
+-- no further record of a field comes first
 abbrev pub GoesNoFurther : Types → FieldView → List ℕ → Type 0
 GoesNoFurther pool f s = EndsAt pool (closed_shaped f.shape f.kind) f.number (record_type f.shape f.kind) s
 
@@ -361,14 +361,23 @@ pub record IsMore (marks index new : ℕ) : Type 0 where
   pub free : ¬ IsBitSet marks index
   pub marked : IsBitSet new index
   pub kept : (i : ℕ) → IsBitSet marks i → IsBitSet new i
+  pub only : (i : ℕ) → IsBitSet new i → IsBitSet marks i ⊎ (i ≡ index)
 
 -- The mark at an index is that of the oneof which follows `first` by it. That of a oneof, if it is one of the 128, was not set.
 pub record IsMarked (of : Option ℕ) (first marks new : ℕ) : Type 0 where
   pub free : (i : ℕ) → i < 128 → of ≡ Some (first + i) → ¬ IsBitSet marks i
   pub marked : (i : ℕ) → i < 128 → of ≡ Some (first + i) → IsBitSet new i
   pub kept : (i : ℕ) → IsBitSet marks i → IsBitSet new i
+  pub only : (i : ℕ) → IsBitSet new i → IsBitSet marks i ⊎ (of ≡ Some (first + i))
 
--- records that the pass reads
+-- the oneof is one of the 128, and has a mark
+pub record IsTaken (of : Option ℕ) (first marks : ℕ) : Type 0 where
+  pub index : ℕ
+  pub below : index < 128
+  pub member : of ≡ Some (first + index)
+  pub set : IsBitSet marks index
+
+-- records that can be read
 pub record CanBeRead (levels : ℕ) (rs : List Record) : Type 0 where
   pub in_range : AreInRange rs
   pub numbered : AreNumbered rs

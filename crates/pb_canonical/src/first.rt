@@ -1,4 +1,4 @@
-//! Tokens at the front of bytes, each in its shortest spelling, and the bytes after them.
+//! Tokens at the start of bytes, each in its shortest spelling, and the bytes after them.
 
 ghost use Rattle.std.specs.Prelude.{◌≡◌, ◌<◌, ◌^◌, ◌++◌, ℕ, List, IfSome, IsSomeAnd};
 ghost use Rattle.std.specs.Int.{w32, w64, to_le_bytes};
@@ -17,7 +17,7 @@ pub(crate) struct Tag {
     pub wire_type: u8,
 }
 
-/// The varint at the front, if it is the shortest of its number.
+/// The varint at the start, if it is the shortest of its number.
 #[inline(always)]
 pub(crate) fn varint_first(bytes: &[u8]) -> Option<(u64, &[u8])>
     ensures split { IfSome result (λ r. bytes.now ≡ shortest r.0 ++ r.1.now) }
@@ -45,7 +45,7 @@ fn long_varint_first(bytes: &[u8]) -> Option<(u64, &[u8])>
     }
 }
 
-/// The tag at the front.
+/// The tag at the start.
 #[inline(always)]
 pub(crate) fn tag_first(bytes: &[u8]) -> Option<(Tag, &[u8])>
     ensures tag { IfSome result (λ r. bytes.now ≡ tagged r.0.number r.0.wire_type r.1.now) }
@@ -79,7 +79,7 @@ pub(crate) fn after_end(bytes: &[u8], number: u32) -> Option<&[u8]>
     }
 }
 
-/// The payload at the front, which begins with its length.
+/// The payload at the start, which begins with its length.
 #[inline(always)]
 pub(crate) fn payload_first(bytes: &[u8]) -> Option<(&[u8], &[u8])>
     ensures split { IfSome result (λ r. bytes.now ≡ payload_bytes (len r.0.now) ++ r.1.now) }
@@ -93,7 +93,7 @@ pub(crate) fn payload_first(bytes: &[u8]) -> Option<(&[u8], &[u8])>
     Some((&rest[..size], &rest[size..]))
 }
 
-/// The eight bytes at the front.
+/// The eight bytes at the start.
 #[inline(always)]
 pub(crate) fn eight_first(bytes: &[u8]) -> Option<(u64, &[u8])>
     ensures split { IfSome result (λ r. bytes.now ≡ to_le_bytes w64 r.0 ++ r.1.now) }
@@ -106,7 +106,7 @@ pub(crate) fn eight_first(bytes: &[u8]) -> Option<(u64, &[u8])>
     }
 }
 
-/// The four bytes at the front.
+/// The four bytes at the start.
 #[inline(always)]
 pub(crate) fn four_first(bytes: &[u8]) -> Option<(u32, &[u8])>
     ensures split { IfSome result (λ r. bytes.now ≡ to_le_bytes w32 r.0 ++ r.1.now) }

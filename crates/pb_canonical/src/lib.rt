@@ -2,7 +2,7 @@
 //!
 //! The bytes are read once where they lie, by recursion over what nests in them. No memory is taken.
 //!
-//! An inner crate: a caller that copies canonical input needs only that the answer true is right, and that is what is proved.
+//! An inner crate: callers copy canonical input with it.
 #![tactic(auto)]
 
 mod first;

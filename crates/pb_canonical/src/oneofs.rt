@@ -1,6 +1,8 @@
-//! The oneofs of which a member was met.
+//! The oneofs of which a member was read.
 
-ghost use Rattle.std.specs.Prelude.{◌≡◌, ◌≤◌, ◌<◌, ◌+◌, ◌^◌, ◌++◌, ℕ, List, Some, length, true, IfSome};
+ghost use Rattle.std.specs.Prelude.{◌≡◌, ◌≤◌, ◌<◌, ◌+◌, ◌^◌, ◌++◌, ◌⊎◌, ℕ, List, Some, length, true, IfSome, IfNone};
+ghost use Rattle.std.specs.Bool.{Decides};
+ghost use Rattle.std.specs.Int.{IsBitSet};
 ghost use Rattle.pb_wire.specs.Record.{Record};
 ghost use Rattle.pb_wire.specs.Spell.{shortest_records};
 ghost use Rattle.pb_schema.specs.Types.{message_fields};
@@ -8,7 +10,7 @@ ghost use Rattle.pb_schema.specs.Rules.{IsPool};
 ghost use Rattle.pb_value.specs.Data.{Fields, fields_depth};
 ghost use Rattle.pb_value.specs.Canon.{canon_fields};
 ghost use Rattle.pb_value.specs.WellFormed.{oneof_of, oneof_at, AreFields, HasOneMemberEach};
-ghost use Rattle.pb_canonical.specs.Parts.{IsMarked, IsMore, CanBeRead, OneRecordEach, OneMemberEach};
+ghost use Rattle.pb_canonical.specs.Parts.{IsMarked, IsMore, IsTaken, CanBeRead, OneRecordEach, OneMemberEach};
 
 use crate::first::tag_first;
 use crate::unknown::raw_first;
@@ -17,19 +19,20 @@ use pb_schema::{Field, MessageId, Pool, Shape};
 /// How many oneofs have a mark.
 const MARKED: usize = 128;
 
-/// What was met of a message's fields: the number after the last one, and which of the first 128 oneofs have a member, a bit each.
+/// What was read of a message's fields: the number after the last one, and which of the first 128 oneofs have a member, a bit each.
 #[derive(Clone, Copy)]
 pub(crate) struct Met {
     pub next: u32,
     pub oneofs: u128,
 }
 
-/// What is met with one more field. None where the field may not follow.
+/// The same with one more field. None where the field may not follow.
 #[inline(always)]
 pub(crate) fn with_field(met: Met, field: &Field) -> Option<Met>
     requires { field.now.number < 2 ^ 29 }
     ensures follows { IfSome result (λ r. (met.next ≤ field.now.number) × (r.next ≡ field.now.number + 1)) }
     ensures oneofs { IfSome result (λ r. IsMarked (oneof_of field.now.shape) 0 met.oneofs r.oneofs) }
+    ensures refused { IfNone result ((field.now.number < met.next) ⊎ IsTaken (oneof_of field.now.shape) 0 met.oneofs) }
 {
     if field.number < met.next {
         return None;
@@ -44,7 +47,8 @@ pub(crate) fn with_field(met: Met, field: &Field) -> Option<Met>
 /// The marks, from that of the oneof `first` on, with one more field. None where its oneof has a member already.
 #[inline(always)]
 fn with_shape(marks: u128, shape: Shape, first: usize) -> Option<u128>
-    ensures { IfSome result (λ r. IsMarked (oneof_of shape) first marks r) }
+    ensures marked { IfSome result (λ r. IsMarked (oneof_of shape) first marks r) }
+    ensures refused { IfNone result (IsTaken (oneof_of shape) first marks) }
 {
     match shape {
         Shape::OneofMember(oneof) => {
@@ -59,7 +63,8 @@ fn with_shape(marks: u128, shape: Shape, first: usize) -> Option<u128>
 
 /// The marks, from that of the oneof `first` on, with one more oneof. None where it has a member already.
 fn with_oneof(marks: u128, oneof: usize, first: usize) -> Option<u128>
-    ensures { IfSome result (λ r. IsMarked (Some oneof) first marks r) }
+    ensures marked { IfSome result (λ r. IsMarked (Some oneof) first marks r) }
+    ensures refused { IfNone result (IsTaken (Some oneof) first marks) }
 {
     if oneof < first {
         return Some(marks);
@@ -76,7 +81,8 @@ fn with_oneof(marks: u128, oneof: usize, first: usize) -> Option<u128>
 #[inline(always)]
 fn with_mark(marks: u128, index: u32) -> Option<u128>
     requires { index < 128 }
-    ensures { IfSome result (λ r. IsMore marks index r) }
+    ensures more { IfSome result (λ r. IsMore marks index r) }
+    ensures refused { IfNone result (IsBitSet marks index) }
 {
     let mark = 1u128 << index;
     if marks & mark == 0 {
@@ -95,7 +101,8 @@ fn with_number(
     first: usize,
 ) -> Option<u128>
     requires { message_type.0 < length pool.now.messages }
-    ensures { IfSome result (λ r. IsMarked (oneof_at (message_fields pool.now message_type.0) number) first marks r) }
+    ensures marked { IfSome result (λ r. IsMarked (oneof_at (message_fields pool.now message_type.0) number) first marks r) }
+    ensures refused { IfNone result (IsTaken (oneof_at (message_fields pool.now message_type.0) number) first marks) }
 {
     match pool.field_by_number(message_type, number) {
         Some(field) => {
@@ -116,7 +123,7 @@ fn has_one_record_each(
 ) -> bool
     requires { message_type.0 < length pool.now.messages }
     ensures { (rs : List Record) → CanBeRead levels rs → bytes.now ≡ shortest_records rs
-        → result ≡ true → OneRecordEach (oneof_at (message_fields pool.now message_type.0)) first rs }
+        → Decides result (OneRecordEach (oneof_at (message_fields pool.now message_type.0)) first rs) }
 {
     let mut rest = bytes;
     let mut marks: u128 = 0;
@@ -151,7 +158,7 @@ pub(crate) fn has_one_member_each(
     ensures { (fs : Fields) → AreFields pool.now (message_fields pool.now message_type.0) fs → fields_depth fs ≤ levels
         → bytes.now ≡ shortest_records (canon_fields pool.now (message_fields pool.now message_type.0) fs) ++ rest.now
         → OneMemberEach (message_fields pool.now message_type.0) 128 fs
-        → result ≡ true → HasOneMemberEach (message_fields pool.now message_type.0) fs }
+        → Decides result (HasOneMemberEach (message_fields pool.now message_type.0) fs) }
 {
     let oneofs = oneof_count(pool, message_type);
     if oneofs <= MARKED {
@@ -184,10 +191,13 @@ fn have_further_oneofs_one_each(
     requires within { message_type.0 < length pool.now.messages }
     requires rules { IsPool pool.now }
     requires few { oneofs < 2 ^ 63 }
-    ensures { (fs : Fields) → AreFields pool.now (message_fields pool.now message_type.0) fs → fields_depth fs ≤ levels
+    ensures each { (fs : Fields) → AreFields pool.now (message_fields pool.now message_type.0) fs → fields_depth fs ≤ levels
         → bytes.now ≡ shortest_records (canon_fields pool.now (message_fields pool.now message_type.0) fs)
         → OneMemberEach (message_fields pool.now message_type.0) 128 fs
         → result ≡ true → OneMemberEach (message_fields pool.now message_type.0) oneofs fs }
+    ensures complete { (fs : Fields) → AreFields pool.now (message_fields pool.now message_type.0) fs → fields_depth fs ≤ levels
+        → bytes.now ≡ shortest_records (canon_fields pool.now (message_fields pool.now message_type.0) fs)
+        → HasOneMemberEach (message_fields pool.now message_type.0) fs → result ≡ true }
 {
     let mut first = MARKED;
     'oneofs: while first < oneofs {

@@ -31,7 +31,7 @@ fn is_string(bytes: &[u8]) -> bool
     simdutf8::compat::from_utf8(bytes).is_ok()
 }
 
-/// The payload of a wire type at the front. A group has none.
+/// The payload of a wire type at the start. A group has none.
 #[inline(always)]
 pub(crate) fn scalar_first(bytes: &[u8], wire_type: u8) -> Option<(ScalarPayload<'_>, &[u8])>
     ensures payload { IfSome result (λ r. bytes.now ≡ payload_bytes (payload_view r.0) ++ r.1.now) }
@@ -173,7 +173,7 @@ pub(crate) fn is_zero(payload: ScalarPayload<'_>) -> bool
     }
 }
 
-/// The payload of a value of a kind at the front.
+/// The payload of a value of a kind at the start.
 #[inline(always)]
 pub(crate) fn value_payload_first<'a>(
     pool: &Pool,

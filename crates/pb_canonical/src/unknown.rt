@@ -118,7 +118,7 @@ fn unknown_first<'a>(
     }
 }
 
-/// The bytes after the unknown records at the front: an end tag, or none.
+/// The bytes after the unknown records at the start: an end tag, or none.
 pub(crate) fn unknowns_first<'a>(
     pool: &Pool,
     message_type: MessageId,

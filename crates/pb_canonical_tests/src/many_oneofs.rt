@@ -57,7 +57,7 @@ fn with_members(alloc: Global, numbers: &[u32]) -> Result<Vec<u8>, AllocError> {
     Ok(bytes)
 }
 
-/// Members that may stand together.
+/// Members of different oneofs.
 const APART: &[&[u32]] = &[
     &[600],
     &[1, 257],

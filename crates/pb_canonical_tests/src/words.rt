@@ -1,4 +1,4 @@
-//! What the words of rows stand for.
+//! What the words of rows mean.
 
 use std::alloc::Global;
 use std::test::Fail;
@@ -8,7 +8,7 @@ pub(crate) fn word(line: &str) -> (&str, &str) {
     line.split_once(' ').unwrap_or((line, ""))
 }
 
-/// Bytes in hexadecimal. `-` stands for none.
+/// Bytes in hexadecimal. `-` is no byte.
 pub(crate) fn bytes_of(alloc: Global, word: &str) -> Result<Vec<u8>, Fail> {
     if word == "-" {
         return Ok(Vec::new(alloc));

@@ -14,7 +14,7 @@ returns-clause-value c = λ yes.
 pub returns-clause-only : goal.returns-clause-only
 returns-clause-only c = λ yes v text.
     canonical_of c.args.pool.now c.args.number c.args.limits c.args.bytes.now v c.messages-types.ensures.rules
-    (subst (λ (m : ℕ). IsCanonical c.args.pool.now m c.args.bytes.now) c.in-Some.ensures.found.0 (c.is_canonical.ensures c.if-not-is_canonical.false)) text
+    (subst (λ (m : ℕ). IsCanonical c.args.pool.now m c.args.bytes.now) c.in-Some.ensures.found.0 (c.is_canonical.ensures.0 c.if-not-is_canonical.false)) text
 
 pub returns-clause-faultless : goal.returns-clause-faultless
 returns-clause-faultless c = λ yes f.
