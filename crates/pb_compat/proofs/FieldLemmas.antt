@@ -1,70 +1,29 @@
--- What a new field holds of the records that an old field of scalars was written as.
-use Rattle.std.proofs.Common.{◌≡◌, ℕ, ℤ, pos, negsuc, List, [], ◌∷◌, ◌++◌, map, Bool, true, false, not, cond, ◌&&◌, Option, Some, None, option_map, refl, sym, ◌∙◌, ap, subst, arith, append-nil}
-use Rattle.std.specs.Prelude.{unwrap_or, option_and_then, ◌==◌}
+-- What a new kind reads of the records that scalars of an old kind were written as.
+use Rattle.std.proofs.Common.{◌≡◌, ℕ, List, [], ◌∷◌, ◌++◌, map, Bool, true, false, ◌&&◌, Some, None, option_map, refl, sym, ◌∙◌, ap, arith, append-nil}
+use Rattle.std.specs.Prelude.{unwrap_or}
 use Rattle.std.specs.List.{filter_map, cons_option}
 use Rattle.std.specs.Option.{option_to_list}
 use Rattle.pb_wire.specs.Record.{Payload, varint, fixed64, len, group, fixed32, Record, wire_type}
 use Rattle.pb_schema.specs.declared.types.Kind.{Kind}
 use Rattle.pb_schema.specs.declared.types.Kind.TheVariants as kind
 use Rattle.pb_schema.specs.declared.types.Shape.{Shape}
-use Rattle.pb_schema.specs.declared.types.Shape.TheVariants as shape
 use Rattle.pb_schema.specs.Types.{Types}
-use Rattle.pb_schema.specs.Scalar.{Scalar, int32, int64, uint32, uint64, boolean, float, double, enum, text, bytes, is_default}
+use Rattle.pb_schema.specs.Scalar.{Scalar}
 use Rattle.pb_schema.specs.Kinds.{wire_type_of, is_packable, message_of_kind, IsOfKind, read, written}
 use Rattle.pb_schema.specs.Packed.{elements, numbers_of}
-use Rattle.pb_schema.specs.Rules.{MayBePacked}
 use Rattle.pb_schema.specs.Closed.{is_declared}
 use Rattle.pb_schema.proofs.PackedLemmas.{numbers_back}
-use Rattle.pb_value.specs.Data.{Datum, scalar, message, Datums, no_datums, datum, Holding, one, list, Message}
-use Rattle.pb_value.specs.Value.{last_of, all_elements, unless_default, unless_no_elements, one_value, list_values, held_as}
-use Rattle.pb_value.specs.Canon.{packed_bytes, canon_each, canon_holding, record_of}
-use Rattle.pb_value.specs.WellFormed.{IsOfShape, AreDatums, IsHeld, datums_declared, holds_declared}
-use Rattle.pb_value.proofs.HeldBack.{field_with, values, datums_of-values}
+use Rattle.pb_value.specs.Data.{scalar, message, Datums, no_datums, datum, Message}
+use Rattle.pb_value.specs.Value.{last_of, all_elements, one_value, list_values}
+use Rattle.pb_value.specs.Canon.{packed_bytes, canon_each, record_of}
+use Rattle.pb_value.specs.WellFormed.{AreDatums, datums_declared}
+use Rattle.pb_value.proofs.HeldBack.{field_with, values}
 use Rattle.pb_value.proofs.Options.{some_of}
 use Rattle.pb_value.proofs.ShapeSteps.{one_value-scalar, list_values-scalar}
-use Rattle.pb_value.proofs.WrittenLemmas.{wire_type-written, no_message_of, payloads, scalars, packed_numbers}
-use Rattle.pb_compat.specs.Scalars.{Meaning, integer, single, double_bits, octets, meaning, keeps_scalars}
-use Rattle.pb_compat.specs.Fields.{keeps_kind, keeps_shape, is_map, is_list}
-use Rattle.pb_compat.specs.Agrees.{AreSame, Agrees, ReadsScalarFields}
+use Rattle.pb_value.proofs.WrittenLemmas.{wire_type-written, no_message_of, payloads, packed_numbers}
+use Rattle.pb_compat.specs.Scalars.{meaning, keeps_scalars}
+use Rattle.pb_compat.specs.Fields.{keeps_kind}
 use Rattle.pb_compat.proofs.ScalarLemmas.{MeansTo, scalars_kept}
-
--- DEFAULTS
-
-is_empty : List ℕ → Bool
-is_empty [] = true
-is_empty (x ∷ xs) = false
-
-is_zero : ℤ → Bool
-is_zero (pos n) = n == 0
-is_zero (negsuc n) = false
-
-means_default : Meaning → Bool
-means_default (integer z) = is_zero z
-means_default (single n) = n == 0
-means_default (double_bits n) = n == 0
-means_default (octets s) = is_empty s
-
-default_means : (x : Scalar) → is_default x ≡ means_default (meaning x)
-unfolding means_default is_zero is_empty
-default_means (int32 (pos n)) = refl
-default_means (int32 (negsuc n)) = refl
-default_means (int64 (pos n)) = refl
-default_means (int64 (negsuc n)) = refl
-default_means (uint32 n) = refl
-default_means (uint64 n) = refl
-default_means (boolean true) = refl
-default_means (boolean false) = refl
-default_means (float n) = refl
-default_means (double n) = refl
-default_means (enum (pos n)) = refl
-default_means (enum (negsuc n)) = refl
-default_means (text []) = refl
-default_means (text (x ∷ xs)) = refl
-default_means (bytes []) = refl
-default_means (bytes (x ∷ xs)) = refl
-
-same_default : (x y : Scalar) → meaning y ≡ meaning x → is_default y ≡ is_default x
-same_default x y e = default_means y ∙ ap means_default e ∙ sym (default_means x)
 
 -- KINDS
 
@@ -149,13 +108,13 @@ module _ (old new : Types) (a b : Kind) (keeps : keeps_scalars old new a b ≡ t
       by (kind.Group m) e = absurd (cc)
       by k e = refl
 
-  reads : (x : Scalar) → IsOfKind a x → is_declared old a x ≡ true → (read b (written a x) ≡ Some (read_as a b x)) × (meaning (read_as a b x) ≡ meaning x)
+  pub reads : (x : Scalar) → IsOfKind a x → is_declared old a x ≡ true → (read b (written a x) ≡ Some (read_as a b x)) × (meaning (read_as a b x) ≡ meaning x)
   reads x h d =
       let r = some_of (read b (written a x)) (MeansTo new b (meaning x)) (scalars_kept new old a b keeps x h d) in
       let same : read_as a b x ≡ r.0 = ap (λ o. unwrap_or o x) r.1 in
       (r.1 ∙ ap Some (sym same), ap meaning same ∙ r.2.2)
 
-  same_wire : (x : Scalar) → IsOfKind a x → is_declared old a x ≡ true → wire_type_of b ≡ wire_type_of a
+  pub same_wire : (x : Scalar) → IsOfKind a x → is_declared old a x ≡ true → wire_type_of b ≡ wire_type_of a
   same_wire x h d = sym (read_wire b (written a x) (read_as a b x) (reads x h d).0) ∙ wire_type-written a x h
 
   pub written_wire : (x : Scalar) → IsOfKind a x → is_declared old a x ≡ true → wire_type (written a x) ≡ wire_type_of b
@@ -167,16 +126,16 @@ module _ (old new : Types) (a b : Kind) (keeps : keeps_scalars old new a b ≡ t
       let apart = packable_wire a can in
       wire_packable b (λ e. apart.0 (sym wire ∙ e), λ e. apart.1 (sym wire ∙ e))
 
-  elements_as : (x : Scalar) → IsOfKind a x → is_declared old a x ≡ true → elements b (written a x) ≡ read_as a b x ∷ []
+  pub elements_as : (x : Scalar) → IsOfKind a x → is_declared old a x ≡ true → elements b (written a x) ≡ read_as a b x ∷ []
   elements_as x h d =
       let e = (reads x h d).0 in
       elements_read b (written a x) (read_as a b x) (λ can w. (packable_wire b can).0 (sym (read_wire b (written a x) (read_as a b x) e) ∙ w)) e
 
-  new_scalar : (x : Scalar) → IsOfKind a x → is_declared old a x ≡ true → message_of_kind b ≡ None
+  pub new_scalar : (x : Scalar) → IsOfKind a x → is_declared old a x ≡ true → message_of_kind b ≡ None
   new_scalar x h d = read_scalar b (written a x) (read_as a b x) (reads x h d).0
 
   module _ (inner : ℕ → List Record → Message) where
-    one_as : (n : ℕ) (x : Scalar) → IsOfKind a x → is_declared old a x ≡ true → one_value inner b (record_of n (written a x) ∷ []) ≡ Some (scalar (read_as a b x))
+    pub one_as : (n : ℕ) (x : Scalar) → IsOfKind a x → is_declared old a x ≡ true → one_value inner b (record_of n (written a x) ∷ []) ≡ Some (scalar (read_as a b x))
     one_as n x h d = one_value-scalar inner b (record_of n (written a x) ∷ []) (new_scalar x h d) ∙ ap (λ (l : List Scalar). option_map scalar (last_of (l ++ []))) (elements_as x h d)
 
     listed_one : (n : ℕ) (x : Scalar) → IsOfKind a x → is_declared old a x ≡ true → list_values inner b (record_of n (written a x) ∷ []) ≡ scalar (read_as a b x) ∷ []
@@ -198,7 +157,7 @@ module _ (old new : Types) (a b : Kind) (keeps : keeps_scalars old new a b ≡ t
         ∙ ap (λ l. scalar (read_as a b x) ∷ l) (payloads_as ds h.1 both.1)
     payloads_as (datum (message v) ds) h d = absurd (no_message_of old a v scalar_kind h.0)
 
-    packed_as : (n : ℕ) (x : Scalar) (ds : Datums) → is_packable a ≡ true → AreDatums old a (datum (scalar x) ds) → datums_declared old a (datum (scalar x) ds) ≡ true
+    pub packed_as : (n : ℕ) (x : Scalar) (ds : Datums) → is_packable a ≡ true → AreDatums old a (datum (scalar x) ds) → datums_declared old a (datum (scalar x) ds) ≡ true
         → list_values inner b (record_of n (len (packed_bytes a (datum (scalar x) ds))) ∷ []) ≡ values (all_read_as a b (datum (scalar x) ds))
     packed_as n x ds can h d =
         let both = and_both (is_declared old a x) (datums_declared old a ds) d in
@@ -210,69 +169,8 @@ module _ (old new : Types) (a b : Kind) (keeps : keeps_scalars old new a b ≡ t
         ∙ ap (map scalar) (append-nil (elements b (len s)) ∙ elements-packed b s can_too ∙ ap (λ (w : ℕ). filter_map (read b) (numbers_of w s)) wire ∙ ap (filter_map (read b)) (numbers_back a (payloads a es) s can (packed_numbers old a es can h)))
         ∙ payloads_as es h d
 
-  -- WHAT AGREES
-
-  same_as : (ds : Datums) → AreDatums old a ds → datums_declared old a ds ≡ true → AreSame ds (all_read_as a b ds)
-  same_as no_datums h d = tt
-  same_as (datum (scalar x) ds) h d =
-      let both = and_both (is_declared old a x) (datums_declared old a ds) d in
-      ((reads x h.0 both.0).1, same_as ds h.1 both.1)
-  same_as (datum (message v) ds) h d = absurd (no_message_of old a v scalar_kind h.0)
-
-  -- a list of values that are these
-  lists_agree : (t : Shape) (d : Datum) (ds es : Datums) (xs : List Datum) → xs ≡ values es → AreSame (datum d ds) es → Agrees t (list (datum d ds)) (unless_no_elements xs)
-  lists_agree t d ds no_datums xs e same = absurd same
-  lists_agree t d ds (datum y ys) xs e same =
-      subst (λ o. Agrees t (list (datum d ds)) o) (sym (ap unless_no_elements e ∙ ap (λ (zs : Datums). Some (list (datum y zs))) (datums_of-values ys))) same
-
-  implicit_agrees : (x y : Scalar) (o : Option Datum) → o ≡ Some (scalar y) → meaning y ≡ meaning x → Agrees shape.Implicit (one (scalar x)) (option_and_then unless_default o)
-  implicit_agrees x y o e same = subst (λ p. Agrees shape.Implicit (one (scalar x)) (option_and_then unless_default p)) (sym e) (by (is_default y) refl)
-    where
-      by : (t : Bool) → is_default y ≡ t → Agrees shape.Implicit (one (scalar x)) (cond (is_default y) None (Some (one (scalar y))))
-      by true d = subst (λ u. Agrees shape.Implicit (one (scalar x)) (cond u None (Some (one (scalar y))))) (sym d) (refl, sym (same_default x y same) ∙ d)
-      by false d = subst (λ u. Agrees shape.Implicit (one (scalar x)) (cond u None (Some (one (scalar y))))) (sym d) same
-
-  single_agrees : (inner : ℕ → List Record → Message) (n : ℕ) (t : Shape) (x : Scalar) → not (is_map t) ≡ true → IsOfKind a x → is_declared old a x ≡ true
-      → Agrees t (one (scalar x)) (held_as inner t b (record_of n (written a x) ∷ []))
-  single_agrees inner n shape.Implicit x fits h d = implicit_agrees x (read_as a b x) _ (one_as inner n x h d) (reads x h d).1
-  single_agrees inner n shape.Explicit x fits h d = subst (λ o. Agrees shape.Explicit (one (scalar x)) (option_map one o)) (sym (one_as inner n x h d)) (reads x h d).1
-  single_agrees inner n (shape.OneofMember o) x fits h d = subst (λ p. Agrees (shape.OneofMember o) (one (scalar x)) (option_map one p)) (sym (one_as inner n x h d)) (reads x h d).1
-  single_agrees inner n (shape.List p) x fits h d = subst (λ l. Agrees (shape.List p) (one (scalar x)) (unless_no_elements l)) (sym (listed_one inner n x h d)) ((reads x h d).1, tt)
-  single_agrees inner n (shape.Map key) x fits h d = absurd (cc)
-
-  list_agrees : (inner : ℕ → List Record → Message) (name : List ℕ) (n : ℕ) (packed : Bool) (t : Shape) (e : Datum) (ds : Datums) → MayBePacked (shape.List packed) a → is_list t ≡ true → AreDatums old a (datum e ds) → datums_declared old a (datum e ds) ≡ true
-      → Agrees t (list (datum e ds)) (held_as inner t b (canon_holding old (field_with name n a (shape.List packed)) (list (datum e ds))))
-  list_agrees inner name n true (shape.List q) (scalar x) ds can fits h d =
-      lists_agree (shape.List q) (scalar x) ds (all_read_as a b (datum (scalar x) ds)) _ (packed_as inner n x ds can h d) (same_as (datum (scalar x) ds) h d)
-  list_agrees inner name n false (shape.List q) (scalar x) ds can fits h d =
-      let both = and_both (is_declared old a x) (datums_declared old a ds) d in
-      lists_agree (shape.List q) (scalar x) ds (all_read_as a b (datum (scalar x) ds)) _
-      (list_values-scalar inner b (canon_each old (field_with name n a (shape.List false)) (datum (scalar x) ds)) (new_scalar x h.0 both.0) ∙ each_as inner name n (shape.List false) (datum (scalar x) ds) h d) (same_as (datum (scalar x) ds) h d)
-  list_agrees inner name n packed (shape.List q) (message v) ds can fits h d = absurd (no_message_of old a v scalar_kind h.0)
-  list_agrees inner name n packed shape.Implicit e ds can fits h d = absurd (cc)
-  list_agrees inner name n packed shape.Explicit e ds can fits h d = absurd (cc)
-  list_agrees inner name n packed (shape.OneofMember o) e ds can fits h d = absurd (cc)
-  list_agrees inner name n packed (shape.Map key) e ds can fits h d = absurd (cc)
-
 -- kinds of scalars are kept by the table
 pub kept_scalars : (old new : Types) (a b : Kind) → message_of_kind a ≡ None → keeps_kind old new a b ≡ true → keeps_scalars old new a b ≡ true
 kept_scalars old new (kind.Message m) b none e = absurd (cc)
 kept_scalars old new (kind.Group m) b none e = absurd (cc)
 kept_scalars old new k b none e = e
-
-module _ (old new : Types) (name : List ℕ) (n : ℕ) (a b : Kind) (none : message_of_kind a ≡ None) (keeps : keeps_scalars old new a b ≡ true) (inner : ℕ → List Record → Message) where
-  pub field_agrees : (s t : Shape) (h : Holding) → is_map s ≡ false → MayBePacked s a → keeps_shape old new s t ≡ true → IsOfShape s h → IsHeld old s a h → holds_declared old a h ≡ true
-      → Agrees t h (held_as inner t b (canon_holding old (field_with name n a s) h))
-  field_agrees shape.Implicit t (one (scalar x)) plain can fits shaped w d = single_agrees old new a b keeps inner n t x fits w d
-  field_agrees shape.Explicit t (one (scalar x)) plain can fits shaped w d = single_agrees old new a b keeps inner n t x fits w d
-  field_agrees (shape.OneofMember o) t (one (scalar x)) plain can fits shaped w d = single_agrees old new a b keeps inner n t x fits w d
-  field_agrees (shape.List packed) t (list (datum e ds)) plain can fits shaped w d = list_agrees old new a b keeps inner name n packed t e ds can fits w d
-  field_agrees s t (one (message v)) plain can fits shaped w d = absurd (no_message_of old a v none w)
-  field_agrees (shape.Map key) t h plain can fits shaped w d = absurd (cc)
-  field_agrees s t h plain can fits shaped w d = absurd shaped
-
-pub scalar_fields_read : (old new : Types) → ReadsScalarFields old new
-scalar_fields_read old new f g none plain can keeps inner h shaped w d =
-    let parts = and_both (keeps_kind old new f.kind g.kind && keeps_shape old new f.shape g.shape) true keeps in
-    let kinds = and_both (keeps_kind old new f.kind g.kind) (keeps_shape old new f.shape g.shape) parts.0 in
-    field_agrees old new f.name f.number f.kind g.kind none (kept_scalars old new f.kind g.kind none kinds.0) inner f.shape g.shape h plain can kinds.1 shaped w d

@@ -10,11 +10,31 @@ pub mod NumberLemmas
 pub mod ComparedLemmas
 -- scalars that a new kind reads of what an old kind wrote
 pub mod ScalarLemmas
--- what a new field holds of the records that an old field of scalars was written as
+-- what a new kind reads of the records that scalars were written as
 pub mod FieldLemmas
--- what a type of plain fields reads of the canonical records of a message of flat fields
-pub mod FlatLemmas
+-- some of the fields of a message, and their records
+pub mod OnlyLemmas
+-- what the new kind reads of one value
+pub mod ConvertLemmas
+-- what a new field holds of the records of an old field's content
+pub mod HoldingLemmas
+-- which of these records count
+pub mod ContentLemmas
+-- members of oneofs of which an old message sets at most one
+pub mod CrowdLemmas
+-- fields that no difference breaks
+pub mod BreaksLemmas
+-- whole messages, one level
+pub mod MessageLemmas
+-- whole messages of any depth
+pub mod WholeLemmas
+-- canonical records of an old message that are sound for the new type
+pub mod EncodingLemmas
+-- what a comparison that reports no break says
+pub mod ReportedLemmas
 -- kinds that are not kept: a value that the new kind reads otherwise
 pub mod LostLemmas
 -- worked cases of the rules
 pub mod Rows
+-- worked cases of messages that agree
+pub mod MessageRows

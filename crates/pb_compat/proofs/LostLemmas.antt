@@ -1,5 +1,5 @@
 -- Kinds that are not kept: a value of each that the new kind reads otherwise, or not at all.
-use Rattle.std.proofs.Common.{◌≡◌, ℕ, pos, negsuc, [], ◌∷◌, Bool, true, refl, sym, ◌∙◌, ap, arith}
+use Rattle.std.proofs.Common.{◌≡◌, ℕ, pos, negsuc, [], ◌∷◌, true, refl, sym, ◌∙◌, ap, arith}
 use Rattle.std.specs.Prelude.{IsUtf8, encode_utf8_all}
 use Rattle.std.specs.Str.{chars}
 use Rattle.std.proofs.lemmas.Int.{ints}

@@ -1,82 +1,154 @@
--- When what a field of the new type holds is what the field of the old type held.
-use Rattle.std.specs.Prelude.{◌≡◌, ◌≢◌, ℕ, List, [], true, false, Option, Some, None, Contains}
-use Rattle.std.specs.List.{AllByRecursion}
-use Rattle.pb_wire.specs.Record.{Record}
+-- When a message of the new type holds what a message of the old type held, at every level.
+use Rattle.std.specs.Prelude.{◌≡◌, ◌≢◌, ◌<◌, ◌^◌, length, ℕ, Bool, true, false, not, List, [], Option, Some, None, IfSome, is_some, Contains, if◌then◌else◌}
+use Rattle.std.specs.List.{list_any}
+use Rattle.pb_wire.specs.Limits.{full}
+use Rattle.pb_schema.specs.declared.types.Kind.{Kind}
 use Rattle.pb_schema.specs.declared.types.Shape.{Shape}
 use Rattle.pb_schema.specs.Types.{FieldView, Types, message_fields, field_numbered}
-use Rattle.pb_schema.specs.Kinds.{message_of_kind, closed_enum}
-use Rattle.pb_schema.specs.Rules.{MayBePacked}
-use Rattle.pb_value.specs.Data.{Datum, scalar, message, Datums, no_datums, datum, Holding, one, list, map, Fields, Message, body, fields_of, get_field}
-use Rattle.pb_value.specs.Judge.Forms.{is_default_datum, is_implicit}
-use Rattle.pb_value.specs.Value.{held, value}
-use Rattle.pb_value.specs.Canon.{canon_holding, canon}
-use Rattle.pb_value.specs.WellFormed.{IsOfShape, IsHeld, holds_declared, oneof_of, IsBody}
-use Rattle.pb_compat.specs.Scalars.{meaning}
-use Rattle.pb_compat.specs.Fields.{keeps_field, is_map, differences_at}
+use Rattle.pb_schema.specs.Kinds.{default_of}
+use Rattle.pb_value.specs.Data.{Datum, scalar, message, Datums, no_datums, datum, Entries, no_entries, entry, Holding, one, list, map}
+use Rattle.pb_value.specs.Data.{Fields, no_fields, field, Message, body, get_field, fields_of, unknown_of}
+use Rattle.pb_value.specs.Judge.Forms.{is_implicit}
+use Rattle.pb_value.specs.Canon.{canon, canon_bytes, canon_fields, message_type}
+use Rattle.pb_value.specs.Value.{value}
+use Rattle.pb_value.specs.Derives.{Text}
+use Rattle.pb_value.specs.WellFormed.{IsWellFormed}
+use Rattle.pb_compat.specs.declared.difference.ComparedTypes.{ComparedTypes}
 use Rattle.pb_compat.specs.declared.difference.Difference.{Difference}
-use Rattle.pb_compat.specs.declared.difference.Severity.TheVariants.{BreaksReading}
+use Rattle.pb_compat.specs.declared.difference.Severity.{Severity}
+use Rattle.pb_compat.specs.declared.difference.Severity.TheVariants.{BreaksReading, Loses, ChangesPresence, Converts, Renames}
+use Rattle.pb_compat.specs.Scalars.{octets, meaning}
+use Rattle.pb_compat.specs.Pairs.{Reached}
+use Rattle.pb_compat.specs.Fields.{differences_at}
 
--- scalars that mean the same
-abbrev pub IsSame : Datum → Datum → Type 0
-IsSame (scalar x) (scalar y) = meaning y ≡ meaning x
-IsSame (scalar x) (message w) = ⊥
-IsSame (message v) d = ⊥
+-- the fields of the numbers that a test lets through
+abbrev pub fields_only : (ℕ → Bool) → Fields → Fields
+fields_only p no_fields = no_fields
+fields_only p (field k h fs) = if p k then field k h (fields_only p fs) else fields_only p fs
 
-abbrev pub AreSame : Datums → Datums → Type 0
-AreSame no_datums no_datums = Unit {0}
-AreSame no_datums (datum e es) = ⊥
-AreSame (datum d ds) no_datums = ⊥
-AreSame (datum d ds) (datum e es) = IsSame d e × AreSame ds es
+abbrev pub has_number : List FieldView → ℕ → Bool
+has_number gs k = is_some (field_numbered k gs)
 
--- One value is held as one or as a list of one, and a list as a list. A default is not held where the new field has implicit presence.
-abbrev pub Agrees : Shape → Holding → Option Holding → Type 0
-Agrees t (one d) None = (is_implicit t ≡ true) × (is_default_datum d ≡ true)
-Agrees t (one d) (Some (one e)) = IsSame d e
-Agrees t (one d) (Some (list es)) = AreSame (datum d no_datums) es
-Agrees t (one d) (Some (map es)) = ⊥
-Agrees t (list ds) None = ⊥
-Agrees t (list ds) (Some (one e)) = ⊥
-Agrees t (list ds) (Some (list es)) = AreSame ds es
-Agrees t (list ds) (Some (map es)) = ⊥
-Agrees t (map es) o = ⊥
+-- the fields that a type does not declare
+abbrev pub undeclared : List FieldView → Fields → Fields
+undeclared gs fs = fields_only (λ k. not (has_number gs k)) fs
 
--- Of the records that the old field's content is written as, the new field holds what agrees with it. Where a message is the value of records
--- by `inner`.
-abbrev pub ReadsField : Types → FieldView → FieldView → Type 0
-ReadsField old f g =
-    (inner : ℕ → List Record → Message) (h : Holding) → IsOfShape f.shape h → IsHeld old f.shape f.kind h → holds_declared old f.kind h ≡ true
-    → Agrees g.shape h (held inner g (canon_holding old f h))
+module _ (old new : Types) where
+  abbrev mutual
+    -- A value of the old kind a and one of the new kind b: scalars that mean the same, messages that agree, or a message and its encoding.
+    pub IsSameValue : Kind → Kind → Datum → Datum → Type 0
+    IsSameValue a b (scalar x) (scalar y) = meaning y ≡ meaning x
+    IsSameValue a b (message v) (message w) = Agrees (message_type a) (message_type b) v w
+    IsSameValue a b (message v) (scalar y) = meaning y ≡ octets (canon_bytes old (message_type a) v)
+    IsSameValue a b (scalar x) (message w) = ⊥
 
--- a field of scalars that is no map and does not break is read so
-abbrev pub ReadsScalarFields : Types → Types → Type 0
-ReadsScalarFields old new =
-    (f g : FieldView) → message_of_kind f.kind ≡ None → is_map f.shape ≡ false → MayBePacked f.shape f.kind → keeps_field old new false f g ≡ true
-    → ReadsField old f g
+    pub AreSameValues : Kind → Kind → Datums → Datums → Type 0
+    AreSameValues a b no_datums no_datums = Unit {0}
+    AreSameValues a b (datum d ds) (datum e es) = IsSameValue a b d e × AreSameValues a b ds es
+    AreSameValues a b no_datums (datum e es) = ⊥
+    AreSameValues a b (datum d ds) no_datums = ⊥
 
--- WHOLE MESSAGES
+    -- entry by entry, in the order of the keys, which mean the same
+    pub AreSameEntries : Kind → Kind → Entries → Entries → Type 0
+    AreSameEntries a b no_entries no_entries = Unit {0}
+    AreSameEntries a b (entry x d ds) (entry y e es) = (meaning y ≡ meaning x) × IsSameValue a b d e × AreSameEntries a b ds es
+    AreSameEntries a b no_entries (entry y e es) = ⊥
+    AreSameEntries a b (entry x d ds) no_entries = ⊥
 
--- a field of scalars, alone or in a list
-abbrev pub IsFlat : FieldView → Type 0
-IsFlat f = (message_of_kind f.kind ≡ None) × (is_map f.shape ≡ false)
+    -- What a field of the old kind a holds, and one of the new kind b and the new shape t. One value may be held as a list of one; where the new
+    -- field has implicit presence, a value that means its default is not held.
+    pub HoldsSame : Kind → Kind → Shape → Holding → Option Holding → Type 0
+    HoldsSame a b t (one d) (Some (one e)) = IsSameValue a b d e
+    HoldsSame a b t (one d) (Some (list (datum e no_datums))) = IsSameValue a b d e
+    HoldsSame a b t (one d) None = (is_implicit t ≡ true) × IsSameValue a b d (scalar (default_of b))
+    HoldsSame a b t (list ds) (Some (list es)) = AreSameValues a b ds es
+    HoldsSame a b t (map ds) (Some (map es)) = AreSameEntries a b ds es
+    HoldsSame a b t (one d) (Some (list no_datums)) = ⊥
+    HoldsSame a b t (one d) (Some (list (datum e (datum c es)))) = ⊥
+    HoldsSame a b t (one d) (Some (map es)) = ⊥
+    HoldsSame a b t (list ds) (Some (one e)) = ⊥
+    HoldsSame a b t (list ds) (Some (map es)) = ⊥
+    HoldsSame a b t (list ds) None = ⊥
+    HoldsSame a b t (map ds) (Some (one e)) = ⊥
+    HoldsSame a b t (map ds) (Some (list es)) = ⊥
+    HoldsSame a b t (map ds) None = ⊥
 
--- a field that is no member of a oneof, and of no closed enum
-abbrev pub IsPlain : FieldView → Type 0
-IsPlain f = (oneof_of f.shape ≡ None) × (closed_enum f.kind ≡ None)
+    -- each of the fields that both types declare
+    pub FieldsAgree : List FieldView → List FieldView → Fields → Fields → Type 0
+    FieldsAgree all gs no_fields ws = Unit {0}
+    FieldsAgree all gs (field k h fs) ws =
+        IfSome (field_numbered k all) (λ f. IfSome (field_numbered k gs) (λ g. HoldsSame f.kind g.kind g.shape h (get_field k ws))) × FieldsAgree all gs fs ws
+
+    -- A message of the old type m, and one of the new type n: each field that both types declare holds the same; the new message holds nothing
+    -- that the old one does not; and its unknown records are, in order, those of the fields that the new type does not declare.
+    pub Agrees : ℕ → ℕ → Message → Message → Type 0
+    Agrees m n (body fs us) w =
+        FieldsAgree (message_fields old m) (message_fields new n) fs (fields_of w) × ((k : ℕ) → get_field k fs ≡ None → get_field k (fields_of w) ≡ None)
+        × (unknown_of w ≡ canon_fields old (message_fields old m) (undeclared (message_fields new n) fs))
+
+-- no message has unknown records, at any level
+abbrev mutual
+  pub HasNoUnknown : Message → Type 0
+  HasNoUnknown (body fs us) = (us ≡ []) × FieldsHaveNoUnknown fs
+
+  pub FieldsHaveNoUnknown : Fields → Type 0
+  FieldsHaveNoUnknown no_fields = Unit {0}
+  FieldsHaveNoUnknown (field k h fs) = HoldsNoUnknown h × FieldsHaveNoUnknown fs
+
+  pub HoldsNoUnknown : Holding → Type 0
+  HoldsNoUnknown (one d) = ValueHasNoUnknown d
+  HoldsNoUnknown (list ds) = ValuesHaveNoUnknown ds
+  HoldsNoUnknown (map es) = EntriesHaveNoUnknown es
+
+  pub ValueHasNoUnknown : Datum → Type 0
+  ValueHasNoUnknown (scalar x) = Unit {0}
+  ValueHasNoUnknown (message v) = HasNoUnknown v
+
+  pub ValuesHaveNoUnknown : Datums → Type 0
+  ValuesHaveNoUnknown no_datums = Unit {0}
+  ValuesHaveNoUnknown (datum d ds) = ValueHasNoUnknown d × ValuesHaveNoUnknown ds
+
+  pub EntriesHaveNoUnknown : Entries → Type 0
+  EntriesHaveNoUnknown no_entries = Unit {0}
+  EntriesHaveNoUnknown (entry x d es) = ValueHasNoUnknown d × EntriesHaveNoUnknown es
 
 -- no difference between two types breaks reading
 abbrev pub NoneBreaks : Types → Types → ℕ → ℕ → Type 0
 NoneBreaks old new m n = (k : ℕ) (d : Difference) → Contains (differences_at old new m n k) d → d.severity ≢ BreaksReading
 
--- what a field holds agrees with what the old field of its number held, if it held something
-abbrev pub AgreesAt : Shape → Option Holding → Option Holding → Type 0
-AgreesAt t None o = o ≡ None
-AgreesAt t (Some h) o = Agrees t h o
+-- no difference breaks reading between any two types that are reached
+abbrev pub NothingBreaks : Types → Types → ℕ → ℕ → Type 0
+NothingBreaks old new m n = (p : ℕ × ℕ) → Reached old new (m, n) p → NoneBreaks old new p.0 p.1
 
--- A well-formed message without unknown records, of a type of flat fields, is read as a type of plain fields, of which none breaks: what each field of
--- the new type holds of the canonical records agrees with what the old message held in the field of the number.
-abbrev pub ReadsFlatMessages : Types → Types → Type 0
-ReadsFlatMessages old new =
-    (m n : ℕ) (fs : Fields) → AllByRecursion IsFlat (message_fields old m) → AllByRecursion IsPlain (message_fields new n) → NoneBreaks old new m n
-    → IsBody old m (body fs [])
-    → (k : ℕ) (g : FieldView) → field_numbered k (message_fields new n) ≡ Some g
-    → AgreesAt g.shape (get_field k fs) (get_field k (fields_of (value new n (canon old m (body fs [])))))
+-- What the new type n reads of the canonical records of a well-formed message of the old type m without unknown records agrees with the message.
+abbrev pub AreRecordsRead : Types → Types → ℕ → ℕ → Type 0
+AreRecordsRead old new m n = (v : Message) → IsWellFormed old m v → HasNoUnknown v → Agrees old new m n v (value new n (canon old m v))
+
+-- The canonical bytes of such a message, where the wire can hold them, are an encoding of a message of the new type that agrees with it.
+abbrev pub IsReadAs : Types → Types → ℕ → ℕ → Type 0
+IsReadAs old new m n =
+    (v : Message) → IsWellFormed old m v → HasNoUnknown v → length (canon_bytes old m v) < 2 ^ 31
+    → (w : Message) × Text new n full (canon_bytes old m v) w × Agrees old new m n v w
+
+-- so it is where nothing breaks reading
+abbrev pub ReadsMessages : Types → Types → Type 0
+ReadsMessages old new = (m n : ℕ) → NothingBreaks old new m n → AreRecordsRead old new m n
+
+abbrev pub ReadsEncodings : Types → Types → Type 0
+ReadsEncodings old new = (m n : ℕ) → NothingBreaks old new m n → IsReadAs old new m n
+
+-- A COMPARISON
+
+abbrev pub is_break : Severity → Bool
+is_break BreaksReading = true
+is_break Loses = false
+is_break ChangesPresence = false
+is_break Converts = false
+is_break Renames = false
+
+abbrev pub break_among : List Difference → Bool
+break_among ds = list_any (λ d. is_break d.severity) ds
+
+-- a comparison has a difference that breaks reading
+abbrev pub break_in : List ComparedTypes → Bool
+break_in cs = list_any (λ c. break_among c.differences.items) cs

@@ -4,3 +4,4 @@ pub mod Oneofs
 pub mod Pairs
 pub mod Walk
 pub mod Agrees
+pub mod Words

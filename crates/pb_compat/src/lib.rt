@@ -1,7 +1,7 @@
 //! Whether messages of an old type can be read as a new type: each field that differs, and what the change does.
 //!
 //! ```rust
-//! use pb_compat::{Severity, compare};
+//! use pb_compat::{breaks_reading, compare};
 //! use pb_schema::Pool;
 //! use std::alloc::Global;
 //! use std::test::Fail;
@@ -11,18 +11,12 @@
 //!     let old_type = old.message_by_name("p.M").ok_or("no old type")?;
 //!     let new_type = new.message_by_name("p.M").ok_or("no new type")?;
 //!     let compared = compare(alloc, old, old_type, new, new_type)?;
-//!     for types in &compared {
-//!         for difference in &types.differences {
-//!             if difference.severity == Severity::BreaksReading {
-//!                 return Ok(false);
-//!             }
-//!         }
-//!     }
-//!     Ok(true)
+//!     Ok(!breaks_reading(&compared))
 //! }
 //! ```
 #![tactic(auto)]
 
+mod breaking;
 mod comparing;
 mod difference;
 mod differences;
@@ -33,6 +27,7 @@ mod pairs;
 mod report;
 mod scalars;
 
+pub use breaking::breaks_reading;
 pub use comparing::compare;
 pub use difference::{ComparedTypes, Difference, Severity, Step};
 pub use report::Report;

@@ -1,6 +1,7 @@
 //! How differences are printed.
 
-ghost use Rattle.std.specs.Prelude.{◌<◌};
+ghost use Rattle.std.specs.Prelude.{◌≡◌, ◌<◌};
+ghost use Rattle.pb_compat.specs.Words.{severity_word};
 
 use crate::difference::{ComparedTypes, Difference, Severity};
 use pb_schema::{EnumId, Field, Kind, MessageId, Pool, Shape};
@@ -164,8 +165,10 @@ impl Report<'_> {
 }
 
 impl Severity {
-    /// The word of a line for it.
-    pub fn word(self) -> &'static str {
+    /// The word of a line for it: `breaks`, `loses`, `presence`, `converts` or `renames`.
+    pub fn word(self) -> &'static str
+        ensures { result.now ≡ severity_word self }
+    {
         match self {
             Severity::BreaksReading => "breaks",
             Severity::Loses => "loses",

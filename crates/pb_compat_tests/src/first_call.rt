@@ -1,7 +1,7 @@
 //! The example of the crate's comment.
 
 use super::fields::pool_of;
-use pb_compat::{Severity, compare};
+use pb_compat::{breaks_reading, compare};
 use pb_schema::Pool;
 use std::alloc::Global;
 use std::test::Fail;
@@ -11,14 +11,7 @@ fn keeps_messages(alloc: Global, old: &Pool, new: &Pool) -> Result<bool, Fail> {
     let old_type = old.message_by_name("p.M").ok_or("no old type")?;
     let new_type = new.message_by_name("p.M").ok_or("no new type")?;
     let compared = compare(alloc, old, old_type, new, new_type)?;
-    for types in &compared {
-        for difference in &types.differences {
-            if difference.severity == Severity::BreaksReading {
-                return Ok(false);
-            }
-        }
-    }
-    Ok(true)
+    Ok(!breaks_reading(&compared))
 }
 
 #[test]

@@ -1,4 +1,4 @@
-//! Tests of `compare`: each pair of kinds and shapes beside what libprotobuf reads, and worked cases.
+//! Tests of `compare`: each pair of kinds and shapes beside what libprotobuf reads, worked cases, and a message for each rule that breaks reading.
 #![tactic(auto)]
 
 #[cfg(test)]
@@ -13,6 +13,8 @@ mod first_call;
 mod lines;
 #[cfg(test)]
 mod readings;
+#[cfg(test)]
+mod rules;
 #[cfg(test)]
 mod table;
 #[cfg(test)]

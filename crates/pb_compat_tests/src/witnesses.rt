@@ -42,7 +42,7 @@ fn rows(alloc: Global) -> Result<Vec<Row>, Fail> {
 }
 
 /// Whether field 1 of the first of the types breaks.
-fn has_break(compared: &[ComparedTypes]) -> bool {
+pub(crate) fn has_break(compared: &[ComparedTypes]) -> bool {
     let Some(types) = compared.first() else {
         return false;
     };

@@ -1,7 +1,6 @@
 use Rattle.std.proofs.Common.{◌≡◌, ◌<◌, ◌++◌, ◌∷◌, [], take, get_or, length, ℕ, ◌+◌, sym, subst, arith}
 use Rattle.std.proofs.lemmas.List.{take_more}
 use Rattle.pb_compat.specs.Walk.{Follows}
-use Rattle.pb_compat.specs.Pairs.{leads}
 use Rattle.pb_compat.proofs.WalkLemmas.{follow_none, follow_past, follow_to}
 use Rattle.pb_compat.proofs.pairs.Pairs.follow.Goals as goal
 use Rattle.pb_compat.proofs.pairs.Pairs.follow.Goals.{in-Some+in_ok-add, in_default}

@@ -1,0 +1,148 @@
+-- What the new type reads of the canonical records of a message of any depth.
+use Rattle.std.proofs.Common.{◌≡◌, ℕ, zero, suc, ◌<◌, ◌≤◌, List, ◌++◌, Bool, true, false, Option, Some, None, sym, ◌∙◌, ap, subst, arith, append-nil}
+use Rattle.std.specs.Prelude.{option_and_then}
+use Rattle.std.specs.List.{AllByRecursion}
+use Rattle.pb_wire.specs.Record.{Record}
+use Rattle.pb_schema.specs.declared.types.Kind.{Kind}
+use Rattle.pb_schema.specs.declared.types.Shape.{Shape}
+use Rattle.pb_schema.specs.declared.types.Shape.TheVariants as shape
+use Rattle.pb_schema.specs.Types.{FieldView, MessageView, Types, message_fields, field_numbered}
+use Rattle.pb_schema.specs.Kinds.{message_of_kind, closed_enum}
+use Rattle.pb_schema.specs.Closed.{known, unknown}
+use Rattle.pb_schema.specs.Rules.{IsPool, MayBePacked, MayBeValue, HasKeyKind}
+use Rattle.pb_value.specs.Data.{no_datums, datum, Holding, one, list, map, Fields, no_fields, field, Message, body, fields_depth, holding_depth, message_depth}
+use Rattle.pb_value.specs.Value.{fields_held, value_within, value}
+use Rattle.pb_value.specs.Canon.{canon, canon_fields, canon_holding}
+use Rattle.pb_value.specs.WellFormed.{IsOfShape, IsHeld, holds_declared, AreFields, IsBody}
+use Rattle.pb_value.proofs.FieldBack.{numbered_at}
+use Rattle.pb_value.proofs.BodyBack.{can_pack, numbers_differ, canon-good}
+use Rattle.pb_value.proofs.JudgeLemmas.{found_in, fields_all}
+use Rattle.pb_value.proofs.Numbers.{found_number}
+use Rattle.pb_value.proofs.OpenedLemmas.{opened_shape}
+use Rattle.pb_value.proofs.Options.{some_of}
+use Rattle.pb_compat.specs.Oneofs.{is_crowded}
+use Rattle.pb_compat.specs.Fields.{keeps_shape, is_in_crowd}
+use Rattle.pb_compat.specs.Pairs.{pair_of, message_at, Reached, begun, further}
+use Rattle.pb_compat.specs.Agrees.{NoneBreaks}
+use Rattle.pb_compat.specs.Agrees.{Agrees, HasNoUnknown, FieldsHaveNoUnknown, HoldsNoUnknown, ReadsMessages}
+use Rattle.pb_compat.proofs.BreaksLemmas.{kept_unbroken}
+use Rattle.pb_compat.proofs.ContentLemmas.{content_read, holding_read, IsCounted, holding_counted, opened_for, holding_settled}
+use Rattle.pb_compat.proofs.OnlyLemmas.{EachField}
+use Rattle.pb_compat.proofs.MessageLemmas.{opened, FieldRead, IsReadAt, fields_agree, nothing_more, unknown_fields}
+
+-- THE RULES OF A POOL
+
+pub key_kinds : (pool : Types) (m n : ℕ) (f : FieldView) → IsPool pool → field_numbered n (message_fields pool m) ≡ Some f → HasKeyKind f.shape
+key_kinds pool m n f rules e = (found_in (λ (g : FieldView). (t : MessageView) × HasKeyKind g.shape) n (message_fields pool m) f (fields_all (λ t g. HasKeyKind g.shape) pool pool.messages m rules.fields.shapes.keys) e).1
+
+pub may_be_value : (pool : Types) (m n : ℕ) (f : FieldView) → IsPool pool → field_numbered n (message_fields pool m) ≡ Some f → MayBeValue f.shape f.kind
+may_be_value pool m n f rules e =
+    (found_in (λ (g : FieldView). (t : MessageView) × MayBeValue g.shape g.kind) n (message_fields pool m) f (fields_all (λ t g. MayBeValue g.shape g.kind) pool pool.messages m rules.fields.shapes.values) e).1
+
+-- LISTS AS IF NOT PACKED
+
+opened_carries : (P : Shape → Type 0) → ((p : Bool) → P (shape.List p) → P (shape.List false)) → (t : Shape) (b : Kind) (s : Shape) → P s → P (opened_for t b s)
+opened_carries P carry (shape.List q) b s h = by (closed_enum b) s h
+  where
+    by : (e : Option ℕ) (s : Shape) → P s → P (opened_shape e s)
+    by None s h = h
+    by (Some e) (shape.List p) h = carry p h
+    by (Some e) shape.Implicit h = h
+    by (Some e) shape.Explicit h = h
+    by (Some e) (shape.OneofMember o) h = h
+    by (Some e) (shape.Map key) h = h
+opened_carries P carry shape.Implicit b s h = h
+opened_carries P carry shape.Explicit b s h = h
+opened_carries P carry (shape.OneofMember o) b s h = h
+opened_carries P carry (shape.Map key) b s h = h
+
+shape_carries : (h : Holding) (p : Bool) → IsOfShape (shape.List p) h → IsOfShape (shape.List false) h
+shape_carries (one d) p w = w
+shape_carries (list no_datums) p w = w
+shape_carries (list (datum d ds)) p w = tt
+shape_carries (map es) p w = w
+
+held_carries : (pool : Types) (k : Kind) (h : Holding) (p : Bool) → IsHeld pool (shape.List p) k h → IsHeld pool (shape.List false) k h
+held_carries pool k (one d) p w = w
+held_carries pool k (list ds) p w = w
+held_carries pool k (map es) p w = w
+
+-- ONE LEVEL
+
+module _ (old new : Types) (rules_old : IsPool old) (rules_new : IsPool new) (start : ℕ × ℕ) (unbroken : (p : ℕ × ℕ) → Reached old new start p → NoneBreaks old new p.0 p.1) where
+  abbrev pub Pair : ℕ → ℕ → Type 0
+  Pair m n = Reached old new start (m, n)
+
+  -- where the fields of a number lead
+  pub lead : (m n k : ℕ) (f g : FieldView) → Pair m n → field_numbered k (message_fields old m) ≡ Some f → field_numbered k (message_fields new n) ≡ Some g
+      → (i j : ℕ) → message_of_kind f.kind ≡ Some i → message_of_kind g.kind ≡ Some j → Pair i j
+  lead m n k f g pair found_f found_g i j from to =
+      further k pair
+      (ap (λ (o : Option ℕ). pair_of o (message_at new n k)) (ap (option_and_then (λ (x : FieldView). message_of_kind x.kind)) found_f ∙ from)
+      ∙ ap (pair_of (Some i)) (ap (option_and_then (λ (x : FieldView). message_of_kind x.kind)) found_g ∙ to))
+
+  module _ (m n levels : ℕ) (inner : ℕ → List Record → Message) (pair : Pair m n)
+      (inside : (i j : ℕ) (v : Message) → Pair i j → IsBody old i v → HasNoUnknown v → message_depth v < levels → Agrees old new i j v (inner j (canon old i v))) where
+    abbrev all : List FieldView
+    all = message_fields old m
+
+    abbrev gs : List FieldView
+    gs = message_fields new n
+
+    field_read : (k : ℕ) (f g : FieldView) (h : Holding) → field_numbered k all ≡ Some f → field_numbered k gs ≡ Some g → IsOfShape f.shape h → IsHeld old f.shape f.kind h → holds_declared old f.kind h ≡ true → HoldsNoUnknown h → holding_depth h ≤ levels
+        → FieldRead old new gs inner k f g h
+    field_read k f g h found_f found_g shaped w declared none l =
+        let kept = kept_unbroken old new m n k f g (unbroken (m, n) pair) found_f found_g in
+        let can = can_pack old m rules_old k f found_f in
+        let content = content_read old new inner Pair levels inside (canon-good old rules_old) f.kind g.kind kept.kind (lead m n k f g pair found_f found_g) f.shape h (may_be_value old m k f rules_old found_f) w declared none l in
+        let number : f.number ≡ k = found_number k all f found_f in
+        let there : field_numbered f.number gs ≡ Some g = ap (λ (i : ℕ). field_numbered i gs) number ∙ found_g in
+        let can_still : MayBePacked (opened_for g.shape g.kind f.shape) f.kind = opened_carries (λ s. MayBePacked s f.kind) (λ p x. tt) g.shape g.kind f.shape can in
+        let key_still : HasKeyKind (opened_for g.shape g.kind f.shape) = opened_carries HasKeyKind (λ p x. tt) g.shape g.kind f.shape (key_kinds old m k f rules_old found_f) in
+        let keeps_still : keeps_shape old new (opened_for g.shape g.kind f.shape) g.shape ≡ true = opened_carries (λ s. keeps_shape old new s g.shape ≡ true) (λ p x. x) g.shape g.kind f.shape kept.shape in
+        let shaped_still : IsOfShape (opened_for g.shape g.kind f.shape) h = opened_carries (λ s. IsOfShape s h) (shape_carries h) g.shape g.kind f.shape shaped in
+        let held_still : IsHeld old (opened_for g.shape g.kind f.shape) f.kind h = opened_carries (λ s. IsHeld old s f.kind h) (held_carries old f.kind h) g.shape g.kind f.shape w in
+        record {
+          settles = holding_settled old new inner f.kind g.kind kept.kind f.name g.name f.number g.number gs f.shape g.shape h there can kept.shape shaped w declared content;
+          counted = subst (λ (i : ℕ). AllByRecursion (IsCounted new i g.shape g.kind) (canon_holding old (opened f g) h)) number
+              (holding_counted old new inner f.kind g.kind kept.kind f.name f.number (opened_for g.shape g.kind f.shape) g.shape h can_still keeps_still shaped_still held_still declared content);
+          agrees = holding_read old new inner (canon-good old rules_old) f.kind g.kind kept.kind f.name f.number (opened_for g.shape g.kind f.shape) g.shape h can_still key_still (key_kinds new n k g rules_new found_g) keeps_still shaped_still held_still declared content;
+        }
+
+    read_fields : (fs : Fields) → AreFields old all fs → FieldsHaveNoUnknown fs → fields_depth fs ≤ levels → EachField (IsReadAt old new all gs inner) fs
+    read_fields no_fields w none l = tt
+    read_fields (field k h fs) w none l =
+        let at = some_of (field_numbered k all) (λ (g : FieldView). IsOfShape g.shape h × IsHeld old g.shape g.kind h × (holds_declared old g.kind h ≡ true)) w.0 in (
+          record {
+            own = at.0;
+            found = at.1;
+            numbered = numbered_at old all (can_pack old m rules_old) k h at.0 at.1;
+            read = λ g found. field_read k at.0 g h at.1 found at.2.0 at.2.1 at.2.2 none.0 (omega (arith, l));
+          },
+          read_fields fs w.1 none.1 (omega (arith, l)),
+        )
+
+    body_agrees : (fs : Fields) (us : List Record) → IsBody old m (body fs us) → HasNoUnknown (body fs us) → fields_depth fs ≤ levels
+        → Agrees old new m n (body fs us) (body (fields_held inner gs gs (known new gs (canon old m (body fs us)))) (unknown new gs (canon old m (body fs us))))
+    body_agrees fs us w none l =
+        let read = read_fields fs w.0 none.1 l in
+        let differ = numbers_differ new n rules_new in
+        let calm : (k : ℕ) (f g : FieldView) → field_numbered k all ≡ Some f → field_numbered k gs ≡ Some g → is_in_crowd (is_crowded all gs) g.shape ≡ false =
+        λ k f g found_f found_g. (kept_unbroken old new m n k f g (unbroken (m, n) pair) found_f found_g).calm in
+        let same : canon old m (body fs us) ≡ canon_fields old all fs = ap (λ (rs : List Record). canon_fields old all fs ++ rs) none.0 ∙ append-nil (canon_fields old all fs) in
+        subst (λ (rs : List Record). Agrees old new m n (body fs us) (body (fields_held inner gs gs (known new gs rs)) (unknown new gs rs))) (sym same)
+        (fields_agree old new all gs inner differ fs w.1 w.0 w.2 read calm, nothing_more old new all gs inner differ fs w.1 w.0 w.2 read calm, unknown_fields old new all gs inner fs read)
+
+  -- ALL LEVELS
+
+  within_agrees : (levels m n : ℕ) (v : Message) → Pair m n → IsBody old m v → HasNoUnknown v → message_depth v < levels → Agrees old new m n v (value_within new levels n (canon old m v))
+  unfolding value_within
+  within_agrees zero m n v pair w none l = absurd (omega (arith, l))
+  within_agrees (suc levels) m n (body fs us) pair w none l =
+      body_agrees m n levels (value_within new levels) pair (λ i j v p b x d. within_agrees levels i j v p b x d) fs us w none (omega (arith, l))
+
+pub messages_read : (old new : Types) → IsPool old → IsPool new → ReadsMessages old new
+unfolding value
+messages_read old new rules_old rules_new m n unbroken v w none =
+    let deep = w.depth in
+    within_agrees old new rules_old rules_new (m, n) unbroken 101 m n v begun w.parts none (omega (arith, deep))
