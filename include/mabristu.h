@@ -31,7 +31,7 @@ extern "C" {
 #endif
 
 /* What this header says. A library that answers another number has other calls. */
-#define MB_INTERFACE 3
+#define MB_INTERFACE 4
 uint32_t mb_interface(void);
 
 /* What a call answers. Numbers from 50 on are the causes why a set, a source or declarations are refused, as docs/ERRORS.md lists them. */
@@ -55,6 +55,10 @@ enum {
     MB_TRUNCATED = 1, MB_PAST_END = 2, MB_VARINT_TOO_LONG = 3, MB_TAG_TOO_LARGE = 4, MB_NUMBER_ZERO = 5, MB_BAD_TYPE = 6,
     MB_STRAY_END = 7, MB_WRONG_END = 8, MB_LENGTH_TOO_LARGE = 9, MB_BAD_TEXT = 10, MB_TOO_DEEP = 11, MB_INPUT_TOO_LARGE = 12
 };
+
+/* Writes the name of a cause by its number, as docs/ERRORS.md lists it: a cause of struct mb_fault, or an answer from 21 on. As much is written as the
+ * buffer holds, and the whole length is reported. MB_ABSENT: no cause has this number. */
+uint32_t mb_cause_name(uint32_t cause, uint8_t *name, size_t name_len, size_t *size);
 
 /* The greatest limits. Each call on bytes is given its own: how many bytes it takes, and how deep messages and groups may nest. */
 #define MB_MAX_BYTES UINT32_C(0x7fffffff)
@@ -129,6 +133,11 @@ struct mb_bytes {
  * the source's index and the byte. */
 uint32_t mb_pool_compile(const struct mb_bytes *names, size_t names_len, const struct mb_bytes *texts, size_t texts_len, struct mb_pool *pool,
                          struct mb_refusal *refusal, uint8_t *text, size_t text_len);
+
+/* As mb_pool_compile, of sources of all of proto3: what declares no message, enum or service is read and left out, as parts of an option's name in
+ * parentheses, constants in braces, blocks of extend and ranges of extensions. */
+uint32_t mb_pool_compile_lenient(const struct mb_bytes *names, size_t names_len, const struct mb_bytes *texts, size_t texts_len, struct mb_pool *pool,
+                                 struct mb_refusal *refusal, uint8_t *text, size_t text_len);
 
 /* Puts the pool that one handle holds into another one too, in place of what that held: both hold one pool, which is freed with the last of them.
  * The other handle may go to another thread. Where the answer is another than MB_DONE the other handle is as it was. */
@@ -213,6 +222,31 @@ struct mb_file {
 /* Reports the file at an index, with its name and its package. MB_ABSENT: the pool has fewer files. */
 uint32_t mb_pool_file(struct mb_pool *pool, size_t index, struct mb_file *report, uint8_t *names, size_t names_len);
 
+/* ---- Two versions of a schema ---- */
+
+/* What a difference between an old and a new message type does to messages of the old one that are read as the new one (docs/COMPAT.md). */
+enum {
+    MB_BREAKS = 1,    /* some message is refused, or a value is read as another */
+    MB_LOSES = 2,     /* the new type has no such field: its records become unknown records, and stay */
+    MB_PRESENCE = 3,  /* the value is kept, but not always whether it was set */
+    MB_CONVERTS = 4,  /* the value is kept, in another kind or shape */
+    MB_RENAMES = 5    /* the field has another name */
+};
+
+/* A difference: at the field of this number of the old type. */
+struct mb_difference {
+    size_t old_type;    /* the number of the old message type */
+    size_t new_type;    /* the number of the new one */
+    uint32_t number;    /* of the field */
+    uint32_t severity;  /* MB_BREAKS to MB_RENAMES */
+};
+
+/* Reports the differences between a message type of an old pool and one of a new pool, and between each two types that fields of the same number lead
+ * to: these types first, and of each two by rising field number. As many are written as the buffer holds, and it is reported how many there are. The
+ * two handles are different ones: share a pool to compare types of it. */
+uint32_t mb_compat(struct mb_pool *old_pool, uint32_t old_type, struct mb_pool *new_pool, uint32_t new_type,
+                   struct mb_difference *out, size_t out_len, size_t *count);
+
 /* ---- Values ---- */
 
 /* What a value is: the numbers of types in descriptor.proto. A value of an int32, sint32 or sfixed32 is an MB_INT32, one of a uint32 or fixed32 an
@@ -285,6 +319,20 @@ uint32_t mb_message_new(struct mb_pool *pool, uint32_t type, struct mb_message *
 uint32_t mb_message_decode(struct mb_pool *pool, uint32_t type, const uint8_t *bytes, size_t bytes_len, uint32_t max_bytes, uint8_t max_depth,
                            struct mb_message *message, struct mb_fault *fault, struct mb_step *path, size_t path_len);
 
+/* Puts a copy of the message that one handle holds into another one, in place of what that held. Where the answer is another than MB_DONE the other
+ * handle is as it was. MB_TOO_LARGE: the message has more than MB_MAX_BYTES canonical bytes. */
+uint32_t mb_message_copy(struct mb_message *message, struct mb_message *other);
+
+/* Reports whether two messages are equal: 1 where they are of the same type, by pools that hold the same, and have the same fields and the same unknown
+ * records in the same order; else 0. Floats are compared by their bits. The two handles are different ones. MB_TOO_LARGE as mb_message_copy has it. */
+uint32_t mb_message_equal(struct mb_message *message, struct mb_message *other, uint32_t *equal);
+
+/* Decodes the bytes onto the message: then it is what its canonical bytes followed by these bytes decode to. A scalar is replaced, a message in a
+ * field is merged, a list grows, and entries of a map are put over those of the same keys. Where the answer is another than MB_DONE the message is as
+ * it was. MB_TOO_LARGE as mb_message_copy has it. */
+uint32_t mb_message_merge(struct mb_message *message, const uint8_t *bytes, size_t bytes_len, uint32_t max_bytes, uint8_t max_depth,
+                          struct mb_fault *fault, struct mb_step *path, size_t path_len);
+
 /* Writes the canonical bytes of the message. For MB_DONE their number is reported, and as many of them are written as the buffer holds. */
 uint32_t mb_message_encode(struct mb_message *message, uint8_t *out, size_t out_len, size_t *size);
 
@@ -293,6 +341,19 @@ uint32_t mb_message_encoded_length(struct mb_message *message, size_t *size);
 
 /* Writes the listing of the message, as `pbtool show` prints it, as mb_message_encode writes its bytes. */
 uint32_t mb_message_show(struct mb_message *message, uint8_t *out, size_t out_len, size_t *size);
+
+/* Writes the listing as mb_message_show does, but with each float as the shortest decimal that reads back to the same bits, or nan, inf or -inf. */
+uint32_t mb_message_show_decimal(struct mb_message *message, uint8_t *out, size_t out_len, size_t *size);
+
+/* Why a part of a message has no JSON form: a google.protobuf.Value holds nothing, or a NaN or an infinity; a Timestamp or a Duration is out of its
+ * range; a path of a FieldMask would not be read back; an Any, whose JSON is not written. */
+enum { MB_JSON_NO_KIND = 91, MB_JSON_NOT_FINITE = 92, MB_JSON_OUT_OF_RANGE = 93, MB_JSON_BAD_PATH = 94, MB_JSON_UNSUPPORTED = 95 };
+
+/* Writes the message as JSON (ProtoJSON), as mb_message_encode writes its bytes: with field names as declared or in lowerCamelCase, and indented or on
+ * one line. For MB_JSON_NO_KIND and the numbers after it, the first part that has no JSON form is reported: the numbers of the fields that lead to it,
+ * as many as the buffer holds, and how many there are. */
+uint32_t mb_message_json(struct mb_message *message, bool declared_names, bool indented, uint8_t *out, size_t out_len, size_t *size,
+                         uint32_t *path, size_t path_len, size_t *steps);
 
 /* Reports what the message has at a place: a scalar, or the kind and the size of what else is there. A place is a list of steps from the message, which
  * is itself at the place of no steps. MB_ABSENT: a field is not set, a list is shorter, a map has no such key, or a step does not fit. A list or map
@@ -314,6 +375,16 @@ uint32_t mb_message_fields(struct mb_message *message, const struct mb_value *pl
  * written as the buffer holds. */
 uint32_t mb_message_key(struct mb_message *message, const struct mb_value *place, size_t place_len, const struct mb_bytes *keys, size_t keys_len,
                         size_t index, struct mb_value *key, uint8_t *out, size_t out_len);
+
+/* Reports the number of the member that is set of a oneof of the message at a place. The oneof is the one at this index of the message's type, as
+ * mb_pool_oneof has it. MB_ABSENT: no message is there, its type has no such oneof, or no member of it is set. */
+uint32_t mb_message_oneof(struct mb_message *message, const struct mb_value *place, size_t place_len, const struct mb_bytes *keys, size_t keys_len,
+                          uint32_t oneof, uint32_t *number);
+
+/* Writes the unknown records of the message at a place, as their shortest encoding, as mb_message_encode writes its bytes. A message without any has 0
+ * bytes of them. */
+uint32_t mb_message_unknown(struct mb_message *message, const struct mb_value *place, size_t place_len, const struct mb_bytes *keys, size_t keys_len,
+                            uint8_t *out, size_t out_len, size_t *size);
 
 /* Changes at a place. The value is given as mb_message_get reports one: of the kind of the field's values, or also of the kind that struct mb_field has.
  * A string, or bytes, are those of the index that the number says, among the strings, where keys of the place are too. MB_MESSAGE is an empty message,

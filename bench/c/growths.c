@@ -56,11 +56,12 @@ struct told {
     uint8_t text[256], out[4096];
     size_t size;
     uint32_t type, detail, numbers[16];
+    struct mb_difference differences[16];
     int32_t number;
 };
 
-static struct mb_pool pool, other;
-static struct mb_message held, made;
+static struct mb_pool pool, other, old_pool;
+static struct mb_message held, made, second;
 static uint32_t type;
 static struct mb_bytes set, message, frame, name, source, lenient, source_name = {(const uint8_t *)"a.proto", 7};
 
@@ -83,6 +84,16 @@ static uint32_t compile_cut(struct told *told)
     struct mb_bytes cut = {source.at, source.len - 3};
     return mb_pool_compile(&source_name, 1, &cut, 1, &other, REFUSAL);
 }
+static uint32_t compile_lenient(struct told *told) { return mb_pool_compile_lenient(&source_name, 1, &source, 1, &other, REFUSAL); }
+static uint32_t compile_lenient_cut(struct told *told)
+{
+    struct mb_bytes cut = {source.at, source.len - 3};
+    return mb_pool_compile_lenient(&source_name, 1, &cut, 1, &other, REFUSAL);
+}
+static uint32_t compat(struct told *told) { return mb_compat(&pool, type, &old_pool, 0, told->differences, 16, &told->size); }
+static uint32_t compat_none(struct told *told) { return mb_compat(&pool, type, &old_pool, 99, told->differences, 16, &told->size); }
+static uint32_t cause_name(struct told *told) { return mb_cause_name(12, OUT); }
+static uint32_t no_cause_name(struct told *told) { return mb_cause_name(13, OUT); }
 static uint32_t share(struct told *told) { (void)told; return mb_pool_share(&pool, &other); }
 static uint32_t find(struct told *told) { return mb_pool_type(&pool, name.at, name.len, &told->type); }
 static uint32_t check(struct told *told) { return mb_check(&pool, type, message.at, message.len, LIMITS, FAULT); }
@@ -107,6 +118,17 @@ static uint32_t message_decode_cut(struct told *told) { return mb_message_decode
 static uint32_t message_encode(struct told *told) { return mb_message_encode(&held, OUT); }
 static uint32_t message_length(struct told *told) { return mb_message_encoded_length(&held, &told->size); }
 static uint32_t message_show(struct told *told) { return mb_message_show(&held, OUT); }
+static uint32_t message_show_decimal(struct told *told) { return mb_message_show_decimal(&held, OUT); }
+static uint32_t message_copy(struct told *told) { (void)told; return mb_message_copy(&held, &made); }
+static uint32_t message_equal(struct told *told) { return mb_message_equal(&held, &second, &told->detail); }
+static uint32_t message_unknown(struct told *told) { return mb_message_unknown(&held, NULL, 0, NULL, 0, OUT); }
+static uint32_t message_no_oneof(struct told *told) { return mb_message_oneof(&held, NULL, 0, NULL, 0, 99, &told->detail); }
+static uint32_t message_json(struct told *told)
+{
+    static uint32_t fields[MB_MAX_STEPS];
+    size_t steps;
+    return mb_message_json(&held, false, true, OUT, fields, MB_MAX_STEPS, &steps);
+}
 /* The discount of spring, in the message in examples/. */
 static const struct mb_value entry[] = {{MB_FIELD, 4}, {MB_STRING, 0}}, article[] = {{MB_FIELD, 3}, {MB_INDEX, 1}, {MB_FIELD, 1}};
 static const struct mb_bytes spring = {(const uint8_t *)"spring", 6};
@@ -155,6 +177,18 @@ static uint32_t push_one(struct mb_message *it) { return mb_message_push(it, art
 static uint32_t insert_one(struct mb_message *it) { return mb_message_insert(it, new_entry, 2, two, 2, &discount); }
 static uint32_t insert_none(struct mb_message *it) { return mb_message_insert(it, new_entry, 2, two, 1, &discount); }
 static uint32_t remove_one(struct mb_message *it) { return mb_message_remove(it, ENTRY); }
+static uint32_t merge_one(struct mb_message *it)
+{
+    static struct told none;
+    return mb_message_merge(it, (const uint8_t *)"\x98\x06\x07", 3, LIMITS, &none.fault, none.path, 0);
+}
+static uint32_t merge_cut(struct mb_message *it)
+{
+    static struct told none;
+    return mb_message_merge(it, message.at, message.len - 1, LIMITS, &none.fault, none.path, 0);
+}
+static uint32_t message_merge(struct told *told) { (void)told; return changed(merge_one); }
+static uint32_t message_merge_cut(struct told *told) { (void)told; return changed(merge_cut); }
 static uint32_t drop_nothing(struct mb_message *it) { return mb_message_drop_unknown(it, unknown_of, 2, NULL, 0); }
 static uint32_t message_set(struct told *told) { (void)told; return changed(set_one); }
 static uint32_t message_set_bytes(struct told *told) { (void)told; return changed(set_bytes); }
@@ -186,6 +220,13 @@ static const struct { const char *name; uint32_t (*call)(struct told *told); uin
     {"mb_message_decode", message_decode, MB_DONE}, {"mb_message_decode of a cut message", message_decode_cut, MB_FAULT},
     {"mb_message_encode", message_encode, MB_DONE}, {"mb_message_encoded_length", message_length, MB_DONE},
     {"mb_message_show", message_show, MB_DONE},
+    {"mb_message_show_decimal", message_show_decimal, MB_DONE}, {"mb_message_copy", message_copy, MB_DONE},
+    {"mb_message_equal", message_equal, MB_DONE}, {"mb_message_unknown", message_unknown, MB_DONE},
+    {"mb_message_oneof of no oneof", message_no_oneof, MB_ABSENT}, {"mb_compat", compat, MB_DONE},
+    {"mb_compat with no type", compat_none, MB_NO_TYPE},
+    {"mb_pool_compile_lenient", compile_lenient, MB_DONE}, {"mb_pool_compile_lenient of a cut source", compile_lenient_cut, 65},
+    {"mb_cause_name", cause_name, MB_DONE}, {"mb_cause_name of no cause", no_cause_name, MB_ABSENT},
+    {"mb_message_json", message_json, MB_DONE},
     {"mb_message_get", message_get, MB_DONE}, {"mb_message_get of no place", message_get_bad, MB_BAD_PLACE},
     {"mb_message_read", message_read, MB_DONE}, {"mb_message_fields", message_fields, MB_DONE},
     {"mb_message_key", message_key, MB_DONE}, {"mb_message_key of no key", message_no_key, MB_ABSENT},
@@ -193,9 +234,10 @@ static const struct { const char *name; uint32_t (*call)(struct told *told); uin
     {"mb_message_set of another kind", message_set_wrong, 22}, {"mb_message_clear", message_clear, MB_DONE}, {"mb_message_push", message_push, MB_DONE},
     {"mb_message_insert", message_insert, MB_DONE}, {"mb_message_insert of no place", message_insert_none, MB_BAD_PLACE},
     {"mb_message_remove", message_remove, MB_DONE}, {"mb_message_drop_unknown of no message", message_drop_nothing, MB_ABSENT},
+    {"mb_message_merge", message_merge, MB_DONE}, {"mb_message_merge of a cut message", message_merge_cut, MB_FAULT},
     {"mb_find", find_address, MB_DONE}, {"mb_find in a cut message", find_address_cut, MB_FAULT},
 };
-#define OF_SHOP 17
+#define OF_SHOP 19
 
 static struct mb_bytes read_file(const char *path)
 {
@@ -231,7 +273,8 @@ int main(int argc, char **argv)
     granted = 1 << 30;
     if (mb_pool_link(set.at, set.len, &pool, &told.fault, told.path, 0, &told.refusal, NULL, 0) != MB_DONE ||
         mb_pool_type(&pool, name.at, name.len, &type) != MB_DONE ||
-        mb_message_decode(&pool, type, message.at, message.len, LIMITS, &held, &told.fault, told.path, 0) != MB_DONE)
+        mb_message_decode(&pool, type, message.at, message.len, LIMITS, &held, &told.fault, told.path, 0) != MB_DONE ||
+        mb_message_copy(&held, &second) != MB_DONE || mb_pool_share(&pool, &old_pool) != MB_DONE)
         return 2;
     /* The last ones read what the shop's order alone has. */
     size_t count = sizeof calls / sizeof *calls - (strcmp(argv[2], "shop.Order") == 0 ? 0 : OF_SHOP);
@@ -255,7 +298,9 @@ int main(int argc, char **argv)
         wrong += answer != calls[i].answer;
     }
     mb_pool_free(&pool);
+    mb_pool_free(&old_pool);
     mb_message_free(&held);
+    mb_message_free(&second);
     printf("%d wrong, %ld blocks left\n", wrong, live);
     return wrong != 0 || live != 0;
 }

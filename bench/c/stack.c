@@ -68,14 +68,36 @@ static uint32_t on_message(uint32_t (*call)(struct mb_message *message))
 static uint32_t encode_one(struct mb_message *message) { return mb_message_encode(message, OUT); }
 static uint32_t count_one(struct mb_message *message) { return mb_message_encoded_length(message, &size); }
 static uint32_t show_one(struct mb_message *message) { return mb_message_show(message, OUT); }
+static uint32_t show_decimal_one(struct mb_message *message) { return mb_message_show_decimal(message, OUT); }
+static uint32_t merge_one(struct mb_message *message) { return mb_message_merge(message, turned, turned_len, LIMITS, FAULT); }
+static uint32_t copy_one(struct mb_message *message)
+{
+    struct mb_message copy = {0};
+    uint32_t is_equal, answer = mb_message_copy(message, &copy);
+    if (answer == MB_DONE)
+        answer = mb_message_equal(message, &copy, &is_equal);
+    mb_message_free(&copy);
+    return answer;
+}
+static uint32_t show_decimal_held(void) { return on_message(show_decimal_one); }
+static uint32_t merge_held(void) { return on_message(merge_one); }
+static uint32_t copy_held(void) { return on_message(copy_one); }
+static uint32_t fields[MB_MAX_STEPS];
+static size_t steps;
+static uint32_t json_one(struct mb_message *message) { return mb_message_json(message, false, true, OUT, fields, MB_MAX_STEPS, &steps); }
 static uint32_t encode_held(void) { return on_message(encode_one); }
 static uint32_t count_held(void) { return on_message(count_one); }
 static uint32_t show_held(void) { return on_message(show_one); }
+static uint32_t json_held(void) { return on_message(json_one); }
 /* At the innermost message, at which steps by a key lead. */
 #define PLACE place, 2 * DEPTH, &key, 1
 static const struct mb_bytes key = {(const uint8_t *)"z", 1};
 static uint32_t get_one(struct mb_message *message) { return mb_message_get(message, PLACE, &value); }
 static uint32_t fields_one(struct mb_message *message) { return mb_message_fields(message, PLACE, numbers, 16, &size); }
+static uint32_t unknown_one(struct mb_message *message) { return mb_message_unknown(message, PLACE, OUT); }
+static uint32_t oneof_one(struct mb_message *message) { return mb_message_oneof(message, PLACE, 0, numbers); }
+static uint32_t unknown_held(void) { return on_message(unknown_one); }
+static uint32_t oneof_held(void) { return on_message(oneof_one); }
 static uint32_t key_one(struct mb_message *message) { return mb_message_key(message, place, 2 * DEPTH - 1, &key, 1, 16, &value, out, sizeof out); }
 /* Changes of the innermost message; its place ends at no field. */
 static const struct mb_value empty = {MB_MESSAGE, 0};
@@ -136,6 +158,25 @@ static uint32_t compile(void)
     return answer;
 }
 
+static uint32_t compile_lenient(void)
+{
+    struct mb_pool other = {0};
+    uint32_t answer = mb_pool_compile_lenient(&name, 1, &text, 1, &other, &refusal, out, sizeof out);
+    mb_pool_free(&other);
+    return answer;
+}
+static uint32_t compat(void)
+{
+    struct mb_difference found[4];
+    struct mb_pool other = {0};
+    uint32_t answer = mb_pool_share(&pool, &other);
+    if (answer == MB_DONE)
+        answer = mb_compat(&pool, type, &other, type, found, 4, &size);
+    mb_pool_free(&other);
+    return answer;
+}
+static uint32_t cause_name(void) { return mb_cause_name(12, OUT); }
+
 static const struct { const char *name; uint32_t (*call)(void); } calls[] = {
     {"mb_raw_check of groups", raw_check}, {"mb_raw_check of groups that are cut off", raw_check_cut}, {"mb_raw_short of groups", raw_short},
     {"mb_pool_link, and mb_pool_free", link_set}, {"mb_pool_link_lenient, and mb_pool_free", link_lenient},
@@ -150,6 +191,13 @@ static const struct { const char *name; uint32_t (*call)(void); } calls[] = {
     {"mb_message_decode of turned maps, mb_message_encoded_length and mb_message_free", count_held},
     {"mb_message_decode of turned maps, mb_message_encode and mb_message_free", encode_held},
     {"mb_message_decode of turned maps, mb_message_show and mb_message_free", show_held}, {"mb_pool_field", find_field},
+    {"mb_message_decode of turned maps, mb_message_show_decimal and mb_message_free", show_decimal_held},
+    {"mb_message_decode of turned maps, mb_message_merge of the same and mb_message_free", merge_held},
+    {"mb_message_decode of turned maps, mb_message_copy, mb_message_equal and mb_message_free", copy_held},
+    {"mb_message_decode of turned maps, mb_message_unknown and mb_message_free", unknown_held},
+    {"mb_message_decode of turned maps, mb_message_oneof of no oneof, and mb_message_free", oneof_held},
+    {"mb_pool_compile_lenient, and mb_pool_free", compile_lenient}, {"mb_compat", compat}, {"mb_cause_name", cause_name},
+    {"mb_message_decode of turned maps, mb_message_json and mb_message_free", json_held},
     {"mb_message_decode of turned maps, mb_message_get and mb_message_free", get_held},
     {"mb_message_decode of turned maps, mb_message_fields and mb_message_free", fields_held},
     {"mb_message_decode of turned maps, mb_message_key and mb_message_free", key_held},

@@ -24,6 +24,9 @@ void print_path(FILE *out, const char *before, const struct told *told, const ch
 /* Tells on standard error why a call on a message did not answer MB_DONE. Returns the status to exit with: 1 for a refusal, 3 for memory. */
 int tell(uint32_t answer, const struct told *told);
 
+/* Says which part of a message has no JSON form: the numbers of the fields that lead to it, and why. */
+void tell_json(uint32_t answer, const uint32_t *path, size_t steps);
+
 /* The same of mb_pool_link. The names in the text are those that the refusal tells. */
 int tell_link(uint32_t answer, const struct told *told, const struct mb_refusal *refusal, const uint8_t *text);
 

@@ -1,5 +1,6 @@
-/* message encode|list|empty [--lenient] SET TYPE FILE: decodes the message that a file holds, and prints its canonical bytes in hexadecimal digits, as
- * `pbtool canon` does, or its listing, as `pbtool show` does; or prints the bytes of an empty message. The message stays with the library in between,
+/* message encode|list|decimal|json|empty [--lenient] SET TYPE FILE: decodes the message that a file holds, and prints its canonical bytes in hexadecimal
+ * digits, as `pbtool canon` does, or its listing, as `pbtool show` does or `pbtool show --decimal`, or its JSON, as `pbtool json` does; or prints the bytes
+ * of an empty message. The message stays with the library in between,
  * behind a handle of its own, and the pool is freed before.
  * message field SET TYPE NAME: prints what the field of this name is, by the numbers of struct mb_field. */
 #include "common.h"
@@ -35,16 +36,35 @@ static uint32_t make_message(const char *word, const char *name, struct mb_pool 
 }
 
 /* Prints the listing, in a buffer that grows where it was too small. */
-static uint32_t list(struct mb_message *message, struct buffer *out)
+static uint32_t list(struct mb_message *message, struct buffer *out, bool is_decimal)
 {
     uint32_t answer;
 
     do {
         grow(out, out->len + 256);
-        answer = mb_message_show(message, out->bytes, out->room, &out->len);
+        answer = (is_decimal ? mb_message_show_decimal : mb_message_show)(message, out->bytes, out->room, &out->len);
     } while (answer == MB_DONE && out->len > out->room);
     if (answer == MB_DONE)
         fwrite(out->bytes, 1, out->len, stdout);
+    return answer;
+}
+
+/* Prints the JSON on one line, or says on standard error which part of the message has none. */
+static uint32_t print_json(struct mb_message *message, struct buffer *out)
+{
+    uint32_t path[MB_MAX_STEPS], answer;
+    size_t steps;
+
+    do {
+        grow(out, out->len + 256);
+        answer = mb_message_json(message, false, false, out->bytes, out->room, &out->len, path, MB_MAX_STEPS, &steps);
+    } while (answer == MB_DONE && out->len > out->room);
+    if (answer == MB_DONE) {
+        fwrite(out->bytes, 1, out->len, stdout);
+        printf("\n");
+    } else if (answer != MB_MEMORY) {
+        tell_json(answer, path, steps);
+    }
     return answer;
 }
 
@@ -62,6 +82,15 @@ static uint32_t encode(struct mb_message *message, struct buffer *out)
     if (answer == MB_DONE)
         printf("\n");
     return answer;
+}
+
+static uint32_t print_message(const char *word, struct mb_message *message, struct buffer *out)
+{
+    if (strcmp(word, "json") == 0)
+        return print_json(message, out);
+    if (strcmp(word, "list") == 0 || strcmp(word, "decimal") == 0)
+        return list(message, out, word[0] == 'd');
+    return encode(message, out);
 }
 
 int main(int argc, char **argv)
@@ -87,8 +116,10 @@ int main(int argc, char **argv)
     uint32_t answer = make_message(word, argv[3], &pool, type, &message, &told);
     mb_pool_free(&pool);
     if (answer == MB_DONE)
-        answer = strcmp(word, "list") == 0 ? list(&message, &out) : encode(&message, &out);
+        answer = print_message(word, &message, &out);
     free(out.bytes);
     mb_message_free(&message);
+    if (answer >= MB_JSON_NO_KIND && answer <= MB_JSON_UNSUPPORTED)
+        return 1;
     return answer == MB_DONE ? 0 : tell(answer, &told);
 }

@@ -1,4 +1,4 @@
-/* sources ROOT FILE..: tells whether sources of proto3 make types, as `pbtool compile` does. Each FILE is named as imports name it, from ROOT on. What a
+/* sources [--lenient] ROOT FILE..: tells whether sources of proto3 make types, as `pbtool compile` does, by the strict grammar or leniently. Each FILE is named as imports name it, from ROOT on. What a
  * source imports has to be among them. */
 #include "common.h"
 
@@ -24,8 +24,9 @@ int main(int argc, char **argv)
     struct buffer text = {0};
     uint32_t answer;
 
+    bool is_lenient = take_lenient(&argc, &argv);
     if (argc < 3 || mb_interface() != MB_INTERFACE) {
-        fprintf(stderr, "usage: sources ROOT FILE.., with a library of interface %d\n", MB_INTERFACE);
+        fprintf(stderr, "usage: sources [--lenient] ROOT FILE.., with a library of interface %d\n", MB_INTERFACE);
         return 2;
     }
     size_t count = (size_t)argc - 2;
@@ -41,7 +42,7 @@ int main(int argc, char **argv)
     /* Where the names that are told are longer than the room, their lengths are told: once more with that much. */
     do {
         grow(&text, refusal.file_len + refusal.name_len + 256);
-        answer = mb_pool_compile(names, count, texts, count, &pool, &refusal, text.bytes, text.room);
+        answer = (is_lenient ? mb_pool_compile_lenient : mb_pool_compile)(names, count, texts, count, &pool, &refusal, text.bytes, text.room);
     } while (answer != MB_DONE && refusal.file_len + refusal.name_len > text.room);
     int status = answer == MB_DONE ? 0 : tell_compile(answer, &refusal, text.bytes, argv + 2);
     for (size_t i = 0; i < count; i++)

@@ -3,21 +3,33 @@
 #include <inttypes.h>
 #include <stdio.h>
 
-/* The names of causes, by their numbers: 1 to 12 of bytes, 50 and 61 to 69 of a source, 52 to 60 of a set, 71 to 89 of linking. */
-static const char *const cause_names[90] = {
-    [1] = "Truncated", "PastEnd", "VarintTooLong", "TagTooLarge", "NumberZero", "BadType", "StrayEnd", "WrongEnd", "LengthTooLarge", "BadText",
-    "TooDeep", "InputTooLarge", [50] = "SourceTooLarge", [52] = "MissingName", "BadLabel", "BadTypeNumber", "Extension", "NotProto3", "Required",
-    "Group", [60] = "DefaultValue", "BadUtf8", "BadToken", "OpenComment", "OpenText", "Unexpected", "NumberTooLarge", "CustomOption", "NotProto3",
-    "NestedTooDeep", [71] = "TwoFiles", "MissingImport", "ImportCycle", "BadName", "NameTaken", "NotFound", "NotVisible", "NotAType",
-    "BadNumber", "NumberTaken", "Reserved", "BadOneof", "BadMap", "BadPacked", "BadEnum", "KindMismatch", "BadRange", [89] = "ClosedEnum",
-};
+/* Writes the name of a cause, which the library knows by its number. */
+static void print_cause(FILE *out, uint32_t cause)
+{
+    uint8_t name[64];
+    size_t size = 0;
+
+    if (mb_cause_name(cause, name, sizeof name, &size) == MB_DONE)
+        fwrite(name, 1, size < sizeof name ? size : sizeof name, out);
+    fputc('\n', out);
+}
 
 void print_path(FILE *out, const char *before, const struct told *told, const char *between)
 {
     fprintf(out, "%s%s", before, told->fault.steps == 0 ? "-" : "");
     for (size_t i = 0; i < told->fault.steps && i < MB_MAX_STEPS; i++)
         fprintf(out, "%s%" PRIu32 "[%" PRIu32 "]", i == 0 ? "" : ".", told->path[i].number, told->path[i].before);
-    fprintf(out, "%s%s\n", between, cause_names[told->fault.cause]);
+    fputs(between, out);
+    print_cause(out, told->fault.cause);
+}
+
+void tell_json(uint32_t answer, const uint32_t *path, size_t steps)
+{
+    fprintf(stderr, "json path %s", steps == 0 ? "-" : "");
+    for (size_t i = 0; i < steps && i < MB_MAX_STEPS; i++)
+        fprintf(stderr, "%s%" PRIu32, i == 0 ? "" : ".", path[i]);
+    fputs(" cause ", stderr);
+    print_cause(stderr, answer);
 }
 
 int tell(uint32_t answer, const struct told *told)
@@ -56,7 +68,8 @@ int tell_link(uint32_t answer, const struct told *told, const struct mb_refusal 
         fprintf(stderr, "set file %zu", refusal->file);
     else
         tell_names(refusal, text);
-    fprintf(stderr, " cause %s\n", cause_names[answer]);
+    fprintf(stderr, " cause ");
+    print_cause(stderr, answer);
     return 1;
 }
 
@@ -72,6 +85,7 @@ int tell_compile(uint32_t answer, const struct mb_refusal *refusal, const uint8_
         fprintf(stderr, "source %s byte %" PRIu64, names[refusal->file], refusal->byte);
     else
         tell_names(refusal, text);
-    fprintf(stderr, " cause %s\n", cause_names[answer]);
+    fprintf(stderr, " cause ");
+    print_cause(stderr, answer);
     return 1;
 }

@@ -1,9 +1,11 @@
-"""The words of pbtool, by the package mabristu: tool.py check|show|canon|frames [--lenient] SET TYPE FILE, tool.py short FILE, tool.py compile ROOT FILE..
-Canonical bytes and listing once more, of a message that the library holds: tool.py encode|list [--lenient] SET TYPE FILE, and of an empty message:
+"""The words of pbtool, by the package mabristu: tool.py check|show|canon|frames [--lenient] SET TYPE FILE, tool.py short FILE, tool.py compile [--lenient] ROOT FILE..
+Canonical bytes, listing and JSON, of a message that the library holds: tool.py encode|list|decimal|json [--lenient] SET TYPE FILE, and of an empty message:
 tool.py empty SET TYPE FILE. How many parts of a set lenient reading leaves out: tool.py omitted SET. What a
 field is: tool.py field SET TYPE NAME. What a message has, a place a line: tool.py read [--lenient] SET TYPE FILE, as read.c prints it. The
 scalar at a path of field numbers, such as 3.1: tool.py find [--lenient] SET TYPE FILE PATH. What a set
-declares: tool.py types [--lenient] SET. Changes of a message, and its bytes: tool.py change SET TYPE FILE CHANGE.., as change.c says"""
+declares: tool.py types [--lenient] SET. Changes of a message, and its bytes: tool.py change SET TYPE FILE CHANGE.., as change.c says.
+A copy of a message with more bytes decoded onto it: tool.py whole SET TYPE FILE MORE, as whole.c prints it. What differs between two types: tool.py
+compat OLD_SET OLD_TYPE NEW_SET NEW_TYPE, as compat.c prints it"""
 import sys
 
 import mabristu
@@ -84,6 +86,19 @@ def change(message, word):
     return f"{call} {message._change(call, steps, strings, given)}\n"
 
 
+def whole(message, more):
+    """A copy of a message with more bytes decoded onto it, and what is of it then."""
+    copy = message.copy()
+    yield f"equal {int(message == copy)}\n"
+    copy.merge(more)
+    yield f"equal {int(message == copy)}\n"
+    yield f"bytes {copy.encode().hex()}\n"
+    yield f"unknown {copy.unknown.hex()}\n"
+    for oneof in dict.fromkeys(field.oneof for field in copy.type.fields if field.oneof):
+        member = copy.which_oneof(oneof)
+        yield f"oneof {copy.type.field(member).number if member else 0}\n"
+
+
 def told(command, *words):
     """What a command prints, a part at a time."""
     if command == "short":
@@ -91,7 +106,16 @@ def told(command, *words):
         mabristu.raw_check(data)
         yield mabristu.raw_short(data).hex() + "\n"
     elif command == "compile":
-        mabristu.Pool.of_sources({name: read(f"{words[0]}/{name}") for name in words[1:]})
+        is_lenient = words[0] == "--lenient"
+        root, *names = words[is_lenient:]
+        mabristu.Pool.of_sources({name: read(f"{root}/{name}") for name in names}, lenient=is_lenient)
+    elif command == "whole":
+        set_name, type_name, name, more = words
+        yield from whole(mabristu.Pool(read(set_name))[type_name].decode(read(name)), read(more))
+    elif command == "compat":
+        old, new = (mabristu.Pool(read(words[it]))[words[it + 1]] for it in (0, 2))
+        for it in old.compat(new):
+            yield f"{it.old.name} {it.field.number} {it.severity} {it.new.name}\n"
     elif command == "field":
         set_name, type_name, name = words
         yield " ".join(map(str, mabristu.Pool(read(set_name))[type_name].field(name).numbers)) + "\n"
@@ -129,8 +153,12 @@ def told(command, *words):
             message = found.decode(read(name))
             kind, number, _ = message._read()
             yield from places(kind, number, message)
+        elif command == "decimal":
+            yield found.decode(read(name)).listing(decimal=True)
         elif command == "list":
             yield found.decode(read(name)).listing()
+        elif command == "json":
+            yield found.decode(read(name)).to_json() + "\n"
         else:
             yield from frames(found, name)
 

@@ -1,14 +1,16 @@
-//! The words of pbtool, by the crate mabristu: tool check|show|canon|frames [--lenient] SET TYPE FILE, tool short FILE, tool compile ROOT FILE..
-//! Canonical bytes and listing once more, of a message that the library holds: tool encode|list [--lenient] SET TYPE FILE, and of an empty message: tool empty
+//! The words of pbtool, by the crate mabristu: tool check|show|canon|frames [--lenient] SET TYPE FILE, tool short FILE, tool compile [--lenient] ROOT FILE..
+//! Canonical bytes, listing and JSON, of a message that the library holds: tool encode|list|decimal|json [--lenient] SET TYPE FILE, and of an empty message: tool empty
 //! SET TYPE FILE. How many parts of a set lenient reading leaves out: tool omitted SET. What a field is: tool field SET TYPE NAME. What a message has, a
 //! place a line: tool read [--lenient] SET TYPE FILE, as read.c prints it. The scalar at a path of field numbers, such as 3.1: tool find [--lenient] SET TYPE
-//! FILE PATH. What a set declares: tool types [--lenient] SET. Changes of a message, and its bytes: tool change SET TYPE FILE CHANGE.., as change.c says
+//! FILE PATH. What a set declares: tool types [--lenient] SET. Changes of a message, and its bytes: tool change SET TYPE FILE CHANGE.., as change.c says.
+//! A copy of a message with more bytes decoded onto it: tool whole SET TYPE FILE MORE, as whole.c prints it. What differs between two types: tool compat
+//! OLD_SET OLD_TYPE NEW_SET NEW_TYPE, as compat.c prints it
 mod changes;
 mod files;
 mod values;
 
 use files::{failure, hexadecimal, print, read, refused, Failure};
-use mabristu::{raw_check, raw_short, Error, Field, Limits, Message, MessageType, Pool, StreamError};
+use mabristu::{raw_check, raw_short, Error, Field, JsonForm, Limits, Message, MessageType, Pool, StreamError};
 use std::process::ExitCode;
 
 /// The messages of a stream, each after its length.
@@ -50,6 +52,30 @@ fn field(found: &MessageType, name: &str) -> Result<(), Failure> {
     print(format!("{number} {kind} {} {} {type_of}\n", shape as u32, key.unwrap_or(0)).as_bytes())
 }
 
+/// Sources with their names.
+fn sources<'a>(root: &str, names: &[&'a str]) -> Result<Vec<(&'a str, Vec<u8>)>, Failure> {
+    names.iter().map(|name| Ok((*name, read(&format!("{root}/{name}"))?))).collect()
+}
+
+/// A copy of a message with more bytes decoded onto it, and what is of it then.
+fn whole(message: &Message, more: &[u8]) -> Result<(), Failure> {
+    let mut copy = message.try_clone().map_err(refused)?;
+    print(format!("equal {}\n", u8::from(*message == copy)).as_bytes())?;
+    copy.merge(more).map_err(refused)?;
+    print(format!("equal {}\nbytes ", u8::from(*message == copy)).as_bytes())?;
+    print(&hexadecimal(&copy.encode().map_err(refused)?))?;
+    print(b"unknown ")?;
+    print(&hexadecimal(&copy.unknown().map_err(refused)?))?;
+    let mut oneofs: Vec<String> = vec![];
+    for declared in copy.message_type().fields().map_err(refused)? {
+        let Some(oneof) = declared.oneof.filter(|oneof| !oneofs.contains(oneof)) else { continue };
+        let number = copy.whole().oneof_member(oneofs.len() as u32).map_err(refused)?;
+        print(format!("oneof {}\n", number.unwrap_or(0)).as_bytes())?;
+        oneofs.push(oneof);
+    }
+    Ok(())
+}
+
 fn run(words: &[&str]) -> Result<(), Failure> {
     let of_set = |error| failure(error, "set ");
     if let ["short", name] = words {
@@ -57,9 +83,21 @@ fn run(words: &[&str]) -> Result<(), Failure> {
         raw_check(&bytes, Limits::FULL).map_err(refused)?;
         return print(&hexadecimal(&raw_short(&bytes, Limits::FULL).map_err(refused)?));
     }
+    if let ["compile", "--lenient", root, names @ ..] = words {
+        return Pool::of_sources_lenient(sources(root, names)?).map(drop).map_err(refused);
+    }
     if let ["compile", root, names @ ..] = words {
-        let sources = names.iter().map(|name| Ok((*name, read(&format!("{root}/{name}"))?))).collect::<Result<Vec<_>, _>>()?;
-        return Pool::of_sources(sources).map(drop).map_err(refused);
+        return Pool::of_sources(sources(root, names)?).map(drop).map_err(refused);
+    }
+    if let ["whole", set, name, file, more] = words {
+        let found = message_type(&Pool::link(&read(set)?).map_err(of_set)?, name)?;
+        return whole(&found.decode(&read(file)?).map_err(refused)?, &read(more)?);
+    }
+    if let ["compat", old_set, old_name, new_set, new_name] = words {
+        let old = message_type(&Pool::link(&read(old_set)?).map_err(of_set)?, old_name)?;
+        let new = message_type(&Pool::link(&read(new_set)?).map_err(of_set)?, new_name)?;
+        let found = old.compat(&new).map_err(refused)?;
+        return found.iter().try_for_each(|it| print(format!("{it} {}\n", it.new_type).as_bytes()));
     }
     if let ["omitted", set] = words {
         return print(format!("{}\n", Pool::link_lenient(&read(set)?).map_err(of_set)?.left_out()).as_bytes());
@@ -98,7 +136,12 @@ fn run(words: &[&str]) -> Result<(), Failure> {
         "canon" => print(&hexadecimal(&found.canonical(&bytes).map_err(refused)?)),
         "encode" => encode(found.decode(&bytes)),
         "empty" => encode(found.empty()),
+        "json" => {
+            let json = found.decode(&bytes).and_then(|message| message.to_json(JsonForm::default())).map_err(refused)?;
+            print(format!("{json}\n").as_bytes())
+        }
         "list" => print(found.decode(&bytes).and_then(|message| message.listing()).map_err(refused)?.as_bytes()),
+        "decimal" => print(found.decode(&bytes).and_then(|message| message.listing_decimal()).map_err(refused)?.as_bytes()),
         "read" => print(values::places(&found.decode(&bytes).map_err(refused)?.whole(), "").map_err(refused)?.as_bytes()),
         _ => frames(&found, &bytes),
     }

@@ -45,12 +45,13 @@ void drop_input(struct input *input);
 bool take_data(PyObject *args, PyObject *kwargs, PyObject **data, struct limits *limits);
 bool set_limits(Py_ssize_t max_bytes, Py_ssize_t max_depth, struct limits *limits);
 
-/* Sets the exception for an answer that is not MB_DONE. All return NULL. */
+/* Sets the exception for an answer that is not MB_DONE. All return NULL. The path of a part is taken. */
 PyObject *refuse(uint32_t answer, const struct report *report);
+PyObject *refuse_path(const char *what, uint32_t answer, PyObject *path);
 PyObject *refuse_link(uint32_t answer, const struct report *report, const struct mb_refusal *refusal, const uint8_t *text, PyObject *names);
 
 /* What _refused.py, _frames.py, _schema.py and _change.py define. */
-extern PyObject *make_fault, *make_link, *frames_class, *schema_class, *change_functions;
+extern PyObject *make_fault, *make_link, *frames_class, *schema_class, *difference_class, *change_functions;
 
 /* The written bytes as str or bytes. */
 PyObject *as_bytes(const uint8_t *at, size_t len);

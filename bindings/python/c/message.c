@@ -105,17 +105,68 @@ struct mb_message *handle_of(Node *node)
 
 /* ---- Whole messages ---- */
 
-/* The handle of a message that is no part of another, or NULL with an exception. */
-static struct mb_message *whole(PyObject *self)
+struct mb_message *whole(PyObject *self)
 {
     if (((Node *)self)->root == NULL)
         return handle_of((Node *)self);
-    PyErr_SetString(PyExc_TypeError, "this is a part of a message: the library writes and lists whole messages");
+    PyErr_SetString(PyExc_TypeError, "this is a part of a message: the library writes, lists and copies whole messages");
     return NULL;
 }
 
+/* JSON: its form, and the part of a message that has none. */
+struct json {
+    bool declared_names, indented;
+    uint32_t path[MB_MAX_STEPS];
+    size_t steps;
+};
+
+/* The exception for a part of a message that has no JSON form. */
+static PyObject *refuse_json(uint32_t answer, const struct json *json)
+{
+    size_t steps = json->steps < MB_MAX_STEPS ? json->steps : MB_MAX_STEPS;
+    PyObject *path = PyTuple_New((Py_ssize_t)steps);
+
+    for (size_t i = 0; path != NULL && i < steps; i++) {
+        PyObject *number = PyLong_FromUnsignedLong(json->path[i]);
+        if (number == NULL)
+            Py_CLEAR(path);
+        else
+            PyTuple_SetItem(path, (Py_ssize_t)i, number);
+    }
+    return path == NULL ? NULL : refuse_path("json", answer, path);
+}
+
+static PyObject *refuse_output(uint32_t answer, const struct json *json)
+{
+    return json != NULL && answer >= MB_JSON_NO_KIND && answer <= MB_JSON_UNSUPPORTED ? refuse_json(answer, json) : refuse(answer, NULL);
+}
+
+static uint32_t write_json(struct mb_message *handle, struct json *json, uint8_t *out, size_t room, size_t *size)
+{
+    return mb_message_json(handle, json->declared_names, json->indented, out, room, size, json->path, MB_MAX_STEPS, &json->steps);
+}
+
+static uint32_t write_listing(struct mb_message *handle, struct json *json, uint8_t *out, size_t room, size_t *size)
+{
+    (void)json;
+    return mb_message_show(handle, out, room, size);
+}
+
+static uint32_t write_decimal(struct mb_message *handle, struct json *json, uint8_t *out, size_t room, size_t *size)
+{
+    (void)json;
+    return mb_message_show_decimal(handle, out, room, size);
+}
+
+static uint32_t write_bytes(struct mb_message *handle, struct json *json, uint8_t *out, size_t room, size_t *size)
+{
+    (void)json;
+    return mb_message_encode(handle, out, room, size);
+}
+
 /* What is written of a message: to the stack, and once more where it is longer. */
-static PyObject *written(PyObject *self, uint32_t (*write)(struct mb_message *, uint8_t *, size_t, size_t *), PyObject *(*made)(const uint8_t *, size_t))
+static PyObject *written(PyObject *self, uint32_t (*write)(struct mb_message *, struct json *, uint8_t *, size_t, size_t *), struct json *json,
+                         PyObject *(*made)(const uint8_t *, size_t))
 {
     struct mb_message *handle = whole(self);
     uint8_t small[SMALL_OUTPUT], *out;
@@ -125,16 +176,16 @@ static PyObject *written(PyObject *self, uint32_t (*write)(struct mb_message *, 
 
     if (handle == NULL)
         return NULL;
-    answer = write(handle, small, sizeof small, &size);
+    answer = write(handle, json, small, sizeof small, &size);
     if (answer != MB_DONE)
-        return refuse(answer, NULL);
+        return refuse_output(answer, json);
     if (size <= sizeof small)
         return made(small, size);
     out = PyMem_Malloc(size);
     if (out == NULL)
         return PyErr_NoMemory();
-    answer = write(handle, out, size, &size);
-    result = answer == MB_DONE ? made(out, size) : refuse(answer, NULL);
+    answer = write(handle, json, out, size, &size);
+    result = answer == MB_DONE ? made(out, size) : refuse_output(answer, json);
     PyMem_Free(out);
     return result;
 }
@@ -167,7 +218,7 @@ PyDoc_STRVAR(encode_doc, "encode()\n--\n\nThe canonical bytes. bytes(message) is
 
 static PyObject *message_encode(PyObject *self, PyObject *Py_UNUSED(ignored))
 {
-    return ((Node *)self)->hint > SMALL_OUTPUT ? encode_long(self) : written(self, mb_message_encode, as_bytes);
+    return ((Node *)self)->hint > SMALL_OUTPUT ? encode_long(self) : written(self, write_bytes, NULL, as_bytes);
 }
 
 PyDoc_STRVAR(encoded_length_doc, "encoded_length()\n--\n\nHow many canonical bytes there are.");
@@ -183,42 +234,48 @@ static PyObject *message_encoded_length(PyObject *self, PyObject *Py_UNUSED(igno
     return answer == MB_DONE ? PyLong_FromSize_t(size) : refuse(answer, NULL);
 }
 
-PyDoc_STRVAR(listing_doc, "listing()\n--\n\nThe listing, as `pbtool show` prints it. repr(message) and str(message) are the same.");
+PyDoc_STRVAR(listing_doc,
+"listing(*, decimal=False)\n--\n\nThe listing, as `pbtool show` prints it, with floats by their bits. repr(message) and str(message) are the same. With"
+"\ndecimal=True each float is the shortest decimal that reads back to the same bits, or nan, inf or -inf.");
 
-static PyObject *message_listing(PyObject *self, PyObject *Py_UNUSED(ignored))
+static PyObject *message_listing(PyObject *self, PyObject *args, PyObject *kwargs)
 {
-    return written(self, mb_message_show, as_str);
+    static char *names[] = {"decimal", NULL};
+    int is_decimal = 0;
+
+    if (!PyArg_ParseTupleAndKeywords(args, kwargs, "|$p", names, &is_decimal))
+        return NULL;
+    return written(self, is_decimal ? write_decimal : write_listing, NULL, as_str);
+}
+
+PyDoc_STRVAR(to_json_doc,
+             "to_json(*, declared_names=False, indent=False)\n--\n\nThe message as JSON (ProtoJSON): with field names in lowerCamelCase or as declared,"
+             " on one line or indented. Refused where a part has no JSON form, as a Timestamp out of its range.");
+
+static PyObject *message_to_json(PyObject *self, PyObject *args, PyObject *kwargs)
+{
+    static char *names[] = {"declared_names", "indent", NULL};
+    int declared_names = 0, indent = 0;
+    struct json json = {0};
+
+    if (!PyArg_ParseTupleAndKeywords(args, kwargs, "|$pp:to_json", names, &declared_names, &indent))
+        return NULL;
+    json.declared_names = declared_names;
+    json.indented = indent;
+    return written(self, write_json, &json, as_str);
 }
 
 static PyObject *part_repr(PyObject *self);
 
 static PyObject *message_repr(PyObject *self)
 {
-    return ((Node *)self)->root == NULL ? message_listing(self, NULL) : part_repr(self);
+    return ((Node *)self)->root == NULL ? written(self, write_listing, NULL, as_str) : part_repr(self);
 }
 
 static PyObject *part_repr(PyObject *self)
 {
     PyObject *name = ((Node *)self)->type == NULL ? NULL : ((Node *)self)->type->name;
     return name ? PyUnicode_FromFormat("<part of a message: a %U>", name) : PyUnicode_FromString("<part of a message>");
-}
-
-/* Two whole messages are equal where they are of one type of one pool, and their canonical bytes are the same. */
-static PyObject *message_compare(PyObject *self, PyObject *other, int how)
-{
-    PyObject *one, *two, *answer = NULL;
-
-    if ((how != Py_EQ && how != Py_NE) || Py_TYPE(other) != Py_TYPE(self) || ((Node *)self)->root != NULL || ((Node *)other)->root != NULL)
-        Py_RETURN_NOTIMPLEMENTED;
-    if (((Node *)self)->type != ((Node *)other)->type)
-        return PyBool_FromLong(how == Py_NE);
-    one = message_encode(self, NULL);
-    two = one == NULL ? NULL : message_encode(other, NULL);
-    if (two != NULL)
-        answer = PyObject_RichCompare(one, two, how);
-    Py_XDECREF(one);
-    Py_XDECREF(two);
-    return answer;
 }
 
 static PyObject *message_get_type(PyObject *self, void *Py_UNUSED(which))
@@ -922,7 +979,13 @@ static PyObject *made_message_type(void)
         {"encode", message_encode, METH_NOARGS, encode_doc},
         {"__bytes__", message_encode, METH_NOARGS, encode_doc},
         {"encoded_length", message_encoded_length, METH_NOARGS, encoded_length_doc},
-        {"listing", message_listing, METH_NOARGS, listing_doc},
+        {"listing", (PyCFunction)(void (*)(void))message_listing, METH_VARARGS | METH_KEYWORDS, listing_doc},
+        {"copy", message_copy, METH_NOARGS, copy_doc},
+        {"__copy__", message_copy, METH_NOARGS, copy_doc},
+        {"__deepcopy__", message_deep_copy, METH_O, copy_doc},
+        {"merge", (PyCFunction)(void (*)(void))message_merge, METH_VARARGS | METH_KEYWORDS, merge_doc},
+        {"which_oneof", message_which_oneof, METH_O, which_oneof_doc},
+        {"to_json", (PyCFunction)(void (*)(void))message_to_json, METH_VARARGS | METH_KEYWORDS, to_json_doc},
         {"get", message_get, METH_VARARGS, get_doc},
         {"numbers", message_numbers, METH_NOARGS, numbers_doc},
         {"to_dict", message_to_dict, METH_NOARGS, to_dict_doc},
@@ -934,6 +997,7 @@ static PyObject *made_message_type(void)
     };
     static PyGetSetDef getset[] = {
         {"type", message_get_type, NULL, "The type of the message.", NULL},
+        {"unknown", message_get_unknown, NULL, "The unknown records of the message, but not of messages in it, as their shortest encoding.", NULL},
         {NULL, NULL, NULL, NULL, NULL},
     };
     static PyType_Slot slots[] = {

@@ -83,6 +83,26 @@ static bool add(PyObject *module, const char *name, PyObject *object)
     return false;
 }
 
+/* Puts the names of all causes into CAUSES of _refused.py. Their numbers fit one byte. */
+static bool name_causes(void)
+{
+    PyObject *causes = taken("mabristu._refused", "CAUSES");
+    bool is_named = causes != NULL;
+
+    for (uint32_t number = 0; is_named && number < 256; number++) {
+        uint8_t name[64];
+        size_t size = 0;
+        if (mb_cause_name(number, name, sizeof name, &size) != MB_DONE)
+            continue;
+        PyObject *key = PyLong_FromUnsignedLong(number), *text = as_str(name, size < sizeof name ? size : sizeof name);
+        is_named = key != NULL && text != NULL && PyDict_SetItem(causes, key, text) == 0;
+        Py_XDECREF(key);
+        Py_XDECREF(text);
+    }
+    Py_XDECREF(causes);
+    return is_named;
+}
+
 PyMODINIT_FUNC PyInit__mabristu(void)
 {
     PyObject *module;
@@ -95,12 +115,13 @@ PyMODINIT_FUNC PyInit__mabristu(void)
     make_link = taken("mabristu._refused", "refused");
     frames_class = taken("mabristu._frames", "Frames");
     schema_class = taken("mabristu._schema", "Schema");
+    difference_class = taken("mabristu._schema", "Difference");
     change_functions = PyImport_ImportModule("mabristu._change");
     pool_type = make_pool_type();
     message_type_type = make_message_type_type();
     field_type = make_field_type();
-    if (make_fault == NULL || make_link == NULL || frames_class == NULL || schema_class == NULL || change_functions == NULL || !make_message_types() ||
-        (module = PyModule_Create(&definition)) == NULL)
+    if (make_fault == NULL || make_link == NULL || frames_class == NULL || schema_class == NULL || difference_class == NULL || change_functions == NULL ||
+        !name_causes() || !make_message_types() || (module = PyModule_Create(&definition)) == NULL)
         return NULL;
     if (!add(module, "Pool", pool_type) || !add(module, "MessageType", message_type_type) || !add(module, "Field", field_type) ||
         !add(module, "Message", message_type) || !add(module, "List", list_type) || !add(module, "Map", map_type) ||

@@ -1,4 +1,4 @@
-/* What reads and changes messages by their places: message.c and change.c. */
+/* What reads and changes messages by their places: message.c, whole.c and change.c. */
 #ifndef NODE_H
 #define NODE_H
 
@@ -19,6 +19,8 @@ struct reached {
 bool reach(const Node *node, const struct mb_value *step, PyObject *key, struct reached *reached);
 void leave(struct reached *reached);
 
+/* The handle of a message that is no part of another, or NULL with an exception. */
+struct mb_message *whole(PyObject *self);
 /* The handle that a node's message is in, or NULL, with an exception, on another thread. */
 struct mb_message *handle_of(Node *node);
 /* A part one step further in than a node. */
@@ -30,6 +32,15 @@ bool field_of(Node *node, PyObject *name, struct mb_field *field);
 Py_ssize_t part_length(PyObject *self);
 bool step_of_key(Node *node, PyObject *key, struct mb_value *step, PyObject **bytes);
 PyObject *message_numbers(PyObject *self, PyObject *ignored);
+
+/* Copies, comparisons and merging of whole messages, oneofs and unknown records (whole.c). */
+PyObject *message_compare(PyObject *self, PyObject *other, int how);
+PyObject *message_copy(PyObject *self, PyObject *ignored);
+PyObject *message_deep_copy(PyObject *self, PyObject *memo);
+PyObject *message_merge(PyObject *self, PyObject *args, PyObject *kwargs);
+PyObject *message_which_oneof(PyObject *self, PyObject *name);
+PyObject *message_get_unknown(PyObject *self, void *which);
+extern const char copy_doc[], merge_doc[], which_oneof_doc[];
 
 /* Changes (change.c). */
 int message_assign(PyObject *self, PyObject *name, PyObject *value);

@@ -39,6 +39,8 @@ static uint32_t link_set(struct linking *it)
 
 static uint32_t link_sources(struct linking *it)
 {
+    if (it->is_lenient)
+        return mb_pool_compile_lenient(it->names, it->count, it->texts, it->count, &it->handle, &it->refusal, it->text, it->text_len);
     return mb_pool_compile(it->names, it->count, it->texts, it->count, &it->handle, &it->refusal, it->text, it->text_len);
 }
 
@@ -149,17 +151,25 @@ static bool list_sources(PyObject *items, struct mb_bytes *listed, PyObject *hel
 }
 
 PyDoc_STRVAR(of_sources_doc,
-"of_sources(sources)\n--\n\nLinks sources of proto3: a mapping from their names, as imports name them, to their texts (str or bytes). What they\n"
-"import has to be among them, google/protobuf/timestamp.proto too.");
+"of_sources(sources, *, lenient=False)\n--\n\nLinks sources of proto3: a mapping from their names, as imports name them, to their texts (str or bytes). What they\n"
+"import has to be among them, google/protobuf/timestamp.proto too. With lenient=True what declares no message, enum or service is read and left out,\n"
+"as parts of an option's name in parentheses, constants in braces, blocks of extend and ranges of extensions.");
 
-static PyObject *pool_of_sources(PyObject *type, PyObject *sources)
+static PyObject *pool_of_sources(PyObject *type, PyObject *args, PyObject *kwargs)
 {
+    static char *words[] = {"sources", "lenient", NULL};
     struct linking it;
+    PyObject *sources;
+    int is_lenient = 0;
+
+    memset(&it, 0, sizeof it);
+    if (!PyArg_ParseTupleAndKeywords(args, kwargs, "O|$p", words, &sources, &is_lenient))
+        return NULL;
+    it.is_lenient = is_lenient != 0;
     PyObject *held = PyList_New(0), *names = PyList_New(0), *items = PyMapping_Items(sources);
     struct mb_bytes *listed = NULL;
     bool is_linked = false;
 
-    memset(&it, 0, sizeof it);
     if (held != NULL && names != NULL && items != NULL) {
         it.count = (size_t)PyList_Size(items);
         listed = PyMem_Malloc((2 * it.count + 1) * sizeof *listed);
@@ -304,7 +314,7 @@ PyObject *make_pool_type(void)
         {NULL, 0, 0, 0, NULL},
     };
     static PyMethodDef methods[] = {
-        {"of_sources", pool_of_sources, METH_O | METH_CLASS, of_sources_doc},
+        {"of_sources", (PyCFunction)(void (*)(void))pool_of_sources, METH_VARARGS | METH_KEYWORDS | METH_CLASS, of_sources_doc},
         {"schema", pool_schema, METH_NOARGS, schema_doc},
         {"_counts", pool_counts, METH_NOARGS, "_counts()\n--\n\nHow many files, message types and enums there are."},
         {"_file", pool_file, METH_VARARGS, "_file(index)\n--\n\nname, package, how many imports, whether it is of proto2."},

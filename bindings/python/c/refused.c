@@ -1,7 +1,7 @@
 /* From what a call answers to an exception. */
 #include "common.h"
 
-PyObject *make_fault, *make_link, *frames_class, *schema_class;
+PyObject *make_fault, *make_link, *frames_class, *schema_class, *difference_class;
 
 /* Raises what a function of _refused.py makes. */
 static PyObject *raise_made(PyObject *made)
@@ -36,6 +36,11 @@ static PyObject *refuse_fault(const struct report *report, const char *before)
     if (path == NULL)
         return NULL;
     return raise_made(PyObject_CallFunction(make_fault, "KNIs", (unsigned long long)report->fault.byte, path, report->fault.cause, before));
+}
+
+PyObject *refuse_path(const char *what, uint32_t answer, PyObject *path)
+{
+    return raise_made(PyObject_CallFunction(make_link, "sIN", what, answer, path));
 }
 
 PyObject *refuse(uint32_t answer, const struct report *report)

@@ -13,6 +13,12 @@ from ._mabristu import (
     raw_short as raw_short,
 )
 from ._refused import CAUSES as CAUSES, Refused as Refused
-from ._schema import DeclaredEnum as DeclaredEnum, DeclaredFile as DeclaredFile, DeclaredType as DeclaredType, Schema as Schema
+from ._schema import (
+    DeclaredEnum as DeclaredEnum,
+    DeclaredFile as DeclaredFile,
+    DeclaredType as DeclaredType,
+    Difference as Difference,
+    Schema as Schema,
+)
 
 __version__: str

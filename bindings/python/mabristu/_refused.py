@@ -2,19 +2,8 @@
 
 __all__ = ["CAUSES", "Refused"]
 
-#: The names of causes, by their numbers, as docs/ERRORS.md lists them.
+#: The names of causes, by their numbers, as docs/ERRORS.md lists them: the library's, which _mabristu puts here.
 CAUSES = {}
-for _first, _names in (
-    (1, "Truncated PastEnd VarintTooLong TagTooLarge NumberZero BadType StrayEnd WrongEnd LengthTooLarge BadText TooDeep InputTooLarge"),
-    (21, "NoSuchField WrongKind WrongShape DefaultStored TwoMembers KnownAsUnknown TooDeep Memory OtherType NoSuchValue TooLarge"),
-    (50, "SourceTooLarge"),
-    (52, "MissingName BadLabel BadTypeNumber Extension NotProto3 Required Group"),
-    (60, "DefaultValue BadUtf8 BadToken OpenComment OpenText Unexpected NumberTooLarge CustomOption NotProto3 NestedTooDeep"),
-    (71, "TwoFiles MissingImport ImportCycle BadName NameTaken NotFound NotVisible NotAType BadNumber NumberTaken Reserved BadOneof BadMap"),
-    (84, "BadPacked BadEnum KindMismatch BadRange"),
-    (89, "ClosedEnum"),
-):
-    CAUSES.update(enumerate(_names.split(), _first))
 
 
 class Refused(ValueError):
@@ -22,6 +11,7 @@ class Refused(ValueError):
 
     cause is the name of the cause, and number its number. byte, path, file and name say where, or are None: path is a tuple of steps
     (number, before), outermost first, each the record of a field number with so many whole records of that number before it in its parent;
+    of a part that has no JSON form, path is the field numbers that lead to it;
     file is the name of a source or of a file that does not link, or the index of a file of a set; name is that of a declaration. Of a frame of a
     stream, frame is its index and at where it begins; then byte counts from there.
     """
@@ -52,6 +42,8 @@ def refused(what, cause, *where):
         name, byte = where
         name = name.decode(errors="replace") if isinstance(name, bytes) else name
         return Refused(f"source {name} byte {byte}", cause, byte=byte, file=name)
+    if what == "json":
+        return Refused(f"json path {'.'.join(map(str, where[0])) or '-'}", cause, path=where[0])
     if what == "set":
         return Refused(f"set file {where[0]}", cause, file=where[0])
     return Refused(what, cause)

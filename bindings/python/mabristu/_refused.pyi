@@ -7,7 +7,7 @@ class Refused(ValueError):
     number: int
     cause: str
     byte: Optional[int]
-    path: Optional[tuple[tuple[int, int], ...]]
+    path: Union[None, tuple[tuple[int, int], ...], tuple[int, ...]]
     file: Union[None, int, str]
     name: Optional[str]
     frame: Optional[int]

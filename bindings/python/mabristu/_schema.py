@@ -1,7 +1,7 @@
 """What a pool declares."""
 from collections import namedtuple
 
-__all__ = ["DeclaredEnum", "DeclaredFile", "DeclaredType", "Schema"]
+__all__ = ["DeclaredEnum", "DeclaredFile", "DeclaredType", "Difference", "Schema"]
 
 DeclaredFile = namedtuple("DeclaredFile", "name package imports syntax")
 DeclaredFile.__doc__ = "A file: its name, its package, how many files it imports, and its syntax, proto2 or proto3."
@@ -9,6 +9,9 @@ DeclaredType = namedtuple("DeclaredType", "name file parent type")
 DeclaredType.__doc__ = "A message type: its full name, the name of its file, the full name of the type that it is declared in, or None, and itself."
 DeclaredEnum = namedtuple("DeclaredEnum", "name file parent values")
 DeclaredEnum.__doc__ = "An enum: its full name, the name of its file, that of the type that it is declared in, or None, and its values (name, number)."
+
+Difference = namedtuple("Difference", "old new field severity")
+Difference.__doc__ = "A difference between two message types: the old and the new one, the field of the old one, and what it does, by its word in docs/COMPAT.md."
 
 
 class Schema:

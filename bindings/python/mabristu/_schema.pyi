@@ -1,6 +1,6 @@
 from typing import NamedTuple, Optional
 
-from ._mabristu import MessageType, Pool
+from ._mabristu import Field, MessageType, Pool
 
 class DeclaredFile(NamedTuple):
     name: str
@@ -19,6 +19,12 @@ class DeclaredEnum(NamedTuple):
     file: str
     parent: Optional[str]
     values: list[tuple[str, int]]
+
+class Difference(NamedTuple):
+    old: MessageType
+    new: MessageType
+    field: Field
+    severity: str
 
 class Schema:
     files: list[DeclaredFile]

@@ -1,7 +1,9 @@
 """The order of the shop: its bytes, listing and types are those of examples/, and the records written here are made by hand."""
 import array
 import ast
+import copy
 import gc
+import json
 import inspect
 import io
 import mmap
@@ -44,6 +46,26 @@ class Messages(Shop):
     def test_listing(self):
         message = self.order.decode(self.data)
         self.assertEqual([repr(message), str(message), message.listing(), self.order.listing(self.data)], [self.listed] * 4)
+
+    def test_json(self):
+        # The fields are those that protoc --decode prints of the order.
+        message = self.order.decode(self.data)
+        line = message.to_json()
+        self.assertNotIn("\n", line)
+        found = json.loads(line)
+        self.assertEqual((found["number"], found["placedOn"], found["lines"][0]["price"]), ("4711", "2024-05-17", 0.35))
+        self.assertEqual(json.loads(message.to_json(declared_names=True))["placed_on"], "2024-05-17")
+        self.assertEqual(json.loads(message.to_json(indent=True)), found)
+        self.assertEqual(message.to_json(indent=True).split("\n")[:2], ["{", '  "number": "4711",'])
+        self.assertEqual(self.order.new().to_json(), "{}")
+
+    def test_json_is_refused(self):
+        # Seconds 2 ** 40 are after the year 9999.
+        stamp = 'syntax = "proto3"; package google.protobuf; message Timestamp { int64 seconds = 1; int32 nanos = 2; }'
+        event = 'syntax = "proto3"; import "t.proto"; message Event { repeated google.protobuf.Timestamp at = 3; }'
+        found = Pool.of_sources({"t.proto": stamp, "e.proto": event})["Event"].decode(b"\x1a\x00\x1a\x07\x08\x80\x80\x80\x80\x80\x20")
+        refused = self.refused(found.to_json)
+        self.assertEqual((str(refused), refused.path, refused.number), ("json path 3 cause OutOfRange", (3,), 93))
 
     def test_canonical_bytes(self):
         # Number 1 with an overlong varint.
@@ -307,6 +329,85 @@ class Threads(Shop):
             self.assertEqual(message.encode(), b"")
         del message
         self.assertEqual(count(), before)
+
+
+class Whole(Shop):
+    def test_copies(self):
+        order = self.order.decode(self.data)
+        for it in (order.copy(), copy.copy(order), copy.deepcopy(order)):
+            self.assertEqual([it == order, it is order, it.type, it.encode()], [True, False, self.order, order.encode()])
+            it["number"] = 8
+            self.assertEqual([it == order, it != order, order["number"], it["number"]], [False, True, 4711, 8])
+        self.assertRaises(TypeError, order["lines"][0].copy)
+        self.assertTrue(order == order)
+        # Floats are compared by their bits.
+        nan = Pool.of_sources({"f.proto": 'syntax = "proto3"; message F { float f = 1; }'})["F"].from_dict({"f": float("nan")})
+        self.assertEqual(nan, nan.copy())
+
+    def test_merging(self):
+        order = self.order.decode(self.data)
+        # By hand: 1 varint 9; 3 {2: 7}; 4 {1: "spring", 2: 1}; 5 "4000"; 8 packed zigzag 1.
+        more = bytes.fromhex("0809" "1a021007" "220a0a06737072696e671001" "2a0434303030" "420101")
+        wanted = self.order.canonical(order.encode() + more)
+        order.merge(memoryview(more))
+        self.assertEqual(order.encode(), wanted)
+        self.assertEqual([order["number"], len(order["lines"]), order["discounts"].items(), order["card"], order["invoice"], list(order["corrections"])],
+                         [9, 3, [("loyal", 3), ("spring", 1)], "4000", None, [-1, 2, -1]])
+        refused = self.refused(order.merge, b"\x08\x09\x12\x05")
+        self.assertEqual([refused.byte, refused.cause, order.encode()], [4, "Truncated", wanted])
+        self.assertEqual(self.refused(order.merge, more, max_bytes=3).cause, "InputTooLarge")
+        other = self.order.from_dict({"gift": True, "corrections": [5]})
+        order.merge(other)
+        self.assertEqual([order["gift"], list(order["corrections"])], [True, [-1, 2, -1, 5]])
+        self.assertRaises(TypeError, order.merge, self.pool["shop.Line"]())
+        self.assertRaises(TypeError, order.merge, "text")
+        self.assertRaises(TypeError, order["lines"][0].merge, b"")
+        order.merge(order)
+        self.assertEqual(list(order["corrections"]), 2 * [-1, 2, -1, 5])
+
+    def test_oneofs(self):
+        order = self.order()
+        self.assertIsNone(order.which_oneof("payment"))
+        order["card"] = ""
+        self.assertEqual(order.which_oneof("payment"), "card")
+        order["invoice"] = {}
+        self.assertEqual(order.which_oneof("payment"), "invoice")
+        self.assertRaises(KeyError, order.which_oneof, "nothing")
+        self.assertRaises(KeyError, order["invoice"].which_oneof, "payment")
+
+    def test_unknown_records(self):
+        # Field 99 is 2, in two bytes, and a line has a field 100 of seven bytes; the shortest encoding of 2 has one.
+        order = self.order.decode(b"\x98\x06\x82\x00\x1a\x0a\xa2\x06\x07unknown\x9b\x06\x9c\x06")
+        self.assertEqual([order.unknown, order["lines"][0].unknown, self.order().unknown], [b"\x98\x06\x02\x9b\x06\x9c\x06", b"\xa2\x06\x07unknown", b""])
+        order.drop_unknown()
+        self.assertEqual([order.unknown, order["lines"][0].unknown], [b"", b"\xa2\x06\x07unknown"])
+
+    def test_decimal(self):
+        message = Pool.of_sources({"f.proto": 'syntax = "proto3"; message F { double d = 1; }'})["F"].from_dict({"d": 0.1})
+        self.assertEqual([message.listing(decimal=True), message.listing()], ["d: 0.1\n", "d: 0x3fb999999999999a\n"])
+
+    def test_causes(self):
+        self.assertEqual([mabristu.CAUSES[it] for it in (1, 12, 21, 31, 50, 52, 61, 71, 89)],
+                         "Truncated InputTooLarge NoSuchField TooLarge SourceTooLarge MissingName BadUtf8 TwoFiles ClosedEnum".split())
+        self.assertEqual([it in mabristu.CAUSES for it in (0, 13, 20, 59, 88, 90)], [False] * 6)
+
+    def test_lenient_sources(self):
+        source = {"m.proto": 'syntax = "proto3"; option (o).p = { q: 1.5 }; message M { int32 a = 1 [(x) = -inf]; }'}
+        self.assertEqual(self.refused(Pool.of_sources, source).cause, "CustomOption")
+        self.assertEqual(Pool.of_sources(source, lenient=True)["M"].field("a").number, 1)
+        self.assertEqual(self.refused(Pool.of_sources, {"m.proto": "message M {"}, lenient=True).cause, "Unexpected")
+
+    def test_versions(self):
+        of = lambda fields: Pool.of_sources({"m.proto": f'syntax = "proto3"; message M {{ {fields} }} message N {{ bytes a = 1; }}'})["M"]
+        old = of("int64 a = 1; int32 b = 2; string c = 3; M m = 4; int32 e = 5; N n = 6; int32 g = 7;")
+        new = of("double a = 1; int64 b = 2; M m = 4; optional int32 e = 5; N n = 6; int32 h = 7; int32 i = 8;")
+        found = old.compat(new)
+        self.assertEqual([(it.old, it.new, it.field.name, it.severity) for it in found], [
+            (old, new, "a", "breaks"), (old, new, "b", "converts"), (old, new, "c", "loses"), (old, new, "e", "presence"), (old, new, "g", "renames")])
+        self.assertEqual([old.compat(old), self.order.compat(self.order)], [[], []])
+        self.assertRaises(TypeError, old.compat, "M")
+        wide = [of(" ".join(f"{kind} f{it} = {it};" for it in range(1, 200))) for kind in ("int32", "string")]
+        self.assertEqual([(it.field.number, it.severity) for it in wide[0].compat(wide[1])], [(it, "breaks") for it in range(1, 200)])
 
 
 class Parts(Shop):

@@ -1,7 +1,7 @@
 //! The numbers and calls of mabristu.h.
-use crate::structs::{Bytes, Counts, Enum, Fault, Field, File, Frame, Handle, MessageHandle, Refusal, Step, Type, Value};
+use crate::structs::{Bytes, Counts, Difference, Enum, Fault, Field, File, Frame, Handle, MessageHandle, Refusal, Step, Type, Value};
 
-pub const INTERFACE: u32 = 3;
+pub const INTERFACE: u32 = 4;
 // What a call answers. Numbers from 50 on are the causes why declarations are refused.
 pub const DONE: u32 = 0;
 pub const BAD_LIMITS: u32 = 1;
@@ -39,6 +39,7 @@ type Message = *mut MessageHandle;
 #[rustfmt::skip]
 extern "C" {
     pub fn mb_interface() -> u32;
+    pub fn mb_cause_name(cause: u32, name: Out, name_len: usize, size: &mut usize) -> u32;
     pub fn mb_raw_check(bytes: At, len: usize, max_bytes: u32, max_depth: u8, fault: &mut Fault, path: *mut Step, path_len: usize) -> u32;
     pub fn mb_raw_short(bytes: At, len: usize, max_bytes: u32, max_depth: u8, out: Out, out_len: usize, size: &mut usize,
         fault: &mut Fault, path: *mut Step, path_len: usize) -> u32;
@@ -47,6 +48,8 @@ extern "C" {
     pub fn mb_pool_link_lenient(set: At, len: usize, pool: *mut Handle, left_out: &mut usize, fault: &mut Fault, path: *mut Step, path_len: usize,
         refusal: &mut Refusal, text: Out, text_len: usize) -> u32;
     pub fn mb_pool_compile(names: *const Bytes, names_len: usize, texts: *const Bytes, texts_len: usize, pool: *mut Handle,
+        refusal: &mut Refusal, text: Out, text_len: usize) -> u32;
+    pub fn mb_pool_compile_lenient(names: *const Bytes, names_len: usize, texts: *const Bytes, texts_len: usize, pool: *mut Handle,
         refusal: &mut Refusal, text: Out, text_len: usize) -> u32;
     pub fn mb_pool_share(pool: *mut Handle, other: *mut Handle) -> u32;
     pub fn mb_pool_free(pool: *mut Handle);
@@ -60,6 +63,8 @@ extern "C" {
     pub fn mb_pool_enum(pool: *mut Handle, entry: usize, report: &mut Enum, name: Out, name_len: usize, size: &mut usize) -> u32;
     pub fn mb_pool_enum_value(pool: *mut Handle, entry: usize, index: usize, number: &mut i32, name: Out, name_len: usize, size: &mut usize) -> u32;
     pub fn mb_pool_file(pool: *mut Handle, index: usize, report: &mut File, names: Out, names_len: usize) -> u32;
+    pub fn mb_compat(old_pool: *mut Handle, old_type: u32, new_pool: *mut Handle, new_type: u32,
+        out: *mut Difference, out_len: usize, count: &mut usize) -> u32;
     pub fn mb_check(pool: *mut Handle, number: u32, bytes: At, len: usize, max_bytes: u32, max_depth: u8,
         fault: &mut Fault, path: *mut Step, path_len: usize) -> u32;
     pub fn mb_find(pool: *mut Handle, number: u32, bytes: At, len: usize, max_bytes: u32, max_depth: u8, numbers: *const u32, numbers_len: usize,
@@ -73,9 +78,20 @@ extern "C" {
     pub fn mb_message_new(pool: *mut Handle, number: u32, message: *mut MessageHandle) -> u32;
     pub fn mb_message_decode(pool: *mut Handle, number: u32, bytes: At, len: usize, max_bytes: u32, max_depth: u8,
         message: *mut MessageHandle, fault: &mut Fault, path: *mut Step, path_len: usize) -> u32;
+    pub fn mb_message_copy(message: Message, other: Message) -> u32;
+    pub fn mb_message_equal(message: Message, other: Message, equal: &mut u32) -> u32;
+    pub fn mb_message_merge(message: Message, bytes: At, len: usize, max_bytes: u32, max_depth: u8,
+        fault: &mut Fault, path: *mut Step, path_len: usize) -> u32;
     pub fn mb_message_encode(message: *mut MessageHandle, out: Out, out_len: usize, size: &mut usize) -> u32;
     pub fn mb_message_encoded_length(message: *mut MessageHandle, size: &mut usize) -> u32;
     pub fn mb_message_show(message: *mut MessageHandle, out: Out, out_len: usize, size: &mut usize) -> u32;
+    pub fn mb_message_show_decimal(message: *mut MessageHandle, out: Out, out_len: usize, size: &mut usize) -> u32;
+    pub fn mb_message_oneof(message: Message, place: *const Value, place_len: usize, keys: *const Bytes, keys_len: usize,
+        oneof: u32, number: &mut u32) -> u32;
+    pub fn mb_message_unknown(message: Message, place: *const Value, place_len: usize, keys: *const Bytes, keys_len: usize,
+        out: Out, out_len: usize, size: &mut usize) -> u32;
+    pub fn mb_message_json(message: *mut MessageHandle, declared_names: bool, indented: bool, out: Out, out_len: usize, size: &mut usize,
+        path: *mut u32, path_len: usize, steps: &mut usize) -> u32;
     pub fn mb_message_get(message: Message, place: *const Value, place_len: usize, keys: *const Bytes, keys_len: usize, value: &mut Value) -> u32;
     pub fn mb_message_read(message: Message, place: *const Value, place_len: usize, keys: *const Bytes, keys_len: usize,
         out: Out, out_len: usize, size: &mut usize) -> u32;

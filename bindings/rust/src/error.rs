@@ -1,5 +1,8 @@
 //! Why a call did not do what was asked.
 use crate::calls;
+use crate::message_type::text;
+use crate::told::written_alone;
+use std::sync::OnceLock;
 use std::{error, fmt, io};
 
 pub use crate::structs::Step;
@@ -8,14 +11,24 @@ pub use crate::structs::Step;
 #[derive(Clone, Copy, Debug, PartialEq, Eq, Hash)]
 pub struct Cause(pub(crate) u32);
 
+/// The greatest number that a cause may have.
+const NUMBERS: u32 = 255;
+
+/// The name that the library has for the cause of a number.
+fn cause_name(number: u32) -> Option<String> {
+    let name = written_alone(|out, room, size| unsafe { calls::mb_cause_name(number, out, room, size) });
+    Some(text(name.ok()?))
+}
+
 impl Cause {
     pub fn number(self) -> u32 {
         self.0
     }
 
     pub fn name(self) -> &'static str {
-        let named = |&(first, names): &(u32, &'static str)| names.split(' ').nth(self.0.checked_sub(first)? as usize);
-        CAUSES.iter().find_map(named).unwrap_or("?")
+        static NAMES: OnceLock<Vec<Option<String>>> = OnceLock::new();
+        let names = NAMES.get_or_init(|| (0..=NUMBERS).map(cause_name).collect());
+        names.get(self.0 as usize).and_then(Option::as_deref).unwrap_or("?")
     }
 }
 
@@ -37,6 +50,8 @@ pub enum Error {
     Source { file: String, byte: u64, cause: Cause },
     /// Declarations do not link.
     Link { file: String, name: String, cause: Cause },
+    /// A part of a message has no JSON form: the numbers of the fields that lead to it.
+    Json { path: Vec<u32>, cause: Cause },
     /// A message refuses a change.
     Change { cause: Cause },
     /// A value is out of the range of its kind, or is a list or a map.
@@ -63,25 +78,13 @@ impl Error {
             | Error::Set { cause, .. }
             | Error::Source { cause, .. }
             | Error::Link { cause, .. }
+            | Error::Json { cause, .. }
             | Error::Change { cause } => Some(*cause),
             Error::TooLarge => Some(Cause(calls::TOO_LARGE)),
             _ => None,
         }
     }
 }
-
-/// The names of causes, from a first number on.
-#[rustfmt::skip]
-const CAUSES: [(u32, &str); 8] = [
-    (1, "Truncated PastEnd VarintTooLong TagTooLarge NumberZero BadType StrayEnd WrongEnd LengthTooLarge BadText TooDeep InputTooLarge"),
-    (21, "NoSuchField WrongKind WrongShape DefaultStored TwoMembers KnownAsUnknown TooDeep Memory OtherType NoSuchValue TooLarge"),
-    (50, "SourceTooLarge"),
-    (52, "MissingName BadLabel BadTypeNumber Extension NotProto3 Required Group"),
-    (60, "DefaultValue BadUtf8 BadToken OpenComment OpenText Unexpected NumberTooLarge CustomOption NotProto3 NestedTooDeep"),
-    (71, "TwoFiles MissingImport ImportCycle BadName NameTaken NotFound NotVisible NotAType BadNumber NumberTaken Reserved BadOneof BadMap"),
-    (84, "BadPacked BadEnum KindMismatch BadRange"),
-    (89, "ClosedEnum"),
-];
 
 impl fmt::Display for Error {
     fn fmt(&self, f: &mut fmt::Formatter<'_>) -> fmt::Result {
@@ -94,6 +97,10 @@ impl fmt::Display for Error {
             Error::Set { file, cause } => write!(f, "set file {file} cause {cause}"),
             Error::Source { file, byte, cause } => write!(f, "source {file} byte {byte} cause {cause}"),
             Error::Link { file, name, cause } => write!(f, "link {} at {} cause {cause}", dash(file), dash(name)),
+            Error::Json { path, cause } => {
+                let numbers: Vec<String> = path.iter().map(u32::to_string).collect();
+                write!(f, "json path {} cause {cause}", dash(&numbers.join(".")))
+            }
             Error::Change { cause } => write!(f, "change cause {cause}"),
             Error::BadValue => f.write_str("the value is out of range"),
             Error::BadLimits => f.write_str("a limit is above the greatest"),

@@ -18,6 +18,7 @@
 //! A [`Pool`] and a [`MessageType`] may go to another thread, and a clone of them is cheap; a [`Message`] stays on its thread.
 mod calls;
 mod change;
+mod compat;
 mod error;
 mod frames;
 mod message;
@@ -30,9 +31,10 @@ mod told;
 mod value;
 
 pub use change::PartMut;
+pub use compat::{Difference, Severity};
 pub use error::{Cause, Error, Step, StreamError};
 pub use frames::{Frame, Frames};
-pub use message::Message;
+pub use message::{JsonForm, Message};
 pub use message_type::{raw_check, raw_short, Field, Limits, MessageType, Shape};
 pub use part::{Key, Part};
 pub use pool::Pool;

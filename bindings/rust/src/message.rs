@@ -1,10 +1,19 @@
 //! Messages that the library holds.
 use crate::message_type::text;
 use crate::structs::MessageHandle;
-use crate::told::{written_alone, Told};
-use crate::{calls, Error, MessageType};
+use crate::told::{judged, written_alone, Told};
+use crate::{calls, Cause, Error, Limits, MessageType};
 use std::cell::UnsafeCell;
 use std::{fmt, ptr};
+
+/// How JSON is written. The default: field names in lowerCamelCase, on one line.
+#[derive(Clone, Copy, Debug, Default, PartialEq, Eq)]
+pub struct JsonForm {
+    /// Field names as declared.
+    pub declared_names: bool,
+    /// A line for each member and element.
+    pub indented: bool,
+}
 
 /// A message, and its type. It prints as its listing.
 ///
@@ -50,7 +59,75 @@ impl Message {
     pub fn listing(&self) -> Result<String, Error> {
         Ok(text(written_alone(|out, room, size| unsafe { calls::mb_message_show(self.handle(), out, room, size) })?))
     }
+
+    /// The listing with each float as the shortest decimal that reads back to the same bits, or `nan`, `inf` or `-inf`.
+    pub fn listing_decimal(&self) -> Result<String, Error> {
+        Ok(text(written_alone(|out, room, size| unsafe { calls::mb_message_show_decimal(self.handle(), out, room, size) })?))
+    }
+
+    /// Decodes bytes onto the message, within the limits of its type: then it is what its canonical bytes followed by these decode to. Where they are
+    /// refused the message is as it was.
+    pub fn merge(&mut self, bytes: &[u8]) -> Result<(), Error> {
+        let Limits { max_bytes, max_depth } = self.message_type.limits;
+        judged(|fault, path, steps| unsafe {
+            calls::mb_message_merge(self.handle(), bytes.as_ptr(), bytes.len(), max_bytes, max_depth, fault, path, steps)
+        })
+    }
+
+    /// A copy, or an error where memory runs out or the message has more than 2^31 - 1 canonical bytes.
+    pub fn try_clone(&self) -> Result<Message, Error> {
+        let other = Message::none(&self.message_type);
+        Told::new().judge(unsafe { calls::mb_message_copy(self.handle(), other.handle()) })?;
+        Ok(other)
+    }
+
+    /// Whether both messages are of the same type, by pools that hold the same, and have the same contents, or an error as [`Message::try_clone`]
+    /// has it. Floats are compared by their bits.
+    pub fn try_eq(&self, other: &Message) -> Result<bool, Error> {
+        if ptr::eq(self, other) {
+            return Ok(true);
+        }
+        let mut equal = 0;
+        Told::new().judge(unsafe { calls::mb_message_equal(self.handle(), other.handle(), &mut equal) })?;
+        Ok(equal == 1)
+    }
+
+    /// The message as JSON (ProtoJSON). Refused where a part has no JSON form, as a Timestamp out of its range.
+    pub fn to_json(&self, form: JsonForm) -> Result<String, Error> {
+        let (mut out, mut size, mut path, mut steps) = (vec![0; 4096], 0, [0; calls::MAX_STEPS], 0);
+        loop {
+            let answer = unsafe {
+                let (at, room, path_at) = (out.as_mut_ptr(), out.len(), path.as_mut_ptr());
+                calls::mb_message_json(self.handle(), form.declared_names, form.indented, at, room, &mut size, path_at, path.len(), &mut steps)
+            };
+            if let 91..=95 = answer {
+                return Err(Error::Json { path: path[..steps.min(path.len())].to_vec(), cause: Cause(answer) });
+            }
+            Told::new().judge(answer)?;
+            let is_whole = size <= out.len();
+            out.resize(size, 0);
+            if is_whole {
+                return Ok(text(out));
+            }
+        }
+    }
 }
+
+impl Clone for Message {
+    /// Panics where [`Message::try_clone`] has an error.
+    fn clone(&self) -> Message {
+        self.try_clone().expect("there is memory for a copy")
+    }
+}
+
+impl PartialEq for Message {
+    /// Panics where [`Message::try_eq`] has an error.
+    fn eq(&self, other: &Message) -> bool {
+        self.try_eq(other).expect("there is memory for a comparison")
+    }
+}
+
+impl Eq for Message {}
 
 impl fmt::Display for Message {
     fn fmt(&self, f: &mut fmt::Formatter<'_>) -> fmt::Result {

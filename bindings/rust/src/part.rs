@@ -44,6 +44,16 @@ impl Message {
         self.whole().field(name)
     }
 
+    /// The simple name of the member that is set of a oneof, by the oneof's name, or None where none is.
+    pub fn which_oneof(&self, name: &str) -> Result<Option<String>, Error> {
+        self.whole().which_oneof(name)
+    }
+
+    /// The unknown records of the message, but not of messages in it, as their shortest encoding.
+    pub fn unknown(&self) -> Result<Vec<u8>, Error> {
+        self.whole().unknown()
+    }
+
     /// The value of a field, by its simple name, or None where it is not set.
     pub fn get(&self, name: &str) -> Result<Option<Value>, Error> {
         self.field(name)?.get()
@@ -177,6 +187,36 @@ impl<'a> Part<'a> {
     /// The fields that are set in the message that is here, by rising number, as the numbers and the places of what they hold.
     pub fn fields(&self) -> Result<impl Iterator<Item = (u32, Part<'a>)> + '_, Error> {
         Ok(self.numbers()?.into_iter().map(|number| (number, self.number(number))))
+    }
+
+    /// The simple name of the member that is set of a oneof of the message that is here, by the oneof's name, or None where none is.
+    pub fn which_oneof(&self, name: &str) -> Result<Option<String>, Error> {
+        let message_type = self.message_type()?;
+        let Some(index) = message_type.oneof_index(name)? else { return Err(Error::NoField) };
+        let Some(number) = self.oneof_member(index)? else { return Ok(None) };
+        Ok(message_type.fields()?.into_iter().find(|declared| declared.field.number == number).map(|declared| declared.name))
+    }
+
+    /// The number of the member that is set of the oneof at an index of the type of the message that is here, or None where none is.
+    pub fn oneof_member(&self, index: u32) -> Result<Option<u32>, Error> {
+        let mut number = 0;
+        let found = self.call(|place, steps, keys, count| unsafe {
+            calls::mb_message_oneof(self.message.handle(), place, steps, keys, count, index, &mut number)
+        });
+        match found {
+            Ok(()) => Ok(Some(number)),
+            Err(ABSENT) => Ok(None),
+            Err(error) => Err(error),
+        }
+    }
+
+    /// The unknown records of the message that is here, but not of messages in it, as their shortest encoding.
+    pub fn unknown(&self) -> Result<Vec<u8>, Error> {
+        let keys: Vec<Bytes> = self.keys.iter().map(|key| Bytes { at: key.as_ptr(), len: key.len() }).collect();
+        let (place, steps) = (self.steps.as_ptr(), self.steps.len());
+        written_alone(|out, room, size| unsafe {
+            calls::mb_message_unknown(self.message.handle(), place, steps, keys.as_ptr(), keys.len(), out, room, size)
+        })
     }
 
     /// The entries of the map that is here, by rising keys: each key, and the place of its value.

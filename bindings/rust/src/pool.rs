@@ -1,5 +1,5 @@
 //! Pools of types.
-use crate::structs::{Bytes, Handle};
+use crate::structs::{Bytes, Handle, Refusal};
 use crate::told::{linked, Told};
 use crate::{calls, Error, Limits, MessageType};
 use std::cell::{Cell, UnsafeCell};
@@ -17,6 +17,9 @@ pub struct Pool {
     handle: UnsafeCell<Handle>,
     left_out: usize,
 }
+
+/// The calls that link sources.
+type Compiles = unsafe extern "C" fn(*const Bytes, usize, *const Bytes, usize, *mut Handle, &mut Refusal, *mut u8, usize) -> u32;
 
 // SAFETY: what handles share is counted and never changed, so they may be on different threads. By UnsafeCell a pool is not Sync.
 unsafe impl Send for Pool {}
@@ -60,6 +63,16 @@ impl Pool {
 
     /// Links sources of proto3, each by its name, as imports name it, and its text. What they import has to be among them.
     pub fn of_sources<N: AsRef<str>, T: AsRef<[u8]>>(sources: impl IntoIterator<Item = (N, T)>) -> Result<Pool, Error> {
+        Pool::compile(calls::mb_pool_compile, sources)
+    }
+
+    /// As [`Pool::of_sources`], of sources of all of proto3: what declares no message, enum or service is read and left out, as parts of an option's
+    /// name in parentheses, constants in braces, blocks of `extend` and ranges of extensions.
+    pub fn of_sources_lenient<N: AsRef<str>, T: AsRef<[u8]>>(sources: impl IntoIterator<Item = (N, T)>) -> Result<Pool, Error> {
+        Pool::compile(calls::mb_pool_compile_lenient, sources)
+    }
+
+    fn compile<N: AsRef<str>, T: AsRef<[u8]>>(call: Compiles, sources: impl IntoIterator<Item = (N, T)>) -> Result<Pool, Error> {
         let (pool, sources) = (Pool::empty(), sources.into_iter().collect::<Vec<_>>());
         let listed = |bytes: &[u8]| Bytes { at: bytes.as_ptr(), len: bytes.len() };
         let names: Vec<&str> = sources.iter().map(|(name, _)| name.as_ref()).collect();
@@ -67,7 +80,7 @@ impl Pool {
         let text_bytes: Vec<Bytes> = sources.iter().map(|(_, text)| listed(text.as_ref())).collect();
         linked(&names, |_, _, _, refusal, text, room| unsafe {
             let (names, texts) = (name_bytes.as_ptr(), text_bytes.as_ptr());
-            calls::mb_pool_compile(names, name_bytes.len(), texts, text_bytes.len(), pool.handle(), refusal, text, room)
+            call(names, name_bytes.len(), texts, text_bytes.len(), pool.handle(), refusal, text, room)
         })?;
         Ok(pool)
     }

@@ -87,7 +87,7 @@ impl Pool {
     }
 
     /// The full name of the message type of a number, and what it is.
-    fn reported_type(&self, number: u32) -> Result<(String, TypeReport), Error> {
+    pub(crate) fn reported_type(&self, number: u32) -> Result<(String, TypeReport), Error> {
         let mut report = TypeReport::default();
         let name = written_alone(|out, room, size| unsafe { calls::mb_pool_message(self.handle(), number, &mut report, out, room, size) })?;
         Ok((text(name), report))
@@ -134,6 +134,16 @@ impl MessageType {
     /// The full name.
     pub fn name(&self) -> Result<String, Error> {
         Ok(self.pool.reported_type(self.number)?.0)
+    }
+
+    /// The index of the oneof of a name, if the type has it.
+    pub(crate) fn oneof_index(&self, name: &str) -> Result<Option<u32>, Error> {
+        for index in 0..self.pool.reported_type(self.number)?.1.oneofs {
+            if self.pool.oneof(self.number, index)? == name {
+                return Ok(Some(index as u32));
+            }
+        }
+        Ok(None)
     }
 
     /// The fields, in the order of their declarations.

@@ -78,6 +78,15 @@ pub struct File {
 }
 
 #[repr(C)]
+#[derive(Clone, Copy, Debug, Default, PartialEq, Eq)]
+pub struct Difference {
+    pub old_type: usize,
+    pub new_type: usize,
+    pub number: u32,
+    pub severity: u32,
+}
+
+#[repr(C)]
 pub struct MessageHandle {
     pub at: *mut u8,
     pub full: bool,

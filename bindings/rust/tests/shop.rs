@@ -1,5 +1,5 @@
 //! The order of the shop: its bytes, listing and types are those of examples/, and the records written here are made by hand.
-use mabristu::{raw_check, raw_short, Error, Limits, MessageType, Pool, Shape, Step, StreamError};
+use mabristu::{raw_check, raw_short, Error, JsonForm, Limits, MessageType, Pool, Shape, Step, StreamError};
 use std::{fs, thread};
 
 fn example(name: &str) -> Vec<u8> {
@@ -22,6 +22,23 @@ fn lists_as_pbtool_does() {
     assert_eq!(order.listing(&bytes).unwrap(), listing);
     assert_eq!(order.decode(&bytes).unwrap().to_string(), listing);
     assert_eq!(format!("{:?}", order.decode(&bytes).unwrap()), listing);
+}
+
+#[test]
+fn writes_json() {
+    // The fields are those that protoc --decode prints of the order.
+    let message = order().decode(&example("shop_order.bin")).unwrap();
+    let line = message.to_json(JsonForm::default()).unwrap();
+    assert!(line.starts_with(r#"{"number":"4711","placedOn":"2024-05-17","lines":[{"article":"bolt M8","#));
+    let form = JsonForm { declared_names: true, indented: true };
+    assert!(message.to_json(form).unwrap().starts_with("{\n  \"number\": \"4711\",\n  \"placed_on\": \"2024-05-17\",\n"));
+    // A Timestamp of 2^40 seconds is after the year 9999.
+    let stamp = r#"syntax = "proto3"; package google.protobuf; message Timestamp { int64 seconds = 1; int32 nanos = 2; }"#;
+    let event = r#"syntax = "proto3"; import "t.proto"; message Event { google.protobuf.Timestamp at = 3; }"#;
+    let pool = Pool::of_sources([("t.proto", stamp), ("e.proto", event)]).unwrap();
+    let found = pool.message_type("Event").unwrap().decode(b"\x1a\x07\x08\x80\x80\x80\x80\x80\x20").unwrap();
+    let error = found.to_json(JsonForm::default()).unwrap_err();
+    assert_eq!(error.to_string(), "json path 3 cause OutOfRange");
 }
 
 #[test]

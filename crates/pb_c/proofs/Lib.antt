@@ -42,5 +42,7 @@ pub mod PlaceAnswers
 pub mod FoundTelling
 -- for `mb_canon`: bytes that are the canonical bytes of their message
 pub mod Copied
+-- canonical bytes of copies, and of messages that are compared
+pub mod Copies
 -- what is answered of a change
 pub mod ChangeAnswers

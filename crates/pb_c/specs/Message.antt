@@ -2,3 +2,6 @@
 pub mod Seal
 pub mod Places
 pub mod Changes
+pub mod Pairs
+pub mod Listed
+pub mod JsonAnswers

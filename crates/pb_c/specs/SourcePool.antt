@@ -4,7 +4,8 @@ use Rattle.std.specs.Borrow.{Bor}
 use Rattle.std.specs.List.{AllByRecursion}
 use Rattle.pb_schema.specs.Types.{Types}
 use Rattle.pb_decl.specs.Decls.{DeclaredFile}
-use Rattle.pb_source.specs.Source.{IsSource, HasFault}
+use Rattle.pb_tokens.specs.declared.grammar.Grammar.{Grammar}
+use Rattle.pb_source.specs.Source.{IsSourceIn, HasFaultIn}
 use Rattle.pb_tokens.specs.declared.fault.SourceCause.{SourceCause}
 use Rattle.pb_link.specs.Linking.{Links}
 use Rattle.pb_rules.specs.Faults.{LinkFault}
@@ -23,34 +24,36 @@ AreNames names = AllByRecursion (λ name. IsUtf8 name.now) names
 abbrev pub AreNamed : List Bytes → List Bytes → Type 0
 AreNamed names texts = (length names ≡ length texts) × AreNames names
 
--- the texts are sources that declare these files, each by its name
-abbrev pub AreSources : List Bytes → List Bytes → List DeclaredFile → Type 0
-AreSources [] [] [] = ⊤
-AreSources [] [] (d ∷ ds) = ⊥
-AreSources [] (text ∷ texts) ds = ⊥
-AreSources (name ∷ names) [] ds = ⊥
-AreSources (name ∷ names) (text ∷ texts) [] = ⊥
-AreSources (name ∷ names) (text ∷ texts) (d ∷ ds) = IsSource name.now text.now d × AreSources names texts ds
+-- the sources are read by a grammar: the strict one, or that of all of proto3
+module _ (grammar : Grammar) where
+  -- the texts are sources that declare these files, each by its name
+  abbrev pub AreSources : List Bytes → List Bytes → List DeclaredFile → Type 0
+  AreSources [] [] [] = ⊤
+  AreSources [] [] (d ∷ ds) = ⊥
+  AreSources [] (text ∷ texts) ds = ⊥
+  AreSources (name ∷ names) [] ds = ⊥
+  AreSources (name ∷ names) (text ∷ texts) [] = ⊥
+  AreSources (name ∷ names) (text ∷ texts) (d ∷ ds) = IsSourceIn grammar name.now text.now d × AreSources names texts ds
 
--- the text of this index is no source and has this fault, and those before it are sources
-abbrev pub SourceFails : List Bytes → List Bytes → ℕ → ℕ → SourceCause → Type 0
-SourceFails [] texts i byte c = ⊥
-SourceFails (name ∷ names) [] i byte c = ⊥
-SourceFails (name ∷ names) (text ∷ texts) zero byte c = HasFault text.now byte c
-SourceFails (name ∷ names) (text ∷ texts) (suc i) byte c = ((d : DeclaredFile) × IsSource name.now text.now d) × SourceFails names texts i byte c
+  -- the text of this index is no source and has this fault, and those before it are sources
+  abbrev pub SourceFails : List Bytes → List Bytes → ℕ → ℕ → SourceCause → Type 0
+  SourceFails [] texts i byte c = ⊥
+  SourceFails (name ∷ names) [] i byte c = ⊥
+  SourceFails (name ∷ names) (text ∷ texts) zero byte c = HasFaultIn grammar text.now byte c
+  SourceFails (name ∷ names) (text ∷ texts) (suc i) byte c = ((d : DeclaredFile) × IsSourceIn grammar name.now text.now d) × SourceFails names texts i byte c
 
--- the texts are sources, and their files link to these types
-pub record SourcesMake (names texts : List Bytes) (ts : Types) : Type 0 where
-  pub files : List DeclaredFile
-  pub are_sources : AreSources names texts files
-  pub links : Links files ts
+  -- the texts are sources, and their files link to these types
+  pub record SourcesMake (names texts : List Bytes) (ts : Types) : Type 0 where
+    pub files : List DeclaredFile
+    pub are_sources : AreSources names texts files
+    pub links : Links files ts
 
--- a text is no source, or all are and their files do not link
-abbrev pub SourcesFail : List Bytes → List Bytes → PoolFault → Type 0
-SourcesFail names texts (PoolFault.in_bytes f) = ⊥
-SourcesFail names texts (PoolFault.in_file i c) = ⊥
-SourcesFail names texts (PoolFault.in_source i byte c) = SourceFails names texts i byte c
-SourcesFail names texts (PoolFault.in_link file name c) = (files : List DeclaredFile) × AreSources names texts files × LinkFault files file name c
+  -- a text is no source, or all are and their files do not link
+  abbrev pub SourcesFail : List Bytes → List Bytes → PoolFault → Type 0
+  SourcesFail names texts (PoolFault.in_bytes f) = ⊥
+  SourcesFail names texts (PoolFault.in_file i c) = ⊥
+  SourcesFail names texts (PoolFault.in_source i byte c) = SourceFails names texts i byte c
+  SourcesFail names texts (PoolFault.in_link file name c) = (files : List DeclaredFile) × AreSources names texts files × LinkFault files file name c
 
 -- a source is at fault, of whose index, byte and cause a fact holds, or memory ran out
 abbrev pub IsUnparsed : (ℕ → ℕ → SourceCause → Type 0) → Unparsed → Type 0

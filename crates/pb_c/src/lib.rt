@@ -1,6 +1,8 @@
 //! The calls of the library for C, as `include/mabristu.h` declares them. A call judges its arguments itself, and answers by a number.
 #![tactic(auto)]
 
+mod cause_name;
+mod compat;
 mod handle;
 mod message;
 mod pool;
@@ -9,6 +11,8 @@ mod schema;
 mod told;
 mod typed;
 
+pub use cause_name::mb_cause_name;
+pub use compat::{DifferenceReport, mb_compat};
 pub use handle::PoolHandle;
 pub use handle::seal::Seal;
 pub use handle::shared::Shared;
@@ -16,19 +20,26 @@ pub use message::change::{
     mb_message_clear, mb_message_drop_unknown, mb_message_insert, mb_message_push,
     mb_message_remove, mb_message_set,
 };
+pub use message::copy::mb_message_copy;
 pub use message::decode::mb_message_decode;
 pub use message::encode::{mb_message_encode, mb_message_encoded_length};
+pub use message::equal::mb_message_equal;
 pub use message::fields::mb_message_fields;
 pub use message::free::mb_message_free;
 pub use message::get::mb_message_get;
 pub use message::handle::MessageHandle;
+pub use message::json::mb_message_json;
 pub use message::key::mb_message_key;
 pub use message::make::mb_message_new;
+pub use message::merge::mb_message_merge;
+pub use message::oneof::mb_message_oneof;
 pub use message::own::OwnMessage;
 pub use message::read::mb_message_read;
 pub use message::seal::MessageSeal;
 pub use message::show::mb_message_show;
-pub use pool::compile::mb_pool_compile;
+pub use message::show_decimal::mb_message_show_decimal;
+pub use message::unknown::mb_message_unknown;
+pub use pool::compile::{mb_pool_compile, mb_pool_compile_lenient};
 pub use pool::field::{FieldReport, mb_pool_field};
 pub use pool::free::mb_pool_free;
 pub use pool::link::mb_pool_link;

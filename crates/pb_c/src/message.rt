@@ -1,16 +1,23 @@
 //! Messages that stay with the library, each behind a handle of its own.
 
 pub(crate) mod change;
+pub(crate) mod copy;
 pub(crate) mod decode;
 pub(crate) mod encode;
+pub(crate) mod equal;
 pub(crate) mod fields;
 pub(crate) mod free;
 pub(crate) mod get;
 pub(crate) mod handle;
+pub(crate) mod json;
 pub(crate) mod key;
 pub(crate) mod make;
+pub(crate) mod merge;
 pub(crate) mod miss;
+pub(crate) mod oneof;
 pub(crate) mod own;
 pub(crate) mod read;
 pub(crate) mod seal;
 pub(crate) mod show;
+pub(crate) mod show_decimal;
+pub(crate) mod unknown;

@@ -37,7 +37,7 @@ pub const FAULT: u32 = 13;
 pub const MEMORY: u32 = 14;
 
 /// Which calls the library has: the number of the header.
-const INTERFACE: u32 = 3;
+const INTERFACE: u32 = 4;
 
 /// A fault of bytes, but for its path.
 #[repr(C)]

@@ -72,7 +72,7 @@ pub(crate) fn read_message<'p>(
 }
 
 /// Reports the fault of an error, if it has one, and answers the error's number.
-fn tell_error(error: &DecodeError, fault: &mut FaultReport, path: &mut [Step]) -> u32
+pub(crate) fn tell_error(error: &DecodeError, fault: &mut FaultReport, path: &mut [Step]) -> u32
     ensures told { ByFault error.now (λ f. (result ≡ FAULT) × Tells f fault.new path.old path.new) (result ≡ MEMORY) }
     ensures untold { result ≢ FAULT → (fault.new ≡ fault.old) × (path.new ≡ path.old) }
     ensures answers { (result ≡ FAULT) ⊎ (result ≡ MEMORY) }

@@ -11,10 +11,9 @@ ghost use Rattle.pb_c_changes.specs.Values.{value_said};
 ghost use Rattle.pb_c_changes.specs.Ends.{Ends, FieldEnds, OrElse, Says, entry_place, put_ends, ends_at, ends, IsEnded, IsFor};
 ghost use Rattle.pb_c_changes.specs.declared.unchanged.Unchanged.TheVariants.{BadPlace, BadValue, Refused};
 
-use crate::place::place_of;
 use crate::unchanged::Unchanged;
 use crate::value::value_of;
-use pb_c_values::{Miss, PlainValue};
+use pb_c_values::{Miss, PlainValue, place_of};
 use pb_place::{
     ChangeError, PlaceStep, clear_at, drop_unknown_at, insert_at, push_at, remove_at, set_at,
 };

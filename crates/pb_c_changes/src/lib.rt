@@ -2,7 +2,6 @@
 #![tactic(auto)]
 
 mod changing;
-mod place;
 mod unchanged;
 mod value;
 

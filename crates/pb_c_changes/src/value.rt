@@ -8,8 +8,9 @@ ghost use Rattle.pb_value.specs.View.{key_view, value_view};
 ghost use Rattle.pb_c_values.specs.Answers.{IsUnsaid};
 ghost use Rattle.pb_c_changes.specs.Values.{value_said};
 
-use crate::place::{int32_said, key_of, uint32_said};
-use pb_c_values::{BYTES, DOUBLE, ENUM, FLOAT, MESSAGE, Miss, PlainValue};
+use pb_c_values::{
+    BYTES, DOUBLE, ENUM, FLOAT, MESSAGE, Miss, PlainValue, int32_said, key_of, uint32_said,
+};
 use pb_value::parts::empty_body;
 use pb_value::{MapKey, Value};
 use std::alloc::Global;

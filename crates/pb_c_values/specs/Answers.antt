@@ -1,8 +1,11 @@
 -- What is answered of a place that C says.
 use Rattle.std.specs.Prelude.{◌≡◌, ⊤, ℕ, List, map, Option, Some, None, option_and_then}
 use Rattle.pb_schema.specs.Scalar.{int32, int64, uint32, uint64, boolean, float, double, enum, text, bytes}
-use Rattle.pb_value.specs.Data.{Datum, scalar, message, fields_of}
+use Rattle.pb_wire.specs.Spell.{shortest_records}
+use Rattle.pb_schema.specs.Types.{message_fields}
+use Rattle.pb_value.specs.Data.{Datum, scalar, message, fields_of, unknown_of}
 use Rattle.pb_value.specs.Dynamic.{Dynamic}
+use Rattle.pb_value.specs.Oneof.{member_set}
 use Rattle.pb_place.specs.At.{Seen, whole, single, elements, pairs, at}
 use Rattle.pb_place.specs.Ask.{numbers_of}
 use Rattle.pb_place.specs.declared.step.PlaceStep.{PlaceStep}
@@ -61,3 +64,17 @@ numbers_in (whole v) = Some (numbers_of (fields_of v.body))
 numbers_in (single d) = None
 numbers_in (elements ds) = None
 numbers_in (pairs es) = None
+
+-- the number of the member of a oneof that is set in a message
+abbrev pub member_in : ℕ → Seen → Option ℕ
+member_in o (whole v) = member_set (message_fields v.pool v.kind) o (fields_of v.body)
+member_in o (single d) = None
+member_in o (elements ds) = None
+member_in o (pairs es) = None
+
+-- the unknown records of a message, in their order, as they are written (encoding guide, "Message Structure")
+abbrev pub unknown_in : Seen → Option (List ℕ)
+unknown_in (whole v) = Some (shortest_records (unknown_of v.body))
+unknown_in (single d) = None
+unknown_in (elements ds) = None
+unknown_in (pairs es) = None

@@ -1,16 +1,20 @@
 //! What a message has at a place that C says.
 
 ghost use Rattle.std.specs.Prelude.{◌≡◌, ℕ, List, None, Some, length, option_map, IsErr, MatchResult};
+ghost use Rattle.pb_wire.specs.Spell.{shortest_records};
+ghost use Rattle.pb_wire.specs.Unknown.{records_of};
 ghost use Rattle.pb_place.specs.Ask.{key_in, laid_over};
 ghost use Rattle.pb_place.specs.Found.{found_view};
 ghost use Rattle.pb_value.specs.View.{key_view, value_view};
-ghost use Rattle.pb_c_values.specs.Answers.{Answers, IsAt, IsMissed, bytes_in, numbers_in, plain_in, datum_bytes};
+ghost use Rattle.pb_c_values.specs.declared.miss.Miss.TheVariants.{Memory};
+ghost use Rattle.pb_c_values.specs.Answers.{Answers, IsAt, IsMissed, bytes_in, member_in, numbers_in, plain_in, unknown_in, datum_bytes};
 
 use crate::miss::Miss;
 use crate::place::place_of;
 use crate::value::{PlainValue, plain_found};
-use pb_place::{Found, at, key_at as key_of, numbers_at};
+use pb_place::{Found, at, key_at as key_of, numbers_at, unknown_at as records_at, which_oneof_at};
 use pb_value::{MapKey, MessageRef, Value};
+use pb_wire::{Unknown, can_write, write_raw};
 use std::alloc::Global;
 
 /// What a message has at a place.
@@ -116,6 +120,55 @@ pub fn fields_at(
     let steps = place_of(alloc, place, keys)?;
     match numbers_at(message, &steps, buffer) {
         Some(count) => Ok(count),
+        None => Err(Miss::Absent),
+    }
+}
+
+/// The number of the member of a oneof that is set in the message at a place. The oneof is named by its index in the message's type.
+pub fn oneof_at(
+    alloc: Global,
+    message: MessageRef<'_>,
+    place: &[PlainValue],
+    keys: &[&[u8]],
+    oneof: u32,
+) -> Result<u32, Miss>
+    ensures { MatchResult result (λ n. Answers (member_in oneof) keys.now place.now message.entry (Some n))
+        (IsMissed (Answers (member_in oneof) keys.now place.now message.entry None) keys.now place.now) }
+{
+    let steps = place_of(alloc, place, keys)?;
+    match which_oneof_at(message, &steps, oneof) {
+        Some(number) => Ok(number),
+        None => Err(Miss::Absent),
+    }
+}
+
+/// The shortest encoding of unknown records, or out of memory, as which a payload that is too long to be written counts.
+fn shortest_of(alloc: Global, records: &[(u32, Unknown)]) -> Result<Vec<u8>, Miss>
+    ensures { MatchResult result (λ b. b.items ≡ shortest_records (records_of records.now)) (λ e. e ≡ Memory) }
+{
+    if !can_write(records) {
+        return Err(Miss::Memory);
+    }
+    match write_raw(alloc, records) {
+        Ok(bytes) => Ok(bytes),
+        Err(_) => Err(Miss::Memory),
+    }
+}
+
+/// The unknown records of the message at a place, as their shortest encoding. A record with a payload of more than 2^31 - 1 bytes, which no
+/// decoded message has, counts as out of memory.
+pub fn unknown_at(
+    alloc: Global,
+    message: MessageRef<'_>,
+    place: &[PlainValue],
+    keys: &[&[u8]],
+) -> Result<Vec<u8>, Miss>
+    ensures { MatchResult result (λ b. Answers unknown_in keys.now place.now message.entry (Some b.items))
+        (IsMissed (Answers unknown_in keys.now place.now message.entry None) keys.now place.now) }
+{
+    let steps = place_of(alloc, place, keys)?;
+    match records_at(message, &steps) {
+        Some(records) => shortest_of(alloc, records),
         None => Err(Miss::Absent),
     }
 }

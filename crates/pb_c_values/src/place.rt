@@ -1,4 +1,4 @@
-//! Places as C says them.
+//! Places, keys and numbers as C says them.
 
 ghost use Rattle.std.specs.Prelude.{◌≡◌, ◌<◌, ◌*◌, None, Some, map, option_map, MatchResult};
 ghost use Rattle.std.specs.Int.{cast_signed};
@@ -15,7 +15,8 @@ use pb_schema::scalars::low_half;
 use pb_value::MapKey;
 use std::alloc::Global;
 
-fn int32_said(number: u64) -> Option<i32>
+/// The 32 bits of a number that C says as the 64 bits of an integer with its sign.
+pub fn int32_said(number: u64) -> Option<i32>
     ensures { result ≡ int32_said number }
 {
     let signed = low_half(number).cast_signed();
@@ -26,7 +27,8 @@ fn int32_said(number: u64) -> Option<i32>
     }
 }
 
-fn uint32_said(number: u64) -> Option<u32>
+/// The number, where 32 bits hold it.
+pub fn uint32_said(number: u64) -> Option<u32>
     ensures { result ≡ uint32_said number }
 {
     if number < 0x1_0000_0000 {
@@ -98,8 +100,8 @@ fn text_key(alloc: Global, number: u64, keys: &[&[u8]]) -> Result<MapKey, Miss>
     Ok(MapKey::Text(text))
 }
 
-/// The key of a kind.
-fn key_of(alloc: Global, kind: u32, number: u64, keys: &[&[u8]]) -> Result<MapKey, Miss>
+/// The key that a kind and a number say. A string is the one of that index among those that are given, and has to be UTF-8.
+pub fn key_of(alloc: Global, kind: u32, number: u64, keys: &[&[u8]]) -> Result<MapKey, Miss>
     ensures { MatchResult result (λ k. key_said keys.now kind number ≡ Some (key_view k)) (IsUnsaid (key_said keys.now kind number ≡ None)) }
 {
     if kind == STRING {
@@ -130,11 +132,7 @@ fn step_of(alloc: Global, step: PlainValue, keys: &[&[u8]]) -> Result<PlaceStep,
 }
 
 /// The steps of a place.
-pub(crate) fn place_of(
-    alloc: Global,
-    place: &[PlainValue],
-    keys: &[&[u8]],
-) -> Result<Vec<PlaceStep>, Miss>
+pub fn place_of(alloc: Global, place: &[PlainValue], keys: &[&[u8]]) -> Result<Vec<PlaceStep>, Miss>
     ensures { MatchResult result (λ p. places keys.now place.now ≡ Some (map step_view p.items)) (IsUnsaid (places keys.now place.now ≡ None)) }
 {
     let mut steps = Vec::new(alloc);

@@ -1,7 +1,10 @@
 //! What is asked of places that C says.
 
 use super::schema::Schema;
-use pb_c_values::{Miss, PlainValue, bytes_at, fields_at, key_at, key_bytes, key_value, value_at};
+use pb_c_values::{
+    Miss, PlainValue, bytes_at, fields_at, key_at, key_bytes, key_value, oneof_at, unknown_at,
+    value_at,
+};
 use pb_samples::body_of;
 use pb_value::DynamicMessage;
 use std::alloc::Global;
@@ -73,7 +76,31 @@ const OTHERS: &str = "
 1:i5 | fields 1 99.1 | bad
 ";
 
-pub(crate) const TABLES: &[&str] = &[VALUES, OTHERS];
+/// Bytes are in hexadecimal.
+const MEMBERS_AND_UNKNOWN: &str = "
+7:u8 | oneof 0 | 7
+8:m1=i5 | oneof 0 | 8
+1:i5 | oneof 0 | absent
+7:u8 | oneof 1 | absent
+7:u8 | oneof 4294967295 | absent
+3:m7=u4 | oneof 0 21.3 | 7
+3:m7=u4 | oneof 0 | absent
+7:u8 20:m1=tx | oneof 0 21.20 | absent
+1:i5 | oneof 0 21.1 | absent
+1:i5 | oneof 0 99.1 | bad
+99~v300 | unknown 0 | 9806ac02
+1:i5 | unknown 0 |
+1:i5 99~v7 99~x00ff | unknown 0 | 9806079a060200ff
+99~w1 99~d2 | unknown 0 | 9d060100000099060200000000000000
+50~a5 99~v7 | unknown 0 | 930328059403980607
+1:i5 99~v7 3:m1=i5 | unknown 0 21.3 |
+1:i5 99~v7 | unknown 0 21.1 | absent
+6:[i4] 99~v7 | unknown 0 21.6 | absent
+1:i5 99~v7 | unknown 0 21.4 | absent
+1:i5 99~v7 | unknown 0 99.1 | bad
+";
+
+pub(crate) const TABLES: &[&str] = &[VALUES, OTHERS, MEMBERS_AND_UNKNOWN];
 
 const KEYS: &[&[u8]] = &[b"a", b"k", b"\xff"];
 
@@ -158,6 +185,14 @@ fn is_answered(
             Err(miss) => is_miss(miss, said),
         },
         "fields" => are_written(alloc, message, place, number, said),
+        "oneof" => match oneof_at(alloc, message.view(), place, KEYS, number as u32) {
+            Ok(member) => are_numbers(&[member], said),
+            Err(miss) => is_miss(miss, said),
+        },
+        "unknown" => match unknown_at(alloc, message.view(), place, KEYS) {
+            Ok(bytes) => Ok(bytes.as_slice() == hex::decode(alloc, said)?.as_slice()),
+            Err(miss) => is_miss(miss, said),
+        },
         _ => Err(Fail::new("no such question")),
     }
 }

@@ -4,6 +4,8 @@ pub mod OneofLemmas
 pub mod Lists
 -- pairs of types, each once, and how each is reached
 pub mod WalkLemmas
+-- the pairs where a walk begins
+pub mod BeginLemmas
 -- numbers that lead on are numbers of fields
 pub mod NumberLemmas
 -- the pairs that are compared, one after another
@@ -38,3 +40,7 @@ pub mod LostLemmas
 pub mod Rows
 -- worked cases of messages that agree
 pub mod MessageRows
+-- full names are in UTF-8
+pub mod NameLemmas
+-- types of the same full name, in order
+pub mod NamesakeLemmas

@@ -32,7 +32,7 @@ follow_all old new i p ns a b at rising f = record {
   more = f.more;
   added_steps = f.added_steps;
   more_steps = f.more_steps;
-  walk = λ start w. f.walk start w at;
+  walk = λ starts w. f.walk starts w at;
   listed = λ k q h.
       let fs = message_fields old p.0 in
       f.listed k q (Contains-permutation (map (λ g. g.number) fs) ns k rising.all (leading_number k fs (field_numbered k fs) (message_at new p.1 k) q refl h)) h;

@@ -5,3 +5,5 @@ pub mod Pairs
 pub mod Walk
 pub mod Agrees
 pub mod Words
+pub mod Namesakes
+pub mod Lines

@@ -1,5 +1,5 @@
 -- Which types are compared, and what their comparison reports.
-use Rattle.std.specs.Prelude.{◌≡◌, ◌↔◌, ◌<◌, ℕ, List, map, flat_map, Option, Some, None, option_and_then, slice_get, Contains, IsSomeAnd}
+use Rattle.std.specs.Prelude.{◌≡◌, ◌↔◌, ◌<◌, ℕ, List, length, map, flat_map, Option, Some, None, option_and_then, slice_get, Contains, IsSomeAnd}
 use Rattle.std.specs.List.{AllByRecursion}
 use Rattle.std.specs.List.Sorted.{IsPermutation, IsNonDecreasing}
 use Rattle.pb_schema.specs.Types.{FieldView, Types, message_fields, field_numbered}
@@ -31,6 +31,11 @@ pub data Reached (old new : Types) (start : ℕ × ℕ) : (ℕ × ℕ) → Type 
   begun : Reached old new start start
   further : {p q : ℕ × ℕ} (k : ℕ) → Reached old new start p → leads old new p k ≡ Some q → Reached old new start q
 
+-- the same from several: these, and where the fields of a reached pair lead
+pub data ReachedFrom (old new : Types) (starts : List (ℕ × ℕ)) : (ℕ × ℕ) → Type 0 where
+  given : {p : ℕ × ℕ} → Contains starts p → ReachedFrom old new starts p
+  onward : {p q : ℕ × ℕ} (k : ℕ) → ReachedFrom old new starts p → leads old new p k ≡ Some q → ReachedFrom old new starts q
+
 -- A COMPARISON
 
 -- the numbers of some fields, in rising order
@@ -58,4 +63,19 @@ pub record IsComparison (old new : Types) (start : ℕ × ℕ) (cs : List Compar
   pub reached : (p : ℕ × ℕ) → Contains (map types_of cs) p ↔ Reached old new start p
   pub once : AllDiffer (map types_of cs)
   pub steps : (i : ℕ) (c : ComparedTypes) → slice_get cs i ≡ Some c → IsReachedBy old new cs i c c.reached_by
+  pub differences : AllByRecursion (λ c. AreDifferences old new c.old.0 c.new.0 c.differences.items) cs
+
+-- A COMPARISON FROM SEVERAL PAIRS
+
+-- those where it began come first; each other one is reached by a field of an earlier one
+abbrev pub IsReachedIn : Types → Types → List (ℕ × ℕ) → List ComparedTypes → ℕ → ComparedTypes → Option Step → Type 0
+IsReachedIn old new starts cs i c None = (i < length starts) × Contains starts (types_of c)
+IsReachedIn old new starts cs i c (Some s) =
+    (s.from < i) × IsSomeAnd (slice_get cs s.from) (λ d. leads old new (types_of d) s.field ≡ Some (types_of c))
+
+-- all pairs that are reached from some, each once, with its differences and how it is reached
+pub record IsComparisonFrom (old new : Types) (starts : List (ℕ × ℕ)) (cs : List ComparedTypes) : Type 0 where
+  pub reached : (p : ℕ × ℕ) → Contains (map types_of cs) p ↔ ReachedFrom old new starts p
+  pub once : AllDiffer (map types_of cs)
+  pub steps : (i : ℕ) (c : ComparedTypes) → slice_get cs i ≡ Some c → IsReachedIn old new starts cs i c c.reached_by
   pub differences : AllByRecursion (λ c. AreDifferences old new c.old.0 c.new.0 c.differences.items) cs

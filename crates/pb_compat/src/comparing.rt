@@ -1,13 +1,16 @@
 //! The comparison of two types, and of all types that their fields lead to.
 
 ghost use Rattle.std.specs.Prelude.{◌≡◌, ◌<◌, Some, length, slice_get, IfOk, OnOk};
-ghost use Rattle.pb_compat.specs.Pairs.{types_of, AreDifferences, IsComparison};
-ghost use Rattle.pb_compat.specs.Walk.{pairs_of, steps_of, FollowsAll};
+ghost use Rattle.std.specs.List.{AllByRecursion};
+ghost use Rattle.pb_compat.specs.Namesakes.{namesakes as namesakes_of};
+ghost use Rattle.pb_compat.specs.Pairs.{types_of, AreDifferences, IsComparison, IsComparisonFrom};
+ghost use Rattle.pb_compat.specs.Walk.{pairs_of, steps_of, FollowsAll, IsWithin};
 ghost use Rattle.pb_compat.specs.Pairs.{AreRising};
 ghost use Rattle.pb_schema.specs.Types.{message_fields};
 
 use crate::difference::ComparedTypes;
 use crate::differences::{differences_between, rising_numbers};
+use crate::namesakes::namesakes;
 use crate::pairs::Pairs;
 use pb_schema::{MessageId, Pool};
 use std::alloc::{AllocError, Global};
@@ -50,6 +53,33 @@ fn compare_types(
     })
 }
 
+/// Compares the types of some pairs, and of all pairs that their fields lead to.
+fn compare_pairs(
+    alloc: Global,
+    old: &Pool,
+    new: &Pool,
+    starts: &[(usize, usize)],
+) -> Result<Vec<ComparedTypes>, AllocError>
+    requires { AllByRecursion (IsWithin old.now new.now) starts.now }
+    ensures { IfOk result (λ v. IsComparisonFrom old.now new.now starts.now v.items) }
+{
+    let mut pairs = Pairs::begin(alloc, starts)?;
+    let mut compared = Vec::new(alloc);
+    while let Some((from, to)) = pairs.get(compared.len()) {
+        let types = compare_types(
+            alloc,
+            old,
+            MessageId(from),
+            new,
+            MessageId(to),
+            compared.len(),
+            &mut pairs,
+        )?;
+        compared.push(types)?;
+    }
+    Ok(compared)
+}
+
 /// Compares a message type of an old pool with one of a new pool, and each pair of types that fields of the same number lead to if both
 /// hold messages. Each pair is compared once, in the order in which it was reached first; the types given are the first pair.
 ///
@@ -68,20 +98,15 @@ pub fn compare(
     requires new { new_type.0 < length new.now.messages }
     ensures { IfOk result (λ v. IsComparison old.now new.now (old_type.0, new_type.0) v.items) }
 {
-    let mut pairs = Pairs::new(alloc);
-    pairs.add((old_type.0, new_type.0), None)?;
-    let mut compared = Vec::new(alloc);
-    while let Some((from, to)) = pairs.get(compared.len()) {
-        let types = compare_types(
-            alloc,
-            old,
-            MessageId(from),
-            new,
-            MessageId(to),
-            compared.len(),
-            &mut pairs,
-        )?;
-        compared.push(types)?;
-    }
-    Ok(compared)
+    compare_pairs(alloc, old, new, &[(old_type.0, new_type.0)])
+}
+
+/// Compares each message type of an old pool with that of the new pool that has its full name, and each pair of types that fields of the same
+/// number lead to if both hold messages, as `compare` does. The types of the same names come first, in the order of the old pool. A type that
+/// the new pool lacks is in no pair by its name: `namesake` finds none.
+pub fn compare_all(alloc: Global, old: &Pool, new: &Pool) -> Result<Vec<ComparedTypes>, AllocError>
+    ensures { IfOk result (λ v. IsComparisonFrom old.now new.now (namesakes_of old.now new.now) v.items) }
+{
+    let starts = namesakes(alloc, old, new)?;
+    compare_pairs(alloc, old, new, &starts)
 }

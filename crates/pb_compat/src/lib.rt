@@ -22,12 +22,14 @@ mod difference;
 mod differences;
 mod fields;
 pub mod laws;
+mod namesakes;
 mod oneofs;
 mod pairs;
 mod report;
 mod scalars;
 
 pub use breaking::breaks_reading;
-pub use comparing::compare;
+pub use comparing::{compare, compare_all};
 pub use difference::{ComparedTypes, Difference, Severity, Step};
+pub use namesakes::namesake;
 pub use report::Report;

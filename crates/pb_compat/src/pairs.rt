@@ -1,8 +1,10 @@
 //! The pairs of types that are reached, each once.
 
-ghost use Rattle.std.specs.Prelude.{◌≡◌, ◌<◌, [], Some, length, slice_get, OnOk, IfSome};
+ghost use Rattle.std.specs.Prelude.{◌≡◌, ◌<◌, [], Some, length, slice_get, IfOk, OnOk, IfSome};
+ghost use Rattle.std.specs.List.{AllByRecursion};
+ghost use Rattle.pb_schema.specs.Types.{Types};
 ghost use Rattle.pb_compat.specs.Pairs.{leads};
-ghost use Rattle.pb_compat.specs.Walk.{pairs_of, steps_of, Adds, Follows};
+ghost use Rattle.pb_compat.specs.Walk.{pairs_of, steps_of, Adds, Follows, HasBegun, IsWithin};
 
 use crate::difference::Step;
 use indexmap::IndexSet;
@@ -44,6 +46,17 @@ impl Pairs {
             seen: IndexSet::new(alloc),
             steps: Vec::new(alloc),
         }
+    }
+
+    /// The pairs where a comparison begins, each once.
+    pub(crate) fn begin(alloc: Global, starts: &[(usize, usize)]) -> Result<Pairs, AllocError>
+        ensures { (old new : Types) → AllByRecursion (IsWithin old new) starts.now → IfOk result (HasBegun old new starts.now (length starts.now)) }
+    {
+        let mut pairs = Pairs::new(alloc);
+        for start in starts {
+            pairs.add(*start, None)?;
+        }
+        Ok(pairs)
     }
 
     /// Adds a pair where it is new.

@@ -1,6 +1,12 @@
 //! How differences are printed.
 
-ghost use Rattle.std.specs.Prelude.{◌≡◌, ◌<◌};
+ghost use Rattle.std.specs.Prelude.{◌≡◌, ◌++◌, codes, option_map};
+ghost use Rattle.std.specs.Fmt.{WritesOnOk};
+ghost use Rattle.pb_schema.specs.Kinds.{message_of_kind};
+ghost use Rattle.pb_schema.specs.Names.{enum_names, message_names, name_at};
+ghost use Rattle.pb_schema.specs.View.{field_view};
+ghost use Rattle.pb_compat.specs.Lines.{change_text, difference_text, field_at, field_text, head_text, kind_name as name_of_kind, kind_text};
+ghost use Rattle.pb_compat.specs.Lines.{kind_word as word_of_kind, names_text, oneof_word, optional_word, type_text, types_text};
 ghost use Rattle.pb_compat.specs.Words.{severity_word};
 
 use crate::difference::{ComparedTypes, Difference, Severity};
@@ -19,8 +25,12 @@ pub struct Report<'p> {
 }
 
 impl ComparedTypes {
+    ghost use Rattle.pb_compat.specs.Lines.{reported};
+
     /// A difference of these types as a line. The pools are those that were compared.
-    pub fn report<'p>(&self, old: &'p Pool, new: &'p Pool, difference: Difference) -> Report<'p> {
+    pub fn report<'p>(&self, old: &'p Pool, new: &'p Pool, difference: Difference) -> Report<'p>
+        ensures { reported result ≡ difference_text old.now new.now self.now.old.0 self.now.new.0 difference }
+    {
         Report {
             old,
             new,
@@ -32,7 +42,9 @@ impl ComparedTypes {
 }
 
 /// The field of a number in a message type, if the pool has both.
-fn field_at(pool: &Pool, message: MessageId, number: u32) -> Option<&Field> {
+fn field_of(pool: &Pool, message: MessageId, number: u32) -> Option<&Field>
+    ensures { option_map (λ f. field_view f.now) result ≡ field_at pool.now message.0 number }
+{
     if message.0 < pool.messages().len() {
         pool.field_by_number(message, number)
     } else {
@@ -40,127 +52,215 @@ fn field_at(pool: &Pool, message: MessageId, number: u32) -> Option<&Field> {
     }
 }
 
-/// Writes a name, which is in ASCII.
-fn write_name<W: fmt::Write>(f: &mut fmt::Formatter<W>, name: &[u8]) -> fmt::Result {
-    match simdutf8::basic::from_utf8(name) {
-        Ok(name) => f.write_str(name),
-        Err(_) => Ok(()),
+/// The full name of a message type, which is in ASCII; nothing if the pool does not have the type.
+pub(crate) fn message_name(pool: &Pool, message: MessageId) -> &str
+    ensures { result.now ≡ name_at (message_names pool.now) message.0 }
+{
+    if message.0 >= pool.messages().len() {
+        return "";
+    }
+    match simdutf8::basic::from_utf8(pool.message_name(message)) {
+        Ok(name) => name,
+        Err(_) => unreachable!(),
     }
 }
 
-fn write_message<W: fmt::Write>(
-    f: &mut fmt::Formatter<W>,
-    pool: &Pool,
-    message: MessageId,
-) -> fmt::Result {
-    if message.0 < pool.messages().len() {
-        write_name(f, pool.message_name(message))
-    } else {
-        Ok(())
+/// The full name of an enum.
+fn enum_name(pool: &Pool, entry: EnumId) -> &str
+    ensures { result.now ≡ name_at (enum_names pool.now) entry.0 }
+{
+    if entry.0 >= pool.enums().len() {
+        return "";
+    }
+    match simdutf8::basic::from_utf8(pool.enum_name(entry)) {
+        Ok(name) => name,
+        Err(_) => unreachable!(),
     }
 }
 
-fn write_enum<W: fmt::Write>(f: &mut fmt::Formatter<W>, pool: &Pool, entry: EnumId) -> fmt::Result {
-    if entry.0 < pool.enums().len() {
-        write_name(f, pool.enum_name(entry))
-    } else {
-        Ok(())
-    }
-}
-
-/// Writes a kind as sources name it.
-fn write_kind<W: fmt::Write>(f: &mut fmt::Formatter<W>, pool: &Pool, kind: Kind) -> fmt::Result {
+/// The word before the name of a group or a closed enum.
+fn kind_word(kind: Kind) -> &'static str
+    ensures { result.now ≡ word_of_kind kind }
+{
     match kind {
-        Kind::Double => f.write_str("double"),
-        Kind::Float => f.write_str("float"),
-        Kind::Int64 => f.write_str("int64"),
-        Kind::Uint64 => f.write_str("uint64"),
-        Kind::Int32 => f.write_str("int32"),
-        Kind::Fixed64 => f.write_str("fixed64"),
-        Kind::Fixed32 => f.write_str("fixed32"),
-        Kind::Bool => f.write_str("bool"),
-        Kind::Text => f.write_str("string"),
-        Kind::Bytes => f.write_str("bytes"),
-        Kind::Uint32 => f.write_str("uint32"),
-        Kind::Sfixed32 => f.write_str("sfixed32"),
-        Kind::Sfixed64 => f.write_str("sfixed64"),
-        Kind::Sint32 => f.write_str("sint32"),
-        Kind::Sint64 => f.write_str("sint64"),
-        Kind::Enum(entry) => write_enum(f, pool, entry),
-        Kind::ClosedEnum(entry) => {
-            f.write_str("closed ")?;
-            write_enum(f, pool, entry)
-        }
-        Kind::Message(message) => write_message(f, pool, message),
-        Kind::Group(message) => {
-            f.write_str("group ")?;
-            write_message(f, pool, message)
-        }
+        Kind::Group(_) => "group ",
+        Kind::ClosedEnum(_) => "closed ",
+        _ => "",
     }
 }
 
-/// Writes the name of a oneof of a message type.
+/// A kind as sources name it, a message, a group or an enum by its full name.
+fn kind_name(pool: &Pool, kind: Kind) -> &str
+    ensures { result.now ≡ name_of_kind pool.now kind }
+{
+    match kind {
+        Kind::Double => "double",
+        Kind::Float => "float",
+        Kind::Int64 => "int64",
+        Kind::Uint64 => "uint64",
+        Kind::Int32 => "int32",
+        Kind::Fixed64 => "fixed64",
+        Kind::Fixed32 => "fixed32",
+        Kind::Bool => "bool",
+        Kind::Text => "string",
+        Kind::Bytes => "bytes",
+        Kind::Uint32 => "uint32",
+        Kind::Sfixed32 => "sfixed32",
+        Kind::Sfixed64 => "sfixed64",
+        Kind::Sint32 => "sint32",
+        Kind::Sint64 => "sint64",
+        Kind::Enum(entry) | Kind::ClosedEnum(entry) => enum_name(pool, entry),
+        Kind::Message(message) | Kind::Group(message) => message_name(pool, message),
+    }
+}
+
+fn write_kind<W: fmt::Write>(f: &mut fmt::Formatter<W>, pool: &Pool, kind: Kind) -> fmt::Result
+    ensures { WritesOnOk W.write_str_gives f.old result (kind_text pool.now kind) f.new }
+{
+    f.write_str(kind_word(kind))?;
+    f.write_str(kind_name(pool, kind))
+}
+
+/// Writes a oneof of a message type.
 fn write_oneof<W: fmt::Write>(
     f: &mut fmt::Formatter<W>,
     pool: &Pool,
     message: MessageId,
     oneof: u32,
-) -> fmt::Result {
+) -> fmt::Result
+    ensures { WritesOnOk W.write_str_gives f.old result (oneof_word pool.now message.0 oneof) f.new }
+{
     let Some(message) = pool.messages().get(message.0) else {
         return Ok(());
     };
     let Some(name) = message.oneofs.get(oneof as usize) else {
         return Ok(());
     };
-    f.write_str("oneof ")?;
-    f.write_str(name.as_str())?;
-    f.write_str(" ")
+    write!(f, "oneof {name} ")
 }
 
-/// Writes what a field is: its kind, and before it `optional`, `repeated` or the oneof that it is in. A message needs no `optional`.
+/// The word of a field that keeps whether it is set. A message needs none.
+fn optional(kind: Kind) -> &'static str
+    ensures { result.now ≡ optional_word (message_of_kind kind) }
+{
+    match kind.message() {
+        Some(_) => "",
+        None => "optional ",
+    }
+}
+
+/// Writes what a field is: its kind, and before it `optional`, `repeated` or the oneof that it is in.
 fn write_type<W: fmt::Write>(
     f: &mut fmt::Formatter<W>,
     pool: &Pool,
     message: MessageId,
-    field: &Field,
-) -> fmt::Result {
-    match field.shape {
-        Shape::Implicit => {}
+    shape: Shape,
+    kind: Kind,
+) -> fmt::Result
+    ensures { WritesOnOk W.write_str_gives f.old result (type_text pool.now message.0 shape kind) f.new }
+{
+    match shape {
+        Shape::Implicit => write_kind(f, pool, kind),
         Shape::Explicit => {
-            if field.kind.message().is_none() {
-                f.write_str("optional ")?;
-            }
+            f.write_str(optional(kind))?;
+            write_kind(f, pool, kind)
         }
-        Shape::OneofMember(oneof) => write_oneof(f, pool, message, oneof)?,
-        Shape::List { packed: _ } => f.write_str("repeated ")?,
-        Shape::Map { key } => {
-            f.write_str("map<")?;
-            write_kind(f, pool, key)?;
-            f.write_str(", ")?;
-            write_kind(f, pool, field.kind)?;
-            return f.write_str(">");
+        Shape::OneofMember(oneof) => {
+            write_oneof(f, pool, message, oneof)?;
+            write_kind(f, pool, kind)
         }
+        Shape::List { packed: _ } => {
+            f.write_str("repeated ")?;
+            write_kind(f, pool, kind)
+        }
+        Shape::Map { key } => write_map(f, pool, key, kind),
     }
-    write_kind(f, pool, field.kind)
+}
+
+fn write_map<W: fmt::Write>(
+    f: &mut fmt::Formatter<W>,
+    pool: &Pool,
+    key: Kind,
+    kind: Kind,
+) -> fmt::Result
+    ensures { WritesOnOk W.write_str_gives f.old result (codes "map<" ++ kind_text pool.now key ++ codes ", " ++ kind_text pool.now kind ++ codes ">") f.new }
+{
+    f.write_str("map<")?;
+    write_kind(f, pool, key)?;
+    f.write_str(", ")?;
+    write_kind(f, pool, kind)?;
+    f.write_str(">")
+}
+
+/// Writes the full name of a field, its number, and what its change does.
+fn write_head<W: fmt::Write>(
+    f: &mut fmt::Formatter<W>,
+    message: &str,
+    field: &str,
+    number: u32,
+    word: &str,
+) -> fmt::Result
+    ensures { WritesOnOk W.write_str_gives f.old result (head_text message.now field.now number word.now) f.new }
+{
+    write!(f, "{message}.{field} {number} {word} ")
 }
 
 impl Report<'_> {
+    /// The field that the new type has.
+    fn new_field(&self) -> Option<&Field>
+        ensures { option_map (λ f. field_view f.now) result ≡ field_at self.now.new.now self.now.new_type.0 self.now.difference.number }
+    {
+        field_of(self.new, self.new_type, self.difference.number)
+    }
+
     /// Writes what the field is, and what it was.
-    fn write_types<W: fmt::Write>(&self, f: &mut fmt::Formatter<W>, from: &Field) -> fmt::Result {
-        if let Some(to) = field_at(self.new, self.new_type, self.difference.number) {
-            write_type(f, self.new, self.new_type, to)?;
+    fn write_types<W: fmt::Write>(&self, f: &mut fmt::Formatter<W>, from: &Field) -> fmt::Result
+        ensures { WritesOnOk W.write_str_gives f.old result (types_text self.now.old.now self.now.new.now self.now.old_type.0 self.now.new_type.0
+            (field_view from.now) (field_at self.now.new.now self.now.new_type.0 self.now.difference.number)) f.new }
+    {
+        if let Some(to) = self.new_field() {
+            write_type(f, self.new, self.new_type, to.shape, to.kind)?;
             f.write_str(" was ")?;
         }
-        write_type(f, self.old, self.old_type, from)
+        write_type(f, self.old, self.old_type, from.shape, from.kind)
     }
 
     /// Writes the field's name, and what it was.
-    fn write_names<W: fmt::Write>(&self, f: &mut fmt::Formatter<W>, from: &Field) -> fmt::Result {
-        if let Some(to) = field_at(self.new, self.new_type, self.difference.number) {
+    fn write_names<W: fmt::Write>(&self, f: &mut fmt::Formatter<W>, from: &Field) -> fmt::Result
+        ensures { WritesOnOk W.write_str_gives f.old result (names_text (field_view from.now)
+            (field_at self.now.new.now self.now.new_type.0 self.now.difference.number)) f.new }
+    {
+        if let Some(to) = self.new_field() {
             f.write_str(to.name.as_str())?;
             f.write_str(" was ")?;
         }
         f.write_str(from.name.as_str())
+    }
+
+    /// Writes the field's full name, its number, what the change does, and what it is.
+    fn write_field<W: fmt::Write>(&self, f: &mut fmt::Formatter<W>, from: &Field) -> fmt::Result
+        ensures { WritesOnOk W.write_str_gives f.old result (field_text self.now.old.now self.now.new.now self.now.old_type.0 self.now.new_type.0
+            self.now.difference (field_view from.now)) f.new }
+    {
+        write_head(
+            f,
+            message_name(self.old, self.old_type),
+            from.name.as_str(),
+            self.difference.number,
+            self.difference.severity.word(),
+        )?;
+        self.write_change(f, from)
+    }
+
+    /// Writes what the change is.
+    fn write_change<W: fmt::Write>(&self, f: &mut fmt::Formatter<W>, from: &Field) -> fmt::Result
+        ensures { WritesOnOk W.write_str_gives f.old result (change_text self.now.old.now self.now.new.now self.now.old_type.0 self.now.new_type.0
+            self.now.difference.severity (field_view from.now) (field_at self.now.new.now self.now.new_type.0 self.now.difference.number)) f.new }
+    {
+        match self.difference.severity {
+            Severity::Renames => self.write_names(f, from),
+            _ => self.write_types(f, from),
+        }
     }
 }
 
@@ -180,16 +280,15 @@ impl Severity {
 }
 
 impl fmt::Display for Report<'_> {
+    ghost use Rattle.std.specs.Prelude.{Some};
+    ghost use Rattle.pb_compat.specs.Lines.{reported};
+
+    ghost output = { λ r. Some (reported r) };
+
     fn fmt<W: fmt::Write>(&self, f: &mut fmt::Formatter<W>) -> fmt::Result {
-        let Some(from) = field_at(self.old, self.old_type, self.difference.number) else {
+        let Some(from) = field_of(self.old, self.old_type, self.difference.number) else {
             return Ok(());
         };
-        write_message(f, self.old, self.old_type)?;
-        write!(f, ".{} {} ", from.name.as_str(), self.difference.number)?;
-        write!(f, "{} ", self.difference.severity.word())?;
-        match self.difference.severity {
-            Severity::Renames => self.write_names(f, from),
-            _ => self.write_types(f, from),
-        }
+        self.write_field(f, from)
     }
 }

@@ -1,7 +1,7 @@
 //! Chains and circles of types: each pair is compared once, and the stack stays bounded.
 
 use super::fields::{compare_first, file_of, message_of};
-use pb_compat::{ComparedTypes, Severity};
+use pb_compat::{ComparedTypes, Severity, compare_all, namesake};
 use pb_schema::{Field, Kind, MessageId, Pool, Shape};
 use std::alloc::Global;
 use std::test::Fail;
@@ -95,5 +95,39 @@ fn pairs_of_circles(alloc: Global) -> Result<usize, Fail> {
 fn circles(rt: HostRuntime) -> Result<(), Fail> {
     let pairs = pairs_of_circles(rt.alloc())?;
     assert!(rt; pairs == 6);
+    Ok(())
+}
+
+/// The pairs of a circle of two types and one of three, from those of the same names on.
+const PAIRS: &[(usize, usize)] = &[(0, 0), (1, 1), (0, 2), (1, 0), (0, 1), (1, 2)];
+
+fn are_pairs(compared: &[ComparedTypes], pairs: &[(usize, usize)]) -> bool {
+    compared.len() == pairs.len()
+        && compared
+            .iter()
+            .zip(pairs.iter())
+            .all(|(types, pair)| (types.old.0, types.new.0) == *pair)
+}
+
+/// Whether all types are compared with those of the same names, of which the third has none in the other circle.
+fn goes_by_names(alloc: Global, two: &Pool, three: &Pool) -> Result<bool, Fail> {
+    let compared = compare_all(alloc, two, three)?;
+    Ok(
+        are_pairs(&compared, PAIRS)
+            && namesake(two, MessageId(1), three) == Some(MessageId(1))
+            && namesake(three, MessageId(2), two).is_none()
+            && namesake(three, MessageId(3), two).is_none(),
+    )
+}
+
+fn by_names(alloc: Global) -> Result<bool, Fail> {
+    let two = chain(alloc, 2, Kind::Int32)?;
+    let three = chain(alloc, 3, Kind::Int32)?;
+    goes_by_names(alloc, &two, &three)
+}
+
+#[test]
+fn names(rt: HostRuntime) -> Result<(), Fail> {
+    assert!(rt; by_names(rt.alloc())?);
     Ok(())
 }

@@ -1,10 +1,12 @@
-//! A pool of sources.
+//! A pool of sources, by the strict grammar or by that of all of proto3.
 
 ghost use Rattle.std.specs.Prelude.{◌≡◌, ◌≢◌, ◌↔◌, ◌⊎◌, ℕ, List, IsUtf8, IfOk, IfErr, map};
 ghost use Rattle.std.specs.Bool.{Decides};
 ghost use Rattle.pb_decl.specs.View.{file_view};
 ghost use Rattle.pb_schema.specs.Types.{Types};
-ghost use Rattle.pb_source.specs.Source.{HasFault, IsSource};
+ghost use Rattle.pb_tokens.specs.Fault.{out_of_memory};
+ghost use Rattle.pb_source.specs.Source.{HasFaultIn, IsSourceIn};
+ghost use Rattle.pb_tokens.specs.declared.grammar.Grammar.TheVariants.{Proto3, Strict};
 ghost use Rattle.pb_c.specs.Held.{types_held};
 ghost use Rattle.pb_c.specs.PoolFault.{PoolFault, TellsRefusal};
 ghost use Rattle.pb_c.specs.SourcePool.{AreNames, AreNamed, AreSources, IsUnparsed, SourceFails, SourcesFail, SourcesMake};
@@ -14,7 +16,8 @@ use super::refusal::Refusal;
 use crate::handle::{PoolHandle, take};
 use crate::told::{BAD_NAME, DONE, MEMORY};
 use pb_decl::FileDecl;
-use pb_source::{SourceCause, SourceFault, parse};
+use pb_source::{SourceCause, SourceFault, parse, parse_lenient};
+use pb_tokens::grammar::Grammar;
 use std::alloc::{AllocFailed, Global};
 
 /// Why sources are not parsed: the first that is none, by its index, where, and why.
@@ -50,16 +53,38 @@ fn are_names(names: &[&[u8]]) -> bool
     true
 }
 
+/// What a source declares by a grammar, as the file of its name.
+fn parse_by(
+    alloc: Global,
+    grammar: Grammar,
+    name: &str,
+    text: &[u8],
+) -> Result<FileDecl, SourceFault>
+    ensures declared { IfOk result (λ f. IsSourceIn grammar name.now text.now (file_view f)) }
+    ensures refused { IfErr result (λ e. (e ≡ out_of_memory) ⊎ HasFaultIn grammar text.now e.byte e.cause) }
+{
+    match grammar {
+        Grammar::Strict => parse(alloc, name, text),
+        Grammar::Proto3 => parse_lenient(alloc, name, text),
+    }
+}
+
 /// What the source of an index declares, as the file of its name.
-fn parse_at(alloc: Global, index: usize, name: &[u8], text: &[u8]) -> Result<FileDecl, Unparsed>
+fn parse_at(
+    alloc: Global,
+    grammar: Grammar,
+    index: usize,
+    name: &[u8],
+    text: &[u8],
+) -> Result<FileDecl, Unparsed>
     requires { IsUtf8 name.now }
-    ensures declared { IfOk result (λ f. IsSource name.now text.now (file_view f)) }
-    ensures refused { IfErr result (IsUnparsed (λ i byte c. (i ≡ index) × HasFault text.now byte c)) }
+    ensures declared { IfOk result (λ f. IsSourceIn grammar name.now text.now (file_view f)) }
+    ensures refused { IfErr result (IsUnparsed (λ i byte c. (i ≡ index) × HasFaultIn grammar text.now byte c)) }
 {
     let Ok(name) = std::str::from_utf8(name) else {
         unreachable!()
     };
-    match parse(alloc, name, text) {
+    match parse_by(alloc, grammar, name, text) {
         Ok(file) => Ok(file),
         Err(
             SourceFault {
@@ -72,14 +97,19 @@ fn parse_at(alloc: Global, index: usize, name: &[u8], text: &[u8]) -> Result<Fil
 }
 
 /// What sources declare, as the files of their names.
-fn parse_all(alloc: Global, names: &[&[u8]], texts: &[&[u8]]) -> Result<Vec<FileDecl>, Unparsed>
+fn parse_all(
+    alloc: Global,
+    grammar: Grammar,
+    names: &[&[u8]],
+    texts: &[&[u8]],
+) -> Result<Vec<FileDecl>, Unparsed>
     requires { AreNamed names.now texts.now }
-    ensures declared { IfOk result (λ v. AreSources names.now texts.now (map file_view v.items)) }
-    ensures refused { IfErr result (IsUnparsed (SourceFails names.now texts.now)) }
+    ensures declared { IfOk result (λ v. AreSources grammar names.now texts.now (map file_view v.items)) }
+    ensures refused { IfErr result (IsUnparsed (SourceFails grammar names.now texts.now)) }
 {
     let mut files = Vec::new(alloc);
     for i in 0..names.len() {
-        let file = parse_at(alloc, i, names[i], texts[i])?;
+        let file = parse_at(alloc, grammar, i, names[i], texts[i])?;
         files.push(file)?;
     }
     Ok(files)
@@ -104,19 +134,20 @@ fn tell_source(error: &Unparsed, refusal: &mut Refusal) -> u32
     }
 }
 
-/// As `mb_pool_compile`, said of what was answered.
+/// As `mb_pool_compile`, by a grammar, said of what was answered.
 fn compile_sources(
     alloc: Global,
+    grammar: Grammar,
     names: &[&[u8]],
     texts: &[&[u8]],
     pool: &mut PoolHandle,
     refusal: &mut Refusal,
     text: &mut [u8],
 ) -> u32
-    ensures made { result ≡ DONE → (ts : Types) × SourcesMake names.now texts.now ts × (types_held pool.new ≡ Some ts) }
+    ensures made { result ≡ DONE → (ts : Types) × SourcesMake grammar names.now texts.now ts × (types_held pool.new ≡ Some ts) }
     ensures left { result ≢ DONE → types_held pool.new ≡ None }
     ensures bad_name { result ≡ BAD_NAME ↔ ¬ AreNamed names.now texts.now }
-    ensures refused { AreNamed names.now texts.now → result ≢ DONE → result ≢ MEMORY → (w : PoolFault) × SourcesFail names.now texts.now w
+    ensures refused { AreNamed names.now texts.now → result ≢ DONE → result ≢ MEMORY → (w : PoolFault) × SourcesFail grammar names.now texts.now w
         × TellsRefusal w result refusal.old refusal.new text.old text.new }
     ensures untold { (result ≡ DONE) ⊎ (result ≡ BAD_NAME) ⊎ (result ≡ MEMORY) → (refusal.new ≡ refusal.old) × (text.new ≡ text.old) }
 {
@@ -124,7 +155,7 @@ fn compile_sources(
     if names.len() != texts.len() || !are_names(names) {
         return BAD_NAME;
     }
-    match parse_all(alloc, names, texts) {
+    match parse_all(alloc, grammar, names, texts) {
         Ok(files) => link_files(alloc, &files, pool, refusal, text),
         Err(error) => tell_source(&error, refusal),
     }
@@ -145,18 +176,48 @@ pub extern "C" fn mb_pool_compile(
     refusal: &mut Refusal,
     text: &mut [u8],
 ) -> u32
-    ensures made { result ≡ DONE → (ts : Types) × SourcesMake names.now texts.now ts × (types_held pool.new ≡ Some ts) }
+    ensures made { result ≡ DONE → (ts : Types) × SourcesMake Strict names.now texts.now ts × (types_held pool.new ≡ Some ts) }
     ensures left { result ≢ DONE → types_held pool.new ≡ None }
     ensures bad_name { result ≡ BAD_NAME ↔ ¬ AreNamed names.now texts.now }
-    ensures refused { AreNamed names.now texts.now → result ≢ DONE → result ≢ MEMORY → (w : PoolFault) × SourcesFail names.now texts.now w
+    ensures refused { AreNamed names.now texts.now → result ≢ DONE → result ≢ MEMORY → (w : PoolFault) × SourcesFail Strict names.now texts.now w
         × TellsRefusal w result refusal.old refusal.new text.old text.new }
     ensures untold { (result ≡ DONE) ⊎ (result ≡ BAD_NAME) ⊎ (result ≡ MEMORY) → (refusal.new ≡ refusal.old) × (text.new ≡ text.old) }
 
     // What makes a pool is linked, and the fault of what makes none is reported, unless memory runs out.
-    ensures accepted { AreNamed names.now texts.now → (ts : Types) → SourcesMake names.now texts.now ts
+    ensures accepted { AreNamed names.now texts.now → (ts : Types) → SourcesMake Strict names.now texts.now ts
         → ((result ≡ DONE) × (types_held pool.new ≡ Some ts)) ⊎ (result ≡ MEMORY) }
-    ensures told { AreNamed names.now texts.now → (w : PoolFault) → SourcesFail names.now texts.now w
+    ensures told { AreNamed names.now texts.now → (w : PoolFault) → SourcesFail Strict names.now texts.now w
         → TellsRefusal w result refusal.old refusal.new text.old text.new ⊎ (result ≡ MEMORY) }
 {
-    compile_sources(alloc, names, texts, pool, refusal, text)
+    compile_sources(alloc, Grammar::Strict, names, texts, pool, refusal, text)
+}
+
+/// Links the types of sources into a handle, as `mb_pool_compile` does, by the grammar of all of proto3: what declares no message, enum or
+/// service is read and left out, as parts of an option's name in parentheses, constants in braces, blocks of `extend` and ranges of
+/// extensions (Protocol Buffers Language Specification, Proto3).
+///
+/// Answers as `mb_pool_compile` does.
+#[unsafe(no_mangle)]
+pub extern "C" fn mb_pool_compile_lenient(
+    alloc: Global,
+    names: &[&[u8]],
+    texts: &[&[u8]],
+    pool: &mut PoolHandle,
+    refusal: &mut Refusal,
+    text: &mut [u8],
+) -> u32
+    ensures made { result ≡ DONE → (ts : Types) × SourcesMake Proto3 names.now texts.now ts × (types_held pool.new ≡ Some ts) }
+    ensures left { result ≢ DONE → types_held pool.new ≡ None }
+    ensures bad_name { result ≡ BAD_NAME ↔ ¬ AreNamed names.now texts.now }
+    ensures refused { AreNamed names.now texts.now → result ≢ DONE → result ≢ MEMORY → (w : PoolFault) × SourcesFail Proto3 names.now texts.now w
+        × TellsRefusal w result refusal.old refusal.new text.old text.new }
+    ensures untold { (result ≡ DONE) ⊎ (result ≡ BAD_NAME) ⊎ (result ≡ MEMORY) → (refusal.new ≡ refusal.old) × (text.new ≡ text.old) }
+
+    // What makes a pool is linked, and the fault of what makes none is reported, unless memory runs out.
+    ensures accepted { AreNamed names.now texts.now → (ts : Types) → SourcesMake Proto3 names.now texts.now ts
+        → ((result ≡ DONE) × (types_held pool.new ≡ Some ts)) ⊎ (result ≡ MEMORY) }
+    ensures told { AreNamed names.now texts.now → (w : PoolFault) → SourcesFail Proto3 names.now texts.now w
+        → TellsRefusal w result refusal.old refusal.new text.old text.new ⊎ (result ≡ MEMORY) }
+{
+    compile_sources(alloc, Grammar::Proto3, names, texts, pool, refusal, text)
 }

@@ -6,6 +6,7 @@ ghost use Rattle.pb_value.specs.Canon.{canon_bytes};
 ghost use Rattle.pb_schema.specs.Types.{Types};
 ghost use Rattle.pb_value.specs.Data.{Message};
 ghost use Rattle.pb_value.specs.Derives.{Text};
+ghost use Rattle.pb_canonical.specs.Canonical.{IsCanonical};
 ghost use Rattle.pb_encode.specs.Encoding.{bytes_of};
 ghost use Rattle.pb_decode.specs.Push.{IsFaultOf};
 ghost use Rattle.pb_c.specs.Held.{types_held};
@@ -24,7 +25,7 @@ use std::alloc::Global;
 
 /// Writes the canonical bytes of the message that the bytes are, as many as the buffer holds, and reports how many there are.
 ///
-/// Bytes that are canonical already, as most in a pipeline are, are checked and copied, and no message is built of them.
+/// Bytes that are canonical already, as most in a pipeline are, are checked and copied: no message is built of them, and no memory is taken.
 ///
 /// Answers as `mb_check` does, and TOO_LARGE where the canonical bytes would be more than 2^31 - 1. They and their number are written
 /// at DONE alone, so where the reported number is above the buffer's length, call again with a buffer of that length.
@@ -67,6 +68,10 @@ pub extern "C" fn mb_canon(
         → (result ≡ TOO_LARGE) ⊎ (result ≡ MEMORY) }
     ensures refused { AreLimits max_bytes max_depth → (ts : Types) → HasType (types_held pool.old) message_type ts → (f : Fault)
         → IsFaultOf ts message_type (bounds max_bytes max_depth) bytes.now f → ((result ≡ FAULT) × Tells f fault.new path.old path.new) ⊎ (result ≡ MEMORY) }
+
+    // What is canonical already is copied, whatever memory is left.
+    ensures copied { AreLimits max_bytes max_depth → (ts : Types) → HasType (types_held pool.old) message_type ts → IsCanonical ts message_type bytes.now
+        → (v : Message) → Text ts message_type (bounds max_bytes max_depth) bytes.now v → result ≡ DONE }
 {
     let Some(limits) = Limits::new(max_bytes, max_depth) else {
         return BAD_LIMITS;
@@ -117,6 +122,8 @@ fn canon_message(
         → 2 ^ 31 ≤ length (canon_bytes pool.now number v) → (result ≡ TOO_LARGE) ⊎ (result ≡ MEMORY) }
     ensures refused { number < length pool.now.messages → (f : Fault) → IsFaultOf pool.now number limits bytes.now f
         → ((result ≡ FAULT) × Tells f fault.new path.old path.new) ⊎ (result ≡ MEMORY) }
+    ensures copied { number < length pool.now.messages → IsCanonical pool.now number bytes.now
+        → (v : Message) → Text pool.now number limits bytes.now v → result ≡ DONE }
 {
     if is_known_canonical(alloc, pool, number, bytes, limits) {
         write_out(bytes, out, size);

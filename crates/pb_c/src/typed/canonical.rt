@@ -16,8 +16,7 @@ use pb_schema::{MessageId, Pool};
 use pb_wire::{Limits, MAX_BYTES, MAX_DEPTH};
 use std::alloc::Global;
 
-/// Whether bytes are a message of the type of a number within the limits, and its canonical bytes. True only where they are: where the
-/// answer is false, they may be too.
+/// Whether bytes are a message of the type of a number within the limits, and its canonical bytes.
 pub(crate) fn is_known_canonical(
     alloc: Global,
     pool: &Pool,
@@ -30,6 +29,8 @@ pub(crate) fn is_known_canonical(
     ensures only { result ≡ true → (v : Message) → Text pool.now number limits bytes.now v
         → (bytes.now ≡ canon_bytes pool.now number v) × (length (canon_bytes pool.now number v) < 2 ^ 31) }
     ensures faultless { result ≡ true → (f : Fault) → ¬ IsFaultOf pool.now number limits bytes.now f }
+    ensures complete { number < length pool.now.messages → IsCanonical pool.now number bytes.now
+        → (v : Message) → Text pool.now number limits bytes.now v → result ≡ true }
 {
     let _types = pool.messages();
     let Some(message_type) = type_numbered(pool, number) else {
@@ -52,7 +53,8 @@ fn is_within(
     requires within { message_type.0 < length pool.now.messages }
     requires rules { IsPool pool.now }
     requires canonical { IsCanonical pool.now message_type.0 bytes.now }
-    ensures { result ≡ true → (v : Message) × Text pool.now message_type.0 limits bytes.now v }
+    ensures text { result ≡ true → (v : Message) × Text pool.now message_type.0 limits bytes.now v }
+    ensures complete { (v : Message) → Text pool.now message_type.0 limits bytes.now v → result ≡ true }
 {
     if are_greatest(limits) {
         return true;

@@ -1,56 +1,5 @@
-use Rattle.std.proofs.Common.{◌≡◌, ℕ, length, Some, None, sym, subst, arith}
-use Rattle.std.specs.Prelude.{slice_get}
-use Rattle.pb_compat.specs.Walk.{pairs_of, FollowsAll, AreCompared}
-use Rattle.pb_compat.proofs.ComparedLemmas.{compared_none, next_within, next_step, compared_more, compared_all}
+use Rattle.pb_compat.proofs.ComparedLemmas.{compared_alone}
 use Rattle.pb_compat.proofs.comparing.compare.Goals as goal
 
-pub loop-from-init : goal.loop-from-init
-loop-from-init c =
-    subst (λ cs. AreCompared c.args.old.now c.args.new.now (c.args.old_type.0, c.args.new_type.0) c.add.new.self cs) (sym c.new-compared.ensures.items)
-    (compared_none c.args.old.now c.args.new.now (c.args.old_type.0, c.args.new_type.0) c.new-pairs.result c.add.new.self c.new-pairs.ensures.pairs c.new-pairs.ensures.steps (c.requires.old, c.requires.new) c.in_ok-add.ensures)
-
-pub compare_types-requires-clause-old : goal.compare_types-requires-clause-old
-compare_types-requires-clause-old c =
-    let cs = c.loop-from.compared.items in
-    let p : ℕ × ℕ = (c.in-Some.from, c.in-Some.to) in
-    let same : c.len.result ≡ length cs = omega (arith, c.len.ensures, c.loop-from.compared.ok.0) in
-    let at : slice_get (pairs_of c.loop-from.pairs) (length cs) ≡ Some p = subst (λ i. slice_get (pairs_of c.loop-from.pairs) i ≡ Some p) same (sym c.in-Some.ensures) in
-    (next_within c.args.old.now c.args.new.now (c.args.old_type.0, c.args.new_type.0) c.loop-from.pairs cs p c.loop-from.invariant at).0
-
-pub compare_types-requires-clause-new : goal.compare_types-requires-clause-new
-compare_types-requires-clause-new c =
-    let cs = c.loop-from.compared.items in
-    let p : ℕ × ℕ = (c.in-Some.from, c.in-Some.to) in
-    let same : c.len.result ≡ length cs = omega (arith, c.len.ensures, c.loop-from.compared.ok.0) in
-    let at : slice_get (pairs_of c.loop-from.pairs) (length cs) ≡ Some p = subst (λ i. slice_get (pairs_of c.loop-from.pairs) i ≡ Some p) same (sym c.in-Some.ensures) in
-    (next_within c.args.old.now c.args.new.now (c.args.old_type.0, c.args.new_type.0) c.loop-from.pairs cs p c.loop-from.invariant at).1
-
-pub compare_types-requires-clause-size : goal.compare_types-requires-clause-size
-compare_types-requires-clause-size c =
-    let cs = c.loop-from.compared.items in
-    let p : ℕ × ℕ = (c.in-Some.from, c.in-Some.to) in
-    let same : c.len.result ≡ length cs = omega (arith, c.len.ensures, c.loop-from.compared.ok.0) in
-    let at : slice_get (pairs_of c.loop-from.pairs) (length cs) ≡ Some p = subst (λ i. slice_get (pairs_of c.loop-from.pairs) i ≡ Some p) same (sym c.in-Some.ensures) in
-    let less = next_step c.args.old.now c.args.new.now (c.args.old_type.0, c.args.new_type.0) c.loop-from.pairs cs p c.loop-from.invariant at in
-    omega (arith, less, c.len-in-Some.ensures, c.loop-from.compared.ok.0)
-
-pub loop-from-preserved : goal.loop-from-preserved
-loop-from-preserved c =
-    let cs = c.loop-from.compared.items in
-    let p : ℕ × ℕ = (c.in-Some.from, c.in-Some.to) in
-    let same : c.len.result ≡ length cs = omega (arith, c.len.ensures, c.loop-from.compared.ok.0) in
-    let index : c.len-in-Some.result ≡ length cs = omega (arith, c.len-in-Some.ensures, c.loop-from.compared.ok.0) in
-    let at : slice_get (pairs_of c.loop-from.pairs) (length cs) ≡ Some p = subst (λ i. slice_get (pairs_of c.loop-from.pairs) i ≡ Some p) same (sym c.in-Some.ensures) in
-    subst (λ ds. AreCompared c.args.old.now c.args.new.now (c.args.old_type.0, c.args.new_type.0) c.compare_types.new.pairs ds) (sym c.in_ok-push.ensures.items)
-    (compared_more c.args.old.now c.args.new.now (c.args.old_type.0, c.args.new_type.0) c.loop-from.pairs c.compare_types.new.pairs cs c.in_ok-types.types p c.loop-from.invariant at
-    (subst (λ i. FollowsAll c.args.old.now c.args.new.now i p c.loop-from.pairs c.compare_types.new.pairs) index c.in_ok-types.ensures.followed)
-    c.in_ok-types.ensures.types
-    (subst (λ i. slice_get c.compare_types.new.pairs.steps.items i ≡ Some c.in_ok-types.types.reached_by) index c.in_ok-types.ensures.step)
-    c.in_ok-types.ensures.differences)
-
 pub returns : goal.returns
-returns c =
-    let cs = c.loop-from.compared.items in
-    let same : c.len.result ≡ length cs = omega (arith, c.len.ensures, c.loop-from.compared.ok.0) in
-    compared_all c.args.old.now c.args.new.now (c.args.old_type.0, c.args.new_type.0) c.loop-from.pairs cs c.loop-from.invariant
-    (subst (λ i. slice_get (pairs_of c.loop-from.pairs) i ≡ None) same (sym c.in_default.ensures))
+returns c = compared_alone c.args.old.now c.args.new.now (c.args.old_type.0, c.args.new_type.0) c.compare_pairs.result c.compare_pairs.ensures

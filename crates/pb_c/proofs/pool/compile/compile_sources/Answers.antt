@@ -27,7 +27,7 @@ returns-in-Err-clause-bad_name c =
 pub returns-in-Err-clause-refused : goal.returns-in-Err-clause-refused
 returns-in-Err-clause-refused c named not_done not_memory =
     let a = c.args in let t = c.tell_source in
-    unparsed a.names.now a.texts.now c.in-Err.error
+    unparsed a.grammar a.names.now a.texts.now c.in-Err.error
     (λ i byte c. (text : List ℕ) → TellsRefusal (PoolFault.in_source i byte c) t.result a.refusal.now t.new.refusal text text)
     (λ w. TellsRefusal w t.result a.refusal.now t.new.refusal a.text.now a.text.now) t.result c.in-Err.ensures.refused t.ensures.told (λ i byte c told. told a.text.now)
     (λ is. (t.ensures.memory is).0) not_memory

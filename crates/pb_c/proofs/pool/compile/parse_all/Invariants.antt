@@ -5,4 +5,4 @@ use Rattle.pb_c.specs.SourcePool.{AreSources}
 use Rattle.pb_c.proofs.pool.compile.parse_all.Given as goal
 
 abbrev pub invariant-loop-i : goal.invariant-loop-i
-invariant-loop-i l = AreSources (take l.i l.names) (take l.i l.texts) (map file_view l.files.items)
+invariant-loop-i l = AreSources l.grammar (take l.i l.names) (take l.i l.texts) (map file_view l.files.items)

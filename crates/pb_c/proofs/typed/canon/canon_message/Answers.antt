@@ -1,4 +1,5 @@
-use Rattle.std.proofs.Common.{List, ℕ, refl, inl, inr, ap, subst, arith}
+use Rattle.std.specs.Prelude.{true}
+use Rattle.std.proofs.Common.{◌≡◌, List, ℕ, refl, inl, inr, ap, subst, arith}
 use Rattle.pb_value.specs.Canon.{canon_bytes}
 use Rattle.pb_encode.specs.Encoding.{bytes_of}
 use Rattle.pb_c.specs.Told.{IsLaid}
@@ -42,3 +43,9 @@ returns-then-is_known_canonical-clause-oversized c within v text large =
 
 pub returns-then-is_known_canonical-clause-refused : goal.returns-then-is_known_canonical-clause-refused
 returns-then-is_known_canonical-clause-refused c within f fault = absurd (c.is_known_canonical.ensures.faultless c.if-is_known_canonical.true f fault)
+
+pub returns-in-Ok-clause-copied : goal.returns-in-Ok-clause-copied
+returns-in-Ok-clause-copied c = λ within canonical v text. let yes : c.is_known_canonical.result ≡ true = c.is_known_canonical.ensures.complete within canonical v text in absurd (cc)
+
+pub returns-in-Err-clause-copied : goal.returns-in-Err-clause-copied
+returns-in-Err-clause-copied c = λ within canonical v text. let yes : c.is_known_canonical.result ≡ true = c.is_known_canonical.ensures.complete within canonical v text in absurd (cc)

@@ -1,0 +1,155 @@
+/* Copies, comparisons and merging of whole messages; which member of a oneof is set, and unknown records. */
+#include "node.h"
+
+/* Two whole messages are equal where they are of one type of one pool, and have the same contents. */
+PyObject *message_compare(PyObject *self, PyObject *other, int how)
+{
+    struct mb_message *one, *two;
+    uint32_t answer, is_equal = 1;
+
+    if ((how != Py_EQ && how != Py_NE) || Py_TYPE(other) != Py_TYPE(self) || ((Node *)self)->root != NULL || ((Node *)other)->root != NULL)
+        Py_RETURN_NOTIMPLEMENTED;
+    if (((Node *)self)->type != ((Node *)other)->type)
+        return PyBool_FromLong(how == Py_NE);
+    one = whole(self);
+    two = one == NULL ? NULL : whole(other);
+    if (two == NULL)
+        return NULL;
+    /* The library compares two handles, and never one with itself. */
+    answer = one == two ? MB_DONE : mb_message_equal(one, two, &is_equal);
+    if (answer != MB_DONE)
+        return refuse(answer, NULL);
+    return PyBool_FromLong((is_equal == 1) == (how == Py_EQ));
+}
+
+const char copy_doc[] = "copy()\n--\n\nA copy, which is changed by itself. copy.copy(message) and copy.deepcopy(message) are the same.";
+
+PyObject *message_copy(PyObject *self, PyObject *Py_UNUSED(ignored))
+{
+    struct mb_message *handle = whole(self);
+    Node *copy = handle == NULL ? NULL : new_message(((Node *)self)->type);
+
+    if (copy == NULL)
+        return NULL;
+    copy->hint = ((Node *)self)->hint;
+    uint32_t answer = mb_message_copy(handle, &copy->handle);
+    if (answer != MB_DONE) {
+        Py_DECREF(copy);
+        return refuse(answer, NULL);
+    }
+    return (PyObject *)copy;
+}
+
+PyObject *message_deep_copy(PyObject *self, PyObject *Py_UNUSED(memo))
+{
+    return message_copy(self, NULL);
+}
+
+const char merge_doc[] =
+"merge(data, *, max_bytes=MAX_BYTES, max_depth=MAX_DEPTH)\n--\n\nDecodes bytes onto the message, or the canonical bytes of another message of its type: "
+"then it is what its canonical bytes\nfollowed by these decode to. Where they are refused the message is as it was.";
+
+/* The bytes of a message of the same type, or the data itself. */
+static PyObject *merged(Node *node, PyObject *data)
+{
+    if (Py_TYPE(data) != Py_TYPE(node)) {
+        Py_INCREF(data);
+        return data;
+    }
+    if (((Node *)data)->type == node->type)
+        return PyObject_CallMethod(data, "encode", NULL);
+    PyErr_SetString(PyExc_TypeError, "a message of another type can't be merged");
+    return NULL;
+}
+
+PyObject *message_merge(PyObject *self, PyObject *args, PyObject *kwargs)
+{
+    struct mb_message *handle = whole(self);
+    PyObject *data, *bytes;
+    struct limits limits;
+    struct report report;
+    struct input in;
+
+    if (handle == NULL || !take_data(args, kwargs, &data, &limits) || (bytes = merged((Node *)self, data)) == NULL)
+        return NULL;
+    bool is_taken = take_input(bytes, &in);
+    Py_DECREF(bytes);
+    if (!is_taken)
+        return NULL;
+    uint32_t answer = mb_message_merge(handle, in.at, in.len, limits.max_bytes, limits.max_depth, &report.fault, report.path, MB_MAX_STEPS);
+    ((Node *)self)->hint += in.len;
+    drop_input(&in);
+    if (answer != MB_DONE)
+        return refuse(answer, &report);
+    Py_RETURN_NONE;
+}
+
+const char which_oneof_doc[] = "which_oneof(name)\n--\n\nThe name of the field that is set of a oneof, or None.";
+
+/* The index of the oneof of a name in a type, or -1 with an exception. */
+static Py_ssize_t oneof_index(MessageType *type, PyObject *name)
+{
+    struct mb_type is;
+    PyObject *found = read_message(type->pool, type->number, &is);
+
+    if (found == NULL)
+        return -1;
+    for (size_t i = 0; i < is.oneofs; i++) {
+        Py_DECREF(found);
+        found = read_oneof(type->pool, type->number, i);
+        int is_same = found == NULL ? -1 : PyObject_RichCompareBool(found, name, Py_EQ);
+        if (is_same != 0) {
+            Py_XDECREF(found);
+            return is_same < 0 ? -1 : (Py_ssize_t)i;
+        }
+    }
+    Py_DECREF(found);
+    found = PyUnicode_FromFormat("oneof %S unknown", name);
+    if (found != NULL)
+        PyErr_SetObject(PyExc_KeyError, found);
+    Py_XDECREF(found);
+    return -1;
+}
+
+PyObject *message_which_oneof(PyObject *self, PyObject *name)
+{
+    Node *node = (Node *)self;
+    struct mb_message *handle = handle_of(node);
+    Py_ssize_t index = handle == NULL ? -1 : oneof_index(node->type, name);
+    uint32_t number = 0;
+
+    if (index < 0)
+        return NULL;
+    uint32_t answer = mb_message_oneof(handle, PLACE(node), (uint32_t)index, &number);
+    if (answer == MB_ABSENT)
+        Py_RETURN_NONE;
+    if (answer != MB_DONE)
+        return nothing_there(answer);
+    Field *field = field_by_number(node->type, number);
+    if (field == NULL)
+        return NULL;
+    Py_INCREF(field->name);
+    return field->name;
+}
+
+PyObject *message_get_unknown(PyObject *self, void *Py_UNUSED(which))
+{
+    Node *node = (Node *)self;
+    struct mb_message *handle = handle_of(node);
+    size_t size = 0;
+
+    if (handle == NULL)
+        return NULL;
+    uint32_t answer = mb_message_unknown(handle, PLACE(node), NULL, 0, &size);
+    if (answer != MB_DONE)
+        return nothing_there(answer);
+    PyObject *bytes = PyBytes_FromStringAndSize(NULL, (Py_ssize_t)size);
+    if (bytes == NULL || size == 0)
+        return bytes;
+    answer = mb_message_unknown(handle, PLACE(node), (uint8_t *)PyBytes_AsString(bytes), size, &size);
+    if (answer != MB_DONE) {
+        Py_DECREF(bytes);
+        return nothing_there(answer);
+    }
+    return bytes;
+}

@@ -1,0 +1,93 @@
+//! Whether messages of an old type can be read as a new one.
+use crate::structs::Difference as Reported;
+use crate::told::Told;
+use crate::{calls, Error, MessageType};
+use std::fmt;
+
+/// What a difference does to messages of the old type that are read as the new one: docs/COMPAT.md.
+#[derive(Clone, Copy, Debug, PartialEq, Eq, PartialOrd, Ord)]
+pub enum Severity {
+    /// Some message is refused, or a value is read as another.
+    Breaks,
+    /// The new type has no such field: its records become unknown, and stay.
+    Loses,
+    /// The value is kept, but not always whether it was set.
+    Presence,
+    /// The value is kept, in another kind or shape.
+    Converts,
+    /// The field has another name.
+    Renames,
+}
+
+impl Severity {
+    /// The word for it.
+    pub fn name(self) -> &'static str {
+        match self {
+            Severity::Breaks => "breaks",
+            Severity::Loses => "loses",
+            Severity::Presence => "presence",
+            Severity::Converts => "converts",
+            Severity::Renames => "renames",
+        }
+    }
+}
+
+/// A difference at the field of a number of an old type. It prints as `shop.Order 4 breaks`.
+#[derive(Clone, Debug, PartialEq, Eq)]
+pub struct Difference {
+    /// The full name of the old type.
+    pub old_type: String,
+    /// The full name of the new type.
+    pub new_type: String,
+    pub number: u32,
+    pub severity: Severity,
+}
+
+impl fmt::Display for Difference {
+    fn fmt(&self, f: &mut fmt::Formatter<'_>) -> fmt::Result {
+        write!(f, "{} {} {}", self.old_type, self.number, self.severity.name())
+    }
+}
+
+impl MessageType {
+    /// The differences between this type and a new one, of another pool or of a clone of this one, and between each two types that fields of the same
+    /// number lead to: these types first, and of each two by rising field number.
+    pub fn compat(&self, new: &MessageType) -> Result<Vec<Difference>, Error> {
+        let (mut found, mut count, new_pool) = (vec![Reported::default(); 64], 0, new.pool.try_clone()?);
+        loop {
+            // SAFETY: as in pool.rs. The new pool has a handle of its own.
+            Told::new().judge(unsafe {
+                calls::mb_compat(
+                    self.pool.handle(),
+                    self.number,
+                    new_pool.handle(),
+                    new.number,
+                    found.as_mut_ptr(),
+                    found.len(),
+                    &mut count,
+                )
+            })?;
+            let is_whole = count <= found.len();
+            found.resize(count, Reported::default());
+            if is_whole {
+                return found.into_iter().map(|it| self.difference(new, it)).collect();
+            }
+        }
+    }
+
+    fn difference(&self, new: &MessageType, reported: Reported) -> Result<Difference, Error> {
+        let severity = match reported.severity {
+            1 => Severity::Breaks,
+            2 => Severity::Loses,
+            3 => Severity::Presence,
+            4 => Severity::Converts,
+            _ => Severity::Renames,
+        };
+        Ok(Difference {
+            old_type: self.pool.reported_type(reported.old_type as u32)?.0,
+            new_type: new.pool.reported_type(reported.new_type as u32)?.0,
+            number: reported.number,
+            severity,
+        })
+    }
+}

@@ -1,0 +1,14 @@
+-- What is written of the listing of a message with floats in decimal.
+use Rattle.std.specs.Prelude.{◌≡◌, ℕ, List, Option, Some}
+use Rattle.pb_value.specs.Dynamic.{Dynamic}
+use Rattle.pb_listing.specs.ListingAs.{IsListing}
+use Rattle.pb_listing.specs.declared.form.FloatForm.TheVariants.{Decimal}
+use Rattle.pb_c.specs.Told.{IsLaid}
+
+-- a listing of the message is laid over the buffer
+abbrev pub IsListedDecimal : Dynamic → List ℕ → List ℕ → ℕ → Type 0
+IsListedDecimal m old new size = (s : List ℕ) × IsListing Decimal m s × IsLaid s old new size
+
+-- one of the message that is held is
+abbrev pub IsListed : Option Dynamic → List ℕ → List ℕ → ℕ → Type 0
+IsListed held old new size = (m : Dynamic) × (held ≡ Some m) × IsListedDecimal m old new size

@@ -1,0 +1,128 @@
+//! A copy of a message that a handle holds.
+
+ghost use Rattle.std.specs.Prelude.{◌≡◌, ◌≢◌, ◌<◌, ◌≤◌, ◌^◌, ◌↔◌, ◌⊎◌, None, Some, length, Err, IfOk, IfErr};
+ghost use Rattle.pb_value.specs.Dynamic.{Dynamic};
+ghost use Rattle.pb_encode.specs.Encoding.{bytes_of};
+
+use super::handle::{MessageHandle, hold, put, take};
+use super::own::{OwnMessage, boxed};
+use crate::told::{DONE, EMPTY, MEMORY};
+use crate::typed::TOO_LARGE;
+use pb_decode::decode;
+use pb_encode::{EncodeError, encode};
+use pb_schema::Pool;
+use pb_value::DynamicMessage;
+use pb_value::parts::{empty_body, from_well_formed};
+use pb_wire::Limits;
+use std::alloc::Global;
+use std::mem;
+use std::sync::Arc;
+
+/// The canonical bytes of a message, or what a call answers.
+pub(super) fn canonical_of(message: &DynamicMessage<'_>) -> Result<Vec<u8>, u32>
+    ensures canonical { IfOk result (λ b. (b.items ≡ bytes_of message.now) × (length (bytes_of message.now) < 2 ^ 31)) }
+    ensures too_large { result ≡ Err TOO_LARGE → 2 ^ 31 ≤ length (bytes_of message.now) }
+    ensures answers { IfErr result (λ a. (a ≡ TOO_LARGE) ⊎ (a ≡ MEMORY)) }
+{
+    match encode(message) {
+        Ok(bytes) => Ok(bytes),
+        Err(EncodeError::TooLarge) => Err(TOO_LARGE),
+        Err(EncodeError::Memory | EncodeError::Device { written: _ }) => Err(MEMORY),
+    }
+}
+
+/// What the canonical bytes of a message decode to.
+fn decoded<'p>(message: &DynamicMessage<'p>, bytes: &[u8]) -> Result<DynamicMessage<'p>, u32>
+    requires canonical { bytes.now ≡ bytes_of message.now }
+    requires small { length (bytes_of message.now) < 2 ^ 31 }
+    ensures same { IfOk result (λ m. m ≡ message.now) }
+    ensures memory { IfErr result (λ a. a ≡ MEMORY) }
+{
+    let alloc = message.alloc();
+    let pool = message.pool();
+    let message_type = message.message_type();
+    let _types = pool.messages();
+    let _well_formed = message.body();
+    match decode(alloc, pool, message_type, bytes, Limits::FULL) {
+        Ok(copy) => Ok(copy),
+        Err(_) => Err(MEMORY),
+    }
+}
+
+/// A copy of a message: what its canonical bytes decode to.
+pub(super) fn copy_of<'p>(message: &DynamicMessage<'p>) -> Result<DynamicMessage<'p>, u32>
+    ensures same { IfOk result (λ m. m ≡ message.now) }
+    ensures too_large { result ≡ Err TOO_LARGE → 2 ^ 31 ≤ length (bytes_of message.now) }
+    ensures answers { IfErr result (λ a. (a ≡ TOO_LARGE) ⊎ (a ≡ MEMORY)) }
+{
+    match canonical_of(message) {
+        Ok(bytes) => decoded(message, &bytes),
+        Err(answer) => Err(answer),
+    }
+}
+
+/// A box of a copy of a message of this pool.
+fn copy_boxed(
+    alloc: Global,
+    pool: &Arc<Pool>,
+    message: &DynamicMessage<'_>,
+) -> Result<Box<OwnMessage, Global>, u32>
+    requires { message.now.pool ≡ pool.now.value }
+    ensures same { IfOk result (λ b. b.value ≡ message.now) }
+    ensures too_large { result ≡ Err TOO_LARGE → 2 ^ 31 ≤ length (bytes_of message.now) }
+    ensures answers { IfErr result (λ a. (a ≡ TOO_LARGE) ⊎ (a ≡ MEMORY)) }
+{
+    match copy_of(message) {
+        Ok(copy) => match boxed(alloc, pool, copy) {
+            Ok(copy) => Ok(copy),
+            Err(_) => Err(MEMORY),
+        },
+        Err(answer) => Err(answer),
+    }
+}
+
+/// A box of a copy of a message that is owned.
+fn copy_own(alloc: Global, own: &mut OwnMessage) -> Result<Box<OwnMessage, Global>, u32>
+    ensures same { IfOk result (λ b. b.value ≡ own.old) }
+    ensures too_large { result ≡ Err TOO_LARGE → 2 ^ 31 ≤ length (bytes_of own.old) }
+    ensures answers { IfErr result (λ a. (a ≡ TOO_LARGE) ⊎ (a ≡ MEMORY)) }
+    ensures kept { own.new ≡ own.old }
+{
+    let body = mem::replace(&mut own.body, empty_body(alloc));
+    let message = from_well_formed(alloc, &own.pool, own.message_type, body);
+    let made = copy_boxed(alloc, &own.pool, &message);
+    own.body = message.into_body();
+    made
+}
+
+/// Puts a copy of the message that one handle holds into another one, in place of what that held. Each is changed and freed by itself; both
+/// hold the pool.
+///
+/// Answers DONE; EMPTY where the first handle holds nothing; TOO_LARGE where the message has more than 2^31 - 1 canonical bytes; or MEMORY. The
+/// other handle is changed at DONE alone.
+#[unsafe(no_mangle)]
+pub extern "C" fn mb_message_copy(
+    alloc: Global,
+    message: &mut MessageHandle,
+    other: &mut MessageHandle,
+) -> u32
+    ensures copied { result ≡ DONE → other.new.seal.message ≡ message.old.seal.message }
+    ensures kept { result ≢ DONE → other.new ≡ other.old }
+    ensures too_large { result ≡ TOO_LARGE → (m : Dynamic) × (message.old.seal.message ≡ Some m) × (2 ^ 31 ≤ length (bytes_of m)) }
+    ensures empty { result ≡ EMPTY ↔ (message.old.seal.message ≡ None) }
+    ensures answers { (result ≡ DONE) ⊎ (result ≡ EMPTY) ⊎ (result ≡ TOO_LARGE) ⊎ (result ≡ MEMORY) }
+    ensures same { message.new.seal.message ≡ message.old.seal.message }
+{
+    let Some(mut own) = take(alloc, message) else {
+        return EMPTY;
+    };
+    let made = copy_own(alloc, &mut own);
+    put(message, own);
+    match made {
+        Ok(made) => {
+            hold(alloc, other, made);
+            DONE
+        }
+        Err(answer) => answer,
+    }
+}

@@ -1,9 +1,0 @@
-use Rattle.std.proofs.Common.{◌-◌, ◌^◌, length}
-use Rattle.pb_compat.specs.Walk.{AreCompared}
-use Rattle.pb_compat.proofs.comparing.compare.Given as goal
-
-abbrev pub invariant-loop-from : goal.invariant-loop-from
-invariant-loop-from l = AreCompared l.old l.new (l.fn.old_type.0, l.fn.new_type.0) l.pairs l.compared.items
-
-abbrev pub decreases-loop-from : goal.decreases-loop-from
-decreases-loop-from l = 2 ^ 64 - length l.compared.items

@@ -1,0 +1,15 @@
+-- for names of members in lowerCamelCase
+pub mod NameLemmas
+-- for readers of single values: the one thing of which a fact holds, and what is read of none
+pub mod ScalarLemmas
+pub mod ValueLemmas
+-- a JSON value means one thing at most, and is read as one thing at most
+pub mod UniqueScalars
+pub mod UniqueReads
+-- for what reads: what is read step by step, and the keys of entries
+pub mod ReadLemmas
+pub mod EntryLemmas
+-- small cases, worked out by the definitions
+mod Rows
+-- for the whole call
+pub mod TextLemmas

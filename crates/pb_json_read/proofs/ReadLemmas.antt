@@ -1,0 +1,138 @@
+-- What is read step by step, for the functions that read.
+use Rattle.std.proofs.Common.{◌≡◌, ℕ, ◌+◌, ◌<◌, List, ◌∷◌, length, drop, get_or, map, Option, Some, None, Result, Ok, Err, OnOk, IfErr, inl, inr, refl, sym, ap, ◌∙◌, subst}
+use Rattle.std.proofs.lemmas.List.{drop_more}
+use Rattle.std.specs.Prelude.{◌⊎◌}
+use Rattle.pb_schema.specs.declared.types.Kind.{Kind}
+use Rattle.pb_schema.specs.declared.types.Shape.{Shape}
+use Rattle.pb_schema.specs.Types.{FieldView, Types}
+use Rattle.pb_schema.specs.Kinds.{message_of_kind}
+use Rattle.pb_value.specs.Data.{Datum, message, Datums, Entries, Holding}
+use Rattle.pb_json_text.specs.Json.{Json, null, boolean, number, string, array, object, Elements, element, Members, member}
+use Rattle.pb_json_text.specs.View.{Named, elements_view, members_view, members_from, elements_from, member_view, value_view, form_view}
+use Rattle.pb_json_text.specs.declared.value.JsonMember.{JsonMember}
+use Rattle.pb_json_text.specs.declared.value.JsonValue.{JsonValue}
+use Rattle.pb_json_text.proofs.ViewLemmas.{value_view-parts, member_view-parts}
+use Rattle.pb_json_read.specs.declared.error.JsonReadError.{JsonReadError}
+use Rattle.pb_json_read.specs.declared.rules.JsonRules.{JsonRules}
+use Rattle.pb_json_read.specs.Answers.{Answers, Changes, named}
+use Rattle.pb_json_read.specs.Faults.{out_of_memory}
+use Rattle.pb_json_read.specs.Names.{field_meant}
+use Rattle.pb_json_read.specs.Reads.{Read, After, Made, Parts, with_datum}
+use Rattle.pb_json_read.specs.Reads.{ReadsSingle, ReadsOf, ReadsShape, ReadsScalar, ReadsMember, ReadsMemberEntry}
+use Rattle.pb_json_read.specs.Reads.{ReadsMembers, ReadsEntries, ReadsElements, ReadsValue, ReadsContent, ReadsMessage, ReadsList, ReadsMap}
+
+-- ONE THING AFTER ANOTHER
+
+pub made_ok : {A B : Type 0} (R : Read A → Type 0) (f : A → B) (x : A) (y : B) → y ≡ f x → R (Ok x) → Made R f (Ok y)
+made_ok R f x y e r = (Ok x, r, ap Ok e)
+
+pub made_err : {A B C : Type 0} (R : Read A → Type 0) (f : A → B) (e : JsonReadError) → C ⊎ R (Err e) → C ⊎ Made R f (Err e)
+made_err R f e (inl c) = inl c
+made_err R f e (inr r) = inr (Err e, r, refl)
+
+pub after_ok : {A B : Type 0} (r : Read A) (x : A) (Next : A → Read B → Type 0) (o : Read B) → Ok x ≡ r → Next x o → After r Next o
+after_ok r x Next o e n = subst (λ t. After t Next o) e n
+
+pub after_err : {A B : Type 0} (r : Read A) (Next : A → Read B → Type 0) (e : JsonReadError) → Err e ≡ r → After r Next (Err e)
+after_err r Next e h = subst (λ t. After t Next (Err e)) h refl
+
+-- a fact of a fault, where memory may have run out
+pub or_weaker : {C P Q : Type 0} → (P → Q) → C ⊎ P → C ⊎ Q
+or_weaker f (inl c) = inl c
+or_weaker f (inr p) = inr (f p)
+
+-- THE PARTS OF ARRAYS AND OBJECTS
+
+from_item : {X : Type 0} (xs : List X) (i : ℕ) (x : X) → i < length xs → x ≡ get_or xs i x → drop i xs ≡ x ∷ drop (i + 1) xs
+from_item {X} xs i x below is = drop_more xs i x below ∙ ap (λ (y : X). y ∷ drop (i + 1) xs) (sym is)
+
+members_next : (ms : List JsonMember) (i : ℕ) (m : JsonMember) → i < length ms → m ≡ get_or ms i m
+    → members_view (drop i ms) ≡ member (named m).0 (named m).1 (named m).2.0 (named m).2.1 (members_view (drop (i + 1) ms))
+members_next ms i m below is =
+    ap members_view (from_item ms i m below is)
+    ∙ ap (λ (p : Named). members_from (p ∷ map member_view (drop (i + 1) ms))) (member_view-parts m)
+
+elements_next : (vs : List JsonValue) (i : ℕ) (v : JsonValue) → i < length vs → v ≡ get_or vs i v
+    → elements_view (drop i vs) ≡ element v.at (form_view v.form) (elements_view (drop (i + 1) vs))
+elements_next vs i v below is =
+    ap elements_view (from_item vs i v below is)
+    ∙ ap (λ p. elements_from (p ∷ map value_view (drop (i + 1) vs))) (value_view-parts v)
+
+module _ (pool : Types) (rules : JsonRules) where
+  pub members_step : (all : List FieldView) (p q : Parts) (ms : List JsonMember) (i : ℕ) (m : JsonMember) → i < length ms → m ≡ get_or ms i m
+      → ReadsMember pool rules (field_meant (named m).1 all) (named m) p (Ok q) → (o : Read Parts) → ReadsMembers pool rules all q (members_view (drop (i + 1) ms)) o
+      → ReadsMembers pool rules all p (members_view (drop i ms)) o
+  members_step all p q ms i m below is first o rest =
+      subst (λ (l : Members). ReadsMembers pool rules all p l o) (sym (members_next ms i m below is)) (Ok q, first, rest)
+
+  pub members_stop : (all : List FieldView) (p : Parts) (ms : List JsonMember) (i : ℕ) (m : JsonMember) → i < length ms → m ≡ get_or ms i m → (e : JsonReadError)
+      → ReadsMember pool rules (field_meant (named m).1 all) (named m) p (Err e) → ReadsMembers pool rules all p (members_view (drop i ms)) (Err e)
+  members_stop all p ms i m below is e first =
+      subst (λ (l : Members). ReadsMembers pool rules all p l (Err e)) (sym (members_next ms i m below is)) (Err e, first, refl)
+
+  pub entries_step : (key k : Kind) (es fs : Entries) (ms : List JsonMember) (i : ℕ) (m : JsonMember) → i < length ms → m ≡ get_or ms i m
+      → ReadsMemberEntry pool rules key k (named m) es (Ok fs) → (o : Read Entries) → ReadsEntries pool rules key k fs (members_view (drop (i + 1) ms)) o
+      → ReadsEntries pool rules key k es (members_view (drop i ms)) o
+  entries_step key k es fs ms i m below is first o rest =
+      subst (λ (l : Members). ReadsEntries pool rules key k es l o) (sym (members_next ms i m below is)) (Ok fs, first, rest)
+
+  pub entries_stop : (key k : Kind) (es : Entries) (ms : List JsonMember) (i : ℕ) (m : JsonMember) → i < length ms → m ≡ get_or ms i m → (e : JsonReadError)
+      → ReadsMemberEntry pool rules key k (named m) es (Err e) → ReadsEntries pool rules key k es (members_view (drop i ms)) (Err e)
+  entries_stop key k es ms i m below is e first =
+      subst (λ (l : Members). ReadsEntries pool rules key k es l (Err e)) (sym (members_next ms i m below is)) (Err e, first, refl)
+
+  pub elements_step : (k : Kind) (ds : Datums) (d : Option Datum) (vs : List JsonValue) (i : ℕ) (v : JsonValue) → i < length vs → v ≡ get_or vs i v
+      → ReadsValue pool rules k v.at (form_view v.form) (Ok d) → (o : Read Datums) → ReadsElements pool rules k (with_datum ds d) (elements_view (drop (i + 1) vs)) o
+      → ReadsElements pool rules k ds (elements_view (drop i vs)) o
+  elements_step k ds d vs i v below is first o rest =
+      subst (λ (l : Elements). ReadsElements pool rules k ds l o) (sym (elements_next vs i v below is)) (Ok d, first, rest)
+
+  pub elements_stop : (k : Kind) (ds : Datums) (vs : List JsonValue) (i : ℕ) (v : JsonValue) → i < length vs → v ≡ get_or vs i v → (e : JsonReadError)
+      → ReadsValue pool rules k v.at (form_view v.form) (Err e) → ReadsElements pool rules k ds (elements_view (drop i vs)) (Err e)
+  elements_stop k ds vs i v below is e first =
+      subst (λ (l : Elements). ReadsElements pool rules k ds l (Err e)) (sym (elements_next vs i v below is)) (Err e, first, refl)
+
+  -- A VALUE, BY HOW ITS PARTS ARE READ
+
+  value_as : (k : Kind) (at : ℕ) (j : Json) (o : Read (Option Datum)) → ReadsSingle pool rules k at j (λ m r. ReadsMessage pool rules m at j r) o
+      → ReadsValue pool rules k at j o
+  value_as k at (object ms) o h = h
+  value_as k at (array js) o h = h
+  value_as k at null o h = h
+  value_as k at (boolean b) o h = h
+  value_as k at (number s) o h = h
+  value_as k at (string s) o h = h
+
+  pub value_plain : (k : Kind) (at : ℕ) (j : Json) (o : Read (Option Datum)) → message_of_kind k ≡ None → ReadsScalar pool rules k at j o → ReadsValue pool rules k at j o
+  value_plain k at j o is h =
+      value_as k at j o (subst (λ (t : Option ℕ). ReadsOf t (ReadsScalar pool rules k at j) (λ m r. ReadsMessage pool rules m at j r) o) (sym is) h)
+
+  pub value_inside : (k : Kind) (at m : ℕ) (j : Json) (o : Read (Option Datum)) → message_of_kind k ≡ Some m → Made (ReadsMessage pool rules m at j) (λ b. Some (message b)) o
+      → ReadsValue pool rules k at j o
+  value_inside k at m j o is h =
+      value_as k at j o (subst (λ (t : Option ℕ). ReadsOf t (ReadsScalar pool rules k at j) (λ n r. ReadsMessage pool rules n at j r) o) (sym is) h)
+
+  pub content_as : (s : Shape) (k : Kind) (at : ℕ) (j : Json) (o : Read (Option Holding))
+      → ReadsShape s (λ r. ReadsValue pool rules k at j r) (λ r. ReadsList pool rules k at j r) (λ key r. ReadsMap pool rules key k at j r) o
+      → ReadsContent pool rules s k at j o
+  content_as s k at (object ms) o h = h
+  content_as s k at (array js) o h = h
+  content_as s k at null o h = h
+  content_as s k at (boolean b) o h = h
+  content_as s k at (number t) o h = h
+  content_as s k at (string t) o h = h
+
+-- ANSWERS
+
+pub answers_weaker : {X A : Type 0} (view : X → A) (R S : Read A → Type 0) (r : Result X JsonReadError) → ((o : Read A) → R o → S o) → Answers view R r → Answers view S r
+answers_weaker view R S (Ok x) f h = f _ h
+answers_weaker view R S (Err e) f h = or_weaker (f _) h
+
+pub changes_weaker : {X A : Type 0} (new : A) (R S : Read A → Type 0) (r : Result X JsonReadError) → ((o : Read A) → R o → S o) → Changes new R r → Changes new S r
+changes_weaker new R S (Ok x) f h = f _ h
+changes_weaker new R S (Err e) f h = or_weaker (f _) h
+
+-- a change that fails only when out of memory
+pub changes_done : {X A : Type 0} (new x : A) (R : Read A → Type 0) (r : Result X JsonReadError) → OnOk r (new ≡ x) → IfErr r (λ e. e ≡ out_of_memory) → R (Ok x) → Changes new R r
+changes_done new x R (Ok y) same memory h = subst (λ z. R (Ok z)) (sym same) h
+changes_done new x R (Err e) same memory h = inl memory

@@ -1,0 +1,248 @@
+use Rattle.std.proofs.Common.{◌+◌, List, Bool, drop, drop_of_length-le, Option, Some, Ok, Err, inr, refl, sym, subst, ap, ◌∙◌}
+use Rattle.std.proofs.lemmas.Result.{err_from_is_err_and, on_ok_weaker}
+use Rattle.std.specs.Prelude.{option_map}
+use Rattle.pb_json_text.specs.View.{elements_view, members_view, form_view}
+use Rattle.pb_json_text.specs.declared.value.JsonMember.{JsonMember}
+use Rattle.pb_json_text.specs.declared.value.JsonValue.{JsonValue}
+use Rattle.pb_json_text.proofs.ViewLemmas.{form_view-Array, form_view-Object}
+use Rattle.pb_schema.specs.Types.{FieldView, message_fields}
+use Rattle.pb_schema.specs.View.{field_view}
+use Rattle.pb_value.specs.Change.{AreKeys}
+use Rattle.pb_value.specs.Data.{Datums, Entries, one, list, map, message}
+use Rattle.pb_value.specs.View.{body_view, content_view, entries_view, key_view, value_view, values_view}
+use Rattle.pb_value.proofs.Views.{content_view-One, content_view-List, content_view-Map, value_view-Message}
+use Rattle.pb_json_read.specs.Answers.{Changes, named, parts_view}
+use Rattle.pb_json_read.specs.Reads.{Made, Parts, with_number, with_oneof, with_entry, with_held, is_absent, ReadsScalar, ReadsMemberUnder, ReadsMemberEntry, ReadsElements, ReadsEntries, ReadsMembers, ReadsMember, ReadsMemberHeld, ReadsHeld, ReadsContent, ReadsValue, ReadsMessage}
+use Rattle.pb_json_read.proofs.ReadLemmas.{made_ok, made_err, after_ok, after_err, or_weaker, answers_weaker, changes_weaker, changes_done, content_as, value_plain, value_inside}
+use Rattle.pb_json_read.proofs.ReadLemmas.{members_step, members_stop, entries_step, entries_stop, elements_step, elements_stop}
+use Rattle.pb_json_read.proofs.EntryLemmas.{key_of_kind, under_taken, under_free, entry_keys, entry_under, entry_none}
+use Rattle.pb_json_read.proofs.reading.+read.Goals as goal
+
+pub read_members-loop-member-init : goal.read_members-loop-member-init
+read_members-loop-member-init t c = λ o h.
+    subst (λ (p : Parts). ReadsMembers c.args.context.now.pool.now c.args.context.now.rules (message_fields c.args.context.now.pool.now c.args.id.0) p (members_view c.args.members.now.items) o) c.new-parts.ensures h
+
+pub read_members-loop-member-preserved : goal.read_members-loop-member-preserved
+read_members-loop-member-preserved t c = λ o h.
+    let below = rw c.deref-member-items.ensures.value at c.loop-member-test.true in
+    let item = rw c.deref-member-items.ensures.value at c.member-item.is in
+    c.loop-member.invariant o (members_step c.args.context.now.pool.now c.args.context.now.rules (message_fields c.args.context.now.pool.now c.args.id.0) _ _ c.args.members.now.items c.loop-member.member-index c.member-item.result below item
+    c.in_ok-read_member.ensures o h)
+
+pub read_members-returns-in_err-read_member : goal.read_members-returns-in_err-read_member
+read_members-returns-in_err-read_member t c =
+    let below = rw c.deref-member-items.ensures.value at c.loop-member-test.true in
+    let item = rw c.deref-member-items.ensures.value at c.member-item.is in
+    let p = err_from_is_err_and c.from_residual.result c.from_residual.ensures.1 in
+    rw (p.1, p.2) (made_err _ (λ (q : Parts). q.message) _ (or_weaker (λ h. c.loop-member.invariant (Err _) (members_stop c.args.context.now.pool.now c.args.context.now.rules (message_fields c.args.context.now.pool.now c.args.id.0) _ c.args.members.now.items c.loop-member.member-index c.member-item.result below item _ h))
+    c.in_err-read_member.ensures))
+
+pub read_members-returns : goal.read_members-returns
+read_members-returns t c =
+    let none = drop_of_length-le c.args.members.now.items (rw c.deref-member-items.ensures.value at c.loop-member-test.false) in
+    made_ok _ (λ (q : Parts). q.message) (parts_view c.loop-member.parts) _ refl
+    (c.loop-member.invariant (Ok (parts_view c.loop-member.parts))
+    (subst (λ (ms : List JsonMember). ReadsMembers c.args.context.now.pool.now c.args.context.now.rules (message_fields c.args.context.now.pool.now c.args.id.0) (parts_view c.loop-member.parts) (members_view ms) (Ok (parts_view c.loop-member.parts))) (sym none) refl))
+
+pub read_elements-loop-item-init : goal.read_elements-loop-item-init
+read_elements-loop-item-init t c = λ o h.
+    subst (λ (vs : Datums). ReadsElements c.args.context.now.pool.now c.args.context.now.rules c.args.kind vs (elements_view c.args.items.now.items) o) (ap values_view c.new-values.ensures.items) h
+
+pub read_elements-loop-item-preserved : goal.read_elements-loop-item-preserved
+read_elements-loop-item-preserved t c = λ o h.
+    let below = rw c.deref-item-items.ensures.value at c.loop-item-test.true in
+    let item = rw c.deref-item-items.ensures.value at c.item-item.is in
+    c.loop-item.invariant o (elements_step c.args.context.now.pool.now c.args.context.now.rules c.args.kind _ (option_map value_view c.in_ok-value.value) c.args.items.now.items c.loop-item.item-index c.item-item.result below item
+    c.in_ok-value.ensures o (subst (λ (ds : Datums). ReadsElements c.args.context.now.pool.now c.args.context.now.rules c.args.kind ds (elements_view (drop (c.loop-item.item-index + 1) c.args.items.now.items)) o) c.in_ok-push_some.ensures.pushed h))
+
+pub read_elements-returns-in_err-value : goal.read_elements-returns-in_err-value
+read_elements-returns-in_err-value t c =
+    let below = rw c.deref-item-items.ensures.value at c.loop-item-test.true in
+    let item = rw c.deref-item-items.ensures.value at c.item-item.is in
+    let p = err_from_is_err_and c.from_residual.result c.from_residual.ensures.1 in
+    rw (p.1, p.2) (or_weaker (λ h. c.loop-item.invariant (Err _) (elements_stop c.args.context.now.pool.now c.args.context.now.rules c.args.kind _ c.args.items.now.items c.loop-item.item-index c.item-item.result below item _ h)) c.in_err-value.ensures)
+
+pub read_elements-returns : goal.read_elements-returns
+read_elements-returns t c =
+    let none = drop_of_length-le c.args.items.now.items (rw c.deref-item-items.ensures.value at c.loop-item-test.false) in
+    c.loop-item.invariant (Ok (values_view c.loop-item.values.items))
+    (subst (λ (vs : List JsonValue). ReadsElements c.args.context.now.pool.now c.args.context.now.rules c.args.kind (values_view c.loop-item.values.items) (elements_view vs) (Ok (values_view c.loop-item.values.items))) (sym none) refl)
+
+pub read_entries-loop-member-init : goal.read_entries-loop-member-init
+read_entries-loop-member-init t c =
+    let none = c.new-entries.ensures in record {
+      keys = subst (λ (es : Entries). AreKeys c.args.key es) (sym none) tt;
+      left = λ o h. subst (λ (es : Entries). ReadsEntries c.args.context.now.pool.now c.args.context.now.rules c.args.key c.args.kind es (members_view c.args.members.now.items) o) none h;
+    }
+
+pub read_entries-loop-member-preserved : goal.read_entries-loop-member-preserved
+read_entries-loop-member-preserved t c =
+    let below = rw c.deref-member-items.ensures.value at c.loop-member-test.true in
+    let item = rw c.deref-member-items.ensures.value at c.member-item.is in
+    record {
+      keys = c.in_ok-read_entry.ensures.keys c.loop-member.invariant.keys;
+      left = λ o h. c.loop-member.invariant.left o (entries_step c.args.context.now.pool.now c.args.context.now.rules c.args.key c.args.kind _ _ c.args.members.now.items c.loop-member.member-index c.member-item.result below item (c.in_ok-read_entry.ensures.read c.loop-member.invariant.keys) o h);
+    }
+
+pub read_entries-returns-in_err-read_entry : goal.read_entries-returns-in_err-read_entry
+read_entries-returns-in_err-read_entry t c =
+    let below = rw c.deref-member-items.ensures.value at c.loop-member-test.true in
+    let item = rw c.deref-member-items.ensures.value at c.member-item.is in
+    let p = err_from_is_err_and c.from_residual.result c.from_residual.ensures.1 in
+    rw (p.1, p.2) (or_weaker (λ h. c.loop-member.invariant.left (Err _) (entries_stop c.args.context.now.pool.now c.args.context.now.rules c.args.key c.args.kind _ c.args.members.now.items c.loop-member.member-index c.member-item.result below item _ h)) (c.in_err-read_entry.ensures.read c.loop-member.invariant.keys))
+
+pub read_entries-returns : goal.read_entries-returns
+read_entries-returns t c =
+    let none = drop_of_length-le c.args.members.now.items (rw c.deref-member-items.ensures.value at c.loop-member-test.false) in
+    c.loop-member.invariant.left (Ok (entries_view c.loop-member.entries.map.entries))
+    (subst (λ (ms : List JsonMember). ReadsEntries c.args.context.now.pool.now c.args.context.now.rules c.args.key c.args.kind (entries_view c.loop-member.entries.map.entries) (members_view ms) (Ok (entries_view c.loop-member.entries.map.entries))) (sym none) refl)
+
+pub read_message-returns-in-Object : goal.read_message-returns-in-Object
+read_message-returns-in-Object t c = rw (c.in-Object.is, form_view-Object) c.read_members.ensures
+
+pub read_list-returns-in-Array : goal.read_list-returns-in-Array
+read_list-returns-in-Array t c = rw (c.in-Array.is, form_view-Array) c.read_elements.ensures
+
+pub read_map-returns-in-Object : goal.read_map-returns-in-Object
+read_map-returns-in-Object t c = rw (c.in-Object.is, form_view-Object) c.read_entries.ensures
+
+pub read_member-returns-in-Some : goal.read_member-returns-in-Some
+read_member-returns-in-Some t c =
+    let found = rw c.as_str.ensures.value at c.in-Some.ensures.found in
+    subst (λ (f : Option FieldView). Changes (parts_view c.read_field.new.parts) (ReadsMember c.args.context.now.pool.now c.args.context.now.rules f (named c.args.member.now) (parts_view c.args.parts.now)) c.read_field.result) found c.read_field.ensures
+
+pub read_member-returns-in-None : goal.read_member-returns-in-None
+read_member-returns-in-None t c =
+    let found = rw c.as_str.ensures.value at c.in-None.ensures.found in
+    subst (λ (f : Option FieldView). Changes (parts_view c.args.parts.now) (ReadsMember c.args.context.now.pool.now c.args.context.now.rules f (named c.args.member.now) (parts_view c.args.parts.now)) c.unknown_name.result) found (c.unknown_name.ensures (parts_view c.args.parts.now))
+
+pub read_field-returns-in_err-note_number : goal.read_field-returns-in_err-note_number
+read_field-returns-in_err-note_number t c =
+    let p = err_from_is_err_and c.from_residual.result c.from_residual.ensures.1 in
+    rw (p.1, p.2) (or_weaker (after_err _ _ _) c.in_err-note_number.ensures)
+
+pub read_field-returns-then-is_absent : goal.read_field-returns-then-is_absent
+read_field-returns-then-is_absent t c =
+    after_ok _ _ _ _ c.in_ok-note_number.ensures
+    (subst (λ (b : Bool). ReadsHeld (field_view c.args.field.now) (named c.args.member.now).0 (λ s k r. ReadsContent c.args.context.now.pool.now c.args.context.now.rules s k (named c.args.member.now).2.0 (named c.args.member.now).2.1 r) b (parts_view c.note_number.new.self) (Ok (parts_view c.note_number.new.self))) (sym c.if-is_absent.true ∙ c.is_absent.ensures) refl)
+
+pub read_field-returns : goal.read_field-returns
+read_field-returns t c =
+    changes_weaker (parts_view c.read_held.new.parts) (ReadsMemberHeld c.args.context.now.pool.now c.args.context.now.rules (field_view c.args.field.now) (named c.args.member.now) (parts_view c.note_number.new.self)) (ReadsMember c.args.context.now.pool.now c.args.context.now.rules (Some (field_view c.args.field.now)) (named c.args.member.now) (parts_view c.args.parts.now)) c.read_held.result
+    (λ o h. after_ok (with_number (field_view c.args.field.now).number (named c.args.member.now).0 (parts_view c.args.parts.now)) (parts_view c.note_number.new.self)
+    (λ q s. ReadsHeld (field_view c.args.field.now) (named c.args.member.now).0 (λ s k r. ReadsContent c.args.context.now.pool.now c.args.context.now.rules s k (named c.args.member.now).2.0 (named c.args.member.now).2.1 r) (is_absent c.args.context.now.pool.now (field_view c.args.field.now).shape (field_view c.args.field.now).kind (named c.args.member.now).2.1) q s) o c.in_ok-note_number.ensures
+    (subst (λ (b : Bool). ReadsHeld (field_view c.args.field.now) (named c.args.member.now).0 (λ s k r. ReadsContent c.args.context.now.pool.now c.args.context.now.rules s k (named c.args.member.now).2.0 (named c.args.member.now).2.1 r) b (parts_view c.note_number.new.self) o) (sym c.if-is_absent.false ∙ c.is_absent.ensures) h)) c.read_held.ensures
+
+pub read_held-returns-in_err-note_shape : goal.read_held-returns-in_err-note_shape
+read_held-returns-in_err-note_shape t c =
+    let p = err_from_is_err_and c.from_residual.result c.from_residual.ensures.1 in
+    rw (p.1, p.2) (or_weaker (after_err _ _ _) c.in_err-note_shape.ensures)
+
+pub read_held-returns-in_err-content : goal.read_held-returns-in_err-content
+read_held-returns-in_err-content t c =
+    let p = err_from_is_err_and c.from_residual-in_err-content.result c.from_residual-in_err-content.ensures.1 in
+    rw (p.1, p.2) (or_weaker (λ h. after_ok (with_oneof (field_view c.args.field.now).shape (named c.args.member.now).0 (parts_view c.args.parts.now)) (parts_view c.note_shape.new.self) (λ q s. Made (ReadsContent c.args.context.now.pool.now c.args.context.now.rules (field_view c.args.field.now).shape (field_view c.args.field.now).kind (named c.args.member.now).2.0 (named c.args.member.now).2.1) (λ h. with_held (field_view c.args.field.now).shape (field_view c.args.field.now).number h q) s) (Err _) c.in_ok-note_shape.ensures h) (made_err (ReadsContent c.args.context.now.pool.now c.args.context.now.rules (field_view c.args.field.now).shape (field_view c.args.field.now).kind (named c.args.member.now).2.0 (named c.args.member.now).2.1) (λ h. with_held (field_view c.args.field.now).shape (field_view c.args.field.now).number h (parts_view c.note_shape.new.self)) _ c.in_err-content.ensures))
+
+pub read_held-returns-in-Some : goal.read_held-returns-in-Some
+read_held-returns-in-Some t c =
+    changes_done (parts_view c.put.new.self) (with_held (field_view c.args.field.now).shape (field_view c.args.field.now).number (Some (content_view c.in-Some.content)) (parts_view c.note_shape.new.self)) (ReadsMemberHeld c.args.context.now.pool.now c.args.context.now.rules (field_view c.args.field.now) (named c.args.member.now) (parts_view c.args.parts.now))
+    c.put.result c.put.ensures.put c.put.ensures.memory
+    (after_ok (with_oneof (field_view c.args.field.now).shape (named c.args.member.now).0 (parts_view c.args.parts.now)) (parts_view c.note_shape.new.self) (λ q s. Made (ReadsContent c.args.context.now.pool.now c.args.context.now.rules (field_view c.args.field.now).shape (field_view c.args.field.now).kind (named c.args.member.now).2.0 (named c.args.member.now).2.1) (λ h. with_held (field_view c.args.field.now).shape (field_view c.args.field.now).number h q) s) _ c.in_ok-note_shape.ensures (made_ok (ReadsContent c.args.context.now.pool.now c.args.context.now.rules (field_view c.args.field.now).shape (field_view c.args.field.now).kind (named c.args.member.now).2.0 (named c.args.member.now).2.1) (λ h. with_held (field_view c.args.field.now).shape (field_view c.args.field.now).number h (parts_view c.note_shape.new.self)) (option_map content_view c.in_ok-content.field-0) _ (rw (c.in-Some.is) refl) c.in_ok-content.ensures))
+
+pub read_held-returns-in-None : goal.read_held-returns-in-None
+read_held-returns-in-None t c =
+    after_ok (with_oneof (field_view c.args.field.now).shape (named c.args.member.now).0 (parts_view c.args.parts.now)) (parts_view c.note_shape.new.self) (λ q s. Made (ReadsContent c.args.context.now.pool.now c.args.context.now.rules (field_view c.args.field.now).shape (field_view c.args.field.now).kind (named c.args.member.now).2.0 (named c.args.member.now).2.1) (λ h. with_held (field_view c.args.field.now).shape (field_view c.args.field.now).number h q) s) _ c.in_ok-note_shape.ensures (made_ok (ReadsContent c.args.context.now.pool.now c.args.context.now.rules (field_view c.args.field.now).shape (field_view c.args.field.now).kind (named c.args.member.now).2.0 (named c.args.member.now).2.1) (λ h. with_held (field_view c.args.field.now).shape (field_view c.args.field.now).number h (parts_view c.note_shape.new.self)) (option_map content_view c.in_ok-content.field-0) _ (rw (c.in-None.is) refl) c.in_ok-content.ensures)
+
+pub read_content-returns-in-Implicit : goal.read_content-returns-in-Implicit
+read_content-returns-in-Implicit t c =
+    rw (c.in-Implicit.is) (answers_weaker _ _ _ c.read_one.result (content_as c.args.context.now.pool.now c.args.context.now.rules _ c.args.kind _ _) c.read_one.ensures)
+
+pub read_content-returns-in-Explicit : goal.read_content-returns-in-Explicit
+read_content-returns-in-Explicit t c =
+    rw (c.in-Explicit.is) (answers_weaker _ _ _ c.read_one-in-Explicit.result (content_as c.args.context.now.pool.now c.args.context.now.rules _ c.args.kind _ _) c.read_one-in-Explicit.ensures)
+
+pub read_content-returns-in-OneofMember : goal.read_content-returns-in-OneofMember
+read_content-returns-in-OneofMember t c =
+    rw (c.in-OneofMember.is) (answers_weaker _ _ _ c.read_one-in-OneofMember.result (content_as c.args.context.now.pool.now c.args.context.now.rules _ c.args.kind _ _) c.read_one-in-OneofMember.ensures)
+
+pub read_content-returns-in-List : goal.read_content-returns-in-List
+read_content-returns-in-List t c =
+    rw (c.in-List.is) (answers_weaker _ _ _ c.read_listed.result (content_as c.args.context.now.pool.now c.args.context.now.rules _ c.args.kind _ _) c.read_listed.ensures)
+
+pub read_content-returns-in-Map : goal.read_content-returns-in-Map
+read_content-returns-in-Map t c =
+    rw (c.in-Map.is) (answers_weaker _ _ _ c.read_mapped.result (content_as c.args.context.now.pool.now c.args.context.now.rules _ c.args.kind _ _) c.read_mapped.ensures)
+
+pub read_one-returns-in_err-one : goal.read_one-returns-in_err-one
+read_one-returns-in_err-one t c =
+    let p = err_from_is_err_and c.from_residual.result c.from_residual.ensures.1 in
+    rw (p.1, p.2) (made_err _ (option_map one) _ c.in_err-one.ensures)
+
+pub read_one-returns-in-Some : goal.read_one-returns-in-Some
+read_one-returns-in-Some t c = made_ok _ (option_map one) (option_map value_view c.in_ok-one.field-0) _ (rw (content_view-One, c.in-Some.is) refl) c.in_ok-one.ensures
+
+pub read_one-returns-in-None : goal.read_one-returns-in-None
+read_one-returns-in-None t c = made_ok _ (option_map one) (option_map value_view c.in_ok-one.field-0) _ (rw (c.in-None.is) refl) c.in_ok-one.ensures
+
+pub read_listed-returns-in_err-values : goal.read_listed-returns-in_err-values
+read_listed-returns-in_err-values t c =
+    let p = err_from_is_err_and c.from_residual.result c.from_residual.ensures.1 in
+    rw (p.1, p.2) (made_err _ (λ ds. Some (list ds)) _ c.in_err-values.ensures)
+
+pub read_listed-returns : goal.read_listed-returns
+read_listed-returns t c = made_ok _ (λ ds. Some (list ds)) (values_view c.in_ok-values.values.items) _ (rw content_view-List refl) c.in_ok-values.ensures
+
+pub read_mapped-returns-in_err-entries : goal.read_mapped-returns-in_err-entries
+read_mapped-returns-in_err-entries t c =
+    let p = err_from_is_err_and c.from_residual.result c.from_residual.ensures.1 in
+    rw (p.1, p.2) (made_err _ (λ es. Some (map es)) _ c.in_err-entries.ensures)
+
+pub read_mapped-returns : goal.read_mapped-returns
+read_mapped-returns t c = made_ok _ (λ es. Some (map es)) (entries_view c.in_ok-entries.entries.entries) _ (rw content_view-Map refl) c.in_ok-entries.ensures
+
+pub read_inside-returns-in_err-body : goal.read_inside-returns-in_err-body
+read_inside-returns-in_err-body t c =
+    let p = err_from_is_err_and c.from_residual.result c.from_residual.ensures.1 in
+    rw (p.1, p.2) (made_err _ (λ b. Some (message b)) _ c.in_err-body.ensures)
+
+pub read_inside-returns : goal.read_inside-returns
+read_inside-returns t c = made_ok _ (λ b. Some (message b)) (body_view c.in_ok-body.body) _ (rw value_view-Message refl) c.in_ok-body.ensures
+
+pub read_single-returns-in-Some : goal.read_single-returns-in-Some
+read_single-returns-in-Some t c =
+    answers_weaker (option_map value_view) (Made (ReadsMessage c.args.context.now.pool.now c.args.context.now.rules c.in-Some.id.0 c.args.value.now.at (form_view c.args.value.now.form)) (λ b. Some (message b))) (ReadsValue c.args.context.now.pool.now c.args.context.now.rules c.args.kind c.args.value.now.at (form_view c.args.value.now.form)) c.read_inside.result
+    (λ o h. value_inside c.args.context.now.pool.now c.args.context.now.rules c.args.kind c.args.value.now.at c.in-Some.id.0 (form_view c.args.value.now.form) o (sym c.in-Some.ensures.named) h) c.read_inside.ensures
+
+pub read_single-returns-in-None : goal.read_single-returns-in-None
+read_single-returns-in-None t c =
+    answers_weaker (option_map value_view) (ReadsScalar c.args.context.now.pool.now c.args.context.now.rules c.args.kind c.args.value.now.at (form_view c.args.value.now.form)) (ReadsValue c.args.context.now.pool.now c.args.context.now.rules c.args.kind c.args.value.now.at (form_view c.args.value.now.form)) c.read_plain.result
+    (λ o h. value_plain c.args.context.now.pool.now c.args.context.now.rules c.args.kind c.args.value.now.at (form_view c.args.value.now.form) o (sym c.in-None.ensures.named) h) c.read_plain.ensures
+
+pub read_under-returns-then-has_key : goal.read_under-returns-then-has_key
+read_under-returns-then-has_key t c = λ fits.
+    inr (under_taken (key_view c.args.key) (named c.args.member.now).0 (λ r. ReadsValue c.args.context.now.pool.now c.args.context.now.rules c.args.kind (named c.args.member.now).2.0 (named c.args.member.now).2.1 r) (entries_view c.args.entries.now.map.entries) _ (sym c.has_key.ensures ∙ c.if-has_key.true) c.refused.ensures)
+
+pub read_under-returns-in_err-value : goal.read_under-returns-in_err-value
+read_under-returns-in_err-value t c = λ fits.
+    let p = err_from_is_err_and c.from_residual.result c.from_residual.ensures.1 in
+    rw (p.1, p.2) (or_weaker (under_free (key_view c.args.key) (named c.args.member.now).0 (λ r. ReadsValue c.args.context.now.pool.now c.args.context.now.rules c.args.kind (named c.args.member.now).2.0 (named c.args.member.now).2.1 r) (entries_view c.args.entries.now.map.entries) (Err _) (sym c.has_key.ensures ∙ c.if-has_key.false)) (made_err (ReadsValue c.args.context.now.pool.now c.args.context.now.rules c.args.kind (named c.args.member.now).2.0 (named c.args.member.now).2.1) (with_entry (key_view c.args.key) (entries_view c.args.entries.now.map.entries)) _ c.in_err-value.ensures))
+
+pub read_under-returns : goal.read_under-returns
+read_under-returns t c = λ fits.
+    changes_done (entries_view c.put_some.new.entries.map.entries) ((with_entry (key_view c.args.key) (entries_view c.args.entries.now.map.entries)) (option_map value_view c.in_ok-value.value)) (ReadsMemberUnder c.args.context.now.pool.now c.args.context.now.rules (key_view c.args.key) c.args.kind (named c.args.member.now) (entries_view c.args.entries.now.map.entries))
+    c.put_some.result (on_ok_weaker c.put_some.result (λ h. h fits) c.put_some.ensures.put) c.put_some.ensures.memory
+    (under_free (key_view c.args.key) (named c.args.member.now).0 (λ r. ReadsValue c.args.context.now.pool.now c.args.context.now.rules c.args.kind (named c.args.member.now).2.0 (named c.args.member.now).2.1 r) (entries_view c.args.entries.now.map.entries) _ (sym c.has_key.ensures ∙ c.if-has_key.false)
+    (made_ok (ReadsValue c.args.context.now.pool.now c.args.context.now.rules c.args.kind (named c.args.member.now).2.0 (named c.args.member.now).2.1) (with_entry (key_view c.args.key) (entries_view c.args.entries.now.map.entries)) (option_map value_view c.in_ok-value.value) _ refl c.in_ok-value.ensures))
+
+pub read_entry-returns-in-Some-clause-read : goal.read_entry-returns-in-Some-clause-read
+read_entry-returns-in-Some-clause-read t c = λ keys.
+    changes_weaker (entries_view c.read_under.new.entries.map.entries) (ReadsMemberUnder c.args.context.now.pool.now c.args.context.now.rules (key_view c.in-Some.name) c.args.kind (named c.args.member.now) (entries_view c.args.entries.now.map.entries)) (ReadsMemberEntry c.args.context.now.pool.now c.args.context.now.rules c.args.key c.args.kind (named c.args.member.now) (entries_view c.args.entries.now.map.entries))
+    c.read_under.result (entry_under c.args.key (named c.args.member.now).1 (named c.args.member.now).0 (λ r. ReadsValue c.args.context.now.pool.now c.args.context.now.rules c.args.kind (named c.args.member.now).2.0 (named c.args.member.now).2.1 r) (entries_view c.args.entries.now.map.entries) (key_view c.in-Some.name) (rw (c.as_str.ensures.value, c.in-Some.is) at c.in_ok-name.ensures).0) (c.read_under.ensures (c.args.key, (key_of_kind c.args.key (named c.args.member.now).1 (key_view c.in-Some.name) (rw (c.as_str.ensures.value, c.in-Some.is) at c.in_ok-name.ensures).0), keys))
+
+pub read_entry-returns-in-Some-clause-keys : goal.read_entry-returns-in-Some-clause-keys
+read_entry-returns-in-Some-clause-keys t c = λ keys.
+    entry_keys (key_view c.in-Some.name) (named c.args.member.now).0 (λ r. ReadsValue c.args.context.now.pool.now c.args.context.now.rules c.args.kind (named c.args.member.now).2.0 (named c.args.member.now).2.1 r) (entries_view c.args.entries.now.map.entries) c.args.key (entries_view c.read_under.new.entries.map.entries) c.read_under.result (key_of_kind c.args.key (named c.args.member.now).1 (key_view c.in-Some.name) (rw (c.as_str.ensures.value, c.in-Some.is) at c.in_ok-name.ensures).0) keys (c.read_under.ensures (c.args.key, (key_of_kind c.args.key (named c.args.member.now).1 (key_view c.in-Some.name) (rw (c.as_str.ensures.value, c.in-Some.is) at c.in_ok-name.ensures).0), keys))
+
+pub read_entry-returns-in-None-clause-read : goal.read_entry-returns-in-None-clause-read
+read_entry-returns-in-None-clause-read t c = λ keys.
+    inr (entry_none c.args.key (named c.args.member.now).1 (named c.args.member.now).0 (λ r. ReadsValue c.args.context.now.pool.now c.args.context.now.rules c.args.kind (named c.args.member.now).2.0 (named c.args.member.now).2.1 r) (entries_view c.args.entries.now.map.entries) _ (rw (c.as_str.ensures.value, c.in-None.is) at c.in_ok-name.ensures) c.refused.ensures)

@@ -1,0 +1,52 @@
+-- What the calls answer.
+use Rattle.std.specs.Prelude.{◌≡◌, ◌⊎◌, ℕ, List, Result, Ok, Err, string_bytes}
+use Rattle.pb_schema.specs.Types.{Types}
+use Rattle.pb_value.specs.Data.{Message}
+use Rattle.pb_value.specs.View.{body_view}
+use Rattle.pb_value.specs.WellFormed.{IsWellFormed}
+use Rattle.pb_json_text.specs.Json.{Placed}
+use Rattle.pb_json_text.specs.View.{Named, form_view}
+use Rattle.pb_json_text.specs.declared.value.JsonMember.{JsonMember}
+use Rattle.pb_json_text.specs.Texts.{IsJson, HasFault}
+use Rattle.pb_json_text.specs.declared.fault.JsonCause.{JsonCause}
+use Rattle.pb_json_read.specs.declared.parts.Parts.{Parts}
+use Rattle.pb_json_read.specs.declared.rules.JsonRules.{JsonRules}
+use Rattle.pb_json_read.specs.declared.error.JsonReadCause.TheVariants.{TooDeep}
+use Rattle.pb_json_read.specs.declared.error.JsonReadError.{JsonReadError}
+use Rattle.pb_json_read.specs.Faults.{fault, cause_of, out_of_memory}
+use Rattle.pb_json_read.specs.Reads.{Read, ReadsMessage}
+use Rattle.pb_json_read.specs.Reads as reads
+
+-- the answer is what is read, as it is seen, or the fault, or that memory ran out
+abbrev pub Answers : {X A : Type 0} → (X → A) → (Read A → Type 0) → Result X JsonReadError → Type 0
+Answers view R (Ok x) = R (Ok (view x))
+Answers view R (Err e) = (e ≡ out_of_memory) ⊎ R (Err e)
+
+-- the same of a call that changes something into this
+abbrev pub Changes : {X A : Type 0} → A → (Read A → Type 0) → Result X JsonReadError → Type 0
+Changes new R (Ok x) = R (Ok new)
+Changes new R (Err e) = (e ≡ out_of_memory) ⊎ R (Err e)
+
+abbrev pub parts_view : Parts → reads.Parts
+parts_view p = record { message = body_view p.body; numbers = p.numbers.keys; oneofs = p.oneofs.keys }
+
+-- where the name of a member begins, the name, and its value
+abbrev pub named : JsonMember → Named
+named m = (m.at, string_bytes m.name, (m.value.at, form_view m.value.form))
+
+-- THE WHOLE CALL
+
+-- the bytes are a JSON text that is read as the message, and the message is well formed: it nests at most 100 levels
+abbrev pub IsReadAs : Types → JsonRules → ℕ → List ℕ → Message → Type 0
+IsReadAs pool rules m b v = (j : Placed) × IsJson j b × ReadsMessage pool rules m j.0 j.1 (Ok v) × IsWellFormed pool m v
+
+-- a JSON text in which this is the first fault, or which is read as a message that is not well formed: it nests too deep
+abbrev pub HasReadFault : Types → JsonRules → ℕ → Placed → JsonReadError → Type 0
+HasReadFault pool rules m j e =
+    ReadsMessage pool rules m j.0 j.1 (Err e)
+    ⊎ ((v : Message) × ReadsMessage pool rules m j.0 j.1 (Ok v) × (¬ IsWellFormed pool m v) × (e ≡ fault j.0 TooDeep))
+
+-- the bytes are refused with this: they are no JSON text, or one with a fault
+abbrev pub IsRefusedWith : Types → JsonRules → ℕ → List ℕ → JsonReadError → Type 0
+IsRefusedWith pool rules m b e =
+    ((n : ℕ) × (c : JsonCause) × HasFault c b n × (e ≡ fault n (cause_of c))) ⊎ ((j : Placed) × IsJson j b × HasReadFault pool rules m j e)

@@ -1,0 +1,37 @@
+-- Faults by their parts, and the names of causes.
+use Rattle.std.specs.Prelude.{ℕ, List, codes}
+use Rattle.pb_json_text.specs.declared.fault.JsonCause.{JsonCause}
+use Rattle.pb_json_text.specs.declared.fault.JsonCause.TheVariants as text_cause
+use Rattle.pb_json_text.specs.declared.fault.JsonFault.{JsonFault}
+use Rattle.pb_json_read.specs.declared.error.JsonReadCause.{JsonReadCause}
+use Rattle.pb_json_read.specs.declared.error.JsonReadCause.TheVariants.{UnexpectedByte, UnexpectedEnd, BadUtf8, TooDeep, UnknownName, RepeatedName, SecondMember, BadKey, BadValue, OutOfMemory}
+use Rattle.pb_json_read.specs.declared.error.JsonReadError.{JsonReadError}
+
+abbrev pub fault : ℕ → JsonReadCause → JsonReadError
+fault n c = record { byte = n; cause = c }
+
+abbrev pub out_of_memory : JsonReadError
+out_of_memory = fault 0 OutOfMemory
+
+-- bytes that are no JSON text
+abbrev pub cause_of : JsonCause → JsonReadCause
+cause_of text_cause.UnexpectedByte = UnexpectedByte
+cause_of text_cause.UnexpectedEnd = UnexpectedEnd
+cause_of text_cause.BadUtf8 = BadUtf8
+cause_of text_cause.TooDeep = TooDeep
+cause_of text_cause.OutOfMemory = OutOfMemory
+
+abbrev pub fault_of : JsonFault → JsonReadError
+fault_of f = fault f.byte (cause_of f.cause)
+
+abbrev pub name_of : JsonReadCause → List ℕ
+name_of UnexpectedByte = codes "UnexpectedByte"
+name_of UnexpectedEnd = codes "UnexpectedEnd"
+name_of BadUtf8 = codes "BadUtf8"
+name_of TooDeep = codes "TooDeep"
+name_of UnknownName = codes "UnknownName"
+name_of RepeatedName = codes "RepeatedName"
+name_of SecondMember = codes "SecondMember"
+name_of BadKey = codes "BadKey"
+name_of BadValue = codes "BadValue"
+name_of OutOfMemory = codes "OutOfMemory"

@@ -1,0 +1,11 @@
+-- ---- why a text is refused
+pub mod Faults
+-- ---- what single parts are read as
+pub mod JsonNames
+pub mod Names
+pub mod Scalars
+pub mod Values
+pub mod Keys
+-- ---- messages
+pub mod Reads
+pub mod Answers

@@ -1,0 +1,68 @@
+//! Texts that are refused, and where.
+
+ghost use Rattle.std.specs.Prelude.{◌<◌, length};
+
+use super::schema::pool;
+use pb_json_read::{JsonReadCause, JsonRules, read_json};
+use pb_schema::{MessageId, Pool};
+use std::alloc::{AllocError, Global};
+use std::test::Fail;
+
+/// A row: a text, the byte and the cause. The byte is counted by hand. Python's protobuf 3.21 refuses each but four: an array in place of a message,
+/// where the mapping has an object; padding alone, which is no base64 (RFC 4648); and two names of one field, which the conformance suite wants
+/// refused.
+const ROWS: &str = "
+{ | 1 UnexpectedEnd
+{\"intA\":1,} | 10 UnexpectedByte
+[] | 0 BadValue
+ null | 1 BadValue
+{\"nope\":1} | 1 UnknownName
+{\"intA\":1,\"nope\":{}} | 10 UnknownName
+{\"intA\":1,\"int_a\":1} | 10 RepeatedName
+{\"pickX\":1,\"pickY\":{}} | 11 SecondMember
+{\"intA\":2147483648} | 8 BadValue
+{\"intA\":\" 1\"} | 8 BadValue
+{\"intA\":1.5} | 8 BadValue
+{\"intA\":true} | 8 BadValue
+{\"pickX\":-1} | 9 BadValue
+{\"textB\":1} | 9 BadValue
+{\"textB\":{}} | 9 BadValue
+{\"flagP\":1} | 9 BadValue
+{\"flagP\":\"true\"} | 9 BadValue
+{\"rawS\":\"=\"} | 8 BadValue
+{\"colorT\":\"GREEN\"} | 10 BadValue
+{\"listF\":1} | 9 BadValue
+{\"listF\":[1,null]} | 12 BadValue
+{\"listF\":[1,{}]} | 12 BadValue
+{\"innerC\":[]} | 10 BadValue
+{\"innerC\":{\"innerC\":{\"intA\":\"x\"}}} | 28 BadValue
+{\"mapM\":[]} | 8 BadValue
+{\"mapM\":{\"a\":null}} | 13 BadValue
+{\"byIdV\":{\"x\":{}}} | 10 BadKey
+{\"byIdV\":{\"1\":{},\"1\":{}}} | 17 RepeatedName
+{\"byFlagW\":{\"1\":\"\"}} | 12 BadKey
+";
+
+/// What a text is refused with.
+fn refusal(alloc: Global, pool: &Pool, id: MessageId, text: &str) -> Result<String, Fail>
+    requires { id.0 < length pool.now.messages }
+{
+    match read_json(alloc, pool, id, text.as_bytes(), JsonRules::Strict) {
+        Ok(_) => Ok(String::from_str(alloc, "read")?),
+        Err(error) if error.cause == JsonReadCause::OutOfMemory => Err(AllocError.into()),
+        Err(error) => Ok(format!(in alloc; "{} {}", error.byte, error.cause.name())?),
+    }
+}
+
+#[test]
+fn refusals(rt: HostRuntime) -> Result<(), Fail> {
+    let pool = pool(rt.alloc())?;
+    let id = pool.message_by_name("t.M").ok_or("no type t.M")?;
+    for row in ROWS.lines() {
+        if let Some((text, wanted)) = row.rsplit_once(" | ") {
+            let given = refusal(rt.alloc(), &pool, id, text)?;
+            assert!(rt; given.as_str() == wanted, "{row}: {given}");
+        }
+    }
+    Ok(())
+}
