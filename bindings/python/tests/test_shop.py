@@ -395,7 +395,7 @@ class Whole(Shop):
         source = {"m.proto": 'syntax = "proto3"; option (o).p = { q: 1.5 }; message M { int32 a = 1 [(x) = -inf]; }'}
         self.assertEqual(self.refused(Pool.of_sources, source).cause, "CustomOption")
         self.assertEqual(Pool.of_sources(source, lenient=True)["M"].field("a").number, 1)
-        self.assertEqual(self.refused(Pool.of_sources, {"m.proto": "message M {"}, lenient=True).cause, "Unexpected")
+        self.assertEqual(self.refused(Pool.of_sources, {"m.proto": 'syntax = "proto3"; message M {'}, lenient=True).cause, "Unexpected")
 
     def test_versions(self):
         of = lambda fields: Pool.of_sources({"m.proto": f'syntax = "proto3"; message M {{ {fields} }} message N {{ bytes a = 1; }}'})["M"]
