@@ -185,10 +185,15 @@ fn is_answered(
             Err(miss) => is_miss(miss, said),
         },
         "fields" => are_written(alloc, message, place, number, said),
-        "oneof" => match oneof_at(alloc, message.view(), place, KEYS, number as u32) {
-            Ok(member) => are_numbers(&[member], said),
-            Err(miss) => is_miss(miss, said),
-        },
+        "oneof" => {
+            let Ok(oneof) = u32::try_from(number) else {
+                return Err(Fail::new("no such number"));
+            };
+            match oneof_at(alloc, message.view(), place, KEYS, oneof) {
+                Ok(member) => are_numbers(&[member], said),
+                Err(miss) => is_miss(miss, said),
+            }
+        }
         "unknown" => match unknown_at(alloc, message.view(), place, KEYS) {
             Ok(bytes) => Ok(bytes.as_slice() == hex::decode(alloc, said)?.as_slice()),
             Err(miss) => is_miss(miss, said),
