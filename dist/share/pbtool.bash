@@ -3,16 +3,18 @@ _pbtool() {
     local current=${COMP_WORDS[COMP_CWORD]} before=${COMP_WORDS[COMP_CWORD - 1]} command=${COMP_WORDS[1]} words=() flags names at
     COMPREPLY=()
     if [ "$COMP_CWORD" -eq 1 ]; then
-        COMPREPLY=($(compgen -W "raw check show canon json frames types compile --help --version -h -V" -- "$current"))
+        COMPREPLY=($(compgen -W "raw check show canon json frames types compile compat --help --version -h -V" -- "$current"))
         return
     fi
     case $command in
         raw) flags="--short --nested --help -h" ;;
-        show | frames) flags="--decimal --lenient --help -h" ;;
+        show) flags="--decimal --lenient --help -h" ;;
+        frames) flags="--decimal --keep-going --lenient --help -h" ;;
         check | types) flags="--lenient --help -h" ;;
         canon) flags="--out --lenient --help -h" ;;
         json) flags="--pretty --lenient --help -h" ;;
-        compile) flags="-I --help -h" ;;
+        compile) flags="-I --lenient --help -h" ;;
+        compat) flags="--lenient --both --help -h" ;;
         *) return ;;
     esac
     case $before in
@@ -41,6 +43,10 @@ _pbtool() {
     done
     case $command,${#words[@]} in
         check,1 | show,1 | canon,1 | json,1 | frames,1)
+            names=$("${COMP_WORDS[0]}" types --lenient "${words[0]}" 2>/dev/null | awk '$1 == "message" { print $2 }')
+            COMPREPLY=($(compgen -W "$names" -- "$current"))
+            ;;
+        compat,2)
             names=$("${COMP_WORDS[0]}" types --lenient "${words[0]}" 2>/dev/null | awk '$1 == "message" { print $2 }')
             COMPREPLY=($(compgen -W "$names" -- "$current"))
             ;;

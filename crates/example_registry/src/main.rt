@@ -1,12 +1,13 @@
-//! Checks a source against the descriptor set that a registry holds: a field number that both have in a message of the same name has
-//! to keep its kind. Prints each that does not, and ends with status 1 where there is one.
+//! Checks a source against the descriptor set that a registry holds: messages of each type that it holds have to be read by the type of the
+//! same name in the source, with each value kept. Prints each difference, and ends with status 1 where one breaks reading.
 //! In crates.txt: `example_registry: mabristu anyhow`.
 #![tactic(auto)]
 
-ghost use Rattle.std.specs.Prelude.{◌<◌, length};
-
 use anyhow::{Context, Result};
-use mabristu::{Kind, MessageId, Pool, Shape, link, parse, read_set, resolve};
+use mabristu::{
+    ComparedTypes, MessageId, Pool, Severity, compare_all, link, namesake, parse_lenient, read_set,
+    resolve,
+};
 use std::alloc::Global;
 use std::fs;
 use std::process::ExitCode;
@@ -16,61 +17,49 @@ fn main(rt: HostRuntime) -> Result<ExitCode> {
     let set = fs::read(&rt, "shop.set").context("shop.set")?;
     let source = fs::read(&rt, "shop.proto").context("shop.proto")?;
     let held = link(alloc, &read_set(alloc, &set)?)?;
-    let file = parse(alloc, "shop.proto", &source)?;
+    let file = parse_lenient(alloc, "shop.proto", &source)?;
     // With the types of all fields resolved, as a registry would keep it by `write_set`.
     let new = link(alloc, &resolve(alloc, &[file])?)?;
-    check_all(&rt, alloc, &held, &new)
+    let found = check_names(&rt, &held, &new)?;
+    let read = check_all(&rt, alloc, &held, &new)?;
+    Ok(if found && read {
+        ExitCode::SUCCESS
+    } else {
+        ExitCode::FAILURE
+    })
 }
 
-/// Whether the fields of all messages keep their kinds in the new pool.
-fn check_all(rt: &impl Print, alloc: Global, old: &Pool, new: &Pool) -> Result<ExitCode> {
-    let mut status = ExitCode::SUCCESS;
-    for index in 0..old.messages().len() {
-        if !check(rt, alloc, old, MessageId(index), new)? {
-            status = ExitCode::FAILURE;
+/// Whether the new pool has all message types by their names. Prints each that it lacks.
+fn check_names(rt: &impl Print, held: &Pool, new: &Pool) -> Result<bool> {
+    let mut found = true;
+    for index in 0..held.messages().len() {
+        let message = MessageId(index);
+        if namesake(held, message, new).is_none() {
+            let name = str::from_utf8(held.message_name(message)).unwrap_or(""); // it is ASCII
+            println!(rt; "{name} breaks missing")?;
+            found = false;
         }
     }
-    Ok(status)
+    Ok(found)
 }
 
-/// The same of one message, which the new pool may have no more. Prints each field that does not.
-fn check(rt: &impl Print, alloc: Global, old: &Pool, id: MessageId, new: &Pool) -> Result<bool>
-    requires { id.0 < length old.now.messages }
-{
+/// Whether messages of the types that both have keep their values, and of all types that these lead to.
+fn check_all(rt: &impl Print, alloc: Global, held: &Pool, new: &Pool) -> Result<bool> {
     let mut kept = true;
-    let name = text(old.message_name(id));
-    let Some(new_id) = new.message_by_name(name) else {
-        return Ok(kept);
-    };
-    for field in &old.messages()[id.0].fields {
-        let was = kind_text(alloc, old, id, field.number)?;
-        let is = kind_text(alloc, new, new_id, field.number)?;
-        if !was.is_empty() && !is.is_empty() && was != is {
-            kept = false;
-            println!(rt; "{name} field {}: {was} is now {is}", field.number)?;
-        }
+    for types in &compare_all(alloc, held, new)? {
+        kept = check(rt, types, held, new)? && kept;
     }
     Ok(kept)
 }
 
-/// What the field of a number holds, in words, and none where there is no such field.
-fn kind_text(alloc: Global, pool: &Pool, id: MessageId, number: u32) -> Result<String>
-    requires { id.0 < length pool.now.messages }
-{
-    let Some(field) = pool.field_by_number(id, number) else {
-        return Ok(String::new(alloc));
-    };
-    let kind = match field.kind {
-        Kind::Message(id) => format!(in alloc; "message {}", text(pool.message_name(id)))?,
-        Kind::Enum(id) => format!(in alloc; "enum {}", text(pool.enum_name(id)))?,
-        other => format!(in alloc; "{other:?}")?,
-    };
-    let Shape::Map { key } = field.shape else {
-        return Ok(kind);
-    };
-    Ok(format!(in alloc; "map of {key:?} to {kind}")?)
-}
-
-fn text(name: &[u8]) -> &str {
-    str::from_utf8(name).unwrap_or("") // a full name is ASCII
+/// The same of two types. Prints each difference.
+fn check(rt: &impl Print, types: &ComparedTypes, held: &Pool, new: &Pool) -> Result<bool> {
+    let mut kept = true;
+    for difference in &types.differences {
+        println!(rt; "{}", types.report(held, new, *difference))?;
+        if difference.severity == Severity::BreaksReading {
+            kept = false;
+        }
+    }
+    Ok(kept)
 }

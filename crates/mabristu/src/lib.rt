@@ -22,7 +22,9 @@ pub use pb_schema::{
 pub use pb_source::{SourceCause, SourceFault, parse, parse_lenient};
 
 // What a change of a schema does to old messages.
-pub use pb_compat::{ComparedTypes, Difference, Severity, Step, compare};
+pub use pb_compat::{
+    ComparedTypes, Difference, Report, Severity, Step, compare, compare_all, namesake,
+};
 
 // Messages: what they hold, changes, what is at a place of one, and changes there.
 pub use pb_place::{

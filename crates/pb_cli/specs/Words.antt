@@ -8,7 +8,11 @@ use Rattle.clap.specs.Words.{App, Row, Rule, Text, Shape, all_of, first_of, new_
 use Rattle.clap.specs.Simple.{on_top}
 use Rattle.clap.specs.declared.builder.ArgAction.TheVariants.{Append, Set, SetTrue}
 use Rattle.pb_command.specs.declared.command.Command.{Command}
-use Rattle.pb_command.specs.declared.command.Command.TheVariants.{Raw, Check, Show, Canon, Json, Frames, Types, Compile}
+use Rattle.pb_command.specs.declared.command.Command.TheVariants.{Raw, Check, Show, Canon, Json, Frames, AllFrames, Types, Compile}
+use Rattle.pb_command.specs.declared.command.Command.TheVariants.{Compat}
+use Rattle.pb_command.specs.declared.command.Comparison.{Comparison}
+use Rattle.pb_verdict.specs.declared.verdict.Readers.{Readers}
+use Rattle.pb_verdict.specs.declared.verdict.Readers.TheVariants.{Both, New}
 use Rattle.pb_command.specs.declared.command.RawForm.{RawForm}
 use Rattle.pb_command.specs.declared.command.RawForm.TheVariants.{Listing, Nested, Shortest}
 use Rattle.pb_command.specs.declared.command.Roots.{Roots}
@@ -66,9 +70,12 @@ pretty_rule = record (new_rule (codes "pretty")) { long = Some (codes "pretty");
 abbrev pub json_command : App
 json_command = of_source (with_rule (new_app (codes "json")) pretty_rule)
 
--- `frames [--decimal] [--lenient] SET TYPE FILE`
+abbrev pub keep_going_rule : Rule
+keep_going_rule = record (new_rule (codes "keep-going")) { long = Some (codes "keep-going"); action = Some SetTrue }
+
+-- `frames [--decimal] [--keep-going] [--lenient] SET TYPE FILE`
 abbrev pub frames_command : App
-frames_command = of_source (with_rule (new_app (codes "frames")) decimal_rule)
+frames_command = of_source (with_rule (with_rule (new_app (codes "frames")) decimal_rule) keep_going_rule)
 
 -- `types [--lenient] SET [NAME]`
 abbrev pub types_command : App
@@ -78,11 +85,20 @@ types_command = with_rule (with_rule (with_rule (new_app (codes "types")) lenien
 abbrev pub directory_rule : Rule
 directory_rule = record (new_rule (codes "DIR")) { short = Some 73; action = Some Append }
 
--- `compile [-I DIR].. ROOT OUT FILE..`
+-- `compile [--lenient] [-I DIR].. ROOT OUT FILE..`
 abbrev pub compile_command : App
 compile_command =
-    with_rule (with_rule (with_rule (with_rule (new_app (codes "compile")) directory_rule) (wanted (codes "ROOT"))) (wanted (codes "OUT")))
+    with_rule (with_rule (with_rule (with_rule (with_rule (new_app (codes "compile")) lenient_rule) directory_rule) (wanted (codes "ROOT"))) (wanted (codes "OUT")))
     (record (wanted (codes "FILE")) { action = Some Append })
+
+abbrev pub both_rule : Rule
+both_rule = record (new_rule (codes "both")) { long = Some (codes "both"); action = Some SetTrue }
+
+-- `compat [--lenient] [--both] OLD NEW [TYPE]`
+abbrev pub compat_command : App
+compat_command =
+    with_rule (with_rule (with_rule (with_rule (with_rule (new_app (codes "compat")) lenient_rule) both_rule) (wanted (codes "OLD"))) (wanted (codes "NEW")))
+    (new_rule (codes "TYPE"))
 
 -- a subcommand is wanted, and `help` is none
 abbrev pub wants_subcommand : Shape → Shape
@@ -95,14 +111,19 @@ with_version s = record s { has_version = true }
 abbrev pub tool_top : App
 tool_top = on_top wants_subcommand (on_top with_version (new_app (codes "pbtool")))
 
--- the whole command line
-abbrev pub tool : App
-tool =
+-- all commands but `compat`
+abbrev pub other_tool : App
+other_tool =
     with_subcommand (with_subcommand (with_subcommand (with_subcommand (with_subcommand (with_subcommand (with_subcommand (with_subcommand tool_top raw_command.top)
     check_command.top) show_command.top) canon_command.top) json_command.top) frames_command.top) types_command.top) compile_command.top
 
+-- the whole command line
+abbrev pub tool : App
+tool = with_subcommand other_tool compat_command.top
+
 abbrev pub tool_names : List Text
-tool_names = codes "raw" ∷ codes "check" ∷ codes "show" ∷ codes "canon" ∷ codes "json" ∷ codes "frames" ∷ codes "types" ∷ codes "compile" ∷ []
+tool_names =
+    codes "raw" ∷ codes "check" ∷ codes "show" ∷ codes "canon" ∷ codes "json" ∷ codes "frames" ∷ codes "types" ∷ codes "compile" ∷ codes "compat" ∷ []
 
 abbrev pub words_of : List (String Global) → List Text
 words_of = map string_bytes
@@ -123,12 +144,12 @@ values_of id rows = unwrap_or (all_of id rows) []
 abbrev pub option_of : Text → List Row → Option Text
 option_of id rows = first_of id rows
 
--- how a set is read, by whether the flag is given
+-- how a set or sources are read, by whether the flag is given
 abbrev pub reading_of : Bool → Reading
 reading_of true = Lenient
 reading_of false = Strict
 
--- the set is read so by these words
+-- the set, or the sources, are read so by these words
 abbrev pub IsReading : List Row → Reading → Type 0
 IsReading rows r = r ≡ reading_of (flag_of (codes "lenient") rows)
 
@@ -160,9 +181,20 @@ abbrev pub IsSource : List Row → Source → Type 0
 IsSource rows s =
     IsReading rows s.reading × (s.set.now ≡ value_of (codes "SET") rows) × (s.type_name.now ≡ value_of (codes "TYPE") rows) × (s.file.now ≡ value_of (codes "FILE") rows)
 
--- the values that name roots
+-- which readers are asked about, by whether the flag is given
+abbrev pub readers_of : Bool → Readers
+readers_of true = Both
+readers_of false = New
+
+-- the values that name two sets and the type that is compared
+abbrev pub IsComparison : List Row → Comparison → Type 0
+IsComparison rows c =
+    IsReading rows c.reading × (c.old.now ≡ value_of (codes "OLD") rows) × (c.new.now ≡ value_of (codes "NEW") rows)
+    × (option_map (λ n. n.now) c.type_name ≡ option_of (codes "TYPE") rows) × (c.readers ≡ readers_of (flag_of (codes "both") rows))
+
+-- the values that name roots, and how sources under them are read
 abbrev pub AreRoots : List Row → Roots → Type 0
-AreRoots rows r = (r.root.now ≡ value_of (codes "ROOT") rows) × (texts_of r.others.now ≡ values_of (codes "DIR") rows)
+AreRoots rows r = IsReading rows r.reading × (r.root.now ≡ value_of (codes "ROOT") rows) × (texts_of r.others.now ≡ values_of (codes "DIR") rows)
 
 -- the command has this name, these flags and these values
 abbrev pub IsNamed : Text → List Row → Command → Type 0
@@ -173,13 +205,21 @@ IsNamed name rows (Canon to source) =
     (name ≡ codes "canon") × (option_map (λ path. path.now) to ≡ option_of (codes "out") rows) × IsSource rows source
 IsNamed name rows (Json layout source) =
     (name ≡ codes "json") × (layout ≡ layout_of (flag_of (codes "pretty") rows)) × IsSource rows source
-IsNamed name rows (Frames floats source) = (name ≡ codes "frames") × AreFloats rows floats × IsSource rows source
+IsNamed name rows (Frames floats source) =
+    (name ≡ codes "frames") × (flag_of (codes "keep-going") rows ≡ false) × AreFloats rows floats × IsSource rows source
+IsNamed name rows (AllFrames floats source) =
+    (name ≡ codes "frames") × (flag_of (codes "keep-going") rows ≡ true) × AreFloats rows floats × IsSource rows source
 IsNamed name rows (Types reading set type_name) =
     (name ≡ codes "types") × IsReading rows reading × (set.now ≡ value_of (codes "SET") rows)
     × (option_map (λ n. n.now) type_name ≡ option_of (codes "NAME") rows)
 IsNamed name rows (Compile roots out names) =
     (name ≡ codes "compile") × AreRoots rows roots × (out.now ≡ value_of (codes "OUT") rows)
     × (texts_of names.now ≡ values_of (codes "FILE") rows)
+IsNamed name rows (Compat comparison) = (name ≡ codes "compat") × IsComparison rows comparison
+
+-- the command shows frames, as these words say
+abbrev pub ShowsFrames : List Row → Command → Type 0
+ShowsFrames rows = IsNamed (codes "frames") rows
 
 -- the command is what clap's matches say
 abbrev pub IsMatched : Option (Text × List Row) → Command → Type 0

@@ -8,16 +8,16 @@ ghost use Rattle.pb_files.specs.FileMap.{IsHonest, IsSaved, IsUnsaved};
 ghost use Rattle.pb_files.specs.Report.{device_line, memory_line};
 ghost use Rattle.pb_output.specs.Sending.{Cut, Sent, SentOrCut};
 ghost use Rattle.pb_cli.specs.Running.{DoesNamed, RefusesWords};
-ghost use Rattle.pb_cli.specs.Words.{AreRoots, IsMatched, IsRawForm, IsSource, flag_of, floats_of, layout_of, reading_of};
-ghost use Rattle.pb_cli.specs.Words.{value_of, values_of, tool, tool_names, words_of};
+ghost use Rattle.pb_cli.specs.Words.{AreRoots, IsMatched, IsRawForm, IsSource, ShowsFrames, flag_of, floats_of, layout_of, reading_of};
+ghost use Rattle.pb_cli.specs.Words.{IsComparison, readers_of, value_of, values_of, tool, tool_names, words_of};
 ghost use Rattle.pb_command.specs.declared.command.Command.{Command as Told};
 
 use crate::words::definition;
 use clap::error::ErrorKind;
 use clap::{ArgMatches, Error};
 use pb_command::{
-    Afterwards, Command, Files, FloatForm, Layout, RawForm, Reading, Refusal, Roots, Source,
-    execute_then,
+    Afterwards, Command, Comparison, Files, FloatForm, Layout, RawForm, Readers, Reading, Refusal,
+    Roots, Source, execute_then,
 };
 use pb_wire::{Output, write_all};
 use std::alloc::Global;
@@ -174,10 +174,7 @@ fn command_of<'m>(matches: &'m ArgMatches<'_>) -> Command<'m>
         };
     }
     if let Some(inner) = matches.subcommand_matches("frames") {
-        return Command::Frames {
-            floats: floats(inner),
-            source: source(inner),
-        };
+        return stream(inner);
     }
     if let Some(inner) = matches.subcommand_matches("types") {
         return Command::Types {
@@ -193,7 +190,25 @@ fn command_of<'m>(matches: &'m ArgMatches<'_>) -> Command<'m>
             names: values(inner, "FILE"),
         };
     }
+    if let Some(inner) = matches.subcommand_matches("compat") {
+        return Command::Compat {
+            comparison: comparison(inner),
+        };
+    }
     unreachable!()
+}
+
+/// The command that shows frames: up to the first that is refused, or all.
+fn stream<'m>(matches: &ArgMatches<'m>) -> Command<'m>
+    ensures { ShowsFrames (rows_of (found_of matches.now)) result }
+{
+    let floats = floats(matches);
+    let source = source(matches);
+    if flag(matches, "keep-going") {
+        Command::AllFrames { floats, source }
+    } else {
+        Command::Frames { floats, source }
+    }
 }
 
 /// Where a message and its type are read.
@@ -205,6 +220,30 @@ fn source<'a>(matches: &ArgMatches<'a>) -> Source<'a>
         set: value(matches, "SET"),
         type_name: value(matches, "TYPE"),
         file: value(matches, "FILE"),
+    }
+}
+
+/// Which sets are compared, and how.
+fn comparison<'a>(matches: &ArgMatches<'a>) -> Comparison<'a>
+    ensures { IsComparison (rows_of (found_of matches.now)) result }
+{
+    Comparison {
+        reading: reading(matches),
+        old: value(matches, "OLD"),
+        new: value(matches, "NEW"),
+        type_name: matches.get_str("TYPE"),
+        readers: readers(matches),
+    }
+}
+
+/// Which readers a comparison asks about.
+fn readers(matches: &ArgMatches<'_>) -> Readers
+    ensures { result ≡ readers_of (flag_of (codes "both") (rows_of (found_of matches.now))) }
+{
+    if flag(matches, "both") {
+        Readers::Both
+    } else {
+        Readers::New
     }
 }
 
@@ -221,7 +260,7 @@ fn raw_form(matches: &ArgMatches<'_>) -> RawForm
     }
 }
 
-/// How a set is read.
+/// How a set or sources are read.
 fn reading(matches: &ArgMatches<'_>) -> Reading
     ensures { result ≡ reading_of (flag_of (codes "lenient") (rows_of (found_of matches.now))) }
 {
@@ -254,11 +293,12 @@ fn layout(matches: &ArgMatches<'_>) -> Layout
     }
 }
 
-/// Where sources are looked for.
+/// Where sources are looked for, and how they are read.
 fn roots<'m>(matches: &'m ArgMatches<'_>) -> Roots<'m>
     ensures { AreRoots (rows_of (found_of matches.now)) result }
 {
     Roots {
+        reading: reading(matches),
         root: value(matches, "ROOT"),
         others: values(matches, "DIR"),
     }

@@ -39,6 +39,6 @@ mod words;
 
 pub use command_line::{run, run_then};
 pub use pb_command::{
-    Afterwards, Command, Files, FloatForm, HostFiles, Layout, MemFiles, RawForm, Reading, Refusal,
-    Roots, Source, execute, execute_then,
+    Afterwards, Command, Comparison, Files, FloatForm, HostFiles, Layout, MemFiles, RawForm,
+    Readers, Reading, Refusal, Roots, Source, execute, execute_then,
 };

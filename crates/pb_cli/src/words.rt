@@ -2,8 +2,9 @@
 ghost use Rattle.std.specs.Prelude.{◌≡◌, false, IfOk};
 ghost use Rattle.clap.specs.Words.{app_of, rule_of};
 ghost use Rattle.clap.specs.declared.builder.command.Command.TheViews.{out-Command};
+ghost use Rattle.pb_cli.specs.Words.{both_rule, compat_command, other_tool};
 ghost use Rattle.pb_cli.specs.Words.{canon_command, check_command, compile_command, frames_command, json_command, raw_command, show_command, types_command};
-ghost use Rattle.pb_cli.specs.Words.{decimal_rule, directory_rule, lenient_rule, nested_rule, of_source, tool, tool_top, wanted};
+ghost use Rattle.pb_cli.specs.Words.{decimal_rule, directory_rule, keep_going_rule, lenient_rule, nested_rule, of_source, tool, tool_top, wanted};
 
 use clap::{Arg, ArgAction, Command};
 use std::alloc::{AllocError, Global};
@@ -14,6 +15,17 @@ const VERSION: &str = "0.1.0";
 /// The definition of the command line.
 pub fn definition<'a>(alloc: Global) -> Result<Command<'a>, AllocError>
     ensures app { IfOk result (λ c. app_of c ≡ tool) }
+    ensures local { IfOk result (λ c. (out-Command c).has_globals ≡ false) }
+    ensures closed { IfOk result (λ c. (out-Command c).allow_external_subcommands ≡ false) }
+{
+    let others = other_commands(alloc)?;
+    let whole = others.subcommand(compat(alloc)?)?;
+    Ok(whole)
+}
+
+/// All commands but `compat`.
+fn other_commands<'a>(alloc: Global) -> Result<Command<'a>, AllocError>
+    ensures app { IfOk result (λ c. app_of c ≡ other_tool) }
     ensures local { IfOk result (λ c. (out-Command c).has_globals ≡ false) }
     ensures closed { IfOk result (λ c. (out-Command c).allow_external_subcommands ≡ false) }
 {
@@ -120,7 +132,9 @@ fn frames<'a>(alloc: Global) -> Result<Command<'a>, AllocError>
     );
     let decimal = decimal_option(alloc);
     let with_decimal = command.arg(decimal)?;
-    let whole = with_source(alloc, with_decimal)?;
+    let keep_going = keep_going_option(alloc);
+    let with_keep_going = with_decimal.arg(keep_going)?;
+    let whole = with_source(alloc, with_keep_going)?;
     Ok(whole)
 }
 
@@ -147,8 +161,10 @@ fn compile<'a>(alloc: Global) -> Result<Command<'a>, AllocError>
     let command = Command::new(alloc, "compile").about(
         "Write the descriptor set of sources and their imports",
     );
+    let lenient = lenient_sources_option(alloc);
+    let with_lenient = command.arg(lenient)?;
     let directory = directory_option(alloc);
-    let with_directory = command.arg(directory)?;
+    let with_directory = with_lenient.arg(directory)?;
     let root = wanted(alloc, "ROOT", "The folder of the sources");
     let with_root = with_directory.arg(root)?;
     let out = wanted(alloc, "OUT", "The file to write");
@@ -158,6 +174,45 @@ fn compile<'a>(alloc: Global) -> Result<Command<'a>, AllocError>
     );
     let whole = with_out.arg(file)?;
     Ok(whole)
+}
+
+fn compat<'a>(alloc: Global) -> Result<Command<'a>, AllocError>
+    ensures app { IfOk result (λ c. app_of c ≡ compat_command) }
+    ensures local { IfOk result (λ c. (out-Command c).has_globals ≡ false) }
+{
+    let command = Command::new(alloc, "compat").about(
+        "Print what a change of a schema does to messages, a line for each field",
+    );
+    let lenient = lenient_option(alloc);
+    let with_lenient = command.arg(lenient)?;
+    let both = both_option(alloc);
+    let with_both = with_lenient.arg(both)?;
+    let old = wanted(
+        alloc,
+        "OLD",
+        "The file with the descriptor set of the old types",
+    );
+    let with_old = with_both.arg(old)?;
+    let new = wanted(
+        alloc,
+        "NEW",
+        "The file with the descriptor set of the new types",
+    );
+    let with_new = with_old.arg(new)?;
+    let name = Arg::new(alloc, "TYPE").help("Compare only the message type of this full name");
+    let whole = with_new.arg(name)?;
+    Ok(whole)
+}
+
+/// The flag for both directions.
+fn both_option<'a>(alloc: Global) -> Arg<'a>
+    ensures rule { rule_of result ≡ both_rule }
+    ensures local { result.global ≡ false }
+{
+    Arg::new(alloc, "both")
+        .long("both")
+        .action(ArgAction::SetTrue)
+        .help("Ask also how the old types read messages of the new ones")
 }
 
 /// A directory where sources are looked for after the root.
@@ -193,6 +248,17 @@ fn decimal_option<'a>(alloc: Global) -> Arg<'a>
         .help("Print floats in decimal, and not by their bits")
 }
 
+/// The flag for frames that are refused and passed over.
+fn keep_going_option<'a>(alloc: Global) -> Arg<'a>
+    ensures rule { rule_of result ≡ keep_going_rule }
+    ensures local { result.global ≡ false }
+{
+    Arg::new(alloc, "keep-going")
+        .long("keep-going")
+        .action(ArgAction::SetTrue)
+        .help("Pass over frames that are refused, and report them all at the end")
+}
+
 /// The command with the arguments that name a message and its type.
 fn with_source<'a>(alloc: Global, command: Command<'a>) -> Result<Command<'a>, AllocError>
     ensures app { (out-Command command.entry).has_globals ≡ false → IfOk result (λ c. app_of c ≡ of_source (app_of command.entry)) }
@@ -218,6 +284,17 @@ fn lenient_option<'a>(alloc: Global) -> Arg<'a>
         .long("lenient")
         .action(ArgAction::SetTrue)
         .help("Leave out the extensions, required labels and default values of the set")
+}
+
+/// The flag for lenient reading of sources.
+fn lenient_sources_option<'a>(alloc: Global) -> Arg<'a>
+    ensures rule { rule_of result ≡ lenient_rule }
+    ensures local { result.global ≡ false }
+{
+    Arg::new(alloc, "lenient")
+        .long("lenient")
+        .action(ArgAction::SetTrue)
+        .help("Leave out the extensions and custom options of the sources")
 }
 
 /// An argument that is required.

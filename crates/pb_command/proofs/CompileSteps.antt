@@ -15,7 +15,7 @@ use Rattle.pb_names.proofs.BehindLemmas.{all_append}
 use Rattle.pb_files.specs.Answer.{Answer, refused}
 use Rattle.pb_command.specs.CompileAnswer.{CompileAnswer, unlinked, too_large}
 use Rattle.pb_files.specs.FileMap.{FileMap, IsSaved, IsUnsaved, KeepsMap}
-use Rattle.pb_command.specs.Gathering.{Gathered, GathersUnder, Origin, Outcome, gathered, given, nothing_yet, none_left, known, left_out, read, refused_inside, refused_here}
+use Rattle.pb_command.specs.Gathering.{Gathered, GathersUnder, Places, Origin, Outcome, gathered, given, nothing_yet, none_left, known, left_out, read, refused_inside, refused_here}
 use Rattle.pb_files.specs.Refusal.{IsToldOfLink, Refuses}
 use Rattle.pb_files.specs.Report.{too_large_line}
 use Rattle.pb_output.specs.Sending.{Cut, Sent}
@@ -26,10 +26,10 @@ use Rattle.pb_command.proofs.Coming.{comes_map}
 use Rattle.pb_command.proofs.FileSteps.{saved_later, unsaved_later}
 use Rattle.pb_command.proofs.SetLevels.{HasSource, set_fits}
 
-module _ (IsAt : List ℕ → Option (List ℕ) → Type 0) (Fails : List ℕ → Type 0) (roots : List (List ℕ)) where
+module _ (IsAt : List ℕ → Option (List ℕ) → Type 0) (Fails : List ℕ → Type 0) (p : Places) where
   -- each file that is gathered has a source
   each_has_source :
-      {o : Origin} {names : List (List ℕ)} {g : Gathered} {comes : Outcome} (whole : Gathered) → GathersUnder IsAt Fails roots o names g comes
+      {o : Origin} {names : List (List ℕ)} {g : Gathered} {comes : Outcome} (whole : Gathered) → GathersUnder IsAt Fails p o names g comes
       → comes ≡ gathered whole → AllByRecursion HasSource g.files → AllByRecursion HasSource whole.files
   each_has_source {g = g} whole none_left e all =
       let same : g ≡ whole = cc in subst (λ (k : Gathered). AllByRecursion HasSource k.files) same all
@@ -37,26 +37,26 @@ module _ (IsAt : List ℕ → Option (List ℕ) → Type 0) (Fails : List ℕ �
   each_has_source whole (left_out l r) e all = each_has_source whole r e all
   each_has_source whole (read {name = name} {h = inner} {f = f} k t declares first r) e all =
       each_has_source whole r e
-      (all_append HasSource inner.files (f ∷ []) (each_has_source inner first refl all) ((name, declares.2.0, declares.2.2), tt))
+      (all_append HasSource inner.files (f ∷ []) (each_has_source inner first refl all) ((p.reading, name, declares.2.0, declares.2.2), tt))
   each_has_source whole (refused_inside k t declares first) e all = absurd (cc)
   each_has_source whole (refused_here k t why) e all = absurd (cc)
 
-  module _ (out : List ℕ) (names : List (List ℕ)) (g : Gathered) (gathers : GathersUnder IsAt Fails roots given names nothing_yet (gathered g)) where
+  module _ (out : List ℕ) (names : List (List ℕ)) (g : Gathered) (gathers : GathersUnder IsAt Fails p given names nothing_yet (gathered g)) where
     -- a set of them that is resolved nests no deeper than its bytes may
     pub set_within : (files : List DeclaredFile) → Resolves g.files files → message_depth (set_body files) ≤ 100
     set_within files resolves = set_fits g.files files (each_has_source g gathers refl tt) resolves
 
     -- they don't link
-    pub told_unlinked : (e : LinkError) (f : Refusal) → IsToldOfLink e f → IsUnlinked g.files e → Refuses (CompileAnswer IsAt Fails roots out names) f
+    pub told_unlinked : (e : LinkError) (f : Refusal) → IsToldOfLink e f → IsUnlinked g.files e → Refuses (CompileAnswer IsAt Fails p out names) f
     told_unlinked (link.Fault file full_name cause) f told h = rw told (unlinked gathers h refl)
     told_unlinked link.Memory f told h = rw told tt
 
     -- the bytes of their set are too many
     pub told_too_large :
         (files : List DeclaredFile) (f : Refusal) → Resolves g.files files
-        → Refuses (λ a. (2 ^ 31 ≤ length (set_bytes files)) × (a ≡ refused too_large_line)) f → Refuses (CompileAnswer IsAt Fails roots out names) f
+        → Refuses (λ a. (2 ^ 31 ≤ length (set_bytes files)) × (a ≡ refused too_large_line)) f → Refuses (CompileAnswer IsAt Fails p out names) f
     told_too_large files f resolves h =
-        refuses_map (λ a. (2 ^ 31 ≤ length (set_bytes files)) × (a ≡ refused too_large_line)) (CompileAnswer IsAt Fails roots out names) f
+        refuses_map (λ a. (2 ^ 31 ≤ length (set_bytes files)) × (a ≡ refused too_large_line)) (CompileAnswer IsAt Fails p out names) f
         (λ a large. too_large gathers resolves large.0 large.1) h
 
 -- what was opened before a file is written leaves the files as they were

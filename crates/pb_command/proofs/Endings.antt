@@ -6,7 +6,8 @@ use Rattle.pb_files.specs.Report.{device_line}
 use Rattle.pb_files.specs.Refusal.{names_device, refusal_line, refusal_status}
 use Rattle.pb_command.specs.Steps.{Comes, FailsAt}
 use Rattle.pb_files.specs.declared.report.Refusal.{Refusal}
-use Rattle.pb_files.specs.declared.report.Refusal.TheVariants.{Fault, Set, SetFile, Link, UnknownType, TooLarge, Frame, Source, Json, Device, File, Memory}
+use Rattle.pb_files.specs.declared.report.Refusal.TheVariants.{Fault, Set, SetFile, Link, UnknownType, TooLarge, Frame, Frames, Source, Json, Device, File, Memory}
+use Rattle.pb_files.specs.declared.report.Refusal.TheVariants.{Breaks}
 
 module _
     (Out Cut Told : List ℕ → Type 0) (Saved : Option (List ℕ × List ℕ) → Type 0) (Unsaved : List ℕ → Type 0) (status : ℕ)
@@ -34,8 +35,10 @@ module _
   ends_from Quiet (Err (UnknownType name)) quiet h told = stop_ends _ h told
   ends_from Quiet (Err TooLarge) quiet h told = stop_ends _ h told
   ends_from Quiet (Err (Frame index byte path cause)) quiet h told = stop_ends _ h told
+  ends_from Quiet (Err (Frames lines refused count)) quiet h told = stop_ends _ h told
   ends_from Quiet (Err (Source file byte cause)) quiet h told = stop_ends _ h told
   ends_from Quiet (Err (Json path cause)) quiet h told = stop_ends _ h told
+  ends_from Quiet (Err Breaks) quiet h told = stop_ends _ h told
   ends_from Quiet (Err (Device path)) quiet h told = fail_ends path.now h told
   ends_from Quiet (Err (File path)) quiet h told = fail_ends (string_bytes path) h told
   ends_from Quiet (Err Memory) quiet h told = out_of_memory h.1 told.0 h.2 told.1 h.3
@@ -55,8 +58,10 @@ never_two Quiet Told (Err e) status concluded two = no_two e (sym concluded.0 �
     no_two (UnknownType name) is = omega (arith, is)
     no_two TooLarge is = omega (arith, is)
     no_two (Frame index byte path cause) is = omega (arith, is)
+    no_two (Frames lines refused count) is = omega (arith, is)
     no_two (Source file byte cause) is = omega (arith, is)
     no_two (Json path cause) is = omega (arith, is)
+    no_two Breaks is = omega (arith, is)
     no_two (Device path) is = omega (arith, is)
     no_two (File path) is = omega (arith, is)
     no_two Memory is = omega (arith, is)
@@ -77,8 +82,10 @@ kept_but_at_three Quiet Told (Err e) status Kept concluded kept other = by e con
     by (UnknownType name) is kept = kept refl
     by TooLarge is kept = kept refl
     by (Frame index byte path cause) is kept = kept refl
+    by (Frames lines refused count) is kept = kept refl
     by (Source file byte cause) is kept = kept refl
     by (Json path cause) is kept = kept refl
+    by Breaks is kept = kept refl
     by (Device path) is kept = absurd (other is)
     by (File path) is kept = absurd (other is)
     by Memory is kept = kept refl
@@ -99,8 +106,10 @@ device_told Quiet Told (Err e) status Kept concluded kept failed = by e conclude
     by (UnknownType name) told kept = absurd (failed (kept refl))
     by TooLarge told kept = absurd (failed (kept refl))
     by (Frame index byte path cause) told kept = absurd (failed (kept refl))
+    by (Frames lines refused count) told kept = absurd (failed (kept refl))
     by (Source file byte cause) told kept = absurd (failed (kept refl))
     by (Json path cause) told kept = absurd (failed (kept refl))
+    by Breaks told kept = absurd (failed (kept refl))
     by (Device path) told kept = (path.now, told)
     by (File path) told kept = (string_bytes path, told)
     by Memory told kept = absurd (failed (kept refl))

@@ -10,7 +10,7 @@ use Rattle.pb_decl.specs.declared.decl.FileDecl.{FileDecl}
 use Rattle.pb_files.specs.Answer.{Answer}
 use Rattle.pb_command.specs.CompileAnswer.{texts_of, told_of}
 use Rattle.pb_files.specs.FileMap.{FileMap, KeepsMap}
-use Rattle.pb_command.specs.Gathering.{Gathered, Outcome, Trouble, gathered, given, imported, stopped_at, nothing_yet, with_file, with_name, is_known, known, none_left, read, refused_here, refused_inside}
+use Rattle.pb_command.specs.Gathering.{Gathered, Outcome, Places, Trouble, gathered, given, imported, stopped_at, nothing_yet, with_file, with_name, is_known, known, none_left, read, refused_here, refused_inside}
 use Rattle.pb_command.specs.Reaching.{FindsImport, Moves, OpenFile, OpensFound, StopsInside, closed, passed, entered, opened, open_view, stack_of}
 use Rattle.pb_files.specs.Refusal.{Refuses}
 use Rattle.pb_command.specs.Steps.{AbsentOf, DeclaredOf, GathersOf, StopsOf, TroubleOf}
@@ -111,9 +111,9 @@ left_of o name lt at = left_next o.file.imports.items o.next name lt at
 
 -- OVER THE FILES AS THEY WERE
 
-module _ {F : Type 0} (contents : F → Option FileMap) (is_steady : F → Bool) (old : F) (roots : List (List ℕ)) where
+module _ {F : Type 0} (contents : F → Option FileMap) (is_steady : F → Bool) (old : F) (p : Places) where
   abbrev pub RestOf : List OpenFile → Gathered → Outcome → Type 0
-  RestOf = Rest (AbsentOf contents is_steady old roots) (DeclaredOf contents is_steady old roots) (TroubleOf contents is_steady old roots)
+  RestOf = Rest (AbsentOf contents is_steady old p.roots) (DeclaredOf contents is_steady old p) (TroubleOf contents is_steady old p)
 
   -- what comes of the files that are open now came of those that were first
   abbrev pub LeadsTo : List OpenFile → Gathered → List OpenFile → Gathered → Type 0
@@ -124,33 +124,33 @@ module _ {F : Type 0} (contents : F → Option FileMap) (is_steady : F → Bool)
     pub leads_more :
         (s : List OpenFile) (g : Gathered) (opens below : List Open) (o : Open) (t : List OpenFile) (h k : Gathered) → LeadsTo s g (stack_of opens) h
         → opens ≡ below ++ o ∷ []
-        → Moves (AbsentOf contents is_steady mid roots) (DeclaredOf contents is_steady mid roots) h (open_view o ∷ stack_of below) k t → LeadsTo s g t k
+        → Moves (AbsentOf contents is_steady mid p.roots) (DeclaredOf contents is_steady mid p) h (open_view o ∷ stack_of below) k t → LeadsTo s g t k
     leads_more s g opens below o t h k leads popped moves out rest =
         leads out
         (subst (λ (l : List OpenFile). RestOf l h out) (sym (ap stack_of popped ∙ stack_pushed below o))
-        (moves_back (AbsentOf contents is_steady old roots) (DeclaredOf contents is_steady old roots) (TroubleOf contents is_steady old roots)
-        (moves_later contents is_steady old mid kept steady roots moves) out rest))
+        (moves_back (AbsentOf contents is_steady old p.roots) (DeclaredOf contents is_steady old p) (TroubleOf contents is_steady old p)
+        (moves_later contents is_steady old mid kept steady p moves) out rest))
 
     -- a step that is refused
     pub leads_stop :
         (f : DeclaredFile) (g : Gathered) (opens below : List Open) (o : Open) (h : Gathered) (a : Answer) → LeadsTo (opened f f.imports ∷ []) g (stack_of opens) h
-        → opens ≡ below ++ o ∷ [] → StopsInside (TroubleOf contents is_steady mid roots) h (open_view o).left a
-        → StopsOf contents is_steady old roots imported f.imports g a
+        → opens ≡ below ++ o ∷ [] → StopsInside (TroubleOf contents is_steady mid p) h (open_view o).left a
+        → StopsOf contents is_steady old p imported f.imports g a
     leads_stop f g opens below o h a leads popped stop =
         let name = stop.0 in
         let t = stop.2 in
         let rest : RestOf (stack_of opens) h (stopped_at name t) =
         subst (λ (l : List OpenFile). RestOf l h (stopped_at name t)) (sym (ap stack_of popped ∙ stack_pushed below o))
-        (stops_rest (AbsentOf contents is_steady old roots) (DeclaredOf contents is_steady old roots) (TroubleOf contents is_steady old roots) (open_view o) (stack_of below) h name stop.1 t stop.3
-        (stop.4.0, stop.4.1, trouble_later contents is_steady old mid kept steady roots imported name t stop.4.2)) in
-        (name, t, rest_stopped (AbsentOf contents is_steady old roots) (DeclaredOf contents is_steady old roots) (TroubleOf contents is_steady old roots) (opened f f.imports) g name t (leads (stopped_at name t) rest), stop.5)
+        (stops_rest (AbsentOf contents is_steady old p.roots) (DeclaredOf contents is_steady old p) (TroubleOf contents is_steady old p) (open_view o) (stack_of below) h name stop.1 t stop.3
+        (stop.4.0, stop.4.1, trouble_later contents is_steady old mid kept steady p imported name t stop.4.2)) in
+        (name, t, rest_stopped (AbsentOf contents is_steady old p.roots) (DeclaredOf contents is_steady old p) (TroubleOf contents is_steady old p) (opened f f.imports) g name t (leads (stopped_at name t) rest), stop.5)
 
   -- nothing is open any more
   pub leads_closed :
       (f : DeclaredFile) (g h : Gathered) (opens : List Open) → LeadsTo (opened f f.imports ∷ []) g (stack_of opens) h → opens ≡ []
-      → (k : Gathered) × GathersOf contents is_steady old roots imported f.imports g (gathered k) × (h ≡ with_file f k)
+      → (k : Gathered) × GathersOf contents is_steady old p imported f.imports g (gathered k) × (h ≡ with_file f k)
   leads_closed f g h opens leads none =
-      rest_closed (AbsentOf contents is_steady old roots) (DeclaredOf contents is_steady old roots) (TroubleOf contents is_steady old roots) (opened f f.imports) g h
+      rest_closed (AbsentOf contents is_steady old p.roots) (DeclaredOf contents is_steady old p) (TroubleOf contents is_steady old p) (opened f f.imports) g h
       (leads (gathered h) (subst (λ (l : List OpenFile). RestOf l h (gathered h)) (sym (ap stack_of none)) refl))
 
   -- GIVEN NAMES
@@ -159,24 +159,24 @@ module _ {F : Type 0} (contents : F → Option FileMap) (is_steady : F → Bool)
     -- one more
     pub given_more :
         (names : List (Bor (List ℕ))) (i : ℕ) (d : Bor (List ℕ)) (g h : Gathered) → i < length names
-        → GathersOf contents is_steady old roots given (texts_of (take i names)) nothing_yet (gathered g)
-        → GathersOf contents is_steady mid roots given ((get_or names i d).now ∷ []) g (gathered h)
-        → GathersOf contents is_steady old roots given (texts_of (take (i + 1) names)) nothing_yet (gathered h)
+        → GathersOf contents is_steady old p given (texts_of (take i names)) nothing_yet (gathered g)
+        → GathersOf contents is_steady mid p given ((get_or names i d).now ∷ []) g (gathered h)
+        → GathersOf contents is_steady old p given (texts_of (take (i + 1) names)) nothing_yet (gathered h)
     given_more names i d g h lt first next =
-        subst (λ (l : List (List ℕ)). GathersOf contents is_steady old roots given l nothing_yet (gathered h)) (sym (texts_more names i d lt))
-        (gathers_then _ _ _ g ((get_or names i d).now ∷ []) (gathered h) first refl (gathers_later contents is_steady old mid kept steady roots next))
+        subst (λ (l : List (List ℕ)). GathersOf contents is_steady old p given l nothing_yet (gathered h)) (sym (texts_more names i d lt))
+        (gathers_then _ _ _ g ((get_or names i d).now ∷ []) (gathered h) first refl (gathers_later contents is_steady old mid kept steady p next))
 
     given_stop :
         (names : List (Bor (List ℕ))) (i : ℕ) (d : Bor (List ℕ)) (g : Gathered) → i < length names
-        → GathersOf contents is_steady old roots given (texts_of (take i names)) nothing_yet (gathered g) → (a : Answer)
-        → StopsOf contents is_steady mid roots given ((get_or names i d).now ∷ []) g a → StopsOf contents is_steady old roots given (texts_of names) nothing_yet a
+        → GathersOf contents is_steady old p given (texts_of (take i names)) nothing_yet (gathered g) → (a : Answer)
+        → StopsOf contents is_steady mid p given ((get_or names i d).now ∷ []) g a → StopsOf contents is_steady old p given (texts_of names) nothing_yet a
     given_stop names i d g lt first a stop =
         let here =
         gathers_then _ _ _ g ((get_or names i d).now ∷ []) (stopped_at stop.0 stop.1) first refl
-        (gathers_later contents is_steady old mid kept steady roots stop.2) in (
+        (gathers_later contents is_steady old mid kept steady p stop.2) in (
           stop.0,
           stop.1,
-          subst (λ (l : List (List ℕ)). GathersOf contents is_steady old roots given l nothing_yet (stopped_at stop.0 stop.1)) (texts_whole names i d lt)
+          subst (λ (l : List (List ℕ)). GathersOf contents is_steady old p given l nothing_yet (stopped_at stop.0 stop.1)) (texts_whole names i d lt)
               (gathers_stop _ _ _ stop.0 stop.1 (texts_of (drop (i + 1) names)) here refl),
           stop.3,
         )
@@ -184,48 +184,48 @@ module _ {F : Type 0} (contents : F → Option FileMap) (is_steady : F → Bool)
     -- or it is refused
     pub given_stops :
         (names : List (Bor (List ℕ))) (i : ℕ) (d : Bor (List ℕ)) (g : Gathered) (e : Refusal) → i < length names
-        → GathersOf contents is_steady old roots given (texts_of (take i names)) nothing_yet (gathered g)
-        → Refuses (StopsOf contents is_steady mid roots given ((get_or names i d).now ∷ []) g) e
-        → Refuses (StopsOf contents is_steady old roots given (texts_of names) nothing_yet) e
+        → GathersOf contents is_steady old p given (texts_of (take i names)) nothing_yet (gathered g)
+        → Refuses (StopsOf contents is_steady mid p given ((get_or names i d).now ∷ []) g) e
+        → Refuses (StopsOf contents is_steady old p given (texts_of names) nothing_yet) e
     given_stops names i d g e lt first =
-        refuses_map (StopsOf contents is_steady mid roots given ((get_or names i d).now ∷ []) g) (StopsOf contents is_steady old roots given (texts_of names) nothing_yet) e
+        refuses_map (StopsOf contents is_steady mid p given ((get_or names i d).now ∷ []) g) (StopsOf contents is_steady old p given (texts_of names) nothing_yet) e
         (given_stop names i d g lt first)
 
   -- ONE GIVEN NAME
 
   module _ (name : List ℕ) (g : Gathered) where
-    pub given_known : is_known g name ≡ true → GathersOf contents is_steady old roots given (name ∷ []) g (gathered g)
+    pub given_known : is_known g name ≡ true → GathersOf contents is_steady old p given (name ∷ []) g (gathered g)
     given_known k = known k none_left
 
     pub given_refused :
         (e : Refusal) → is_known g name ≡ false
-        → Refuses (λ a. (t : Trouble) × TroubleOf contents is_steady old roots given name t × (a ≡ told_of name t)) e
-        → Refuses (StopsOf contents is_steady old roots given (name ∷ []) g) e
+        → Refuses (λ a. (t : Trouble) × TroubleOf contents is_steady old p given name t × (a ≡ told_of name t)) e
+        → Refuses (StopsOf contents is_steady old p given (name ∷ []) g) e
     given_refused e unknown =
-        refuses_map (λ a. (t : Trouble) × TroubleOf contents is_steady old roots given name t × (a ≡ told_of name t))
-        (StopsOf contents is_steady old roots given (name ∷ []) g) e (λ a h. (name, h.0, refused_here unknown tt h.1, h.2))
+        refuses_map (λ a. (t : Trouble) × TroubleOf contents is_steady old p given name t × (a ≡ told_of name t))
+        (StopsOf contents is_steady old p given (name ∷ []) g) e (λ a h. (name, h.0, refused_here unknown tt h.1, h.2))
 
     module _
         (mid : F) (kept : KeepsMap (contents old) (contents mid)) (steady : is_steady old ≡ true → is_steady mid ≡ true) (f : DeclaredFile) (h : Gathered)
-        (unknown : is_known g name ≡ false) (declares : DeclaredOf contents is_steady old roots name f) (is : h ≡ with_name name g) where
+        (unknown : is_known g name ≡ false) (declares : DeclaredOf contents is_steady old p name f) (is : h ≡ with_name name g) where
       inside :
-          (out : Outcome) → GathersOf contents is_steady mid roots imported f.imports h out → GathersOf contents is_steady old roots imported f.imports (with_name name g) out
+          (out : Outcome) → GathersOf contents is_steady mid p imported f.imports h out → GathersOf contents is_steady old p imported f.imports (with_name name g) out
       inside out r =
-          subst (λ (k : Gathered). GathersOf contents is_steady old roots imported f.imports k out) is (gathers_later contents is_steady old mid kept steady roots r)
+          subst (λ (k : Gathered). GathersOf contents is_steady old p imported f.imports k out) is (gathers_later contents is_steady old mid kept steady p r)
 
       -- one of its imports is refused
       pub given_inside :
-          (e : Refusal) → Refuses (StopsOf contents is_steady mid roots imported f.imports h) e → Refuses (StopsOf contents is_steady old roots given (name ∷ []) g) e
+          (e : Refusal) → Refuses (StopsOf contents is_steady mid p imported f.imports h) e → Refuses (StopsOf contents is_steady old p given (name ∷ []) g) e
       given_inside e =
-          refuses_map (StopsOf contents is_steady mid roots imported f.imports h) (StopsOf contents is_steady old roots given (name ∷ []) g) e
+          refuses_map (StopsOf contents is_steady mid p imported f.imports h) (StopsOf contents is_steady old p given (name ∷ []) g) e
           (λ a s. (s.0, s.1, refused_inside unknown tt declares (inside (stopped_at s.0 s.1) s.2), s.3))
 
       -- or it is closed
       pub given_read :
-          (now : Gathered) → (k : Gathered) × GathersOf contents is_steady mid roots imported f.imports h (gathered k) × (now ≡ with_file f k)
-          → GathersOf contents is_steady old roots given (name ∷ []) g (gathered now)
+          (now : Gathered) → (k : Gathered) × GathersOf contents is_steady mid p imported f.imports h (gathered k) × (now ≡ with_file f k)
+          → GathersOf contents is_steady old p given (name ∷ []) g (gathered now)
       given_read now r =
-          subst (λ (k : Gathered). GathersOf contents is_steady old roots given (name ∷ []) g (gathered k)) (sym r.2)
+          subst (λ (k : Gathered). GathersOf contents is_steady old p given (name ∷ []) g (gathered k)) (sym r.2)
           (read unknown tt declares (inside (gathered r.0) r.1) none_left)
 
 -- a name is added to those that were reached

@@ -8,24 +8,27 @@ use Rattle.pb_value.specs.Data.{Message}
 use Rattle.pb_files.specs.Answer.{Answer}
 use Rattle.pb_command.specs.Answers.{Answers, AnyAnswers, AnyBegins, Begins, canonical_form}
 use Rattle.pb_files.specs.FileMap.{FileMap, IsHonest}
+use Rattle.pb_command.specs.AllFrames.{AllFramesAnswer, ArePassed, Passed, all_passed, cut_after, failed_after, none_passed, none_there}
 use Rattle.pb_command.specs.FramesAnswer.{FramesAnswer, AreFrames, none, ended, no_frame_there, input_failed}
 use Rattle.pb_command.specs.MessageAnswer.{MessageAnswer, faulty, read}
 use Rattle.pb_command.specs.RawAnswer.{RawAnswer}
 use Rattle.pb_files.specs.Known.{IsReadOf, OfFiles}
-use Rattle.pb_command.specs.Steps.{BegunOf, RightOf}
+use Rattle.pb_command.specs.Steps.{BegunOf, IsAt, RightOf}
 use Rattle.pb_files.specs.SetFile.{NoPool, NoType}
 use Rattle.pb_files.specs.declared.set_file.Reading.{Reading}
 use Rattle.pb_command.specs.TypesAnswer.{TypesAnswer, no_types, shown}
 use Rattle.pb_command.specs.TypeAnswer.{TypeAnswer, no_type, missing, opened}
 use Rattle.pb_command.specs.declared.command.Command.{Command}
-use Rattle.pb_command.specs.declared.command.Command.TheVariants.{Raw, Check, Show, Canon, Json, Frames, Compile}
+use Rattle.pb_command.specs.declared.command.Command.TheVariants.{Raw, Check, Show, Canon, Json, Frames, AllFrames, Compile}
+use Rattle.pb_command.specs.declared.command.Command.TheVariants.{Compat}
 use Rattle.pb_command.specs.declared.command.Command.TheVariants as command
+use Rattle.pb_command.proofs.CompatSteps.{compat_any, compat_of_map}
 use Rattle.pb_command.specs.declared.form.Form.{Form}
 use Rattle.pb_command.specs.declared.form.Form.TheVariants as form
 use Rattle.pb_command.proofs.Judged.{answer_whole}
 use Rattle.pb_command.proofs.SetWhole.{no_pool_whole, no_type_whole, pool_at, type_at}
 use Rattle.pb_command.proofs.SourceSteps.{compile_of_any, compile_of_map}
-use Rattle.pb_command.specs.CompileAnswer.{roots_of, texts_of}
+use Rattle.pb_command.specs.CompileAnswer.{places_of, texts_of}
 
 pub message_map :
     (H H' : Types → ℕ → Fault → Type 0) (T T' : Types → ℕ → Message → Type 0) (form : Form) (pool : Types) (m : ℕ) (a : Answer)
@@ -41,6 +44,14 @@ pub frames_map :
 frames_map A A' S S' B B' path pool m a all stops breaks (ended {text} h e) = ended (all text h) e
 frames_map A A' S S' B B' path pool m a all stops breaks (no_frame_there {count} {text} {f} h e) = no_frame_there (stops count text f h) e
 frames_map A A' S S' B B' path pool m a all stops breaks (input_failed {text} h e) = input_failed (breaks text h) e
+
+pub all_map :
+    (A A' : Types → ℕ → Passed → Type 0) (S S' : Types → ℕ → Passed → Fault → Type 0) (B B' : Types → ℕ → Passed → Type 0) (path : List ℕ) (pool : Types)
+    (m : ℕ) (a : Answer) → ((s : Passed) → A pool m s → A' pool m s) → ((s : Passed) (f : Fault) → S pool m s f → S' pool m s f)
+    → ((s : Passed) → B pool m s → B' pool m s) → AllFramesAnswer A S B path pool m a → AllFramesAnswer A' S' B' path pool m a
+all_map A A' S S' B B' path pool m a all stops breaks (all_passed {s} h e) = all_passed (all s h) e
+all_map A A' S S' B B' path pool m a all stops breaks (cut_after {s} {f} h e) = cut_after (stops s f h) e
+all_map A A' S S' B B' path pool m a all stops breaks (failed_after {s} h e) = failed_after (breaks s h) e
 
 type_any :
     (A : Option (List ℕ) → Type 0) (M : Type 0) (C C' : Types → ℕ → Answer → Type 0) (reading : Reading) (name set_path path : List ℕ) (a : Answer)
@@ -100,8 +111,12 @@ module _ {F : Type 0} (contents : F → Option FileMap) (is_steady : F → Bool)
         type_of_map _ _ source.reading source.type_name.now source.set.now source.file.now a
         (λ pool m. frames_map _ _ _ _ _ _ source.file.now pool m a (λ text known. known.1 map honest) (λ count text f known. known.1 map honest)
         (λ text known. known.1 map honest)) h
+    right_of_map (AllFrames floats source) a h =
+        type_of_map _ _ source.reading source.type_name.now source.set.now source.file.now a
+        (λ pool m. all_map _ _ _ _ _ _ source.file.now pool m a (λ s known. known.1 map honest) (λ s f known. known.1 map honest) (λ s known. known.1 map honest)) h
     right_of_map (command.Types reading set name) a h = types_of_map reading set.now (option_map (λ n. n.now) name) a h
-    right_of_map (Compile roots out names) a h = compile_of_map contents is_steady files (roots_of roots) out.now (texts_of names.now) a map honest h
+    right_of_map (Compile roots out names) a h = compile_of_map contents is_steady files (places_of roots) out.now (texts_of names.now) a map honest h
+    right_of_map (Compat comparison) a h = compat_of_map contents is_steady files map honest comparison a h
 
     pub begun_of_map : (command : Command) (text : List ℕ) → BegunOf contents is_steady files command text → Begins map command text
     begun_of_map (Raw form file) text h = h
@@ -111,10 +126,15 @@ module _ {F : Type 0} (contents : F → Option FileMap) (is_steady : F → Bool)
     begun_of_map (Json layout source) text h = h
     begun_of_map (command.Types reading set name) text h = h
     begun_of_map (Compile roots out names) text h = h
+    begun_of_map (Compat comparison) text h = h
     begun_of_map (Frames floats source) text (inl nothing) = inl nothing
     begun_of_map (Frames floats source) text (inr h) =
         let at = type_at source.reading source.type_name.now h.0 h.1 h.2 (map source.set.now) (h.3 map honest) h.4 in
         inr (at.0, h.1, h.2, sym at.1, at.2, h.6 map honest)
+    begun_of_map (AllFrames floats source) text (inl nothing) = inl nothing
+    begun_of_map (AllFrames floats source) text (inr (set, pool, m, of_set, has, begun)) =
+        let at = type_at source.reading source.type_name.now set pool m (map source.set.now) (of_set map honest) has in
+        inr (at.0, pool, m, sym at.1, at.2, (begun.0, begun.1, begun.3 map honest))
 
   -- over any files
   pub right_of_any : (command : Command) (a : Answer) → RightOf contents is_steady files command a → AnyAnswers command a
@@ -134,9 +154,13 @@ module _ {F : Type 0} (contents : F → Option FileMap) (is_steady : F → Bool)
   right_of_any (Frames floats source) a h =
       type_any _ _ _ _ source.reading source.type_name.now source.set.now source.file.now a
       (λ pool m. frames_map _ _ _ _ _ _ source.file.now pool m a (λ text known. known.0) (λ count text f known. known.0) (λ text known. known.0)) h
+  right_of_any (AllFrames floats source) a h =
+      type_any _ _ _ _ source.reading source.type_name.now source.set.now source.file.now a
+      (λ pool m. all_map _ _ _ _ _ _ source.file.now pool m a (λ s known. known.0) (λ s f known. known.0) (λ s known. known.0)) h
   right_of_any (command.Types reading set name) a h =
       types_any (IsReadOf contents is_steady files (full.bytes + 1) set.now) reading set.now (option_map (λ n. n.now) name) a h
-  right_of_any (Compile roots out names) a h = compile_of_any contents is_steady files (roots_of roots) out.now (texts_of names.now) a h
+  right_of_any (Compile roots out names) a h = compile_of_any contents is_steady files (places_of roots) out.now (texts_of names.now) a h
+  right_of_any (Compat comparison) a h = compat_any (IsAt contents is_steady files) comparison a h
 
   pub begun_of_any : (command : Command) (text : List ℕ) → BegunOf contents is_steady files command text → AnyBegins command text
   begun_of_any (Raw form file) text h = h
@@ -146,6 +170,10 @@ module _ {F : Type 0} (contents : F → Option FileMap) (is_steady : F → Bool)
   begun_of_any (Json layout source) text h = h
   begun_of_any (command.Types reading set name) text h = h
   begun_of_any (Compile roots out names) text h = h
+  begun_of_any (Compat comparison) text h = h
   begun_of_any (Frames floats source) text (inl nothing) =
       (record { files = []; messages = []; enums = [] }, 0, (0, subst (λ (t : List ℕ). AreFrames floats (record { files = []; messages = []; enums = [] }) 0 0 t) (sym nothing) none))
   begun_of_any (Frames floats source) text (inr h) = (h.1, h.2, h.5)
+  begun_of_any (AllFrames floats source) text (inl nothing) =
+      (record { files = []; messages = []; enums = [] }, 0, none_passed, sym nothing, none_there)
+  begun_of_any (AllFrames floats source) text (inr (set, pool, m, of_set, has, begun)) = (pool, m, begun.0, begun.1, begun.2)

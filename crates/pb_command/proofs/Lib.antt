@@ -14,10 +14,18 @@ pub mod MessageSteps
 pub mod JsonSteps
 -- for the loop of `frames`: the frames of a stream, one after another
 pub mod Streams
+-- for the loop of `frames --keep-going`: all frames of a stream, also those that are refused
+pub mod PassedFrames
+-- for `frames --keep-going`
+pub mod AllStreams
+-- for `raw`: bytes that are judged while they are read
+pub mod EarlySteps
 -- for `raw`
 pub mod RawSteps
 -- for how a run ends
 pub mod Endings
+-- for `compat`
+pub mod CompatSteps
 -- for right answers of a whole command: those of the bytes of honest files, and of the form of one over any files
 pub mod Honest
 -- for `frames`

@@ -8,8 +8,9 @@ use Rattle.pb_decl.specs.declared.decl.FileDecl.{FileDecl}
 use Rattle.pb_files.specs.Answer.{Answer}
 use Rattle.pb_command.specs.CompileAnswer.{texts_of, told_of}
 use Rattle.pb_files.specs.FileMap.{FileMap, KeepsMap}
-use Rattle.pb_command.specs.Gathering.{DeclaresAt, HasTroubleAt, IsAbsentUnder, IsMissing, IsReached, Trouble, imported, path_under}
+use Rattle.pb_command.specs.Gathering.{DeclaresAt, HasTroubleAt, IsAbsentUnder, IsMissing, IsReached, Trouble, imported, path_under, places}
 use Rattle.pb_files.specs.Refusal.{Refuses}
+use Rattle.pb_files.specs.declared.set_file.Reading.{Reading}
 use Rattle.pb_command.specs.Steps.{AbsentOf, DeclaredOf, Fails, IsAt, TroubleOf}
 use Rattle.pb_files.specs.declared.report.Refusal.{Refusal}
 use Rattle.pb_files.proofs.RefusalLemmas.{refuses_map}
@@ -34,7 +35,7 @@ missing_given At (r ∷ roots) name t h = h
 
 module _
     {F : Type 0} (contents : F → Option FileMap) (is_steady : F → Bool) (old mid : F) (kept : KeepsMap (contents old) (contents mid))
-    (steady : is_steady old ≡ true → is_steady mid ≡ true) (name : List ℕ) where
+    (steady : is_steady old ≡ true → is_steady mid ≡ true) (reading : Reading) (name : List ℕ) where
   -- ONE OF SEVERAL ROOTS, where those before it do not have the file
 
   module _
@@ -55,59 +56,60 @@ module _
         (reached_behind (IsAt contents is_steady old) name (get_or roots i d).now (texts_of (take i roots)) (texts_of (drop (i + 1) roots)) passed)
 
     pub root_declares :
-        (f : DeclaredFile) → DeclaresAt (IsAt contents is_steady mid) path_here name f → DeclaredOf contents is_steady old (texts_of roots) name f
-    root_declares f h = (path_here, root_reached, source_later contents is_steady old mid kept steady path_here name f h)
+        (f : DeclaredFile) → DeclaresAt (IsAt contents is_steady mid) reading path_here name f
+        → DeclaredOf contents is_steady old (places reading (texts_of roots)) name f
+    root_declares f h = (path_here, root_reached, source_later contents is_steady old mid kept steady reading path_here name f h)
 
     abbrev TroubleHere : Answer → Type 0
     TroubleHere a =
-        (t : Trouble) × HasTroubleAt (IsAt contents is_steady mid) path_here (Fails contents is_steady mid) t × (a ≡ told_of name t)
+        (t : Trouble) × HasTroubleAt (IsAt contents is_steady mid) reading path_here (Fails contents is_steady mid) t × (a ≡ told_of name t)
 
     pub root_refuses :
         (e : Refusal) → Refuses TroubleHere e
-        → Refuses (λ a. (t : Trouble) × TroubleOf contents is_steady old (texts_of roots) imported name t × (a ≡ told_of name t)) e
+        → Refuses (λ a. (t : Trouble) × TroubleOf contents is_steady old (places reading (texts_of roots)) imported name t × (a ≡ told_of name t)) e
     root_refuses e =
-        refuses_map TroubleHere (λ a. (t : Trouble) × TroubleOf contents is_steady old (texts_of roots) imported name t × (a ≡ told_of name t)) e
-        (λ a h. (h.0, inl (path_here, root_reached, trouble_at_later contents is_steady old mid kept steady path_here h.0 h.1), h.2))
+        refuses_map TroubleHere (λ a. (t : Trouble) × TroubleOf contents is_steady old (places reading (texts_of roots)) imported name t × (a ≡ told_of name t)) e
+        (λ a h. (h.0, inl (path_here, root_reached, trouble_at_later contents is_steady old mid kept steady reading path_here h.0 h.1), h.2))
 
   -- THE ROOTS BEHIND THE FIRST, which does not have the file
 
   module _ (root : List ℕ) (others : List (List ℕ)) (none : IsAt contents is_steady old (path_under root name) None) where
-    declared_behind : (f : DeclaredFile) → DeclaredOf contents is_steady mid others name f → DeclaredOf contents is_steady old (root ∷ others) name f
-    declared_behind f h = let later = declared_later contents is_steady old mid kept steady others name f h in (later.0, inr (none, later.1), later.2)
+    declared_behind : (f : DeclaredFile) → DeclaredOf contents is_steady mid (places reading others) name f → DeclaredOf contents is_steady old (places reading (root ∷ others)) name f
+    declared_behind f h = let later = declared_later contents is_steady old mid kept steady (places reading others) name f h in (later.0, inr (none, later.1), later.2)
 
     trouble_behind :
-        (t : Trouble) → TroubleOf contents is_steady old others imported name t → TroubleOf contents is_steady old (root ∷ others) imported name t
+        (t : Trouble) → TroubleOf contents is_steady old (places reading others) imported name t → TroubleOf contents is_steady old (places reading (root ∷ others)) imported name t
     trouble_behind t (inl h) = inl (h.0, inr (none, h.1), h.2)
     trouble_behind t (inr h) = absurd (missing_given (IsAt contents is_steady old) others name t h)
 
     pub found_behind :
         (r : Result (Option FileDecl) Refusal)
-        → IfOk r (λ o. MatchOption o (AbsentOf contents is_steady mid others name) (λ f. DeclaredOf contents is_steady mid others name (file_view f)))
+        → IfOk r (λ o. MatchOption o (AbsentOf contents is_steady mid others name) (λ f. DeclaredOf contents is_steady mid (places reading others) name (file_view f)))
         → IfOk r (λ o. MatchOption o (AbsentOf contents is_steady old (root ∷ others) name)
-        (λ f. DeclaredOf contents is_steady old (root ∷ others) name (file_view f)))
+        (λ f. DeclaredOf contents is_steady old (places reading (root ∷ others)) name (file_view f)))
     found_behind (Ok None) h = (none, absent_later contents is_steady old mid kept steady others name h)
     found_behind (Ok (Some f)) h = declared_behind (file_view f) h
     found_behind (Err e) h = h
 
     pub refused_behind :
         (r : Result (Option FileDecl) Refusal)
-        → IfErr r (Refuses (λ a. (t : Trouble) × TroubleOf contents is_steady mid others imported name t × (a ≡ told_of name t)))
-        → IfErr r (Refuses (λ a. (t : Trouble) × TroubleOf contents is_steady old (root ∷ others) imported name t × (a ≡ told_of name t)))
+        → IfErr r (Refuses (λ a. (t : Trouble) × TroubleOf contents is_steady mid (places reading others) imported name t × (a ≡ told_of name t)))
+        → IfErr r (Refuses (λ a. (t : Trouble) × TroubleOf contents is_steady old (places reading (root ∷ others)) imported name t × (a ≡ told_of name t)))
     refused_behind (Ok o) h = h
     refused_behind (Err e) h =
-        refuses_map (λ a. (t : Trouble) × TroubleOf contents is_steady mid others imported name t × (a ≡ told_of name t))
-        (λ a. (t : Trouble) × TroubleOf contents is_steady old (root ∷ others) imported name t × (a ≡ told_of name t)) e
-        (λ a k. (k.0, trouble_behind k.0 (trouble_later contents is_steady old mid kept steady others imported name k.0 k.1), k.2)) h
+        refuses_map (λ a. (t : Trouble) × TroubleOf contents is_steady mid (places reading others) imported name t × (a ≡ told_of name t))
+        (λ a. (t : Trouble) × TroubleOf contents is_steady old (places reading (root ∷ others)) imported name t × (a ≡ told_of name t)) e
+        (λ a k. (k.0, trouble_behind k.0 (trouble_later contents is_steady old mid kept steady (places reading others) imported name k.0 k.1), k.2)) h
 
 -- the first of the roots
-module _ {F : Type 0} (contents : F → Option FileMap) (is_steady : F → Bool) (files : F) (name root : List ℕ) (others : List (List ℕ)) where
+module _ {F : Type 0} (contents : F → Option FileMap) (is_steady : F → Bool) (files : F) (reading : Reading) (name root : List ℕ) (others : List (List ℕ)) where
   pub first_refuses :
       (e : Refusal)
-      → Refuses (λ a. (t : Trouble) × HasTroubleAt (IsAt contents is_steady files) (path_under root name) (Fails contents is_steady files) t
+      → Refuses (λ a. (t : Trouble) × HasTroubleAt (IsAt contents is_steady files) reading (path_under root name) (Fails contents is_steady files) t
       × (a ≡ told_of name t)) e
-      → Refuses (λ a. (t : Trouble) × TroubleOf contents is_steady files (root ∷ others) imported name t × (a ≡ told_of name t)) e
+      → Refuses (λ a. (t : Trouble) × TroubleOf contents is_steady files (places reading (root ∷ others)) imported name t × (a ≡ told_of name t)) e
   first_refuses e =
       refuses_map
-      (λ a. (t : Trouble) × HasTroubleAt (IsAt contents is_steady files) (path_under root name) (Fails contents is_steady files) t × (a ≡ told_of name t))
-      (λ a. (t : Trouble) × TroubleOf contents is_steady files (root ∷ others) imported name t × (a ≡ told_of name t)) e
+      (λ a. (t : Trouble) × HasTroubleAt (IsAt contents is_steady files) reading (path_under root name) (Fails contents is_steady files) t × (a ≡ told_of name t))
+      (λ a. (t : Trouble) × TroubleOf contents is_steady files (places reading (root ∷ others)) imported name t × (a ≡ told_of name t)) e
       (λ a h. (h.0, inl (path_under root name, inl refl, h.1), h.2))

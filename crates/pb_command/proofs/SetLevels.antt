@@ -8,16 +8,22 @@ use Rattle.pb_decl.specs.Nests.{all_nest}
 use Rattle.pb_descr.proofs.NestLemmas.{set_levels}
 use Rattle.pb_link.specs.Resolved.{Resolves}
 use Rattle.pb_link.proofs.ResolvedNestLemmas.{resolved_within}
-use Rattle.pb_source.specs.Source.{IsSource}
-use Rattle.pb_source.proofs.NestLemmas.{source_nests}
+use Rattle.pb_source.proofs.NestLemmas.{source_nests_in}
+use Rattle.pb_files.specs.declared.set_file.Reading.{Reading}
+use Rattle.pb_files.specs.declared.set_file.Reading.TheVariants.{Strict, Lenient}
+use Rattle.pb_command.specs.Gathering.{IsSourceBy}
 
 -- some bytes are a source of the file
 abbrev pub HasSource : DeclaredFile → Type 0
-HasSource f = (name : List ℕ) × (bytes : List ℕ) × IsSource name bytes f
+HasSource f = (reading : Reading) × (name : List ℕ) × (bytes : List ℕ) × IsSourceBy reading name bytes f
+
+how_deep : (reading : Reading) (name bytes : List ℕ) (f : DeclaredFile) → IsSourceBy reading name bytes f → all_nest f.messages ≤ 65
+how_deep Strict name bytes f s = source_nests_in _ name bytes f s
+how_deep Lenient name bytes f s = source_nests_in _ name bytes f s
 
 each_nests : (fs : List DeclaredFile) → AllByRecursion HasSource fs → AllByRecursion (λ f. all_nest f.messages ≤ 65) fs
 each_nests [] h = tt
-each_nests (f ∷ fs) h = (source_nests h.0.0 h.0.1 f h.0.2, each_nests fs h.1)
+each_nests (f ∷ fs) h = (how_deep h.0.0 h.0.1 h.0.2 f h.0.3, each_nests fs h.1)
 
 pub set_fits : (files answer : List DeclaredFile) → AllByRecursion HasSource files → Resolves files answer → message_depth (set_body answer) ≤ 100
 set_fits files answer h r = let levels = set_levels answer 65 (resolved_within files answer 65 r (each_nests files h)) in omega arith

@@ -12,7 +12,9 @@ use Rattle.pb_value.specs.WellFormed.{IsWellFormed}
 use Rattle.pb_stream.specs.Frame.{FrameFault}
 use Rattle.pb_files.specs.Answer.{Answer, Ends}
 use Rattle.pb_listing.specs.declared.form.FloatForm.{FloatForm}
-use Rattle.pb_command.specs.CompileAnswer.{CompileAnswer, roots_of, texts_of}
+use Rattle.pb_command.specs.AllFrames.{AllAt, AllFramesAnswer, ArePassed, BegunAt, CutAt, Passed}
+use Rattle.pb_command.specs.CompatAnswer.{CompatAnswer}
+use Rattle.pb_command.specs.CompileAnswer.{CompileAnswer, places_of, texts_of}
 use Rattle.pb_files.specs.FileMap.{FileMap}
 use Rattle.pb_command.specs.FramesAnswer.{AreFrames, BeginsWith, FramesAnswer}
 use Rattle.pb_command.specs.MessageAnswer.{MessageAnswer}
@@ -21,7 +23,8 @@ use Rattle.pb_files.specs.SetFile.{HasType}
 use Rattle.pb_command.specs.TypeAnswer.{TypeAnswer}
 use Rattle.pb_command.specs.TypesAnswer.{TypesAnswer}
 use Rattle.pb_command.specs.declared.command.Command.{Command}
-use Rattle.pb_command.specs.declared.command.Command.TheVariants.{Raw, Check, Show, Canon, Json, Frames, Compile}
+use Rattle.pb_command.specs.declared.command.Command.TheVariants.{Raw, Check, Show, Canon, Json, Frames, AllFrames, Compile}
+use Rattle.pb_command.specs.declared.command.Command.TheVariants.{Compat}
 use Rattle.pb_command.specs.declared.command.Command.TheVariants as command
 use Rattle.pb_command.specs.declared.command.Source.{Source}
 use Rattle.pb_command.specs.declared.form.Form.{Form}
@@ -71,6 +74,12 @@ module _ (map : FileMap) where
       (FramesAnswer (FramesAt (map s.file.now) floats) (FrameFaultAt (map s.file.now) floats) (λ pool m text. ⊥) s.file.now)
       s.reading s.type_name.now s.set.now s.file.now
 
+  abbrev pub AllFramesComeTo : FloatForm → Source → Answer → Type 0
+  AllFramesComeTo floats s =
+      TypeAnswer (λ content. content ≡ map s.set.now) (map s.file.now ≡ None)
+      (AllFramesAnswer (AllAt (map s.file.now) floats) (CutAt (map s.file.now) floats) (λ pool m passed. ⊥) s.file.now)
+      s.reading s.type_name.now s.set.now s.file.now
+
   abbrev pub Answers : Command → Answer → Type 0
   Answers (Raw form file) = RawAnswer full form file.now (map file.now)
   Answers (Check source) = MessageComesTo form.Check source
@@ -78,8 +87,10 @@ module _ (map : FileMap) where
   Answers (Canon to source) = MessageComesTo (canonical_form to) source
   Answers (Json layout source) = MessageComesTo (form.Json layout) source
   Answers (Frames floats source) = FramesComeTo floats source
+  Answers (AllFrames floats source) = AllFramesComeTo floats source
   Answers (command.Types reading set name) = TypesAnswer (λ content. content ≡ map set.now) reading set.now (option_map (λ n. n.now) name)
-  Answers (Compile roots out names) = CompileAnswer (λ path content. content ≡ map path) (λ path. ⊥) (roots_of roots) out.now (texts_of names.now)
+  Answers (Compile roots out names) = CompileAnswer (λ path content. content ≡ map path) (λ path. ⊥) (places_of roots) out.now (texts_of names.now)
+  Answers (Compat comparison) = CompatAnswer (λ path content. content ≡ map path) comparison
 
   -- what is printed before the answer is known: of frames those that were read, and else nothing
   abbrev pub Begins : Command → List ℕ → Type 0
@@ -90,10 +101,15 @@ module _ (map : FileMap) where
   Begins (Json layout source) text = text ≡ []
   Begins (command.Types reading set name) text = text ≡ []
   Begins (Compile roots out names) text = text ≡ []
+  Begins (Compat comparison) text = text ≡ []
   Begins (Frames floats source) text =
       (text ≡ [])
       ⊎ ((set : List ℕ) × (pool : Types) × (m : ℕ) × (map source.set.now ≡ Some set) × HasType source.reading source.type_name.now set pool m
       × FramesBegunAt (map source.file.now) floats pool m text)
+  Begins (AllFrames floats source) text =
+      (text ≡ [])
+      ⊎ ((set : List ℕ) × (pool : Types) × (m : ℕ) × (map source.set.now ≡ Some set) × HasType source.reading source.type_name.now set pool m
+      × ((s : Passed) × (s.text ≡ text) × BegunAt (map source.file.now) floats pool m s))
 
 -- OVER ANY FILES, also those that report nothing of what they hold
 
@@ -109,8 +125,13 @@ AnyStream floats s =
     TypeAnswer (λ content. ⊤) ⊤ (FramesAnswer (AnyFrames floats) (λ pool m count text f. AreFrames floats pool m count text) (AnyFrames floats) s.file.now)
     s.reading s.type_name.now s.set.now s.file.now
 
--- the answer has the form of one: of raw records it is that of some bytes, of sources that of some at each path, and else of some set, and of some
--- messages of the type
+abbrev pub AnyAllFrames : FloatForm → Source → Answer → Type 0
+AnyAllFrames floats s =
+    TypeAnswer (λ content. ⊤) ⊤ (AllFramesAnswer (ArePassed floats) (λ pool m passed f. ArePassed floats pool m passed) (ArePassed floats) s.file.now)
+    s.reading s.type_name.now s.set.now s.file.now
+
+-- the answer has the form of one: of raw records it is that of some bytes, of sources that of some at each path, of comparisons that of some sets, and
+-- else of some set, and of some messages of the type
 abbrev pub AnyAnswers : Command → Answer → Type 0
 AnyAnswers (Raw form file) a = (content : Option (List ℕ)) × RawAnswer full form file.now content a
 AnyAnswers (Check source) a = AnyMessage form.Check source a
@@ -118,8 +139,10 @@ AnyAnswers (Show floats source) a = AnyMessage (form.Listing floats) source a
 AnyAnswers (Canon to source) a = AnyMessage (canonical_form to) source a
 AnyAnswers (Json layout source) a = AnyMessage (form.Json layout) source a
 AnyAnswers (Frames floats source) a = AnyStream floats source a
+AnyAnswers (AllFrames floats source) a = AnyAllFrames floats source a
 AnyAnswers (command.Types reading set name) a = TypesAnswer (λ content. ⊤) reading set.now (option_map (λ n. n.now) name) a
-AnyAnswers (Compile roots out names) a = CompileAnswer (λ path content. ⊤) (λ path. ⊤) (roots_of roots) out.now (texts_of names.now) a
+AnyAnswers (Compile roots out names) a = CompileAnswer (λ path content. ⊤) (λ path. ⊤) (places_of roots) out.now (texts_of names.now) a
+AnyAnswers (Compat comparison) a = CompatAnswer (λ path content. ⊤) comparison a
 
 abbrev pub AnyBegins : Command → List ℕ → Type 0
 AnyBegins (Raw form file) text = text ≡ []
@@ -129,7 +152,9 @@ AnyBegins (Canon to source) text = text ≡ []
 AnyBegins (Json layout source) text = text ≡ []
 AnyBegins (command.Types reading set name) text = text ≡ []
 AnyBegins (Compile roots out names) text = text ≡ []
+AnyBegins (Compat comparison) text = text ≡ []
 AnyBegins (Frames floats source) text = (pool : Types) × (m : ℕ) × AnyFrames floats pool m text
+AnyBegins (AllFrames floats source) text = (pool : Types) × (m : ℕ) × (s : Passed) × (s.text ≡ text) × ArePassed floats pool m s
 
 -- THE END OF A RUN
 

@@ -7,7 +7,7 @@ use Rattle.pb_rules.specs.Faults.{LinkFault}
 use Rattle.pb_link.specs.Resolved.{Resolves}
 use Rattle.pb_rules.specs.declared.cause.LinkCause.{LinkCause}
 use Rattle.pb_files.specs.Answer.{Answer, saves, refused, device_failed}
-use Rattle.pb_command.specs.Gathering.{Gathered, GathersUnder, Trouble, unread, faulty, gathered, stopped_at, given, nothing_yet}
+use Rattle.pb_command.specs.Gathering.{Gathered, GathersUnder, Places, places, Trouble, unread, faulty, gathered, stopped_at, given, nothing_yet}
 use Rattle.pb_files.specs.Report.{link_line, source_line, too_large_line}
 use Rattle.pb_command.specs.declared.command.Roots.{Roots}
 
@@ -15,9 +15,9 @@ use Rattle.pb_command.specs.declared.command.Roots.{Roots}
 abbrev pub texts_of : List (Bor (List ℕ)) → List (List ℕ)
 texts_of = map (λ t. t.now)
 
--- the paths of the roots
-abbrev pub roots_of : Roots → List (List ℕ)
-roots_of r = r.root.now ∷ texts_of r.others.now
+-- where sources are looked for, and how they are read
+abbrev pub places_of : Roots → Places
+places_of r = places r.reading (r.root.now ∷ texts_of r.others.now)
 
 -- how the trouble with a file is reported
 abbrev pub told_of : List ℕ → Trouble → Answer
@@ -26,17 +26,17 @@ told_of name (faulty place c) = refused (source_line name place c)
 
 -- where IsAt says what files are at paths, and Fails that reading there fails: these files under roots, compiled to the file of a path
 pub data CompileAnswer
-    (IsAt : List ℕ → Option (List ℕ) → Type 0) (Fails : List ℕ → Type 0) (roots : List (List ℕ)) (out : List ℕ) (names : List (List ℕ))
+    (IsAt : List ℕ → Option (List ℕ) → Type 0) (Fails : List ℕ → Type 0) (p : Places) (out : List ℕ) (names : List (List ℕ))
     (answer : Answer) : Type 0 where
   untaken :
-      {name : List ℕ} {t : Trouble} → GathersUnder IsAt Fails roots given names nothing_yet (stopped_at name t) → answer ≡ told_of name t
-      → CompileAnswer IsAt Fails roots out names answer
+      {name : List ℕ} {t : Trouble} → GathersUnder IsAt Fails p given names nothing_yet (stopped_at name t) → answer ≡ told_of name t
+      → CompileAnswer IsAt Fails p out names answer
   unlinked :
-      {g : Gathered} {file full_name : List ℕ} {c : LinkCause} → GathersUnder IsAt Fails roots given names nothing_yet (gathered g)
-      → LinkFault g.files file full_name c → answer ≡ refused (link_line file full_name c) → CompileAnswer IsAt Fails roots out names answer
+      {g : Gathered} {file full_name : List ℕ} {c : LinkCause} → GathersUnder IsAt Fails p given names nothing_yet (gathered g)
+      → LinkFault g.files file full_name c → answer ≡ refused (link_line file full_name c) → CompileAnswer IsAt Fails p out names answer
   too_large :
-      {g : Gathered} {files : List DeclaredFile} → GathersUnder IsAt Fails roots given names nothing_yet (gathered g) → Resolves g.files files
-      → 2 ^ 31 ≤ length (set_bytes files) → answer ≡ refused too_large_line → CompileAnswer IsAt Fails roots out names answer
+      {g : Gathered} {files : List DeclaredFile} → GathersUnder IsAt Fails p given names nothing_yet (gathered g) → Resolves g.files files
+      → 2 ^ 31 ≤ length (set_bytes files) → answer ≡ refused too_large_line → CompileAnswer IsAt Fails p out names answer
   compiled :
-      {g : Gathered} {files : List DeclaredFile} → GathersUnder IsAt Fails roots given names nothing_yet (gathered g) → Resolves g.files files
-      → length (set_bytes files) < 2 ^ 31 → answer ≡ saves out (set_bytes files) → CompileAnswer IsAt Fails roots out names answer
+      {g : Gathered} {files : List DeclaredFile} → GathersUnder IsAt Fails p given names nothing_yet (gathered g) → Resolves g.files files
+      → length (set_bytes files) < 2 ^ 31 → answer ≡ saves out (set_bytes files) → CompileAnswer IsAt Fails p out names answer

@@ -5,7 +5,9 @@ use Rattle.std.specs.List.{list_any, slice_split}
 use Rattle.std.specs.Str.{bytes_eq}
 use Rattle.pb_decl.specs.Decls.{DeclaredFile}
 use Rattle.pb_tokens.specs.declared.fault.SourceCause.{SourceCause}
-use Rattle.pb_source.specs.Source.{IsSource, HasFault}
+use Rattle.pb_source.specs.Source.{IsSource, HasFault, IsLenientSource, HasLenientFault}
+use Rattle.pb_files.specs.declared.set_file.Reading.{Reading}
+use Rattle.pb_files.specs.declared.set_file.Reading.TheVariants.{Strict, Lenient}
 
 -- NAMES OF FILES
 
@@ -90,14 +92,34 @@ pub data Gathers
       {o : Origin} {name : List ℕ} {names : List (List ℕ)} {g : Gathered} {t : Trouble} → is_known g name ≡ false → IsTaken o name
       → HasTrouble o name t → Gathers IsAbsent Declares HasTrouble o (name ∷ names) g (stopped_at name t)
 
+-- HOW SOURCES ARE READ
+
+-- the bytes are a source of this name that declares f
+abbrev pub IsSourceBy : Reading → List ℕ → List ℕ → DeclaredFile → Type 0
+IsSourceBy Strict name bytes f = IsSource name bytes f
+IsSourceBy Lenient name bytes f = IsLenientSource name bytes f
+
+-- they are none, for this fault
+abbrev pub HasFaultBy : Reading → List ℕ → ℕ → SourceCause → Type 0
+HasFaultBy Strict bytes place c = HasFault bytes place c
+HasFaultBy Lenient bytes place c = HasLenientFault bytes place c
+
+-- where sources are looked for, and how they are read
+pub record Places : Type 0 where
+  pub reading : Reading
+  pub roots : List (List ℕ)
+
+abbrev pub places : Reading → List (List ℕ) → Places
+places reading roots = record { reading = reading; roots = roots }
+
 -- AT A PATH, where IsAt says what files are at paths, and Fails that reading there fails
 
-module _ (IsAt : List ℕ → Option (List ℕ) → Type 0) (path : List ℕ) where
+module _ (IsAt : List ℕ → Option (List ℕ) → Type 0) (reading : Reading) (path : List ℕ) where
   abbrev pub DeclaresAt : List ℕ → DeclaredFile → Type 0
-  DeclaresAt name f = (bytes : List ℕ) × IsAt path (Some bytes) × IsSource name bytes f
+  DeclaresAt name f = (bytes : List ℕ) × IsAt path (Some bytes) × IsSourceBy reading name bytes f
 
   abbrev pub IsFaultyAt : ℕ → SourceCause → Type 0
-  IsFaultyAt place c = (bytes : List ℕ) × IsAt path (Some bytes) × HasFault bytes place c
+  IsFaultyAt place c = (bytes : List ℕ) × IsAt path (Some bytes) × HasFaultBy reading bytes place c
 
   abbrev pub HasTroubleAt : (List ℕ → Type 0) → Trouble → Type 0
   HasTroubleAt Fails (unread p) = (p ≡ path) × Fails path
@@ -115,17 +137,18 @@ module _ (IsAt : List ℕ → Option (List ℕ) → Type 0) where
   IsAbsentUnder [] name = ⊤
   IsAbsentUnder (root ∷ roots) name = IsAt (path_under root name) None × IsAbsentUnder roots name
 
-  abbrev pub DeclaresUnder : List (List ℕ) → List ℕ → DeclaredFile → Type 0
-  DeclaresUnder roots name f = (path : List ℕ) × IsReached roots name path × DeclaresAt IsAt path name f
+  abbrev pub DeclaresUnder : Places → List ℕ → DeclaredFile → Type 0
+  DeclaresUnder p name f = (path : List ℕ) × IsReached p.roots name path × DeclaresAt IsAt p.reading path name f
 
   -- a given file that no root has is refused, by its path under the first
   abbrev pub IsMissing : List (List ℕ) → Origin → List ℕ → Trouble → Type 0
   IsMissing (root ∷ roots) given name (unread path) = (path ≡ path_under root name) × IsAbsentUnder (root ∷ roots) name
   IsMissing _ _ _ _ = ⊥
 
-module _ (IsAt : List ℕ → Option (List ℕ) → Type 0) (Fails : List ℕ → Type 0) (roots : List (List ℕ)) where
+module _ (IsAt : List ℕ → Option (List ℕ) → Type 0) (Fails : List ℕ → Type 0) (p : Places) where
   abbrev pub HasTroubleUnder : Origin → List ℕ → Trouble → Type 0
-  HasTroubleUnder o name t = ((path : List ℕ) × IsReached IsAt roots name path × HasTroubleAt IsAt path Fails t) ⊎ IsMissing IsAt roots o name t
+  HasTroubleUnder o name t =
+      ((path : List ℕ) × IsReached IsAt p.roots name path × HasTroubleAt IsAt p.reading path Fails t) ⊎ IsMissing IsAt p.roots o name t
 
   abbrev pub GathersUnder : Origin → List (List ℕ) → Gathered → Outcome → Type 0
-  GathersUnder = Gathers (IsAbsentUnder IsAt roots) (DeclaresUnder IsAt roots) HasTroubleUnder
+  GathersUnder = Gathers (IsAbsentUnder IsAt p.roots) (DeclaresUnder IsAt p) HasTroubleUnder

@@ -5,8 +5,11 @@ pub mod TypesAnswer
 pub mod JsonAnswer
 pub mod MessageAnswer
 pub mod FramesAnswer
+pub mod AllFrames
 pub mod CompileAnswer
+pub mod CompatAnswer
 pub mod Answers
 pub mod Steps
 pub mod Streaming
+pub mod PassingOn
 pub mod Reaching

@@ -16,10 +16,12 @@ use Rattle.pb_decl.specs.Decls.{DeclaredFile}
 use Rattle.pb_files.specs.Answer.{Answer, stopped, broken, device_failed, IsPrinted}
 use Rattle.pb_listing.specs.declared.form.FloatForm.{FloatForm}
 use Rattle.pb_command.specs.Answers.{FaultAt, TextAt, FramesAt, FrameFaultAt, FramesBegunAt, AnyFrames, canonical_form}
-use Rattle.pb_command.specs.CompileAnswer.{CompileAnswer, roots_of, texts_of, told_of}
+use Rattle.pb_command.specs.AllFrames.{AllBegunBy, AllFramesBy}
+use Rattle.pb_command.specs.CompatAnswer.{CompatAnswer}
+use Rattle.pb_command.specs.CompileAnswer.{CompileAnswer, places_of, texts_of, told_of}
 use Rattle.pb_files.specs.FileMap.{FileMap, IsHonest}
 use Rattle.pb_command.specs.FramesAnswer.{AreFrames, FramesAnswer}
-use Rattle.pb_command.specs.Gathering.{Gathered, GathersUnder, HasTroubleUnder, IsAbsentUnder, DeclaresUnder, Origin, Outcome, Trouble, stopped_at}
+use Rattle.pb_command.specs.Gathering.{Gathered, GathersUnder, HasTroubleUnder, IsAbsentUnder, DeclaresUnder, Places, Origin, Outcome, Trouble, stopped_at}
 use Rattle.pb_command.specs.MessageAnswer.{MessageAnswer}
 use Rattle.pb_command.specs.RawAnswer.{RawAnswer}
 use Rattle.pb_files.specs.Refusal.{ByRefusal, Refuses}
@@ -32,8 +34,10 @@ use Rattle.pb_files.specs.Known.{IsReadOf, OfFiles}
 use Rattle.pb_files.specs.SetFile.{HasType}
 use Rattle.pb_files.specs.declared.set_file.Reading.{Reading}
 use Rattle.pb_command.specs.declared.command.Command.{Command}
-use Rattle.pb_command.specs.declared.command.Command.TheVariants.{Raw, Check, Show, Canon, Json, Frames, Compile}
+use Rattle.pb_command.specs.declared.command.Command.TheVariants.{Raw, Check, Show, Canon, Json, Frames, AllFrames, Compile}
+use Rattle.pb_command.specs.declared.command.Command.TheVariants.{Compat}
 use Rattle.pb_command.specs.declared.command.Command.TheVariants as command
+use Rattle.pb_command.specs.declared.command.Comparison.{Comparison}
 use Rattle.pb_command.specs.declared.command.RawForm.{RawForm}
 use Rattle.pb_command.specs.declared.command.Source.{Source}
 use Rattle.pb_command.specs.declared.form.Form.{Form}
@@ -112,6 +116,13 @@ module _ {F : Type 0} (contents : F → Option FileMap) (is_steady : F → Bool)
   StreamBegunAt floats pool m path text =
       (text ≡ []) ⊎ (AnyFrames floats pool m text × OfFiles contents is_steady files path (λ content. FramesBegunAt content floats pool m text))
 
+  -- or all its frames are
+  abbrev pub AllFramesAtPath : FloatForm → Types → ℕ → List ℕ → Answer → Type 0
+  AllFramesAtPath floats pool m path a = IsMissing path a ⊎ AllFramesBy (OfFiles contents is_steady files path) floats path pool m a
+
+  abbrev pub AllBegunAtPath : FloatForm → Types → ℕ → List ℕ → List ℕ → Type 0
+  AllBegunAtPath floats pool m path text = (text ≡ []) ⊎ AllBegunBy (OfFiles contents is_steady files path) floats pool m text
+
   -- COMMANDS
 
   -- the answer of a command that makes something of the message of a file
@@ -138,6 +149,19 @@ module _ {F : Type 0} (contents : F → Option FileMap) (is_steady : F → Bool)
       ⊎ ((set : List ℕ) × (pool : Types) × (m : ℕ) × IsReadOf contents is_steady files (full.bytes + 1) s.set.now (Some set)
       × HasType s.reading s.type_name.now set pool m × AnyFrames floats pool m text × OfFiles contents is_steady files s.file.now (λ content. FramesBegunAt content floats pool m text))
 
+  -- what `frames --keep-going` answers
+  abbrev pub AllFramesOf : FloatForm → Source → Answer → Type 0
+  AllFramesOf floats s =
+      TypeAnswer (IsReadOf contents is_steady files (full.bytes + 1) s.set.now) (OfFiles contents is_steady files s.file.now (λ content. content ≡ None))
+      (AllFramesBy (OfFiles contents is_steady files s.file.now) floats s.file.now) s.reading s.type_name.now s.set.now s.file.now
+
+  -- what it prints before that is known
+  abbrev pub AllBegunOf : FloatForm → Source → List ℕ → Type 0
+  AllBegunOf floats s text =
+      (text ≡ [])
+      ⊎ ((set : List ℕ) × (pool : Types) × (m : ℕ) × IsReadOf contents is_steady files (full.bytes + 1) s.set.now (Some set)
+      × HasType s.reading s.type_name.now set pool m × AllBegunBy (OfFiles contents is_steady files s.file.now) floats pool m text)
+
   -- what `types` answers
   abbrev pub TypesOf : Reading → List ℕ → Option (List ℕ) → Answer → Type 0
   TypesOf reading path name = TypesAnswer (IsReadOf contents is_steady files (full.bytes + 1) path) reading path name
@@ -153,22 +177,26 @@ module _ {F : Type 0} (contents : F → Option FileMap) (is_steady : F → Bool)
   abbrev pub AbsentOf : List (List ℕ) → List ℕ → Type 0
   AbsentOf = IsAbsentUnder IsAt
 
-  abbrev pub DeclaredOf : List (List ℕ) → List ℕ → DeclaredFile → Type 0
+  abbrev pub DeclaredOf : Places → List ℕ → DeclaredFile → Type 0
   DeclaredOf = DeclaresUnder IsAt
 
-  abbrev pub TroubleOf : List (List ℕ) → Origin → List ℕ → Trouble → Type 0
+  abbrev pub TroubleOf : Places → Origin → List ℕ → Trouble → Type 0
   TroubleOf = HasTroubleUnder IsAt Fails
 
-  abbrev pub GathersOf : List (List ℕ) → Origin → List (List ℕ) → Gathered → Outcome → Type 0
+  abbrev pub GathersOf : Places → Origin → List (List ℕ) → Gathered → Outcome → Type 0
   GathersOf = GathersUnder IsAt Fails
 
   -- reaching names stops at a file that is refused
-  abbrev pub StopsOf : List (List ℕ) → Origin → List (List ℕ) → Gathered → Answer → Type 0
-  StopsOf roots o names g a = (name : List ℕ) × (t : Trouble) × GathersOf roots o names g (stopped_at name t) × (a ≡ told_of name t)
+  abbrev pub StopsOf : Places → Origin → List (List ℕ) → Gathered → Answer → Type 0
+  StopsOf p o names g a = (name : List ℕ) × (t : Trouble) × GathersOf p o names g (stopped_at name t) × (a ≡ told_of name t)
 
   -- what `compile` answers
-  abbrev pub CompileOf : List (List ℕ) → List ℕ → List (List ℕ) → Answer → Type 0
+  abbrev pub CompileOf : Places → List ℕ → List (List ℕ) → Answer → Type 0
   CompileOf = CompileAnswer IsAt Fails
+
+  -- what `compat` answers
+  abbrev pub CompatOf : Comparison → Answer → Type 0
+  CompatOf = CompatAnswer IsAt
 
   -- a command's right answers, and what is printed before they are known
   abbrev pub RightOf : Command → Answer → Type 0
@@ -179,8 +207,10 @@ module _ {F : Type 0} (contents : F → Option FileMap) (is_steady : F → Bool)
   RightOf (Canon to source) a = MessageOf (canonical_form to) source a
   RightOf (Json layout source) a = MessageOf (form.Json layout) source a
   RightOf (Frames floats source) a = StreamOf floats source a
+  RightOf (AllFrames floats source) a = AllFramesOf floats source a
   RightOf (command.Types reading set name) a = TypesOf reading set.now (option_map (λ n. n.now) name) a
-  RightOf (Compile roots out names) a = CompileOf (roots_of roots) out.now (texts_of names.now) a
+  RightOf (Compile roots out names) a = CompileOf (places_of roots) out.now (texts_of names.now) a
+  RightOf (Compat comparison) a = CompatOf comparison a
 
   abbrev pub BegunOf : Command → List ℕ → Type 0
   BegunOf (Raw form file) text = IsNothing text
@@ -189,5 +219,7 @@ module _ {F : Type 0} (contents : F → Option FileMap) (is_steady : F → Bool)
   BegunOf (Canon to source) text = IsNothing text
   BegunOf (Json layout source) text = IsNothing text
   BegunOf (Frames floats source) text = StreamBegun floats source text
+  BegunOf (AllFrames floats source) text = AllBegunOf floats source text
   BegunOf (command.Types reading set name) text = IsNothing text
   BegunOf (Compile roots out names) text = IsNothing text
+  BegunOf (Compat comparison) text = IsNothing text

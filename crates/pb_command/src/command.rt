@@ -3,6 +3,7 @@
 use pb_files::Reading;
 use pb_json::Layout;
 use pb_listing::FloatForm;
+use pb_verdict::Readers;
 
 /// Where messages and their type are read: the file of the messages, and the type's name in the descriptor set of another
 /// file, which is read strictly or leniently.
@@ -14,11 +15,24 @@ pub struct Source<'a> {
     pub file: &'a str,
 }
 
-/// Where sources are looked for: under the root, and one that is not there under the first of the others that has it.
+/// Where sources are looked for: under the root, and one that is not there under the first of the others that has it. They are read
+/// strictly or leniently.
 #[derive(Clone, Copy, Debug, PartialEq, Eq)]
 pub struct Roots<'a> {
+    pub reading: Reading,
     pub root: &'a str,
     pub others: &'a [&'a str],
+}
+
+/// Which descriptor sets are compared, and for which readers: those of two files, read strictly or leniently. A full name says of which
+/// message type; without one all types are compared.
+#[derive(Clone, Copy, Debug, PartialEq, Eq)]
+pub struct Comparison<'a> {
+    pub reading: Reading,
+    pub old: &'a str,
+    pub new: &'a str,
+    pub type_name: Option<&'a str>,
+    pub readers: Readers,
 }
 
 /// How the records of a file are shown.
@@ -64,6 +78,11 @@ pub enum Command<'a> {
         floats: FloatForm,
         source: Source<'a>,
     },
+    /// Shows the messages of a file as `Frames` does, but passes over those that are refused, and reports them at the end.
+    AllFrames {
+        floats: FloatForm,
+        source: Source<'a>,
+    },
     /// Shows what a descriptor set declares, and what reading left out of it: all of it, or the message type or enum of a name.
     Types {
         reading: Reading,
@@ -75,5 +94,9 @@ pub enum Command<'a> {
         roots: Roots<'a>,
         out: &'a str,
         names: &'a [&'a str],
+    },
+    /// Shows what happens to messages of the types of one descriptor set that are read by those of another.
+    Compat {
+        comparison: Comparison<'a>,
     },
 }

@@ -6,7 +6,7 @@ ghost use Rattle.pb_decl.specs.View.{file_view};
 ghost use Rattle.pb_descr.specs.Writing.{set_body};
 ghost use Rattle.pb_value.specs.Data.{message_depth};
 ghost use Rattle.pb_files.specs.Answer.{refused};
-ghost use Rattle.pb_command.specs.CompileAnswer.{roots_of, texts_of};
+ghost use Rattle.pb_command.specs.CompileAnswer.{places_of, texts_of};
 ghost use Rattle.pb_files.specs.FileMap.{IsSaved, IsUnsaved};
 ghost use Rattle.pb_files.specs.Refusal.{KeepsFailures, Refuses};
 ghost use Rattle.pb_files.specs.Report.{too_large_line};
@@ -29,7 +29,7 @@ pub fn compile<'a, F: Files>(
 ) -> Result<(), Refusal<'a>>
     ensures comes { Comes (λ text. text ≡ []) (λ _. ⊥)
         (IsSaved F.contents files.old files.new) (IsUnsaved F.contents F.failures files.old files.new)
-        (CompileOf F.contents F.is_steady files.old (roots_of roots.entry) out.entry.now (texts_of names.now)) IsNothing result }
+        (CompileOf F.contents F.is_steady files.old (places_of roots.entry) out.entry.now (texts_of names.now)) IsNothing result }
     ensures kept { KeepsFailures F.failures files.old files.new result }
     ensures unfailing { F.is_steady files.old ≡ true → F.takes_writes files.old ≡ true → F.failures files.new ≡ F.failures files.old }
 {

@@ -10,7 +10,9 @@ ghost use Rattle.pb_output.specs.Sending.{Cut, Sent, SentOrCut};
 ghost use Rattle.pb_command.specs.Steps.{BegunOf, Comes, RightOf};
 
 use crate::afterwards::Afterwards;
+use crate::all_frames::all_frames;
 use crate::command::Command;
+use crate::compat::compat;
 use crate::compile::compile;
 use crate::form::Form;
 use crate::frames::frames;
@@ -126,6 +128,9 @@ fn perform<'a, F: Files, O: Output>(
         Command::Frames { floats, source } => frames(
             alloc, afterwards, *floats, source, files, out,
         ),
+        Command::AllFrames { floats, source } => all_frames(
+            alloc, afterwards, *floats, source, files, out,
+        ),
         Command::Types { reading, set, name } => types(
             alloc, afterwards, *reading, set, *name, files, out,
         ),
@@ -134,6 +139,7 @@ fn perform<'a, F: Files, O: Output>(
             out: to,
             names,
         } => compile(alloc, *roots, to, names, files),
+        Command::Compat { comparison } => compat(alloc, afterwards, comparison, files, out),
     }
 }
 

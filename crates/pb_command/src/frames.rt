@@ -156,7 +156,7 @@ fn put_next<'a, I: Input + Drop, O: Output>(
 }
 
 /// The line of a frame, and the listing of its message one level in.
-fn put_frame<O: Output>(
+pub(crate) fn put_frame<O: Output>(
     sink: &mut Sink,
     out: &mut O,
     floats: FloatForm,

@@ -5,7 +5,7 @@ ghost use Rattle.std.specs.List.{list_any};
 ghost use Rattle.std.specs.Str.{bytes_eq};
 ghost use Rattle.pb_sets.specs.NameSets.{names_in};
 ghost use Rattle.pb_decl.specs.View.{file_view};
-ghost use Rattle.pb_command.specs.CompileAnswer.{roots_of, texts_of, told_of};
+ghost use Rattle.pb_command.specs.CompileAnswer.{places_of, texts_of, told_of};
 ghost use Rattle.pb_files.specs.FileMap.{KeepsMap};
 ghost use Rattle.pb_command.specs.Gathering.{Gathered, Trouble, gathered, given, imported, nothing_yet, with_file};
 ghost use Rattle.pb_command.specs.Reaching.{FindsImport, Moves, OpensFound, RefusesImport, StopsInside, open_view, reached, stack_of};
@@ -43,9 +43,9 @@ pub fn gather<'a, F: Files>(
     files: &mut F,
 ) -> Result<Vec<FileDecl>, Refusal<'a>>
     ensures gathered { IfOk result (λ v. (g : Gathered)
-        × GathersOf F.contents F.is_steady files.old (roots_of roots.entry) given (texts_of names.now) nothing_yet (gathered g)
+        × GathersOf F.contents F.is_steady files.old (places_of roots.entry) given (texts_of names.now) nothing_yet (gathered g)
         × (map file_view v.items ≡ g.files)) }
-    ensures refused { IfErr result (Refuses (StopsOf F.contents F.is_steady files.old (roots_of roots.entry) given (texts_of names.now) nothing_yet)) }
+    ensures refused { IfErr result (Refuses (StopsOf F.contents F.is_steady files.old (places_of roots.entry) given (texts_of names.now) nothing_yet)) }
     ensures kept { KeepsFailures F.failures files.old files.new result }
     ensures steady { F.is_steady files.old ≡ true → F.is_steady files.new ≡ true }
     ensures unfailing { F.is_steady files.old ≡ true → F.failures files.new ≡ F.failures files.old }
@@ -94,8 +94,8 @@ impl Gathering {
         files: &mut F,
     ) -> Result<(), Refusal<'a>>
         ensures taken { OnOk result
-            (GathersOf F.contents F.is_steady files.old (roots_of roots.entry) given (name.now ∷ []) (reached self.old) (gathered (reached self.new))) }
-        ensures refused { IfErr result (Refuses (StopsOf F.contents F.is_steady files.old (roots_of roots.entry) given (name.now ∷ []) (reached self.old))) }
+            (GathersOf F.contents F.is_steady files.old (places_of roots.entry) given (name.now ∷ []) (reached self.old) (gathered (reached self.new))) }
+        ensures refused { IfErr result (Refuses (StopsOf F.contents F.is_steady files.old (places_of roots.entry) given (name.now ∷ []) (reached self.old))) }
         ensures kept { KeepsFailures F.failures files.old files.new result }
         ensures steady { F.is_steady files.old ≡ true → F.is_steady files.new ≡ true }
         ensures unfailing { F.is_steady files.old ≡ true → F.failures files.new ≡ F.failures files.old }
@@ -120,10 +120,10 @@ impl Gathering {
         files: &mut F,
     ) -> Result<(), Refusal<'a>>
         ensures closed { OnOk result ((g : Gathered)
-            × GathersOf F.contents F.is_steady files.old (roots_of roots.entry) imported (file_view file).imports (reached self.old) (gathered g)
+            × GathersOf F.contents F.is_steady files.old (places_of roots.entry) imported (file_view file).imports (reached self.old) (gathered g)
             × (reached self.new ≡ with_file (file_view file) g)) }
         ensures refused { IfErr result
-            (Refuses (StopsOf F.contents F.is_steady files.old (roots_of roots.entry) imported (file_view file).imports (reached self.old))) }
+            (Refuses (StopsOf F.contents F.is_steady files.old (places_of roots.entry) imported (file_view file).imports (reached self.old))) }
         ensures kept { KeepsFailures F.failures files.old files.new result }
         ensures steady { F.is_steady files.old ≡ true → F.is_steady files.new ≡ true }
         ensures unfailing { F.is_steady files.old ≡ true → F.failures files.new ≡ F.failures files.old }
@@ -151,11 +151,11 @@ impl Gathering {
         stack: &mut Vec<Open>,
         files: &mut F,
     ) -> Result<(), Refusal<'a>>
-        ensures moved { OnOk result (Moves (AbsentOf F.contents F.is_steady files.old (roots_of roots.entry))
-            (DeclaredOf F.contents F.is_steady files.old (roots_of roots.entry)) (reached self.old)
+        ensures moved { OnOk result (Moves (AbsentOf F.contents F.is_steady files.old (places_of roots.entry).roots)
+            (DeclaredOf F.contents F.is_steady files.old (places_of roots.entry)) (reached self.old)
             (open_view innermost ∷ stack_of stack.old.items) (reached self.new) (stack_of stack.new.items)) }
         ensures refused { IfErr result
-            (Refuses (StopsInside (TroubleOf F.contents F.is_steady files.old (roots_of roots.entry)) (reached self.old) (open_view innermost).left)) }
+            (Refuses (StopsInside (TroubleOf F.contents F.is_steady files.old (places_of roots.entry)) (reached self.old) (open_view innermost).left)) }
         ensures kept { KeepsFailures F.failures files.old files.new result }
         ensures steady { F.is_steady files.old ≡ true → F.is_steady files.new ≡ true }
         ensures unfailing { F.is_steady files.old ≡ true → F.failures files.new ≡ F.failures files.old }
@@ -185,10 +185,10 @@ impl Gathering {
         name: &str,
         files: &mut F,
     ) -> Result<Option<FileDecl>, Refusal<'a>>
-        ensures found { IfOk result (λ o. FindsImport (AbsentOf F.contents F.is_steady files.old (roots_of roots.entry))
-            (DeclaredOf F.contents F.is_steady files.old (roots_of roots.entry)) (reached self.old) name.now (reached self.new) (option_map file_view o)) }
+        ensures found { IfOk result (λ o. FindsImport (AbsentOf F.contents F.is_steady files.old (places_of roots.entry).roots)
+            (DeclaredOf F.contents F.is_steady files.old (places_of roots.entry)) (reached self.old) name.now (reached self.new) (option_map file_view o)) }
         ensures refused { IfErr result (Refuses (λ a. (t : Trouble)
-            × RefusesImport (TroubleOf F.contents F.is_steady files.old (roots_of roots.entry)) (reached self.old) name.now t
+            × RefusesImport (TroubleOf F.contents F.is_steady files.old (places_of roots.entry)) (reached self.old) name.now t
             × (a ≡ told_of name.now t))) }
         ensures kept { KeepsFailures F.failures files.old files.new result }
         ensures steady { F.is_steady files.old ≡ true → F.is_steady files.new ≡ true }

@@ -2,9 +2,12 @@
 #![tactic(auto)]
 
 mod afterwards;
+mod all_frames;
 mod by_type;
 mod command;
+mod compat;
 mod compile;
+mod early;
 mod executing;
 mod form;
 mod frames;
@@ -15,8 +18,9 @@ mod sources;
 mod types;
 
 pub use afterwards::Afterwards;
-pub use command::{Command, RawForm, Roots, Source};
+pub use command::{Command, Comparison, RawForm, Roots, Source};
 pub use executing::{execute, execute_then};
 pub use pb_files::{Files, HostFiles, MemFiles, Reading, Refusal};
 pub use pb_json::Layout;
 pub use pb_listing::FloatForm;
+pub use pb_verdict::Readers;

@@ -14,9 +14,10 @@ ghost use Rattle.pb_command.specs.Steps.{Comes, IsNothing, Judges, NoFile};
 ghost use Rattle.pb_files.specs.Refusal.{KeepsFailures};
 
 use crate::command::RawForm;
-use pb_files::{Files, OUTPUT, Refusal, read_file};
+use crate::early::read_records;
+use pb_files::{Files, OUTPUT, Refusal, open_file};
 use pb_listing::{write_listing, write_nested, write_shortest};
-use pb_wire::{DeviceFault, Limits, Output, judge_raw};
+use pb_wire::{DeviceFault, Limits, Output};
 use std::alloc::Global;
 
 /// Shows the records of the file at a path: all of the file is judged before anything is written.
@@ -55,9 +56,8 @@ fn read_judged<'a, F: Files>(
     ensures unfailing { F.is_steady files.old ≡ true → F.failures files.new ≡ F.failures files.old }
     ensures files { KeepsMap (F.contents files.old) (F.contents files.new) }
 {
-    let text = read_file(alloc, limits, path, files)?;
-    judge_raw(alloc, text.as_slice(), limits)?;
-    Ok(text)
+    let mut input = open_file(path, files)?;
+    read_records(alloc, limits, path, &mut input)
 }
 
 /// Writes the records that the bytes encode in a form.

@@ -1,14 +1,14 @@
 //! Sources, read from files under roots.
 
-ghost use Rattle.std.specs.Prelude.{◌≡◌, ◌+◌, true, ℕ, None, option_map, string_bytes, IfOk, IfErr, IsErrOf, MatchOption, OnOk};
+ghost use Rattle.std.specs.Prelude.{◌≡◌, ◌+◌, ◌⊎◌, true, ℕ, None, option_map, string_bytes, IfOk, IfErr, IsErrOf, MatchOption, OnOk};
 ghost use Rattle.pb_decl.specs.View.{file_view};
+ghost use Rattle.pb_tokens.specs.Fault.{out_of_memory};
 ghost use Rattle.pb_tokens.specs.declared.fault.SourceCause.{SourceCause};
-ghost use Rattle.pb_source.specs.Source.{HasFault, IsSource};
 ghost use Rattle.pb_wire.specs.Limits.{full};
 ghost use Rattle.pb_files.specs.Answer.{refused};
-ghost use Rattle.pb_command.specs.CompileAnswer.{roots_of, texts_of, told_of};
+ghost use Rattle.pb_command.specs.CompileAnswer.{places_of, texts_of, told_of};
 ghost use Rattle.pb_files.specs.FileMap.{KeepsMap};
-ghost use Rattle.pb_command.specs.Gathering.{DeclaresAt, HasTroubleAt, Trouble, climbs, given, imported, leaves_root, path_under, unread};
+ghost use Rattle.pb_command.specs.Gathering.{DeclaresAt, HasFaultBy, HasTroubleAt, IsSourceBy, Trouble, climbs, given, imported, leaves_root, path_under, places, unread};
 ghost use Rattle.pb_files.specs.Refusal.{KeepsFailures, Refuses};
 ghost use Rattle.pb_files.specs.Report.{source_line};
 ghost use Rattle.pb_files.specs.Known.{IsReadOf};
@@ -16,8 +16,8 @@ ghost use Rattle.pb_command.specs.Steps.{AbsentOf, DeclaredOf, Fails, IsAt, Trou
 
 use crate::command::Roots;
 use pb_descr::FileDecl;
-use pb_files::{Files, Refusal};
-use pb_source::{SourceCause, SourceFault, parse};
+use pb_files::{Files, Reading, Refusal};
+use pb_source::{SourceCause, SourceFault, parse, parse_lenient};
 use pb_wire::{DeviceFault, Limits, ReadFault, read_up_to};
 use std::alloc::{AllocError, Global};
 
@@ -92,13 +92,34 @@ fn refusal_of<'a>(alloc: Global, name: &str, fault: SourceFault) -> Refusal<'a>
     }
 }
 
+/// What the bytes of a source of this name declare, or their fault.
+fn parse_by(
+    alloc: Global,
+    reading: Reading,
+    name: &str,
+    bytes: &[u8],
+) -> Result<FileDecl, SourceFault>
+    ensures source { IfOk result (λ f. IsSourceBy reading name.now bytes.now (file_view f)) }
+    ensures fault { IfErr result (λ e. (e ≡ out_of_memory) ⊎ HasFaultBy reading bytes.now e.byte e.cause) }
+{
+    match reading {
+        Reading::Strict => parse(alloc, name, bytes),
+        Reading::Lenient => parse_lenient(alloc, name, bytes),
+    }
+}
+
 /// What the bytes of a source of this name declare.
-fn parse_source<'a>(alloc: Global, name: &str, bytes: &[u8]) -> Result<FileDecl, Refusal<'a>>
-    ensures source { IfOk result (λ f. IsSource name.now bytes.now (file_view f)) }
-    ensures refused { IfErr result (Refuses (λ a. (place : ℕ) × (c : SourceCause) × HasFault bytes.now place c
+fn parse_source<'a>(
+    alloc: Global,
+    reading: Reading,
+    name: &str,
+    bytes: &[u8],
+) -> Result<FileDecl, Refusal<'a>>
+    ensures source { IfOk result (λ f. IsSourceBy reading name.now bytes.now (file_view f)) }
+    ensures refused { IfErr result (Refuses (λ a. (place : ℕ) × (c : SourceCause) × HasFaultBy reading bytes.now place c
         × (a ≡ refused (source_line name.now place c)))) }
 {
-    match parse(alloc, name, bytes) {
+    match parse_by(alloc, reading, name, bytes) {
         Ok(file) => Ok(file),
         Err(fault) => Err(refusal_of(alloc, name, fault)),
     }
@@ -107,14 +128,15 @@ fn parse_source<'a>(alloc: Global, name: &str, bytes: &[u8]) -> Result<FileDecl,
 /// What the file of this name under one root declares; none where it is not there.
 fn read_under<'a, F: Files>(
     alloc: Global,
+    reading: Reading,
     root: &str,
     name: &str,
     files: &mut F,
 ) -> Result<Option<FileDecl>, Refusal<'a>>
     ensures read { IfOk result (λ o. MatchOption o (IsAt F.contents F.is_steady files.old (path_under root.now name.now) None)
-        (λ f. DeclaresAt (IsAt F.contents F.is_steady files.old) (path_under root.now name.now) name.now (file_view f))) }
+        (λ f. DeclaresAt (IsAt F.contents F.is_steady files.old) reading (path_under root.now name.now) name.now (file_view f))) }
     ensures refused { IfErr result (Refuses (λ a. (t : Trouble)
-        × HasTroubleAt (IsAt F.contents F.is_steady files.old) (path_under root.now name.now) (Fails F.contents F.is_steady files.old) t
+        × HasTroubleAt (IsAt F.contents F.is_steady files.old) reading (path_under root.now name.now) (Fails F.contents F.is_steady files.old) t
         × (a ≡ told_of name.now t))) }
     ensures kept { KeepsFailures F.failures files.old files.new result }
     ensures steady { F.is_steady files.old ≡ true → F.is_steady files.new ≡ true }
@@ -124,7 +146,7 @@ fn read_under<'a, F: Files>(
 {
     let path = path_under(alloc, root, name)?;
     match read_bytes(alloc, path.as_str(), files) {
-        Ok(Some(bytes)) => match parse_source(alloc, name, &bytes) {
+        Ok(Some(bytes)) => match parse_source(alloc, reading, name, &bytes) {
             Ok(file) => Ok(Some(file)),
             Err(refusal) => Err(refusal),
         },
@@ -137,14 +159,15 @@ fn read_under<'a, F: Files>(
 /// What the file of this name declares, under the first of these roots that has it; none where no root has it.
 fn read_first<'a, F: Files>(
     alloc: Global,
+    reading: Reading,
     roots: &[&str],
     name: &str,
     files: &mut F,
 ) -> Result<Option<FileDecl>, Refusal<'a>>
     ensures read { IfOk result (λ o. MatchOption o (AbsentOf F.contents F.is_steady files.old (texts_of roots.now) name.now)
-        (λ f. DeclaredOf F.contents F.is_steady files.old (texts_of roots.now) name.now (file_view f))) }
+        (λ f. DeclaredOf F.contents F.is_steady files.old (places reading (texts_of roots.now)) name.now (file_view f))) }
     ensures refused { IfErr result (Refuses (λ a. (t : Trouble)
-        × TroubleOf F.contents F.is_steady files.old (texts_of roots.now) imported name.now t × (a ≡ told_of name.now t))) }
+        × TroubleOf F.contents F.is_steady files.old (places reading (texts_of roots.now)) imported name.now t × (a ≡ told_of name.now t))) }
     ensures kept { KeepsFailures F.failures files.old files.new result }
     ensures steady { F.is_steady files.old ≡ true → F.is_steady files.new ≡ true }
     ensures unfailing { F.is_steady files.old ≡ true → F.failures files.new ≡ F.failures files.old }
@@ -152,7 +175,7 @@ fn read_first<'a, F: Files>(
     ensures files { KeepsMap (F.contents files.old) (F.contents files.new) }
 {
     for root in roots {
-        if let Some(file) = read_under(alloc, root, name, files)? {
+        if let Some(file) = read_under(alloc, reading, root, name, files)? {
             return Ok(Some(file));
         }
     }
@@ -166,19 +189,19 @@ pub fn read_source<'a, F: Files>(
     name: &str,
     files: &mut F,
 ) -> Result<Option<FileDecl>, Refusal<'a>>
-    ensures read { IfOk result (λ o. MatchOption o (AbsentOf F.contents F.is_steady files.old (roots_of roots.entry) name.now)
-        (λ f. DeclaredOf F.contents F.is_steady files.old (roots_of roots.entry) name.now (file_view f))) }
+    ensures read { IfOk result (λ o. MatchOption o (AbsentOf F.contents F.is_steady files.old (places_of roots.entry).roots name.now)
+        (λ f. DeclaredOf F.contents F.is_steady files.old (places_of roots.entry) name.now (file_view f))) }
     ensures refused { IfErr result (Refuses (λ a. (t : Trouble)
-        × TroubleOf F.contents F.is_steady files.old (roots_of roots.entry) imported name.now t × (a ≡ told_of name.now t))) }
+        × TroubleOf F.contents F.is_steady files.old (places_of roots.entry) imported name.now t × (a ≡ told_of name.now t))) }
     ensures kept { KeepsFailures F.failures files.old files.new result }
     ensures steady { F.is_steady files.old ≡ true → F.is_steady files.new ≡ true }
     ensures unfailing { F.is_steady files.old ≡ true → F.failures files.new ≡ F.failures files.old }
     ensures takes_writes { F.takes_writes files.old ≡ true → F.takes_writes files.new ≡ true }
     ensures files { KeepsMap (F.contents files.old) (F.contents files.new) }
 {
-    match read_under(alloc, roots.root, name, files)? {
+    match read_under(alloc, roots.reading, roots.root, name, files)? {
         Some(file) => Ok(Some(file)),
-        None => read_first(alloc, roots.others, name, files),
+        None => read_first(alloc, roots.reading, roots.others, name, files),
     }
 }
 
@@ -189,9 +212,9 @@ pub fn read_given<'a, F: Files>(
     name: &str,
     files: &mut F,
 ) -> Result<FileDecl, Refusal<'a>>
-    ensures read { IfOk result (λ f. DeclaredOf F.contents F.is_steady files.old (roots_of roots.entry) name.now (file_view f)) }
+    ensures read { IfOk result (λ f. DeclaredOf F.contents F.is_steady files.old (places_of roots.entry) name.now (file_view f)) }
     ensures refused { IfErr result (Refuses (λ a. (t : Trouble)
-        × TroubleOf F.contents F.is_steady files.old (roots_of roots.entry) given name.now t × (a ≡ told_of name.now t))) }
+        × TroubleOf F.contents F.is_steady files.old (places_of roots.entry) given name.now t × (a ≡ told_of name.now t))) }
     ensures kept { KeepsFailures F.failures files.old files.new result }
     ensures steady { F.is_steady files.old ≡ true → F.is_steady files.new ≡ true }
     ensures unfailing { F.is_steady files.old ≡ true → F.failures files.new ≡ F.failures files.old }

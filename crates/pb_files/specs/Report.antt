@@ -54,6 +54,10 @@ too_large_line = codes "output cause TooLarge\n"
 abbrev pub frame_fault_line : ℕ → Fault → List ℕ
 frame_fault_line index f = codes "frame " ++ decimal index ++ codes " " ++ fault_line f
 
+-- how many frames of a stream are refused, and of how many
+abbrev pub frames_line : ℕ → ℕ → List ℕ
+frames_line refused count = codes "frames refused " ++ decimal refused ++ codes " of " ++ decimal count ++ codes "\n"
+
 -- the numbers of fields, outermost first, joined by dots, or `-` where there are none
 abbrev pub fields_text : List ℕ → List ℕ
 fields_text [] = codes "-"

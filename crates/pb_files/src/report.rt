@@ -3,7 +3,7 @@
 ghost use Rattle.std.specs.Prelude.{◌≡◌, ◌≤◌, ◌++◌, codes, decimal, flat_map, length, MatchResult};
 ghost use Rattle.pb_wire.specs.Fault.{fault};
 ghost use Rattle.pb_wire.specs.PathText.{dotted, path_text, step_text};
-ghost use Rattle.pb_files.specs.Report.{cause_end, device_line, fault_line, fields_text, frame_fault_line, json_line, link_line};
+ghost use Rattle.pb_files.specs.Report.{cause_end, device_line, fault_line, fields_text, frame_fault_line, frames_line, json_line, link_line};
 ghost use Rattle.pb_files.specs.Report.{set_cause_line, set_fault_line, shown_name, source_line, type_line};
 ghost use Rattle.pb_files.specs.Refusal.{refusal_line, refusal_status};
 ghost use Rattle.pb_output.specs.Sending.{Cut, Sent, SentOrCut};
@@ -57,6 +57,12 @@ pub enum Refusal<'a> {
         path: Vec<PathStep>,
         cause: Cause,
     },
+    /// Frames of a stream, after which the others were read: the lines that report them, how many they are, and of how many.
+    Frames {
+        lines: Vec<u8>,
+        refused: u64,
+        count: u64,
+    },
     /// The source of this name: where it fails, and why.
     Source {
         file: String,
@@ -68,6 +74,8 @@ pub enum Refusal<'a> {
         path: Vec<u32>,
         cause: JsonCause,
     },
+    /// A difference between two sets breaks reading. Standard output has it, and there is no line.
+    Breaks,
     /// The device of this path failed, or the file is not there.
     Device(&'a str),
     /// The same, of a path that was put together.
@@ -157,8 +165,10 @@ impl Refusal<'_> {
             | Refusal::UnknownType(_)
             | Refusal::TooLarge
             | Refusal::Frame { .. }
+            | Refusal::Frames { .. }
             | Refusal::Source { .. }
-            | Refusal::Json { .. } => 1,
+            | Refusal::Json { .. }
+            | Refusal::Breaks => 1,
             Refusal::Device(_) | Refusal::File(_) | Refusal::Memory => 3,
         }
     }
@@ -172,7 +182,8 @@ impl Refusal<'_> {
         self.status()
     }
 
-    fn write<E: Output>(&self, err: &mut E) -> Result<(), DeviceFault>
+    /// Writes the line.
+    pub fn write<E: Output>(&self, err: &mut E) -> Result<(), DeviceFault>
         ensures { MatchResult result (λ _. Sent E.written E.failures err.old err.new (refusal_line self.now))
             (λ _. Cut E.written E.failures err.old err.new (refusal_line self.now)) }
     {
@@ -202,6 +213,11 @@ fn put_refusal<O: Output>(sink: &mut Sink, out: &mut O, refusal: &Refusal<'_>)
             path,
             cause,
         } => put_frame_fault(sink, out, *index, *byte, path, *cause),
+        Refusal::Frames {
+            lines,
+            refused,
+            count,
+        } => put_frames(sink, out, lines, *refused, *count),
         Refusal::Source { file, byte, cause } => put_source(
             sink,
             out,
@@ -210,6 +226,7 @@ fn put_refusal<O: Output>(sink: &mut Sink, out: &mut O, refusal: &Refusal<'_>)
             *cause,
         ),
         Refusal::Json { path, cause } => put_json(sink, out, path, *cause),
+        Refusal::Breaks => sink.put(out, b""),
         Refusal::Device(path) => put_device(sink, out, path),
         Refusal::File(path) => put_device(sink, out, path.as_str()),
         Refusal::Memory => sink.put(out, b"memory\n"),
@@ -282,6 +299,25 @@ fn put_frame_fault<O: Output>(
     sink.held.push_decimal(index);
     sink.held.push(b" ");
     put_fault(sink, out, byte, path, cause);
+}
+
+/// The lines of the frames that are refused, and then how many they are.
+fn put_frames<O: Output>(sink: &mut Sink, out: &mut O, lines: &[u8], refused: u64, count: u64)
+    ensures { Puts O.written O.failures out.old out.new sink.old sink.new (lines.now ++ frames_line refused count) }
+{
+    sink.put(out, lines);
+    put_frames_line(sink, out, refused, count);
+}
+
+fn put_frames_line<O: Output>(sink: &mut Sink, out: &mut O, refused: u64, count: u64)
+    ensures { Puts O.written O.failures out.old out.new sink.old sink.new (frames_line refused count) }
+{
+    sink.make_room(out, 128);
+    sink.held.push(b"frames refused ");
+    sink.held.push_decimal(refused);
+    sink.held.push(b" of ");
+    sink.held.push_decimal(count);
+    sink.held.push(b"\n");
 }
 
 fn put_source<O: Output>(sink: &mut Sink, out: &mut O, file: &str, byte: u64, cause: SourceCause)

@@ -2,9 +2,12 @@
 //! encoding guide's rules, worked out by hand.
 
 mod calls;
+mod compat;
 mod compiled;
 mod decimal;
+mod early;
 mod json;
+mod keep_going;
 mod lenient;
 mod nested;
 mod typed;
@@ -265,6 +268,8 @@ const NO_COMMANDS: &[&[&str]] = &[
     &["show", "f", "T"],
     &["canon", "--out", "f", "T", "f"],
     &["frames", "--out", "g", "f", "T", "f"],
+    &["frames", "--keep-going=1", "f", "T", "f"],
+    &["show", "--keep-going", "f", "T", "f"],
     &["json", "f", "T"],
     &["json", "--pretty", "--short", "f", "T", "f"],
     &["show", "--pretty", "f", "T", "f"],
@@ -277,6 +282,11 @@ const NO_COMMANDS: &[&[&str]] = &[
     &["compile", "f", "g"],
     &["compile", "-I", "d", "f", "g"],
     &["compile", "f", "g", "h", "-I"],
+    &["compile", "--lenient=1", "f", "g", "h"],
+    &["compat", "f"],
+    &["compat", "f", "g", "T", "h"],
+    &["compat", "--both=1", "f", "g"],
+    &["types", "--both", "f"],
     &["--version"],
 ];
 

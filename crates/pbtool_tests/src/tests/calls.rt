@@ -17,7 +17,8 @@ use std::alloc::Global;
 use std::test::Fail;
 
 /// What protoc writes of m.proto: message M { int32 a = 1; }
-const SET: &str = "0a240a076d2e70726f746f22110a014d120c0a0161180120012805520161620670726f746f33";
+pub const SET: &str =
+    "0a240a076d2e70726f746f22110a014d120c0a0161180120012805520161620670726f746f33";
 
 /// What protoc writes of t.proto, a file of proto2 with the package p: a message M with a field of each shape and two messages in it, and the enum
 /// Color.
@@ -162,7 +163,7 @@ fn commands(rt: HostRuntime) -> Result<(), Fail> {
         type_name: "N",
         ..source
     };
-    let rows: [(Command<'_>, Comes); 8] = [
+    let rows: [(Command<'_>, Comes); 9] = [
         (
             Command::Show {
                 floats: FloatForm::Decimal,
@@ -185,6 +186,17 @@ fn commands(rt: HostRuntime) -> Result<(), Fail> {
                 source: frames,
             },
             (0, b"frame 0 at 0 size 4\n  a: 150\n", b""),
+        ),
+        (
+            Command::AllFrames {
+                floats: FloatForm::Bits,
+                source,
+            },
+            (
+                1,
+                b"",
+                b"frame 0 byte 1 path - cause BadType\nframes refused 1 of 1\n",
+            ),
         ),
         (
             Command::Types {

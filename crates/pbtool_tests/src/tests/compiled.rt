@@ -262,14 +262,69 @@ const ELSEWHERE: &[Elsewhere] = &[
     ),
 ];
 
+/// Sources that are read leniently, beside what `compile` tells of them without the flag.
+const LENIENT: &[(&str, Row)] = &[
+    (
+        "source m.proto byte 44 cause CustomOption\n",
+        Row(
+            &[(
+                "ROOT/m.proto",
+                "syntax = \"proto3\"; message M { int32 a = 1 [(x).y = 1.5e3, (z) = { a: [1] }]; }",
+            )],
+            &["m.proto"],
+            Told::Written("0a210a076d2e70726f746f220e0a014d12090a0161180120012805620670726f746f33"),
+        ),
+    ),
+    // What an import extends is dropped too.
+    (
+        "source b.proto byte 19 cause Unexpected\n",
+        Row(
+            &[
+                ("ROOT/a.proto", "syntax = \"proto3\"; import \"b.proto\";"),
+                (
+                    "ROOT/b.proto",
+                    "syntax = \"proto3\"; extend M { int32 x = 1; }",
+                ),
+            ],
+            &["a.proto"],
+            Told::Written(PAIR),
+        ),
+    ),
+    // A fault of both grammars.
+    (
+        "source m.proto byte 19 cause Unexpected\n",
+        Row(
+            &[("ROOT/m.proto", "syntax = \"proto3\"; ?")],
+            &["m.proto"],
+            Told::Refused(1, "source m.proto byte 19 cause Unexpected\n"),
+        ),
+    ),
+    // What is declared is linked as without the flag.
+    (
+        "link m.proto at M.a cause BadNumber\n",
+        Row(
+            &[(
+                "ROOT/m.proto",
+                "syntax = \"proto3\"; message M { int32 a = 19000; }",
+            )],
+            &["m.proto"],
+            Told::Refused(1, "link m.proto at M.a cause BadNumber\n"),
+        ),
+    ),
+];
+
 /// Runs `compile` over sources.
 fn compiled<'w>(
     alloc: Global,
+    flags: &[&'w str],
     directories: &[&'w str],
     names: &[&'w str],
     files: &mut MemFiles<'_>,
 ) -> Result<Run, Fail> {
     let mut words = vec![in alloc; "compile"]?;
+    for flag in flags {
+        words.push(*flag)?;
+    }
     for directory in directories {
         words.push("-I")?;
         words.push(*directory)?;
@@ -295,10 +350,10 @@ fn sources_of<'a>(
     files_of(alloc, &entries, failures)
 }
 
-fn is_told(alloc: Global, directories: &[&str], row: &Row) -> Result<bool, Fail> {
+fn is_told(alloc: Global, flags: &[&str], directories: &[&str], row: &Row) -> Result<bool, Fail> {
     let Row(sources, names, told) = row;
     let mut files = sources_of(alloc, sources, NONE)?;
-    let run = compiled(alloc, directories, names, &mut files)?;
+    let run = compiled(alloc, flags, directories, names, &mut files)?;
     let written = files.bytes_at("OUT");
     Ok(match told {
         Told::Written(digits) => {
@@ -314,7 +369,7 @@ fn is_told(alloc: Global, directories: &[&str], row: &Row) -> Result<bool, Fail>
 #[test]
 fn rows(rt: HostRuntime) -> Result<(), Fail> {
     for (index, row) in ROWS.iter().enumerate() {
-        assert!(rt; is_told(rt.alloc(), &[], row)?, "row {index}");
+        assert!(rt; is_told(rt.alloc(), &[], &[], row)?, "row {index}");
     }
     Ok(())
 }
@@ -322,7 +377,23 @@ fn rows(rt: HostRuntime) -> Result<(), Fail> {
 #[test]
 fn directories(rt: HostRuntime) -> Result<(), Fail> {
     for (index, Elsewhere(directories, row)) in ELSEWHERE.iter().enumerate() {
-        assert!(rt; is_told(rt.alloc(), directories, row)?, "row {index}");
+        assert!(rt; is_told(rt.alloc(), &[], directories, row)?, "row {index}");
+    }
+    Ok(())
+}
+
+/// Whether a row comes to this with the flag, and without it to this line.
+fn is_told_leniently(alloc: Global, line: &str, row: &Row) -> Result<bool, Fail> {
+    let Row(sources, names, _) = row;
+    let mut files = sources_of(alloc, sources, NONE)?;
+    let strict = compiled(alloc, &[], &[], names, &mut files)?;
+    Ok(strict.is(1, b"", line.as_bytes()) && is_told(alloc, &["--lenient"], &[], row)?)
+}
+
+#[test]
+fn lenient_sources(rt: HostRuntime) -> Result<(), Fail> {
+    for (index, (line, row)) in LENIENT.iter().enumerate() {
+        assert!(rt; is_told_leniently(rt.alloc(), line, row)?, "row {index}");
     }
     Ok(())
 }
@@ -354,7 +425,7 @@ const UNREAD: &[(u64, &str)] = &[
 
 fn is_failed(alloc: Global, failures: Failures, line: &str) -> Result<bool, Fail> {
     let mut files = sources_of(alloc, CHAIN, failures)?;
-    let run = compiled(alloc, &["D", "E"], &["a.proto"], &mut files)?;
+    let run = compiled(alloc, &[], &["D", "E"], &["a.proto"], &mut files)?;
     Ok(run.is(3, b"", line.as_bytes()) && files.bytes_at("OUT").is_none())
 }
 
@@ -400,7 +471,7 @@ fn compiled_set(rt: HostRuntime) -> Result<(), Fail> {
     let message = hex::decode(alloc, MESSAGE)?;
     let entries = [("ROOT/t.proto", T.as_bytes()), ("f", message.as_slice())];
     let mut files = files_of(alloc, &entries, NONE)?;
-    let written = compiled(alloc, &[], &["t.proto"], &mut files)?;
+    let written = compiled(alloc, &[], &[], &["t.proto"], &mut files)?;
     let shown = run_words(alloc, &["show", "OUT", "T", "f"], &mut files, NONE)?;
     assert!(rt; written.is(0, b"", b"") && shown.is(0, LISTING, b""));
     Ok(())

@@ -71,6 +71,11 @@ types e
 types c|!set byte 1 path 1[0] cause Truncated
 types n|!set file 0 cause NotProto3
 types --lenient n|!set file 0 cause NotProto3
+compat s p|!set file 0 cause Extension
+compat p s|!set file 0 cause Extension
+compat --lenient s s|ok
+compat --lenient --both s s shop.Item|backward ok|forward ok
+compat --lenient p n|!set file 0 cause NotProto3
 types t|!link m at - cause TwoFiles
 "#;
 

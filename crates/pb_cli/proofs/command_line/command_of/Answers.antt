@@ -12,6 +12,11 @@ returns-in-Some-subcommand_matches-3 c =
     c.in-Some-subcommand_matches-3.ensures.rows
     (refl, c.get_str-out.ensures ∙ first_value-rows (found_of c.in-Some-subcommand_matches-3.inner.now) (codes "out"), c.source-in-Some-subcommand_matches-3.ensures)
 
+pub returns-in-Some-subcommand_matches-5 : goal.returns-in-Some-subcommand_matches-5
+returns-in-Some-subcommand_matches-5 c =
+    matched_named c.args.matches.now (codes "frames") (rows_of (found_of c.in-Some-subcommand_matches-5.inner.now)) c.stream.result
+    (c.in-Some-subcommand_matches-5.ensures.found.0 refl) c.in-Some-subcommand_matches-5.ensures.rows c.stream.ensures
+
 pub returns-in-Some-subcommand_matches-6 : goal.returns-in-Some-subcommand_matches-6
 returns-in-Some-subcommand_matches-6 c =
     matched_named c.args.matches.now (codes "types") (rows_of (found_of c.in-Some-subcommand_matches-6.inner.now))
@@ -24,4 +29,4 @@ unreachable-requires c =
     no_name_left (subcommand_name_of c.args.matches.now) c.in_default.ensures.found.1 c.in_default-subcommand_matches.ensures.found.1
     c.in_default-subcommand_matches-2.ensures.found.1 c.in_default-subcommand_matches-3.ensures.found.1 c.in_default-subcommand_matches-4.ensures.found.1
     c.in_default-subcommand_matches-5.ensures.found.1 c.in_default-subcommand_matches-6.ensures.found.1 c.in_default-subcommand_matches-7.ensures.found.1
-    c.requires
+    c.in_default-subcommand_matches-8.ensures.found.1 c.requires

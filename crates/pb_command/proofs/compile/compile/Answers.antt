@@ -3,7 +3,7 @@ use Rattle.std.proofs.lemmas.Result.{err_from_is_err_and}
 use Rattle.pb_descr.specs.Sets.{set_bytes}
 use Rattle.pb_decl.specs.View.{file_view}
 use Rattle.pb_wire.specs.declared.device.DeviceFault.{DeviceFault}
-use Rattle.pb_command.specs.CompileAnswer.{compiled, roots_of, texts_of, untaken}
+use Rattle.pb_command.specs.CompileAnswer.{compiled, places_of, texts_of, untaken}
 use Rattle.pb_files.specs.FileMap.{IsSaved, IsUnsaved}
 use Rattle.pb_command.specs.Gathering.{given, nothing_yet}
 use Rattle.pb_command.specs.Steps.{CompileOf, Fails, IsAt, IsNothing, StopsOf}
@@ -19,12 +19,12 @@ returns-in_err-gathered-clause-comes g c =
     let contents = g.F.Files.contents in
     let is_steady = g.F.Files.is_steady in
     let names = texts_of c.args.names.now in
-    let right = CompileOf contents is_steady c.args.files.now (roots_of c.args.roots) c.args.out.now names in
+    let right = CompileOf contents is_steady c.args.files.now (places_of c.args.roots) c.args.out.now names in
     rw (p.1, p.2)
     (refused_comes (λ text. text ≡ []) (λ _. ⊥) (IsSaved contents c.args.files.now c.gather.new.files)
     (IsUnsaved contents g.F.Files.failures c.args.files.now c.gather.new.files) right IsNothing c.in_err-gathered.field-0.0 refl
     c.in_err-gathered.ensures.files refl
-    (refuses_map (StopsOf contents is_steady c.args.files.now (roots_of c.args.roots) given names nothing_yet) right c.in_err-gathered.field-0.0
+    (refuses_map (StopsOf contents is_steady c.args.files.now (places_of c.args.roots) given names nothing_yet) right c.in_err-gathered.field-0.0
     (λ a h. untaken h.2 h.3) c.in_err-gathered.ensures.refused))
 
 pub returns-in_err-resolved-clause-comes : goal.returns-in_err-resolved-clause-comes
@@ -38,8 +38,8 @@ returns-in_err-resolved-clause-comes g c =
     rw p.1
     (refused_comes (λ text. text ≡ []) (λ _. ⊥) (IsSaved contents c.args.files.now c.gather.new.files)
     (IsUnsaved contents g.F.Files.failures c.args.files.now c.gather.new.files)
-    (CompileOf contents is_steady c.args.files.now (roots_of c.args.roots) c.args.out.now names) IsNothing p.0 refl c.in_ok-gathered.ensures.files refl
-    (told_unlinked (IsAt contents is_steady c.args.files.now) (Fails contents is_steady c.args.files.now) (roots_of c.args.roots) c.args.out.now names
+    (CompileOf contents is_steady c.args.files.now (places_of c.args.roots) c.args.out.now names) IsNothing p.0 refl c.in_ok-gathered.ensures.files refl
+    (told_unlinked (IsAt contents is_steady c.args.files.now) (Fails contents is_steady c.args.files.now) (places_of c.args.roots) c.args.out.now names
     found.0 found.1 c.in_err-resolved.field-0.0 p.0 p.2 why))
 
 pub bytes_of-requires : goal.bytes_of-requires
@@ -49,7 +49,7 @@ bytes_of-requires g c =
     let found = c.in_ok-gathered.ensures.gathered in
     let resolves = rw (c.deref.ensures.value, found.2) at c.in_ok-resolved.ensures.resolved in
     rw c.deref-2.ensures.value
-    (set_within (IsAt contents is_steady c.args.files.now) (Fails contents is_steady c.args.files.now) (roots_of c.args.roots) c.args.out.now
+    (set_within (IsAt contents is_steady c.args.files.now) (Fails contents is_steady c.args.files.now) (places_of c.args.roots) c.args.out.now
     (texts_of c.args.names.now) found.0 found.1 (map file_view c.in_ok-resolved.resolved.items) resolves)
 
 pub returns-in_err-bytes-clause-comes : goal.returns-in_err-bytes-clause-comes
@@ -64,9 +64,9 @@ returns-in_err-bytes-clause-comes g c =
     rw (p.1, p.2)
     (refused_comes (λ text. text ≡ []) (λ _. ⊥) (IsSaved contents c.args.files.now c.gather.new.files)
     (IsUnsaved contents g.F.Files.failures c.args.files.now c.gather.new.files)
-    (CompileOf contents is_steady c.args.files.now (roots_of c.args.roots) c.args.out.now names) IsNothing c.in_err-bytes.field-0.0 refl
+    (CompileOf contents is_steady c.args.files.now (places_of c.args.roots) c.args.out.now names) IsNothing c.in_err-bytes.field-0.0 refl
     c.in_ok-gathered.ensures.files refl
-    (told_too_large (IsAt contents is_steady c.args.files.now) (Fails contents is_steady c.args.files.now) (roots_of c.args.roots) c.args.out.now names
+    (told_too_large (IsAt contents is_steady c.args.files.now) (Fails contents is_steady c.args.files.now) (places_of c.args.roots) c.args.out.now names
     found.0 found.1 (map file_view c.in_ok-resolved.resolved.items) c.in_err-bytes.field-0.0 resolves why))
 
 pub returns-in-Ok-clause-comes : goal.returns-in-Ok-clause-comes
@@ -74,7 +74,7 @@ returns-in-Ok-clause-comes g c =
     let contents = g.F.Files.contents in
     let is_steady = g.F.Files.is_steady in
     let failures = g.F.Files.failures in
-    let right = CompileOf contents is_steady c.args.files.now (roots_of c.args.roots) c.args.out.now (texts_of c.args.names.now) in
+    let right = CompileOf contents is_steady c.args.files.now (places_of c.args.roots) c.args.out.now (texts_of c.args.names.now) in
     let found = c.in_ok-gathered.ensures.gathered in
     let resolves = rw (c.deref.ensures.value, found.2) at c.in_ok-resolved.ensures.resolved in
     let made = rw c.deref-2.ensures.value at c.in_ok-bytes.ensures.made in
@@ -91,7 +91,7 @@ returns-clause-comes g c =
     let contents = g.F.Files.contents in
     let is_steady = g.F.Files.is_steady in
     let failures = g.F.Files.failures in
-    let right = CompileOf contents is_steady c.args.files.now (roots_of c.args.roots) c.args.out.now (texts_of c.args.names.now) in
+    let right = CompileOf contents is_steady c.args.files.now (places_of c.args.roots) c.args.out.now (texts_of c.args.names.now) in
     let found = c.in_ok-gathered.ensures.gathered in
     let resolves = rw (c.deref.ensures.value, found.2) at c.in_ok-resolved.ensures.resolved in
     let made = rw c.deref-2.ensures.value at c.in_ok-bytes.ensures.made in

@@ -22,6 +22,9 @@ returns-in-Json-clause-comes g c = rw c.in-Json.is c.message-in-Json.ensures.com
 pub returns-in-Frames-clause-comes : goal.returns-in-Frames-clause-comes
 returns-in-Frames-clause-comes g c = rw c.in-Frames.is c.frames.ensures.comes
 
+pub returns-in-AllFrames-clause-comes : goal.returns-in-AllFrames-clause-comes
+returns-in-AllFrames-clause-comes g c = rw c.in-AllFrames.is c.all_frames.ensures.comes
+
 pub returns-in-Compile-clause-comes : goal.returns-in-Compile-clause-comes
 returns-in-Compile-clause-comes g c =
     rw c.in-Compile.is
@@ -32,3 +35,6 @@ returns-in-Compile-clause-comes g c =
 
 pub returns-in-Types-clause-comes : goal.returns-in-Types-clause-comes
 returns-in-Types-clause-comes g c = rw c.in-Types.is c.types.ensures.comes
+
+pub returns-in-Compat-clause-comes : goal.returns-in-Compat-clause-comes
+returns-in-Compat-clause-comes g c = rw c.in-Compat.is c.compat.ensures.comes

@@ -1,5 +1,5 @@
 use Rattle.std.proofs.Common.{◌≡◌, take, true}
-use Rattle.pb_command.specs.CompileAnswer.{roots_of, texts_of}
+use Rattle.pb_command.specs.CompileAnswer.{places_of, texts_of}
 use Rattle.pb_files.specs.FileMap.{KeepsMap}
 use Rattle.pb_command.specs.Gathering.{gathered, given, nothing_yet}
 use Rattle.pb_command.specs.Reaching.{reached}
@@ -8,7 +8,7 @@ use Rattle.pb_command.proofs.gathering.gather.Given as goal
 
 abbrev pub invariant-loop-name : goal.invariant-loop-name
 invariant-loop-name g l = record {
-  so_far : GathersOf g.F.Files.contents g.F.Files.is_steady l.fn.files (roots_of l.roots) given (texts_of (take l.name-index l.names)) nothing_yet (gathered (reached l.gathering));
+  so_far : GathersOf g.F.Files.contents g.F.Files.is_steady l.fn.files (places_of l.roots) given (texts_of (take l.name-index l.names)) nothing_yet (gathered (reached l.gathering));
   kept : g.F.Files.failures l.files ≡ g.F.Files.failures l.fn.files;
   steady : g.F.Files.is_steady l.fn.files ≡ true → g.F.Files.is_steady l.files ≡ true;
   takes_writes : g.F.Files.takes_writes l.fn.files ≡ true → g.F.Files.takes_writes l.files ≡ true;

@@ -10,7 +10,7 @@ loop-root-preserved g c =
     let inv = c.loop-root.invariant in
     let done = c.in_ok-file.ensures in
     let none = rw c.in_default.is at done.read in record {
-      passed = root_passed g.F.Files.contents g.F.Files.is_steady c.args.files.now c.loop-root.files inv.files inv.steady c.args.name.now c.args.roots.now
+      passed = root_passed g.F.Files.contents g.F.Files.is_steady c.args.files.now c.loop-root.files inv.files inv.steady c.args.reading c.args.name.now c.args.roots.now
           c.loop-root.root-index _ c.loop-root-test.true inv.passed none;
       kept = done.kept ∙ inv.kept;
       steady = λ s. done.steady (inv.steady s);
@@ -23,7 +23,7 @@ pub returns-in-Some-clause-read : goal.returns-in-Some-clause-read
 returns-in-Some-clause-read g c =
     let inv = c.loop-root.invariant in
     let declares = rw c.in-Some.is at c.in_ok-file.ensures.read in
-    root_declares g.F.Files.contents g.F.Files.is_steady c.args.files.now c.loop-root.files inv.files inv.steady c.args.name.now c.args.roots.now
+    root_declares g.F.Files.contents g.F.Files.is_steady c.args.files.now c.loop-root.files inv.files inv.steady c.args.reading c.args.name.now c.args.roots.now
     c.loop-root.root-index _ c.loop-root-test.true inv.passed (file_view c.in-Some.file) declares
 
 pub returns-in_err-file-clause-refused : goal.returns-in_err-file-clause-refused
@@ -31,5 +31,5 @@ returns-in_err-file-clause-refused g c =
     let p = err_from_is_err_and c.from_residual.result c.from_residual.ensures.1 in
     let inv = c.loop-root.invariant in
     rw (p.1, p.2)
-    (root_refuses g.F.Files.contents g.F.Files.is_steady c.args.files.now c.loop-root.files inv.files inv.steady c.args.name.now c.args.roots.now
+    (root_refuses g.F.Files.contents g.F.Files.is_steady c.args.files.now c.loop-root.files inv.files inv.steady c.args.reading c.args.name.now c.args.roots.now
     c.loop-root.root-index _ c.loop-root-test.true inv.passed c.in_err-file.field-0.0 c.in_err-file.ensures.refused)

@@ -2,7 +2,7 @@ use Rattle.std.proofs.Common.{◌≡◌, ◌∙◌, [], ◌∷◌, length, arith
 use Rattle.std.proofs.lemmas.List.{nil_from_length}
 use Rattle.std.proofs.lemmas.Result.{err_from_is_err_and}
 use Rattle.pb_decl.specs.View.{file_view}
-use Rattle.pb_command.specs.CompileAnswer.{roots_of}
+use Rattle.pb_command.specs.CompileAnswer.{places_of}
 use Rattle.pb_command.specs.Gathering.{imported}
 use Rattle.pb_command.specs.Reaching.{StopsInside, opened, open_view, reached, stack_of}
 use Rattle.pb_command.specs.Steps.{StopsOf, TroubleOf}
@@ -16,7 +16,7 @@ loop-preserved g c =
     let inv = c.loop.invariant in
     let done = c.in_ok-go_on.ensures in
     let f = file_view c.args.file in record {
-      leads = leads_more g.F.Files.contents g.F.Files.is_steady c.args.files.now (roots_of c.args.roots) c.loop.files inv.files inv.steady (opened f f.imports ∷ [])
+      leads = leads_more g.F.Files.contents g.F.Files.is_steady c.args.files.now (places_of c.args.roots) c.loop.files inv.files inv.steady (opened f f.imports ∷ [])
           (reached c.args.self.now) c.loop.stack.items c.pop.new.self.items c.in-Some.innermost (stack_of c.go_on.new.stack.items) (reached c.loop.self)
           (reached c.go_on.new.self) inv.leads c.in-Some.ensures.items done.moved;
       kept = done.kept ∙ inv.kept;
@@ -32,17 +32,17 @@ returns-in_err-go_on-clause-refused g c =
     let f = file_view c.args.file in
     rw (p.1, p.2)
     (refuses_map
-    (StopsInside (TroubleOf g.F.Files.contents g.F.Files.is_steady c.loop.files (roots_of c.args.roots)) (reached c.loop.self) (open_view c.in-Some.innermost).left)
-    (StopsOf g.F.Files.contents g.F.Files.is_steady c.args.files.now (roots_of c.args.roots) imported f.imports (reached c.args.self.now)) c.in_err-go_on.field-0.0
+    (StopsInside (TroubleOf g.F.Files.contents g.F.Files.is_steady c.loop.files (places_of c.args.roots)) (reached c.loop.self) (open_view c.in-Some.innermost).left)
+    (StopsOf g.F.Files.contents g.F.Files.is_steady c.args.files.now (places_of c.args.roots) imported f.imports (reached c.args.self.now)) c.in_err-go_on.field-0.0
     (λ a s.
-    leads_stop g.F.Files.contents g.F.Files.is_steady c.args.files.now (roots_of c.args.roots) c.loop.files inv.files inv.steady f (reached c.args.self.now)
+    leads_stop g.F.Files.contents g.F.Files.is_steady c.args.files.now (places_of c.args.roots) c.loop.files inv.files inv.steady f (reached c.args.self.now)
     c.loop.stack.items c.pop.new.self.items c.in-Some.innermost (reached c.loop.self) a inv.leads c.in-Some.ensures.items s) c.in_err-go_on.ensures.refused)
 
 pub returns-in_default-clause-closed : goal.returns-in_default-clause-closed
 returns-in_default-clause-closed g c =
     let f = file_view c.args.file in
     let none : length c.loop.stack.items ≡ 0 = omega (arith, c.loop.stack.ok.0, c.in_default.ensures.cases.0) in
-    leads_closed g.F.Files.contents g.F.Files.is_steady c.args.files.now (roots_of c.args.roots) f (reached c.args.self.now) (reached c.loop.self) c.loop.stack.items
+    leads_closed g.F.Files.contents g.F.Files.is_steady c.args.files.now (places_of c.args.roots) f (reached c.args.self.now) (reached c.loop.self) c.loop.stack.items
     c.loop.invariant.leads (nil_from_length c.loop.stack.items none)
 
 pub returns-in_err-go_on-clause-files : goal.returns-in_err-go_on-clause-files

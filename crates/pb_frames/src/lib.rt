@@ -1,0 +1,10 @@
+//! The frames of a stream in turn, also after one that is refused.
+//!
+//! An inner crate: `pb_stream::DelimitedReader` reads a stream up to its first refusal.
+#![tactic(auto)]
+
+mod front;
+mod passing;
+mod taking;
+
+pub use taking::{NextFrame, Reason, next_frame};
