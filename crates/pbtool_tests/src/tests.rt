@@ -2,12 +2,10 @@
 //! encoding guide's rules, worked out by hand.
 
 mod calls;
-mod compat;
 mod compiled;
 mod decimal;
 mod early;
 mod json;
-mod keep_going;
 mod lenient;
 mod nested;
 mod typed;
