@@ -21,6 +21,8 @@ use Rattle.pb_wire.proofs.Places.{moves_nothing, none_before, fewer}
 use Rattle.pb_wire.proofs.Tokens.{ends_some, known_is}
 use Rattle.pb_wire.proofs.ReadingLemmas.{moves_both, AreRecords-push, AllSound-push, SpellsGroup-from_records}
 use Rattle.pb_wire.proofs.ExactLemmas.{text_not_both, one_text_fault}
+use Rattle.pb_wire.proofs.Fronts.{ValueAt, record_of}
+use Rattle.pb_wire.proofs.OneFault.{bad_not_record}
 use Rattle.pb_schema.specs.Types.{Types}
 use Rattle.pb_schema.specs.Context.{Context, schema_of, group_in}
 use Rattle.pb_validate.specs.declared.refusal.Refusal.{Refusal}
@@ -249,6 +251,21 @@ some_fault pool g c levels k w p q u rs old (refusal.Fault f) front tag bad =
     (fault f.byte (step k rs ∷ reverse old) f.cause, bad_from pool g c levels p q rs _ front (begins_number g c tag.tag) (bad rs))
 some_fault pool g c levels k w p q u rs old refusal.Memory front tag bad =
     let h = bad rs in (h.0, bad_from pool g c levels p q rs h.0 front (begins_number g c tag.tag) h.1)
+
+-- a record that is refused is none
+pub refused_is_none :
+    {A : Type 0} (result : Result A Refusal) (pool : Types) (c : Context) (levels k w : ℕ) (p q : Place) (steps : List PathStep)
+    → ((a : A) → result ≡ Ok a → ⊥) → IfErr result (λ e. RefusesRecord pool (records c) levels k p e steps) → HasTag p k w q
+    → (payload : Payload) (r : Place) → ReadsValue (schema_of pool) c levels k w q payload r → ⊥
+refused_is_none (Ok a) pool c levels k w p q steps not_ok err tag payload r v = not_ok a refl
+refused_is_none (Err e) pool c levels k w p q steps not_ok err tag payload r v = by_refusal e err
+  where
+    value : ValueAt (schema_of pool) c levels k w q r
+    value = record { payload = payload; type = v.type; body = v.spelled.0; spelled = v.spelled.1; sound = v.sound; moves = v.spelled.2 }
+
+    by_refusal : (e : Refusal) → RefusesRecord pool (records c) levels k p e steps → ⊥
+    by_refusal (refusal.Fault w) bad = bad_not_record (bad []) (record_of tag value)
+    by_refusal refusal.Memory bad = bad_not_record (bad []).1 (record_of tag value)
 
 -- ---- faults of one record
 

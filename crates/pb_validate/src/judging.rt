@@ -27,14 +27,14 @@ use std::alloc::Global;
 
 /// What is open innermost.
 #[derive(Clone, Copy)]
-struct Frame {
-    context: Context,
+pub(crate) struct Frame {
+    pub context: Context,
     /// The number of the group, if it is one.
-    group: Option<u32>,
+    pub group: Option<u32>,
     /// How many levels are left below it.
-    levels: u8,
+    pub levels: u8,
     /// The index of its known end.
-    to: Option<u32>,
+    pub to: Option<u32>,
 }
 
 /// Says that the records of what is open end at an index. Those of a group end at its end tag alone.
@@ -95,7 +95,7 @@ fn records_end(
 /// Finds the end of the record of a tag. Where it has a fault, the steps to that from within the record are put in, the last of them
 /// first.
 #[cycle(end)]
-fn record_end(
+pub(crate) fn record_end(
     pool: &Pool,
     bytes: &[u8],
     tag: RecordTag,

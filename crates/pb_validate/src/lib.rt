@@ -2,13 +2,15 @@
 //!
 //! The bytes are read where they lie, by recursion over what nests in them. No memory is taken but for the path of a fault.
 //!
-//! An inner crate: `pb_decode::validate` is the call for users.
+//! An inner crate: `pb_decode::validate` is the call for users. `pb_find` reads a message record by record: the tag, and then either the
+//! end of the record, which is judged, or the payload.
 #![tactic(auto)]
 
 mod context;
 mod elements;
 mod judging;
 mod payload;
+mod record;
 mod refusal;
 mod step;
 mod tokens;
@@ -16,3 +18,6 @@ mod varints;
 mod whole;
 
 pub use judging::judge;
+pub use payload::payload_at;
+pub use record::record_end;
+pub use tokens::{RecordTag, tag_at};

@@ -16,11 +16,7 @@ use pb_wire::{Cause, WireFault};
 
 /// The payload whose length begins at an index: the indexes where it begins and ends.
 #[inline(always)]
-pub(crate) fn payload_at(
-    bytes: &[u8],
-    at: usize,
-    to: Option<u32>,
-) -> Result<(usize, usize), WireFault>
+pub fn payload_at(bytes: &[u8], at: usize, to: Option<u32>) -> Result<(usize, usize), WireFault>
     requires { at ≤ length bytes.now }
     ensures within { IfOk result (λ r. (at < r.0) × (r.0 ≤ r.1) × (r.1 ≤ length bytes.now)) }
     ensures ok { IfOk result (λ r. HasLength (here bytes.now at to) (r.1 - r.0) (here bytes.now r.0 to)) }

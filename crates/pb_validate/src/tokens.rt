@@ -13,7 +13,7 @@ const MAX_LENGTH: u64 = 0x7fff_ffff;
 
 /// A whole tag: its parts, and the indexes where it begins and ends.
 #[derive(Clone, Copy)]
-pub(crate) struct RecordTag {
+pub struct RecordTag {
     pub number: u32,
     pub wire_type: u8,
     pub at: usize,
@@ -84,7 +84,7 @@ pub(crate) fn after_eight(bytes: &[u8], at: usize, to: Option<u32>) -> Result<us
 
 /// The tag that begins at an index, where a group of this number is open innermost, if one is.
 #[inline(always)]
-pub(crate) fn tag_at(
+pub fn tag_at(
     bytes: &[u8],
     at: usize,
     innermost: Option<u32>,

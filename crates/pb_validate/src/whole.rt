@@ -123,7 +123,7 @@ fn records_are_whole(pool: &Pool, context: Context, levels: u8, bytes: &[u8]) ->
 /// The index after the record of a tag, if it is whole.
 #[cycle(whole)]
 #[inline(always)]
-fn record_end(
+pub(crate) fn record_end(
     pool: &Pool,
     context: Context,
     levels: u8,
