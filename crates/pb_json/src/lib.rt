@@ -12,7 +12,7 @@ mod names;
 mod scalars;
 mod strings;
 mod times;
-mod well_known;
+pub mod well_known;
 
 pub use error::{JsonCause, JsonError, Refusal};
 pub use form::{JsonForm, Layout, Names};

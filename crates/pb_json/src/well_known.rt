@@ -8,7 +8,7 @@ use pb_schema::{Kind, MessageId, Pool};
 
 /// The form of a message type.
 #[derive(Clone, Copy, Debug, PartialEq, Eq)]
-pub(crate) enum WellKnown {
+pub enum WellKnown {
     /// An object with a member for each field.
     Other,
     /// What its one field holds, or that field's default.
@@ -25,12 +25,12 @@ pub(crate) enum WellKnown {
     Duration,
     /// A string of the paths.
     FieldMask,
-    /// A form that is not written.
+    /// A form that is neither written nor read.
     Unsupported,
 }
 
 /// What form a message type has.
-pub(crate) fn well_known(pool: &Pool, id: MessageId) -> WellKnown
+pub fn well_known(pool: &Pool, id: MessageId) -> WellKnown
     requires { id.0 < length pool.now.messages }
     ensures { result ≡ well_known pool.now id.0 }
 {
