@@ -18,7 +18,7 @@ bounded_size bytes = min (length bytes) (2 ^ 64 - 1)
 abbrev pub fault_of : Reason → Fault
 fault_of r = fault r.byte r.path.items r.cause
 
--- the bytes of a frame were taken, so many, and of them this holds
+-- the bytes of a frame were taken, this number of them, and of them this holds
 pub record TakesSpan (input : List ℕ) (left : Option (List ℕ)) (size : ℕ) (Holds : List ℕ → Type 0) : Type 0 where
   pub span : List ℕ
   pub rest : List ℕ

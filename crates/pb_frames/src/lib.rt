@@ -5,6 +5,8 @@
 
 mod front;
 mod passing;
+mod skipping;
 mod taking;
 
+pub use skipping::pass_frames;
 pub use taking::{NextFrame, Reason, next_frame};

@@ -1,0 +1,2 @@
+-- for the steps of a path
+pub mod StepLemmas

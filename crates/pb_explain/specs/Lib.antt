@@ -1,0 +1,5 @@
+pub mod Expected
+pub mod Window
+pub mod Steps
+pub mod Source
+pub mod Explained

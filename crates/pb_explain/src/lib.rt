@@ -1,0 +1,17 @@
+//! What a person needs to know of bytes that are refused: where they are, what they belong to, and what was expected.
+//!
+//! An inner crate: `pb_command` reads the bytes again and says to whom they belong.
+#![tactic(auto)]
+
+mod expected;
+mod fault;
+mod find;
+mod kinds;
+mod parts;
+mod source;
+mod window;
+
+pub use fault::{Refused, put_fault};
+pub use find::payload_of;
+pub use parts::{Given, Parent};
+pub use source::{Line, line_at, put_source_line};
