@@ -35,11 +35,7 @@ impl DecodeError {
         ensures { result ≡ number_of self.now }
     {
         match self {
-            DecodeError::Fault {
-                byte: _,
-                path: _,
-                cause: _,
-            } => 40,
+            DecodeError::Fault { .. } => 40,
             DecodeError::Memory => 41,
             DecodeError::Device => 42,
             DecodeError::Finished => 43,

@@ -14,7 +14,7 @@ ghost use Rattle.pb_decode.specs.Reader.Pieces.{received, ReadFrom};
 ghost use Rattle.pb_decode.specs.Frame.{IsFrameOf, BadFrame, error_later};
 
 use crate::error::DecodeError;
-use crate::from_device::{PIECE, read_pieces};
+use crate::from_device::read_pieces;
 use crate::push::Reading;
 use crate::reader::origin::{begin_empty, finish_message, take_onward};
 use pb_schema::{MessageId, Pool};
@@ -23,11 +23,14 @@ use pb_whole::build;
 use pb_wire::{Input, Limits};
 use std::alloc::Global;
 
+/// How many bytes are asked of an input first: most frames have no more, and their buffer is on the stack.
+const FIRST: usize = 4096;
+
 /// Takes what the input gives first of this many bytes into the buffer, and reports how many they are. Where none are wanted, none
 /// are asked for.
 fn read_first<I: Input>(
     input: &mut I,
-    buffer: &mut [u8; PIECE],
+    buffer: &mut [u8; FIRST],
     size: usize,
 ) -> Result<usize, DecodeError>
     ensures fits { IfOk result (λ n. n ≤ 4096) }
@@ -74,83 +77,72 @@ fn read_at_once<'p>(
     Some(message)
 }
 
-/// Takes the first bytes of a frame, which are in the buffer, and what the input gives of those after them. Returns how many
+/// Takes the first bytes of a frame, which were read before, and what the input gives of those after them. Returns how many
 /// they are together.
 fn take_frame<I: Input>(
     alloc: Global,
     pool: &Pool,
     reading: &mut Reading,
     input: &mut I,
-    buffer: &mut [u8; PIECE],
-    count: usize,
+    first: &[u8],
     size: usize,
 ) -> Result<usize, DecodeError>
     requires rules { IsPool pool.now }
     requires took { (o : Origin) × ReadFrom pool.now o reading.old }
     requires small { received reading.old + size < 2 ^ 31 }
-    requires fits { count ≤ 4096 }
-    requires count { count ≤ size }
-    requires ends { count ≡ 0 → 0 < size → IsAtEnd (I.left input.old) }
+    requires count { length first.now ≤ size }
+    requires ends { length first.now ≡ 0 → 0 < size → IsAtEnd (I.left input.old) }
     ensures count { IfOk result (λ n. n ≤ size) }
-    ensures read { (x : Option (List ℕ)) → Consumes x (I.left input.old) (take count buffer.old)
+    ensures read { (x : Option (List ℕ)) → Consumes x (I.left input.old) first.now
         → IfOk result (λ n. ReadsOn pool.now reading.old reading.new x (I.left input.new) n) }
     ensures ends { IfOk result (λ n. (n ≡ size) ⊎ IsAtEnd (I.left input.new)) }
-    ensures fault { (x : Option (List ℕ)) (o : Origin) → Consumes x (I.left input.old) (take count buffer.old) → ReadFrom pool.now o reading.old
+    ensures fault { (x : Option (List ℕ)) (o : Origin) → Consumes x (I.left input.old) first.now → ReadFrom pool.now o reading.old
         → IfErr result (λ e. IfRefused e (ToldOf pool.now o x (I.left input.new) size)) }
-    ensures taken { (x : Option (List ℕ)) → Consumes x (I.left input.old) (take count buffer.old) → TakesAtMost size x (I.left input.new) }
+    ensures taken { (x : Option (List ℕ)) → Consumes x (I.left input.old) first.now → TakesAtMost size x (I.left input.new) }
     ensures failures { TellsFailures result (I.failures input.old) (I.failures input.new) }
     ensures steady { I.is_steady input.old ≡ true → result ≢ Err Device }
     ensures stays { I.is_steady input.old ≡ true → I.is_steady input.new ≡ true }
 {
-    take_onward(alloc, pool, reading, &buffer[..count])?;
+    take_onward(alloc, pool, reading, first)?;
+    let count = first.len();
     if count == 0 {
         return Ok(0);
     }
-    let more = read_pieces(alloc, pool, reading, input, buffer, size - count)?;
+    let more = read_pieces(alloc, pool, reading, input, size - count)?;
     Ok(count + more)
 }
 
-/// The message of a frame whose first bytes are in the buffer, read in pieces.
+/// The message of a frame whose first bytes were read before, read in pieces.
 fn read_in_pieces<'p, I: Input>(
     alloc: Global,
     pool: &'p Pool,
     message_type: MessageId,
     input: &mut I,
-    buffer: &mut [u8; PIECE],
-    count: usize,
+    first: &[u8],
     size: u32,
     limits: Limits,
 ) -> Result<DynamicMessage<'p>, DecodeError>
     requires rules { IsPool pool.now }
     requires within { message_type.0 < length pool.now.messages }
     requires size { size ≤ limits.bytes }
-    requires fits { count ≤ 4096 }
-    requires count { count ≤ size }
-    requires ends { count ≡ 0 → 0 < size → IsAtEnd (I.left input.old) }
+    requires count { length first.now ≤ size }
+    requires ends { length first.now ≡ 0 → 0 < size → IsAtEnd (I.left input.old) }
     ensures of_type { IfOk result (λ m. (m.pool ≡ pool.now) × (m.kind ≡ message_type.0)) }
-    ensures value { (x : Option (List ℕ)) → Consumes x (I.left input.old) (take count buffer.old)
+    ensures value { (x : Option (List ℕ)) → Consumes x (I.left input.old) first.now
         → IfSome x (λ left. IfOk result (λ m. IsFrameOf pool.now message_type.0 limits size left m.body)) }
-    ensures rest { (x : Option (List ℕ)) → Consumes x (I.left input.old) (take count buffer.old)
+    ensures rest { (x : Option (List ℕ)) → Consumes x (I.left input.old) first.now
         → OnOk result (IfSome x (λ left. I.left input.new ≡ Some (drop size left))) }
-    ensures fault { (x : Option (List ℕ)) → Consumes x (I.left input.old) (take count buffer.old)
+    ensures fault { (x : Option (List ℕ)) → Consumes x (I.left input.old) first.now
         → IfErr result (λ e. IfRefused e (λ f. IfSome x (λ left. BadFrame pool.now message_type.0 limits.depth 0 size left f))) }
     ensures low { IfErr result (λ e. IfRefused e (λ f. f.byte < 2 ^ 31)) }
-    ensures most { (x : Option (List ℕ)) → Consumes x (I.left input.old) (take count buffer.old) → TakesAtMost size x (I.left input.new) }
+    ensures most { (x : Option (List ℕ)) → Consumes x (I.left input.old) first.now → TakesAtMost size x (I.left input.new) }
     ensures failures { TellsFailures result (I.failures input.old) (I.failures input.new) }
     ensures steady { I.is_steady input.old ≡ true → result ≢ Err Device }
     ensures stays { I.is_steady input.old ≡ true → I.is_steady input.new ≡ true }
 {
     let mut reading = begin_empty(alloc, pool, message_type, limits, Some(size));
     let _small = limits.max_bytes();
-    take_frame(
-        alloc,
-        pool,
-        &mut reading,
-        input,
-        buffer,
-        count,
-        size as usize,
-    )?;
+    take_frame(alloc, pool, &mut reading, input, first, size as usize)?;
     finish_message(alloc, pool, message_type, reading)
 }
 
@@ -177,20 +169,12 @@ fn read_frame<'p, I: Input>(
 {
     let _types = pool.messages();
     let _small = limits.max_bytes();
-    let mut buffer = [0u8; PIECE];
+    let mut buffer = [0u8; FIRST];
     let count = read_first(input, &mut buffer, size as usize)?;
-    match read_at_once(alloc, pool, message_type, &buffer[..count], size, limits) {
+    let first = &buffer[..count];
+    match read_at_once(alloc, pool, message_type, first, size, limits) {
         Some(message) => Ok(message),
-        None => read_in_pieces(
-            alloc,
-            pool,
-            message_type,
-            input,
-            &mut buffer,
-            count,
-            size,
-            limits,
-        ),
+        None => read_in_pieces(alloc, pool, message_type, input, first, size, limits),
     }
 }
 
@@ -205,9 +189,7 @@ fn counted_from(error: DecodeError, start: u64) -> DecodeError
             let byte = byte + start;
             DecodeError::Fault { byte, path, cause }
         }
-        DecodeError::Memory => DecodeError::Memory,
-        DecodeError::Device => DecodeError::Device,
-        DecodeError::Finished => DecodeError::Finished,
+        other => other,
     }
 }
 

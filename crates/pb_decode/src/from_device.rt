@@ -24,7 +24,7 @@ use pb_wire::{Input, Limits};
 use std::alloc::Global;
 
 /// How many bytes are asked of an input at once.
-pub(crate) const PIECE: usize = 4096;
+const PIECE: usize = 65_536;
 
 /// Takes a piece that the input gives into the buffer, and reports how many bytes it gave.
 fn read_piece<I: Input>(
@@ -54,14 +54,13 @@ fn read_piece<I: Input>(
     Ok(count)
 }
 
-/// Takes what the input gives up to its end, but at most `most` bytes, and reports how many bytes it gave. They come into the
-/// buffer, piece by piece.
+/// Takes what the input gives up to its end, but at most `most` bytes, and reports how many bytes it gave. They come into a buffer,
+/// piece by piece.
 pub(crate) fn read_pieces<I: Input>(
     alloc: Global,
     pool: &Pool,
     reading: &mut Reading,
     input: &mut I,
-    buffer: &mut [u8; PIECE],
     most: usize,
 ) -> Result<usize, DecodeError>
     requires rules { IsPool pool.now }
@@ -77,6 +76,7 @@ pub(crate) fn read_pieces<I: Input>(
     ensures steady { I.is_steady input.old ≡ true → result ≢ Err Device }
     ensures stays { I.is_steady input.old ≡ true → I.is_steady input.new ≡ true }
 {
+    let mut buffer = [0u8; PIECE];
     let mut taken = 0;
     'reading: while taken < most {
         let wanted = buffer.len().min(most - taken);
@@ -131,8 +131,7 @@ fn read_within<I: Input>(
     ensures stays { I.is_steady input.old ≡ true → I.is_steady input.new ≡ true }
 {
     let most = limits.max_bytes();
-    let mut buffer = [0u8; PIECE];
-    let count = read_pieces(alloc, pool, reading, input, &mut buffer, most as usize)?;
+    let count = read_pieces(alloc, pool, reading, input, most as usize)?;
     if count < most as usize {
         return Ok(());
     }

@@ -108,12 +108,7 @@ fn wanted(step: Step, count: usize) -> usize
 {
     match step {
         Step::Payload(_, _, size) => (size as usize).saturating_sub(count).max(1),
-        Step::Tag
-        | Step::Varint(_, _)
-        | Step::I64(_, _)
-        | Step::I32(_, _)
-        | Step::Length(_, _)
-        | Step::Elements(_, _, _) => 1,
+        _ => 1,
     }
 }
 
@@ -193,12 +188,7 @@ fn open_lists(step: Step) -> usize
 {
     match step {
         Step::Elements(_, _, _) => 1,
-        Step::Tag
-        | Step::Varint(_, _)
-        | Step::I64(_, _)
-        | Step::I32(_, _)
-        | Step::Length(_, _)
-        | Step::Payload(_, _, _) => 0,
+        _ => 0,
     }
 }
 

@@ -1,4 +1,4 @@
-//! What is asked of an input: no more than the frame has, nor than 4,096 bytes a call.
+//! What is asked of an input: no more than the frame has, nor than 65,536 bytes a call.
 
 ghost use Rattle.std.specs.Prelude.{◌<◌};
 
@@ -61,7 +61,7 @@ fn asks_within(
         is_past: false,
     };
     let read = read_delimited(alloc, &schema.pool, schema.kind, &mut input, Limits::FULL);
-    matches!(read, Ok(Some(_))) && input.frame_left == 0 && !input.is_past && input.most <= 4096
+    matches!(read, Ok(Some(_))) && input.frame_left == 0 && !input.is_past && input.most <= 65_536
 }
 
 /// Whether a message of `letters` letters is read within its frame, which another one follows.
@@ -77,7 +77,7 @@ fn is_read_alone(alloc: Global, schema: &Schema, letters: usize) -> Result<bool,
 }
 
 fn are_read_alone(alloc: Global, schema: &Schema) -> Result<bool, Fail> {
-    for letters in [0, 1, 100, 200, 4090, 5000, 20_000] {
+    for letters in [0, 1, 100, 200, 4090, 5000, 20_000, 70_000] {
         if !is_read_alone(alloc, schema, letters)? {
             return Ok(false);
         }

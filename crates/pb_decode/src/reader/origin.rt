@@ -106,12 +106,7 @@ fn is_over(reading: &Reading) -> bool
     };
     match reading.reader.step {
         Step::Tag => reading.reader.frames.is_empty() && ends,
-        Step::Varint(_, _) => false,
-        Step::I64(_, _) => false,
-        Step::I32(_, _) => false,
-        Step::Length(_, _) => false,
-        Step::Payload(_, _, _) => false,
-        Step::Elements(_, _, _) => false,
+        _ => false,
     }
 }
 
@@ -122,12 +117,7 @@ fn body_of(part: Part) -> Result<Body, DecodeError>
 {
     match part {
         Part::Message(_, body) => Ok(body),
-        Part::Entry {
-            key_kind: _,
-            value_kind: _,
-            key: _,
-            value: _,
-        } => Err(DecodeError::Finished),
+        Part::Entry { .. } => Err(DecodeError::Finished),
         Part::Group(_) => Err(DecodeError::Finished),
     }
 }

@@ -159,10 +159,6 @@ pub(crate) fn take_ended(alloc: Global, pool: &Pool, reader: &mut Reader) -> Res
             close_ended(alloc, pool, reader)?;
             Ok(())
         }
-        Step::Varint(_, _) => Ok(()),
-        Step::I64(_, _) => Ok(()),
-        Step::I32(_, _) => Ok(()),
-        Step::Length(_, _) => Ok(()),
-        Step::Payload(_, _, _) => Ok(()),
+        _ => Ok(()),
     }
 }

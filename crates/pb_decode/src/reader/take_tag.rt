@@ -161,12 +161,7 @@ pub(crate) fn leave_group(
             close_group(outer, around, number, slot, records)?;
             Ok(())
         }
-        Part::Entry {
-            key_kind: _,
-            value_kind: _,
-            key: _,
-            value: _,
-        } => unreachable!(),
+        Part::Entry { .. } => unreachable!(),
     }
 }
 

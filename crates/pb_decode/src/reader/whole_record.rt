@@ -5,7 +5,6 @@ ghost use Rattle.pb_schema.specs.Rules.{IsPool};
 ghost use Rattle.pb_parts.specs.declared.tokens.step.Step.TheVariants.{Tag};
 ghost use Rattle.pb_parts.specs.Open.PartView.{part_view};
 ghost use Rattle.pb_parts.specs.Open.Purposes.{Means, part_context};
-ghost use Rattle.pb_parts.specs.Open.KnownPurpose.{IsKnown};
 ghost use Rattle.pb_parts.specs.Values.PayloadValue.{IsBytesPurpose};
 ghost use Rattle.pb_parts.specs.Tokens.Number.{IsNumberType};
 ghost use Rattle.pb_decode.specs.Reader.{state_view, IsReading};
@@ -17,7 +16,6 @@ use crate::reader::take_tag::{enter_group, innermost, leave_group};
 use crate::reader::whole_payload::{take_entry, take_message};
 use pb_parts::close::put::count_one;
 use pb_parts::error::NoMemory;
-use pb_parts::open::known_purpose::{KnownPurpose, purpose_by};
 use pb_parts::open::purpose::{Purpose, purpose_of};
 use pb_parts::tokens::number_token::{NumberToken, number_at};
 use pb_parts::tokens::record_tag::{RecordTag, left_behind, record_tag};
@@ -37,7 +35,6 @@ fn take_number_record(
     pool: &Pool,
     reader: &mut Reader,
     tag: RecordTag,
-    known: &mut Option<KnownPurpose>,
     bytes: &[u8],
 ) -> Result<Option<usize>, NoMemory>
     requires rules { IsPool pool.now }
@@ -46,16 +43,14 @@ fn take_number_record(
     requires number { IsNumberType tag.wire_type }
     requires within { tag.size ≤ length bytes.now }
     requires tag { HasTagHere (state_view reader.old) bytes.now tag.number tag.wire_type tag.size }
-    requires known { IsKnown pool.now known.old }
     ensures passes { IfOk result (λ o. IfSome o (λ n. (tag.size ≤ n) × (n ≤ length bytes.now) × (reader.new.at ≡ reader.old.at + n))) }
     ensures none { IfOk result (λ o. IfNone o (reader.new ≡ reader.old)) }
     ensures taken { TakesWhole pool.now reader.old reader.new bytes.now result }
-    ensures known { IsKnown pool.now known.new }
 {
     let after = left_behind(left(reader), tag.size);
     match number_at(tag.wire_type, &bytes[tag.size..], after) {
         NumberToken::Whole(value, size) => {
-            let purpose = purpose_by(pool, &reader.part, tag.number, tag.wire_type, known);
+            let purpose = purpose_of(pool, &reader.part, tag.number, tag.wire_type);
             put_number(alloc, pool, &mut reader.part, tag.number, purpose, value)?;
             count_one(&mut reader.scope, tag.number)?;
             let used = tag.size + size;
@@ -72,14 +67,8 @@ fn is_for_bytes(purpose: Purpose) -> bool
     ensures { result ≡ true → IsBytesPurpose purpose }
 {
     match purpose {
-        Purpose::One(_, _) => true,
-        Purpose::Element(_) => true,
-        Purpose::Key(_) => true,
-        Purpose::EntryValue(_) => true,
-        Purpose::Unknown => true,
-        Purpose::Packed(_) => false,
-        Purpose::Message(_, _) => false,
-        Purpose::Entry(_, _) => false,
+        Purpose::Packed(_) | Purpose::Message(_, _) | Purpose::Entry(_, _) => false,
+        _ => true,
     }
 }
 
@@ -181,12 +170,7 @@ fn take_inner(
         Purpose::Entry(key_kind, value_kind) => {
             take_entry(&whole, reader, tag, key_kind, value_kind, by_tokens, bytes)
         }
-        Purpose::One(_, _)
-        | Purpose::Element(_)
-        | Purpose::Packed(_)
-        | Purpose::Key(_)
-        | Purpose::EntryValue(_)
-        | Purpose::Unknown => Ok(None),
+        _ => Ok(None),
     }
 }
 
@@ -228,7 +212,6 @@ fn take_length_record(
     pool: &Pool,
     reader: &mut Reader,
     tag: RecordTag,
-    known: &mut Option<KnownPurpose>,
     by_tokens: &mut bool,
     bytes: &[u8],
 ) -> Result<Option<usize>, NoMemory>
@@ -238,13 +221,11 @@ fn take_length_record(
     requires bytes { tag.wire_type ≡ 2 }
     requires within { tag.size ≤ length bytes.now }
     requires tag { HasTagHere (state_view reader.old) bytes.now tag.number tag.wire_type tag.size }
-    requires known { IsKnown pool.now known.old }
     ensures passes { IfOk result (λ o. IfSome o (λ n. (tag.size ≤ n) × (n ≤ length bytes.now) × (reader.new.at ≡ reader.old.at + n))) }
     ensures none { IfOk result (λ o. IfNone o (reader.new ≡ reader.old)) }
     ensures taken { TakesWhole pool.now reader.old reader.new bytes.now result }
-    ensures known { IsKnown pool.now known.new }
 {
-    let purpose = purpose_by(pool, &reader.part, tag.number, 2, known);
+    let purpose = purpose_of(pool, &reader.part, tag.number, 2);
     if is_for_bytes(purpose) {
         take_bytes_record(alloc, pool, reader, tag, purpose, bytes)
     } else {
@@ -311,26 +292,23 @@ pub(crate) fn take_record(
     alloc: Global,
     pool: &Pool,
     reader: &mut Reader,
-    known: &mut Option<KnownPurpose>,
     by_tokens: &mut bool,
     bytes: &[u8],
 ) -> Result<Option<usize>, NoMemory>
     requires rules { IsPool pool.now }
     requires reading { IsReading pool.now (state_view reader.old) bytes.now }
     requires step { reader.old.step ≡ Tag }
-    requires known { IsKnown pool.now known.old }
     ensures passes { IfOk result (λ o. IfSome o (λ n. (0 < n) × (n ≤ length bytes.now) × (reader.new.at ≡ reader.old.at + n))) }
     ensures none { IfOk result (λ o. IfNone o (reader.new ≡ reader.old)) }
     ensures taken { TakesWhole pool.now reader.old reader.new bytes.now result }
-    ensures known { IsKnown pool.now known.new }
 {
     let Some(tag) = record_tag(bytes, left(reader)) else {
         return Ok(None);
     };
     if tag.wire_type == 2 {
-        take_length_record(alloc, pool, reader, tag, known, by_tokens, bytes)
+        take_length_record(alloc, pool, reader, tag, by_tokens, bytes)
     } else if tag.wire_type == 0 || tag.wire_type == 1 || tag.wire_type == 5 {
-        take_number_record(alloc, pool, reader, tag, known, bytes)
+        take_number_record(alloc, pool, reader, tag, bytes)
     } else if tag.wire_type == 3 {
         take_group_start(alloc, pool, reader, tag, bytes)
     } else if tag.wire_type == 4 {

@@ -4,7 +4,6 @@
 ghost use Rattle.std.specs.Prelude.{◌≡◌, ◌+◌, ◌*◌, ◌≤◌, ◌<◌, length, OnOk, IfOk, IfSome, IfNone};
 ghost use Rattle.pb_schema.specs.Rules.{IsPool};
 ghost use Rattle.pb_parts.specs.declared.tokens.step.Step.TheVariants.{Elements};
-ghost use Rattle.pb_parts.specs.Open.KnownPurpose.{IsKnown};
 ghost use Rattle.pb_decode.specs.Reader.Ended.{NothingEnds};
 ghost use Rattle.pb_decode.specs.Reader.{state_view, weight, IsReading};
 ghost use Rattle.pb_decode.specs.Reader.Steps.{TellsFault, TakesWhole, TakesMany};
@@ -14,7 +13,6 @@ use crate::reader::state::{Reader, left};
 use crate::reader::take_ended::take_ended;
 use crate::reader::whole_record::take_record;
 use pb_parts::error::NoMemory;
-use pb_parts::open::known_purpose::KnownPurpose;
 use pb_parts::tokens::step::Step;
 use pb_parts::values::put_run::put_run;
 use pb_parts::values::run::read_run;
@@ -53,28 +51,21 @@ fn take_whole(
     alloc: Global,
     pool: &Pool,
     reader: &mut Reader,
-    known: &mut Option<KnownPurpose>,
     by_tokens: &mut bool,
     bytes: &[u8],
 ) -> Result<Option<usize>, NoMemory>
     requires rules { IsPool pool.now }
     requires reading { IsReading pool.now (state_view reader.old) bytes.now }
-    requires known { IsKnown pool.now known.old }
     ensures passes { IfOk result (λ o. IfSome o (λ n. (0 < n) × (n ≤ length bytes.now) × (reader.new.at ≡ reader.old.at + n))) }
     ensures none { IfOk result (λ o. IfNone o (reader.new ≡ reader.old)) }
     ensures taken { TakesWhole pool.now reader.old reader.new bytes.now result }
-    ensures known { IsKnown pool.now known.new }
 {
     match reader.step {
-        Step::Tag => take_record(alloc, pool, reader, known, by_tokens, bytes),
+        Step::Tag => take_record(alloc, pool, reader, by_tokens, bytes),
         Step::Elements(number, kind, outer) => {
             take_run(alloc, pool, reader, number, kind, outer, bytes)
         }
-        Step::Varint(_, _) => Ok(None),
-        Step::I64(_, _) => Ok(None),
-        Step::I32(_, _) => Ok(None),
-        Step::Length(_, _) => Ok(None),
-        Step::Payload(_, _, _) => Ok(None),
+        _ => Ok(None),
     }
 }
 
@@ -95,19 +86,10 @@ pub(crate) fn take_records(
     ensures refused { TellsFault pool.now reader.old bytes.now result }
 {
     let mut here = 0;
-    let mut known = None;
     let mut by_tokens = false;
     loop {
         take_ended(alloc, pool, reader)?;
-        let Some(size) = take_whole(
-            alloc,
-            pool,
-            reader,
-            &mut known,
-            &mut by_tokens,
-            &bytes[here..],
-        )?
-        else {
+        let Some(size) = take_whole(alloc, pool, reader, &mut by_tokens, &bytes[here..])? else {
             return Ok(here);
         };
         here += size;

@@ -1,5 +1,6 @@
 -- All bytes of the frame come with the first read, or the others are read after them.
-use Rattle.std.proofs.Common.{◌≡◌, ℕ, take, length, subst}
+use Rattle.std.proofs.Common.{◌≡◌, ℕ, take, length, subst, arith}
+use Rattle.std.proofs.lemmas.List.{length-take, length-take-le}
 use Rattle.pb_decode.specs.FromDevice.{TellsFailures}
 use Rattle.pb_decode.proofs.InFrame.{text_frame, rest_text}
 use Rattle.pb_decode.proofs.frame.read_frame.Goals as goal
@@ -13,6 +14,17 @@ pub returns-in-Some-clause-rest : goal.returns-in-Some-clause-rest
 returns-in-Some-clause-rest g c =
     let all : length (take c.in_ok-count.count c.read_first.new.buffer) ≡ c.args.size = c.in-Some.ensures.all in
     rest_text (g.I.Input.left c.args.input.now) (g.I.Input.left c.read_first.new.input) c.args.size (take c.in_ok-count.count c.read_first.new.buffer) all c.in_ok-count.ensures.given
+
+pub read_in_pieces-requires-clause-count : goal.read_in_pieces-requires-clause-count
+read_in_pieces-requires-clause-count g c =
+    let size = length-take c.in_ok-count.count c.read_first.new.buffer in let count = c.in_ok-count.ensures.count in omega (arith, size, count)
+
+pub read_in_pieces-requires-clause-ends : goal.read_in_pieces-requires-clause-ends
+read_in_pieces-requires-clause-ends g c =
+    λ none some.
+    let fits = c.in_ok-count.ensures.fits in
+    let size : length (take c.in_ok-count.count c.read_first.new.buffer) ≡ c.in_ok-count.count = length-take-le c.in_ok-count.count c.read_first.new.buffer (omega (arith, fits)) in
+    c.in_ok-count.ensures.ends (omega (arith, none, size)) some
 
 pub returns-in-None-clause-value : goal.returns-in-None-clause-value
 returns-in-None-clause-value g c = c.read_in_pieces.ensures.value (g.I.Input.left c.args.input.now) c.in_ok-count.ensures.given

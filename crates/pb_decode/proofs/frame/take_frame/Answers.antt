@@ -1,6 +1,5 @@
 -- The first bytes are taken, and then those that the input gives after them.
-use Rattle.std.proofs.Common.{◌≡◌, ◌-◌, ◌<◌, ℕ, take, length, refl, arith, inl, inr, ◌⊎◌, ⊎_elim, zero, suc}
-use Rattle.std.proofs.lemmas.List.{length-take-le}
+use Rattle.std.proofs.Common.{◌≡◌, ◌-◌, ◌<◌, ℕ, length, refl, arith, inl, inr, ◌⊎◌, ⊎_elim, zero, suc}
 use Rattle.std.proofs.lemmas.Result.{err_from_is_err_and}
 use Rattle.pb_decode.specs.Reader.Origin.{further, ToldFrom}
 use Rattle.pb_decode.specs.Loops.{ToldOf}
@@ -15,39 +14,30 @@ pub returns-in_err-take_onward-clause-fault : goal.returns-in_err-take_onward-cl
 returns-in_err-take_onward-clause-fault g c =
     λ x o given took.
     let p = err_from_is_err_and c.from_residual.result c.from_residual.ensures.1 in
-    let count = c.requires.count in
-    let size : length (take c.args.count c.args.buffer.now) ≡ c.args.count = length-take-le c.args.count c.args.buffer.now (omega (arith, c.requires.fits)) in
     rw (p.1, p.2)
-    (if_fault_refused c.in_err-take_onward.field-0.0 (ToldFrom c.args.pool.now (further o (take c.args.count c.args.buffer.now))) (ToldOf c.args.pool.now o x (g.I.Input.left c.args.input.now) c.args.size)
-    (λ f told. record { bytes = take c.args.count c.args.buffer.now; few = omega (arith, size, count); given = given; told = told }) (c.in_err-take_onward.ensures.fault o took))
+    (if_fault_refused c.in_err-take_onward.field-0.0 (ToldFrom c.args.pool.now (further o c.args.first.now)) (ToldOf c.args.pool.now o x (g.I.Input.left c.args.input.now) c.args.size)
+    (λ f told. record { bytes = c.args.first.now; few = c.requires.count; given = given; told = told }) (c.in_err-take_onward.ensures.fault o took))
 
 pub returns-in_err-take_onward-clause-taken : goal.returns-in_err-take_onward-clause-taken
-returns-in_err-take_onward-clause-taken g c =
-    λ x given.
-    let count = c.requires.count in
-    let size : length (take c.args.count c.args.buffer.now) ≡ c.args.count = length-take-le c.args.count c.args.buffer.now (omega (arith, c.requires.fits)) in
-    (take c.args.count c.args.buffer.now, omega (arith, size, count), given)
+returns-in_err-take_onward-clause-taken g c = λ x given. (c.args.first.now, c.requires.count, given)
 
 pub returns-then-count-eq0-clause-read : goal.returns-then-count-eq0-clause-read
 returns-then-count-eq0-clause-read g c =
     λ x given.
     let none = c.if-count-eq0.true in
-    let size : length (take c.args.count c.args.buffer.now) ≡ c.args.count = length-take-le c.args.count c.args.buffer.now (omega (arith, c.requires.fits)) in
-    reads_front x (g.I.Input.left c.args.input.now) (take c.args.count c.args.buffer.now) (omega (arith, size, none)) given c.in_ok-take_onward.ensures.took
+    reads_front x (g.I.Input.left c.args.input.now) c.args.first.now (omega (arith, none)) given c.in_ok-take_onward.ensures.took
 
 pub returns-then-count-eq0-clause-ends : goal.returns-then-count-eq0-clause-ends
-returns-then-count-eq0-clause-ends g c = end_or_all c.args.size _ (c.requires.ends c.if-count-eq0.true)
+returns-then-count-eq0-clause-ends g c =
+    let none = c.if-count-eq0.true in
+    end_or_all c.args.size _ (c.requires.ends (omega (arith, none)))
 
 pub returns-then-count-eq0-clause-taken : goal.returns-then-count-eq0-clause-taken
-returns-then-count-eq0-clause-taken g c =
-    λ x given.
-    let count = c.requires.count in
-    let size : length (take c.args.count c.args.buffer.now) ≡ c.args.count = length-take-le c.args.count c.args.buffer.now (omega (arith, c.requires.fits)) in
-    (take c.args.count c.args.buffer.now, omega (arith, size, count), given)
+returns-then-count-eq0-clause-taken g c = λ x given. (c.args.first.now, c.requires.count, given)
 
 pub read_pieces-requires-clause-took : goal.read_pieces-requires-clause-took
 read_pieces-requires-clause-took g c = (
-  further c.requires.took.0 (take c.args.count c.args.buffer.now),
+  further c.requires.took.0 c.args.first.now,
   c.in_ok-take_onward.ensures.took c.requires.took.0 c.requires.took.1,
 )
 
@@ -56,33 +46,30 @@ returns-in_err-more-clause-fault g c =
     λ x o given took.
     let p = err_from_is_err_and c.from_residual-in_err-more.result c.from_residual-in_err-more.ensures.1 in
     let count = c.requires.count in
-    let size : length (take c.args.count c.args.buffer.now) ≡ c.args.count = length-take-le c.args.count c.args.buffer.now (omega (arith, c.requires.fits)) in
     rw (p.1, p.2)
     (if_refused_weaker c.in_err-more.field-0.0 _ (ToldOf c.args.pool.now o x (g.I.Input.left c.read_pieces.new.input) c.args.size)
-    (λ f (told : ToldOf c.args.pool.now (further o (take c.args.count c.args.buffer.now)) (g.I.Input.left c.args.input.now) (g.I.Input.left c.read_pieces.new.input) (c.args.size - c.args.count) f).
-    told_behind o f x (g.I.Input.left c.args.input.now) (g.I.Input.left c.read_pieces.new.input) (take c.args.count c.args.buffer.now) (omega (arith, count, size)) given told)
-    (c.in_err-more.ensures.fault (further o (take c.args.count c.args.buffer.now)) (c.in_ok-take_onward.ensures.took o took)))
+    (λ f (told : ToldOf c.args.pool.now (further o c.args.first.now) (g.I.Input.left c.args.input.now) (g.I.Input.left c.read_pieces.new.input) (c.args.size - length c.args.first.now) f).
+    told_behind o f x (g.I.Input.left c.args.input.now) (g.I.Input.left c.read_pieces.new.input) c.args.first.now (omega (arith, count)) given told)
+    (c.in_err-more.ensures.fault (further o c.args.first.now) (c.in_ok-take_onward.ensures.took o took)))
 
 pub returns-in_err-more-clause-taken : goal.returns-in_err-more-clause-taken
 returns-in_err-more-clause-taken g c =
     λ x given.
     let count = c.requires.count in
-    let size : length (take c.args.count c.args.buffer.now) ≡ c.args.count = length-take-le c.args.count c.args.buffer.now (omega (arith, c.requires.fits)) in
-    takes_behind x (g.I.Input.left c.args.input.now) (g.I.Input.left c.read_pieces.new.input) (take c.args.count c.args.buffer.now) (omega (arith, count, size)) given c.in_err-more.ensures.taken
+    takes_behind x (g.I.Input.left c.args.input.now) (g.I.Input.left c.read_pieces.new.input) c.args.first.now (omega (arith, count)) given c.in_err-more.ensures.taken
 
 pub returns-clause-read : goal.returns-clause-read
 returns-clause-read g c =
     λ x given.
-    let size : length (take c.args.count c.args.buffer.now) ≡ c.args.count = length-take-le c.args.count c.args.buffer.now (omega (arith, c.requires.fits)) in
-    reads_more refl (reads_front x (g.I.Input.left c.args.input.now) (take c.args.count c.args.buffer.now) size given c.in_ok-take_onward.ensures.took) c.in_ok-more.ensures.read
+    reads_more refl (reads_front x (g.I.Input.left c.args.input.now) c.args.first.now refl given c.in_ok-take_onward.ensures.took) c.in_ok-more.ensures.read
 
 pub returns-clause-ends : goal.returns-clause-ends
 returns-clause-ends g c =
-    let count = c.requires.count in ⊎_elim (λ (all : c.in_ok-more.more ≡ c.args.size - c.args.count). inl (omega (arith, count, all))) (λ ended. inr ended) c.in_ok-more.ensures.ends
+    let count = c.requires.count in
+    ⊎_elim (λ (all : c.in_ok-more.more ≡ c.args.size - length c.args.first.now). inl (omega (arith, count, all))) (λ ended. inr ended) c.in_ok-more.ensures.ends
 
 pub returns-clause-taken : goal.returns-clause-taken
 returns-clause-taken g c =
     λ x given.
     let count = c.requires.count in
-    let size : length (take c.args.count c.args.buffer.now) ≡ c.args.count = length-take-le c.args.count c.args.buffer.now (omega (arith, c.requires.fits)) in
-    takes_behind x (g.I.Input.left c.args.input.now) (g.I.Input.left c.read_pieces.new.input) (take c.args.count c.args.buffer.now) (omega (arith, count, size)) given c.in_ok-more.ensures.taken
+    takes_behind x (g.I.Input.left c.args.input.now) (g.I.Input.left c.read_pieces.new.input) c.args.first.now (omega (arith, count)) given c.in_ok-more.ensures.taken

@@ -3,5 +3,5 @@ use Rattle.pb_decode.specs.Reader.{state_view}
 use Rattle.pb_decode.proofs.WholeRecords.{tag_can}
 use Rattle.pb_decode.proofs.reader.whole_record.take_length_record.Goals as goal
 
-pub purpose_by-purpose-requires-clause-can : goal.purpose_by-purpose-requires-clause-can
-purpose_by-purpose-requires-clause-can c = tag_can (state_view c.args.reader.now) c.args.bytes.now c.requires.rules c.requires.reading.reads c.requires.step
+pub purpose_of-purpose-requires : goal.purpose_of-purpose-requires
+purpose_of-purpose-requires c = tag_can (state_view c.args.reader.now) c.args.bytes.now c.requires.rules c.requires.reading.reads c.requires.step

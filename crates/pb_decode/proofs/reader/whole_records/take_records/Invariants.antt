@@ -2,7 +2,6 @@ use Rattle.std.proofs.Common.{◌≡◌, ◌+◌, ◌*◌, ◌≤◌, ◌-◌, �
 use Rattle.pb_wire.specs.Record.{Record}
 use Rattle.pb_wire.specs.Fault.{Place}
 use Rattle.pb_decode.specs.Reader.{state_view, weight, Reads}
-use Rattle.pb_parts.specs.Open.KnownPurpose.{IsKnown}
 use Rattle.pb_decode.proofs.reader.whole_records.take_records.Given as goal
 
 abbrev pub invariant-loop-reader : goal.invariant-loop-reader
@@ -13,7 +12,6 @@ invariant-loop-reader l = record {
   reads :
       (m depth levels : ℕ) (base : List Record) (p0 : Place) → Reads l.pool m depth levels base p0 (state_view l.fn.reader) l.fn.bytes
       → Reads l.pool m depth levels base p0 (state_view l.reader) (drop l.here l.bytes);
-  known : IsKnown l.pool l.known;
 }
 
 abbrev pub decreases-loop-reader : goal.decreases-loop-reader
