@@ -16,7 +16,7 @@ use Rattle.pb_json_read.specs.declared.error.JsonReadError.{JsonReadError}
 use Rattle.pb_json_read.specs.Answers.{Changes}
 use Rattle.pb_json_read.specs.Faults.{fault}
 use Rattle.pb_json_read.specs.Keys.{IsKey}
-use Rattle.pb_json_read.specs.Reads.{Read, Made, with_entry, ReadsEntry, ReadsUnder}
+use Rattle.pb_json_read.specs.Steps.{Read, Made, with_entry, ReadsEntry, ReadsUnder}
 
 of_kind : (k : Kind) (x y : Scalar) → x ≡ y → IsOfKind k y → IsOfKind k x
 of_kind k x y e h = subst (λ (z : Scalar). IsOfKind k z) (sym e) h

@@ -9,6 +9,8 @@ pub mod UniqueReads
 -- for what reads: what is read step by step, and the keys of entries
 pub mod ReadLemmas
 pub mod EntryLemmas
+-- for the paths of field masks
+pub mod TextsLemmas
 -- small cases, worked out by the definitions
 mod Rows
 -- for the whole call

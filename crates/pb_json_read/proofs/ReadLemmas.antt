@@ -1,5 +1,5 @@
 -- What is read step by step, for the functions that read.
-use Rattle.std.proofs.Common.{◌≡◌, ℕ, ◌+◌, ◌<◌, List, ◌∷◌, length, drop, get_or, map, Option, Some, None, Result, Ok, Err, OnOk, IfErr, inl, inr, refl, sym, ap, ◌∙◌, subst}
+use Rattle.std.proofs.Common.{◌≡◌, ℕ, ◌+◌, ◌<◌, List, ◌∷◌, length, drop, get_or, map, Option, Some, None, Result, Ok, Err, OnOk, IfOk, IfErr, inl, inr, refl, sym, ap, ◌∙◌, subst}
 use Rattle.std.proofs.lemmas.List.{drop_more}
 use Rattle.std.specs.Prelude.{◌⊎◌}
 use Rattle.pb_schema.specs.declared.types.Kind.{Kind}
@@ -7,19 +7,26 @@ use Rattle.pb_schema.specs.declared.types.Shape.{Shape}
 use Rattle.pb_schema.specs.Types.{FieldView, Types}
 use Rattle.pb_schema.specs.Kinds.{message_of_kind}
 use Rattle.pb_value.specs.Data.{Datum, message, Datums, Entries, Holding}
+use Rattle.pb_value.specs.View.{body_view}
+use Rattle.pb_value.specs.declared.body.Body.{Body}
+use Rattle.pb_json.specs.declared.well_known.WellKnown.{WellKnown}
+use Rattle.pb_json.specs.WellKnown.{well_known}
 use Rattle.pb_json_text.specs.Json.{Json, null, boolean, number, string, array, object, Elements, element, Members, member}
 use Rattle.pb_json_text.specs.View.{Named, elements_view, members_view, members_from, elements_from, member_view, value_view, form_view}
 use Rattle.pb_json_text.specs.declared.value.JsonMember.{JsonMember}
 use Rattle.pb_json_text.specs.declared.value.JsonValue.{JsonValue}
 use Rattle.pb_json_text.proofs.ViewLemmas.{value_view-parts, member_view-parts}
+use Rattle.pb_json_read.specs.declared.error.JsonReadCause.TheVariants.{BadValue}
 use Rattle.pb_json_read.specs.declared.error.JsonReadError.{JsonReadError}
 use Rattle.pb_json_read.specs.declared.rules.JsonRules.{JsonRules}
 use Rattle.pb_json_read.specs.Answers.{Answers, Changes, named}
-use Rattle.pb_json_read.specs.Faults.{out_of_memory}
+use Rattle.pb_json_read.specs.Faults.{fault, out_of_memory}
+use Rattle.pb_json_read.specs.Forms.{ReadsForm}
 use Rattle.pb_json_read.specs.Names.{field_meant}
-use Rattle.pb_json_read.specs.Reads.{Read, After, Made, Parts, with_datum}
-use Rattle.pb_json_read.specs.Reads.{ReadsSingle, ReadsOf, ReadsShape, ReadsScalar, ReadsMember, ReadsMemberEntry}
-use Rattle.pb_json_read.specs.Reads.{ReadsMembers, ReadsEntries, ReadsElements, ReadsValue, ReadsContent, ReadsMessage, ReadsList, ReadsMap}
+use Rattle.pb_json_read.specs.Steps.{Read, After, Made, NoValue, Parts, with_datum}
+use Rattle.pb_json_read.specs.Steps.{ReadsSingle, ReadsOf, ReadsShape, ReadsScalar}
+use Rattle.pb_json_read.specs.Reads.{ReadsMember, ReadsMemberEntry}
+use Rattle.pb_json_read.specs.Reads.{ReadsMembers, ReadsEntries, ReadsElements, ReadsValue, ReadsContent, ReadsMessage, ReadsObject, ReadsList, ReadsMap}
 
 -- ONE THING AFTER ANOTHER
 
@@ -43,7 +50,7 @@ or_weaker f (inr p) = inr (f p)
 
 -- THE PARTS OF ARRAYS AND OBJECTS
 
-from_item : {X : Type 0} (xs : List X) (i : ℕ) (x : X) → i < length xs → x ≡ get_or xs i x → drop i xs ≡ x ∷ drop (i + 1) xs
+pub from_item : {X : Type 0} (xs : List X) (i : ℕ) (x : X) → i < length xs → x ≡ get_or xs i x → drop i xs ≡ x ∷ drop (i + 1) xs
 from_item {X} xs i x below is = drop_more xs i x below ∙ ap (λ (y : X). y ∷ drop (i + 1) xs) (sym is)
 
 members_next : (ms : List JsonMember) (i : ℕ) (m : JsonMember) → i < length ms → m ≡ get_or ms i m
@@ -122,7 +129,29 @@ module _ (pool : Types) (rules : JsonRules) where
   content_as s k at (number t) o h = h
   content_as s k at (string t) o h = h
 
+  -- A MESSAGE, BY THE FORM OF ITS TYPE
+
+  pub form_answers : (m at : ℕ) (j : Json) (w : WellKnown) → well_known pool m ≡ w → (r : Result Body JsonReadError)
+      → Answers body_view (λ o. ReadsForm pool rules at j (λ key e q. ReadsMap pool rules key e at j q) (λ e q. ReadsList pool rules e at j q) w (λ q. ReadsObject pool rules m at j q) m o) r
+      → Answers body_view (ReadsMessage pool rules m at j) r
+  form_answers m at j w is r h =
+      subst (λ (v : WellKnown). Answers body_view (λ o. ReadsForm pool rules at j (λ key e q. ReadsMap pool rules key e at j q) (λ e q. ReadsList pool rules e at j q) v (λ q. ReadsObject pool rules m at j q) m o) r)
+      (sym is) h
+
 -- ANSWERS
+
+abbrev refused_read : (A : Type 0) → JsonReadError → Read A
+refused_read A e = Err e
+
+-- no value of the field
+pub none_answers : {X A : Type 0} (view : X → A) (at : ℕ) (e : JsonReadError) → e ≡ fault at BadValue → Answers view (λ o. NoValue at o) (Err e)
+none_answers {X} {A} view at e is = inr (ap (refused_read A) is)
+
+-- what is made of this, unless out of memory
+pub answers_done : {X A B : Type 0} (view : X → B) (R : Read A → Type 0) (f : A → B) (x : A) (r : Result X JsonReadError) → IfOk r (λ y. view y ≡ f x)
+    → IfErr r (λ e. e ≡ out_of_memory) → R (Ok x) → Answers view (Made R f) r
+answers_done view R f x (Ok y) same memory h = made_ok R f x (view y) same h
+answers_done view R f x (Err e) same memory h = inl memory
 
 pub answers_weaker : {X A : Type 0} (view : X → A) (R S : Read A → Type 0) (r : Result X JsonReadError) → ((o : Read A) → R o → S o) → Answers view R r → Answers view S r
 answers_weaker view R S (Ok x) f h = f _ h

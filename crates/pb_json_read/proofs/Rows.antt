@@ -11,7 +11,8 @@ use Rattle.pb_json_read.specs.declared.rules.JsonRules.TheVariants.{Strict, Leni
 use Rattle.pb_json_read.specs.declared.error.JsonReadCause.TheVariants.{UnknownName, RepeatedName, SecondMember, BadValue}
 use Rattle.pb_json_read.specs.Faults.{fault}
 use Rattle.pb_json_read.specs.Names.{field_meant}
-use Rattle.pb_json_read.specs.Reads.{Parts, nothing, with_number, with_oneof, with_held, unknown_name, is_absent, passes_over, ReadsMessage}
+use Rattle.pb_json_read.specs.Steps.{Parts, nothing, with_number, with_oneof, with_held, unknown_name, is_absent, passes_over}
+use Rattle.pb_json_read.specs.Reads.{ReadsMessage}
 
 abbrev flag : FieldView
 flag = record { name = codes "is_on"; number = 1; kind = kind.Bool; shape = shape.Implicit }

@@ -4,16 +4,22 @@ use Rattle.std.proofs.lemmas.Bool.{false≢true}
 use Rattle.pb_schema.specs.declared.types.Kind.{Kind}
 use Rattle.pb_schema.specs.declared.types.Shape.{Shape}
 use Rattle.pb_schema.specs.declared.types.Shape.TheVariants as shape
-use Rattle.pb_schema.specs.Types.{FieldView, Types, message_fields}
+use Rattle.pb_schema.specs.Types.{FieldView, Types, field_numbered, message_fields}
 use Rattle.pb_schema.specs.Kinds.{message_of_kind}
 use Rattle.pb_schema.specs.Scalar.{Scalar}
 use Rattle.pb_value.specs.Data.{Datum, Datums, no_datums, Entries, no_entries, Holding, Message}
+use Rattle.pb_json.specs.declared.well_known.WellKnown.{WellKnown}
+use Rattle.pb_json.specs.declared.well_known.WellKnown.TheVariants as form
+use Rattle.pb_json.specs.WellKnown.{well_known}
 use Rattle.pb_json_text.specs.Json.{Json, null, boolean, number, string, array, object, Elements, no_elements, element, Members, no_members, member}
 use Rattle.pb_json_read.specs.declared.rules.JsonRules.{JsonRules}
 use Rattle.pb_json_read.specs.Names.{field_meant}
-use Rattle.pb_json_read.specs.Reads.{Read, After, Then, Made, NoValue, Parts, nothing, with_number, with_oneof, with_held, with_entry, with_datum, is_absent}
-use Rattle.pb_json_read.specs.Reads.{ReadsScalar, ReadsOf, ReadsSingle, ReadsShape, ReadsHeld, ReadsField, ReadsUnder, ReadsEntry}
+use Rattle.pb_json_read.specs.Steps.{Read, After, Then, Made, NoValue, Parts, nothing, with_number, with_oneof, with_held, with_entry, with_datum, is_absent}
+use Rattle.pb_json_read.specs.Steps.{ReadsScalar, ReadsOf, ReadsSingle, ReadsShape, ReadsHeld, ReadsField, ReadsUnder, ReadsEntry}
 use Rattle.pb_json_read.specs.Reads.{ReadsMembers, ReadsEntries, ReadsElements, ReadsValue, ReadsContent, ReadsMessage}
+use Rattle.pb_json_read.specs.Forms.{ReadsAlone, Where, ReadsFlat, ReadsSole, ReadsNested, ReadsDeep, ReadsDynamic, ReadsForm}
+use Rattle.pb_json_read.specs.Reads.{OfObject, OfArray, OfLeaf}
+use Rattle.pb_json_read.specs.WellKnown.{is_sole, field_for}
 use Rattle.pb_json_read.proofs.UniqueScalars.{IsOne, scalar_one, key_of_one}
 
 after_one : {A B : Type 0} (r : Read A) (Next : A → Read B → Type 0) → ((x : A) → IsOne (Next x)) → IsOne (After r Next)
@@ -90,6 +96,60 @@ module _ (pool : Types) (rules : JsonRules) where
   entry_one key name at Value es one (Err e) (Err f) (inr c) (inl (y, a, b)) = absurd (c.0 y a)
   entry_one key name at Value es one (Err e) (Err f) (inr c) (inr d) = ap Err (c.1 ∙ sym d.1)
 
+  alone_one : (f : Option FieldView) (at : ℕ) (Content : Shape → Kind → Read (Option Holding) → Type 0)
+      → ((s : Shape) (k : Kind) → IsOne (Content s k)) → IsOne (ReadsAlone f at Content)
+  alone_one None at Content one = none_one at
+  alone_one (Some f) at Content one = made_one (Content f.shape f.kind) (λ h. (with_held f.shape f.number h nothing).message) (one f.shape f.kind)
+
+  where_one : (b : Bool) (at : ℕ) (Inside : Read Message → Type 0) → IsOne Inside → IsOne (Where b at Inside)
+  where_one true at Inside one = one
+  where_one false at Inside one = none_one at
+
+  given_one : (x : Read Message) → IsOne (λ (o : Read Message). o ≡ x)
+  given_one x o p a b = a ∙ sym b
+
+  module _ (at : ℕ) (j : Json) (Mapped : Kind → Kind → Read Entries → Type 0) (Listed : Kind → Read Datums → Type 0)
+      (mapped : (key k : Kind) → IsOne (Mapped key k)) (listed : (k : Kind) → IsOne (Listed k)) where
+    flat_one : (s : Shape) (k : Kind) → IsOne (ReadsFlat pool rules at j Mapped Listed s k)
+    flat_one s k = shape_one s _ _ _ (plain_one k at j) (listed k) (λ key. mapped key k)
+
+    sole_one : (m : ℕ) → IsOne (ReadsSole pool rules at j Mapped Listed m)
+    sole_one m = alone_one (field_numbered 1 (message_fields pool m)) at _ flat_one
+
+    nested_one : (m : ℕ) → IsOne (ReadsNested pool rules at j Mapped Listed m)
+    nested_one m = where_one (is_sole (well_known pool m)) at _ (sole_one m)
+
+    deep_one : (s : Shape) (k : Kind) → IsOne (ReadsDeep pool rules at j Mapped Listed s k)
+    deep_one s k = shape_one s _ _ _ (single_one k at j _ nested_one) (listed k) (λ key. mapped key k)
+
+    dynamic_one : (m : ℕ) → IsOne (ReadsDynamic pool rules at j Mapped Listed m)
+    dynamic_one m = alone_one (field_numbered (field_for j) (message_fields pool m)) at _ deep_one
+
+    form_one : (w : WellKnown) (Plain : Read Message → Type 0) (m : ℕ) → IsOne Plain → IsOne (ReadsForm pool rules at j Mapped Listed w Plain m)
+    form_one form.Other Plain m one = one
+    form_one form.Wrapper Plain m one = sole_one m
+    form_one form.Struct Plain m one = sole_one m
+    form_one form.ListValue Plain m one = sole_one m
+    form_one form.Value Plain m one = dynamic_one m
+    form_one form.Timestamp Plain m one = given_one _
+    form_one form.Duration Plain m one = given_one _
+    form_one form.FieldMask Plain m one = given_one _
+    form_one form.Unsupported Plain m one = none_one at
+
+  object_one : (at : ℕ) (ms : Members) (Fields : List FieldView → Read Parts → Type 0) (Mapped : Kind → Kind → Read Entries → Type 0)
+      → ((all : List FieldView) → IsOne (Fields all)) → ((key k : Kind) → IsOne (Mapped key k)) → (m : ℕ) → IsOne (OfObject pool rules at ms Fields Mapped m)
+  object_one at ms Fields Mapped fields mapped m =
+      form_one at (object ms) Mapped (λ e r. NoValue at r) mapped (λ e. none_one at) (well_known pool m) _ m
+      (made_one (Fields (message_fields pool m)) (λ p. p.message) (fields (message_fields pool m)))
+
+  array_one : (at : ℕ) (js : Elements) (Listed : Kind → Read Datums → Type 0) → ((k : Kind) → IsOne (Listed k)) → (m : ℕ) → IsOne (OfArray pool rules at js Listed m)
+  array_one at js Listed listed m =
+      form_one at (array js) (λ key e r. NoValue at r) Listed (λ key e. none_one at) listed (well_known pool m) (λ r. NoValue at r) m (none_one at)
+
+  leaf_one : (at : ℕ) (j : Json) (m : ℕ) → IsOne (OfLeaf pool rules at j m)
+  leaf_one at j m =
+      form_one at j (λ key e r. NoValue at r) (λ e r. NoValue at r) (λ key e. none_one at) (λ e. none_one at) (well_known pool m) (λ r. NoValue at r) m (none_one at)
+
   mutual
     pub members_one : (all : List FieldView) (p : Parts) (ms : Members) → IsOne (ReadsMembers pool rules all p ms)
     members_one all p no_members o q a b = a ∙ sym b
@@ -107,28 +167,29 @@ module _ (pool : Types) (rules : JsonRules) where
 
     pub value_one : (k : Kind) (at : ℕ) (j : Json) → IsOne (ReadsValue pool rules k at j)
     value_one k at (object ms) o q a b =
-        single_one k at (object ms) _ (λ m. made_one _ _ (members_one (message_fields pool m) nothing ms)) o q a b
-    value_one k at null o q a b = single_one k at null _ (λ m. none_one at) o q a b
-    value_one k at (boolean c) o q a b = single_one k at (boolean c) _ (λ m. none_one at) o q a b
-    value_one k at (number s) o q a b = single_one k at (number s) _ (λ m. none_one at) o q a b
-    value_one k at (string s) o q a b = single_one k at (string s) _ (λ m. none_one at) o q a b
-    value_one k at (array js) o q a b = single_one k at (array js) _ (λ m. none_one at) o q a b
+        single_one k at (object ms) _ (object_one at ms _ _ (λ all. members_one all nothing ms) (λ key e. entries_one key e no_entries ms)) o q a b
+    value_one k at (array js) o q a b = single_one k at (array js) _ (array_one at js _ (λ e. elements_one e no_datums js)) o q a b
+    value_one k at null o q a b = single_one k at null _ (leaf_one at null) o q a b
+    value_one k at (boolean c) o q a b = single_one k at (boolean c) _ (leaf_one at (boolean c)) o q a b
+    value_one k at (number s) o q a b = single_one k at (number s) _ (leaf_one at (number s)) o q a b
+    value_one k at (string s) o q a b = single_one k at (string s) _ (leaf_one at (string s)) o q a b
 
     pub content_one : (s : Shape) (k : Kind) (at : ℕ) (j : Json) → IsOne (ReadsContent pool rules s k at j)
     content_one s k at (object ms) o q a b =
-        shape_one s _ _ _ (single_one k at (object ms) _ (λ m. made_one _ _ (members_one (message_fields pool m) nothing ms))) (none_one at)
-        (λ key. entries_one key k no_entries ms) o q a b
+        shape_one s _ _ _ (single_one k at (object ms) _ (object_one at ms _ _ (λ all. members_one all nothing ms) (λ key e. entries_one key e no_entries ms)))
+        (none_one at) (λ key. entries_one key k no_entries ms) o q a b
     content_one s k at (array js) o q a b =
-        shape_one s _ _ _ (single_one k at (array js) _ (λ m. none_one at)) (elements_one k no_datums js) (λ key. none_one at) o q a b
-    content_one s k at null o q a b = shape_one s _ _ _ (single_one k at null _ (λ m. none_one at)) (none_one at) (λ key. none_one at) o q a b
-    content_one s k at (boolean c) o q a b = shape_one s _ _ _ (single_one k at (boolean c) _ (λ m. none_one at)) (none_one at) (λ key. none_one at) o q a b
-    content_one s k at (number t) o q a b = shape_one s _ _ _ (single_one k at (number t) _ (λ m. none_one at)) (none_one at) (λ key. none_one at) o q a b
-    content_one s k at (string t) o q a b = shape_one s _ _ _ (single_one k at (string t) _ (λ m. none_one at)) (none_one at) (λ key. none_one at) o q a b
+        shape_one s _ _ _ (single_one k at (array js) _ (array_one at js _ (λ e. elements_one e no_datums js))) (elements_one k no_datums js) (λ key. none_one at)
+        o q a b
+    content_one s k at null o q a b = shape_one s _ _ _ (single_one k at null _ (leaf_one at null)) (none_one at) (λ key. none_one at) o q a b
+    content_one s k at (boolean c) o q a b = shape_one s _ _ _ (single_one k at (boolean c) _ (leaf_one at (boolean c))) (none_one at) (λ key. none_one at) o q a b
+    content_one s k at (number t) o q a b = shape_one s _ _ _ (single_one k at (number t) _ (leaf_one at (number t))) (none_one at) (λ key. none_one at) o q a b
+    content_one s k at (string t) o q a b = shape_one s _ _ _ (single_one k at (string t) _ (leaf_one at (string t))) (none_one at) (λ key. none_one at) o q a b
 
   pub message_one : (m at : ℕ) (j : Json) → IsOne (ReadsMessage pool rules m at j)
-  message_one m at (object ms) = made_one _ _ (members_one (message_fields pool m) nothing ms)
-  message_one m at null = none_one at
-  message_one m at (boolean b) = none_one at
-  message_one m at (number s) = none_one at
-  message_one m at (string s) = none_one at
-  message_one m at (array js) = none_one at
+  message_one m at (object ms) = object_one at ms _ _ (λ all. members_one all nothing ms) (λ key e. entries_one key e no_entries ms) m
+  message_one m at (array js) = array_one at js _ (λ e. elements_one e no_datums js) m
+  message_one m at null = leaf_one at null m
+  message_one m at (boolean b) = leaf_one at (boolean b) m
+  message_one m at (number s) = leaf_one at (number s) m
+  message_one m at (string s) = leaf_one at (string s) m

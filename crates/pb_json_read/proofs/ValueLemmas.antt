@@ -13,7 +13,7 @@ use Rattle.pb_json_read.specs.declared.rules.JsonRules.{JsonRules}
 use Rattle.pb_json_read.specs.Answers.{Answers}
 use Rattle.pb_json_read.specs.Faults.{fault}
 use Rattle.pb_json_read.specs.Values.{IsScalar}
-use Rattle.pb_json_read.specs.Reads.{ReadsScalar, passes_over}
+use Rattle.pb_json_read.specs.Steps.{ReadsScalar, passes_over}
 
 -- a value that is none of its kind
 pub plain_without : (pool : Types) (rule : JsonRules) (k : Kind) (at : ℕ) (j : Json) (r : Result (Option Value) JsonReadError) → ((d : Datum) → ¬ IsScalar pool k j d)

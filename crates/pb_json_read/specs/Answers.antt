@@ -14,8 +14,9 @@ use Rattle.pb_json_read.specs.declared.rules.JsonRules.{JsonRules}
 use Rattle.pb_json_read.specs.declared.error.JsonReadCause.TheVariants.{TooDeep}
 use Rattle.pb_json_read.specs.declared.error.JsonReadError.{JsonReadError}
 use Rattle.pb_json_read.specs.Faults.{fault, cause_of, out_of_memory}
-use Rattle.pb_json_read.specs.Reads.{Read, ReadsMessage}
-use Rattle.pb_json_read.specs.Reads as reads
+use Rattle.pb_json_read.specs.Steps.{Read}
+use Rattle.pb_json_read.specs.Reads.{ReadsMessage}
+use Rattle.pb_json_read.specs.Steps as reads
 
 -- the answer is what is read, as it is seen, or the fault, or that memory ran out
 abbrev pub Answers : {X A : Type 0} → (X → A) → (Read A → Type 0) → Result X JsonReadError → Type 0

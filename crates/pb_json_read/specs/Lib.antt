@@ -1,11 +1,13 @@
 -- ---- why a text is refused
 pub mod Faults
 -- ---- what single parts are read as
-pub mod JsonNames
+pub mod WellKnown
 pub mod Names
 pub mod Scalars
 pub mod Values
 pub mod Keys
 -- ---- messages
+pub mod Steps
+pub mod Forms
 pub mod Reads
 pub mod Answers

@@ -4,7 +4,7 @@ use Rattle.std.specs.Option.{option_or}
 use Rattle.std.specs.Str.{bytes_eq}
 use Rattle.pb_schema.specs.Types.{FieldView}
 use Rattle.pb_schema.specs.Tables.{field_named}
-use Rattle.pb_json_read.specs.JsonNames.{lower_camel}
+use Rattle.pb_json.specs.JsonNames.{lower_camel}
 
 -- the first field whose name in lowerCamelCase this is
 abbrev pub field_in_camel : List ℕ → List FieldView → Option FieldView

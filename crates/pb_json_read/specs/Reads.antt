@@ -1,180 +1,29 @@
 -- What a JSON value is read as, member by member, or the first fault in it (ProtoJSON format).
-use Rattle.std.specs.Prelude.{◌≡◌, ℕ, List, [], Bool, true, false, ◌&&◌, not, if◌then◌else◌, Option, Some, None, is_some, option_map, Result, Ok, Err, ◌⊎◌}
-use Rattle.std.specs.BTreeSet.{contains, insert_key}
-use Rattle.std.specs.Option.{option_map_or}
-use Rattle.std.specs.Ordering.{nat_cmp}
+use Rattle.std.specs.Prelude.{◌≡◌, ℕ, List, false, Option, Some, Ok}
 use Rattle.pb_schema.specs.declared.types.Kind.{Kind}
 use Rattle.pb_schema.specs.declared.types.Shape.{Shape}
-use Rattle.pb_schema.specs.declared.types.Shape.TheVariants as shape
 use Rattle.pb_schema.specs.Types.{FieldView, Types, message_fields}
-use Rattle.pb_schema.specs.Kinds.{enum_of_kind, message_of_kind}
 use Rattle.pb_schema.specs.Scalar.{Scalar}
-use Rattle.pb_value.specs.Data.{Datum, message, Datums, no_datums, datum, joined_datums, Entries, no_entries, get_entry, put_entry}
-use Rattle.pb_value.specs.Data.{Holding, one, list, map, Message, empty, fields_of, put_field}
-use Rattle.pb_value.specs.Change.{with_fields}
-use Rattle.pb_value.specs.Judge.{is_absence}
+use Rattle.pb_value.specs.Data.{Datum, Datums, no_datums, Entries, no_entries, Holding, Message}
+use Rattle.pb_json.specs.WellKnown.{well_known}
 use Rattle.pb_json_text.specs.Json.{Json, null, boolean, number, string, array, object, Elements, no_elements, element, Members, no_members, member}
 use Rattle.pb_json_text.specs.View.{Named}
 use Rattle.pb_json_read.specs.declared.rules.JsonRules.{JsonRules}
-use Rattle.pb_json_read.specs.declared.rules.JsonRules.TheVariants.{Strict, Lenient}
-use Rattle.pb_json_read.specs.declared.error.JsonReadCause.TheVariants.{UnknownName, RepeatedName, SecondMember, BadKey, BadValue}
-use Rattle.pb_json_read.specs.declared.error.JsonReadError.{JsonReadError}
-use Rattle.pb_json_read.specs.Faults.{fault}
 use Rattle.pb_json_read.specs.Names.{field_meant}
-use Rattle.pb_json_read.specs.Scalars.{is_null_enum}
-use Rattle.pb_json_read.specs.Values.{IsScalar}
-use Rattle.pb_json_read.specs.Keys.{IsKey}
+use Rattle.pb_json_read.specs.Steps.{Read, Then, Made, NoValue, Parts, nothing, with_datum, ReadsSingle, ReadsShape, ReadsHeld, ReadsField, ReadsUnder, ReadsEntry}
+use Rattle.pb_json_read.specs.Forms.{ReadsForm, ReadsFlat, ReadsSole, ReadsNested, ReadsDeep, ReadsDynamic}
 
--- what is read, or the first fault
-abbrev pub Read : Type 0 → Type 0
-Read A = Result A JsonReadError
+-- an object, an array and another value as a message of a type, by how their parts are read
+abbrev pub OfObject : Types → JsonRules → ℕ → Members → (List FieldView → Read Parts → Type 0) → (Kind → Kind → Read Entries → Type 0) → ℕ → Read Message → Type 0
+OfObject pool rules at ms Fields Mapped m o =
+    ReadsForm pool rules at (object ms) Mapped (λ e r. NoValue at r) (well_known pool m) (λ r. Made (Fields (message_fields pool m)) (λ p. p.message) r) m o
 
--- ONE THING AFTER ANOTHER
+abbrev pub OfArray : Types → JsonRules → ℕ → Elements → (Kind → Read Datums → Type 0) → ℕ → Read Message → Type 0
+OfArray pool rules at js Listed m o =
+    ReadsForm pool rules at (array js) (λ key e r. NoValue at r) Listed (well_known pool m) (λ r. NoValue at r) m o
 
--- what comes next, where there is no fault yet
-abbrev pub After : {A B : Type 0} → Read A → (A → Read B → Type 0) → Read B → Type 0
-After (Ok x) Next o = Next x o
-After (Err e) Next o = o ≡ Err e
-
--- first this, and what comes next
-abbrev pub Then : {A B : Type 0} → (Read A → Type 0) → (A → Read B → Type 0) → Read B → Type 0
-Then {A} First Next o = (r : Read A) × First r × After r Next o
-
--- this, and what is made of it
-abbrev pub Made : {A B : Type 0} → (Read A → Type 0) → (A → B) → Read B → Type 0
-Made First f o = Then First (λ x r. r ≡ Ok (f x)) o
-
--- no value of the field
-abbrev pub NoValue : {A : Type 0} → ℕ → Read A → Type 0
-NoValue at o = o ≡ Err (fault at BadValue)
-
--- SINGLE VALUES
-
-abbrev pub is_string : Json → Bool
-is_string (string s) = true
-is_string null = false
-is_string (boolean b) = false
-is_string (number s) = false
-is_string (array js) = false
-is_string (object ms) = false
-
-abbrev pub is_null : Json → Bool
-is_null null = true
-is_null (string s) = false
-is_null (boolean b) = false
-is_null (number s) = false
-is_null (array js) = false
-is_null (object ms) = false
-
--- a string that names no value of an enum is passed over
-abbrev pub passes_over : JsonRules → Kind → Json → Bool
-passes_over Strict k j = false
-passes_over Lenient k j = is_some (enum_of_kind k) && is_string j
-
--- a value of a kind that is no message: it, or nothing where it is passed over
-abbrev pub ReadsScalar : Types → JsonRules → Kind → ℕ → Json → Read (Option Datum) → Type 0
-ReadsScalar pool rules k at j (Ok (Some d)) = IsScalar pool k j d
-ReadsScalar pool rules k at j (Ok None) = ((d : Datum) → ¬ IsScalar pool k j d) × (passes_over rules k j ≡ true)
-ReadsScalar pool rules k at j (Err e) = ((d : Datum) → ¬ IsScalar pool k j d) × (passes_over rules k j ≡ false) × (e ≡ fault at BadValue)
-
--- a value of a kind, where it is read so as a message of a type
-abbrev pub ReadsOf : Option ℕ → (Read (Option Datum) → Type 0) → (ℕ → Read Message → Type 0) → Read (Option Datum) → Type 0
-ReadsOf None Plain Inside o = Plain o
-ReadsOf (Some m) Plain Inside o = Made (Inside m) (λ b. Some (message b)) o
-
-abbrev pub ReadsSingle : Types → JsonRules → Kind → ℕ → Json → (ℕ → Read Message → Type 0) → Read (Option Datum) → Type 0
-ReadsSingle pool rules k at j Inside o = ReadsOf (message_of_kind k) (ReadsScalar pool rules k at j) Inside o
-
--- FIELDS
-
--- what a field holds, where a value, a list and a map are read so
-abbrev pub ReadsShape : Shape → (Read (Option Datum) → Type 0) → (Read Datums → Type 0) → (Kind → Read Entries → Type 0) → Read (Option Holding) → Type 0
-ReadsShape shape.Implicit Single Listed Mapped o = Made Single (option_map one) o
-ReadsShape shape.Explicit Single Listed Mapped o = Made Single (option_map one) o
-ReadsShape (shape.OneofMember _) Single Listed Mapped o = Made Single (option_map one) o
-ReadsShape (shape.List _) Single Listed Mapped o = Made Listed (λ ds. Some (list ds)) o
-ReadsShape (shape.Map key) Single Listed Mapped o = Made (Mapped key) (λ es. Some (map es)) o
-
--- a field of one value takes null, where it is of the enum whose one value means null
-abbrev pub takes_null : Types → Shape → Kind → Bool
-takes_null pool shape.Implicit k = option_map_or (is_null_enum pool) (enum_of_kind k) false
-takes_null pool shape.Explicit k = option_map_or (is_null_enum pool) (enum_of_kind k) false
-takes_null pool (shape.OneofMember _) k = option_map_or (is_null_enum pool) (enum_of_kind k) false
-takes_null pool (shape.List _) k = false
-takes_null pool (shape.Map _) k = false
-
--- else null says that the field is absent
-abbrev pub is_absent : Types → Shape → Kind → Json → Bool
-is_absent pool s k j = is_null j && not (takes_null pool s k)
-
--- MEMBERS OF A MESSAGE
-
--- what the members so far give: a message, the numbers of the fields that they name, and the oneofs that they set, both rising
-pub record Parts : Type 0 where
-  pub message : Message
-  pub numbers : List ℕ
-  pub oneofs : List ℕ
-
-abbrev pub nothing : Parts
-nothing = record { message = empty; numbers = []; oneofs = [] }
-
-abbrev pub has : ℕ → List ℕ → Bool
-has n ns = contains nat_cmp (record { keys = ns }) n
-
--- no two members name one field
-abbrev pub with_number : ℕ → ℕ → Parts → Read Parts
-with_number n at p = if has n p.numbers then Err (fault at RepeatedName) else Ok (record p { numbers = insert_key nat_cmp p.numbers n })
-
--- no two members set one oneof
-abbrev pub with_oneof : Shape → ℕ → Parts → Read Parts
-with_oneof (shape.OneofMember n) at p =
-    if has n p.oneofs then Err (fault at SecondMember) else Ok (record p { oneofs = insert_key nat_cmp p.oneofs n })
-with_oneof shape.Implicit at p = Ok p
-with_oneof shape.Explicit at p = Ok p
-with_oneof (shape.List _) at p = Ok p
-with_oneof (shape.Map _) at p = Ok p
-
--- what a field holds, which is left out where an absent field is the same
-abbrev pub with_held : Shape → ℕ → Option Holding → Parts → Parts
-with_held s n None p = p
-with_held s n (Some h) p = if is_absence s h then p else record p { message = with_fields p.message (put_field n h (fields_of p.message)) }
-
--- a value of a field, read so
-abbrev pub ReadsHeld : FieldView → ℕ → (Shape → Kind → Read (Option Holding) → Type 0) → Bool → Parts → Read Parts → Type 0
-ReadsHeld f at Content true p o = o ≡ Ok p
-ReadsHeld f at Content false p o = After (with_oneof f.shape at p) (λ q r. Made (Content f.shape f.kind) (λ h. with_held f.shape f.number h q) r) o
-
--- a name that no field has
-abbrev pub unknown_name : JsonRules → ℕ → Parts → Read Parts
-unknown_name Strict at p = Err (fault at UnknownName)
-unknown_name Lenient at p = Ok p
-
--- a member whose name at this byte means the field
-abbrev pub ReadsField : Types → JsonRules → Option FieldView → ℕ → Json → (Shape → Kind → Read (Option Holding) → Type 0) → Parts → Read Parts → Type 0
-ReadsField pool rules None at j Content p o = o ≡ unknown_name rules at p
-ReadsField pool rules (Some f) at j Content p o =
-    After (with_number f.number at p) (λ q r. ReadsHeld f at Content (is_absent pool f.shape f.kind j) q r) o
-
--- ELEMENTS AND ENTRIES
-
-abbrev pub with_datum : Datums → Option Datum → Datums
-with_datum ds None = ds
-with_datum ds (Some d) = joined_datums ds (datum d no_datums)
-
-abbrev pub with_entry : Scalar → Entries → Option Datum → Entries
-with_entry x es None = es
-with_entry x es (Some d) = put_entry x d es
-
--- an entry under a key, where its value is read so
-abbrev pub ReadsUnder : Scalar → ℕ → (Read (Option Datum) → Type 0) → Entries → Read Entries → Type 0
-ReadsUnder x at Value es o =
-    After (if is_some (get_entry x es) then Err (fault at RepeatedName) else Ok es) (λ before r. Made Value (with_entry x before) r) o
-
--- an entry: its name, at this byte, is a key
-abbrev pub ReadsEntry : Kind → List ℕ → ℕ → (Read (Option Datum) → Type 0) → Entries → Read Entries → Type 0
-ReadsEntry key name at Value es (Ok r) = (x : Scalar) × IsKey key name x × ReadsUnder x at Value es (Ok r)
-ReadsEntry key name at Value es (Err e) =
-    ((x : Scalar) × IsKey key name x × ReadsUnder x at Value es (Err e)) ⊎ (((x : Scalar) → ¬ IsKey key name x) × (e ≡ fault at BadKey))
+abbrev pub OfLeaf : Types → JsonRules → ℕ → Json → ℕ → Read Message → Type 0
+OfLeaf pool rules at j m o = ReadsForm pool rules at j (λ key e r. NoValue at r) (λ e r. NoValue at r) (well_known pool m) (λ r. NoValue at r) m o
 
 -- VALUES
 
@@ -200,33 +49,30 @@ module _ (pool : Types) (rules : JsonRules) where
     -- a value of a kind
     pub ReadsValue : Kind → ℕ → Json → Read (Option Datum) → Type 0
     ReadsValue k at (object ms) o =
-        ReadsSingle pool rules k at (object ms) (λ m r. Made (λ s. ReadsMembers (message_fields pool m) nothing ms s) (λ p. p.message) r) o
-    ReadsValue k at null o = ReadsSingle pool rules k at null (λ m r. NoValue at r) o
-    ReadsValue k at (boolean b) o = ReadsSingle pool rules k at (boolean b) (λ m r. NoValue at r) o
-    ReadsValue k at (number s) o = ReadsSingle pool rules k at (number s) (λ m r. NoValue at r) o
-    ReadsValue k at (string s) o = ReadsSingle pool rules k at (string s) (λ m r. NoValue at r) o
-    ReadsValue k at (array js) o = ReadsSingle pool rules k at (array js) (λ m r. NoValue at r) o
+        ReadsSingle pool rules k at (object ms)
+        (OfObject pool rules at ms (λ all r. ReadsMembers all nothing ms r) (λ key e r. ReadsEntries key e no_entries ms r)) o
+    ReadsValue k at (array js) o = ReadsSingle pool rules k at (array js) (OfArray pool rules at js (λ e r. ReadsElements e no_datums js r)) o
+    ReadsValue k at null o = ReadsSingle pool rules k at null (OfLeaf pool rules at null) o
+    ReadsValue k at (boolean b) o = ReadsSingle pool rules k at (boolean b) (OfLeaf pool rules at (boolean b)) o
+    ReadsValue k at (number s) o = ReadsSingle pool rules k at (number s) (OfLeaf pool rules at (number s)) o
+    ReadsValue k at (string s) o = ReadsSingle pool rules k at (string s) (OfLeaf pool rules at (string s)) o
 
     -- what a field of a shape and a kind holds
     pub ReadsContent : Shape → Kind → ℕ → Json → Read (Option Holding) → Type 0
     ReadsContent s k at (object ms) o =
-        ReadsShape s (ReadsSingle pool rules k at (object ms) (λ m r. Made (λ t. ReadsMembers (message_fields pool m) nothing ms t) (λ p. p.message) r))
+        ReadsShape s (ReadsSingle pool rules k at (object ms)
+        (OfObject pool rules at ms (λ all r. ReadsMembers all nothing ms r) (λ key e r. ReadsEntries key e no_entries ms r)))
         (NoValue at) (λ key r. ReadsEntries key k no_entries ms r) o
     ReadsContent s k at (array js) o =
-        ReadsShape s (ReadsSingle pool rules k at (array js) (λ m r. NoValue at r)) (λ r. ReadsElements k no_datums js r) (λ key r. NoValue at r) o
-    ReadsContent s k at null o = ReadsShape s (ReadsSingle pool rules k at null (λ m r. NoValue at r)) (NoValue at) (λ key r. NoValue at r) o
-    ReadsContent s k at (boolean b) o = ReadsShape s (ReadsSingle pool rules k at (boolean b) (λ m r. NoValue at r)) (NoValue at) (λ key r. NoValue at r) o
-    ReadsContent s k at (number t) o = ReadsShape s (ReadsSingle pool rules k at (number t) (λ m r. NoValue at r)) (NoValue at) (λ key r. NoValue at r) o
-    ReadsContent s k at (string t) o = ReadsShape s (ReadsSingle pool rules k at (string t) (λ m r. NoValue at r)) (NoValue at) (λ key r. NoValue at r) o
-
-  -- a message of a type
-  abbrev pub ReadsMessage : ℕ → ℕ → Json → Read Message → Type 0
-  ReadsMessage m at (object ms) o = Made (ReadsMembers (message_fields pool m) nothing ms) (λ p. p.message) o
-  ReadsMessage m at null o = NoValue at o
-  ReadsMessage m at (boolean b) o = NoValue at o
-  ReadsMessage m at (number s) o = NoValue at o
-  ReadsMessage m at (string s) o = NoValue at o
-  ReadsMessage m at (array js) o = NoValue at o
+        ReadsShape s (ReadsSingle pool rules k at (array js) (OfArray pool rules at js (λ e r. ReadsElements e no_datums js r)))
+        (λ r. ReadsElements k no_datums js r) (λ key r. NoValue at r) o
+    ReadsContent s k at null o = ReadsShape s (ReadsSingle pool rules k at null (OfLeaf pool rules at null)) (NoValue at) (λ key r. NoValue at r) o
+    ReadsContent s k at (boolean b) o =
+        ReadsShape s (ReadsSingle pool rules k at (boolean b) (OfLeaf pool rules at (boolean b))) (NoValue at) (λ key r. NoValue at r) o
+    ReadsContent s k at (number t) o =
+        ReadsShape s (ReadsSingle pool rules k at (number t) (OfLeaf pool rules at (number t))) (NoValue at) (λ key r. NoValue at r) o
+    ReadsContent s k at (string t) o =
+        ReadsShape s (ReadsSingle pool rules k at (string t) (OfLeaf pool rules at (string t))) (NoValue at) (λ key r. NoValue at r) o
 
   -- a list, a map
   abbrev pub ReadsList : Kind → ℕ → Json → Read Datums → Type 0
@@ -244,6 +90,36 @@ module _ (pool : Types) (rules : JsonRules) where
   ReadsMap key k at (boolean b) o = NoValue at o
   ReadsMap key k at (number s) o = NoValue at o
   ReadsMap key k at (string s) o = NoValue at o
+
+  -- a message of a type that has no form of its own
+  abbrev pub ReadsObject : ℕ → ℕ → Json → Read Message → Type 0
+  ReadsObject m at (object ms) o = Made (ReadsMembers (message_fields pool m) nothing ms) (λ p. p.message) o
+  ReadsObject m at null o = NoValue at o
+  ReadsObject m at (boolean b) o = NoValue at o
+  ReadsObject m at (number s) o = NoValue at o
+  ReadsObject m at (string s) o = NoValue at o
+  ReadsObject m at (array js) o = NoValue at o
+
+  -- what the parts of a form are at a value
+  abbrev pub FlatOf : ℕ → Json → Shape → Kind → Read (Option Holding) → Type 0
+  FlatOf at j = ReadsFlat pool rules at j (λ key e r. ReadsMap key e at j r) (λ e r. ReadsList e at j r)
+
+  abbrev pub SoleOf : ℕ → Json → ℕ → Read Message → Type 0
+  SoleOf at j = ReadsSole pool rules at j (λ key e r. ReadsMap key e at j r) (λ e r. ReadsList e at j r)
+
+  abbrev pub NestedOf : ℕ → Json → ℕ → Read Message → Type 0
+  NestedOf at j = ReadsNested pool rules at j (λ key e r. ReadsMap key e at j r) (λ e r. ReadsList e at j r)
+
+  abbrev pub DeepOf : ℕ → Json → Shape → Kind → Read (Option Holding) → Type 0
+  DeepOf at j = ReadsDeep pool rules at j (λ key e r. ReadsMap key e at j r) (λ e r. ReadsList e at j r)
+
+  abbrev pub DynamicOf : ℕ → Json → ℕ → Read Message → Type 0
+  DynamicOf at j = ReadsDynamic pool rules at j (λ key e r. ReadsMap key e at j r) (λ e r. ReadsList e at j r)
+
+  -- a message of a type
+  abbrev pub ReadsMessage : ℕ → ℕ → Json → Read Message → Type 0
+  ReadsMessage m at j o =
+      ReadsForm pool rules at j (λ key e r. ReadsMap key e at j r) (λ e r. ReadsList e at j r) (well_known pool m) (λ r. ReadsObject m at j r) m o
 
   -- one member of each: where its name begins, the name, and its value
   abbrev pub ReadsMember : Option FieldView → Named → Parts → Read Parts → Type 0

@@ -1,7 +1,8 @@
 //! Why a text is not read as a message.
 
 ghost use Rattle.std.specs.Prelude.{◌≡◌};
-ghost use Rattle.pb_json_read.specs.Faults.{cause_of, name_of, out_of_memory};
+ghost use Rattle.pb_json_read.specs.declared.error.JsonReadCause.TheVariants.{BadValue};
+ghost use Rattle.pb_json_read.specs.Faults.{cause_of, fault, name_of, out_of_memory};
 
 use pb_json_text::{JsonCause, JsonFault};
 use pb_value::ValueError;
@@ -47,6 +48,16 @@ impl JsonReadError {
         JsonReadError {
             byte: 0,
             cause: JsonReadCause::OutOfMemory,
+        }
+    }
+
+    /// No value of a field, where it begins.
+    pub(crate) fn bad_value(byte: usize) -> JsonReadError
+        ensures { result ≡ fault byte BadValue }
+    {
+        JsonReadError {
+            byte,
+            cause: JsonReadCause::BadValue,
         }
     }
 }

@@ -3,6 +3,7 @@
 
 mod context;
 mod error;
+mod forms;
 mod keys;
 mod names;
 mod parts;

@@ -5,7 +5,7 @@ ghost use Rattle.std.specs.Str.{bytes_eq};
 ghost use Rattle.pb_schema.specs.Rules.{IsFieldOf};
 ghost use Rattle.pb_schema.specs.Types.{message_fields};
 ghost use Rattle.pb_schema.specs.View.{field_view};
-ghost use Rattle.pb_json_read.specs.JsonNames.{cased, lower_camel};
+ghost use Rattle.pb_json.specs.JsonNames.{cased, lower_camel};
 ghost use Rattle.pb_json_read.specs.Names.{field_meant};
 
 use pb_schema::{Field, MessageId, Pool};

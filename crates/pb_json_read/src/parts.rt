@@ -1,13 +1,13 @@
 //! A message under construction.
 
-ghost use Rattle.std.specs.Prelude.{◌≡◌, Some, IfErr, OnOk};
+ghost use Rattle.std.specs.Prelude.{◌≡◌, option_map, Some, IfErr, IfOk, OnOk};
 ghost use Rattle.pb_schema.specs.declared.types.Shape.TheVariants.{OneofMember};
 ghost use Rattle.pb_value.specs.Data.{no_entries};
 ghost use Rattle.pb_value.specs.Judge.{is_absence, is_default_datum};
-ghost use Rattle.pb_value.specs.View.{content_view, entries_view, value_view};
+ghost use Rattle.pb_value.specs.View.{body_view, content_view, entries_view, value_view};
 ghost use Rattle.pb_json_read.specs.Answers.{Changes, parts_view};
 ghost use Rattle.pb_json_read.specs.Faults.{out_of_memory};
-ghost use Rattle.pb_json_read.specs.Reads.{nothing, with_held, with_number, with_oneof};
+ghost use Rattle.pb_json_read.specs.Steps.{nothing, with_held, with_number, with_oneof};
 
 use crate::error::{JsonReadCause, JsonReadError};
 use pb_schema::Shape;
@@ -90,6 +90,23 @@ impl Parts {
         put_field(&mut self.body, number, content)?;
         Ok(())
     }
+}
+
+/// A message of one field, which holds this, if there is something.
+pub(crate) fn alone(
+    alloc: Global,
+    shape: Shape,
+    number: u32,
+    content: Option<Content>,
+) -> Result<Body, JsonReadError>
+    ensures made { IfOk result (λ b. body_view b ≡ (with_held shape number (option_map content_view content) nothing).message) }
+    ensures memory { IfErr result (λ e. e ≡ out_of_memory) }
+{
+    let mut parts = Parts::new(alloc);
+    if let Some(content) = content {
+        parts.put(shape, number, content)?;
+    }
+    Ok(parts.body)
 }
 
 /// The entries of a map under construction.

@@ -1,7 +1,10 @@
 //! A JSON value as a message, as what a field holds, as a value of a kind.
 
 ghost use Rattle.std.specs.Prelude.{◌≡◌, ◌<◌, length, option_map, is_some, Some, None, true, false, IfOk, IfErr, OnOk};
+ghost use Rattle.std.specs.Option.{option_map_or};
+ghost use Rattle.pb_json.specs.WellKnown.{well_known as form_of};
 ghost use Rattle.pb_json_text.specs.View.{elements_view, form_view, members_view};
+ghost use Rattle.pb_schema.specs.Kinds.{message_of_kind};
 ghost use Rattle.pb_schema.specs.Rules.{NamesType};
 ghost use Rattle.pb_schema.specs.Types.{message_fields};
 ghost use Rattle.pb_schema.specs.View.{field_view};
@@ -11,19 +14,24 @@ ghost use Rattle.pb_value.specs.View.{body_view, content_view, entries_view, key
 ghost use Rattle.pb_json_read.specs.Answers.{Answers, Changes, named, parts_view};
 ghost use Rattle.pb_json_read.specs.declared.error.JsonReadCause.TheVariants.{BadValue};
 ghost use Rattle.pb_json_read.specs.Faults.{fault, out_of_memory};
+ghost use Rattle.pb_json_read.specs.Forms.{ReadsAlone};
 ghost use Rattle.pb_json_read.specs.Names.{field_meant as meant};
-ghost use Rattle.pb_json_read.specs.Reads.{Made, Parts as PartsRead, nothing, is_absent, passes_over, takes_null, unknown_name, with_datum, with_entry};
-ghost use Rattle.pb_json_read.specs.Reads.{ReadsContent, ReadsElements, ReadsEntries, ReadsList, ReadsMap, ReadsMember, ReadsMemberEntry};
-ghost use Rattle.pb_json_read.specs.Reads.{ReadsMemberHeld, ReadsMemberUnder, ReadsMembers, ReadsMessage, ReadsScalar, ReadsValue};
+ghost use Rattle.pb_json_read.specs.Reads.{DeepOf, DynamicOf, FlatOf, NestedOf, ReadsContent, ReadsElements, ReadsEntries, ReadsList, ReadsMap};
+ghost use Rattle.pb_json_read.specs.Reads.{ReadsMember, ReadsMemberEntry, ReadsMemberHeld, ReadsMemberUnder, ReadsMembers, ReadsMessage, ReadsObject, ReadsValue, SoleOf};
+ghost use Rattle.pb_json_read.specs.Steps.{Made, Parts as PartsRead, ReadsScalar, ReadsSingle, nothing, has_null, is_absent, passes_over, takes_null, unknown_name};
+ghost use Rattle.pb_json_read.specs.Steps.{with_datum, with_entry};
+ghost use Rattle.pb_json_read.specs.WellKnown.{is_dynamic};
 
 use crate::context::Context;
 use crate::error::{JsonReadCause, JsonReadError};
+use crate::forms::{field_for, is_dynamic, is_sole, read_field_mask, read_point, read_span};
 use crate::keys::read_key;
 use crate::names::field_meant;
-use crate::parts::{Entries, Parts};
+use crate::parts::{Entries, Parts, alone};
 use crate::rules::JsonRules;
 use crate::scalars::is_null_enum;
 use crate::values::read_scalar;
+use pb_json::well_known::{WellKnown, well_known};
 use pb_json_text::{JsonForm, JsonMember, JsonValue};
 use pb_schema::{Field, Kind, MessageId, Pool, Shape};
 use pb_value::{Body, Content, MapKey, Value};
@@ -45,16 +53,35 @@ fn unknown_name(rules: JsonRules, at: usize) -> Result<(), JsonReadError>
     }
 }
 
+/// Whether null is a value of a kind.
+fn has_null(pool: &Pool, kind: Kind) -> bool
+    requires { NamesType (length pool.now.messages) (length pool.now.enums) kind }
+    ensures { result ≡ has_null pool.now kind }
+{
+    match kind.enum_id() {
+        Some(id) => is_null_enum(pool, id),
+        None => holds_dynamic(pool, kind),
+    }
+}
+
+/// Whether the messages of a kind are those of `google.protobuf.Value`.
+fn holds_dynamic(pool: &Pool, kind: Kind) -> bool
+    requires { NamesType (length pool.now.messages) (length pool.now.enums) kind }
+    ensures { result ≡ option_map_or (λ m. is_dynamic (form_of pool.now m)) (message_of_kind kind) false }
+{
+    match kind.message() {
+        Some(id) => is_dynamic(well_known(pool, id)),
+        None => false,
+    }
+}
+
 /// Whether null is a value of a field.
 fn takes_null(pool: &Pool, shape: Shape, kind: Kind) -> bool
     requires { NamesType (length pool.now.messages) (length pool.now.enums) kind }
     ensures { result ≡ takes_null pool.now shape kind }
 {
     match shape {
-        Shape::Implicit | Shape::Explicit | Shape::OneofMember(_) => match kind.enum_id() {
-            Some(id) => is_null_enum(pool, id),
-            None => false,
-        },
+        Shape::Implicit | Shape::Explicit | Shape::OneofMember(_) => has_null(pool, kind),
         Shape::List { packed: _ } | Shape::Map { key: _ } => false,
     }
 }
@@ -108,6 +135,22 @@ fn read_plain(
     }
 }
 
+/// What a field of one value holds that is no message.
+fn read_plain_one(
+    context: &Context<'_>,
+    kind: Kind,
+    value: &JsonValue,
+) -> Result<Option<Content>, JsonReadError>
+    requires { NamesType (length context.now.pool.now.messages) (length context.now.pool.now.enums) kind }
+    ensures { Answers (option_map content_view)
+        (Made (ReadsScalar context.now.pool.now context.now.rules kind value.now.at (form_view value.now.form)) (option_map one)) result }
+{
+    match read_plain(context, kind, value)? {
+        Some(one) => Ok(Some(Content::One(one))),
+        None => Ok(None),
+    }
+}
+
 /// Puts a value, if there is one, after others.
 fn push_some(values: &mut Vec<Value>, value: Option<Value>) -> Result<(), JsonReadError>
     ensures pushed { OnOk result (values_view values.new.items ≡ with_datum (values_view values.old.items) (option_map value_view value)) }
@@ -144,7 +187,7 @@ fn has_key(entries: &Entries, key: &MapKey) -> bool
     entries.map.contains_key(key)
 }
 
-/// A message of a type, from an object.
+/// A message of a type, by the form that the type has.
 #[cycle(read)]
 pub(crate) fn read_message(
     context: &Context<'_>,
@@ -153,6 +196,29 @@ pub(crate) fn read_message(
 ) -> Result<Body, JsonReadError>
     requires { id.0 < length context.now.pool.now.messages }
     ensures { Answers body_view (ReadsMessage context.now.pool.now context.now.rules id.0 value.now.at (form_view value.now.form)) result }
+{
+    match well_known(context.pool, id) {
+        WellKnown::Other => read_object(context, id, value),
+        WellKnown::Wrapper => read_sole(context, id, value),
+        WellKnown::Struct => read_sole(context, id, value),
+        WellKnown::ListValue => read_sole(context, id, value),
+        WellKnown::Value => read_dynamic(context, id, value),
+        WellKnown::Timestamp => read_point(context, id, value),
+        WellKnown::Duration => read_span(context, id, value),
+        WellKnown::FieldMask => read_field_mask(context, id, value),
+        WellKnown::Unsupported => Err(JsonReadError::bad_value(value.at)),
+    }
+}
+
+/// A message of a type that has no form of its own, from an object.
+#[cycle(read)]
+fn read_object(
+    context: &Context<'_>,
+    id: MessageId,
+    value: &JsonValue,
+) -> Result<Body, JsonReadError>
+    requires { id.0 < length context.now.pool.now.messages }
+    ensures { Answers body_view (ReadsObject context.now.pool.now context.now.rules id.0 value.now.at (form_view value.now.form)) result }
 {
     match &value.form {
         JsonForm::Object(members) => read_members(context, id, members),
@@ -447,4 +513,170 @@ fn read_inside(
 {
     let body = read_message(context, id, value)?;
     Ok(Some(Value::Message(body)))
+}
+
+/// A message that is what its field 1 holds.
+#[cycle(read)]
+fn read_sole(context: &Context<'_>, id: MessageId, value: &JsonValue) -> Result<Body, JsonReadError>
+    requires { id.0 < length context.now.pool.now.messages }
+    ensures { Answers body_view (SoleOf context.now.pool.now context.now.rules value.now.at (form_view value.now.form) id.0) result }
+{
+    match context.pool.field_by_number(id, 1) {
+        Some(field) => read_alone(context, field, value),
+        None => Err(refused(value.at, JsonReadCause::BadValue)),
+    }
+}
+
+/// A message of one field that holds no message.
+#[cycle(read)]
+fn read_alone(
+    context: &Context<'_>,
+    field: &Field,
+    value: &JsonValue,
+) -> Result<Body, JsonReadError>
+    requires { NamesType (length context.now.pool.now.messages) (length context.now.pool.now.enums) field.now.kind }
+    ensures { Answers body_view (ReadsAlone (Some (field_view field.now)) value.now.at
+        (FlatOf context.now.pool.now context.now.rules value.now.at (form_view value.now.form))) result }
+{
+    let content = read_flat(context, field.shape, field.kind, value)?;
+    alone(context.alloc, field.shape, field.number, content)
+}
+
+/// What a field holds that is no message.
+#[cycle(read)]
+fn read_flat(
+    context: &Context<'_>,
+    shape: Shape,
+    kind: Kind,
+    value: &JsonValue,
+) -> Result<Option<Content>, JsonReadError>
+    requires { NamesType (length context.now.pool.now.messages) (length context.now.pool.now.enums) kind }
+    ensures { Answers (option_map content_view)
+        (FlatOf context.now.pool.now context.now.rules value.now.at (form_view value.now.form) shape kind) result }
+{
+    match shape {
+        Shape::Implicit => read_plain_one(context, kind, value),
+        Shape::Explicit => read_plain_one(context, kind, value),
+        Shape::OneofMember(_) => read_plain_one(context, kind, value),
+        Shape::List { packed: _ } => read_listed(context, kind, value),
+        Shape::Map { key } => read_mapped(context, key, kind, value),
+    }
+}
+
+/// A message of type `google.protobuf.Value`.
+#[cycle(read)]
+fn read_dynamic(
+    context: &Context<'_>,
+    id: MessageId,
+    value: &JsonValue,
+) -> Result<Body, JsonReadError>
+    requires { id.0 < length context.now.pool.now.messages }
+    ensures { Answers body_view (DynamicOf context.now.pool.now context.now.rules value.now.at (form_view value.now.form) id.0) result }
+{
+    match context.pool.field_by_number(id, field_for(&value.form)) {
+        Some(field) => read_dynamic_field(context, field, value),
+        None => Err(refused(value.at, JsonReadCause::BadValue)),
+    }
+}
+
+/// A message of one field that may hold a Struct or a ListValue.
+#[cycle(read)]
+fn read_dynamic_field(
+    context: &Context<'_>,
+    field: &Field,
+    value: &JsonValue,
+) -> Result<Body, JsonReadError>
+    requires { NamesType (length context.now.pool.now.messages) (length context.now.pool.now.enums) field.now.kind }
+    ensures { Answers body_view (ReadsAlone (Some (field_view field.now)) value.now.at
+        (DeepOf context.now.pool.now context.now.rules value.now.at (form_view value.now.form))) result }
+{
+    let content = read_deep(context, field.shape, field.kind, value)?;
+    alone(context.alloc, field.shape, field.number, content)
+}
+
+/// What a field holds that may be a Struct or a ListValue.
+#[cycle(read)]
+fn read_deep(
+    context: &Context<'_>,
+    shape: Shape,
+    kind: Kind,
+    value: &JsonValue,
+) -> Result<Option<Content>, JsonReadError>
+    requires { NamesType (length context.now.pool.now.messages) (length context.now.pool.now.enums) kind }
+    ensures { Answers (option_map content_view)
+        (DeepOf context.now.pool.now context.now.rules value.now.at (form_view value.now.form) shape kind) result }
+{
+    match shape {
+        Shape::Implicit => read_deep_one(context, kind, value),
+        Shape::Explicit => read_deep_one(context, kind, value),
+        Shape::OneofMember(_) => read_deep_one(context, kind, value),
+        Shape::List { packed: _ } => read_listed(context, kind, value),
+        Shape::Map { key } => read_mapped(context, key, kind, value),
+    }
+}
+
+/// What a field of one value holds, which may be a Struct or a ListValue.
+#[cycle(read)]
+fn read_deep_one(
+    context: &Context<'_>,
+    kind: Kind,
+    value: &JsonValue,
+) -> Result<Option<Content>, JsonReadError>
+    requires { NamesType (length context.now.pool.now.messages) (length context.now.pool.now.enums) kind }
+    ensures { Answers (option_map content_view) (Made (ReadsSingle context.now.pool.now context.now.rules kind value.now.at (form_view value.now.form)
+        (NestedOf context.now.pool.now context.now.rules value.now.at (form_view value.now.form))) (option_map one)) result }
+{
+    match read_deep_single(context, kind, value)? {
+        Some(one) => Ok(Some(Content::One(one))),
+        None => Ok(None),
+    }
+}
+
+/// A value of a kind, which may be a Struct or a ListValue.
+#[cycle(read)]
+fn read_deep_single(
+    context: &Context<'_>,
+    kind: Kind,
+    value: &JsonValue,
+) -> Result<Option<Value>, JsonReadError>
+    requires { NamesType (length context.now.pool.now.messages) (length context.now.pool.now.enums) kind }
+    ensures { Answers (option_map value_view) (ReadsSingle context.now.pool.now context.now.rules kind value.now.at (form_view value.now.form)
+        (NestedOf context.now.pool.now context.now.rules value.now.at (form_view value.now.form))) result }
+{
+    match kind.message() {
+        Some(id) => read_nested_value(context, id, value),
+        None => read_plain(context, kind, value),
+    }
+}
+
+/// A Struct or a ListValue as a value.
+#[cycle(read)]
+fn read_nested_value(
+    context: &Context<'_>,
+    id: MessageId,
+    value: &JsonValue,
+) -> Result<Option<Value>, JsonReadError>
+    requires { id.0 < length context.now.pool.now.messages }
+    ensures { Answers (option_map value_view) (Made (NestedOf context.now.pool.now context.now.rules value.now.at (form_view value.now.form) id.0)
+        (λ b. Some (message b))) result }
+{
+    let body = read_nested(context, id, value)?;
+    Ok(Some(Value::Message(body)))
+}
+
+/// A Struct or a ListValue.
+#[cycle(read)]
+fn read_nested(
+    context: &Context<'_>,
+    id: MessageId,
+    value: &JsonValue,
+) -> Result<Body, JsonReadError>
+    requires { id.0 < length context.now.pool.now.messages }
+    ensures { Answers body_view (NestedOf context.now.pool.now context.now.rules value.now.at (form_view value.now.form) id.0) result }
+{
+    if is_sole(well_known(context.pool, id)) {
+        read_sole(context, id, value)
+    } else {
+        Err(refused(value.at, JsonReadCause::BadValue))
+    }
 }

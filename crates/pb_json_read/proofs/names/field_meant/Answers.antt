@@ -6,7 +6,7 @@ use Rattle.pb_schema.specs.declared.types.MessageType.{MessageType}
 use Rattle.pb_schema.specs.Types.{FieldView, MessageView, fields_of_message, message_fields}
 use Rattle.pb_schema.specs.View.{field_view, message_view}
 use Rattle.pb_schema.proofs.LookupLemmas.{get_viewed, found_rules}
-use Rattle.pb_json_read.specs.JsonNames.{lower_camel}
+use Rattle.pb_json.specs.JsonNames.{lower_camel}
 use Rattle.pb_json_read.proofs.names.field_meant.Goals as goal
 
 pub returns-in-None-clause-rules : goal.returns-in-None-clause-rules

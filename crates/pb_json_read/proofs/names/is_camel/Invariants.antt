@@ -1,6 +1,6 @@
 use Rattle.std.proofs.Common.{◌≡◌, ◌≤◌, length}
 use Rattle.std.specs.Str.{bytes_eq}
-use Rattle.pb_json_read.specs.JsonNames.{lower_camel}
+use Rattle.pb_json.specs.JsonNames.{lower_camel}
 use Rattle.pb_json_read.proofs.NameLemmas.{is_rest}
 use Rattle.pb_json_read.proofs.names.is_camel.Given as goal
 

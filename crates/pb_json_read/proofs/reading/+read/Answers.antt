@@ -1,4 +1,4 @@
-use Rattle.std.proofs.Common.{◌+◌, List, Bool, drop, drop_of_length-le, Option, Some, Ok, Err, inr, refl, sym, subst, ap, ◌∙◌}
+use Rattle.std.proofs.Common.{ℕ, ◌+◌, List, Bool, drop, drop_of_length-le, Option, Some, Ok, Err, inr, refl, sym, subst, ap, ◌∙◌}
 use Rattle.std.proofs.lemmas.Result.{err_from_is_err_and, on_ok_weaker}
 use Rattle.std.specs.Prelude.{option_map}
 use Rattle.pb_json_text.specs.View.{elements_view, members_view, form_view}
@@ -12,7 +12,15 @@ use Rattle.pb_value.specs.Data.{Datums, Entries, one, list, map, message}
 use Rattle.pb_value.specs.View.{body_view, content_view, entries_view, key_view, value_view, values_view}
 use Rattle.pb_value.proofs.Views.{content_view-One, content_view-List, content_view-Map, value_view-Message}
 use Rattle.pb_json_read.specs.Answers.{Changes, named, parts_view}
-use Rattle.pb_json_read.specs.Reads.{Made, Parts, with_number, with_oneof, with_entry, with_held, is_absent, ReadsScalar, ReadsMemberUnder, ReadsMemberEntry, ReadsElements, ReadsEntries, ReadsMembers, ReadsMember, ReadsMemberHeld, ReadsHeld, ReadsContent, ReadsValue, ReadsMessage}
+use Rattle.pb_json_read.specs.Steps.{Made, Parts, with_number, with_oneof, with_entry, with_held, is_absent, ReadsScalar, ReadsHeld}
+use Rattle.pb_json_read.specs.Reads.{ReadsMemberUnder, ReadsMemberEntry, ReadsElements, ReadsEntries, ReadsMembers, ReadsMember, ReadsMemberHeld, ReadsContent, ReadsValue, ReadsMessage}
+use Rattle.pb_json.specs.declared.well_known.WellKnown.TheVariants.{Other, Wrapper, Struct, ListValue, Value, Timestamp, Duration, FieldMask, Unsupported}
+use Rattle.pb_json_read.specs.Answers.{Answers}
+use Rattle.pb_json_read.specs.Steps.{ReadsOf, nothing}
+use Rattle.pb_json_read.specs.Forms.{ReadsAlone, Where}
+use Rattle.pb_json_read.specs.Reads.{FlatOf, SoleOf, NestedOf, DeepOf}
+use Rattle.pb_json_read.specs.WellKnown.{is_sole}
+use Rattle.pb_json_read.proofs.ReadLemmas.{form_answers, none_answers, answers_done}
 use Rattle.pb_json_read.proofs.ReadLemmas.{made_ok, made_err, after_ok, after_err, or_weaker, answers_weaker, changes_weaker, changes_done, content_as, value_plain, value_inside}
 use Rattle.pb_json_read.proofs.ReadLemmas.{members_step, members_stop, entries_step, entries_stop, elements_step, elements_stop}
 use Rattle.pb_json_read.proofs.EntryLemmas.{key_of_kind, under_taken, under_free, entry_keys, entry_under, entry_none}
@@ -97,8 +105,45 @@ read_entries-returns t c =
     c.loop-member.invariant.left (Ok (entries_view c.loop-member.entries.map.entries))
     (subst (λ (ms : List JsonMember). ReadsEntries c.args.context.now.pool.now c.args.context.now.rules c.args.key c.args.kind (entries_view c.loop-member.entries.map.entries) (members_view ms) (Ok (entries_view c.loop-member.entries.map.entries))) (sym none) refl)
 
-pub read_message-returns-in-Object : goal.read_message-returns-in-Object
-read_message-returns-in-Object t c = rw (c.in-Object.is, form_view-Object) c.read_members.ensures
+pub read_object-returns-in-Object : goal.read_object-returns-in-Object
+read_object-returns-in-Object t c = rw (c.in-Object.is, form_view-Object) c.read_members.ensures
+
+pub read_message-returns-in-Other : goal.read_message-returns-in-Other
+read_message-returns-in-Other t c =
+    form_answers c.args.context.now.pool.now c.args.context.now.rules c.args.id.0 c.args.value.now.at (form_view c.args.value.now.form) Other (sym c.well_known.ensures ∙ c.in-Other.is) _ c.read_object.ensures
+
+pub read_message-returns-in-Wrapper : goal.read_message-returns-in-Wrapper
+read_message-returns-in-Wrapper t c =
+    form_answers c.args.context.now.pool.now c.args.context.now.rules c.args.id.0 c.args.value.now.at (form_view c.args.value.now.form) Wrapper (sym c.well_known.ensures ∙ c.in-Wrapper.is) _ c.read_sole.ensures
+
+pub read_message-returns-in-Struct : goal.read_message-returns-in-Struct
+read_message-returns-in-Struct t c =
+    form_answers c.args.context.now.pool.now c.args.context.now.rules c.args.id.0 c.args.value.now.at (form_view c.args.value.now.form) Struct (sym c.well_known.ensures ∙ c.in-Struct.is) _ c.read_sole-in-Struct.ensures
+
+pub read_message-returns-in-ListValue : goal.read_message-returns-in-ListValue
+read_message-returns-in-ListValue t c =
+    form_answers c.args.context.now.pool.now c.args.context.now.rules c.args.id.0 c.args.value.now.at (form_view c.args.value.now.form) ListValue (sym c.well_known.ensures ∙ c.in-ListValue.is) _ c.read_sole-in-ListValue.ensures
+
+pub read_message-returns-in-Value : goal.read_message-returns-in-Value
+read_message-returns-in-Value t c =
+    form_answers c.args.context.now.pool.now c.args.context.now.rules c.args.id.0 c.args.value.now.at (form_view c.args.value.now.form) Value (sym c.well_known.ensures ∙ c.in-Value.is) _ c.read_dynamic.ensures
+
+pub read_message-returns-in-Timestamp : goal.read_message-returns-in-Timestamp
+read_message-returns-in-Timestamp t c =
+    form_answers c.args.context.now.pool.now c.args.context.now.rules c.args.id.0 c.args.value.now.at (form_view c.args.value.now.form) Timestamp (sym c.well_known.ensures ∙ c.in-Timestamp.is) _ c.read_point.ensures
+
+pub read_message-returns-in-Duration : goal.read_message-returns-in-Duration
+read_message-returns-in-Duration t c =
+    form_answers c.args.context.now.pool.now c.args.context.now.rules c.args.id.0 c.args.value.now.at (form_view c.args.value.now.form) Duration (sym c.well_known.ensures ∙ c.in-Duration.is) _ c.read_span.ensures
+
+pub read_message-returns-in-FieldMask : goal.read_message-returns-in-FieldMask
+read_message-returns-in-FieldMask t c =
+    form_answers c.args.context.now.pool.now c.args.context.now.rules c.args.id.0 c.args.value.now.at (form_view c.args.value.now.form) FieldMask (sym c.well_known.ensures ∙ c.in-FieldMask.is) _ c.read_field_mask.ensures
+
+pub read_message-returns-in-Unsupported : goal.read_message-returns-in-Unsupported
+read_message-returns-in-Unsupported t c =
+    form_answers c.args.context.now.pool.now c.args.context.now.rules c.args.id.0 c.args.value.now.at (form_view c.args.value.now.form) Unsupported (sym c.well_known.ensures ∙ c.in-Unsupported.is) (Err c.bad_value.result)
+    (none_answers body_view c.args.value.now.at _ c.bad_value.ensures)
 
 pub read_list-returns-in-Array : goal.read_list-returns-in-Array
 read_list-returns-in-Array t c = rw (c.in-Array.is, form_view-Array) c.read_elements.ensures
@@ -246,3 +291,112 @@ read_entry-returns-in-Some-clause-keys t c = λ keys.
 pub read_entry-returns-in-None-clause-read : goal.read_entry-returns-in-None-clause-read
 read_entry-returns-in-None-clause-read t c = λ keys.
     inr (entry_none c.args.key (named c.args.member.now).1 (named c.args.member.now).0 (λ r. ReadsValue c.args.context.now.pool.now c.args.context.now.rules c.args.kind (named c.args.member.now).2.0 (named c.args.member.now).2.1 r) (entries_view c.args.entries.now.map.entries) _ (rw (c.as_str.ensures.value, c.in-None.is) at c.in_ok-name.ensures) c.refused.ensures)
+
+pub read_sole-returns-in-Some : goal.read_sole-returns-in-Some
+read_sole-returns-in-Some t c =
+    subst (λ (f : Option FieldView). Answers body_view (ReadsAlone f c.args.value.now.at (FlatOf c.args.context.now.pool.now c.args.context.now.rules c.args.value.now.at (form_view c.args.value.now.form))) c.read_alone.result)
+    c.in-Some.ensures.found c.read_alone.ensures
+
+pub read_sole-returns-in-None : goal.read_sole-returns-in-None
+read_sole-returns-in-None t c =
+    subst (λ (f : Option FieldView). Answers body_view (ReadsAlone f c.args.value.now.at (FlatOf c.args.context.now.pool.now c.args.context.now.rules c.args.value.now.at (form_view c.args.value.now.form))) (Err c.refused.result))
+    c.in-None.ensures.found (none_answers body_view c.args.value.now.at _ c.refused.ensures)
+
+pub read_alone-returns-in_err-content : goal.read_alone-returns-in_err-content
+read_alone-returns-in_err-content t c =
+    let p = err_from_is_err_and c.from_residual.result c.from_residual.ensures.1 in
+    rw (p.1, p.2) (made_err (FlatOf c.args.context.now.pool.now c.args.context.now.rules c.args.value.now.at (form_view c.args.value.now.form) c.args.field.now.shape c.args.field.now.kind) (λ h. (with_held c.args.field.now.shape c.args.field.now.number h nothing).message) _ c.in_err-content.ensures)
+
+pub read_alone-returns : goal.read_alone-returns
+read_alone-returns t c =
+    answers_done body_view (FlatOf c.args.context.now.pool.now c.args.context.now.rules c.args.value.now.at (form_view c.args.value.now.form) c.args.field.now.shape c.args.field.now.kind) (λ h. (with_held c.args.field.now.shape c.args.field.now.number h nothing).message)
+    (option_map content_view c.in_ok-content.content) c.alone.result c.alone.ensures.made c.alone.ensures.memory c.in_ok-content.ensures
+
+pub read_flat-returns-in-Implicit : goal.read_flat-returns-in-Implicit
+read_flat-returns-in-Implicit t c = rw (c.in-Implicit.is) c.read_plain_one.ensures
+
+pub read_flat-returns-in-Explicit : goal.read_flat-returns-in-Explicit
+read_flat-returns-in-Explicit t c = rw (c.in-Explicit.is) c.read_plain_one-in-Explicit.ensures
+
+pub read_flat-returns-in-OneofMember : goal.read_flat-returns-in-OneofMember
+read_flat-returns-in-OneofMember t c = rw (c.in-OneofMember.is) c.read_plain_one-in-OneofMember.ensures
+
+pub read_flat-returns-in-List : goal.read_flat-returns-in-List
+read_flat-returns-in-List t c = rw (c.in-List.is) c.read_listed.ensures
+
+pub read_flat-returns-in-Map : goal.read_flat-returns-in-Map
+read_flat-returns-in-Map t c = rw (c.in-Map.is) c.read_mapped.ensures
+
+pub read_dynamic-returns-in-Some : goal.read_dynamic-returns-in-Some
+read_dynamic-returns-in-Some t c =
+    subst (λ (f : Option FieldView). Answers body_view (ReadsAlone f c.args.value.now.at (DeepOf c.args.context.now.pool.now c.args.context.now.rules c.args.value.now.at (form_view c.args.value.now.form))) c.read_dynamic_field.result)
+    (rw c.field_for.ensures at c.in-Some.ensures.found) c.read_dynamic_field.ensures
+
+pub read_dynamic-returns-in-None : goal.read_dynamic-returns-in-None
+read_dynamic-returns-in-None t c =
+    subst (λ (f : Option FieldView). Answers body_view (ReadsAlone f c.args.value.now.at (DeepOf c.args.context.now.pool.now c.args.context.now.rules c.args.value.now.at (form_view c.args.value.now.form))) (Err c.refused.result))
+    (rw c.field_for.ensures at c.in-None.ensures.found) (none_answers body_view c.args.value.now.at _ c.refused.ensures)
+
+pub read_dynamic_field-returns-in_err-content : goal.read_dynamic_field-returns-in_err-content
+read_dynamic_field-returns-in_err-content t c =
+    let p = err_from_is_err_and c.from_residual.result c.from_residual.ensures.1 in
+    rw (p.1, p.2) (made_err (DeepOf c.args.context.now.pool.now c.args.context.now.rules c.args.value.now.at (form_view c.args.value.now.form) c.args.field.now.shape c.args.field.now.kind) (λ h. (with_held c.args.field.now.shape c.args.field.now.number h nothing).message) _ c.in_err-content.ensures)
+
+pub read_dynamic_field-returns : goal.read_dynamic_field-returns
+read_dynamic_field-returns t c =
+    answers_done body_view (DeepOf c.args.context.now.pool.now c.args.context.now.rules c.args.value.now.at (form_view c.args.value.now.form) c.args.field.now.shape c.args.field.now.kind) (λ h. (with_held c.args.field.now.shape c.args.field.now.number h nothing).message)
+    (option_map content_view c.in_ok-content.content) c.alone.result c.alone.ensures.made c.alone.ensures.memory c.in_ok-content.ensures
+
+pub read_deep-returns-in-Implicit : goal.read_deep-returns-in-Implicit
+read_deep-returns-in-Implicit t c = rw (c.in-Implicit.is) c.read_deep_one.ensures
+
+pub read_deep-returns-in-Explicit : goal.read_deep-returns-in-Explicit
+read_deep-returns-in-Explicit t c = rw (c.in-Explicit.is) c.read_deep_one-in-Explicit.ensures
+
+pub read_deep-returns-in-OneofMember : goal.read_deep-returns-in-OneofMember
+read_deep-returns-in-OneofMember t c = rw (c.in-OneofMember.is) c.read_deep_one-in-OneofMember.ensures
+
+pub read_deep-returns-in-List : goal.read_deep-returns-in-List
+read_deep-returns-in-List t c = rw (c.in-List.is) c.read_listed.ensures
+
+pub read_deep-returns-in-Map : goal.read_deep-returns-in-Map
+read_deep-returns-in-Map t c = rw (c.in-Map.is) c.read_mapped.ensures
+
+pub read_deep_one-returns-in_err-one : goal.read_deep_one-returns-in_err-one
+read_deep_one-returns-in_err-one t c =
+    let p = err_from_is_err_and c.from_residual.result c.from_residual.ensures.1 in
+    rw (p.1, p.2) (made_err _ (option_map one) _ c.in_err-one.ensures)
+
+pub read_deep_one-returns-in-Some : goal.read_deep_one-returns-in-Some
+read_deep_one-returns-in-Some t c = made_ok _ (option_map one) (option_map value_view c.in_ok-one.field-0) _ (rw (content_view-One, c.in-Some.is) refl) c.in_ok-one.ensures
+
+pub read_deep_one-returns-in-None : goal.read_deep_one-returns-in-None
+read_deep_one-returns-in-None t c = made_ok _ (option_map one) (option_map value_view c.in_ok-one.field-0) _ (rw (c.in-None.is) refl) c.in_ok-one.ensures
+
+pub read_deep_single-returns-in-Some : goal.read_deep_single-returns-in-Some
+read_deep_single-returns-in-Some t c =
+    subst (λ (m : Option ℕ). Answers (option_map value_view) (ReadsOf m (ReadsScalar c.args.context.now.pool.now c.args.context.now.rules c.args.kind c.args.value.now.at (form_view c.args.value.now.form)) (NestedOf c.args.context.now.pool.now c.args.context.now.rules c.args.value.now.at (form_view c.args.value.now.form))) c.read_nested_value.result)
+    c.in-Some.ensures.named c.read_nested_value.ensures
+
+pub read_deep_single-returns-in-None : goal.read_deep_single-returns-in-None
+read_deep_single-returns-in-None t c =
+    subst (λ (m : Option ℕ). Answers (option_map value_view) (ReadsOf m (ReadsScalar c.args.context.now.pool.now c.args.context.now.rules c.args.kind c.args.value.now.at (form_view c.args.value.now.form)) (NestedOf c.args.context.now.pool.now c.args.context.now.rules c.args.value.now.at (form_view c.args.value.now.form))) c.read_plain.result)
+    c.in-None.ensures.named c.read_plain.ensures
+
+pub read_nested_value-returns-in_err-body : goal.read_nested_value-returns-in_err-body
+read_nested_value-returns-in_err-body t c =
+    let p = err_from_is_err_and c.from_residual.result c.from_residual.ensures.1 in
+    rw (p.1, p.2) (made_err _ (λ b. Some (message b)) _ c.in_err-body.ensures)
+
+pub read_nested_value-returns : goal.read_nested_value-returns
+read_nested_value-returns t c = made_ok _ (λ b. Some (message b)) (body_view c.in_ok-body.body) _ (rw value_view-Message refl) c.in_ok-body.ensures
+
+pub read_nested-returns-then-is_sole : goal.read_nested-returns-then-is_sole
+read_nested-returns-then-is_sole t c =
+    subst (λ (b : Bool). Answers body_view (Where b c.args.value.now.at (SoleOf c.args.context.now.pool.now c.args.context.now.rules c.args.value.now.at (form_view c.args.value.now.form) c.args.id.0)) c.read_sole.result)
+    (sym c.if-is_sole.true ∙ c.is_sole.ensures ∙ ap is_sole c.well_known.ensures) c.read_sole.ensures
+
+pub read_nested-returns-else-is_sole : goal.read_nested-returns-else-is_sole
+read_nested-returns-else-is_sole t c =
+    subst (λ (b : Bool). Answers body_view (Where b c.args.value.now.at (SoleOf c.args.context.now.pool.now c.args.context.now.rules c.args.value.now.at (form_view c.args.value.now.form) c.args.id.0)) (Err c.refused.result))
+    (sym c.if-is_sole.false ∙ c.is_sole.ensures ∙ ap is_sole c.well_known.ensures) (none_answers body_view c.args.value.now.at _ c.refused.ensures)

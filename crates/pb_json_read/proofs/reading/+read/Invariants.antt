@@ -5,7 +5,8 @@ use Rattle.pb_value.specs.Change.{AreKeys}
 use Rattle.pb_value.specs.Data.{no_datums, no_entries, Datums, Entries}
 use Rattle.pb_value.specs.View.{entries_view, values_view}
 use Rattle.pb_json_read.specs.Answers.{parts_view}
-use Rattle.pb_json_read.specs.Reads.{Read, Parts, nothing, ReadsElements, ReadsEntries, ReadsMembers}
+use Rattle.pb_json_read.specs.Steps.{Read, Parts, nothing}
+use Rattle.pb_json_read.specs.Reads.{ReadsElements, ReadsEntries, ReadsMembers}
 use Rattle.pb_json_read.proofs.reading.+read.Given as goal
 
 abbrev pub invariant-read_members-loop-member : goal.invariant-read_members-loop-member

@@ -1,3 +1,4 @@
+use Rattle.std.proofs.Common.{Err}
 use Rattle.std.proofs.lemmas.Result.{err_from_is_err_and}
 use Rattle.pb_json_read.proofs.TextLemmas.{no_text_fault, no_text_accepted, no_text_refused, read_fault, fault_accepted, fault_refused}
 use Rattle.pb_json_read.proofs.TextLemmas.{at_value, all_read, all_fault, all_accepted, all_refused}
@@ -22,19 +23,19 @@ pub returns-in_err-body-clause-fault : goal.returns-in_err-body-clause-fault
 returns-in_err-body-clause-fault c =
     let p = err_from_is_err_and c.from_residual-in_err-body.result c.from_residual-in_err-body.ensures.1 in
     let v = c.in_ok-value.ensures in
-    rw (p.1, p.2) (read_fault c.args.pool.now c.args.rules c.args.message_type.0 c.args.bytes.now c.in_ok-value.value v.accepted v.refused v.value _ (at_value _ _ _ _ _ c.in_err-body.ensures))
+    rw (p.1, p.2) (read_fault c.args.pool.now c.args.rules c.args.message_type.0 c.args.bytes.now c.in_ok-value.value v.accepted v.refused v.value _ (at_value c.args.pool.now c.args.rules c.args.message_type.0 c.in_ok-value.value (Err _) c.in_err-body.ensures))
 
 pub returns-in_err-body-clause-accepted : goal.returns-in_err-body-clause-accepted
 returns-in_err-body-clause-accepted c =
     let p = err_from_is_err_and c.from_residual-in_err-body.result c.from_residual-in_err-body.ensures.1 in
     let v = c.in_ok-value.ensures in
-    rw (p.1, p.2) (fault_accepted c.args.pool.now c.args.rules c.args.message_type.0 c.args.bytes.now c.in_ok-value.value v.accepted v.refused v.value _ (at_value _ _ _ _ _ c.in_err-body.ensures))
+    rw (p.1, p.2) (fault_accepted c.args.pool.now c.args.rules c.args.message_type.0 c.args.bytes.now c.in_ok-value.value v.accepted v.refused v.value _ (at_value c.args.pool.now c.args.rules c.args.message_type.0 c.in_ok-value.value (Err _) c.in_err-body.ensures))
 
 pub returns-in_err-body-clause-refused : goal.returns-in_err-body-clause-refused
 returns-in_err-body-clause-refused c =
     let p = err_from_is_err_and c.from_residual-in_err-body.result c.from_residual-in_err-body.ensures.1 in
     let v = c.in_ok-value.ensures in
-    rw (p.1, p.2) (fault_refused c.args.pool.now c.args.rules c.args.message_type.0 c.args.bytes.now c.in_ok-value.value v.accepted v.refused v.value _ (at_value _ _ _ _ _ c.in_err-body.ensures))
+    rw (p.1, p.2) (fault_refused c.args.pool.now c.args.rules c.args.message_type.0 c.args.bytes.now c.in_ok-value.value v.accepted v.refused v.value _ (at_value c.args.pool.now c.args.rules c.args.message_type.0 c.in_ok-value.value (Err _) c.in_err-body.ensures))
 
 pub returns-clause-read : goal.returns-clause-read
 returns-clause-read c =
