@@ -22,9 +22,31 @@ class Refused(ValueError):
         self.frame = self.at = None
         super().__init__(where, cause)
 
+    def names(self, message_type):
+        """The path with names in place of numbers, by the type that the bytes were read as: steps (name, before), outermost first; or, of a part that
+        has no JSON form, the names of the fields. A map's entry is a step into its field, and what is in it `key` or `value`. A number that no field
+        of its type has stays a number."""
+        found, inside = [], (message_type, None)
+        for step in self.path or ():
+            number, *before = step if isinstance(step, tuple) else (step,)
+            name, inside = named(inside, number, bool(before))
+            found.append((name, *before) if before else name)
+        return tuple(found)
+
     def __str__(self):
         before = "" if self.frame is None else f"frame {self.frame} "
         return f"{before}{self.where} cause {self.cause}"
+
+
+def named(inside, number, has_entries):
+    """The name that a number has in a message type, or in an entry of a map's field, and what is inside there; or the number, and nothing."""
+    message_type, entry = inside
+    if entry is not None:
+        return {1: "key", 2: "value"}.get(number, number), (entry.type if number == 2 else None, None)
+    field = next((it for it in message_type.fields if it.number == number), None) if message_type is not None else None
+    if field is None:
+        return number, (None, None)
+    return field.name, (None, field) if field.shape == "map" and has_entries else (field.type, None)
 
 
 def fault(byte, path, cause, before=""):

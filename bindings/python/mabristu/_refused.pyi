@@ -1,5 +1,7 @@
 from typing import Optional, Union
 
+from ._mabristu import MessageType
+
 CAUSES: dict[int, str]
 
 class Refused(ValueError):
@@ -12,3 +14,4 @@ class Refused(ValueError):
     name: Optional[str]
     frame: Optional[int]
     at: Optional[int]
+    def names(self, message_type: MessageType) -> tuple[Union[str, int, tuple[Union[str, int], int]], ...]: ...

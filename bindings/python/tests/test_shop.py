@@ -66,6 +66,16 @@ class Messages(Shop):
         found = Pool.of_sources({"t.proto": stamp, "e.proto": event})["Event"].decode(b"\x1a\x00\x1a\x07\x08\x80\x80\x80\x80\x80\x20")
         refused = self.refused(found.to_json)
         self.assertEqual((str(refused), refused.path, refused.number), ("json path 3 cause OutOfRange", (3,), 93))
+        self.assertEqual(refused.names(found.type), ("at",))
+
+    def test_names_of_a_path(self):
+        # Bad UTF-8 in the article of the second line, in a key, and in the address of the invoice; a group of no field that does not end.
+        rows = [(b"\x1a\x03\x0a\x01a\x1a\x03\x0a\x01\xff", (("lines", 1), ("article", 0))),
+                (b"\x22\x03\x0a\x01\xff", (("discounts", 0), ("key", 0))),
+                (b"\x32\x03\x0a\x01\xff", (("invoice", 0), ("address", 0))),
+                (b"\x9b\x06\x08", ((99, 0), (1, 0)))]
+        for data, names in rows:
+            self.assertEqual(self.refused(self.order.check, data).names(self.order), names)
 
     def test_canonical_bytes(self):
         # Number 1 with an overlong varint.

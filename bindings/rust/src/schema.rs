@@ -3,7 +3,7 @@ use crate::calls;
 use crate::message_type::{kind_name, text, Field};
 use crate::structs::{Counts, Enum as EnumReport, Field as FieldReport, File as FileReport, Type as TypeReport};
 use crate::told::{written_alone, Told};
-use crate::{Error, MessageType, Pool, Shape};
+use crate::{Error, MessageType, Pool, Shape, Step};
 use std::{fmt, ptr};
 
 /// A file.
@@ -144,6 +144,33 @@ impl MessageType {
             }
         }
         Ok(None)
+    }
+
+    /// The names of the steps of a fault's path, by the type that the bytes were read as: a field's name, in an entry of a map `key` or `value`, or the
+    /// number where no field has it.
+    pub fn path_names(&self, path: &[Step]) -> Result<Vec<String>, Error> {
+        let (mut names, mut inside, mut entry) = (Vec::new(), Some(self.clone()), None);
+        for Step { number, .. } in path {
+            if let Some(field) = entry.take() {
+                names.push(match number {
+                    1 => "key".to_owned(),
+                    2 => "value".to_owned(),
+                    _ => number.to_string(),
+                });
+                inside = if *number == 2 { self.inner(&field) } else { None };
+                continue;
+            }
+            let fields = inside.as_ref().map_or(Ok(Vec::new()), MessageType::fields)?;
+            let Some(DeclaredField { name, field, .. }) = fields.into_iter().find(|it| it.field.number == *number) else {
+                names.push(number.to_string());
+                inside = None;
+                continue;
+            };
+            names.push(name);
+            inside = if field.shape == Shape::Map { None } else { self.inner(&field) };
+            entry = (field.shape == Shape::Map).then_some(field);
+        }
+        Ok(names)
     }
 
     /// The fields, in the order of their declarations.

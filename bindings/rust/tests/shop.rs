@@ -54,6 +54,22 @@ fn writes_what_it_read() {
 }
 
 #[test]
+fn names_the_steps_of_a_path() {
+    // Bad UTF-8 in the article of the second line, in a key, and in the address of the invoice; a group of no field that does not end.
+    let order = order();
+    let rows: [(&[u8], &[&str]); 4] = [
+        (b"\x1a\x03\x0a\x01a\x1a\x03\x0a\x01\xff", &["lines", "article"]),
+        (b"\x22\x03\x0a\x01\xff", &["discounts", "key"]),
+        (b"\x32\x03\x0a\x01\xff", &["invoice", "address"]),
+        (b"\x9b\x06\x08", &["99", "1"]),
+    ];
+    for (bytes, names) in rows {
+        let Err(Error::Fault { path, .. }) = order.check(bytes) else { panic!("no fault") };
+        assert_eq!(order.path_names(&path).unwrap(), names);
+    }
+}
+
+#[test]
 fn refuses_with_byte_path_and_cause() {
     let order = order();
     // In the second of two lines (3) the article (1) is longer than the line.
