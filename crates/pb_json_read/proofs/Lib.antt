@@ -13,5 +13,6 @@ pub mod EntryLemmas
 pub mod TextsLemmas
 -- small cases, worked out by the definitions
 mod Rows
+mod FormRows
 -- for the whole call
 pub mod TextLemmas

@@ -1,5 +1,5 @@
 -- What a JSON value is read as, member by member, or the first fault in it (ProtoJSON format).
-use Rattle.std.specs.Prelude.{◌≡◌, ℕ, List, false, Option, Some, Ok}
+use Rattle.std.specs.Prelude.{◌≡◌, ℕ, List, false, Option, Ok}
 use Rattle.pb_schema.specs.declared.types.Kind.{Kind}
 use Rattle.pb_schema.specs.declared.types.Shape.{Shape}
 use Rattle.pb_schema.specs.Types.{FieldView, Types, message_fields}

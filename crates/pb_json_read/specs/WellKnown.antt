@@ -1,9 +1,9 @@
 -- What the types with a form of their own are read by (ProtoJSON format, "JSON representation"; struct.proto; wrappers.proto; timestamp.proto;
 -- duration.proto; field_mask.proto).
-use Rattle.std.specs.Prelude.{ℕ, pos, List, [], ◌∷◌, Bool, true, false, ◌&&◌, Option, Some, None, option_map, option_and_then, if◌then◌else◌}
+use Rattle.std.specs.Prelude.{ℕ, pos, List, [], ◌∷◌, Bool, true, false, ◌&&◌, Option, Some, None, option_and_then, if◌then◌else◌}
 use Rattle.pb_schema.specs.Types.{FieldView, field_numbered}
 use Rattle.pb_schema.specs.Scalar.{Scalar, int32, int64, text}
-use Rattle.pb_value.specs.Data.{scalar, Datums, no_datums, datum, Holding, one, list}
+use Rattle.pb_value.specs.Data.{scalar, Datums, no_datums, datum, one, list}
 use Rattle.pb_value.specs.Judge.{has_shape, is_scalar_of}
 use Rattle.pb_json.specs.declared.well_known.WellKnown.{WellKnown}
 use Rattle.pb_json.specs.declared.well_known.WellKnown.TheVariants.{Other, Wrapper, Struct, ListValue, Value, Timestamp, Duration, FieldMask, Unsupported}
