@@ -28,7 +28,7 @@ use Rattle.pb_compat.proofs.ScalarLemmas.{MeansTo, scalars_kept}
 -- KINDS
 
 -- a payload that a kind reads has the kind's wire type, and the kind is no message
-read_wire : (k : Kind) (p : Payload) (y : Scalar) → read k p ≡ Some y → wire_type p ≡ wire_type_of k
+pub read_wire : (k : Kind) (p : Payload) (y : Scalar) → read k p ≡ Some y → wire_type p ≡ wire_type_of k
 read_wire kind.Int32 (varint n) y e = refl
 read_wire kind.Int64 (varint n) y e = refl
 read_wire kind.Uint32 (varint n) y e = refl
@@ -48,19 +48,19 @@ read_wire kind.Text (len s) y e = refl
 read_wire kind.Bytes (len s) y e = refl
 read_wire k p y e = absurd (cc)
 
-read_scalar : (k : Kind) (p : Payload) (y : Scalar) → read k p ≡ Some y → message_of_kind k ≡ None
+pub read_scalar : (k : Kind) (p : Payload) (y : Scalar) → read k p ≡ Some y → message_of_kind k ≡ None
 read_scalar (kind.Message m) p y e = absurd (cc)
 read_scalar (kind.Group m) p y e = absurd (cc)
 read_scalar k p y e = refl
 
-packable_wire : (k : Kind) → is_packable k ≡ true → (wire_type_of k ≡ 2 → ⊥) × (wire_type_of k ≡ 3 → ⊥)
+pub packable_wire : (k : Kind) → is_packable k ≡ true → (wire_type_of k ≡ 2 → ⊥) × (wire_type_of k ≡ 3 → ⊥)
 packable_wire kind.Text can = absurd (cc)
 packable_wire kind.Bytes can = absurd (cc)
 packable_wire (kind.Message m) can = absurd (cc)
 packable_wire (kind.Group m) can = absurd (cc)
 packable_wire k can = (λ e. omega (arith, e), λ e. omega (arith, e))
 
-wire_packable : (k : Kind) → (wire_type_of k ≡ 2 → ⊥) × (wire_type_of k ≡ 3 → ⊥) → is_packable k ≡ true
+pub wire_packable : (k : Kind) → (wire_type_of k ≡ 2 → ⊥) × (wire_type_of k ≡ 3 → ⊥) → is_packable k ≡ true
 wire_packable kind.Text other = absurd (other.0 refl)
 wire_packable kind.Bytes other = absurd (other.0 refl)
 wire_packable (kind.Message m) other = absurd (other.0 refl)
@@ -68,7 +68,7 @@ wire_packable (kind.Group m) other = absurd (other.1 refl)
 wire_packable k other = refl
 
 -- what is no packed list has at most one element
-elements_read : (k : Kind) (p : Payload) (y : Scalar) → (is_packable k ≡ true → wire_type p ≡ 2 → ⊥) → read k p ≡ Some y → elements k p ≡ y ∷ []
+pub elements_read : (k : Kind) (p : Payload) (y : Scalar) → (is_packable k ≡ true → wire_type p ≡ 2 → ⊥) → read k p ≡ Some y → elements k p ≡ y ∷ []
 elements_read k (varint n) y few e = ap option_to_list e
 elements_read k (fixed64 n) y few e = ap option_to_list e
 elements_read k (group g) y few e = ap option_to_list e
@@ -77,7 +77,7 @@ elements_read kind.Text (len s) y few e = ap option_to_list e
 elements_read kind.Bytes (len s) y few e = ap option_to_list e
 elements_read k (len s) y few e = absurd (cc)
 
-elements-packed : (k : Kind) (s : List ℕ) → is_packable k ≡ true → elements k (len s) ≡ filter_map (read k) (numbers_of (wire_type_of k) s)
+pub elements-packed : (k : Kind) (s : List ℕ) → is_packable k ≡ true → elements k (len s) ≡ filter_map (read k) (numbers_of (wire_type_of k) s)
 elements-packed kind.Text s can = absurd (cc)
 elements-packed kind.Bytes s can = absurd (cc)
 elements-packed (kind.Message m) s can = absurd (cc)

@@ -119,7 +119,7 @@ open_declared pool k (scalar x) e = open_scalar k x e
     open_scalar k x e = refl
 open_declared pool k (message v) e = refl
 
-key_open : (k : Kind) → IsTrue (is_key_kind k) → closed_enum k ≡ None
+pub key_open : (k : Kind) → IsTrue (is_key_kind k) → closed_enum k ≡ None
 key_open (kind.ClosedEnum i) can = absurd (cc)
 key_open k can = refl
 

@@ -44,3 +44,27 @@ pub mod MessageRows
 pub mod NameLemmas
 -- types of the same full name, in order
 pub mod NamesakeLemmas
+-- what a well-formed message of the new type does not hold as the same
+pub mod NeverLemmas
+-- messages of one field, or of two, that the new type does not read as the same
+pub mod WitnessLemmas
+-- what a message of the new type holds in a field whose records are all known
+pub mod ReadingLemmas
+-- values of messages that show a break
+pub mod SampleLemmas
+-- values that the new kind reads otherwise, or whose records do not fit
+pub mod OtherwiseLemmas
+-- how long the records of small contents are
+pub mod ShortLemmas
+-- which messages show that a change of a field breaks reading
+pub mod ShownLemmas
+-- packed lists of one element that the new kind reads as another one
+pub mod PackedLemmas
+-- maps of one entry whose key or value is unlike what the new kind reads
+pub mod MapLemmas
+-- messages of two fields that the new type has in one oneof
+pub mod PairLemmas
+-- bodies into which a content is put
+pub mod BodyLemmas
+-- the messages that the call builds
+pub mod BuiltLemmas

@@ -27,10 +27,10 @@ and_right false b h = absurd (false≢true h)
 or_left : (a b : Bool) → a ≡ true → (a || b) ≡ true
 or_left a b h = ap (λ x. x || b) h
 
-abbrev AreAscii : List ℕ → Type 0
+abbrev pub AreAscii : List ℕ → Type 0
 AreAscii bs = AllByRecursion (λ c. c < 128) bs
 
-is_ascii : (bs : List ℕ) → AreAscii bs → IsAscii bs
+pub is_ascii : (bs : List ℕ) → AreAscii bs → IsAscii bs
 is_ascii [] all i = omega arith
 is_ascii (c ∷ cs) all zero = all.0
 is_ascii (c ∷ cs) all (suc i) = is_ascii cs all.1 i

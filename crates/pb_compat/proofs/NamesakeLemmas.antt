@@ -1,5 +1,5 @@
 -- Types of the same full name, in order.
-use Rattle.std.proofs.Common.{◌≡◌, ◌+◌, ℕ, List, [], ◌++◌, Option, None, refl, ap}
+use Rattle.std.proofs.Common.{◌≡◌, ◌+◌, ℕ, [], ◌++◌, Option, None, refl, ap}
 use native.Mathlib.Numerals.{unary_clauses}
 use Rattle.std.specs.Prelude.{option_map}
 use Rattle.std.specs.Option.{option_to_list}

@@ -5,6 +5,7 @@ use Rattle.pb_wire.specs.Limits.{full}
 use Rattle.pb_schema.specs.declared.types.Kind.{Kind}
 use Rattle.pb_schema.specs.declared.types.Shape.{Shape}
 use Rattle.pb_schema.specs.Types.{FieldView, Types, message_fields, field_numbered}
+use Rattle.pb_schema.specs.Scalar.{bytes}
 use Rattle.pb_schema.specs.Kinds.{default_of}
 use Rattle.pb_value.specs.Data.{Datum, scalar, message, Datums, no_datums, datum, Entries, no_entries, entry, Holding, one, list, map}
 use Rattle.pb_value.specs.Data.{Fields, no_fields, field, Message, body, get_field, fields_of, unknown_of}
@@ -17,7 +18,7 @@ use Rattle.pb_compat.specs.declared.difference.ComparedTypes.{ComparedTypes}
 use Rattle.pb_compat.specs.declared.difference.Difference.{Difference}
 use Rattle.pb_compat.specs.declared.difference.Severity.{Severity}
 use Rattle.pb_compat.specs.declared.difference.Severity.TheVariants.{BreaksReading, Loses, ChangesPresence, Converts, Renames}
-use Rattle.pb_compat.specs.Scalars.{octets, meaning}
+use Rattle.pb_compat.specs.Scalars.{meaning}
 use Rattle.pb_compat.specs.Pairs.{Reached}
 use Rattle.pb_compat.specs.Fields.{differences_at}
 
@@ -35,11 +36,11 @@ undeclared gs fs = fields_only (λ k. not (has_number gs k)) fs
 
 module _ (old new : Types) where
   abbrev mutual
-    -- A value of the old kind a and one of the new kind b: scalars that mean the same, messages that agree, or a message and its encoding.
+    -- A value of the old kind a and one of the new kind b: scalars that mean the same, messages that agree, or a message and its encoding as bytes.
     pub IsSameValue : Kind → Kind → Datum → Datum → Type 0
     IsSameValue a b (scalar x) (scalar y) = meaning y ≡ meaning x
     IsSameValue a b (message v) (message w) = Agrees (message_type a) (message_type b) v w
-    IsSameValue a b (message v) (scalar y) = meaning y ≡ octets (canon_bytes old (message_type a) v)
+    IsSameValue a b (message v) (scalar y) = y ≡ bytes (canon_bytes old (message_type a) v)
     IsSameValue a b (scalar x) (message w) = ⊥
 
     pub AreSameValues : Kind → Kind → Datums → Datums → Type 0

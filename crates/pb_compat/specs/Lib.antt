@@ -7,3 +7,5 @@ pub mod Agrees
 pub mod Words
 pub mod Namesakes
 pub mod Lines
+pub mod Witness
+pub mod Samples

@@ -13,7 +13,7 @@ use crate::scalars::keeps_scalars;
 use pb_schema::{Field, Kind, Pool, Shape};
 
 /// Whether values of one kind are kept by another. What is in a message is not looked at.
-fn keeps_kind(old: &Pool, new: &Pool, from: Kind, to: Kind) -> bool
+pub(crate) fn keeps_kind(old: &Pool, new: &Pool, from: Kind, to: Kind) -> bool
     requires { NamesType (length old.now.messages) (length old.now.enums) from }
     ensures { result ≡ keeps_value old.now new.now from to }
 {
@@ -41,7 +41,7 @@ fn keeps_kind(old: &Pool, new: &Pool, from: Kind, to: Kind) -> bool
 }
 
 /// Whether values in one shape are kept in another.
-fn keeps_shape(old: &Pool, new: &Pool, from: Shape, to: Shape) -> bool
+pub(crate) fn keeps_shape(old: &Pool, new: &Pool, from: Shape, to: Shape) -> bool
     requires { HasKeyKind from }
     ensures { result ≡ keeps_form old.now new.now from to }
 {

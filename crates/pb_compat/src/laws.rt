@@ -5,6 +5,7 @@ ghost use Rattle.pb_schema.specs.Types.{Types};
 ghost use Rattle.pb_schema.specs.declared.types.Kind.{Kind};
 ghost use Rattle.pb_compat.specs.Scalars.{keeps_scalars, KeepsScalars, ScalarsAreLost};
 ghost use Rattle.pb_compat.specs.Agrees.{ReadsMessages, ReadsEncodings};
+ghost use Rattle.pb_compat.specs.Witness.{OneIsShown, ShapeIsShown, PairIsShown, MapIsShown, PackedIsShown};
 ghost use Rattle.pb_schema.specs.Rules.{IsPool};
 
 /// Where the table keeps the scalars of a kind, the new kind reads of what the old kind wrote for each of them a value of its own, which
@@ -25,4 +26,16 @@ pub fn messages_read()
 /// this law.
 pub fn scalars_lost()
     ensures { (old new : Types) → ScalarsAreLost old new }
+{}
+
+/// Messages that show that a change breaks reading: each message of the new type that their canonical bytes encode disagrees with them. A message
+/// with one value does so that is unlike what the new kind reads, alone or in a list that is not packed (`value`); one with any value, where the
+/// shape is not kept (`shape`); one with two fields that become members of one oneof (`pair`); and one with a map of one entry, whose key or value
+/// is unlike (`map`); and one with a packed list of one element, which has no like in the new kind or is read as another one (`packed`).
+pub fn witnessed()
+    ensures value { (old new : Types) → IsPool old → IsPool new → OneIsShown old new }
+    ensures shape { (old new : Types) → IsPool old → IsPool new → ShapeIsShown old new }
+    ensures pair { (old new : Types) → IsPool old → IsPool new → PairIsShown old new }
+    ensures map { (old new : Types) → IsPool old → IsPool new → MapIsShown old new }
+    ensures packed { (old new : Types) → IsPool old → IsPool new → PackedIsShown old new }
 {}

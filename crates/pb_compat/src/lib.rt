@@ -26,10 +26,13 @@ mod namesakes;
 mod oneofs;
 mod pairs;
 mod report;
+mod samples;
 mod scalars;
+mod witnesses;
 
 pub use breaking::breaks_reading;
 pub use comparing::{compare, compare_all};
 pub use difference::{ComparedTypes, Difference, Severity, Step};
 pub use namesakes::namesake;
 pub use report::Report;
+pub use witnesses::witness;

@@ -10,7 +10,7 @@ use pb_schema::{MessageId, Pool, Shape};
 use std::alloc::{AllocError, Global};
 
 /// Whether two fields of a message type, of these shapes, are members of one oneof.
-fn share_oneof(shape: Shape, other: Shape) -> bool
+pub(crate) fn share_oneof(shape: Shape, other: Shape) -> bool
     ensures { result ≡ share shape other }
 {
     match (shape, other) {

@@ -7,7 +7,7 @@ ghost use Rattle.pb_compat.specs.Scalars.{holds_number as holds, holds_values as
 use pb_schema::{Kind, Pool};
 
 /// Whether a kind reads the varint of a number as this number.
-fn holds_number(new: &Pool, kind: Kind, number: i32) -> bool
+pub(crate) fn holds_number(new: &Pool, kind: Kind, number: i32) -> bool
     ensures { result ≡ holds new.now kind number }
 {
     match kind {

@@ -1,7 +1,7 @@
 //! Whether what a new type reads means the same as what an old message holds.
 
 use pb_decode::decode;
-use pb_schema::{MessageId, Pool};
+use pb_schema::{Kind, MessageId, Pool};
 use pb_value::{Body, Content, MapKey, Value};
 use pb_wire::Limits;
 use std::alloc::Global;
@@ -90,15 +90,26 @@ fn same_content(alloc: Global, pool: &Pool, old: &Content, new: &Content) -> boo
     }
 }
 
+/// Whether the field of a number is of bytes.
+fn is_of_bytes(pool: &Pool, number: u32) -> bool {
+    if pool.messages().is_empty() {
+        return false;
+    }
+    match pool.field_by_number(MessageId(0), number) {
+        Some(field) => matches!(field.kind, Kind::Bytes),
+        None => false,
+    }
+}
+
 /// Whether a content is one value that is the default of its kind. A message without fields is so as bytes, of which it has none.
-fn is_default(content: &Content) -> bool {
+fn is_default(content: &Content, as_bytes: bool) -> bool {
     let Content::One(value) = content else {
         return false;
     };
     match value {
         Value::F32(bits) => *bits == 0,
         Value::F64(bits) => *bits == 0,
-        Value::Message(body) => body.fields.is_empty() && body.unknown.is_empty(),
+        Value::Message(body) => { as_bytes && body.fields.is_empty() && body.unknown.is_empty() }
         _ => integer(value) == Some(0) || matches!(octets(value), Some([])),
     }
 }
@@ -120,7 +131,9 @@ pub(crate) fn reads_same(
     };
     Ok(match (old.get(number), new.get(number)) {
         (None, None) => true,
-        (Some(old), None) => is_default(old) && new.body().unknown.is_empty(),
+        (Some(old), None) => {
+            is_default(old, is_of_bytes(new_pool, number)) && new.body().unknown.is_empty()
+        }
         (None, Some(_)) => false,
         (Some(old), Some(new)) => same_content(alloc, old_pool, old, new),
     })

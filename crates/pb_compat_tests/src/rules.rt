@@ -1,6 +1,7 @@
 //! Each rule that breaks reading, but for the kinds and shapes of the table: a message of the old type whose bytes the new type refuses or reads
 //! otherwise.
 
+use super::built::is_built;
 use super::fields::{compare_first, pool_of};
 use super::readings::reads_same;
 use super::witnesses::has_break;
@@ -87,11 +88,15 @@ const WITNESSES: &[Witness] = &[
     ("a 1 group e", "a 1 message e", "0", "0", "0b08010c"),
 ];
 
-/// Whether field 1 is reported to break, and is refused or read otherwise.
+/// Whether field 1 is reported to break, and is refused or read otherwise, also in the message that the library builds.
 fn shows(alloc: Global, old: &Pool, new: &Pool, encoding: &str) -> Result<bool, Fail> {
     let bytes = hex::decode(alloc, encoding)?;
     let compared = compare_first(alloc, old, new)?;
-    Ok(has_break(&compared) && !reads_same(alloc, old, new, &bytes, 1)?)
+    Ok(
+        has_break(&compared)
+            && !reads_same(alloc, old, new, &bytes, 1)?
+            && is_built(alloc, old, new)?,
+    )
 }
 
 fn is_shown(alloc: Global, witness: &Witness) -> Result<bool, Fail> {

@@ -1,6 +1,7 @@
 //! Each kind in each shape that a field can have, read as each other one: a difference breaks reading where libprotobuf reads otherwise, and then
 //! an encoding of the old type shows it.
 
+use super::built::is_built;
 use super::fields::{compare_first, pool_of, word};
 use super::readings::reads_same;
 use super::table::TABLE;
@@ -72,9 +73,13 @@ fn keeps(alloc: Global, old: &Row, new: &Row) -> Result<bool, Fail> {
     Ok(true)
 }
 
-/// Whether a pair is answered as libprotobuf does, by the comparison and by the codec.
+/// Whether a pair is answered as libprotobuf does, by the comparison, by the codec, and by a message that is built where the field breaks.
 fn is_right(alloc: Global, old: &Row, new: &Row, kept: bool) -> Result<bool, Fail> {
-    Ok(breaks(alloc, &old.pool, &new.pool)? != kept && keeps(alloc, old, new)? == kept)
+    Ok(
+        breaks(alloc, &old.pool, &new.pool)? != kept
+            && keeps(alloc, old, new)? == kept
+            && is_built(alloc, &old.pool, &new.pool)? != kept,
+    )
 }
 
 /// The first new field that a row answers otherwise.
