@@ -151,7 +151,7 @@ module _ {A : Type 0} (e : Symbol → Bool) (File : Rules → A → Language) (p
           refuted (IsCause.no_rule _) e = not_unexpected s e
 
       by_fault : (rest : List Symbol) (why : Option Rule) {k : ℕ} {c : SourceCause} → Refuses all_rules ts rest why → Fault File ts k c → (k ≡ length ts - length rest) × (c ≡ told why)
-      by_fault rest why h (Fault.no_symbols e) = absurd (some e)
+      by_fault rest why h (Fault.no_symbols e n) = absurd (some e)
       by_fault [] why h (Fault.at_end _ b none) = (omega arith, ap told (sym (at_the_end why h)))
       by_fault (t ∷ x) why h (Fault.at_end _ b none) =
           let r = reading (t ∷ x) why h in

@@ -1,5 +1,5 @@
 -- The readers of fields and maps read them.
-use Rattle.std.proofs.Common.{◌≡◌, ℕ, suc, List, [], ◌∷◌, ◌++◌, Bool, true, false, codes, refl, ap, sym, ◌∙◌, subst, append_assoc, append-nil, Option, arith, ◌⊎◌, inl, inr}
+use Rattle.std.proofs.Common.{◌≡◌, ℕ, suc, List, [], ◌∷◌, ◌++◌, Bool, true, false, not, codes, refl, ap, sym, ◌∙◌, subst, append_assoc, append-nil, Option, arith, ◌⊎◌, inl, inr}
 use Rattle.std.specs.Str.{bytes_eq}
 use Rattle.std.proofs.lemmas.Bool.{false≢true}
 use Rattle.std.proofs.lemmas.Slice.Eq.{bytes_eq-Decides}
@@ -18,11 +18,12 @@ use Rattle.pb_tokens.proofs.Heads.{Headed, headed_one, headed_then, headed_separ
 use Rattle.pb_tokens.proofs.SymbolTests.{reads_mark, reads_keyword}
 use Rattle.pb_tokens.proofs.NameLaws.{reads_name, name_first, reads_fullname, reads_type, reads_key, Undotted, Dotted, undotted_typed, typed_so}
 use Rattle.pb_tokens.proofs.OptionLaws.{reads_counted, reads_field_end, mark_stops}
+use Rattle.pb_source.specs.Syntaxes.{is_proto2}
 use Rattle.pb_source.specs.declared.kind.Label.{Label}
 use Rattle.pb_source.specs.declared.kind.Label.TheVariants.{Unlabelled}
 use Rattle.pb_source.specs.Meaning.{MapDecl, MessageStatement}
-use Rattle.pb_source.specs.Grammar.{field, map_line}
-use Rattle.pb_source.specs.Readers.Lines.{field_tail_reader, field_from, field_reader, map_from, map_tail_reader, dotted_reader, of_map_reader, map_reader}
+use Rattle.pb_source.specs.Grammar.{lined, field, map_line}
+use Rattle.pb_source.specs.Readers.Lines.{field_tail_reader, field_from, field_reader, map_from, map_tail_reader, dotted_reader, of_map_reader, map_rest_reader, map_reader}
 
 -- ---- fields
 
@@ -108,14 +109,22 @@ not_less grammar rules f c rest (x, e, (a, b, (ws, i, inr d), hb, j)) =
     ap (λ c. first_passes (is_mark (codes "<")) (c ++ rest)) (j ∙ ap (λ a. a ++ b) d.1)
     ∙ fails_front is_a_word (is_mark (codes "<")) (word_or_sign (codes "<")) b rest (tail_first grammar rules x.1 b hb)
 
-abbrev MapOrField : (grammar : Grammar) → Rules → MessageStatement → Language
-MapOrField grammar = Behind (λ rules. keyword "map") (λ rules st. Mapped MessageStatement.a_map (MapTail grammar) rules st or Mapped MessageStatement.a_field (OfMap grammar) rules st)
+-- what follows the word `map`, where each field has a label, or where it may have none
+abbrev MapRest : Bool → (grammar : Grammar) → Rules → MessageStatement → Language
+MapRest true grammar = Mapped MessageStatement.a_map (MapTail grammar)
+MapRest false grammar = λ rules st. Mapped MessageStatement.a_map (MapTail grammar) rules st or Mapped MessageStatement.a_field (OfMap grammar) rules st
+
+abbrev MapOrField : Bool → (grammar : Grammar) → Rules → MessageStatement → Language
+MapOrField labelled grammar = Behind (λ rules. keyword "map") (MapRest labelled grammar)
+
+abbrev MapOrNamed : Bool → (grammar : Grammar) → Rules → MessageStatement → Language
+MapOrNamed labelled grammar rules st ts =
+    ((m : MapDecl) × (st ≡ MessageStatement.a_map m) × map_line grammar rules m ts)
+    ⊎ ((f : DeclaredField) × (st ≡ MessageStatement.a_field f) × (first_passes (is_keyword (codes "map")) ts ≡ true) × lined (not labelled) (field grammar rules Unlabelled f) ts)
 
 -- a map field, or a field without a label whose type begins with the word `map`
 abbrev pub MapLine : (grammar : Grammar) → Rules → MessageStatement → Language
-MapLine grammar rules st ts =
-    ((m : MapDecl) × (st ≡ MessageStatement.a_map m) × map_line grammar rules m ts)
-    ⊎ ((f : DeclaredField) × (st ≡ MessageStatement.a_field f) × (first_passes (is_keyword (codes "map")) ts ≡ true) × field grammar rules Unlabelled f ts)
+MapLine grammar = MapOrNamed (is_proto2 grammar) grammar
 
 words_behind : (rules : Rules) (w : List ℕ) (ws : List (List ℕ)) (a p : List Symbol) → name w a → Words rules ws p → fullname (w ∷ ws) (a ++ p)
 words_behind rules w [] a p ha (inl (s, t, hs, ht, i)) = absurd ht
@@ -126,9 +135,10 @@ behind_words : (rules : Rules) (w : List ℕ) (ws : List (List ℕ)) (u : List S
 behind_words rules w [] u d = ([], d, inr (refl, refl))
 behind_words rules w (v ∷ ws) u (a, b, ha, hb, j) = (b, j ∙ ap (λ a. a ++ b) ha, inl hb)
 
-to_map_line : (grammar : Grammar) → (rules : Rules) (st : MessageStatement) (c : List Symbol) → MapOrField grammar rules st c → MapLine grammar rules st c
-to_map_line grammar rules st c (a, b, ha, inl (m, e, (s, t, hs, (x, i, d), k)), j) = inl (map_from x, e ∙ ap MessageStatement.a_map i, (a, b, ha, (s, t, hs, d, k), j))
-to_map_line grammar rules st c (a, b, ha, inr (f, e, (x, i, (p, q, (ws, k, dw), hq, l))), j) =
+to_map_line : (labelled : Bool) (grammar : Grammar) → (rules : Rules) (st : MessageStatement) (c : List Symbol) → MapOrField labelled grammar rules st c → MapOrNamed labelled grammar rules st c
+to_map_line true grammar rules st c (a, b, ha, (m, e, (s, t, hs, (x, i, d), k)), j) = inl (map_from x, e ∙ ap MessageStatement.a_map i, (a, b, ha, (s, t, hs, d, k), j))
+to_map_line false grammar rules st c (a, b, ha, inl (m, e, (s, t, hs, (x, i, d), k)), j) = inl (map_from x, e ∙ ap MessageStatement.a_map i, (a, b, ha, (s, t, hs, d, k), j))
+to_map_line false grammar rules st c (a, b, ha, inr (f, e, (x, i, (p, q, (ws, k, dw), hq, l))), j) =
     inr (
       f,
       e,
@@ -150,7 +160,7 @@ module _ (grammar : Grammar) (rules : Rules) (st : MessageStatement) (c : List S
       let s : c ≡ sign (codes ".") ∷ (b ++ r) = j ∙ ap (λ u. u ++ r) (k ∙ ap (λ a. a ++ b) ha) in
       false≢true (sym (ap (first_passes (is_keyword (codes "map"))) s) ∙ h)
 
-  of_words : Undotted rules t u → MapOrField grammar rules st c
+  of_words : Undotted rules t u → MapOrField false grammar rules st c
   of_words ([], k, d) = absurd d
   of_words (w ∷ ws, k, d) =
       let z = behind_words rules w ws u d in
@@ -163,25 +173,32 @@ module _ (grammar : Grammar) (rules : Rules) (st : MessageStatement) (c : List S
         s ∙ ap (λ w. word w ∷ (z.0 ++ r)) is_it,
       )
 
-  of_typed : Dotted rules t u ⊎ Undotted rules t u → MapOrField grammar rules st c
+  of_typed : Dotted rules t u ⊎ Undotted rules t u → MapOrField false grammar rules st c
   of_typed (inl d) = absurd (no_dot d)
   of_typed (inr d) = of_words d
 
-of_map_line : (grammar : Grammar) → (rules : Rules) (st : MessageStatement) (c : List Symbol) → MapLine grammar rules st c → MapOrField grammar rules st c
-of_map_line grammar rules st c (inl (m, e, (a, b, ha, (s, t, hs, d, k), j))) =
+of_map_line : (labelled : Bool) (grammar : Grammar) → (rules : Rules) (st : MessageStatement) (c : List Symbol) → MapOrNamed labelled grammar rules st c → MapOrField labelled grammar rules st c
+of_map_line true grammar rules st c (inl (m, e, (a, b, ha, (s, t, hs, d, k), j))) =
+    (a, b, ha, (m, e, (s, t, hs, ((m.key, (m.value, (m.name, (m.number, m.packed)))), refl, d), k)), j)
+of_map_line true grammar rules st c (inr (f, e, h, d)) = absurd d
+of_map_line false grammar rules st c (inl (m, e, (a, b, ha, (s, t, hs, d, k), j))) =
     (a, b, ha, inl (m, e, (s, t, hs, ((m.key, (m.value, (m.name, (m.number, m.packed)))), refl, d), k)), j)
-of_map_line grammar rules st c (inr (f, e, h, (t, w, n, p, i, (u, r, hu, hr, j)))) = of_typed grammar rules st c f e h t (w, (n, p)) i u r hr j (typed_so rules t u hu)
+of_map_line false grammar rules st c (inr (f, e, h, (t, w, n, p, i, (u, r, hu, hr, j)))) = of_typed grammar rules st c f e h t (w, (n, p)) i u r hr j (typed_so rules t u hu)
+
+reads_map_rest : (labelled : Bool) (grammar : Grammar) (n : ℕ) → Reads n never (MapRest labelled grammar) (map_rest_reader labelled grammar n)
+reads_map_rest true grammar n = reads_mapped MessageStatement.a_map (reads_less (suc n) n never (MapTail grammar) (map_tail_reader grammar (suc n)) (omega arith) (reads_map_tail grammar (suc n)))
+reads_map_rest false grammar n =
+    (reads_either (is_mark (codes "<")) (reads_mapped MessageStatement.a_map (reads_less (suc n) n never (MapTail grammar) (map_tail_reader grammar (suc n)) (omega arith) (reads_map_tail grammar (suc n))))
+    (reads_mapped MessageStatement.a_field (reads_of_map grammar n))
+    (λ rules st c d. headed_then (is_mark (codes "<")) (headed_one (is_mark (codes "<")) (sign (codes "<")) refl) c d.2)
+    (λ rules st c rest d s. not_less grammar rules d.0 c rest d.2))
 
 pub reads_map : (grammar : Grammar) → (n : ℕ) → Reads n never (MapLine grammar) (map_reader grammar n)
 unfolding map_reader
 reads_map grammar n =
     said_so {Q = MapLine grammar}
-    (reads_behind {L = λ rules. keyword "map"} (reads_keyword (codes "map"))
-    (reads_either (is_mark (codes "<")) (reads_mapped MessageStatement.a_map (reads_less (suc n) n never (MapTail grammar) (map_tail_reader grammar (suc n)) (omega arith) (reads_map_tail grammar (suc n))))
-    (reads_mapped MessageStatement.a_field (reads_of_map grammar n))
-    (λ rules st c d. headed_then (is_mark (codes "<")) (headed_one (is_mark (codes "<")) (sign (codes "<")) refl) c d.2)
-    (λ rules st c rest d s. not_less grammar rules d.0 c rest d.2)))
-    (to_map_line grammar) (of_map_line grammar)
+    (reads_behind {L = λ rules. keyword "map"} (reads_keyword (codes "map")) (reads_map_rest (is_proto2 grammar) grammar n))
+    (to_map_line (is_proto2 grammar) grammar) (of_map_line (is_proto2 grammar) grammar)
 
 pub map_line_first : (grammar : Grammar) → (rules : Rules) (st : MessageStatement) (c : List Symbol) → MapLine grammar rules st c → first_passes (is_keyword (codes "map")) c ≡ true
 map_line_first grammar rules st c (inl (m, e, d)) = headed_then (is_keyword (codes "map")) (headed_one (is_keyword (codes "map")) (word (codes "map")) refl) c d

@@ -1,31 +1,36 @@
 -- The reader of files reads them.
-use Rattle.std.proofs.Common.{◌≡◌, ℕ, ◌+◌, ◌≤◌, List, [], ◌∷◌, ◌++◌, length, Bool, true, false, ◌||◌, codes, refl, ap, sym, ◌∙◌, subst, length-append, Some, arith, ◌⊎◌, inl, inr}
+use Rattle.std.proofs.Common.{◌≡◌, ℕ, ◌+◌, ◌≤◌, List, [], ◌∷◌, ◌++◌, length, Bool, true, false, ◌||◌, codes, refl, ap, sym, ◌∙◌, subst, length-append, append_assoc, Some, arith, ◌⊎◌, inl, inr}
 use Rattle.std.specs.Prelude.{if◌then◌else◌}
 use Rattle.std.specs.Str.{bytes_eq}
 use Rattle.std.proofs.lemmas.Bool.{false≢true, or_parts}
 use Rattle.std.proofs.lemmas.Slice.Eq.{bytes_eq-Decides}
 use Rattle.pb_tokens.specs.declared.grammar.Grammar.{Grammar}
+use Rattle.pb_tokens.specs.declared.grammar.Grammar.TheVariants.{Strict, Lenient}
+use Rattle.pb_tokens.specs.declared.grammar.Syntax.{Syntax}
+use Rattle.pb_tokens.specs.declared.grammar.Syntax.TheVariants.{Proto2, Proto3}
 use Rattle.pb_tokens.specs.declared.rule.Rule.TheVariants.{SyntaxFirst as syntax_first}
 use Rattle.pb_tokens.specs.Symbols.{Symbol, word, number, text, sign}
 use Rattle.pb_tokens.specs.Language.{Language, ◌▸◌, ◌or◌, one, nothing, Rules}
 use Rattle.pb_tokens.specs.Said.{joined}
 use Rattle.pb_tokens.specs.Phrases.{keyword, mark, fullname, Until, option, utf8_text}
-use Rattle.pb_tokens.specs.Readers.Forms.{first_passes, is_keyword, symbol, judged}
-use Rattle.pb_tokens.proofs.ReaderLaws.{Reads, IsStop}
-use Rattle.pb_tokens.proofs.Parts.{Answered, reads_answer}
-use Rattle.pb_tokens.proofs.Compose.{never, Mapped, Both, Behind, Before, reads_mapped, reads_both_so, reads_behind, reads_before, reads_before_so, reads_either, said_so}
-use Rattle.pb_tokens.proofs.Heads.{headed_one, stops_rest, front_of, front_of_one}
+use Rattle.pb_tokens.specs.Readers.Forms.{first_passes, is_keyword, symbol, judged, mapped}
+use Rattle.pb_tokens.proofs.ReaderLaws.{Reads, IsStop, Chained, reads_chain}
+use Rattle.pb_tokens.proofs.Parts.{Answered, reads_answer, reads_stop}
+use Rattle.pb_tokens.proofs.Compose.{never, any_stop, Mapped, Both, Behind, Before, reads_mapped, reads_both_so, reads_behind, reads_before, reads_before_so, reads_either, said_so}
+use Rattle.pb_tokens.proofs.Heads.{headed_one, headed_then, fails_rest, stops_rest, front_of, front_of_one}
 use Rattle.pb_tokens.proofs.SymbolTests.{is_the_word, Keeps, reads_judged, reads_mark, reads_keyword}
-use Rattle.pb_tokens.proofs.KindLemmas.{ByKind, Offers, kinds_filled, reads_kinds}
+use Rattle.pb_tokens.proofs.KindLemmas.{ByKind, Offers, kinds_fail, kinds_filled, reads_kinds}
 use Rattle.pb_tokens.proofs.ToEnd.{always, Each, reads_to_end}
 use Rattle.pb_tokens.proofs.NameLaws.{reads_fullname}
 use Rattle.pb_tokens.proofs.OptionLaws.{end_stops}
 use Rattle.pb_tokens.proofs.RangeLaws.{reads_utf8}
+use Rattle.pb_source.specs.declared.reading.Reading.{Reading}
+use Rattle.pb_source.specs.declared.reading.Reading.TheVariants as reading
 use Rattle.pb_source.specs.declared.kind.FileKind.{FileKind}
 use Rattle.pb_source.specs.declared.kind.FileKind.TheVariants as kind
 use Rattle.pb_source.specs.Meaning.{FileStatement, all_said, packages_said}
-use Rattle.pb_source.specs.Grammar.{enum_line, extend, message, room, service, access, file_statement, syntax_line, file}
-use Rattle.pb_source.specs.Readers.Lines.{extend_reader, access_reader, import_reader, package_reader, file_kind, file_line, file_statement_reader, syntax_word_in, syntax_text_in, syntax_reader, is_package, file_reader}
+use Rattle.pb_source.specs.Grammar.{enum_line, extend, message, room, service, access, file_statement, syntax_said, syntax_line, file}
+use Rattle.pb_source.specs.Readers.Lines.{extend_reader, access_reader, import_reader, package_reader, file_kind, file_line, file_statement_reader, syntax_word_in, syntax_text_in, strict_syntax_reader, named_syntax, named_syntax_in, lenient_syntax_reader, begins_syntax, syntax_reader, is_package, statements_reader, file_reader}
 use Rattle.pb_source.proofs.StatementKinds.{kind_one, kind_then, kind_front}
 use Rattle.pb_source.proofs.ExtensionLaws.{Beyond, offers_beyond, beyond_filled, beyond_kind, reads_extend}
 use Rattle.pb_source.proofs.BodyLaws.{Silent, reads_silent_end, reads_silent_option, not_empty_then, reads_enum, reads_service}
@@ -181,7 +186,7 @@ reads_file_statement grammar n said =
     (λ rules. (FileStatement.nothing_said, sign (codes ";") ∷ [], (kind.Empty, refl, (tt, refl, refl)))))
     (to_file grammar said) (of_file grammar said)
 
--- ---- the syntax
+-- ---- the syntax, read strictly
 
 abbrev SyntaxWord : Rules → Unit {0} → Language
 SyntaxWord rules u ts = (s : Symbol) × Keeps syntax_first rules (is_keyword (codes "syntax") s) × one s ts
@@ -208,29 +213,137 @@ reads_syntax_text = reads_judged syntax_first syntax_text_in (text (codes "proto
     to rules (number b) u ok h k = absurd (cc h)
     to rules (sign b) u ok h k = absurd (cc h)
 
-abbrev Syntax : Rules → Language
-Syntax rules = SyntaxWord rules tt ▸ mark "=" ▸ SyntaxText rules tt ▸ mark ";"
+abbrev Said : Rules → Language
+Said rules = SyntaxWord rules tt ▸ mark "=" ▸ SyntaxText rules tt ▸ mark ";"
 
-to_syntax : (rules : Rules) (c : List Symbol) → Syntax rules c → syntax_line rules c
-to_syntax rules c (a, b, (s, inr r, ha), (p, q, hp, (x, y, (t, k, hx), hy, l), i), j) = inr (r, s, t, (a, b, ha, (p, q, hp, (x, y, hx, hy, l), i), j))
-to_syntax rules c (a, b, (s, inl h, ha), (p, q, hp, (x, y, (t, inr r, hx), hy, l), i), j) = inr (r, s, t, (a, b, ha, (p, q, hp, (x, y, hx, hy, l), i), j))
-to_syntax rules c (a, b, (s, inl h, ha), (p, q, hp, (x, y, (t, inl k, hx), hy, l), i), j) =
+abbrev Strictly : Rules → Language
+Strictly rules ts =
+    syntax_said (word (codes "syntax")) (codes "proto3") ts ⊎ ((rules syntax_first ≡ false) × (s : Symbol) × (b : List ℕ) × syntax_said s b ts)
+
+to_strict : (rules : Rules) (c : List Symbol) → Said rules c → Strictly rules c
+to_strict rules c (a, b, (s, inr r, ha), (p, q, hp, (x, y, (t, k, hx), hy, l), i), j) = inr (r, s, t, (a, b, ha, (p, q, hp, (x, y, hx, hy, l), i), j))
+to_strict rules c (a, b, (s, inl h, ha), (p, q, hp, (x, y, (t, inr r, hx), hy, l), i), j) = inr (r, s, t, (a, b, ha, (p, q, hp, (x, y, hx, hy, l), i), j))
+to_strict rules c (a, b, (s, inl h, ha), (p, q, hp, (x, y, (t, inl k, hx), hy, l), i), j) =
     let e : s ≡ word (codes "syntax") = is_the_word (codes "syntax") s h in
     let f : t ≡ codes "proto3" = (bytes_eq-Decides t (codes "proto3")).0 k in
     inl (a, b, ha ∙ ap (λ s. s ∷ []) e, (p, q, hp, (x, y, hx ∙ ap (λ t. text t ∷ []) f, hy, l), i), j)
 
-of_syntax : (rules : Rules) (c : List Symbol) → syntax_line rules c → Syntax rules c
-of_syntax rules c (inl (a, b, ha, (p, q, hp, (x, y, hx, hy, l), i), j)) = (a, b, (word (codes "syntax"), inl refl, ha), (p, q, hp, (x, y, (codes "proto3", inl refl, hx), hy, l), i), j)
-of_syntax rules c (inr (r, s, t, (a, b, ha, (p, q, hp, (x, y, hx, hy, l), i), j))) = (a, b, (s, inr r, ha), (p, q, hp, (x, y, (t, inr r, hx), hy, l), i), j)
+of_strict : (rules : Rules) (c : List Symbol) → Strictly rules c → Said rules c
+of_strict rules c (inl (a, b, ha, (p, q, hp, (x, y, hx, hy, l), i), j)) = (a, b, (word (codes "syntax"), inl refl, ha), (p, q, hp, (x, y, (codes "proto3", inl refl, hx), hy, l), i), j)
+of_strict rules c (inr (r, s, t, (a, b, ha, (p, q, hp, (x, y, hx, hy, l), i), j))) = (a, b, (s, inr r, ha), (p, q, hp, (x, y, (t, inr r, hx), hy, l), i), j)
 
-reads_syntax : {n : ℕ} → Reads n never (λ rules (u : Unit {0}). syntax_line rules) syntax_reader
-unfolding syntax_reader
-reads_syntax =
-    said_so {Q = λ rules (u : Unit {0}). syntax_line rules}
+reads_strict : {n : ℕ} → Reads n never (λ rules (u : Unit {0}). Strictly rules) strict_syntax_reader
+unfolding strict_syntax_reader
+reads_strict =
+    said_so {Q = λ rules (u : Unit {0}). Strictly rules}
     (reads_behind {L = λ rules. SyntaxWord rules tt} reads_syntax_word
     (reads_behind {L = λ rules. mark "="} (reads_mark (codes "="))
     (reads_behind {L = λ rules. SyntaxText rules tt} {S = λ rules u. mark ";"} reads_syntax_text (reads_mark (codes ";")))))
-    (λ rules u c d. to_syntax rules c d) (λ rules u c d. of_syntax rules c d)
+    (λ rules u c d. to_strict rules c d) (λ rules u c d. of_strict rules c d)
+
+-- ---- the syntax, read leniently
+
+-- the text names this syntax, or none, where the rule on it is left out
+abbrev Named : Rules → Syntax → Language
+Named rules s ts = (b : List ℕ) × (s ≡ (named_syntax b).0) × Keeps syntax_first rules (named_syntax b).1 × one (text b) ts
+
+reads_named : {n : ℕ} {e : Symbol → Bool} → Reads n e Named (symbol (judged syntax_first named_syntax_in))
+reads_named = reads_judged syntax_first named_syntax_in (text (codes "proto3")) Proto3 refl to (λ rules s c d. (text d.0, (named_syntax d.0).1, ap (λ s. Some (s, (named_syntax d.0).1)) (sym d.1), d.2, d.3))
+  where
+    to : (rules : Rules) (t : Symbol) (s : Syntax) (ok : Bool) → named_syntax_in t ≡ Some (s, ok) → Keeps syntax_first rules ok → Named rules s (t ∷ [])
+    to rules (text b) s ok h k =
+        let p : ◌≡◌ {A = Syntax × Bool} (named_syntax b) (s, ok) = cc h in
+        (b, sym (ap (λ x. x.0) p), subst (λ b. Keeps syntax_first rules b) (sym (ap (λ x. x.1) p)) k, refl)
+    to rules (word b) s ok h k = absurd (cc h)
+    to rules (number b) s ok h k = absurd (cc h)
+    to rules (sign b) s ok h k = absurd (cc h)
+
+abbrev Leniently : Rules → Syntax → Language
+Leniently rules s = keyword "syntax" ▸ mark "=" ▸ Named rules s ▸ mark ";"
+
+reads_lenient : {n : ℕ} → Reads n never Leniently lenient_syntax_reader
+unfolding lenient_syntax_reader
+reads_lenient =
+    reads_behind {L = λ rules. keyword "syntax"} (reads_keyword (codes "syntax"))
+    (reads_behind {L = λ rules. mark "="} (reads_mark (codes "=")) (reads_before {L = λ rules. mark ";"} reads_named (reads_mark (codes ";"))))
+
+-- what a text names, by whether it is `proto2` and whether it is `proto3`
+data NamedAs (rules : Rules) (b : List ℕ) (s : Syntax) : Type 0 where
+  as_proto2 : s ≡ Proto2 → b ≡ codes "proto2" → NamedAs rules b s
+  as_proto3 : s ≡ Proto3 → b ≡ codes "proto3" → NamedAs rules b s
+  as_none : s ≡ Proto3 → rules syntax_first ≡ false → bytes_eq b (codes "proto2") ≡ false → NamedAs rules b s
+
+is_proto2_text : (b : List ℕ) → bytes_eq b (codes "proto2") ≡ true → named_syntax b ≡ (Proto2, true)
+is_proto2_text b h = rw h refl
+
+no_proto2_text : (b : List ℕ) → bytes_eq b (codes "proto2") ≡ false → named_syntax b ≡ (Proto3, bytes_eq b (codes "proto3"))
+no_proto2_text b h = rw h refl
+
+left_out : (rules : Rules) → Keeps syntax_first rules false → rules syntax_first ≡ false
+left_out rules (inl n) = absurd (false≢true n)
+left_out rules (inr r) = r
+
+named_as : (rules : Rules) (b : List ℕ) (s : Syntax) → s ≡ (named_syntax b).0 → Keeps syntax_first rules (named_syntax b).1 → NamedAs rules b s
+named_as rules b s e k = by_tests (bytes_eq b (codes "proto2")) (bytes_eq b (codes "proto3")) refl refl
+  where
+    by_tests : (x y : Bool) → bytes_eq b (codes "proto2") ≡ x → bytes_eq b (codes "proto3") ≡ y → NamedAs rules b s
+    by_tests true y h i = NamedAs.as_proto2 (e ∙ ap (λ x. x.0) (is_proto2_text b h)) ((bytes_eq-Decides b (codes "proto2")).0 h)
+    by_tests false true h i = NamedAs.as_proto3 (e ∙ ap (λ x. x.0) (no_proto2_text b h)) ((bytes_eq-Decides b (codes "proto3")).0 i)
+    by_tests false false h i =
+        NamedAs.as_none (e ∙ ap (λ x. x.0) (no_proto2_text b h)) (left_out rules (subst (λ x. Keeps syntax_first rules x) (ap (λ x. x.1) (no_proto2_text b h) ∙ i) k)) h
+
+-- the syntax is said, or not
+abbrev Opened : Rules → Grammar → Language
+Opened rules g = Mapped Lenient Leniently rules g or Answered (Lenient Proto2) rules g
+
+to_lenient : (rules : Rules) (g : Grammar) (c : List Symbol) → Opened rules g c → syntax_line reading.Lenient rules g c
+to_lenient rules g c (inr (e, d)) = subst (λ g. syntax_line reading.Lenient rules g c) (sym e) (inr d)
+to_lenient rules g c (inl (s, e, (a, b, ha, (p, q, hp, (x, y, (t, is, k, hx), hy, l), i), j))) =
+    subst (λ g. syntax_line reading.Lenient rules g c) (sym e) (by_name (named_as rules t s is k))
+  where
+    said : syntax_said (word (codes "syntax")) t c
+    said = (a, b, ha, (p, q, hp, (x, y, hx, hy, l), i), j)
+
+    by_name : NamedAs rules t s → syntax_line reading.Lenient rules (Lenient s) c
+    by_name (NamedAs.as_proto2 n f) = subst (λ s. syntax_line reading.Lenient rules (Lenient s) c) (sym n) (inl (subst (λ t. syntax_said (word (codes "syntax")) t c) f said))
+    by_name (NamedAs.as_proto3 n f) = subst (λ s. syntax_line reading.Lenient rules (Lenient s) c) (sym n) (inl (subst (λ t. syntax_said (word (codes "syntax")) t c) f said))
+    by_name (NamedAs.as_none n r f) = subst (λ s. syntax_line reading.Lenient rules (Lenient s) c) (sym n) (inr (r, t, f, said))
+
+of_lenient : (rules : Rules) (g : Grammar) (c : List Symbol) → syntax_line reading.Lenient rules g c → Opened rules g c
+of_lenient rules Strict c d = absurd d
+of_lenient rules (Lenient Proto2) c (inr d) = inr (refl, d)
+of_lenient rules (Lenient Proto2) c (inl (a, b, ha, (p, q, hp, (x, y, hx, hy, l), i), j)) =
+    inl (Proto2, refl, (a, b, ha, (p, q, hp, (x, y, (codes "proto2", refl, inl refl, hx), hy, l), i), j))
+of_lenient rules (Lenient Proto3) c (inl (a, b, ha, (p, q, hp, (x, y, hx, hy, l), i), j)) =
+    inl (Proto3, refl, (a, b, ha, (p, q, hp, (x, y, (codes "proto3", refl, inl refl, hx), hy, l), i), j))
+of_lenient rules (Lenient Proto3) c (inr (r, t, f, (a, b, ha, (p, q, hp, (x, y, hx, hy, l), i), j))) =
+    let n = no_proto2_text t f in
+    inl (Proto3, refl, (a, b, ha, (p, q, hp, (x, y, (t, sym (ap (λ x. x.0) n), inr r, hx), hy, l), i), j))
+
+-- ---- the syntax, as it is read
+
+to_syntax_strict : (rules : Rules) (g : Grammar) (c : List Symbol) → Silent Strict Strictly rules g c → syntax_line reading.Strict rules g c
+to_syntax_strict rules g c (u, e, d) = subst (λ g. syntax_line reading.Strict rules g c) (sym e) d
+
+of_syntax_strict : (rules : Rules) (g : Grammar) (c : List Symbol) → syntax_line reading.Strict rules g c → Silent Strict Strictly rules g c
+of_syntax_strict rules Strict c d = (tt, refl, d)
+of_syntax_strict rules (Lenient s) c d = absurd d
+
+reads_syntax : (r : Reading) {n : ℕ} → Reads n begins_syntax (syntax_line r) (syntax_reader r)
+unfolding syntax_reader
+reads_syntax reading.Strict {n} =
+    said_so {Q = syntax_line reading.Strict}
+    (reads_stop n never begins_syntax (Silent Strict Strictly) (mapped (λ _. Strict) strict_syntax_reader) (λ rest s. any_stop rest)
+    (reads_mapped {A = Unit {0}} {R = λ rules u. Strictly rules} (λ _. Strict) reads_strict))
+    to_syntax_strict of_syntax_strict
+reads_syntax reading.Lenient {n} =
+    said_so {Q = syntax_line reading.Lenient}
+    (reads_either begins_syntax
+    (reads_stop n never begins_syntax (Mapped Lenient Leniently) (mapped Lenient lenient_syntax_reader) (λ rest s. any_stop rest) (reads_mapped Lenient reads_lenient))
+    (reads_answer n begins_syntax (Lenient Proto2))
+    (λ rules g c d. headed_then begins_syntax (headed_one begins_syntax (word (codes "syntax")) refl) c d.2)
+    (λ rules g c rest d s. ap (λ c. first_passes begins_syntax (c ++ rest)) d.1 ∙ fails_rest begins_syntax rest s))
+    to_lenient of_lenient
 
 -- ---- the whole file
 
@@ -296,22 +409,38 @@ module _ (grammar : Grammar) (n : ℕ) where
       let e = counted said s o in
       (a, b, (o, ha), of_until rules (said_behind said s) ss b (omega arith) hb, j)
 
-  -- the reader of files reads files, exactly
-  pub reads_file : Reads n always (file grammar) (file_reader grammar n)
-  unfolding file_reader
-  reads_file =
-      said_so {Q = file grammar}
-      (reads_behind {L = syntax_line} reads_syntax (reads_to_end n is_package (StatementOnce grammar) (file_statement_reader grammar n) (reads_file_statement grammar n) statement_full n (omega arith) false))
-      (λ rules ss c d. (let l = few rules false ss d.1 d.3 in omega arith, (d.0, d.1, d.2, to_until rules false ss d.1 d.3, d.4)))
-      (λ rules ss c d. (d.1.0, d.1.1, d.1.2, of_until rules false ss d.1.1 (let l = d.0 in omega arith) d.1.3, d.1.4))
+  -- the statements after the syntax, with the grammar
+  abbrev Statements : Rules → Grammar × List FileStatement → Language
+  Statements = Mapped (λ ss. (grammar, ss)) (All false)
 
--- a file has a symbol
-pub file_not_empty : (grammar : Grammar) → (rules : Rules) (ss : List FileStatement) → file grammar rules ss [] → ⊥
-file_not_empty grammar rules ss (l, (a, b, ha, hb, j)) = by_syntax a ha j
+  reads_statements : Reads n always Statements (statements_reader n grammar)
+  reads_statements =
+      reads_mapped (λ ss. (grammar, ss)) (reads_to_end n is_package (StatementOnce grammar) (file_statement_reader grammar n) (reads_file_statement grammar n) statement_full n (omega arith) false)
+
+  -- no statement begins as a syntax does
+  no_syntax : (rules : Rules) (x : Grammar × List FileStatement) (c rest : List Symbol) → Statements rules x c → IsStop always rest → IsStop begins_syntax (c ++ rest)
+  no_syntax rules x c rest ([], e, d) s = ends c rest d s
+    where
+      ends : (c rest : List Symbol) → c ≡ [] → IsStop always rest → IsStop begins_syntax (c ++ rest)
+      ends c [] d s = subst (λ c. IsStop begins_syntax (c ++ [])) (sym d) tt
+      ends c (t ∷ rest) d s = absurd (false≢true (sym s))
+  no_syntax rules x c rest (v ∷ vs, e, (a, b, ha, hb, j)) s =
+      stops_rest begins_syntax (c ++ rest)
+      (ap (λ c. first_passes begins_syntax (c ++ rest)) j ∙ ap (first_passes begins_syntax) (append_assoc a b rest)
+      ∙ kinds_fail file_kind (FileLine grammar false) begins_syntax (λ s h. ap file_kind (is_the_word (codes "syntax") s h)) rules v a (b ++ rest) (of_file grammar false rules v a ha))
+
+-- the reader of files reads files, exactly
+pub reads_file : (r : Reading) (n : ℕ) → Reads n always (file r) (file_reader r n)
+unfolding file_reader
+reads_file r n =
+    said_so {Q = file r}
+    (reads_chain n n begins_syntax always (syntax_line r) (λ g. Statements g n) (syntax_reader r) (statements_reader n) (reads_syntax r) (λ g. reads_statements g n)
+    (λ rules g x c rest d s. no_syntax g n rules x c rest d s) (λ rules g c d. omega arith))
+    to from
   where
-    no_symbol : (s : Symbol) (x y z : List Symbol) → x ≡ s ∷ [] → [] ≡ (x ++ y) ++ z → ⊥
-    no_symbol s x y z e j = let f : [] ≡ s ∷ (y ++ z) = j ∙ ap (λ x. (x ++ y) ++ z) e in absurd (cc f)
+    to : (rules : Rules) (x : Grammar × List FileStatement) (c : List Symbol) → Chained (syntax_line r) (λ g. Statements g n) rules x c → file r rules x c
+    to rules x c (g, (a, b, ha, (ss, e, d), j)) =
+        subst (λ x. file r rules x c) (sym e) (let l = few g n rules false ss b d in omega arith, (a, b, ha, to_until g n rules false ss b d, j))
 
-    by_syntax : (a : List Symbol) → syntax_line rules a → [] ≡ a ++ b → ⊥
-    by_syntax a (inl (x, y, hx, hy, i)) j = no_symbol (word (codes "syntax")) x y b hx (j ∙ ap (λ a. a ++ b) i)
-    by_syntax a (inr (r, s, t, (x, y, hx, hy, i))) j = no_symbol s x y b hx (j ∙ ap (λ a. a ++ b) i)
+    from : (rules : Rules) (x : Grammar × List FileStatement) (c : List Symbol) → file r rules x c → Chained (syntax_line r) (λ g. Statements g n) rules x c
+    from rules x c (l, (a, b, ha, d, j)) = (x.0, (a, b, ha, (x.1, refl, of_until x.0 n rules false x.1 b (omega arith) d), j))

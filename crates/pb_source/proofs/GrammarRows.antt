@@ -1,27 +1,29 @@
 -- Small files by their symbols: what they declare, or their fault, worked out by the rules.
 use Prim.Native.String.{String}
-use Rattle.std.proofs.Common.{◌≡◌, ℕ, zero, suc, ◌≤◌, List, [], ◌∷◌, ◌++◌, codes, refl, Option, Some, None, Err, lit≤, arith, false, true, pos, neg_ℤ}
+use Rattle.std.proofs.Common.{◌≡◌, ℕ, zero, suc, ◌≤◌, List, [], ◌∷◌, ◌++◌, codes, refl, Option, Some, None, Ok, Err, lit≤, arith, false, true, pos, neg_ℤ}
 use Rattle.pb_schema.specs.Names.{entry_name}
 use Rattle.pb_decl.specs.Decls.{DeclaredField, DeclaredEnum, DeclaredMethod, DeclaredFile, DeclaredMessages, message as message_decl, no_messages, more_messages}
 use Rattle.pb_decl.specs.declared.decl.TypeCode.TheVariants as code
 use Rattle.pb_tokens.specs.declared.fault.SourceCause.TheVariants.{Unexpected, NumberTooLarge, CustomOption, NotProto3, NestedTooDeep}
 use Rattle.pb_tokens.specs.declared.rule.Rule.{Rule}
 use Rattle.pb_tokens.specs.declared.rule.Rule.TheVariants.{NumbersFit as numbers_fit, OptionsKnown as options_known, SyntaxFirst as syntax_first, NestsBounded as nests_bounded}
+use Rattle.pb_tokens.specs.declared.grammar.Grammar.{Grammar}
 use Rattle.pb_tokens.specs.declared.grammar.Grammar.TheVariants.{Strict}
 use Rattle.pb_tokens.specs.Tokens.{Lexes}
 use Rattle.pb_tokens.specs.Symbols.{Symbol, word, number, text, sign, AreSymbols}
 use Rattle.pb_tokens.specs.Language.{all_rules}
 use Rattle.pb_tokens.specs.Said.{a_scalar, a_name}
 use Rattle.pb_tokens.specs.Readers.Forms.{Outcome}
-use Rattle.pb_tokens.specs.Readers.Phrases.{name_reader, fullname_reader, typename_reader, limited_reader, signed_reader, plus_or_minus_reader, signed_value_reader, unquoted_reader, constant_reader, part_reader, optname_reader, assignment_reader, option_reader, setting_reader, field_option_reader, options_reader, field_end_reader, value_end_reader, type_reader, key_reader, range_reader, utf8_reader}
+use Rattle.pb_tokens.specs.Readers.Phrases.{name_reader, fullname_reader, typename_reader, limited_reader, signed_reader, plus_or_minus_reader, signed_value_reader, unquoted_reader, constant_reader, part_reader, optname_reader, assignment_reader, option_reader, setting_reader, field_option_reader, options_reader, ended_reader, value_end_reader, type_reader, key_reader, range_reader, utf8_reader}
 use Rattle.pb_tokens.proofs.ToEnd.{always}
 use Rattle.pb_source.specs.declared.kind.Label.TheVariants.{Unlabelled, Optional}
+use Rattle.pb_source.specs.declared.reading.Reading.TheVariants as reading
 use Rattle.pb_source.specs.Meaning.{FileStatement, MessageStatement, MapDecl, field_of, message_of}
 use Rattle.pb_source.specs.Grammar.{file, FileSyntax}
 use Rattle.pb_source.specs.SyntaxFault.{Fault, SyntaxFault}
 use Rattle.pb_source.specs.Source.{place_in, HasFault, HasFaultIn}
-use Rattle.pb_source.specs.Readers.Lines.{field_tail_reader, field_reader, map_tail_reader, dotted_reader, of_map_reader, map_reader, oneof_statement_reader, oneof_reader, reserved_reader, value_reader, enum_statement_reader, enum_reader, message_statement_reader, message_line_reader, last_statement_reader, room_statement_reader, streamed_reader, method_statement_reader, method_end_reader, parameter_reader, method_reader, service_statement_reader, service_reader, access_reader, import_reader, package_reader, file_statement_reader, syntax_reader, file_reader}
-use Rattle.pb_source.proofs.FaultLemmas.{refused_so, read_words}
+use Rattle.pb_source.specs.Readers.Lines.{field_tail_reader, field_reader, map_tail_reader, dotted_reader, of_map_reader, map_reader, oneof_statement_reader, oneof_reader, reserved_reader, value_reader, enum_statement_reader, enum_reader, message_statement_reader, message_line_reader, last_statement_reader, room_statement_reader, streamed_reader, method_statement_reader, method_end_reader, parameter_reader, method_reader, service_statement_reader, service_reader, access_reader, import_reader, package_reader, file_statement_reader, strict_syntax_reader, syntax_reader, file_reader}
+use Rattle.pb_source.proofs.FaultLemmas.{refused_so, words_read, read_words}
 use Rattle.pb_source.proofs.FileLaws.{reads_file}
 
 -- ---- names
@@ -44,14 +46,14 @@ abbrev proto3 : List Symbol
 proto3 = w "syntax" ∷ m "=" ∷ text (codes "proto3") ∷ m ";" ∷ []
 
 -- the reader of files, with those of its lines
-opened : ℕ → List Symbol → Outcome (List FileStatement)
+opened : ℕ → List Symbol → Outcome (Grammar × List FileStatement)
 unfolding
     name_reader fullname_reader typename_reader limited_reader signed_reader plus_or_minus_reader signed_value_reader unquoted_reader constant_reader part_reader optname_reader assignment_reader option_reader setting_reader
-    field_option_reader options_reader field_end_reader value_end_reader type_reader key_reader field_tail_reader field_reader map_tail_reader dotted_reader of_map_reader map_reader
+    field_option_reader options_reader ended_reader value_end_reader type_reader key_reader field_tail_reader field_reader map_tail_reader dotted_reader of_map_reader map_reader
     oneof_statement_reader oneof_reader range_reader utf8_reader reserved_reader value_reader enum_statement_reader enum_reader message_statement_reader message_line_reader
     last_statement_reader room_statement_reader streamed_reader method_statement_reader method_end_reader parameter_reader method_reader service_statement_reader service_reader
-    access_reader import_reader package_reader file_statement_reader syntax_reader file_reader
-opened n ts = file_reader Strict n all_rules ts
+    access_reader import_reader package_reader file_statement_reader strict_syntax_reader syntax_reader file_reader
+opened n ts = file_reader reading.Strict n all_rules ts
 
 abbrev sucs : ℕ → ℕ → ℕ
 sucs zero n = n
@@ -91,8 +93,8 @@ in_message ts = proto3 ++ w "message" ∷ w "M" ∷ m "{" ∷ (ts ++ m "}" ∷ [
 one_field : FileSyntax (codes "m.proto") (in_message (int_field "a")) (of_fields (plain_field "a" ∷ []) no_messages)
 unfolding opened
 one_field = (
-  FileStatement.a_message (message_of (codes "M") (MessageStatement.a_field (plain_field "a") ∷ [])) ∷ [],
-  read_words always (file Strict) (file_reader Strict) (reads_file Strict) (in_message (int_field "a")) (FileStatement.a_message (message_of (codes "M") (MessageStatement.a_field (plain_field "a") ∷ [])) ∷ []) 20 (lit≤ tt) refl,
+  (Strict, FileStatement.a_message (message_of (codes "M") (MessageStatement.a_field (plain_field "a") ∷ [])) ∷ []),
+  read_words always (file reading.Strict) (file_reader reading.Strict) (reads_file reading.Strict) (in_message (int_field "a")) (Strict, FileStatement.a_message (message_of (codes "M") (MessageStatement.a_field (plain_field "a") ∷ [])) ∷ []) 20 (lit≤ tt) refl,
   refl,
 )
 
@@ -100,8 +102,8 @@ one_field = (
 named_message : FileSyntax (codes "m.proto") (in_message (int_field "message")) (of_fields (plain_field "message" ∷ []) no_messages)
 unfolding opened
 named_message = (
-  FileStatement.a_message (message_of (codes "M") (MessageStatement.a_field (plain_field "message") ∷ [])) ∷ [],
-  read_words always (file Strict) (file_reader Strict) (reads_file Strict) (in_message (int_field "message")) (FileStatement.a_message (message_of (codes "M") (MessageStatement.a_field (plain_field "message") ∷ [])) ∷ []) 20 (lit≤ tt) refl,
+  (Strict, FileStatement.a_message (message_of (codes "M") (MessageStatement.a_field (plain_field "message") ∷ [])) ∷ []),
+  read_words always (file reading.Strict) (file_reader reading.Strict) (reads_file reading.Strict) (in_message (int_field "message")) (Strict, FileStatement.a_message (message_of (codes "M") (MessageStatement.a_field (plain_field "message") ∷ [])) ∷ []) 20 (lit≤ tt) refl,
   refl,
 )
 
@@ -130,9 +132,9 @@ an_optional : FileSyntax (codes "m.proto") (in_message (w "optional" ∷ int_fie
 })
 unfolding opened
 an_optional = (
-  FileStatement.a_message (message_of (codes "M") (MessageStatement.a_field (field_of Optional (a_scalar code.Int32) (codes "a") 1 None) ∷ [])) ∷ [],
-  read_words always (file Strict) (file_reader Strict) (reads_file Strict) (in_message (w "optional" ∷ int_field "a"))
-      (FileStatement.a_message (message_of (codes "M") (MessageStatement.a_field (field_of Optional (a_scalar code.Int32) (codes "a") 1 None) ∷ [])) ∷ []) 20 (lit≤ tt) refl,
+  (Strict, FileStatement.a_message (message_of (codes "M") (MessageStatement.a_field (field_of Optional (a_scalar code.Int32) (codes "a") 1 None) ∷ [])) ∷ []),
+  read_words always (file reading.Strict) (file_reader reading.Strict) (reads_file reading.Strict) (in_message (w "optional" ∷ int_field "a"))
+      (Strict, FileStatement.a_message (message_of (codes "M") (MessageStatement.a_field (field_of Optional (a_scalar code.Int32) (codes "a") 1 None) ∷ [])) ∷ []) 20 (lit≤ tt) refl,
   refl,
 )
 
@@ -161,8 +163,8 @@ a_map : FileSyntax (codes "m.proto") (in_message map_symbols)
     no_messages))
 unfolding opened
 a_map = (
-  FileStatement.a_message (message_of (codes "M") (MessageStatement.a_map my_map ∷ [])) ∷ [],
-  read_words always (file Strict) (file_reader Strict) (reads_file Strict) (in_message map_symbols) (FileStatement.a_message (message_of (codes "M") (MessageStatement.a_map my_map ∷ [])) ∷ []) 30 (lit≤ tt) refl,
+  (Strict, FileStatement.a_message (message_of (codes "M") (MessageStatement.a_map my_map ∷ [])) ∷ []),
+  read_words always (file reading.Strict) (file_reader reading.Strict) (reads_file reading.Strict) (in_message map_symbols) (Strict, FileStatement.a_message (message_of (codes "M") (MessageStatement.a_map my_map ∷ [])) ∷ []) 30 (lit≤ tt) refl,
   refl,
 )
 
@@ -173,9 +175,9 @@ of_map = w "map" ∷ m "." ∷ w "a" ∷ w "b" ∷ m "=" ∷ d "1" ∷ m ";" ∷
 a_type_map : FileSyntax (codes "m.proto") (in_message of_map) (of_fields (field_of Unlabelled (a_name (codes "map.a")) (codes "b") 1 None ∷ []) no_messages)
 unfolding opened
 a_type_map = (
-  FileStatement.a_message (message_of (codes "M") (MessageStatement.a_field (field_of Unlabelled (a_name (codes "map.a")) (codes "b") 1 None) ∷ [])) ∷ [],
-  read_words always (file Strict) (file_reader Strict) (reads_file Strict) (in_message of_map)
-      (FileStatement.a_message (message_of (codes "M") (MessageStatement.a_field (field_of Unlabelled (a_name (codes "map.a")) (codes "b") 1 None) ∷ [])) ∷ []) 20 (lit≤ tt) refl,
+  (Strict, FileStatement.a_message (message_of (codes "M") (MessageStatement.a_field (field_of Unlabelled (a_name (codes "map.a")) (codes "b") 1 None) ∷ [])) ∷ []),
+  read_words always (file reading.Strict) (file_reader reading.Strict) (reads_file reading.Strict) (in_message of_map)
+      (Strict, FileStatement.a_message (message_of (codes "M") (MessageStatement.a_field (field_of Unlabelled (a_name (codes "map.a")) (codes "b") 1 None) ∷ [])) ∷ []) 20 (lit≤ tt) refl,
   refl,
 )
 
@@ -207,9 +209,9 @@ reserved_ranges : FileSyntax (codes "m.proto") (in_message ranges) (record {
 })
 unfolding opened
 reserved_ranges = (
-  FileStatement.a_message (message_of (codes "M") (MessageStatement.reserved_ranges ((pos 5, pos 6) ∷ (pos 7, pos 10) ∷ (pos 12, pos 536870912) ∷ []) ∷ [])) ∷ [],
-  read_words always (file Strict) (file_reader Strict) (reads_file Strict) (in_message ranges)
-      (FileStatement.a_message (message_of (codes "M") (MessageStatement.reserved_ranges ((pos 5, pos 6) ∷ (pos 7, pos 10) ∷ (pos 12, pos 536870912) ∷ []) ∷ [])) ∷ []) 30 (lit≤ tt) refl,
+  (Strict, FileStatement.a_message (message_of (codes "M") (MessageStatement.reserved_ranges ((pos 5, pos 6) ∷ (pos 7, pos 10) ∷ (pos 12, pos 536870912) ∷ []) ∷ [])) ∷ []),
+  read_words always (file reading.Strict) (file_reader reading.Strict) (reads_file reading.Strict) (in_message ranges)
+      (Strict, FileStatement.a_message (message_of (codes "M") (MessageStatement.reserved_ranges ((pos 5, pos 6) ∷ (pos 7, pos 10) ∷ (pos 12, pos 536870912) ∷ []) ∷ [])) ∷ []) 30 (lit≤ tt) refl,
   refl,
 )
 
@@ -217,7 +219,7 @@ reserved_ranges = (
 
 -- the reader refuses so, however far it may go
 abbrev Refuses : List Symbol → List Symbol → Option Rule → ℕ → Type 0
-Refuses ts rest why n = file_reader Strict n all_rules ts ≡ Err (rest, why)
+Refuses ts rest why n = file_reader reading.Strict n all_rules ts ≡ Err (rest, why)
 
 -- syntax = "proto2";
 abbrev proto2 : List Symbol
@@ -226,11 +228,19 @@ proto2 = w "syntax" ∷ m "=" ∷ text (codes "proto2") ∷ m ";" ∷ []
 another_syntax : SyntaxFault proto2 2 NotProto3
 unfolding opened
 another_syntax =
-    refused_so always (file Strict) (file_reader Strict) (reads_file Strict) proto2 (text (codes "proto2") ∷ m ";" ∷ []) (Some syntax_first) (λ e. cc e)
+    refused_so always (file reading.Strict) (file_reader reading.Strict) (reads_file reading.Strict) proto2 (text (codes "proto2") ∷ m ";" ∷ []) (Some syntax_first) (λ e. cc e)
     (at_least (Refuses proto2 (text (codes "proto2") ∷ m ";" ∷ []) (Some syntax_first)) 4 (λ n. refl))
 
+-- no file that is read strictly is empty
+none_there : (x : Grammar × List FileStatement) → ¬ file reading.Strict all_rules x []
+unfolding opened
+none_there x d = refused (words_read always (file reading.Strict) (file_reader reading.Strict) (reads_file reading.Strict) [] x 0 (lit≤ tt) d) refl
+  where
+    refused : {o : Outcome (Grammar × List FileStatement)} {y : (Grammar × List FileStatement) × List Symbol} {e : List Symbol × Option Rule} → o ≡ Ok y → o ≡ Err e → ⊥
+    refused h k = cc (h, k)
+
 no_symbols : SyntaxFault [] 0 NotProto3
-no_symbols = Fault.no_symbols refl
+no_symbols = Fault.no_symbols refl none_there
 
 -- int32 a = 1 [(x) = 1];
 abbrev custom : List Symbol
@@ -242,7 +252,7 @@ with_custom = proto3 ++ w "message" ∷ w "M" ∷ m "{" ∷ w "int32" ∷ w "a" 
 a_parenthesis : SyntaxFault with_custom 12 CustomOption
 unfolding opened
 a_parenthesis =
-    refused_so always (file Strict) (file_reader Strict) (reads_file Strict) with_custom custom (Some options_known) (λ e. cc e) (at_least (Refuses with_custom custom (Some options_known)) 20 (λ n. refl))
+    refused_so always (file reading.Strict) (file_reader reading.Strict) (reads_file reading.Strict) with_custom custom (Some options_known) (λ e. cc e) (at_least (Refuses with_custom custom (Some options_known)) 20 (λ n. refl))
 
 -- int32 a = NUMBER;
 abbrev numbered : String → List Symbol
@@ -251,13 +261,13 @@ numbered s = proto3 ++ w "message" ∷ w "M" ∷ m "{" ∷ w "int32" ∷ w "a" �
 too_large : SyntaxFault (numbered "2147483648") 10 NumberTooLarge
 unfolding opened
 too_large =
-    refused_so always (file Strict) (file_reader Strict) (reads_file Strict) (numbered "2147483648") (d "2147483648" ∷ m ";" ∷ m "}" ∷ []) (Some numbers_fit) (λ e. cc e)
+    refused_so always (file reading.Strict) (file_reader reading.Strict) (reads_file reading.Strict) (numbered "2147483648") (d "2147483648" ∷ m ";" ∷ m "}" ∷ []) (Some numbers_fit) (λ e. cc e)
     (at_least (Refuses (numbered "2147483648") (d "2147483648" ∷ m ";" ∷ m "}" ∷ []) (Some numbers_fit)) 13 (λ n. refl))
 
 no_integer : SyntaxFault (numbered "08") 10 Unexpected
 unfolding opened
 no_integer =
-    refused_so always (file Strict) (file_reader Strict) (reads_file Strict) (numbered "08") (d "08" ∷ m ";" ∷ m "}" ∷ []) None (λ e. cc e)
+    refused_so always (file reading.Strict) (file_reader reading.Strict) (reads_file reading.Strict) (numbered "08") (d "08" ∷ m ";" ∷ m "}" ∷ []) None (λ e. cc e)
     (at_least (Refuses (numbered "08") (d "08" ∷ m ";" ∷ m "}" ∷ []) None) 13 (λ n. refl))
 
 -- message M { required int32 a = 1; }
@@ -267,7 +277,7 @@ labelled = w "required" ∷ (int_field "a" ++ m "}" ∷ [])
 no_label : SyntaxFault (proto3 ++ w "message" ∷ w "M" ∷ m "{" ∷ labelled) 7 Unexpected
 unfolding opened
 no_label =
-    refused_so always (file Strict) (file_reader Strict) (reads_file Strict) (proto3 ++ w "message" ∷ w "M" ∷ m "{" ∷ labelled) labelled None (λ e. cc e)
+    refused_so always (file reading.Strict) (file_reader reading.Strict) (reads_file reading.Strict) (proto3 ++ w "message" ∷ w "M" ∷ m "{" ∷ labelled) labelled None (λ e. cc e)
     (at_least (Refuses (proto3 ++ w "message" ∷ w "M" ∷ m "{" ∷ labelled) labelled None) 14 (λ n. refl))
 
 -- a second package
@@ -277,13 +287,13 @@ package_a = w "package" ∷ w "a" ∷ m ";" ∷ []
 two_packages : SyntaxFault (proto3 ++ package_a ++ package_a) 7 Unexpected
 unfolding opened
 two_packages =
-    refused_so always (file Strict) (file_reader Strict) (reads_file Strict) (proto3 ++ package_a ++ package_a) package_a None (λ e. cc e) (at_least (Refuses (proto3 ++ package_a ++ package_a) package_a None) 10 (λ n. refl))
+    refused_so always (file reading.Strict) (file_reader reading.Strict) (reads_file reading.Strict) (proto3 ++ package_a ++ package_a) package_a None (λ e. cc e) (at_least (Refuses (proto3 ++ package_a ++ package_a) package_a None) 10 (λ n. refl))
 
 -- a message that is not closed
 open_message : SyntaxFault (proto3 ++ w "message" ∷ w "M" ∷ m "{" ∷ []) 7 Unexpected
 unfolding opened
 open_message =
-    refused_so always (file Strict) (file_reader Strict) (reads_file Strict) (proto3 ++ w "message" ∷ w "M" ∷ m "{" ∷ []) [] None (λ e. cc e) (at_least (Refuses (proto3 ++ w "message" ∷ w "M" ∷ m "{" ∷ []) [] None) 7 (λ n. refl))
+    refused_so always (file reading.Strict) (file_reader reading.Strict) (reads_file reading.Strict) (proto3 ++ w "message" ∷ w "M" ∷ m "{" ∷ []) [] None (λ e. cc e) (at_least (Refuses (proto3 ++ w "message" ∷ w "M" ∷ m "{" ∷ []) [] None) 7 (λ n. refl))
 
 -- `default` begins no option of a field
 abbrev defaults : List Symbol
@@ -294,7 +304,7 @@ with_default = proto3 ++ w "message" ∷ w "M" ∷ m "{" ∷ w "int32" ∷ w "a"
 
 no_default : SyntaxFault with_default 12 Unexpected
 unfolding opened
-no_default = refused_so always (file Strict) (file_reader Strict) (reads_file Strict) with_default defaults None (λ e. cc e) (at_least (Refuses with_default defaults None) 18 (λ n. refl))
+no_default = refused_so always (file reading.Strict) (file_reader reading.Strict) (reads_file reading.Strict) with_default defaults None (λ e. cc e) (at_least (Refuses with_default defaults None) 18 (λ n. refl))
 
 -- so many messages, each in the one before
 abbrev nested : ℕ → List Symbol → List Symbol
@@ -305,7 +315,7 @@ nested (suc k) ts = w "message" ∷ w "A" ∷ m "{" ∷ nested k ts
 a_deep_nest : SyntaxFault (proto3 ++ nested 64 (nested 1 [])) 196 NestedTooDeep
 unfolding opened
 a_deep_nest =
-    refused_so always (file Strict) (file_reader Strict) (reads_file Strict) (proto3 ++ nested 64 (nested 1 [])) (nested 1 []) (Some nests_bounded) (λ e. cc e)
+    refused_so always (file reading.Strict) (file_reader reading.Strict) (reads_file reading.Strict) (proto3 ++ nested 64 (nested 1 [])) (nested 1 []) (Some nests_bounded) (λ e. cc e)
     (at_least (Refuses (proto3 ++ nested 64 (nested 1 [])) (nested 1 []) (Some nests_bounded)) 199 (λ n. refl))
 
 -- service S { rpc r(stream A) returns (.p.B) { ; } }
@@ -328,9 +338,9 @@ streams : FileSyntax (codes "m.proto") (proto3 ++ package_a ++ a_service) (recor
 })
 unfolding opened
 streams = (
-  FileStatement.a_package (codes "a") ∷ FileStatement.a_service (record { name = codes "S"; methods = a_method ∷ [] }) ∷ [],
-  read_words always (file Strict) (file_reader Strict) (reads_file Strict) (proto3 ++ package_a ++ a_service)
-      (FileStatement.a_package (codes "a") ∷ FileStatement.a_service (record { name = codes "S"; methods = a_method ∷ [] }) ∷ []) 40 (lit≤ tt) refl,
+  (Strict, FileStatement.a_package (codes "a") ∷ FileStatement.a_service (record { name = codes "S"; methods = a_method ∷ [] }) ∷ []),
+  read_words always (file reading.Strict) (file_reader reading.Strict) (reads_file reading.Strict) (proto3 ++ package_a ++ a_service)
+      (Strict, FileStatement.a_package (codes "a") ∷ FileStatement.a_service (record { name = codes "S"; methods = a_method ∷ [] }) ∷ []) 40 (lit≤ tt) refl,
   refl,
 )
 
@@ -354,8 +364,8 @@ aliases : FileSyntax (codes "m.proto") (proto3 ++ an_enum) (record {
 })
 unfolding opened
 aliases = (
-  FileStatement.an_enum values ∷ [],
-  read_words always (file Strict) (file_reader Strict) (reads_file Strict) (proto3 ++ an_enum) (FileStatement.an_enum values ∷ []) 40 (lit≤ tt) refl,
+  (Strict, FileStatement.an_enum values ∷ []),
+  read_words always (file reading.Strict) (file_reader reading.Strict) (reads_file reading.Strict) (proto3 ++ an_enum) (Strict, FileStatement.an_enum values ∷ []) 40 (lit≤ tt) refl,
   refl,
 )
 
@@ -370,4 +380,4 @@ place_of_end = refl
 
 -- an empty source is refused at its end
 empty_source : HasFault [] 0 NotProto3
-empty_source = HasFaultIn.in_syntax {ts = []} {ss = []} {k = 0} (lit≤ tt) ([], (refl, refl)) (0, Lexes.done) AreSymbols.none (Fault.no_symbols refl)
+empty_source = HasFaultIn.in_syntax {ts = []} {ss = []} {k = 0} (lit≤ tt) ([], (refl, refl)) (0, Lexes.done) AreSymbols.none (Fault.no_symbols refl none_there)

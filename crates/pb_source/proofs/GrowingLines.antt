@@ -1,19 +1,20 @@
 -- The readers of statements and of files that may go further.
-use Rattle.std.proofs.Common.{◌≡◌, ℕ, zero, suc, ◌+◌, ◌-◌, ◌≤◌, List, [], ◌∷◌, Bool, true, false, codes, ap, ◌∙◌, subst, Option, Some, None, Err, arith, ◌⊎◌, inl, inr, ℤ}
+use Rattle.std.proofs.Common.{◌≡◌, ℕ, zero, suc, ◌+◌, ◌-◌, ◌≤◌, List, [], ◌∷◌, Bool, true, false, not, codes, ap, ◌∙◌, subst, Option, Some, None, Err, arith, ◌⊎◌, inl, inr, ℤ}
 use Rattle.std.specs.Prelude.{option_map}
 use Rattle.pb_decl.specs.Decls.{DeclaredMessage}
 use Rattle.pb_tokens.specs.declared.grammar.Grammar.{Grammar}
-use Rattle.pb_tokens.specs.declared.grammar.Grammar.TheVariants.{Strict, Proto3}
 use Rattle.pb_tokens.specs.declared.rule.Rule.{Rule}
-use Rattle.pb_tokens.proofs.Growing.{Grows, grows_same, grows_mapped, grows_both, grows_behind, grows_before, grows_choice, GrowsSome, grows_kinds, grows_guarded, grows_until, grows_to_end, grows_listed, grows_fullname, grows_typename, grows_option, grows_setting, grows_field_end, grows_value_end, grows_type}
+use Rattle.pb_tokens.proofs.Growing.{Grows, grows_chain, grows_same, grows_mapped, grows_both, grows_behind, grows_before, grows_choice, GrowsSome, grows_kinds, grows_guarded, grows_until, grows_to_end, grows_listed, grows_fullname, grows_typename, grows_option, grows_setting, grows_ended, grows_value_end, grows_type}
 use Rattle.pb_tokens.specs.declared.rule.Rule.TheVariants.{NestsBounded as nests_bounded}
 use Rattle.pb_tokens.specs.Symbols.{Symbol}
 use Rattle.pb_tokens.specs.Language.{Rules}
 use Rattle.pb_tokens.specs.Said.{joined}
 use Rattle.pb_tokens.specs.Readers.Forms.{Outcome, Reader, answer, mapped, symbol, is_mark, is_keyword, keyword_reader, mark_reader}
 use Rattle.pb_tokens.specs.Readers.Phrases.{name_reader, counted_reader, key_reader, signed_reader, utf8_reader, type_of, message_range_reader, enum_range_reader, is_dot, is_text}
+use Rattle.pb_source.specs.declared.reading.Reading.{Reading}
+use Rattle.pb_source.specs.Syntaxes.{is_lenient, is_proto2, optional_label}
 use Rattle.pb_source.specs.declared.kind.Label.{Label}
-use Rattle.pb_source.specs.declared.kind.Label.TheVariants.{Unlabelled, Repeated, Optional}
+use Rattle.pb_source.specs.declared.kind.Label.TheVariants.{Unlabelled, Repeated}
 use Rattle.pb_source.specs.declared.kind.FileKind.{FileKind}
 use Rattle.pb_source.specs.declared.kind.FileKind.TheVariants as in_file
 use Rattle.pb_source.specs.declared.kind.MessageKind.{MessageKind}
@@ -29,19 +30,23 @@ use Rattle.pb_source.specs.declared.kind.ServiceKind.TheVariants as in_service
 use Rattle.pb_source.specs.declared.kind.MethodKind.{MethodKind}
 use Rattle.pb_source.specs.declared.kind.MethodKind.TheVariants as in_method
 use Rattle.pb_source.specs.Meaning.{MessageStatement, EnumStatement, FileStatement, those_said, message_of, enum_of}
-use Rattle.pb_source.specs.Readers.Lines.{dropped, extend_kind, extension_line, extension_reader, extend_reader, extensions_reader, import_reader, syntax_reader, field_from, map_from, said_of_alias, method_from, service_from, is_closing, is_package, braced, field_tail_reader, field_reader, map_tail_reader, dotted_reader, of_map_reader, map_reader, oneof_kind, oneof_line, oneof_statement_reader, oneof_reader, reserved_reader, value_reader, enum_kind, enum_statement_line, enum_statement_reader, enum_reader, message_kind, message_statement_line, message_statement_reader, message_line_reader, last_statement_reader, room_statement_reader, streams, streamed_reader, method_kind, method_line, method_statement_reader, method_end_reader, parameter_reader, method_reader, service_kind, service_line, service_statement_reader, service_reader, package_reader, file_kind, file_line, file_statement_reader, file_reader}
+use Rattle.pb_source.specs.Readers.Lines.{taken, dropped, map_rest_reader, statements_reader, extend_kind, extension_line, extension_reader, extend_reader, extensions_reader, import_reader, syntax_reader, field_from, map_from, said_of_alias, method_from, service_from, is_closing, is_package, braced, field_tail_reader, field_reader, map_tail_reader, dotted_reader, of_map_reader, map_reader, oneof_kind, oneof_line, oneof_statement_reader, oneof_reader, reserved_reader, value_reader, enum_kind, enum_statement_line, enum_statement_reader, enum_reader, message_kind, message_statement_line, message_statement_reader, message_line_reader, last_statement_reader, room_statement_reader, streams, streamed_reader, method_kind, method_line, method_statement_reader, method_end_reader, parameter_reader, method_reader, service_kind, service_line, service_statement_reader, service_reader, package_reader, file_kind, file_line, file_statement_reader, file_reader}
 
 -- ---- repetition
 
 grows_braced : {I : Type 0} {p q : Reader I} (n : ℕ) → Grows p q → Grows (braced n p) (braced (suc n) q)
 grows_braced n g = grows_behind (grows_same (mark_reader (codes "{"))) (grows_until n is_closing [] g (grows_same (mark_reader (codes "}"))))
 
+grows_taken : {A : Type 0} (b : Bool) {p q : Reader A} → Grows p q → GrowsSome (taken b p) (taken b q)
+grows_taken true g = g
+grows_taken false g = tt
+
 -- ---- the lines of the grammar
 
 grows_field_tail : (grammar : Grammar) → (n : ℕ) → Grows (field_tail_reader grammar n) (field_tail_reader grammar (suc n))
 unfolding field_tail_reader
 grows_field_tail grammar n = grows_both (grows_same name_reader)
-    (grows_behind (grows_same (mark_reader (codes "="))) (grows_both (grows_same counted_reader) (grows_field_end grammar n)))
+    (grows_behind (grows_same (mark_reader (codes "="))) (grows_both (grows_same counted_reader) (grows_ended (codes ";") grammar n)))
 
 grows_field : (grammar : Grammar) → (n : ℕ) (l : Label) → Grows (field_reader grammar n l) (field_reader grammar (suc n) l)
 unfolding field_reader
@@ -64,11 +69,14 @@ unfolding of_map_reader
 grows_of_map grammar n =
     grows_mapped (field_from Unlabelled) (grows_both (grows_mapped (λ ws. type_of (codes "map" ∷ ws)) (grows_dotted n)) (grows_field_tail grammar (suc n)))
 
+grows_map_rest : (b : Bool) (grammar : Grammar) (n : ℕ) → Grows (map_rest_reader b grammar n) (map_rest_reader b grammar (suc n))
+grows_map_rest true grammar n = grows_mapped MessageStatement.a_map (grows_map_tail grammar (suc n))
+grows_map_rest false grammar n =
+    grows_choice (is_mark (codes "<")) (grows_mapped MessageStatement.a_map (grows_map_tail grammar (suc n))) (grows_mapped MessageStatement.a_field (grows_of_map grammar n))
+
 grows_map : (grammar : Grammar) → (n : ℕ) → Grows (map_reader grammar n) (map_reader grammar (suc n))
 unfolding map_reader
-grows_map grammar n =
-    grows_behind (grows_same (keyword_reader (codes "map")))
-    (grows_choice (is_mark (codes "<")) (grows_mapped MessageStatement.a_map (grows_map_tail grammar (suc n))) (grows_mapped MessageStatement.a_field (grows_of_map grammar n)))
+grows_map grammar n = grows_behind (grows_same (keyword_reader (codes "map"))) (grows_map_rest (is_proto2 grammar) grammar n)
 
 grows_oneof_statement : (grammar : Grammar) → (n : ℕ) → Grows (oneof_statement_reader grammar n) (oneof_statement_reader grammar (suc n))
 unfolding oneof_statement_reader
@@ -126,8 +134,9 @@ grows_extension grammar n = grows_kinds extend_kind (extension_line grammar n) (
     line : (k : ExtendKind) → GrowsSome (extension_line grammar n k) (extension_line grammar (suc n) k)
     line in_extend.Empty = grows_same (mark_reader (codes ";"))
     line in_extend.Repeated = grows_mapped (λ _. tt) (grows_behind (grows_same (keyword_reader (codes "repeated"))) (grows_field grammar n Repeated))
-    line in_extend.Optional = grows_mapped (λ _. tt) (grows_behind (grows_same (keyword_reader (codes "optional"))) (grows_field grammar n Optional))
-    line in_extend.Field = grows_mapped (λ _. tt) (grows_field grammar n Unlabelled)
+    line in_extend.Optional = grows_mapped (λ _. tt) (grows_behind (grows_same (keyword_reader (codes "optional"))) (grows_field grammar n (optional_label grammar)))
+    line in_extend.Required = grows_taken (is_proto2 grammar) (grows_mapped (λ _. tt) (grows_behind (grows_same (keyword_reader (codes "required"))) (grows_field grammar n Unlabelled)))
+    line in_extend.Field = grows_taken (not (is_proto2 grammar)) (grows_mapped (λ _. tt) (grows_field grammar n Unlabelled))
 
 grows_extend : (grammar : Grammar) → (n : ℕ) → Grows (extend_reader grammar n) (extend_reader grammar (suc n))
 unfolding extend_reader
@@ -142,8 +151,7 @@ grows_extensions grammar n =
     (grows_behind (grows_mapped (λ _. tt) (grows_listed n (grows_same message_range_reader))) (grows_value_end grammar n))
 
 grows_dropped : {A : Type 0} (grammar : Grammar) (v : A) {p q : Reader (Unit {0})} → Grows p q → GrowsSome (dropped grammar v p) (dropped grammar v q)
-grows_dropped Strict v g = tt
-grows_dropped Proto3 v g = grows_mapped (λ _. v) g
+grows_dropped grammar v g = grows_taken (is_lenient grammar) (grows_mapped (λ _. v) g)
 
 -- ---- messages
 
@@ -167,9 +175,10 @@ grows_message_statement grammar n p q g = grows_kinds message_kind (message_stat
     line in_message.Oneof = grows_mapped (λ x. MessageStatement.a_oneof x.0 x.1) (grows_oneof grammar n)
     line in_message.Reserved = grows_reserved n message_range_reader MessageStatement.reserved_ranges MessageStatement.reserved_names
     line in_message.Repeated = grows_mapped MessageStatement.a_field (grows_behind (grows_same (keyword_reader (codes "repeated"))) (grows_field grammar n Repeated))
-    line in_message.Optional = grows_mapped MessageStatement.a_field (grows_behind (grows_same (keyword_reader (codes "optional"))) (grows_field grammar n Optional))
+    line in_message.Optional = grows_mapped MessageStatement.a_field (grows_behind (grows_same (keyword_reader (codes "optional"))) (grows_field grammar n (optional_label grammar)))
+    line in_message.Required = grows_taken (is_proto2 grammar) (grows_mapped MessageStatement.a_field (grows_behind (grows_same (keyword_reader (codes "required"))) (grows_field grammar n Unlabelled)))
     line in_message.Map = grows_map grammar n
-    line in_message.Field = grows_mapped MessageStatement.a_field (grows_field grammar n Unlabelled)
+    line in_message.Field = grows_taken (not (is_proto2 grammar)) (grows_mapped MessageStatement.a_field (grows_field grammar n Unlabelled))
     line in_message.Extend = grows_dropped grammar MessageStatement.nothing_said (grows_extend grammar n)
     line in_message.Extensions = grows_dropped grammar MessageStatement.nothing_said (grows_extensions grammar n)
 
@@ -263,9 +272,12 @@ grows_file_statement grammar n said = grows_kinds file_kind (file_line grammar n
     line said in_file.Service = grows_mapped FileStatement.a_service (grows_service grammar n)
     line said in_file.Extend = grows_dropped grammar FileStatement.nothing_said (grows_extend grammar n)
 
-grows_file : (grammar : Grammar) → (n : ℕ) → Grows (file_reader grammar n) (file_reader grammar (suc n))
+grows_statements : (grammar : Grammar) → (n : ℕ) → Grows (statements_reader n grammar) (statements_reader (suc n) grammar)
+grows_statements grammar n = grows_mapped (λ ss. (grammar, ss)) (grows_to_end n is_package false [] (grows_file_statement grammar n))
+
+grows_file : (r : Reading) → (n : ℕ) → Grows (file_reader r n) (file_reader r (suc n))
 unfolding file_reader
-grows_file grammar n = grows_behind (grows_same syntax_reader) (grows_to_end n is_package false [] (grows_file_statement grammar n))
+grows_file r n = grows_chain (grows_same (syntax_reader r)) (λ grammar. grows_statements grammar n)
 
 -- ---- further by any number
 
@@ -278,21 +290,21 @@ sucs_is zero n = omega arith
 sucs_is (suc k) n = let e = sucs_is k n in omega arith
 
 -- a file that is refused with a symbol is refused so however far the reader may go
-module _ (grammar : Grammar) (rules : Rules) (ts : List Symbol) (t : Symbol) (x : List Symbol) (why : Option Rule) where
+module _ (r : Reading) (rules : Rules) (ts : List Symbol) (t : Symbol) (x : List Symbol) (why : Option Rule) where
   apart : {A : Type 0} {o : Outcome A} {w : Option Rule} → o ≡ Err (t ∷ x, why) → o ≡ Err ([], w) → ⊥
   apart {w = w} e f =
       let same : ◌≡◌ {A = List Symbol × Option Rule} (t ∷ x, why) ([], w) = cc (e, f) in let none : t ∷ x ≡ [] = ap (λ z. z.0) same in absurd (cc none)
 
-  once : (n : ℕ) → (file_reader grammar (suc n) rules ts ≡ file_reader grammar n rules ts) ⊎ ((w : Option Rule) × (file_reader grammar n rules ts ≡ Err ([], w)))
-      → file_reader grammar n rules ts ≡ Err (t ∷ x, why) → file_reader grammar (suc n) rules ts ≡ Err (t ∷ x, why)
+  once : (n : ℕ) → (file_reader r (suc n) rules ts ≡ file_reader r n rules ts) ⊎ ((w : Option Rule) × (file_reader r n rules ts ≡ Err ([], w)))
+      → file_reader r n rules ts ≡ Err (t ∷ x, why) → file_reader r (suc n) rules ts ≡ Err (t ∷ x, why)
   once n (inl e) h = e ∙ h
   once n (inr (w, e)) h = absurd (apart h e)
 
-  further : (n k : ℕ) → file_reader grammar n rules ts ≡ Err (t ∷ x, why) → file_reader grammar (sucs k n) rules ts ≡ Err (t ∷ x, why)
+  further : (n k : ℕ) → file_reader r n rules ts ≡ Err (t ∷ x, why) → file_reader r (sucs k n) rules ts ≡ Err (t ∷ x, why)
   further n zero h = h
-  further n (suc k) h = once (sucs k n) ((grows_file grammar (sucs k n)).grows rules ts) (further n k h)
+  further n (suc k) h = once (sucs k n) ((grows_file r (sucs k n)).grows rules ts) (further n k h)
 
-  pub refused_further : (n m : ℕ) → n ≤ m → file_reader grammar n rules ts ≡ Err (t ∷ x, why) → file_reader grammar m rules ts ≡ Err (t ∷ x, why)
+  pub refused_further : (n m : ℕ) → n ≤ m → file_reader r n rules ts ≡ Err (t ∷ x, why) → file_reader r m rules ts ≡ Err (t ∷ x, why)
   refused_further n m l h =
       let e = sucs_is (m - n) n in let same : sucs (m - n) n ≡ m = omega arith in
-      subst (λ k. file_reader grammar k rules ts ≡ Err (t ∷ x, why)) same (further n (m - n) h)
+      subst (λ k. file_reader r k rules ts ≡ Err (t ∷ x, why)) same (further n (m - n) h)

@@ -1,22 +1,26 @@
--- Small files of all of proto3 by their symbols: what they declare, or their fault, worked out by the rules.
+-- Small files that are read leniently, by their symbols: what they declare, or their fault, worked out by the rules.
 use Prim.Native.String.{String}
-use Rattle.std.proofs.Common.{◌≡◌, ℕ, zero, suc, ◌≤◌, List, [], ◌∷◌, ◌++◌, codes, refl, Option, Some, None, Err, lit≤, arith, false, true, pos}
-use Rattle.pb_decl.specs.Decls.{DeclaredField, DeclaredFile, message as message_decl, no_messages, more_messages}
+use Rattle.std.proofs.Common.{◌≡◌, ℕ, zero, suc, ◌≤◌, List, [], ◌∷◌, ◌++◌, codes, refl, Option, Some, None, Err, lit≤, arith, false, true, pos, map}
+use Rattle.pb_decl.specs.Decls.{DeclaredField, DeclaredFile, DeclaredMessages, message as message_decl, no_messages, more_messages}
 use Rattle.pb_decl.specs.declared.decl.TypeCode.TheVariants as code
-use Rattle.pb_tokens.specs.declared.fault.SourceCause.TheVariants.{Unexpected}
+use Rattle.pb_tokens.specs.declared.fault.SourceCause.TheVariants.{Unexpected, NotProto3}
 use Rattle.pb_tokens.specs.declared.rule.Rule.{Rule}
-use Rattle.pb_tokens.specs.declared.grammar.Grammar.TheVariants.{Proto3}
+use Rattle.pb_tokens.specs.declared.rule.Rule.TheVariants.{SyntaxFirst as syntax_first}
+use Rattle.pb_tokens.specs.declared.grammar.Grammar.{Grammar}
+use Rattle.pb_tokens.specs.declared.grammar.Grammar.TheVariants.{Lenient}
+use Rattle.pb_tokens.specs.declared.grammar.Syntax.TheVariants.{Proto2, Proto3}
 use Rattle.pb_tokens.specs.Symbols.{Symbol, word, number, text, sign}
 use Rattle.pb_tokens.specs.Language.{all_rules}
 use Rattle.pb_tokens.specs.Said.{a_scalar}
 use Rattle.pb_tokens.specs.Readers.Forms.{Outcome}
-use Rattle.pb_tokens.specs.Readers.Phrases.{name_reader, fullname_reader, typename_reader, limited_reader, signed_reader, plus_or_minus_reader, sign_reader, exponent_end_reader, scaled_reader, fraction_reader, begun_end_reader, numeral_reader, aggregate_reader, signed_value_reader, unquoted_reader, constant_reader, part_reader, optname_reader, assignment_reader, option_reader, setting_reader, field_option_reader, options_reader, field_end_reader, value_end_reader, type_reader, key_reader, range_reader, utf8_reader}
+use Rattle.pb_tokens.specs.Readers.Phrases.{name_reader, fullname_reader, typename_reader, limited_reader, signed_reader, plus_or_minus_reader, sign_reader, exponent_end_reader, scaled_reader, fraction_reader, begun_end_reader, numeral_reader, aggregate_reader, signed_value_reader, unquoted_reader, constant_reader, part_reader, optname_reader, assignment_reader, option_reader, setting_reader, field_option_reader, options_reader, ended_reader, value_end_reader, type_reader, key_reader, range_reader, utf8_reader}
 use Rattle.pb_tokens.proofs.ToEnd.{always}
 use Rattle.pb_source.specs.declared.kind.Label.TheVariants.{Unlabelled, Repeated}
+use Rattle.pb_source.specs.declared.reading.Reading.TheVariants as reading
 use Rattle.pb_source.specs.Meaning.{FileStatement, MessageStatement, field_of, message_of}
 use Rattle.pb_source.specs.Grammar.{file, FileSyntaxIn}
 use Rattle.pb_source.specs.SyntaxFault.{SyntaxFaultIn}
-use Rattle.pb_source.specs.Readers.Lines.{field_tail_reader, field_reader, map_tail_reader, dotted_reader, of_map_reader, map_reader, oneof_statement_reader, oneof_reader, reserved_reader, value_reader, enum_statement_reader, enum_reader, extension_reader, extend_reader, extensions_reader, message_statement_reader, message_line_reader, last_statement_reader, room_statement_reader, streamed_reader, method_statement_reader, method_end_reader, parameter_reader, method_reader, service_statement_reader, service_reader, access_reader, import_reader, package_reader, file_statement_reader, syntax_reader, file_reader}
+use Rattle.pb_source.specs.Readers.Lines.{field_tail_reader, field_reader, map_tail_reader, dotted_reader, of_map_reader, map_reader, oneof_statement_reader, oneof_reader, reserved_reader, value_reader, enum_statement_reader, enum_reader, extension_reader, extend_reader, extensions_reader, message_statement_reader, message_line_reader, last_statement_reader, room_statement_reader, streamed_reader, method_statement_reader, method_end_reader, parameter_reader, method_reader, service_statement_reader, service_reader, access_reader, import_reader, package_reader, file_statement_reader, lenient_syntax_reader, syntax_reader, file_reader}
 use Rattle.pb_source.proofs.FaultLemmas.{refused_so, read_words}
 use Rattle.pb_source.proofs.FileLaws.{reads_file}
 
@@ -33,15 +37,15 @@ abbrev proto3 : List Symbol
 proto3 = w "syntax" ∷ m "=" ∷ text (codes "proto3") ∷ m ";" ∷ []
 
 -- the reader of files, with those of its lines
-opened : ℕ → List Symbol → Outcome (List FileStatement)
+opened : ℕ → List Symbol → Outcome (Grammar × List FileStatement)
 unfolding
     name_reader fullname_reader typename_reader limited_reader signed_reader plus_or_minus_reader sign_reader exponent_end_reader scaled_reader fraction_reader begun_end_reader
     numeral_reader aggregate_reader signed_value_reader unquoted_reader constant_reader part_reader optname_reader assignment_reader option_reader setting_reader
-    field_option_reader options_reader field_end_reader value_end_reader type_reader key_reader field_tail_reader field_reader map_tail_reader dotted_reader of_map_reader map_reader
+    field_option_reader options_reader ended_reader value_end_reader type_reader key_reader field_tail_reader field_reader map_tail_reader dotted_reader of_map_reader map_reader
     oneof_statement_reader oneof_reader range_reader utf8_reader reserved_reader value_reader enum_statement_reader enum_reader extension_reader extend_reader extensions_reader
     message_statement_reader message_line_reader last_statement_reader room_statement_reader streamed_reader method_statement_reader method_end_reader parameter_reader method_reader
-    service_statement_reader service_reader access_reader import_reader package_reader file_statement_reader syntax_reader file_reader
-opened n ts = file_reader Proto3 n all_rules ts
+    service_statement_reader service_reader access_reader import_reader package_reader file_statement_reader lenient_syntax_reader syntax_reader file_reader
+opened n ts = file_reader reading.Lenient n all_rules ts
 
 abbrev sucs : ℕ → ℕ → ℕ
 sucs zero n = n
@@ -68,28 +72,28 @@ empty_file = record {
 abbrev custom : List Symbol
 custom = w "option" ∷ m "(" ∷ w "a" ∷ m "." ∷ w "b" ∷ m ")" ∷ m "." ∷ w "c" ∷ m "=" ∷ m "-" ∷ d "1" ∷ m "." ∷ d "5e" ∷ m "-" ∷ d "3" ∷ m ";" ∷ []
 
-a_custom_option : FileSyntaxIn Proto3 (codes "m.proto") (proto3 ++ custom) empty_file
+a_custom_option : FileSyntaxIn reading.Lenient (codes "m.proto") (proto3 ++ custom) empty_file
 unfolding opened
 a_custom_option =
-    (FileStatement.nothing_said ∷ [], read_words always (file Proto3) (file_reader Proto3) (reads_file Proto3) (proto3 ++ custom) (FileStatement.nothing_said ∷ []) 25 (lit≤ tt) refl, refl)
+    ((Lenient Proto3, FileStatement.nothing_said ∷ []), read_words always (file reading.Lenient) (file_reader reading.Lenient) (reads_file reading.Lenient) (proto3 ++ custom) (Lenient Proto3, FileStatement.nothing_said ∷ []) 25 (lit≤ tt) refl, refl)
 
 -- option a = { b [ < > ] };
 abbrev in_braces : List Symbol
 in_braces = w "option" ∷ w "a" ∷ m "=" ∷ m "{" ∷ w "b" ∷ m "[" ∷ m "<" ∷ m ">" ∷ m "]" ∷ m "}" ∷ m ";" ∷ []
 
-an_aggregate : FileSyntaxIn Proto3 (codes "m.proto") (proto3 ++ in_braces) empty_file
+an_aggregate : FileSyntaxIn reading.Lenient (codes "m.proto") (proto3 ++ in_braces) empty_file
 unfolding opened
 an_aggregate =
-    (FileStatement.nothing_said ∷ [], read_words always (file Proto3) (file_reader Proto3) (reads_file Proto3) (proto3 ++ in_braces) (FileStatement.nothing_said ∷ []) 20 (lit≤ tt) refl, refl)
+    ((Lenient Proto3, FileStatement.nothing_said ∷ []), read_words always (file reading.Lenient) (file_reader reading.Lenient) (reads_file reading.Lenient) (proto3 ++ in_braces) (Lenient Proto3, FileStatement.nothing_said ∷ []) 20 (lit≤ tt) refl, refl)
 
 -- extend .X { int32 a = 1; repeated int32 b = 2; ; }
 abbrev block : List Symbol
 block =
     w "extend" ∷ m "." ∷ w "X" ∷ m "{" ∷ w "int32" ∷ w "a" ∷ m "=" ∷ d "1" ∷ m ";" ∷ w "repeated" ∷ w "int32" ∷ w "b" ∷ m "=" ∷ d "2" ∷ m ";" ∷ m ";" ∷ m "}" ∷ []
 
-a_block : FileSyntaxIn Proto3 (codes "m.proto") (proto3 ++ block) empty_file
+a_block : FileSyntaxIn reading.Lenient (codes "m.proto") (proto3 ++ block) empty_file
 unfolding opened
-a_block = (FileStatement.nothing_said ∷ [], read_words always (file Proto3) (file_reader Proto3) (reads_file Proto3) (proto3 ++ block) (FileStatement.nothing_said ∷ []) 25 (lit≤ tt) refl, refl)
+a_block = ((Lenient Proto3, FileStatement.nothing_said ∷ []), read_words always (file reading.Lenient) (file_reader reading.Lenient) (reads_file reading.Lenient) (proto3 ++ block) (Lenient Proto3, FileStatement.nothing_said ∷ []) 25 (lit≤ tt) refl, refl)
 
 -- message M { extensions 5 to max [a = 1]; repeated int32 b = 1 [(packed) = 1.5, packed = true]; }
 abbrev said : List Symbol
@@ -104,7 +108,7 @@ packed_field = field_of Repeated (a_scalar code.Int32) (codes "b") 1 (Some true)
 abbrev declared : List FileStatement
 declared = FileStatement.a_message (message_of (codes "M") (MessageStatement.nothing_said ∷ MessageStatement.a_field packed_field ∷ [])) ∷ []
 
-packed_alone_counts : FileSyntaxIn Proto3 (codes "m.proto") (proto3 ++ said) (record {
+packed_alone_counts : FileSyntaxIn reading.Lenient (codes "m.proto") (proto3 ++ said) (record {
   name = codes "m.proto";
   package_name = [];
   imports = [];
@@ -116,36 +120,122 @@ packed_alone_counts : FileSyntaxIn Proto3 (codes "m.proto") (proto3 ++ said) (re
   is_proto2 = false;
 })
 unfolding opened
-packed_alone_counts = (declared, read_words always (file Proto3) (file_reader Proto3) (reads_file Proto3) (proto3 ++ said) declared 45 (lit≤ tt) refl, refl)
+packed_alone_counts = ((Lenient Proto3, declared), read_words always (file reading.Lenient) (file_reader reading.Lenient) (reads_file reading.Lenient) (proto3 ++ said) (Lenient Proto3, declared) 45 (lit≤ tt) refl, refl)
 
 -- ---- faults
 
 abbrev Refuses : List Symbol → List Symbol → Option Rule → ℕ → Type 0
-Refuses ts rest why n = file_reader Proto3 n all_rules ts ≡ Err (rest, why)
+Refuses ts rest why n = file_reader reading.Lenient n all_rules ts ≡ Err (rest, why)
 
 -- option a = { [ }
 abbrev unbalanced : List Symbol
 unbalanced = proto3 ++ w "option" ∷ w "a" ∷ m "=" ∷ m "{" ∷ m "[" ∷ m "}" ∷ []
 
-another_bracket : SyntaxFaultIn Proto3 unbalanced 9 Unexpected
+another_bracket : SyntaxFaultIn reading.Lenient unbalanced 9 Unexpected
 unfolding opened
 another_bracket =
-    refused_so always (file Proto3) (file_reader Proto3) (reads_file Proto3) unbalanced (m "}" ∷ []) None (λ e. cc e) (at_least (Refuses unbalanced (m "}" ∷ []) None) 10 (λ n. refl))
+    refused_so always (file reading.Lenient) (file_reader reading.Lenient) (reads_file reading.Lenient) unbalanced (m "}" ∷ []) None (λ e. cc e) (at_least (Refuses unbalanced (m "}" ∷ []) None) 10 (λ n. refl))
 
 -- option a = 08; is no integer, and no floating literal without its point
 abbrev pointless : List Symbol
 pointless = proto3 ++ w "option" ∷ w "a" ∷ m "=" ∷ d "08" ∷ m ";" ∷ []
 
-no_point : SyntaxFaultIn Proto3 pointless 8 Unexpected
+no_point : SyntaxFaultIn reading.Lenient pointless 8 Unexpected
 unfolding opened
 no_point =
-    refused_so always (file Proto3) (file_reader Proto3) (reads_file Proto3) pointless (m ";" ∷ []) None (λ e. cc e) (at_least (Refuses pointless (m ";" ∷ []) None) 9 (λ n. refl))
+    refused_so always (file reading.Lenient) (file_reader reading.Lenient) (reads_file reading.Lenient) pointless (m ";" ∷ []) None (λ e. cc e) (at_least (Refuses pointless (m ";" ∷ []) None) 9 (λ n. refl))
 
 -- extend X { required
 abbrev labelled : List Symbol
 labelled = proto3 ++ w "extend" ∷ w "X" ∷ m "{" ∷ w "required" ∷ []
 
-no_label : SyntaxFaultIn Proto3 labelled 7 Unexpected
+no_label : SyntaxFaultIn reading.Lenient labelled 7 Unexpected
 unfolding opened
 no_label =
-    refused_so always (file Proto3) (file_reader Proto3) (reads_file Proto3) labelled (w "required" ∷ []) None (λ e. cc e) (at_least (Refuses labelled (w "required" ∷ []) None) 8 (λ n. refl))
+    refused_so always (file reading.Lenient) (file_reader reading.Lenient) (reads_file reading.Lenient) labelled (w "required" ∷ []) None (λ e. cc e) (at_least (Refuses labelled (w "required" ∷ []) None) 8 (λ n. refl))
+
+-- ---- proto2
+
+abbrev proto2_file : DeclaredMessages → DeclaredFile
+proto2_file messages = record {
+  name = codes "m.proto";
+  package_name = [];
+  imports = [];
+  public_indexes = [];
+  messages = messages;
+  enums = [];
+  services = [];
+  is_proto2 = true;
+}
+
+no_syntax : FileSyntaxIn reading.Lenient (codes "m.proto") [] (proto2_file no_messages)
+unfolding opened
+no_syntax = ((Lenient Proto2, []), read_words always (file reading.Lenient) (file_reader reading.Lenient) (reads_file reading.Lenient) [] (Lenient Proto2, []) 0 (lit≤ tt) refl, refl)
+
+abbrev proto2 : List Symbol
+proto2 = w "syntax" ∷ m "=" ∷ text (codes "proto2") ∷ m ";" ∷ []
+
+-- message M { required int32 a = 1 [default = -1]; optional int32 b = 2; repeated int32 c = 3; }
+abbrev labels : List Symbol
+labels =
+    w "message" ∷ w "M" ∷ m "{"
+    ∷ w "required" ∷ w "int32" ∷ w "a" ∷ m "=" ∷ d "1" ∷ m "[" ∷ w "default" ∷ m "=" ∷ m "-" ∷ d "1" ∷ m "]" ∷ m ";"
+    ∷ w "optional" ∷ w "int32" ∷ w "b" ∷ m "=" ∷ d "2" ∷ m ";"
+    ∷ w "repeated" ∷ w "int32" ∷ w "c" ∷ m "=" ∷ d "3" ∷ m ";"
+    ∷ m "}" ∷ []
+
+abbrev labelled_fields : List DeclaredField
+labelled_fields =
+    field_of Unlabelled (a_scalar code.Int32) (codes "a") 1 None ∷ field_of Unlabelled (a_scalar code.Int32) (codes "b") 2 None
+    ∷ field_of Repeated (a_scalar code.Int32) (codes "c") 3 None ∷ []
+
+abbrev labelled_statements : List FileStatement
+labelled_statements = FileStatement.a_message (message_of (codes "M") (map MessageStatement.a_field labelled_fields)) ∷ []
+
+-- no label makes a oneof
+each_label : FileSyntaxIn reading.Lenient (codes "m.proto") (proto2 ++ labels) (proto2_file (more_messages
+    (message_decl (record { name = codes "M"; fields = labelled_fields; enums = []; oneofs = []; reserved = []; reserved_names = []; is_entry = false }) no_messages) no_messages))
+unfolding opened
+each_label = (
+  (Lenient Proto2, labelled_statements),
+  read_words always (file reading.Lenient) (file_reader reading.Lenient) (reads_file reading.Lenient) (proto2 ++ labels) (Lenient Proto2, labelled_statements) 45 (lit≤ tt) refl,
+  refl,
+)
+
+-- message M { int32
+abbrev unlabelled : List Symbol
+unlabelled = proto2 ++ w "message" ∷ w "M" ∷ m "{" ∷ w "int32" ∷ []
+
+label_wanted : SyntaxFaultIn reading.Lenient unlabelled 7 Unexpected
+unfolding opened
+label_wanted =
+    refused_so always (file reading.Lenient) (file_reader reading.Lenient) (reads_file reading.Lenient) unlabelled (w "int32" ∷ []) None (λ e. cc e)
+    (at_least (Refuses unlabelled (w "int32" ∷ []) None) 8 (λ n. refl))
+
+-- message M { map a
+abbrev no_map : List Symbol
+no_map = proto2 ++ w "message" ∷ w "M" ∷ m "{" ∷ w "map" ∷ w "a" ∷ []
+
+map_wanted : SyntaxFaultIn reading.Lenient no_map 8 Unexpected
+unfolding opened
+map_wanted =
+    refused_so always (file reading.Lenient) (file_reader reading.Lenient) (reads_file reading.Lenient) no_map (w "a" ∷ []) None (λ e. cc e) (at_least (Refuses no_map (w "a" ∷ []) None) 9 (λ n. refl))
+
+-- extend X { int32
+abbrev unlabelled_extension : List Symbol
+unlabelled_extension = proto2 ++ w "extend" ∷ w "X" ∷ m "{" ∷ w "int32" ∷ []
+
+extension_label_wanted : SyntaxFaultIn reading.Lenient unlabelled_extension 7 Unexpected
+unfolding opened
+extension_label_wanted =
+    refused_so always (file reading.Lenient) (file_reader reading.Lenient) (reads_file reading.Lenient) unlabelled_extension (w "int32" ∷ []) None (λ e. cc e)
+    (at_least (Refuses unlabelled_extension (w "int32" ∷ []) None) 8 (λ n. refl))
+
+abbrev proto4 : List Symbol
+proto4 = w "syntax" ∷ m "=" ∷ text (codes "proto4") ∷ m ";" ∷ []
+
+no_such_syntax : SyntaxFaultIn reading.Lenient proto4 2 NotProto3
+unfolding opened
+no_such_syntax =
+    refused_so always (file reading.Lenient) (file_reader reading.Lenient) (reads_file reading.Lenient) proto4 (text (codes "proto4") ∷ m ";" ∷ []) (Some syntax_first) (λ e. cc e)
+    (at_least (Refuses proto4 (text (codes "proto4") ∷ m ";" ∷ []) (Some syntax_first)) 4 (λ n. refl))

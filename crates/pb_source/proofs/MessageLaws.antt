@@ -1,5 +1,5 @@
 -- The readers of messages read them.
-use Rattle.std.proofs.Common.{◌≡◌, ℕ, zero, suc, List, [], ◌∷◌, ◌++◌, Bool, true, false, ◌||◌, codes, refl, ap, sym, subst, Option, Some, None, ◌⊎◌, inl, inr}
+use Rattle.std.proofs.Common.{◌≡◌, ℕ, zero, suc, List, [], ◌∷◌, ◌++◌, Bool, true, false, not, ◌||◌, codes, refl, ap, sym, subst, Option, Some, None, ◌⊎◌, inl, inr}
 use Rattle.std.specs.Prelude.{if◌then◌else◌}
 use Rattle.std.specs.Str.{bytes_eq}
 use Rattle.std.proofs.lemmas.Bool.{false≢true}
@@ -10,7 +10,7 @@ use Rattle.pb_tokens.specs.declared.rule.Rule.TheVariants.{NestsBounded as nests
 use Rattle.pb_tokens.specs.Symbols.{Symbol, word, number, text, sign}
 use Rattle.pb_tokens.specs.Language.{Language, ◌▸◌, Rules, Begins}
 use Rattle.pb_tokens.specs.Phrases.{keyword, mark, name, Until, BeginsNot, option, message_range}
-use Rattle.pb_tokens.specs.Readers.Forms.{Reader, mapped, first_passes, is_keyword}
+use Rattle.pb_tokens.specs.Readers.Forms.{Reader, mapped, behind, keyword_reader, first_passes, is_keyword}
 use Rattle.pb_tokens.specs.Readers.Phrases.{message_range_reader}
 use Rattle.pb_tokens.proofs.ReaderLaws.{Reads}
 use Rattle.pb_tokens.proofs.Compose.{never, Mapped, Behind, reads_mapped, reads_both, reads_behind, said_so}
@@ -20,16 +20,17 @@ use Rattle.pb_tokens.proofs.Guards.{reads_guarded}
 use Rattle.pb_tokens.proofs.KindLemmas.{first_kind, ByKind, Offers, kinds_fail, kinds_filled, reads_kinds}
 use Rattle.pb_tokens.proofs.NameLaws.{reads_name}
 use Rattle.pb_tokens.proofs.RangeLaws.{reads_message_range, message_range_first}
-use Rattle.pb_source.specs.declared.kind.Label.TheVariants.{Unlabelled, Repeated, Optional}
+use Rattle.pb_source.specs.declared.kind.Label.TheVariants.{Unlabelled, Repeated}
+use Rattle.pb_source.specs.Syntaxes.{is_lenient, is_proto2, optional_label}
 use Rattle.pb_source.specs.declared.kind.MessageKind.{MessageKind}
 use Rattle.pb_source.specs.declared.kind.MessageKind.TheVariants as kind
 use Rattle.pb_source.specs.Meaning.{MessageStatement, message_of}
-use Rattle.pb_source.specs.Grammar.{field, oneof, enum_line, extend, extensions, message_statement, message, room}
-use Rattle.pb_source.specs.Readers.Lines.{is_closing, extend_reader, extensions_reader, message_kind, message_statement_line, message_statement_reader, message_line_reader, last_statement_reader, room_statement_reader, message_reader}
+use Rattle.pb_source.specs.Grammar.{field, unlabelled, in_proto2, but_proto2, oneof, enum_line, extend, extensions, message_statement, message, room}
+use Rattle.pb_source.specs.Readers.Lines.{is_closing, field_reader, extend_reader, extensions_reader, message_kind, message_statement_line, message_statement_reader, message_line_reader, last_statement_reader, room_statement_reader, message_reader}
 use Rattle.pb_source.proofs.StatementKinds.{kind_other, not_in_table, in_front, in_both, kind_one, kind_then, kind_front, reads_braced}
 use Rattle.pb_source.proofs.FieldLaws.{reads_field, begins_type, field_first, MapLine, reads_map, map_line_first}
 use Rattle.pb_source.proofs.ReservedLaws.{Reserved, reads_reserved, reserved_first}
-use Rattle.pb_source.proofs.ExtensionLaws.{Beyond, offers_beyond, beyond_filled, beyond_kind, reads_extend, reads_extensions}
+use Rattle.pb_source.proofs.ExtensionLaws.{lined_kept, lined_on, offers_lined, Beyond, offers_beyond, beyond_filled, beyond_kind, reads_extend, reads_extensions}
 use Rattle.pb_source.proofs.BodyLaws.{Silent, reads_silent_end, reads_silent_option, not_empty_then, closing_of_none, reads_oneof, reads_enum}
 
 -- ---- statements, by the messages that may stand among them
@@ -39,7 +40,7 @@ abbrev field_words : List (List ℕ × Option MessageKind)
 field_words =
     (codes "message", Some kind.Message) ∷ (codes "enum", Some kind.Enum) ∷ (codes "option", Some kind.Option) ∷ (codes "oneof", Some kind.Oneof)
     ∷ (codes "reserved", Some kind.Reserved) ∷ (codes "optional", Some kind.Optional) ∷ (codes "repeated", Some kind.Repeated)
-    ∷ (codes "required", None) ∷ (codes "extend", Some kind.Extend) ∷ (codes "extensions", Some kind.Extensions) ∷ []
+    ∷ (codes "required", Some kind.Required) ∷ (codes "extend", Some kind.Extend) ∷ (codes "extensions", Some kind.Extensions) ∷ []
 
 abbrev map_word : List (List ℕ × Option MessageKind)
 map_word = (codes "map", Some kind.Map) ∷ []
@@ -53,9 +54,10 @@ module _ (grammar : Grammar) (M : Rules → DeclaredMessage → Language) (first
   MessageLine kind.Oneof = Mapped {A = List ℕ × List DeclaredField} (λ x. MessageStatement.a_oneof x.0 x.1) (λ rules x. oneof grammar rules x.0 x.1)
   MessageLine kind.Reserved = Reserved message_range message_range_reader MessageStatement.reserved_ranges MessageStatement.reserved_names message_range_first
   MessageLine kind.Repeated = Mapped MessageStatement.a_field (Behind (λ rules. keyword "repeated") (λ rules. field grammar rules Repeated))
-  MessageLine kind.Optional = Mapped MessageStatement.a_field (Behind (λ rules. keyword "optional") (λ rules. field grammar rules Optional))
+  MessageLine kind.Optional = Mapped MessageStatement.a_field (Behind (λ rules. keyword "optional") (λ rules. field grammar rules (optional_label grammar)))
+  MessageLine kind.Required = Mapped MessageStatement.a_field (λ rules f. in_proto2 grammar (keyword "required" ▸ field grammar rules Unlabelled f))
   MessageLine kind.Map = MapLine grammar
-  MessageLine kind.Field = Mapped MessageStatement.a_field (λ rules. field grammar rules Unlabelled)
+  MessageLine kind.Field = Mapped MessageStatement.a_field (λ rules f. but_proto2 grammar (field grammar rules Unlabelled f))
   MessageLine kind.Extend = Beyond grammar MessageStatement.nothing_said (extend grammar)
   MessageLine kind.Extensions = Beyond grammar MessageStatement.nothing_said (extensions grammar)
 
@@ -70,7 +72,8 @@ module _ (grammar : Grammar) (M : Rules → DeclaredMessage → Language) (first
   filled kind.Repeated rules s d = not_empty_then (word (codes "repeated")) d.2
   filled kind.Optional rules s d = not_empty_then (word (codes "optional")) d.2
   filled kind.Map rules s d = false≢true (map_line_first grammar rules s [] d)
-  filled kind.Field rules s d = false≢true (field_first grammar rules Unlabelled d.0 [] d.2)
+  filled kind.Required rules s d = not_empty_then (word (codes "required")) (lined_kept (is_proto2 grammar) (keyword "required" ▸ field grammar rules Unlabelled d.0) [] d.2)
+  filled kind.Field rules s d = false≢true (field_first grammar rules Unlabelled d.0 [] (lined_kept (not (is_proto2 grammar)) (field grammar rules Unlabelled d.0) [] d.2))
   filled kind.Extend rules s d = beyond_filled grammar MessageStatement.nothing_said (extend grammar) rules s (λ d. not_empty_then (word (codes "extend")) d.2) d
   filled kind.Extensions rules s d = beyond_filled grammar MessageStatement.nothing_said (extensions grammar) rules s (λ d. not_empty_then (word (codes "extensions")) d.1) d
 
@@ -112,15 +115,20 @@ module _ (grammar : Grammar) (M : Rules → DeclaredMessage → Language) (first
   to_statement rules s c (kind.Repeated, h, (f, e, d)) = subst (λ s. message_statement grammar rules (M rules) s c) (sym e) (inl d)
   to_statement rules s c (kind.Optional, h, (f, e, d)) = subst (λ s. message_statement grammar rules (M rules) s c) (sym e) (inr (inl d))
   to_statement rules s c (kind.Map, h, inl (m, e, d)) = subst (λ s. message_statement grammar rules (M rules) s c) (sym e) d
-  to_statement rules s c (kind.Map, h, inr (f, e, k, d)) = subst (λ s. message_statement grammar rules (M rules) s c) (sym e) (inr (inr (map_begins c k, d)))
-  to_statement rules s c (kind.Field, h, (f, e, d)) = subst (λ s. message_statement grammar rules (M rules) s c) (sym e) (inr (inr (field_begins c h, d)))
+  to_statement rules s c (kind.Required, h, (f, e, d)) = subst (λ s. message_statement grammar rules (M rules) s c) (sym e) (inr (inr (inl d)))
+  to_statement rules s c (kind.Map, h, inr (f, e, k, d)) =
+      subst (λ s. message_statement grammar rules (M rules) s c) (sym e)
+      (inr (inr (inr (lined_on (not (is_proto2 grammar)) (field grammar rules Unlabelled f) (unlabelled grammar rules f) c (λ x. (map_begins c k, x)) d))))
+  to_statement rules s c (kind.Field, h, (f, e, d)) =
+      subst (λ s. message_statement grammar rules (M rules) s c) (sym e)
+      (inr (inr (inr (lined_on (not (is_proto2 grammar)) (field grammar rules Unlabelled f) (unlabelled grammar rules f) c (λ x. (field_begins c h, x)) d))))
 
   map_is : (s : Symbol) → is_keyword (codes "map") s ≡ true → message_kind s ≡ Some kind.Map
   map_is s h = ap message_kind (is_the_word (codes "map") s h)
 
   of_unlabelled : (rules : Rules) (f : DeclaredField) (c : List Symbol)
       → BeginsNot ("message" ∷ "enum" ∷ "option" ∷ "oneof" ∷ "reserved" ∷ "optional" ∷ "repeated" ∷ "required" ∷ "extend" ∷ "extensions" ∷ []) c
-      → field grammar rules Unlabelled f c → first_passes begins_type c ≡ true → ByKind message_kind MessageLine rules (MessageStatement.a_field f) c
+      → but_proto2 grammar (field grammar rules Unlabelled f) c → first_passes begins_type c ≡ true → ByKind message_kind MessageLine rules (MessageStatement.a_field f) c
   of_unlabelled rules f [] b d h = absurd (false≢true h)
   of_unlabelled rules f (word w ∷ c) b d h = by_map (bytes_eq w (codes "map")) refl
     where
@@ -146,7 +154,11 @@ module _ (grammar : Grammar) (M : Rules → DeclaredMessage → Language) (first
   )
   of_statement rules (MessageStatement.a_field f) c (inl d) = (kind.Repeated, kind_then message_kind (word (codes "repeated")) c d, (f, refl, d))
   of_statement rules (MessageStatement.a_field f) c (inr (inl d)) = (kind.Optional, kind_then message_kind (word (codes "optional")) c d, (f, refl, d))
-  of_statement rules (MessageStatement.a_field f) c (inr (inr (b, d))) = of_unlabelled rules f c b d (field_first grammar rules Unlabelled f c d)
+  of_statement rules (MessageStatement.a_field f) c (inr (inr (inl d))) =
+      (kind.Required, kind_then message_kind (word (codes "required")) c (lined_kept (is_proto2 grammar) (keyword "required" ▸ field grammar rules Unlabelled f) c d), (f, refl, d))
+  of_statement rules (MessageStatement.a_field f) c (inr (inr (inr d))) =
+      let x = lined_kept (not (is_proto2 grammar)) (unlabelled grammar rules f) c d in
+      of_unlabelled rules f c x.0 (lined_on (not (is_proto2 grammar)) (unlabelled grammar rules f) (field grammar rules Unlabelled f) c (λ x. x.1) d) (field_first grammar rules Unlabelled f c x.1)
   of_statement rules (MessageStatement.a_map m) c d =
       (kind.Map, kind_front message_kind kind.Map (is_keyword (codes "map")) map_is c (map_line_first grammar rules (MessageStatement.a_map m) c (inl (m, refl, d))), inl (m, refl, d))
   of_statement rules (MessageStatement.a_oneof w fs) c d = (kind.Oneof, kind_then message_kind (word (codes "oneof")) c d.2, ((w, fs), refl, d))
@@ -172,9 +184,14 @@ module _ (grammar : Grammar) (M : Rules → DeclaredMessage → Language) (first
     offers kind.Oneof = reads_mapped (λ x. MessageStatement.a_oneof x.0 x.1) (reads_oneof grammar n)
     offers kind.Reserved = reads_reserved message_range message_range_reader MessageStatement.reserved_ranges MessageStatement.reserved_names message_range_first n (reads_message_range n)
     offers kind.Repeated = reads_mapped MessageStatement.a_field (reads_behind {L = λ rules. keyword "repeated"} (reads_keyword (codes "repeated")) (reads_field grammar n Repeated))
-    offers kind.Optional = reads_mapped MessageStatement.a_field (reads_behind {L = λ rules. keyword "optional"} (reads_keyword (codes "optional")) (reads_field grammar n Optional))
+    offers kind.Optional = reads_mapped MessageStatement.a_field (reads_behind {L = λ rules. keyword "optional"} (reads_keyword (codes "optional")) (reads_field grammar n (optional_label grammar)))
     offers kind.Map = reads_map grammar n
-    offers kind.Field = reads_mapped MessageStatement.a_field (reads_field grammar n Unlabelled)
+    offers kind.Required =
+        offers_lined (is_proto2 grammar) MessageStatement.a_field (λ rules f. keyword "required" ▸ field grammar rules Unlabelled f)
+        (behind (keyword_reader (codes "required")) (field_reader grammar n Unlabelled))
+        (reads_behind {L = λ rules. keyword "required"} (reads_keyword (codes "required")) (reads_field grammar n Unlabelled))
+    offers kind.Field =
+        offers_lined (not (is_proto2 grammar)) MessageStatement.a_field (λ rules f. field grammar rules Unlabelled f) (field_reader grammar n Unlabelled) (reads_field grammar n Unlabelled)
     offers kind.Extend = offers_beyond grammar MessageStatement.nothing_said (extend grammar) (extend_reader grammar n) (reads_extend grammar n)
     offers kind.Extensions = offers_beyond grammar MessageStatement.nothing_said (extensions grammar) (extensions_reader grammar n) (reads_extensions grammar n)
 

@@ -4,7 +4,8 @@ use Rattle.pb_schema.specs.Names.{in_scope}
 use Rattle.pb_decl.specs.Decls.{DeclaredMessage, message as message_decl, DeclaredMessages, no_messages, more_messages, DeclaredFile}
 use Rattle.pb_decl.specs.Nests.{nests, all_nest}
 use Rattle.pb_tokens.specs.declared.grammar.Grammar.{Grammar}
-use Rattle.pb_tokens.specs.declared.grammar.Grammar.TheVariants.{Strict}
+use Rattle.pb_source.specs.declared.reading.Reading.{Reading}
+use Rattle.pb_source.specs.declared.reading.Reading.TheVariants as reading
 use Rattle.pb_tokens.specs.Symbols.{Symbol}
 use Rattle.pb_tokens.specs.Language.{Rules, all_rules, Language, nothing}
 use Rattle.pb_tokens.specs.Phrases.{Until, mark}
@@ -66,13 +67,13 @@ all_in_file : (grammar : Grammar) → (ss : List FileStatement) (ts : List Symbo
 all_in_file grammar [] ts w = omega arith
 all_in_file grammar (s ∷ ss) ts w = in_file grammar s w.0 w.2 (file_messages ss) (all_in_file grammar ss w.1 w.3)
 
-syntax_nests : (grammar : Grammar) → (name : List ℕ) (ts : List Symbol) (d : DeclaredFile) → FileSyntaxIn grammar name ts d → all_nest d.messages ≤ 65
-syntax_nests grammar name ts d w =
-    let inner = all_in_file grammar w.0 w.1.1.1 w.1.1.3 in
-    subst (λ f. all_nest f.messages ≤ 65) (sym w.2) (subst (λ n. n ≤ 65) (sym (all_scoped_nest (package_of w.0) (file_messages w.0))) inner)
+syntax_nests : (how : Reading) → (name : List ℕ) (ts : List Symbol) (d : DeclaredFile) → FileSyntaxIn how name ts d → all_nest d.messages ≤ 65
+syntax_nests how name ts d w =
+    let inner = all_in_file w.0.0 w.0.1 w.1.1.1 w.1.1.3 in
+    subst (λ f. all_nest f.messages ≤ 65) (sym w.2) (subst (λ n. n ≤ 65) (sym (all_scoped_nest (package_of w.0.1) (file_messages w.0.1))) inner)
 
-pub source_nests_in : (grammar : Grammar) → (name bytes : List ℕ) (d : DeclaredFile) → IsSourceIn grammar name bytes d → all_nest d.messages ≤ 65
-source_nests_in grammar name bytes d s = syntax_nests grammar name _ d s.means
+pub source_nests_in : (how : Reading) → (name bytes : List ℕ) (d : DeclaredFile) → IsSourceIn how name bytes d → all_nest d.messages ≤ 65
+source_nests_in how name bytes d s = syntax_nests how name _ d s.means
 
 pub source_nests : (name bytes : List ℕ) (d : DeclaredFile) → IsSource name bytes d → all_nest d.messages ≤ 65
-source_nests = source_nests_in Strict
+source_nests = source_nests_in reading.Strict

@@ -29,7 +29,7 @@ no_such_kind (e ∷ es) other k w n o h = by_test (bytes_eq w e.0) refl (no_such
 abbrev other_words : List (List ℕ × Option MessageKind)
 other_words =
     (codes "enum", Some kind.Enum) ∷ (codes "option", Some kind.Option) ∷ (codes "oneof", Some kind.Oneof) ∷ (codes "reserved", Some kind.Reserved)
-    ∷ (codes "optional", Some kind.Optional) ∷ (codes "repeated", Some kind.Repeated) ∷ (codes "required", None) ∷ (codes "extend", Some kind.Extend)
+    ∷ (codes "optional", Some kind.Optional) ∷ (codes "repeated", Some kind.Repeated) ∷ (codes "required", Some kind.Required) ∷ (codes "extend", Some kind.Extend)
     ∷ (codes "extensions", Some kind.Extensions) ∷ (codes "map", Some kind.Map) ∷ []
 
 is_message : (s : Symbol) → message_kind s ≡ Some kind.Message → is_keyword (codes "message") s ≡ true

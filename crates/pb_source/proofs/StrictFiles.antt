@@ -1,38 +1,42 @@
 -- A source of the strict grammar is one of all of proto3, with the same declarations.
-use Rattle.std.proofs.Common.{◌≡◌, ℕ, zero, suc, List, [], ◌∷◌, codes, Option, Some, None, inl, inr}
+use Rattle.std.proofs.Common.{◌≡◌, ◌∙◌, refl, ℕ, zero, suc, List, [], ◌∷◌, codes, Option, Some, None, inl, inr}
 use Rattle.pb_decl.specs.Decls.{DeclaredField, DeclaredEnum, DeclaredMessage, DeclaredMethod, DeclaredService, DeclaredFile}
-use Rattle.pb_tokens.specs.declared.grammar.Grammar.TheVariants.{Strict, Proto3}
+use Rattle.pb_tokens.specs.declared.grammar.Grammar.{Grammar}
+use Rattle.pb_tokens.specs.declared.grammar.Grammar.TheVariants.{Strict, Lenient}
+use Rattle.pb_tokens.specs.declared.grammar.Syntax.TheVariants.{Proto3}
+use Rattle.pb_source.specs.declared.reading.Reading.{Reading}
+use Rattle.pb_source.specs.declared.reading.Reading.TheVariants as reading
 use Rattle.pb_tokens.specs.Symbols.{Symbol}
 use Rattle.pb_tokens.specs.Language.{Language, all_rules, nothing}
 use Rattle.pb_tokens.specs.Phrases.{mark}
 use Rattle.pb_tokens.proofs.StrictLines.{Widens, until_wider, option_wider, setting_wider, field_end_wider, value_end_wider}
 use Rattle.pb_source.specs.declared.kind.Label.{Label}
 use Rattle.pb_source.specs.declared.kind.Label.TheVariants.{Unlabelled, Repeated, Optional}
-use Rattle.pb_source.specs.Meaning.{MapDecl, MessageStatement, EnumStatement, FileStatement}
+use Rattle.pb_source.specs.Meaning.{MapDecl, MessageStatement, EnumStatement, FileStatement, file_of}
 use Rattle.pb_source.specs.Grammar.{field, map_line, oneof_statement, oneof, enum_statement, enum_line, message_statement, message, room, method_statement, method_end, method, service_statement, service, file_statement, file}
 use Rattle.pb_source.specs.Source.{symbols_alone, IsSource, IsLenientSource}
 
 -- ---- fields, oneofs and enums
 
-field_wider : (l : Label) → Widens (field Strict all_rules l) (field Proto3 all_rules l)
+field_wider : (l : Label) → Widens (field Strict all_rules l) (field (Lenient Proto3) all_rules l)
 field_wider l f c (t, w, n, p, e, (a1, b1, h1, (a2, b2, h2, (a3, b3, h3, (a4, b4, h4, h5, j4), j3), j2), j1)) =
     (t, w, n, p, e, (a1, b1, h1, (a2, b2, h2, (a3, b3, h3, (a4, b4, h4, field_end_wider p b4 h5, j4), j3), j2), j1))
 
-map_wider : Widens (map_line Strict all_rules) (map_line Proto3 all_rules)
+map_wider : Widens (map_line Strict all_rules) (map_line (Lenient Proto3) all_rules)
 map_wider m c
     (a1, b1, h1, (a2, b2, h2, (a3, b3, h3, (a4, b4, h4, (a5, b5, h5, (a6, b6, h6, (a7, b7, h7, (a8, b8, h8, (a9, b9, h9, h, j9), j8), j7), j6), j5), j4), j3), j2), j1) =
     (a1, b1, h1, (a2, b2, h2, (a3, b3, h3, (a4, b4, h4, (a5, b5, h5, (a6, b6, h6, (a7, b7, h7, (a8, b8, h8, (a9, b9, h9, field_end_wider m.packed b9 h, j9), j8), j7), j6), j5), j4), j3), j2), j1)
 
-oneof_statement_wider : Widens (oneof_statement Strict all_rules) (oneof_statement Proto3 all_rules)
+oneof_statement_wider : Widens (oneof_statement Strict all_rules) (oneof_statement (Lenient Proto3) all_rules)
 oneof_statement_wider None c (inl d) = inl (option_wider c d)
 oneof_statement_wider None c (inr d) = inr d
 oneof_statement_wider (Some f) c (b, d) = (b, field_wider Unlabelled f c d)
 
-oneof_wider : (n : List ℕ) → Widens (oneof Strict all_rules n) (oneof Proto3 all_rules n)
+oneof_wider : (n : List ℕ) → Widens (oneof Strict all_rules n) (oneof (Lenient Proto3) all_rules n)
 oneof_wider n fs c (ss, e, (a1, b1, h1, (a2, b2, h2, (a3, b3, h3, h, j3), j2), j1)) =
-    (ss, e, (a1, b1, h1, (a2, b2, h2, (a3, b3, h3, until_wider (oneof_statement Strict all_rules) (oneof_statement Proto3 all_rules) (mark "}") oneof_statement_wider ss b3 h, j3), j2), j1))
+    (ss, e, (a1, b1, h1, (a2, b2, h2, (a3, b3, h3, until_wider (oneof_statement Strict all_rules) (oneof_statement (Lenient Proto3) all_rules) (mark "}") oneof_statement_wider ss b3 h, j3), j2), j1))
 
-enum_statement_wider : Widens (enum_statement Strict all_rules) (enum_statement Proto3 all_rules)
+enum_statement_wider : Widens (enum_statement Strict all_rules) (enum_statement (Lenient Proto3) all_rules)
 enum_statement_wider EnumStatement.nothing_said c (inl (a1, b1, h1, (a2, b2, h2, h, j2), j1)) = inl (a1, b1, h1, (a2, b2, setting_wider (codes "allow_alias") None a2 h2, h, j2), j1)
 enum_statement_wider EnumStatement.nothing_said c (inr d) = inr d
 enum_statement_wider (EnumStatement.allows_alias b) c (a1, b1, h1, (a2, b2, h2, h, j2), j1) = (a1, b1, h1, (a2, b2, setting_wider (codes "allow_alias") (Some b) a2 h2, h, j2), j1)
@@ -41,21 +45,22 @@ enum_statement_wider (EnumStatement.a_value w z) c (b, (a1, b1, h1, (a2, b2, h2,
 enum_statement_wider (EnumStatement.reserved_ranges rs) c d = d
 enum_statement_wider (EnumStatement.reserved_names ns) c d = d
 
-enum_wider : Widens (enum_line Strict all_rules) (enum_line Proto3 all_rules)
+enum_wider : Widens (enum_line Strict all_rules) (enum_line (Lenient Proto3) all_rules)
 enum_wider e c (n, ss, i, (a1, b1, h1, (a2, b2, h2, (a3, b3, h3, h, j3), j2), j1)) =
-    (n, ss, i, (a1, b1, h1, (a2, b2, h2, (a3, b3, h3, until_wider (enum_statement Strict all_rules) (enum_statement Proto3 all_rules) (mark "}") enum_statement_wider ss b3 h, j3), j2), j1))
+    (n, ss, i, (a1, b1, h1, (a2, b2, h2, (a3, b3, h3, until_wider (enum_statement Strict all_rules) (enum_statement (Lenient Proto3) all_rules) (mark "}") enum_statement_wider ss b3 h, j3), j2), j1))
 
 -- ---- messages
 
 module _ (M N : DeclaredMessage → Language) (wider : Widens M N) where
-  message_statement_wider : Widens (message_statement Strict all_rules M) (message_statement Proto3 all_rules N)
+  message_statement_wider : Widens (message_statement Strict all_rules M) (message_statement (Lenient Proto3) all_rules N)
   message_statement_wider MessageStatement.nothing_said c (inl d) = inl (option_wider c d)
   message_statement_wider MessageStatement.nothing_said c (inr (inl d)) = inr (inl d)
   message_statement_wider MessageStatement.nothing_said c (inr (inr (inl d))) = absurd d
   message_statement_wider MessageStatement.nothing_said c (inr (inr (inr d))) = absurd d
   message_statement_wider (MessageStatement.a_field f) c (inl (a, b, ha, hb, j)) = inl (a, b, ha, field_wider Repeated f b hb, j)
   message_statement_wider (MessageStatement.a_field f) c (inr (inl (a, b, ha, hb, j))) = inr (inl (a, b, ha, field_wider Optional f b hb, j))
-  message_statement_wider (MessageStatement.a_field f) c (inr (inr (b, d))) = inr (inr (b, field_wider Unlabelled f c d))
+  message_statement_wider (MessageStatement.a_field f) c (inr (inr (inl d))) = absurd d
+  message_statement_wider (MessageStatement.a_field f) c (inr (inr (inr (b, d)))) = inr (inr (inr (b, field_wider Unlabelled f c d)))
   message_statement_wider (MessageStatement.a_map m) c d = map_wider m c d
   message_statement_wider (MessageStatement.a_oneof n fs) c d = oneof_wider n fs c d
   message_statement_wider (MessageStatement.a_message m) c d = wider m c d
@@ -63,7 +68,7 @@ module _ (M N : DeclaredMessage → Language) (wider : Widens M N) where
   message_statement_wider (MessageStatement.reserved_ranges rs) c d = d
   message_statement_wider (MessageStatement.reserved_names ns) c d = d
 
-message_wider : (n : ℕ) → Widens (message Strict all_rules n) (message Proto3 all_rules n)
+message_wider : (n : ℕ) → Widens (message Strict all_rules n) (message (Lenient Proto3) all_rules n)
 message_wider zero m c d = absurd d
 message_wider (suc n) m c (w, ss, e, (a1, b1, h1, (a2, b2, h2, (a3, b3, h3, h, j3), j2), j1)) = (
   w,
@@ -81,8 +86,8 @@ message_wider (suc n) m c (w, ss, e, (a1, b1, h1, (a2, b2, h2, (a3, b3, h3, h, j
         a3,
         b3,
         h3,
-        until_wider (message_statement Strict all_rules (message Strict all_rules n)) (message_statement Proto3 all_rules (message Proto3 all_rules n)) (mark "}")
-            (message_statement_wider (message Strict all_rules n) (message Proto3 all_rules n) (message_wider n)) ss b3 h,
+        until_wider (message_statement Strict all_rules (message Strict all_rules n)) (message_statement (Lenient Proto3) all_rules (message (Lenient Proto3) all_rules n)) (mark "}")
+            (message_statement_wider (message Strict all_rules n) (message (Lenient Proto3) all_rules n) (message_wider n)) ss b3 h,
         j3,
       ),
       j2,
@@ -93,31 +98,31 @@ message_wider (suc n) m c (w, ss, e, (a1, b1, h1, (a2, b2, h2, (a3, b3, h3, h, j
 
 -- ---- services
 
-method_statement_wider : Widens (method_statement Strict all_rules) (method_statement Proto3 all_rules)
+method_statement_wider : Widens (method_statement Strict all_rules) (method_statement (Lenient Proto3) all_rules)
 method_statement_wider u c (inl d) = inl (option_wider c d)
 method_statement_wider u c (inr d) = inr d
 
-method_end_wider : (c : List Symbol) → method_end Strict all_rules c → method_end Proto3 all_rules c
+method_end_wider : (c : List Symbol) → method_end Strict all_rules c → method_end (Lenient Proto3) all_rules c
 method_end_wider c (inl d) = inl d
 method_end_wider c (inr (us, (a, b, ha, hb, j))) =
-    inr (us, (a, b, ha, until_wider (method_statement Strict all_rules) (method_statement Proto3 all_rules) (mark "}") method_statement_wider us b hb, j))
+    inr (us, (a, b, ha, until_wider (method_statement Strict all_rules) (method_statement (Lenient Proto3) all_rules) (mark "}") method_statement_wider us b hb, j))
 
-method_wider : Widens (method Strict all_rules) (method Proto3 all_rules)
+method_wider : Widens (method Strict all_rules) (method (Lenient Proto3) all_rules)
 method_wider m c (a1, b1, h1, (a2, b2, h2, (a3, b3, h3, (a4, b4, h4, (a5, b5, h5, h, j5), j4), j3), j2), j1) =
     (a1, b1, h1, (a2, b2, h2, (a3, b3, h3, (a4, b4, h4, (a5, b5, h5, method_end_wider b5 h, j5), j4), j3), j2), j1)
 
-service_statement_wider : Widens (service_statement Strict all_rules) (service_statement Proto3 all_rules)
+service_statement_wider : Widens (service_statement Strict all_rules) (service_statement (Lenient Proto3) all_rules)
 service_statement_wider None c (inl d) = inl (option_wider c d)
 service_statement_wider None c (inr d) = inr d
 service_statement_wider (Some m) c d = method_wider m c d
 
-service_wider : Widens (service Strict all_rules) (service Proto3 all_rules)
+service_wider : Widens (service Strict all_rules) (service (Lenient Proto3) all_rules)
 service_wider s c (ss, e, (a1, b1, h1, (a2, b2, h2, (a3, b3, h3, h, j3), j2), j1)) =
-    (ss, e, (a1, b1, h1, (a2, b2, h2, (a3, b3, h3, until_wider (service_statement Strict all_rules) (service_statement Proto3 all_rules) (mark "}") service_statement_wider ss b3 h, j3), j2), j1))
+    (ss, e, (a1, b1, h1, (a2, b2, h2, (a3, b3, h3, until_wider (service_statement Strict all_rules) (service_statement (Lenient Proto3) all_rules) (mark "}") service_statement_wider ss b3 h, j3), j2), j1))
 
 -- ---- files
 
-file_statement_wider : Widens (file_statement Strict all_rules) (file_statement Proto3 all_rules)
+file_statement_wider : Widens (file_statement Strict all_rules) (file_statement (Lenient Proto3) all_rules)
 file_statement_wider FileStatement.nothing_said c (inl d) = inl (option_wider c d)
 file_statement_wider FileStatement.nothing_said c (inr (inl d)) = inr (inl d)
 file_statement_wider FileStatement.nothing_said c (inr (inr d)) = absurd d
@@ -127,9 +132,21 @@ file_statement_wider (FileStatement.a_message m) c d = message_wider 64 m c d
 file_statement_wider (FileStatement.an_enum e) c d = enum_wider e c d
 file_statement_wider (FileStatement.a_service s) c d = service_wider s c d
 
-file_wider : Widens (file Strict all_rules) (file Proto3 all_rules)
-file_wider ss c (l, (a, b, ha, hb, j)) =
-    (l, (a, b, ha, until_wider (file_statement Strict all_rules) (file_statement Proto3 all_rules) nothing file_statement_wider ss b hb, j))
+-- what is read strictly, as it is read leniently
+abbrev widened : Grammar × List FileStatement → Grammar × List FileStatement
+widened (Strict, ss) = (Lenient Proto3, ss)
+widened (Lenient s, ss) = (Lenient s, ss)
+
+file_wider : (x : Grammar × List FileStatement) (c : List Symbol) → file reading.Strict all_rules x c → file reading.Lenient all_rules (widened x) c
+file_wider (Lenient s, ss) c (l, (a, b, ha, hb, j)) = absurd ha
+file_wider (Strict, ss) c (l, (a, b, inr ha, hb, j)) = absurd (cc ha.0)
+file_wider (Strict, ss) c (l, (a, b, inl ha, hb, j)) =
+    (l, (a, b, inl ha, until_wider (file_statement Strict all_rules) (file_statement (Lenient Proto3) all_rules) nothing file_statement_wider ss b hb, j))
+
+-- the file means the same
+same_file : (name : List ℕ) (x : Grammar × List FileStatement) (c : List Symbol) → file reading.Strict all_rules x c → file_of x.0 name x.1 ≡ file_of (widened x).0 name (widened x).1
+same_file name (Strict, ss) c d = refl
+same_file name (Lenient s, ss) c (l, (a, b, ha, hb, j)) = absurd ha
 
 pub source_wider : (name bytes : List ℕ) (d : DeclaredFile) → IsSource name bytes d → IsLenientSource name bytes d
 source_wider name bytes d s = record {
@@ -139,5 +156,5 @@ source_wider name bytes d s = record {
   lexed = s.lexed;
   symbols = s.symbols;
   read = s.read;
-  means = (s.means.0, file_wider s.means.0 (symbols_alone s.symbols) s.means.1, s.means.2);
+  means = (widened s.means.0, file_wider s.means.0 (symbols_alone s.symbols) s.means.1, s.means.2 ∙ same_file name s.means.0 (symbols_alone s.symbols) s.means.1);
 }

@@ -1,21 +1,46 @@
--- The grammar of proto3 sources, line by line as the language specification has it, and what each line means (Protocol Buffers Language
--- Specification (Proto3)). Lines that statements are made of stand in `pb_tokens`, in `Phrases`.
+-- The grammars of sources, line by line as the language specifications have them, and what each line means (Protocol Buffers Language
+-- Specification (Proto3), and (Proto2) for what proto2 alone has). Lines that statements are made of stand in `pb_tokens`, in `Phrases`.
 use Prim.Native.String.{String}
 use Rattle.std.specs.Prelude.{◌≡◌, ℕ, zero, suc, ◌≤◌, ℤ, List, [], ◌∷◌, length, codes}
-use Rattle.std.specs.Prelude.{Bool, true, false, if◌then◌else◌, Option, Some, None, ◌⊎◌}
+use Rattle.std.specs.Prelude.{Bool, true, false, not, if◌then◌else◌, Option, Some, None, ◌⊎◌}
+use Rattle.std.specs.Str.{bytes_eq}
 use Rattle.pb_decl.specs.Decls.{DeclaredField, DeclaredEnum, DeclaredMessage, DeclaredMethod, DeclaredService, DeclaredFile}
 use Rattle.pb_tokens.specs.Phrases.{keyword, mark, name, Until, Listed, BeginsNot, fullname, counted, signed, option, setting, field_end, value_end}
 use Rattle.pb_tokens.specs.Phrases.{key_type, typename, typed, message_range, enum_range, utf8_text}
 use Rattle.pb_tokens.specs.declared.rule.Rule.TheVariants.{SyntaxFirst as syntax_first, NestsBounded as nests_bounded}
 use Rattle.pb_tokens.specs.declared.grammar.Grammar.{Grammar}
-use Rattle.pb_tokens.specs.declared.grammar.Grammar.TheVariants.{Strict, Proto3}
-use Rattle.pb_tokens.specs.Symbols.{Symbol, text}
+use Rattle.pb_tokens.specs.declared.grammar.Grammar.TheVariants.{Strict, Lenient}
+use Rattle.pb_tokens.specs.declared.grammar.Syntax.{Syntax}
+use Rattle.pb_tokens.specs.declared.grammar.Syntax.TheVariants.{Proto2, Proto3}
+use Rattle.pb_tokens.specs.Symbols.{Symbol, word, text}
 use Rattle.pb_tokens.specs.Language.{Language, ◌▸◌, ◌or◌, one, nothing, Rules, all_rules}
 use Rattle.pb_tokens.specs.Said.{TypeSaid, joined}
+use Rattle.pb_source.specs.declared.reading.Reading.{Reading}
+use Rattle.pb_source.specs.declared.reading.Reading.TheVariants as reading
+use Rattle.pb_source.specs.Syntaxes.{is_lenient, is_proto2, optional_label}
 use Rattle.pb_source.specs.declared.kind.Label.{Label}
-use Rattle.pb_source.specs.declared.kind.Label.TheVariants.{Unlabelled, Repeated, Optional}
+use Rattle.pb_source.specs.declared.kind.Label.TheVariants.{Unlabelled, Repeated}
 use Rattle.pb_source.specs.Meaning.{MapDecl, MessageStatement, EnumStatement, FileStatement}
 use Rattle.pb_source.specs.Meaning.{those_said, field_of, message_of, enum_of, all_said, packages_said, file_of}
+
+-- ---- what only some of the grammars have
+
+-- a line that is there where a test says so
+abbrev pub lined : Bool → Language → Language
+lined true L = L
+lined false L = λ ts. ⊥
+
+-- a line that the strict grammar has not
+abbrev pub beyond_strict : Grammar → Language → Language
+beyond_strict g = lined (is_lenient g)
+
+-- a line that proto2 alone has
+abbrev pub in_proto2 : Grammar → Language → Language
+in_proto2 g = lined (is_proto2 g)
+
+-- a line that proto2 has not: there each field of a message or an extension has a label
+abbrev pub but_proto2 : Grammar → Language → Language
+but_proto2 g = lined (not (is_proto2 g))
 
 -- ---- fields
 
@@ -66,16 +91,12 @@ enum_line g rules e ts =
 
 -- ---- extensions
 
--- a line that the strict grammar has not
-abbrev pub beyond_strict : Grammar → Language → Language
-beyond_strict Strict L = λ ts. ⊥
-beyond_strict Proto3 L = L
-
--- [ "repeated" | "optional" ] type word "=" integer [ opts ] ";"
+-- [ label ] type word "=" integer [ opts ] ";", in proto2 with its label
 abbrev pub extended_field : Grammar → Rules → DeclaredField → Language
 extended_field g rules f =
-    (keyword "repeated" ▸ field g rules Repeated f) or (keyword "optional" ▸ field g rules Optional f)
-    or (λ ts. BeginsNot ("repeated" ∷ "optional" ∷ "required" ∷ []) ts × field g rules Unlabelled f ts)
+    (keyword "repeated" ▸ field g rules Repeated f) or (keyword "optional" ▸ field g rules (optional_label g) f)
+    or in_proto2 g (keyword "required" ▸ field g rules Unlabelled f)
+    or but_proto2 g (λ ts. BeginsNot ("repeated" ∷ "optional" ∷ "required" ∷ []) ts × field g rules Unlabelled f ts)
 
 -- { field | ";" }
 abbrev pub extension : Grammar → Rules → Unit {0} → Language
@@ -98,13 +119,15 @@ unlabelled g rules f ts =
     BeginsNot ("message" ∷ "enum" ∷ "option" ∷ "oneof" ∷ "reserved" ∷ "optional" ∷ "repeated" ∷ "required" ∷ "extend" ∷ "extensions" ∷ []) ts
     × field g rules Unlabelled f ts
 
--- { field | enum | message | option | oneof | map | reserved | ";" }, in all of proto3 extend | extensions too, where Message has the messages that may stand here;
--- field     = [ "repeated" | "optional" ] type word "=" integer [ opts ] ";"
+-- { field | enum | message | option | oneof | map | reserved | ";" }, in the lenient grammars extend | extensions too, where Message has the messages
+-- that may stand here;
+-- field     = [ "repeated" | "optional" ] type word "=" integer [ opts ] ";", in proto2 ( "repeated" | "optional" | "required" ) type ..
 abbrev pub message_statement : Grammar → Rules → (DeclaredMessage → Language) → MessageStatement → Language
 message_statement g rules Message MessageStatement.nothing_said =
     option g rules or mark ";" or beyond_strict g (extend g rules) or beyond_strict g (extensions g rules)
 message_statement g rules Message (MessageStatement.a_field f) =
-    (keyword "repeated" ▸ field g rules Repeated f) or (keyword "optional" ▸ field g rules Optional f) or unlabelled g rules f
+    (keyword "repeated" ▸ field g rules Repeated f) or (keyword "optional" ▸ field g rules (optional_label g) f)
+    or in_proto2 g (keyword "required" ▸ field g rules Unlabelled f) or but_proto2 g (unlabelled g rules f)
 message_statement g rules Message (MessageStatement.a_map m) = map_line g rules m
 message_statement g rules Message (MessageStatement.a_oneof n fs) = oneof g rules n fs
 message_statement g rules Message (MessageStatement.a_message m) = Message m
@@ -165,7 +188,7 @@ abbrev pub access : Bool → Language
 access true = keyword "public"
 access false = keyword "weak" or nothing
 
--- { import | package | option | message | enum | service | ";" }, in all of proto3 extend too;
+-- { import | package | option | message | enum | service | ";" }, in the lenient grammars extend too;
 -- import    = "import" [ "weak" | "public" ] text ";"
 -- package   = "package" fullname ";"
 abbrev pub file_statement : Grammar → Rules → FileStatement → Language
@@ -176,20 +199,30 @@ file_statement g rules (FileStatement.a_message m) = message g rules (room rules
 file_statement g rules (FileStatement.an_enum e) = enum_line g rules e
 file_statement g rules (FileStatement.a_service s) = service g rules s
 
--- syntax    = "syntax" "=" text ";". Where the rule on it is left out, any symbol may stand first, and any text.
-abbrev pub syntax_line : Rules → Language
-syntax_line rules ts =
-    (keyword "syntax" ▸ mark "=" ▸ one (text (codes "proto3")) ▸ mark ";") ts
-    ⊎ ((rules syntax_first ≡ false) × (s : Symbol) × (b : List ℕ) × (one s ▸ mark "=" ▸ one (text b) ▸ mark ";") ts)
+-- syntax    = "syntax" "=" text ";", behind this first symbol
+abbrev pub syntax_said : Symbol → List ℕ → Language
+syntax_said first b = one first ▸ mark "=" ▸ one (text b) ▸ mark ";"
 
--- file      = syntax { statement }, with at most one package
-abbrev pub file : Grammar → Rules → List FileStatement → Language
-file g rules ss ts = (length (all_said packages_said ss) ≤ 1) × (syntax_line rules ▸ Until (file_statement g rules) nothing ss) ts
+-- The syntax of a file, and the grammar of its other statements. Read strictly it is `proto3`; where the rule on it is left out, any symbol may stand
+-- first, and any text. Read leniently it is `proto2`, as where none is said, or `proto3`; where the rule is left out, any text.
+abbrev pub syntax_line : Reading → Rules → Grammar → Language
+syntax_line reading.Strict rules Strict ts =
+    syntax_said (word (codes "syntax")) (codes "proto3") ts ⊎ ((rules syntax_first ≡ false) × (s : Symbol) × (b : List ℕ) × syntax_said s b ts)
+syntax_line reading.Strict rules (Lenient s) ts = ⊥
+syntax_line reading.Lenient rules Strict ts = ⊥
+syntax_line reading.Lenient rules (Lenient Proto2) ts = syntax_said (word (codes "syntax")) (codes "proto2") ts ⊎ nothing ts
+syntax_line reading.Lenient rules (Lenient Proto3) ts =
+    syntax_said (word (codes "syntax")) (codes "proto3") ts
+    ⊎ ((rules syntax_first ≡ false) × (b : List ℕ) × (bytes_eq b (codes "proto2") ≡ false) × syntax_said (word (codes "syntax")) b ts)
+
+-- file      = [ syntax ] { statement }, with at most one package; the grammar, and the statements after the syntax
+abbrev pub file : Reading → Rules → Grammar × List FileStatement → Language
+file r rules x ts = (length (all_said packages_said x.1) ≤ 1) × (syntax_line r rules x.0 ▸ Until (file_statement x.0 rules) nothing x.1) ts
 
 -- The symbols are those of a file, and mean this.
-abbrev pub FileSyntaxIn : Grammar → List ℕ → List Symbol → DeclaredFile → Type 0
-FileSyntaxIn g n ts d = (ss : List FileStatement) × file g all_rules ss ts × (d ≡ file_of n ss)
+abbrev pub FileSyntaxIn : Reading → List ℕ → List Symbol → DeclaredFile → Type 0
+FileSyntaxIn r n ts d = (x : Grammar × List FileStatement) × file r all_rules x ts × (d ≡ file_of x.0 n x.1)
 
--- the same in the strict grammar
+-- the same, read strictly
 abbrev pub FileSyntax : List ℕ → List Symbol → DeclaredFile → Type 0
-FileSyntax = FileSyntaxIn Strict
+FileSyntax = FileSyntaxIn reading.Strict

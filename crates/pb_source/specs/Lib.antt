@@ -1,3 +1,4 @@
+pub mod Syntaxes
 pub mod Meaning
 pub mod Grammar
 pub mod SyntaxFault

@@ -6,6 +6,8 @@ use Rattle.pb_decl.specs.Decls.{no_messages, more_messages, DeclaredService, Dec
 use Rattle.pb_decl.specs.declared.decl.TypeCode.{TypeCode}
 use Rattle.pb_decl.specs.declared.decl.TypeCode.TheVariants.{Message as message_code}
 use Rattle.pb_tokens.specs.Said.{TypeSaid, code_said, name_said, a_scalar}
+use Rattle.pb_tokens.specs.declared.grammar.Grammar.{Grammar}
+use Rattle.pb_source.specs.Syntaxes.{is_proto2}
 use Rattle.pb_source.specs.declared.kind.Label.{Label}
 use Rattle.pb_source.specs.declared.kind.Label.TheVariants.{Unlabelled, Repeated, Optional}
 
@@ -327,9 +329,9 @@ abbrev mutual
   all_scoped scope no_messages = no_messages
   all_scoped scope (more_messages m ms) = more_messages (scoped scope m) (all_scoped scope ms)
 
--- the file of this name whose statements, behind the first, are these
-abbrev pub file_of : List ℕ → List FileStatement → DeclaredFile
-file_of name ss = record {
+-- the file of this name, read by a grammar, whose statements after its syntax are these
+abbrev pub file_of : Grammar → List ℕ → List FileStatement → DeclaredFile
+file_of g name ss = record {
   name = name;
   package_name = package_of ss;
   imports = all_said imports_said ss;
@@ -337,5 +339,5 @@ file_of name ss = record {
   messages = all_scoped (package_of ss) (file_messages ss);
   enums = all_said file_enums_said ss;
   services = all_said services_said ss;
-  is_proto2 = false;
+  is_proto2 = is_proto2 g;
 }

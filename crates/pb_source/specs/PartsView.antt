@@ -72,6 +72,7 @@ pub record FileHolds (p : FileParts) (ss : List FileStatement) : Type 0 where
 abbrev pub is_member : MessageKind → Bool
 is_member kind.Repeated = true
 is_member kind.Optional = true
+is_member kind.Required = true
 is_member kind.Map = true
 is_member kind.Field = true
 is_member kind.Empty = false
@@ -88,6 +89,7 @@ abbrev pub is_plain : MessageKind → Bool
 is_plain kind.Message = false
 is_plain kind.Repeated = true
 is_plain kind.Optional = true
+is_plain kind.Required = true
 is_plain kind.Map = true
 is_plain kind.Field = true
 is_plain kind.Empty = true

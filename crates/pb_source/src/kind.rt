@@ -25,6 +25,7 @@ pub(crate) enum MessageKind {
     Reserved,
     Repeated,
     Optional,
+    Required,
     /// The word `map`: a map field, or a field whose type is named so.
     Map,
     /// A field without a label.
@@ -39,6 +40,7 @@ pub(crate) enum ExtendKind {
     Empty,
     Repeated,
     Optional,
+    Required,
     /// A field without a label.
     Field,
 }

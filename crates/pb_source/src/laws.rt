@@ -13,7 +13,7 @@ pub fn one_source()
     ensures one { (name bytes : List ℕ) → ExactlyOne (IsSource name bytes) (λ (e : FaultValue). HasFault bytes e.byte e.cause) }
 {}
 
-/// The same by the grammar of all of proto3.
+/// The same where they are read leniently.
 pub fn one_lenient_source()
     ensures one { (name bytes : List ℕ) → ExactlyOne (IsLenientSource name bytes) (λ (e : FaultValue). HasLenientFault bytes e.byte e.cause) }
 {}

@@ -1,5 +1,5 @@
-//! Sources of proto3: which file a source declares, by the strict grammar (`parse`) or by that of all of proto3 (`parse_lenient`). Its tokens and the
-//! readers of single lines stand in `pb_tokens`.
+//! Sources of proto2 and proto3: which file a source declares, read strictly (`parse`, proto3 alone) or leniently (`parse_lenient`). Its tokens and the
+//! readers of single lines are in `pb_tokens`.
 //!
 //! ```rust
 //! use pb_source::parse;
@@ -32,6 +32,7 @@
 mod kind;
 pub mod laws;
 mod parsing;
+pub mod reading;
 mod source;
 
 pub use pb_tokens::{SourceCause, SourceFault, Token, TokenKind, lex};

@@ -1,4 +1,4 @@
-//! Symbols as declarations (Protocol Buffers Language Specification (Proto3)). A reader takes symbols from an index on, and gives what they mean with
+//! Symbols as declarations (Protocol Buffers Language Specification, Proto2 and Proto3). A reader takes symbols from an index on, and gives what they mean with
 //! the index after them, or the symbol that it refuses.
 
 mod declared;
@@ -11,5 +11,6 @@ mod messages;
 mod scopes;
 mod services;
 mod statement;
+mod syntaxes;
 
 pub(crate) use files::file;

@@ -7,13 +7,13 @@ ghost use Rattle.pb_tokens.specs.declared.fault.SourceCause.{SourceCause};
 ghost use Rattle.pb_tokens.specs.Fault.{fault, out_of_memory};
 ghost use Rattle.pb_tokens.specs.Language.{told};
 ghost use Rattle.pb_tokens.specs.SymbolView.{symbols_of};
-ghost use Rattle.pb_tokens.specs.declared.grammar.Grammar.{Grammar};
+ghost use Rattle.pb_source.specs.declared.reading.Reading.{Reading};
 ghost use Rattle.pb_source.specs.Source.{place_in, IsSourceIn, HasFaultIn, IsSource, HasFault, IsLenientSource, HasLenientFault};
 ghost use Rattle.pb_source.specs.Readers.Told.{fault_at};
 
 use crate::parsing::file;
+use crate::reading::Reading;
 use pb_decl::FileDecl;
-use pb_tokens::grammar::Grammar;
 use pb_tokens::refusal::Refusal;
 use pb_tokens::rule::Rule;
 use pb_tokens::symbol::Placed;
@@ -24,7 +24,7 @@ use std::alloc::Global;
 /// The greatest number of bytes that a source may have.
 const MAX_BYTES: usize = 2147483647;
 
-/// The cause that is told where a rule is broken, or where a symbol was not expected.
+/// The cause that is reported where a rule is broken, or where a symbol was not expected.
 fn cause_of(rule: Option<Rule>) -> SourceCause
     ensures { result ≡ told rule }
 {
@@ -38,7 +38,7 @@ fn cause_of(rule: Option<Rule>) -> SourceCause
     }
 }
 
-/// Where the symbol of this index begins; behind the last, the end of the source.
+/// Where the symbol of this index begins; after the last, the end of the source.
 fn place_in(symbols: &[Placed], end: u64, index: usize) -> u64
     ensures { result ≡ place_in (symbols_of symbols.now) end index }
 {
@@ -74,10 +74,10 @@ fn text_of(source: &[u8]) -> Result<&str, SourceFault>
     ensures size { IfOk result (λ t. length source.now ≤ 2 ^ 31 - 1) }
     ensures valid { IfOk result (λ t. IsUtf8 source.now) }
     ensures text { IfOk result (λ t. t.now ≡ source.now) }
-    ensures fault { IfErr result (λ e. (grammar : Grammar) → HasFaultIn grammar source.now e.byte e.cause) }
-    ensures only_fault { IfErr result (λ e. (grammar : Grammar) (place : ℕ) (cause : SourceCause) → HasFaultIn grammar source.now place cause
+    ensures fault { IfErr result (λ e. (reading : Reading) → HasFaultIn reading source.now e.byte e.cause) }
+    ensures only_fault { IfErr result (λ e. (reading : Reading) (place : ℕ) (cause : SourceCause) → HasFaultIn reading source.now place cause
         → (place ≡ e.byte) × (cause ≡ e.cause)) }
-    ensures no_source { IfErr result (λ e. (grammar : Grammar) (name : List ℕ) (d : DeclaredFile) → IsSourceIn grammar name source.now d → ⊥) }
+    ensures no_source { IfErr result (λ e. (reading : Reading) (name : List ℕ) (d : DeclaredFile) → IsSourceIn reading name source.now d → ⊥) }
 {
     if source.len() > MAX_BYTES {
         return Err(SourceFault {
@@ -94,24 +94,24 @@ fn text_of(source: &[u8]) -> Result<&str, SourceFault>
     }
 }
 
-/// What a source declares by a grammar, as the file of this name.
+/// What a source declares as it is read, as the file of this name.
 fn parse_by(
     alloc: Global,
-    grammar: Grammar,
+    reading: Reading,
     name: &str,
     source: &[u8],
 ) -> Result<FileDecl, SourceFault>
-    ensures source { IfOk result (λ f. IsSourceIn grammar name.now source.now (file_view f)) }
-    ensures fault { IfErr result (λ e. (e ≡ out_of_memory) ⊎ HasFaultIn grammar source.now e.byte e.cause) }
+    ensures source { IfOk result (λ f. IsSourceIn reading name.now source.now (file_view f)) }
+    ensures fault { IfErr result (λ e. (e ≡ out_of_memory) ⊎ HasFaultIn reading source.now e.byte e.cause) }
 
     // The declaration of a source is answered, and the fault of what is none, unless memory runs out.
-    ensures accepted { (d : DeclaredFile) → IsSourceIn grammar name.now source.now d → MatchResult result (λ f. file_view f ≡ d) (λ e. e ≡ out_of_memory) }
-    ensures refused { (place : ℕ) (cause : SourceCause) → HasFaultIn grammar source.now place cause
+    ensures accepted { (d : DeclaredFile) → IsSourceIn reading name.now source.now d → MatchResult result (λ f. file_view f ≡ d) (λ e. e ≡ out_of_memory) }
+    ensures refused { (place : ℕ) (cause : SourceCause) → HasFaultIn reading source.now place cause
         → MatchResult result (λ f. ⊥) (λ e. (e ≡ fault place cause) ⊎ (e ≡ out_of_memory)) }
 {
     let text = text_of(source)?;
     let symbols = source_symbols(alloc, text)?;
-    match file(alloc, grammar, name, &symbols) {
+    match file(alloc, reading, name, &symbols) {
         Ok(decl) => Ok(decl),
         Err(refusal) => Err(fault_of(&symbols, source.len() as u64, refusal)),
     }
@@ -130,13 +130,14 @@ pub fn parse(alloc: Global, name: &str, source: &[u8]) -> Result<FileDecl, Sourc
     ensures refused { (place : ℕ) (cause : SourceCause) → HasFault source.now place cause
         → MatchResult result (λ f. ⊥) (λ e. (e ≡ fault place cause) ⊎ (e ≡ out_of_memory)) }
 {
-    parse_by(alloc, Grammar::Strict, name, source)
+    parse_by(alloc, Reading::Strict, name, source)
 }
 
-/// What a source of all of proto3 declares, as the file of this name.
+/// What a source of proto2 or proto3 declares, as the file of this name.
 ///
-/// Beside what `parse` takes it reads and drops option names with parts in parentheses, floating constants and constants in braces, blocks of
-/// `extend`, and ranges of `extensions`. The fault is told as `parse` tells it. (Protocol Buffers Language Specification (Proto3))
+/// Beside what `parse` takes it takes sources of proto2, which say so or say no syntax, and it reads and drops option names with parts in
+/// parentheses, floating constants and constants in braces, blocks of `extend`, ranges of `extensions` and default values. The fault is reported as
+/// by `parse`. (Protocol Buffers Language Specification, Proto2 and Proto3)
 pub fn parse_lenient(alloc: Global, name: &str, source: &[u8]) -> Result<FileDecl, SourceFault>
     ensures source { IfOk result (λ f. IsLenientSource name.now source.now (file_view f)) }
     ensures fault { IfErr result (λ e. (e ≡ out_of_memory) ⊎ HasLenientFault source.now e.byte e.cause) }
@@ -146,5 +147,5 @@ pub fn parse_lenient(alloc: Global, name: &str, source: &[u8]) -> Result<FileDec
     ensures refused { (place : ℕ) (cause : SourceCause) → HasLenientFault source.now place cause
         → MatchResult result (λ f. ⊥) (λ e. (e ≡ fault place cause) ⊎ (e ≡ out_of_memory)) }
 {
-    parse_by(alloc, Grammar::Proto3, name, source)
+    parse_by(alloc, Reading::Lenient, name, source)
 }

@@ -1,10 +1,11 @@
-//! Sources of all of proto3: what is read and dropped, and the faults of it.
+//! Sources that are read leniently: what is read and dropped, the faults of it, and sources of proto2.
 
+use pb_descr::write_set;
 use pb_source::{parse, parse_lenient};
 use std::alloc::Global;
 use std::test::Fail;
 
-/// A row: a source behind its syntax and a blank, and another source that declares the same to `protoc`, with options that say nothing left out,
+/// A row: a source after its syntax and a blank, and another source that declares the same to `protoc`, with options that say nothing left out,
 /// and which the strict grammar takes; or the byte and the cause of the fault.
 const ROWS: &str = "
 option (a) = 1; => 
@@ -59,7 +60,7 @@ service S { extend X { } } => 31 Unexpected
 enum E { extend = 1; extensions = 2; extend X { } } => 63 Unexpected
 ";
 
-/// Whether a row's source declares what the other one does, or has the fault that it tells, or this one.
+/// Whether a row's source declares what the other one does, or has the fault that it names, or this one.
 fn holds(alloc: Global, row: &str, otherwise: &str) -> Result<bool, Fail> {
     let (written, wanted) = row.split_once(" => ").ok_or("no source")?;
     let source = format!(in alloc; "syntax = \"proto3\"; {written}")?;
@@ -68,13 +69,13 @@ fn holds(alloc: Global, row: &str, otherwise: &str) -> Result<bool, Fail> {
         Ok(decl) => match parse(alloc, "m.proto", same.as_bytes()) {
             Ok(other) => Ok(decl == other),
             Err(fault) => {
-                let told = format!(in alloc; "{} {}", fault.byte, fault.cause)?;
-                Ok(told.as_str() == otherwise)
+                let fault = format!(in alloc; "{} {}", fault.byte, fault.cause)?;
+                Ok(fault.as_str() == otherwise)
             }
         },
         Err(fault) => {
-            let told = format!(in alloc; "{} {}", fault.byte, fault.cause)?;
-            Ok(told.as_str() == wanted || told.as_str() == otherwise)
+            let fault = format!(in alloc; "{} {}", fault.byte, fault.cause)?;
+            Ok(fault.as_str() == wanted || fault.as_str() == otherwise)
         }
     }
 }
@@ -87,7 +88,7 @@ fn sources(rt: HostRuntime) -> Result<(), Fail> {
     Ok(())
 }
 
-/// Where an allocation is refused, which `.ci/growths` does, that is told at byte 0, or the answer stands.
+/// Where an allocation is refused, which `.ci/growths` does, the fault is `Memory` at byte 0, or the answer is the same.
 #[test]
 fn allocations(rt: HostRuntime) -> Result<(), Fail> {
     for row in ROWS.lines() {
@@ -100,7 +101,7 @@ fn allocations(rt: HostRuntime) -> Result<(), Fail> {
 }
 
 /// What a source is refused with; nothing where it is taken.
-fn told(alloc: Global, source: &[u8]) -> Result<String, Fail> {
+fn refused_with(alloc: Global, source: &[u8]) -> Result<String, Fail> {
     match parse_lenient(alloc, "m.proto", source) {
         Ok(_) => Ok(String::new(alloc)),
         Err(fault) => Ok(format!(in alloc; "{} {}", fault.byte, fault.cause)?),
@@ -110,8 +111,75 @@ fn told(alloc: Global, source: &[u8]) -> Result<String, Fail> {
 #[test]
 fn other_syntax(rt: HostRuntime) -> Result<(), Fail> {
     let alloc = rt.alloc();
-    assert!(rt; told(alloc, b"")?.as_str() == "0 NotProto3");
-    assert!(rt; told(alloc, b"syntax = \"proto2\";")?.as_str() == "9 NotProto3");
+    assert!(rt; refused_with(alloc, b"")?.as_str() == "");
+    assert!(rt; refused_with(alloc, b"// nothing")?.as_str() == "");
+    assert!(rt; refused_with(alloc, b"syntax = \"proto2\";")?.as_str() == "");
+    assert!(rt; refused_with(alloc, b"syntax = 'proto' '2';")?.as_str() == "");
+    assert!(rt; refused_with(alloc, b"syntax = \"proto1\";")?.as_str() == "9 NotProto3");
+    assert!(rt; refused_with(alloc, b"syntax = \"\";")?.as_str() == "9 NotProto3");
+    assert!(rt; refused_with(alloc, b"syntax = proto2;")?.as_str() == "9 Unexpected");
+    assert!(rt; refused_with(alloc, b"syntax;")?.as_str() == "6 Unexpected");
+    assert!(rt; refused_with(alloc, b"edition = \"2023\";")?.as_str() == "0 Unexpected");
+    assert!(rt;
+        refused_with(alloc, b"syntax = \"proto2\"; syntax = \"proto2\";")?.as_str()
+            == "19 Unexpected"
+    );
+    assert!(rt;
+        refused_with(alloc, b"package a; syntax = \"proto2\";")?.as_str() == "11 Unexpected"
+    );
+    Ok(())
+}
+
+/// A row: a source of proto2 after its syntax and a blank, and the bytes that `protoc` writes of it, or the byte and the cause of the fault. Of the
+/// bytes what says nothing of a declaration, as a label `optional` or a default value, is left out.
+const PROTO2_ROWS: &str = "
+ => 0a090a076d2e70726f746f
+message M { optional int32 a = 1; } => 0a190a076d2e70726f746f220e0a014d12090a0161180120012805
+message M { required int32 a = 1; repeated int32 b = 2; } => 0a240a076d2e70726f746f22190a014d12090a016118012001280512090a0162180220032805
+message M { optional int32 a = 1 [default = -5]; optional double b = 2 [default = -inf]; optional string c = 3 [default = 'x' 'y']; optional float d = 4 [default = 1.5e3]; } => 0a3a0a076d2e70726f746f222f0a014d12090a016118012001280512090a016218022001280112090a016318032001280912090a0164180420012802
+message M { repeated int32 a = 1 [packed = true]; repeated int32 b = 2 [packed = false]; repeated int32 c = 3; } => 0a370a076d2e70726f746f222c0a014d120d0a016118012003280542021001120d0a01621802200328054202100012090a0163180320032805
+message M { oneof o { int32 a = 1; string b = 2 [default = 'x']; } optional bool c = 3; } => 0a380a076d2e70726f746f222d0a014d120b0a01611801200128054800120b0a0162180220012809480012090a016318032001280842030a016f
+message M { map<string, int32> a = 1; } => 0a4e0a076d2e70726f746f22430a014d12140a016118012003280b32092e4d2e41456e7472791a280a0641456e747279120b0a036b6579180120012809120d0a0576616c75651802200128053a023801
+enum E { A = 5; B = 0; C = -1; } => 0a2c0a076d2e70726f746f2a210a014512050a0141100512050a01421000120e0a014310ffffffffffffffffff01
+message M { extensions 100 to 199; extensions 300 to max; optional int32 a = 1; } extend M { optional int32 x = 100; repeated string y = 101; } => 0a190a076d2e70726f746f220e0a014d12090a0161180120012805
+message M { extensions 100 to 199; message N { extend M { optional int32 x = 100 [default = 7]; } optional int32 a = 2; } } => 0a1e0a076d2e70726f746f22130a014d1a0e0a014e12090a0161180220012805
+message M { reserved 5, 7 to 9; reserved 'x'; optional int32 a = 1; } => 0a280a076d2e70726f746f221d0a014d12090a01611801200128054a04080510064a040807100a520178
+package p; option java_package = 'x'; message M { message N { required bytes b = 3; } enum E { A = 1; } } => 0a2d0a076d2e70726f746f120170221f0a014d1a0e0a014e12090a016218032001280c220a0a014512050a01411001
+message M { optional int32 optional = 1; required int32 required = 2; repeated int32 map = 3; optional int32 group = 4; } => 0a4e0a076d2e70726f746f22430a014d12100a086f7074696f6e616c18012001280512100a087265717569726564180220012805120b0a036d6170180320032805120d0a0567726f7570180420012805
+message M { option message_set_wire_format = false; optional int32 default = 1 [deprecated = true, default = 0x1F]; } => 0a1f0a076d2e70726f746f22140a014d120f0a0764656661756c74180120012805
+message M { int32 a = 1; } => 31 Unexpected
+message M { optional map<int32, int32> a = 1; } => 43 Unexpected
+message M { map a = 1; } => 35 Unexpected
+message M { oneof o { optional int32 a = 1; } } => 56 Unexpected
+message M { optional int32 a = 1 [default]; } => 60 Unexpected
+message M { optional int32 a = 1 [default = ]; } => 63 Unexpected
+extend X { int32 a = 1; } => 30 Unexpected
+extend X { map<int32, int32> a = 1; } => 30 Unexpected
+";
+
+/// The bytes of the set of a source of proto2, or its fault.
+fn proto2_set(alloc: Global, written: &str) -> Result<String, Fail> {
+    let source = format!(in alloc; "syntax = \"proto2\"; {written}")?;
+    match parse_lenient(alloc, "m.proto", source.as_bytes()) {
+        Ok(decl) => {
+            let files = vec![in alloc; decl]?;
+            let set = write_set(alloc, &files)?;
+            Ok(hex::encode(alloc, &set)?)
+        }
+        Err(fault) => Ok(format!(in alloc; "{} {}", fault.byte, fault.cause)?),
+    }
+}
+
+#[test]
+fn proto2_sources(rt: HostRuntime) -> Result<(), Fail> {
+    for row in PROTO2_ROWS.lines() {
+        if let Some((written, wanted)) = row.split_once(" => ") {
+            assert!(rt;
+                proto2_set(rt.alloc(), written)?.as_str() == wanted,
+                "{row}"
+            );
+        }
+    }
     Ok(())
 }
 
@@ -131,12 +199,12 @@ fn deep_aggregates(rt: HostRuntime) -> Result<(), Fail> {
     let alloc = rt.alloc();
     let mut source = String::from_str(alloc, "syntax = \"proto3\"; option a = ")?;
     source.push_str(&many(alloc, "{")?)?;
-    assert!(rt; told(alloc, source.as_bytes())?.as_str() == "262174 Unexpected");
+    assert!(rt; refused_with(alloc, source.as_bytes())?.as_str() == "262174 Unexpected");
     source.push_str(&many(alloc, "}")?)?;
     source.push(';')?;
-    assert!(rt; told(alloc, source.as_bytes())?.as_str() == "");
+    assert!(rt; refused_with(alloc, source.as_bytes())?.as_str() == "");
     source.push('}')?;
-    assert!(rt; told(alloc, source.as_bytes())?.as_str() == "524319 Unexpected");
+    assert!(rt; refused_with(alloc, source.as_bytes())?.as_str() == "524319 Unexpected");
     Ok(())
 }
 
@@ -161,6 +229,6 @@ fn prefixes(rt: HostRuntime) -> Result<(), Fail> {
     for len in 0..WHOLE.len() {
         assert!(rt; prefix_holds(rt.alloc(), len)?, "{len}");
     }
-    assert!(rt; told(rt.alloc(), WHOLE.as_bytes())?.as_str() == "");
+    assert!(rt; refused_with(rt.alloc(), WHOLE.as_bytes())?.as_str() == "");
     Ok(())
 }

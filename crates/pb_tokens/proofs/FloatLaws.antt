@@ -9,7 +9,7 @@ use Rattle.pb_tokens.specs.declared.parsing.floats.Begun.{Begun}
 use Rattle.pb_tokens.specs.declared.parsing.floats.Begun.TheVariants.{Whole, Open, MayPoint, MustPoint}
 use Rattle.pb_tokens.specs.Integers.{number_in, integer_of}
 use Rattle.pb_tokens.specs.Tokens.{Stops}
-use Rattle.pb_tokens.specs.Floats.{is_decimal, is_decimals, behind_digits, exponent_in, power_in, scaled_in, fraction_in, begun_by, begun_of, begun_in}
+use Rattle.pb_tokens.specs.Floats.{is_decimal, is_decimals, after_digits, exponent_in, power_in, scaled_in, fraction_in, begun_by, begun_of, begun_in}
 use Rattle.pb_tokens.specs.Symbols.{Symbol, word, number, text, sign}
 use Rattle.pb_tokens.specs.Language.{Language, ◌▸◌, ◌or◌, one, nothing, Rules}
 use Rattle.pb_tokens.specs.Phrases.{mark, integer, decimals, exponent_end, powered, exponent, floating}
@@ -31,12 +31,12 @@ if_some : (b : Bool) (n m : ℕ) → (if b then Some n else None) ≡ Some m →
 if_some true n m h = refl
 if_some false n m h = absurd (cc h)
 
-none_behind : (ds : List ℕ) → list_all (λ c. is_digit c 10) ds ≡ true → behind_digits ds ≡ []
-none_behind [] h = refl
-none_behind (d ∷ ds) h = let p = and_parts (is_digit d 10) (list_all (λ c. is_digit c 10) ds) h in rw p.0 (none_behind ds p.1)
+none_after : (ds : List ℕ) → list_all (λ c. is_digit c 10) ds ≡ true → after_digits ds ≡ []
+none_after [] h = refl
+none_after (d ∷ ds) h = let p = and_parts (is_digit d 10) (list_all (λ c. is_digit c 10) ds) h in rw p.0 (none_after ds p.1)
 
--- so many digits stand at the front
-dropped_digits : (n : ℕ) (bs : List ℕ) → n ≤ length bs → list_all is_decimal (take n bs) ≡ true → Stops is_decimal (drop n bs) → drop n bs ≡ behind_digits bs
+-- the digits at the front
+dropped_digits : (n : ℕ) (bs : List ℕ) → n ≤ length bs → list_all is_decimal (take n bs) ≡ true → Stops is_decimal (drop n bs) → drop n bs ≡ after_digits bs
 dropped_digits zero [] l h s = refl
 dropped_digits zero (b ∷ bs) l h s = rw s refl
 dropped_digits (suc n) [] l h s = refl
@@ -51,14 +51,14 @@ take_whole (suc k) [] l = refl
 take_whole (suc k) (b ∷ bs) l = ap (λ bs. b ∷ bs) (take_whole k bs (omega arith))
 
 pub rest_digits : (n : ℕ) (bs : List ℕ) → n ≤ length bs → list_all is_decimal (take n bs) ≡ true → Stops is_decimal (drop n bs)
-    → take (length bs - n) (drop n bs) ≡ behind_digits bs
+    → take (length bs - n) (drop n bs) ≡ after_digits bs
 rest_digits n bs l h s = take_whole (length bs - n) (drop n bs) (let e = length-drop n bs in omega arith) ∙ dropped_digits n bs l h s
 
 no_power : (w : List ℕ) → is_decimals w ≡ true → power_in w ≡ None
 no_power [] h = refl
 no_power (c ∷ cs) h =
     let p = and_parts (is_digit c 10) (list_all (λ c. is_digit c 10) cs) (all_digits _ _ h) in
-    rw p.0 (ap exponent_in (none_behind cs p.1))
+    rw p.0 (ap exponent_in (none_after cs p.1))
 
 more_digits : (c : ℕ) → is_digit c 8 ≡ true → is_digit c 10 ≡ true
 more_digits c h = let l = ltb-true (digit_value c) 8 h in lt-ltb (digit_value c) 10 (omega arith)
@@ -177,7 +177,7 @@ reads_scaled : {n : ℕ} {e : Symbol → Bool} → Reads n e (λ rules (u : Unit
 unfolding scaled_reader
 reads_scaled = said_so {Q = λ rules (u : Unit {0}). Scaled} (reads_exponential scaled_in (number (codes "0")) false refl) to_scaled of_scaled
 
--- ---- what stands behind a point
+-- ---- what follows a point
 
 abbrev Fraction : Language
 Fraction = decimals or powered or exponent or nothing
@@ -212,7 +212,7 @@ reads_fraction {n} =
 
 -- ---- integers and floating literals
 
--- what goes on a constant: a point, or a word or a number word behind one
+-- what goes on a constant: a point, or a word or a number word after one
 abbrev pub goes_on : Symbol → Bool
 goes_on (word w) = true
 goes_on (number w) = true

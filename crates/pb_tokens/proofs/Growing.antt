@@ -6,13 +6,14 @@ use Rattle.pb_tokens.specs.declared.rule.Rule.TheVariants.{OptionsKnown as optio
 use Rattle.pb_tokens.specs.declared.bracket.Bracket.{Bracket}
 use Rattle.pb_tokens.specs.declared.bracket.Bracket.TheVariants.{Curly}
 use Rattle.pb_tokens.specs.declared.grammar.Grammar.{Grammar}
-use Rattle.pb_tokens.specs.declared.grammar.Grammar.TheVariants.{Strict, Proto3}
+use Rattle.pb_tokens.specs.declared.grammar.Grammar.TheVariants.{Strict, Lenient}
+use Rattle.pb_tokens.specs.declared.grammar.Syntax.TheVariants.{Proto2, Proto3}
 use Rattle.pb_tokens.specs.Symbols.{Symbol}
 use Rattle.pb_tokens.specs.Language.{Rules}
 use Rattle.pb_tokens.specs.Said.{a_name, joined, last_said}
 use Rattle.pb_tokens.specs.Phrases.{is_the_name}
 use Rattle.pb_tokens.specs.Readers.Forms.{Outcome, Reader, on_outcome, answer, chain, mapped, both, behind, before, choice, by_kind, on_kind, if_some, guarded, ruled, first_passes, symbol, plain, judged, tested, is_mark, keyword_reader, mark_reader, until, separated, to_end}
-use Rattle.pb_tokens.specs.Readers.Phrases.{is_word, numeral_reader, open_behind, closed_reader, aggregate_reader, signed_value_reader, unquoted_reader, part_reader, name_reader, plus_or_minus_reader, integer_in, part_in, truth_in, type_of, is_dot, is_text, is_number, is_comma, no_default, listed, fullname_reader, typename_reader, constant_reader, optname_reader, assignment_reader, option_reader, said_reader, setting_reader, field_option_reader, options_reader, field_end_reader, value_end_reader, type_reader}
+use Rattle.pb_tokens.specs.Readers.Phrases.{is_word, numeral_reader, open_behind, closed_reader, aggregate_reader, signed_value_reader, unquoted_reader, part_reader, name_reader, plus_or_minus_reader, integer_in, part_in, truth_in, type_of, is_dot, is_text, is_number, is_comma, if_allowed, listed, fullname_reader, typename_reader, constant_reader, optname_reader, assignment_reader, option_reader, said_reader, setting_reader, field_option_reader, options_reader, ended_reader, value_end_reader, type_reader}
 
 -- the second may go further than the first
 pub record Grows {A : Type 0} (p q : Reader A) : Type 0 where
@@ -23,7 +24,7 @@ grows_same p = record { grows = λ rules ts. inl refl }
 
 -- ---- readers that are built of readers
 
-grows_chain : {A B : Type 0} {p q : Reader A} {f g : A → Reader B} → Grows p q → ((v : A) → Grows (f v) (g v)) → Grows (chain p f) (chain q g)
+pub grows_chain : {A B : Type 0} {p q : Reader A} {f g : A → Reader B} → Grows p q → ((v : A) → Grows (f v) (g v)) → Grows (chain p f) (chain q g)
 grows_chain {A} {B} {p} {q} {f} {g} r s = record { grows = λ rules ts. first rules ts (r.grows rules ts) }
   where
     onward : (rules : Rules) (o : Outcome A) → (on_outcome o (λ v rest. g v rules rest) ≡ on_outcome o (λ v rest. f v rules rest))
@@ -170,13 +171,13 @@ unfolding signed_value_reader
 grows_signed_value Strict n =
     grows_behind (grows_same plus_or_minus_reader)
     (grows_choice is_number (grows_same (mapped (λ _. tt) (symbol (plain integer_in)))) (grows_mapped (λ _. tt) (grows_fullname n)))
-grows_signed_value Proto3 n =
+grows_signed_value (Lenient s) n =
     grows_behind (grows_same plus_or_minus_reader) (grows_choice is_word (grows_mapped (λ _. tt) (grows_fullname n)) (grows_same numeral_reader))
 
 grows_unquoted : (g : Grammar) (n : ℕ) → Grows (unquoted_reader g n) (unquoted_reader g (suc n))
 unfolding unquoted_reader
 grows_unquoted Strict n = grows_signed_value Strict n
-grows_unquoted Proto3 n = grows_choice (is_mark (codes "{")) (grows_aggregate n) (grows_signed_value Proto3 n)
+grows_unquoted (Lenient s) n = grows_choice (is_mark (codes "{")) (grows_aggregate n) (grows_signed_value (Lenient Proto3) n)
 
 grows_constant : (g : Grammar) (n : ℕ) → Grows (constant_reader g n) (constant_reader g (suc n))
 unfolding constant_reader
@@ -185,7 +186,7 @@ grows_constant g n = grows_choice is_text (grows_same (tested is_text)) (grows_u
 grows_part : (g : Grammar) (n : ℕ) → Grows (part_reader g n) (part_reader g (suc n))
 unfolding part_reader
 grows_part Strict n = grows_same (symbol (judged options_known part_in))
-grows_part Proto3 n =
+grows_part (Lenient s) n =
     grows_choice (is_mark (codes "("))
     (grows_behind (grows_same (mark_reader (codes "("))) (grows_before (grows_mapped (λ _. codes "(") (grows_typename n)) (grows_same (mark_reader (codes ")")))))
     (grows_same name_reader)
@@ -213,22 +214,22 @@ grows_setting g n v = grows_chain (grows_optname g n) (λ name. grows_behind (gr
 grows_field_option : (g : Grammar) (n : ℕ) → Grows (field_option_reader g n) (field_option_reader g (suc n))
 unfolding field_option_reader
 grows_field_option g n =
-    grows_kinds no_default (λ _. Some (setting_reader g n (codes "packed"))) (λ _. Some (setting_reader g (suc n) (codes "packed")))
+    grows_kinds (if_allowed g) (λ _. Some (setting_reader g n (codes "packed"))) (λ _. Some (setting_reader g (suc n) (codes "packed")))
     (λ k. grows_setting g n (codes "packed"))
 
-grows_options : {I : Type 0} {p q : Reader I} (n : ℕ) → Grows p q → Grows (options_reader n p) (options_reader (suc n) q)
+grows_options : {I : Type 0} {p q : Reader I} (close : List ℕ) (n : ℕ) → Grows p q → Grows (options_reader close n p) (options_reader close (suc n) q)
 unfolding options_reader
-grows_options n g = grows_behind (grows_same (mark_reader (codes "[")))
-    (grows_before (grows_listed n g) (grows_same (behind (mark_reader (codes "]")) (mark_reader (codes ";")))))
+grows_options close n g = grows_behind (grows_same (mark_reader (codes "[")))
+    (grows_before (grows_listed n g) (grows_same (behind (mark_reader (codes "]")) (mark_reader close))))
 
-pub grows_field_end : (g : Grammar) (n : ℕ) → Grows (field_end_reader g n) (field_end_reader g (suc n))
-unfolding field_end_reader
-grows_field_end g n = grows_choice (is_mark (codes "[")) (grows_mapped (last_said None) (grows_options n (grows_field_option g n)))
-    (grows_same (mapped (λ _. None) (mark_reader (codes ";"))))
+pub grows_ended : (close : List ℕ) (g : Grammar) (n : ℕ) → Grows (ended_reader close g n) (ended_reader close g (suc n))
+unfolding ended_reader
+grows_ended close g n = grows_choice (is_mark (codes "[")) (grows_mapped (last_said None) (grows_options close n (grows_field_option g n)))
+    (grows_same (mapped (λ _. None) (mark_reader close)))
 
 pub grows_value_end : (g : Grammar) (n : ℕ) → Grows (value_end_reader g n) (value_end_reader g (suc n))
 unfolding value_end_reader
-grows_value_end g n = grows_choice (is_mark (codes "[")) (grows_mapped (λ _. tt) (grows_options n (grows_assignment g n))) (grows_same (mark_reader (codes ";")))
+grows_value_end g n = grows_choice (is_mark (codes "[")) (grows_mapped (λ _. tt) (grows_options (codes ";") n (grows_assignment g n))) (grows_same (mark_reader (codes ";")))
 
 pub grows_type : (n : ℕ) → Grows (type_reader n) (type_reader (suc n))
 unfolding type_reader

@@ -2,7 +2,7 @@
 use Rattle.std.proofs.Common.{◌≡◌, ℕ, zero, suc, [], refl, None, Err}
 use Rattle.pb_tokens.specs.Language.{all_rules}
 use Rattle.pb_tokens.specs.declared.grammar.Grammar.{Grammar}
-use Rattle.pb_tokens.specs.declared.grammar.Grammar.TheVariants.{Strict, Proto3}
+use Rattle.pb_tokens.specs.declared.grammar.Grammar.TheVariants.{Strict, Lenient}
 use Rattle.pb_tokens.specs.declared.parsing.ranges.Within.{Within}
 use Rattle.pb_tokens.specs.declared.parsing.ranges.Within.TheVariants.{Message, Enum}
 use Rattle.pb_tokens.specs.RangeView.{range_within}
@@ -23,14 +23,14 @@ no_field_option g n = refl
 pub no_part : (g : Grammar) (n : ℕ) → part_reader g n all_rules [] ≡ Err ([], None)
 unfolding part_reader name_reader
 no_part Strict n = refl
-no_part Proto3 n = refl
+no_part (Lenient s) n = refl
 
 pub no_assignment : (g : Grammar) (n : ℕ) → assignment_reader g n all_rules [] ≡ Err ([], None)
 unfolding assignment_reader optname_reader part_reader name_reader
 no_assignment Strict zero = refl
 no_assignment Strict (suc n) = refl
-no_assignment Proto3 zero = refl
-no_assignment Proto3 (suc n) = refl
+no_assignment (Lenient s) zero = refl
+no_assignment (Lenient s) (suc n) = refl
 
 pub no_range : (within : Within) (n : ℕ) → range_within within all_rules [] ≡ Err ([], None)
 unfolding range_reader limited_reader signed_reader

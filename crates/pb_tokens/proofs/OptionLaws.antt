@@ -1,18 +1,22 @@
 -- The readers of integers, constants and options read them.
+use Prim.Native.String.{String}
 use Rattle.std.proofs.Common.{◌≡◌, ℕ, ◌≤◌, pos, neg_ℤ, List, [], ◌∷◌, ◌++◌, length, Bool, true, false, ◌||◌, nat_le, le-leb, leb-true, option_map, codes, refl, ap, sym, ◌∙◌, subst, Option, Some, None, arith, ◌⊎◌, inl, inr}
 use Rattle.std.specs.Prelude.{if◌then◌else◌}
 use Rattle.std.specs.Str.{bytes_eq}
 use Rattle.std.proofs.lemmas.Bool.{false≢true, or_parts}
+use Rattle.std.proofs.Math.Bool.{or-false}
 use Rattle.std.proofs.lemmas.Slice.Eq.{bytes_eq-Decides}
 use Rattle.pb_tokens.specs.declared.rule.Rule.TheVariants.{NumbersFit as numbers_fit, OptionsKnown as options_known}
 use Rattle.pb_tokens.specs.declared.grammar.Grammar.{Grammar}
-use Rattle.pb_tokens.specs.declared.grammar.Grammar.TheVariants.{Strict, Proto3}
+use Rattle.pb_tokens.specs.declared.grammar.Syntax.{Syntax}
+use Rattle.pb_tokens.specs.declared.grammar.Grammar.TheVariants.{Strict, Lenient}
+use Rattle.pb_tokens.specs.declared.grammar.Syntax.TheVariants.{Proto2, Proto3}
 use Rattle.pb_tokens.specs.Symbols.{Symbol, word, number, text, sign}
 use Rattle.pb_tokens.specs.Language.{Language, ◌▸◌, ◌or◌, one, Rules}
 use Rattle.pb_tokens.specs.Said.{last_said}
-use Rattle.pb_tokens.specs.Phrases.{keyword, mark, integer, limited, aggregate, counted, signed, plus_or_minus, plain_constant, constant, fullname, typename, part, optname, assignment, option, truth, is_the_name, setting, field_option, Listed, options, field_end, value_end}
-use Rattle.pb_tokens.specs.Readers.Forms.{Reader, behind, mapped, first_passes, is_mark, tested, if_so, symbol, judged, plain, mark_reader}
-use Rattle.pb_tokens.specs.Readers.Phrases.{is_dot, is_comma, listed, integer_in, limited_in, limited_reader, counted_reader, signed_reader, is_text, is_word, is_number, numeral_reader, aggregate_reader, signed_value_reader, unquoted_reader, plus_or_minus_reader, constant_reader, part_in, part_reader, optname_reader, assignment_reader, option_reader, truth_in, said_reader, setting_reader, no_default, field_option_reader, options_reader, field_end_reader, value_end_reader}
+use Rattle.pb_tokens.specs.Phrases.{keyword, mark, integer, limited, aggregate, counted, signed, plus_or_minus, plain_constant, constant, fullname, typename, part, optname, assignment, option, truth, is_the_name, setting, is_one_of, barred, field_option, Listed, options, ended, field_end, group_end, value_end}
+use Rattle.pb_tokens.specs.Readers.Forms.{Reader, behind, mapped, first_passes, is_keyword, is_mark, tested, if_so, symbol, judged, plain, mark_reader}
+use Rattle.pb_tokens.specs.Readers.Phrases.{is_dot, is_comma, listed, integer_in, limited_in, limited_reader, counted_reader, signed_reader, is_text, is_word, is_number, numeral_reader, aggregate_reader, signed_value_reader, unquoted_reader, plus_or_minus_reader, constant_reader, part_in, part_reader, optname_reader, assignment_reader, option_reader, truth_in, said_reader, setting_reader, is_barred, if_allowed, field_option_reader, options_reader, ended_reader, field_end_reader, group_end_reader, value_end_reader}
 use Rattle.pb_tokens.proofs.ReaderLaws.{Reads, IsStop, Chained, reads_chain}
 use Rattle.pb_tokens.proofs.Parts.{Answered, reads_answer, reads_stop}
 use Rattle.pb_tokens.proofs.Compose.{never, any_stop, Mapped, Behind, Before, reads_mapped, reads_behind, reads_behind_so, reads_before_so, reads_some, reads_either, said_so}
@@ -184,7 +188,7 @@ reads_plain_constant n =
     from rules u c (inr (inl (n, (a, b, ha, hb, j)))) = inr (a, b, ha, inl (n, hb), j)
     from rules u c (inr (inr (ws, (a, b, ha, hb, j)))) = inr (a, b, ha, inr (ws, hb), j)
 
--- ---- constants of all of proto3
+-- ---- constants of the lenient grammars
 
 -- a name, an integer or a floating literal
 abbrev Bare : Rules → Unit {0} → Language
@@ -238,7 +242,7 @@ begins_unquoted s = is_plus_or_minus s || begins_bare s
 abbrev Unquoted : Rules → Unit {0} → Language
 Unquoted rules u = plus_or_minus ▸ Bare rules u
 
-reads_unquoted : (n : ℕ) → Reads n goes_on Unquoted (signed_value_reader Proto3 n)
+reads_unquoted : (n : ℕ) → Reads n goes_on Unquoted (signed_value_reader (Lenient Proto3) n)
 unfolding signed_value_reader
 reads_unquoted n =
     reads_behind_so {L = λ rules. plus_or_minus} reads_plus_or_minus (reads_bare n)
@@ -270,10 +274,10 @@ braced_no_text : (rules : Rules) (u : Unit {0}) (c rest : List Symbol) → Brace
 braced_no_text rules u c rest (inl d) = front_of_one {S = λ ts. (Rattle.pb_tokens.specs.Aggregates.Balanced ▸ Rattle.pb_tokens.specs.Aggregates.closing Rattle.pb_tokens.specs.declared.bracket.Bracket.TheVariants.Curly) ts} is_text (sign (codes "{")) c rest d
 braced_no_text rules u c rest (inr d) = unquoted_fails is_text bare_or_text refl refl rules u c rest d
 
-reads_full_constant : (n : ℕ) → Reads n goes_on (λ rules (u : Unit {0}). constant Proto3) (constant_reader Proto3 n)
+reads_full_constant : (s : Syntax) (n : ℕ) → Reads n goes_on (λ rules (u : Unit {0}). constant (Lenient s)) (constant_reader (Lenient s) n)
 unfolding constant_reader unquoted_reader
-reads_full_constant n =
-    said_so {Q = λ rules (u : Unit {0}). constant Proto3}
+reads_full_constant s n =
+    said_so {Q = λ rules (u : Unit {0}). constant (Lenient s)}
     (reads_either is_text reads_any_text
     (reads_either {R = λ rules u. aggregate} (is_mark (codes "{")) (reads_stop n never goes_on (λ rules (u : Unit {0}). aggregate) (aggregate_reader n) (λ rest s. any_stop rest) (reads_aggregate n))
     (reads_unquoted n)
@@ -283,14 +287,14 @@ reads_full_constant n =
     (λ rules u c rest d s. braced_no_text rules u c rest d))
     to from
   where
-    to : (rules : Rules) (u : Unit {0}) (c : List Symbol) → Texts rules u c ⊎ Braced rules u c → constant Proto3 c
+    to : (rules : Rules) (u : Unit {0}) (c : List Symbol) → Texts rules u c ⊎ Braced rules u c → constant (Lenient s) c
     to rules u c (inl d) = inl (inl d)
     to rules u c (inr (inl d)) = inr (inr d)
     to rules u c (inr (inr (a, b, ha, inl (ws, hb), j))) = inl (inr (inr (ws, (a, b, ha, hb, j))))
     to rules u c (inr (inr (a, b, ha, inr (inl (n, hb)), j))) = inl (inr (inl (n, (a, b, ha, hb, j))))
     to rules u c (inr (inr (a, b, ha, inr (inr hb), j))) = inr (inl (a, b, ha, hb, j))
 
-    from : (rules : Rules) (u : Unit {0}) (c : List Symbol) → constant Proto3 c → Texts rules u c ⊎ Braced rules u c
+    from : (rules : Rules) (u : Unit {0}) (c : List Symbol) → constant (Lenient s) c → Texts rules u c ⊎ Braced rules u c
     from rules u c (inl (inl d)) = inl d
     from rules u c (inl (inr (inl (n, (a, b, ha, hb, j))))) = inr (inr (a, b, ha, inr (inl (n, hb)), j))
     from rules u c (inl (inr (inr (ws, (a, b, ha, hb, j))))) = inr (inr (a, b, ha, inl (ws, hb), j))
@@ -299,7 +303,7 @@ reads_full_constant n =
 
 pub reads_constant : (g : Grammar) (n : ℕ) → Reads n goes_on (λ rules (u : Unit {0}). constant g) (constant_reader g n)
 reads_constant Strict n = reads_on (reads_plain_constant n)
-reads_constant Proto3 n = reads_full_constant n
+reads_constant (Lenient s) n = reads_full_constant s n
 
 -- ---- names of options
 
@@ -335,8 +339,8 @@ Extension = Behind (λ rules. mark "(") (Before (Mapped (λ _. codes "(") (λ ru
 pub reads_part : (g : Grammar) (n : ℕ) → Reads n never (part g) (part_reader g n)
 unfolding part_reader
 reads_part Strict n = reads_strict_part
-reads_part Proto3 n =
-    said_so {Q = part Proto3}
+reads_part (Lenient s) n =
+    said_so {Q = part (Lenient s)}
     (reads_either (is_mark (codes "("))
     (reads_behind {L = λ rules. mark "("} (reads_mark (codes "("))
     (reads_before_so {L = λ rules. mark ")"} (reads_mapped (λ _. codes "(") (reads_typename n)) (reads_mark (codes ")")) (λ rules u c rest d s. end_dots (codes ")") c rest refl d)))
@@ -345,11 +349,11 @@ reads_part Proto3 n =
     (λ rules w c rest d s. front_of (is_mark (codes "(")) (word w) c rest d))
     to from
   where
-    to : (rules : Rules) (w : List ℕ) (c : List Symbol) → Extension rules w c ⊎ Rattle.pb_tokens.specs.Phrases.name w c → part Proto3 rules w c
+    to : (rules : Rules) (w : List ℕ) (c : List Symbol) → Extension rules w c ⊎ Rattle.pb_tokens.specs.Phrases.name w c → part (Lenient s) rules w c
     to rules w c (inl (a, b, ha, (x, y, (n, e, d), hy, k), j)) = inr (e, (n, (a, b, ha, (x, y, d, hy, k), j)))
     to rules w c (inr d) = inl d
 
-    from : (rules : Rules) (w : List ℕ) (c : List Symbol) → part Proto3 rules w c → Extension rules w c ⊎ Rattle.pb_tokens.specs.Phrases.name w c
+    from : (rules : Rules) (w : List ℕ) (c : List Symbol) → part (Lenient s) rules w c → Extension rules w c ⊎ Rattle.pb_tokens.specs.Phrases.name w c
     from rules w c (inl d) = inr d
     from rules w c (inr (e, (n, (a, b, ha, (x, y, d, hy, k), j)))) = inl (a, b, ha, (x, y, (n, e, d), hy, k), j)
 
@@ -362,8 +366,8 @@ begins_part (text b) = false
 part_first : (g : Grammar) (rules : Rules) (w : List ℕ) → Headed begins_part (part g rules w)
 part_first Strict rules w c (inl d) = headed_one begins_part (word w) refl c d
 part_first Strict rules w c (inr (r, e, d)) = headed_one begins_part (sign (codes "(")) refl c d
-part_first Proto3 rules w c (inl d) = headed_one begins_part (word w) refl c d
-part_first Proto3 rules w c (inr (e, (n, d))) = headed_then begins_part (headed_one begins_part (sign (codes "(")) refl) c d
+part_first (Lenient s) rules w c (inl d) = headed_one begins_part (word w) refl c d
+part_first (Lenient s) rules w c (inr (e, (n, d))) = headed_then begins_part (headed_one begins_part (sign (codes "(")) refl) c d
 
 pub optname_first : (g : Grammar) (rules : Rules) (ws : List (List ℕ)) → Headed begins_part (optname g rules ws)
 optname_first g rules = headed_separated (part g rules) (mark ".") begins_part (part_first g rules)
@@ -407,11 +411,11 @@ stops_listed e w c rest h k d =
 
 a_part : (g : Grammar) (rules : Rules) → part g rules (codes "a") (word (codes "a") ∷ [])
 a_part Strict rules = inl refl
-a_part Proto3 rules = inl refl
+a_part (Lenient s) rules = inl refl
 
 a_constant : (g : Grammar) → constant g (text [] ∷ [])
 a_constant Strict = inl ([], refl)
-a_constant Proto3 = inl (inl ([], refl))
+a_constant (Lenient s) = inl (inl ([], refl))
 
 module _ (g : Grammar) where
   pub reads_assignment : (n : ℕ) → Reads n goes_on (λ rules (u : Unit {0}). assignment g rules) (assignment_reader g n)
@@ -504,76 +508,91 @@ module _ (g : Grammar) where
   packed = codes "packed"
 
   abbrev Settings : Rules → Option Bool → Language
-  Settings = ByKind no_default (λ _. setting g packed)
+  Settings = ByKind (if_allowed g) (λ _. setting g packed)
 
-  not_default : (b : Bool) (u : Unit {0}) → (if b then None else Some tt) ≡ Some u → b || false ≡ false
-  not_default true u h = absurd (cc h)
-  not_default false u h = refl
+  barred_so : (g : Grammar) (w : List ℕ) → is_one_of (barred g) w ≡ is_barred g (word w)
+  barred_so Strict w = or-false (bytes_eq w (codes "default"))
+  barred_so (Lenient Proto2) w = refl
+  barred_so (Lenient Proto3) w = or-false (bytes_eq w (codes "default"))
 
-  default_not : (b : Bool) → b || false ≡ false → ◌≡◌ {A = Option (Unit {0})} (if b then None else Some tt) (Some tt)
-  default_not true h = absurd (false≢true (sym h))
-  default_not false h = refl
+  allowed : (b : Bool) (u : Unit {0}) → (if b then None else Some tt) ≡ Some u → b ≡ false
+  allowed true u h = absurd (cc h)
+  allowed false u h = refl
+
+  not_barred : (g : Grammar) (s : Symbol) → is_barred g s ≡ false → if_allowed g s ≡ Some tt
+  not_barred g s h = rw h refl
+
+  never_barred : (g : Grammar) (s : Symbol) → is_keyword (codes "default") s ≡ false → is_barred g s ≡ false
+  never_barred Strict s h = h
+  never_barred (Lenient Proto2) s h = refl
+  never_barred (Lenient Proto3) s h = h
 
   to_field_option : (rules : Rules) (o : Option Bool) (c : List Symbol) → Settings rules o c → field_option g rules o c
   to_field_option rules o [] (u, h, d) = (tt, d)
-  to_field_option rules o (word w ∷ c) (u, h, d) = (not_default (bytes_eq w (codes "default")) u h, d)
+  to_field_option rules o (word w ∷ c) (u, h, d) = (barred_so g w ∙ allowed (is_barred g (word w)) u h, d)
   to_field_option rules o (number w ∷ c) (u, h, d) = (tt, d)
   to_field_option rules o (text w ∷ c) (u, h, d) = (tt, d)
   to_field_option rules o (sign w ∷ c) (u, h, d) = (tt, d)
 
   of_field_option : (rules : Rules) (o : Option Bool) (c : List Symbol) → field_option g rules o c → Settings rules o c
   of_field_option rules o [] (h, d) = absurd (false≢true (setting_first packed rules o [] d))
-  of_field_option rules o (word w ∷ c) (h, d) = (tt, default_not (bytes_eq w (codes "default")) h, d)
-  of_field_option rules o (number w ∷ c) (h, d) = (tt, refl, d)
-  of_field_option rules o (text w ∷ c) (h, d) = (tt, refl, d)
-  of_field_option rules o (sign w ∷ c) (h, d) = (tt, refl, d)
+  of_field_option rules o (word w ∷ c) (h, d) = (tt, not_barred g (word w) (sym (barred_so g w) ∙ h), d)
+  of_field_option rules o (number w ∷ c) (h, d) = (tt, not_barred g (number w) (never_barred g (number w) refl), d)
+  of_field_option rules o (text w ∷ c) (h, d) = (tt, not_barred g (text w) (never_barred g (text w) refl), d)
+  of_field_option rules o (sign w ∷ c) (h, d) = (tt, not_barred g (sign w) (never_barred g (sign w) refl), d)
 
   -- a = ''
   some_setting : (rules : Rules) → (o : Option Bool) × (c : List Symbol) × Settings rules o c
   some_setting rules = (
     None,
     word (codes "a") ∷ sign (codes "=") ∷ text [] ∷ [],
-    (tt, refl, (codes "a" ∷ [], refl, (word (codes "a") ∷ [], sign (codes "=") ∷ text [] ∷ [], a_part g rules, (sign (codes "=") ∷ [], text [] ∷ [], refl, a_constant g, refl), refl))),
+    (tt, not_barred g (word (codes "a")) (never_barred g (word (codes "a")) refl), (codes "a" ∷ [], refl, (word (codes "a") ∷ [], sign (codes "=") ∷ text [] ∷ [], a_part g rules, (sign (codes "=") ∷ [], text [] ∷ [], refl, a_constant g, refl), refl))),
   )
 
   pub reads_field_option : (n : ℕ) → Reads n goes_on (field_option g) (field_option_reader g n)
   unfolding field_option_reader
   reads_field_option n =
       said_so {Q = (field_option g)}
-      (reads_kinds n goes_on no_default (λ _. setting g packed) (λ _. Some (setting_reader g n packed)) (λ _. reads_setting packed n)
+      (reads_kinds n goes_on (if_allowed g) (λ _. setting g packed) (λ _. Some (setting_reader g n packed)) (λ _. reads_setting packed n)
       (λ u rules o d. false≢true (setting_first packed rules o [] d)) some_setting)
       to_field_option of_field_option
 
-  reads_options : {I : Type 0} {n : ℕ} {Item : Rules → I → Language} {item : Reader I} → Reads n goes_on Item item → ((rules : Rules) (i : I) (c : List Symbol) → Item rules i c → 1 ≤ length c)
-      → Reads n never (λ rules. options (Item rules)) (options_reader n item)
+  reads_options : (close : String) {I : Type 0} {n : ℕ} {Item : Rules → I → Language} {item : Reader I} → Reads n goes_on Item item → ((rules : Rules) (i : I) (c : List Symbol) → Item rules i c → 1 ≤ length c)
+      → Reads n never (λ rules. options close (Item rules)) (options_reader (codes close) n item)
   unfolding options_reader
-  reads_options {I} {n} {Item} {item} ri full =
+  reads_options close {I} {n} {Item} {item} ri full =
       reads_behind {L = λ rules. mark "["} (reads_mark (codes "["))
-      (reads_before_so {L = λ rules. mark "]" ▸ mark ";"} (reads_listed goes_on ri refl full)
-      (reads_behind {L = λ rules. mark "]"} {S = λ rules u. mark ";"} (reads_mark (codes "]")) (reads_mark (codes ";")))
-      (λ rules u c rest d s. stops_rest (λ s. goes_on s || is_comma s) (c ++ rest) (front_of_one {S = mark ";"} (λ s. goes_on s || is_comma s) (sign (codes "]")) c rest d)))
+      (reads_before_so {L = λ rules. mark "]" ▸ mark close} (reads_listed goes_on ri refl full)
+      (reads_behind {L = λ rules. mark "]"} {S = λ rules u. mark close} (reads_mark (codes "]")) (reads_mark (codes close)))
+      (λ rules u c rest d s. stops_rest (λ s. goes_on s || is_comma s) (c ++ rest) (front_of_one {S = mark close} (λ s. goes_on s || is_comma s) (sign (codes "]")) c rest d)))
 
   assignment_first : (rules : Rules) (c : List Symbol) → assignment g rules c → first_passes begins_part c ≡ true
   assignment_first rules c (ws, d) = headed_then begins_part (optname_first g rules ws) c d
 
-  pub reads_field_end : (n : ℕ) → Reads n never (field_end g) (field_end_reader g n)
-  unfolding field_end_reader
-  reads_field_end n =
-      said_so {Q = (field_end g)}
+  reads_ended : (close : String) → bytes_eq (codes close) (codes "[") ≡ false → (n : ℕ) → Reads n never (ended close g) (ended_reader (codes close) g n)
+  unfolding ended_reader
+  reads_ended close apart n =
+      said_so {Q = ended close g}
       (reads_either (is_mark (codes "["))
-      (reads_mapped (last_said None) (reads_options (reads_field_option n) (λ rules o c d. filled_front begins_part c (setting_first packed rules o c d.1))))
-      (reads_mapped {A = Unit {0}} {R = λ rules u. mark ";"} (λ _. None) (reads_mark (codes ";")))
+      (reads_mapped (last_said None) (reads_options close (reads_field_option n) (λ rules o c d. filled_front begins_part c (setting_first packed rules o c d.1))))
+      (reads_mapped {A = Unit {0}} {R = λ rules u. mark close} (λ _. None) (reads_mark (codes close)))
       (λ rules o c d. headed_then (is_mark (codes "[")) (headed_one (is_mark (codes "[")) (sign (codes "[")) refl) c d.2)
-      (λ rules o c rest d s. front_of (is_mark (codes "[")) (sign (codes ";")) c rest d.2))
+      (λ rules o c rest d s. front_of (is_mark (codes "[")) (sign (codes close)) c rest d.2 ∙ apart))
       (λ rules o c d. elim d [ inl x ↦ inr x | inr x ↦ inl (x.1, x.2) ])
       (λ rules o c d. elim d [ inl x ↦ inr (tt, x.0, x.1) | inr x ↦ inl x ])
+
+  pub reads_field_end : (n : ℕ) → Reads n never (field_end g) (field_end_reader g n)
+  reads_field_end = reads_ended ";" refl
+
+  pub reads_group_end : (n : ℕ) → Reads n never (group_end g) (group_end_reader g n)
+  reads_group_end = reads_ended "{" refl
 
   pub reads_value_end : (n : ℕ) → Reads n never (λ rules (u : Unit {0}). value_end g rules) (value_end_reader g n)
   unfolding value_end_reader
   reads_value_end n =
       said_so {Q = λ rules (u : Unit {0}). value_end g rules}
       (reads_either {S = λ rules u. mark ";"} (is_mark (codes "["))
-      (reads_some (reads_options {Item = λ rules u. assignment g rules} (reads_assignment n) (λ rules u c d. filled_front begins_part c (assignment_first rules c d))))
+      (reads_some (reads_options ";" {Item = λ rules u. assignment g rules} (reads_assignment n) (λ rules u c d. filled_front begins_part c (assignment_first rules c d))))
       (reads_mark (codes ";"))
       (λ rules u c d. headed_then (is_mark (codes "[")) (headed_one (is_mark (codes "[")) (sign (codes "[")) refl) c d.1)
       (λ rules u c rest d s. front_of (is_mark (codes "[")) (sign (codes ";")) c rest d))

@@ -14,7 +14,8 @@ use Rattle.pb_tokens.specs.Phrases.{part, floating, constant}
 use Rattle.pb_tokens.specs.Language.{all_rules}
 use Rattle.pb_tokens.specs.declared.bracket.Bracket.TheVariants.{Curly, Square, Angle}
 use Rattle.pb_tokens.specs.declared.bracket.Role.TheVariants.{Plain, Opens, Closes}
-use Rattle.pb_tokens.specs.declared.grammar.Grammar.TheVariants.{Proto3}
+use Rattle.pb_tokens.specs.declared.grammar.Grammar.TheVariants.{Lenient}
+use Rattle.pb_tokens.specs.declared.grammar.Syntax.TheVariants.{Proto2, Proto3}
 
 -- ---- tokens
 
@@ -247,7 +248,7 @@ no_bracket : role_of (Symbol.sign (codes "(")) ≡ Plain
 no_bracket = refl
 
 -- { a: [ ] }
-an_aggregate : constant Proto3
+an_aggregate : constant (Lenient Proto2)
     (Symbol.sign (codes "{") ∷ Symbol.word (codes "a") ∷ Symbol.sign (codes ":") ∷ Symbol.sign (codes "[") ∷ Symbol.sign (codes "]") ∷ Symbol.sign (codes "}") ∷ [])
 an_aggregate = inr (inr (
   Symbol.sign (codes "{") ∷ [],
@@ -264,5 +265,5 @@ an_aggregate = inr (inr (
 ))
 
 -- (a) is a part of an option's name that counts as no word
-an_extension : part Proto3 all_rules (codes "(") (Symbol.sign (codes "(") ∷ Symbol.word (codes "a") ∷ Symbol.sign (codes ")") ∷ [])
+an_extension : part (Lenient Proto3) all_rules (codes "(") (Symbol.sign (codes "(") ∷ Symbol.word (codes "a") ∷ Symbol.sign (codes ")") ∷ [])
 an_extension = inr (refl, (codes "a", (Symbol.sign (codes "(") ∷ [], _, refl, (Symbol.word (codes "a") ∷ [], _, inl (codes "a" ∷ [], refl, refl), refl, refl), refl)))

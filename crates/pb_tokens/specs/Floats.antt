@@ -14,24 +14,24 @@ is_decimal c = is_digit c 10
 abbrev pub is_decimals : List ℕ → Bool
 is_decimals w = is_some (number_in 10 w)
 
--- what stands behind the decimal digits at the front
-abbrev pub behind_digits : List ℕ → List ℕ
-behind_digits [] = []
-behind_digits (c ∷ cs) = if is_decimal c then behind_digits cs else c ∷ cs
+-- what follows the decimal digits at the front
+abbrev pub after_digits : List ℕ → List ℕ
+after_digits [] = []
+after_digits (c ∷ cs) = if is_decimal c then after_digits cs else c ∷ cs
 
 -- exponent  = ( "e" | "E" ) [ "+" | "-" ] decimals: in a word it has no sign; where the word is its letter alone, the sign and the decimals follow
 abbrev pub exponent_in : List ℕ → Option Bool
 exponent_in [] = None
-exponent_in (c ∷ ds) = if c == 101 || c == 69 then behind_letter ds else None
+exponent_in (c ∷ ds) = if c == 101 || c == 69 then after_letter ds else None
   where
-    behind_letter : List ℕ → Option Bool
-    behind_letter [] = Some true
-    behind_letter (d ∷ ds) = if is_decimals (d ∷ ds) then Some false else None
+    after_letter : List ℕ → Option Bool
+    after_letter [] = Some true
+    after_letter (d ∷ ds) = if is_decimals (d ∷ ds) then Some false else None
 
 -- decimals exponent, of which this word has all, or all but the sign and the decimals that follow
 abbrev pub power_in : List ℕ → Option Bool
 power_in [] = None
-power_in (c ∷ cs) = if is_decimal c then exponent_in (behind_digits cs) else None
+power_in (c ∷ cs) = if is_decimal c then exponent_in (after_digits cs) else None
 
 -- decimals [ exponent ]
 abbrev pub scaled_in : Symbol → Option Bool

@@ -15,7 +15,8 @@ use Rattle.pb_tokens.specs.Floats.{is_decimals, power_in, exponent_in}
 use Rattle.pb_tokens.specs.Aggregates.{Balanced, closing}
 use Rattle.pb_tokens.specs.declared.bracket.Bracket.TheVariants.{Curly}
 use Rattle.pb_tokens.specs.declared.grammar.Grammar.{Grammar}
-use Rattle.pb_tokens.specs.declared.grammar.Grammar.TheVariants.{Strict, Proto3}
+use Rattle.pb_tokens.specs.declared.grammar.Grammar.TheVariants.{Strict, Lenient}
+use Rattle.pb_tokens.specs.declared.grammar.Syntax.TheVariants.{Proto2, Proto3}
 
 -- ---- words, signs and repetition
 
@@ -120,15 +121,15 @@ abbrev pub plain_constant : Language
 plain_constant ts =
     ((b : List ℕ) × one (text b) ts) ⊎ (((n : ℕ) × (plus_or_minus ▸ integer n) ts) ⊎ ((ws : List (List ℕ)) × (plus_or_minus ▸ fullname ws) ts))
 
--- In all of proto3: constant | [ "-" | "+" ] floatLit | aggregate
+-- In the lenient grammars: constant | [ "-" | "+" ] floatLit | aggregate
 abbrev pub constant : Grammar → Language
 constant Strict = plain_constant
-constant Proto3 = plain_constant or (plus_or_minus ▸ floating) or aggregate
+constant (Lenient s) = plain_constant or (plus_or_minus ▸ floating) or aggregate
 
--- A part of an option's name. In all of proto3: word | "(" typename ")". Where the rule on options is left out a parenthesis is one.
+-- A part of an option's name. In the lenient grammars: word | "(" typename ")". Where the rule on options is left out a parenthesis is one.
 abbrev pub part : Grammar → Rules → List ℕ → Language
 part Strict rules w ts = name w ts ⊎ ((rules options_known ≡ false) × (w ≡ codes "(") × mark "(" ts)
-part Proto3 rules w ts = name w ts ⊎ ((w ≡ codes "(") × ((n : List ℕ) × (mark "(" ▸ typename n ▸ mark ")") ts))
+part (Lenient s) rules w ts = name w ts ⊎ ((w ≡ codes "(") × ((n : List ℕ) × (mark "(" ▸ typename n ▸ mark ")") ts))
 
 -- optname   = part { "." part }
 abbrev pub optname : Grammar → Rules → List (List ℕ) → Language
@@ -157,22 +158,35 @@ abbrev pub setting : Grammar → List ℕ → Rules → Option Bool → Language
 setting g v rules (Some b) ts = (optname g rules (v ∷ []) ▸ mark "=" ▸ truth b) ts
 setting g v rules None ts = (n : List (List ℕ)) × (is_the_name v n ≡ false) × (optname g rules n ▸ mark "=" ▸ constant g) ts
 
--- in a field `default` begins no option's name
-abbrev pub field_option : Grammar → Rules → Option Bool → Language
-field_option g rules s ts = BeginsNot ("default" ∷ []) ts × setting g (codes "packed") rules s ts
+-- the words that begin no option's name in a field: `default`, but in proto2
+abbrev pub barred : Grammar → List String
+barred Strict = "default" ∷ []
+barred (Lenient Proto2) = []
+barred (Lenient Proto3) = "default" ∷ []
 
--- opts      = "[" optname "=" constant { "," optname "=" constant } "]"
-abbrev pub options : {I : Type 0} → (I → Language) → List I → Language
-options Option is = mark "[" ▸ Listed Option is ▸ mark "]" ▸ mark ";"
+abbrev pub field_option : Grammar → Rules → Option Bool → Language
+field_option g rules s ts = BeginsNot (barred g) ts × setting g (codes "packed") rules s ts
+
+-- opts      = "[" optname "=" constant { "," optname "=" constant } "]", and the sign after them
+abbrev pub options : {I : Type 0} → String → (I → Language) → List I → Language
+options close Option is = mark "[" ▸ Listed Option is ▸ mark "]" ▸ mark close
+
+-- [ opts ], and the sign after them
+abbrev pub ended : String → Grammar → Rules → Option Bool → Language
+ended close g rules packed ts =
+    ((packed ≡ None) × mark close ts) ⊎ ((ss : List (Option Bool)) × (packed ≡ last_said None ss) × options close (field_option g rules) ss ts)
 
 -- [ opts ] ";"
 abbrev pub field_end : Grammar → Rules → Option Bool → Language
-field_end g rules packed ts =
-    ((packed ≡ None) × mark ";" ts) ⊎ ((ss : List (Option Bool)) × (packed ≡ last_said None ss) × options (field_option g rules) ss ts)
+field_end = ended ";"
+
+-- [ opts ] "{"
+abbrev pub group_end : Grammar → Rules → Option Bool → Language
+group_end = ended "{"
 
 -- the same behind an enum's value, where no option means anything
 abbrev pub value_end : Grammar → Rules → Language
-value_end g rules ts = mark ";" ts ⊎ ((us : List (Unit {0})) × options (λ _. assignment g rules) us ts)
+value_end g rules ts = mark ";" ts ⊎ ((us : List (Unit {0})) × options ";" (λ _. assignment g rules) us ts)
 
 -- ---- types
 

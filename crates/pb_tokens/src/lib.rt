@@ -1,7 +1,7 @@
-//! Which tokens a source of proto3 is, and the readers of symbols that the parser of `pb_source` is made of.
+//! Which tokens a source of proto2 or proto3 is, and the readers of symbols that the parser of `pb_source` is made of.
 //!
-//! An inner crate: `pb_source` stands on it, and publishes what stands at its root and the law of tokens. The modules `grammar`, `symbol`, `symbols`, `refusal`,
-//! `rule` and `parsing` are for its parser.
+//! An inner crate: `pb_source` is built on it, and publishes what is at its root and the law of tokens. The modules `grammar`, `symbol`, `symbols`,
+//! `refusal`, `rule` and `parsing` are for its parser.
 #![tactic(auto)]
 
 mod bracket;

@@ -1,5 +1,5 @@
 -- The readers of the grammar's lines: of each line of `Grammar` one.
-use Rattle.std.specs.Prelude.{ℕ, zero, suc, ℤ, List, [], ◌∷◌, codes, Bool, true, false, if◌then◌else◌, Option, Some, None, option_map}
+use Rattle.std.specs.Prelude.{ℕ, zero, suc, ℤ, List, [], ◌∷◌, codes, Bool, true, false, not, if◌then◌else◌, Option, Some, None, option_map}
 use Rattle.std.specs.Str.{bytes_eq}
 use Rattle.pb_decl.specs.Decls.{DeclaredField, DeclaredEnum, DeclaredMessage, DeclaredMethod, DeclaredService}
 use Rattle.pb_decl.specs.declared.decl.TypeCode.{TypeCode}
@@ -8,13 +8,18 @@ use Rattle.pb_tokens.specs.Readers.Phrases.{is_text, utf8_reader, option_reader,
 use Rattle.pb_tokens.specs.Readers.Phrases.{type_of, type_reader, key_reader, message_range_reader, enum_range_reader}
 use Rattle.pb_tokens.specs.declared.rule.Rule.TheVariants.{SyntaxFirst as syntax_first, NestsBounded as nests_bounded}
 use Rattle.pb_tokens.specs.declared.grammar.Grammar.{Grammar}
-use Rattle.pb_tokens.specs.declared.grammar.Grammar.TheVariants.{Strict, Proto3}
+use Rattle.pb_tokens.specs.declared.grammar.Grammar.TheVariants.{Strict, Lenient}
+use Rattle.pb_tokens.specs.declared.grammar.Syntax.{Syntax}
+use Rattle.pb_tokens.specs.declared.grammar.Syntax.TheVariants.{Proto2, Proto3}
 use Rattle.pb_tokens.specs.Symbols.{Symbol, word, number, text, sign}
 use Rattle.pb_tokens.specs.Said.{TypeSaid, joined}
-use Rattle.pb_tokens.specs.Readers.Forms.{Reader, answer, mapped, both, behind, before, choice, by_kind, guarded, symbol}
+use Rattle.pb_tokens.specs.Readers.Forms.{Reader, answer, chain, mapped, both, behind, before, choice, by_kind, guarded, symbol}
 use Rattle.pb_tokens.specs.Readers.Forms.{judged, is_keyword, is_mark, keyword_reader, mark_reader, until, to_end}
+use Rattle.pb_source.specs.declared.reading.Reading.{Reading}
+use Rattle.pb_source.specs.declared.reading.Reading.TheVariants as reading
+use Rattle.pb_source.specs.Syntaxes.{is_lenient, is_proto2, optional_label}
 use Rattle.pb_source.specs.declared.kind.Label.{Label}
-use Rattle.pb_source.specs.declared.kind.Label.TheVariants.{Unlabelled, Repeated, Optional}
+use Rattle.pb_source.specs.declared.kind.Label.TheVariants.{Unlabelled, Repeated}
 use Rattle.pb_source.specs.declared.kind.FileKind.{FileKind}
 use Rattle.pb_source.specs.declared.kind.FileKind.TheVariants as in_file
 use Rattle.pb_source.specs.declared.kind.MessageKind.{MessageKind}
@@ -37,6 +42,11 @@ is_closing = is_mark (codes "}")
 -- "{" { item } "}"
 abbrev pub braced : {I : Type 0} → ℕ → Reader I → Reader (List I)
 braced n item = behind (mark_reader (codes "{")) (until n is_closing item (mark_reader (codes "}")) [])
+
+-- a line that is there where a test says so
+abbrev pub taken : {A : Type 0} → Bool → Reader A → Option (Reader A)
+taken true p = Some p
+taken false p = None
 
 -- ---- fields
 
@@ -68,11 +78,15 @@ dotted_reader n = choice is_dot (behind (mark_reader (codes ".")) (fullname_read
 unfoldable pub of_map_reader : Grammar → ℕ → Reader DeclaredField
 of_map_reader g n = mapped (field_from Unlabelled) (both (mapped (λ ws. type_of (codes "map" ∷ ws)) (dotted_reader n)) (field_tail_reader g (suc n)))
 
--- a map field, or a field of a type whose name begins with the word `map`
+-- what follows the word `map`, where a field may have no label, or where it may not
+abbrev pub map_rest_reader : Bool → Grammar → ℕ → Reader MessageStatement
+map_rest_reader true g n = mapped MessageStatement.a_map (map_tail_reader g (suc n))
+map_rest_reader false g n =
+    choice (is_mark (codes "<")) (mapped MessageStatement.a_map (map_tail_reader g (suc n))) (mapped MessageStatement.a_field (of_map_reader g n))
+
+-- a map field, or but in proto2 a field of a type whose name begins with the word `map`
 unfoldable pub map_reader : Grammar → ℕ → Reader MessageStatement
-map_reader g n =
-    behind (keyword_reader (codes "map"))
-    (choice (is_mark (codes "<")) (mapped MessageStatement.a_map (map_tail_reader g (suc n))) (mapped MessageStatement.a_field (of_map_reader g n)))
+map_reader g n = behind (keyword_reader (codes "map")) (map_rest_reader (is_proto2 g) g n)
 
 -- ---- kinds of statements
 
@@ -150,21 +164,21 @@ enum_reader g n = mapped (λ x. enum_of x.0 x.1) (behind (keyword_reader (codes 
 
 -- a line that the strict grammar has not, and of which nothing is kept
 abbrev pub dropped : {A : Type 0} → Grammar → A → Reader (Unit {0}) → Option (Reader A)
-dropped Strict v p = None
-dropped Proto3 v p = Some (mapped (λ _. v) p)
+dropped g v p = taken (is_lenient g) (mapped (λ _. v) p)
 
 abbrev pub extend_kind : Symbol → Option ExtendKind
 extend_kind =
     kind_of
-    ((codes "repeated", Some in_extend.Repeated) ∷ (codes "optional", Some in_extend.Optional) ∷ (codes "required", None) ∷ [])
+    ((codes "repeated", Some in_extend.Repeated) ∷ (codes "optional", Some in_extend.Optional) ∷ (codes "required", Some in_extend.Required) ∷ [])
     (Some in_extend.Field)
     ((codes ";", Some in_extend.Empty) ∷ (codes ".", Some in_extend.Field) ∷ [])
 
 abbrev pub extension_line : Grammar → ℕ → ExtendKind → Option (Reader (Unit {0}))
 extension_line g n in_extend.Empty = Some (mark_reader (codes ";"))
 extension_line g n in_extend.Repeated = Some (mapped (λ _. tt) (behind (keyword_reader (codes "repeated")) (field_reader g n Repeated)))
-extension_line g n in_extend.Optional = Some (mapped (λ _. tt) (behind (keyword_reader (codes "optional")) (field_reader g n Optional)))
-extension_line g n in_extend.Field = Some (mapped (λ _. tt) (field_reader g n Unlabelled))
+extension_line g n in_extend.Optional = Some (mapped (λ _. tt) (behind (keyword_reader (codes "optional")) (field_reader g n (optional_label g))))
+extension_line g n in_extend.Required = taken (is_proto2 g) (mapped (λ _. tt) (behind (keyword_reader (codes "required")) (field_reader g n Unlabelled)))
+extension_line g n in_extend.Field = taken (not (is_proto2 g)) (mapped (λ _. tt) (field_reader g n Unlabelled))
 
 -- { field | ";" }, each
 unfoldable pub extension_reader : Grammar → ℕ → Reader (Unit {0})
@@ -188,7 +202,7 @@ message_kind =
     ((codes "message", Some in_message.Message) ∷ (codes "enum", Some in_message.Enum)
     ∷ (codes "option", Some in_message.Option) ∷ (codes "oneof", Some in_message.Oneof) ∷ (codes "reserved", Some in_message.Reserved)
     ∷ (codes "optional", Some in_message.Optional) ∷ (codes "repeated", Some in_message.Repeated)
-    ∷ (codes "required", None) ∷ (codes "extend", Some in_message.Extend) ∷ (codes "extensions", Some in_message.Extensions)
+    ∷ (codes "required", Some in_message.Required) ∷ (codes "extend", Some in_message.Extend) ∷ (codes "extensions", Some in_message.Extensions)
     ∷ (codes "map", Some in_message.Map) ∷ [])
     (Some in_message.Field)
     ((codes ";", Some in_message.Empty) ∷ (codes ".", Some in_message.Field) ∷ [])
@@ -205,9 +219,11 @@ message_statement_line g n inner in_message.Reserved =
 message_statement_line g n inner in_message.Repeated =
     Some (mapped MessageStatement.a_field (behind (keyword_reader (codes "repeated")) (field_reader g n Repeated)))
 message_statement_line g n inner in_message.Optional =
-    Some (mapped MessageStatement.a_field (behind (keyword_reader (codes "optional")) (field_reader g n Optional)))
+    Some (mapped MessageStatement.a_field (behind (keyword_reader (codes "optional")) (field_reader g n (optional_label g))))
+message_statement_line g n inner in_message.Required =
+    taken (is_proto2 g) (mapped MessageStatement.a_field (behind (keyword_reader (codes "required")) (field_reader g n Unlabelled)))
 message_statement_line g n inner in_message.Map = Some (map_reader g n)
-message_statement_line g n inner in_message.Field = Some (mapped MessageStatement.a_field (field_reader g n Unlabelled))
+message_statement_line g n inner in_message.Field = taken (not (is_proto2 g)) (mapped MessageStatement.a_field (field_reader g n Unlabelled))
 message_statement_line g n inner in_message.Extend = dropped g MessageStatement.nothing_said (extend_reader g n)
 message_statement_line g n inner in_message.Extensions = dropped g MessageStatement.nothing_said (extensions_reader g n)
 
@@ -336,11 +352,34 @@ syntax_text_in (word w) = None
 syntax_text_in (number w) = None
 syntax_text_in (sign c) = None
 
--- syntax    = "syntax" "=" text ";"
-unfoldable pub syntax_reader : Reader (Unit {0})
-syntax_reader =
+-- syntax    = "syntax" "=" text ";", read strictly
+unfoldable pub strict_syntax_reader : Reader (Unit {0})
+strict_syntax_reader =
     behind (symbol (judged syntax_first syntax_word_in)) (behind (mark_reader (codes "="))
     (behind (symbol (judged syntax_first syntax_text_in)) (mark_reader (codes ";"))))
+
+-- the syntax that a text names, and whether it is one
+abbrev pub named_syntax : List ℕ → Syntax × Bool
+named_syntax b = if bytes_eq b (codes "proto2") then (Proto2, true) else (Proto3, bytes_eq b (codes "proto3"))
+
+abbrev pub named_syntax_in : Symbol → Option (Syntax × Bool)
+named_syntax_in (text b) = Some (named_syntax b)
+named_syntax_in (word w) = None
+named_syntax_in (number w) = None
+named_syntax_in (sign c) = None
+
+-- syntax    = "syntax" "=" text ";", read leniently
+unfoldable pub lenient_syntax_reader : Reader Syntax
+lenient_syntax_reader =
+    behind (keyword_reader (codes "syntax")) (behind (mark_reader (codes "=")) (before (symbol (judged syntax_first named_syntax_in)) (mark_reader (codes ";"))))
+
+abbrev pub begins_syntax : Symbol → Bool
+begins_syntax = is_keyword (codes "syntax")
+
+-- the syntax, and the grammar of the other statements
+unfoldable pub syntax_reader : Reading → Reader Grammar
+syntax_reader reading.Strict = mapped (λ _. Strict) strict_syntax_reader
+syntax_reader reading.Lenient = choice begins_syntax (mapped Lenient lenient_syntax_reader) (answer (Lenient Proto2))
 
 abbrev pub is_package : FileStatement → Bool
 is_package FileStatement.nothing_said = false
@@ -350,6 +389,10 @@ is_package (FileStatement.a_message m) = false
 is_package (FileStatement.an_enum e) = false
 is_package (FileStatement.a_service s) = false
 
--- file      = syntax { statement }, with at most one package
-unfoldable pub file_reader : Grammar → ℕ → Reader (List FileStatement)
-file_reader g n = behind syntax_reader (to_end n is_package (file_statement_reader g n) false [])
+-- { statement }, with at most one package, and the grammar
+abbrev pub statements_reader : ℕ → Grammar → Reader (Grammar × List FileStatement)
+statements_reader n g = mapped (λ ss. (g, ss)) (to_end n is_package (file_statement_reader g n) false [])
+
+-- file      = [ syntax ] { statement }, with at most one package
+unfoldable pub file_reader : Reading → ℕ → Reader (Grammar × List FileStatement)
+file_reader r n = chain (syntax_reader r) (statements_reader n)

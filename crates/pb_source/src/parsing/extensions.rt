@@ -8,6 +8,7 @@ ghost use Rattle.pb_source.specs.Readers.Lines.{is_closing, field_reader, extens
 use crate::kind::{ExtendKind, Label};
 use crate::parsing::fields::field;
 use crate::parsing::kinds::extend_kind;
+use crate::parsing::syntaxes::{is_proto2, optional_label};
 use pb_tokens::grammar::Grammar;
 use pb_tokens::parsing::names::typename;
 use pb_tokens::parsing::options::value_end;
@@ -70,13 +71,30 @@ fn extension(
                 alloc,
                 grammar,
                 "optional",
-                Label::Optional,
+                optional_label(grammar),
+                symbols,
+                at,
+            )?;
+            Ok(after)
+        }
+        Some(ExtendKind::Required) => {
+            if !is_proto2(grammar) {
+                return Err(Refusal::At { at, rule: None });
+            }
+            let after = labelled_extension(
+                alloc,
+                grammar,
+                "required",
+                Label::Unlabelled,
                 symbols,
                 at,
             )?;
             Ok(after)
         }
         Some(ExtendKind::Field) => {
+            if is_proto2(grammar) {
+                return Err(Refusal::At { at, rule: None });
+            }
             let (_, after) = field(alloc, grammar, Label::Unlabelled, symbols, at)?;
             Ok(after)
         }

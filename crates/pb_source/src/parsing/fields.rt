@@ -13,6 +13,7 @@ ghost use Rattle.pb_source.specs.PartsView.{IsCounted};
 use crate::kind::{Label, OneofKind};
 use crate::parsing::kinds::oneof_kind;
 use crate::parsing::statement::{MapSaid, MessageSaid};
+use crate::parsing::syntaxes::is_proto2;
 use pb_decl::FieldDecl;
 use pb_tokens::grammar::Grammar;
 use pb_tokens::parsing::numbers::counted;
@@ -166,7 +167,7 @@ fn map_tail(
     Ok((map, after))
 }
 
-/// Reads a map, or a field whose type's name begins with the word `map`.
+/// Reads a map, or but in proto2 a field whose type's name begins with the word `map`.
 #[tactic(auto, unfolding(crate::specs::Readers::Lines::map_reader))]
 pub(crate) fn map_or_field(
     alloc: Global,
@@ -179,6 +180,10 @@ pub(crate) fn map_or_field(
     ensures read { ReadsInSteps symbols.now at (λ x. (message_statement_view x.0, x.1)) result (map_reader grammar) }
 {
     let after = keyword("map", symbols, at)?;
+    if is_proto2(grammar) {
+        let (map, after) = map_tail(alloc, grammar, symbols, after)?;
+        return Ok((MessageSaid::Map(map), after));
+    }
     if begins_with_mark("<", symbols, after) {
         let (map, after) = map_tail(alloc, grammar, symbols, after)?;
         return Ok((MessageSaid::Map(map), after));

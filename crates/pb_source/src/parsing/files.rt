@@ -1,15 +1,17 @@
 //! Files.
 
-ghost use Rattle.std.specs.Prelude.{◌≡◌, ◌≤◌, ◌<◌, ℕ, [], false, length, codes, string_bytes, IfOk, IfErr, Ok, List};
+ghost use Rattle.std.specs.Prelude.{◌≡◌, ◌≤◌, ◌<◌, ℕ, [], false, if◌then◌else◌, Some, None, length, codes, string_bytes, IfOk, IfErr, Ok, List};
 ghost use Rattle.std.specs.Str.{bytes_eq};
 ghost use Rattle.pb_decl.specs.View.{file_view};
 ghost use Rattle.pb_tokens.specs.Language.{all_rules};
 ghost use Rattle.pb_tokens.specs.declared.rule.Rule.TheVariants.{SyntaxFirst};
+ghost use Rattle.pb_tokens.specs.declared.grammar.Grammar.{Grammar};
 ghost use Rattle.pb_tokens.specs.Readers.Forms.{symbol, judged, if_some, to_end};
 ghost use Rattle.pb_tokens.specs.Readers.Given.{symbols_from, Fails, Reads, ReadsInSteps};
 ghost use Rattle.pb_source.specs.Meaning.{FileStatement, file_of};
 ghost use Rattle.pb_source.specs.Readers.Lines.{dropped, extend_reader, access_reader, import_reader, package_reader, file_statement_reader, file_reader};
-ghost use Rattle.pb_source.specs.Readers.Lines.{is_package, syntax_reader, syntax_word_in, syntax_text_in};
+ghost use Rattle.pb_source.specs.Readers.Lines.{is_package, syntax_reader, strict_syntax_reader, lenient_syntax_reader};
+ghost use Rattle.pb_source.specs.Readers.Lines.{syntax_word_in, syntax_text_in, named_syntax, named_syntax_in};
 ghost use Rattle.pb_source.specs.StatementView.{file_statement_view};
 
 use crate::kind::FileKind;
@@ -21,8 +23,9 @@ use crate::parsing::messages::message;
 use crate::parsing::scopes::file_of;
 use crate::parsing::services::service;
 use crate::parsing::statement::FileSaid;
+use crate::reading::Reading;
 use pb_decl::FileDecl;
-use pb_tokens::grammar::Grammar;
+use pb_tokens::grammar::{Grammar, Syntax};
 use pb_tokens::parsing::names::{joined, words};
 use pb_tokens::parsing::options::option;
 use pb_tokens::parsing::single::{begins_with, keyword, mark, symbol_at, utf8_text};
@@ -77,17 +80,84 @@ fn syntax_text(symbols: &[Placed], at: usize) -> Result<usize, Refusal>
     Err(Refusal::At { at, rule: None })
 }
 
-/// Reads the first statement of a file.
-#[tactic(auto, unfolding(crate::specs::Readers::Lines::syntax_reader))]
-fn syntax(symbols: &[Placed], at: usize) -> Result<usize, Refusal>
+/// Reads the first statement of a file that is read strictly.
+#[tactic(auto, unfolding(crate::specs::Readers::Lines::strict_syntax_reader))]
+fn strict_syntax(symbols: &[Placed], at: usize) -> Result<usize, Refusal>
     ensures within { IfOk result (λ after. (at < after) × (after ≤ length symbols.now)) }
-    ensures read { Reads symbols.now at (λ after. (tt, after)) result syntax_reader }
+    ensures read { Reads symbols.now at (λ after. (tt, after)) result strict_syntax_reader }
 {
     let after = syntax_word(symbols, at)?;
     let after = mark("=", symbols, after)?;
     let after = syntax_text(symbols, after)?;
     let after = mark(";", symbols, after)?;
     Ok(after)
+}
+
+/// The syntax that these bytes name, if they name one.
+fn named_syntax(bytes: &[u8]) -> Option<Syntax>
+    ensures { result ≡ (if (named_syntax bytes.now).1 then Some (named_syntax bytes.now).0 else None) }
+{
+    if bytes == b"proto2".as_slice() {
+        return Some(Syntax::Proto2);
+    }
+    if bytes == b"proto3".as_slice() {
+        return Some(Syntax::Proto3);
+    }
+    None
+}
+
+/// Reads the text that names a syntax.
+fn any_syntax_text(symbols: &[Placed], at: usize) -> Result<(Syntax, usize), Refusal>
+    ensures within { IfOk result (λ x. (at < x.1) × (x.1 ≤ length symbols.now)) }
+    ensures read { Reads symbols.now at (λ x. x) result (symbol (judged SyntaxFirst named_syntax_in)) }
+{
+    if let Some(first) = symbol_at(symbols, at) {
+        if let Symbol::Text(bytes) = &first.symbol {
+            if let Some(syntax) = named_syntax(bytes.as_slice()) {
+                return Ok((syntax, at + 1));
+            }
+            return Err(Refusal::At {
+                at,
+                rule: Some(Rule::SyntaxFirst),
+            });
+        }
+    }
+    Err(Refusal::At { at, rule: None })
+}
+
+/// Reads the statement of a syntax in a file that is read leniently.
+#[tactic(auto, unfolding(crate::specs::Readers::Lines::lenient_syntax_reader))]
+fn lenient_syntax(symbols: &[Placed], at: usize) -> Result<(Syntax, usize), Refusal>
+    ensures within { IfOk result (λ x. (at < x.1) × (x.1 ≤ length symbols.now)) }
+    ensures read { Reads symbols.now at (λ x. x) result lenient_syntax_reader }
+{
+    let after = keyword("syntax", symbols, at)?;
+    let after = mark("=", symbols, after)?;
+    let (syntax, after) = any_syntax_text(symbols, after)?;
+    let after = mark(";", symbols, after)?;
+    Ok((syntax, after))
+}
+
+/// Reads the syntax of a file, and gives the grammar of its other statements.
+#[tactic(auto, unfolding(crate::specs::Readers::Lines::syntax_reader))]
+fn syntax(reading: Reading, symbols: &[Placed], at: usize) -> Result<(Grammar, usize), Refusal>
+    requires { at ≤ length symbols.now }
+    ensures within { IfOk result (λ x. (at ≤ x.1) × (x.1 ≤ length symbols.now)) }
+    ensures read { Reads symbols.now at (λ x. x) result (syntax_reader reading) }
+{
+    match reading {
+        Reading::Strict => {
+            let after = strict_syntax(symbols, at)?;
+            Ok((Grammar::Strict, after))
+        }
+        Reading::Lenient => {
+            if begins_with("syntax", symbols, at) {
+                let (syntax, after) = lenient_syntax(symbols, at)?;
+                return Ok((Grammar::Lenient(syntax), after));
+            }
+            Ok((Grammar::Lenient(Syntax::Proto2), at))
+        }
+    }
 }
 
 /// Reads whether an import is public.
@@ -147,7 +217,7 @@ fn extend_statement(
 {
     match grammar {
         Grammar::Strict => Err(Refusal::At { at, rule: None }),
-        Grammar::Proto3 => {
+        Grammar::Lenient(_) => {
             let after = extend(alloc, grammar, symbols, at)?;
             Ok((FileSaid::Nothing, after))
         }
@@ -232,8 +302,9 @@ fn file_body(
     at: usize,
 ) -> Result<FileDecl, Refusal>
     requires { at ≤ length symbols.now }
-    ensures read { IfOk result (λ d. (ss : List FileStatement) × (file_view d ≡ file_of name.now ss)
-        × ((n : ℕ) → length symbols.now ≤ n → to_end n is_package (file_statement_reader grammar n) false [] all_rules (symbols_from symbols.now at) ≡ Ok (ss, []))) }
+    ensures read { IfOk result (λ d. (ss : List FileStatement) × (file_view d ≡ file_of grammar name.now ss)
+        × ((n : ℕ) → length symbols.now ≤ n
+        → to_end n is_package (file_statement_reader grammar n) false [] all_rules (symbols_from symbols.now at) ≡ Ok (ss, []))) }
     ensures refused { IfErr result (λ e. (n : ℕ) → length symbols.now ≤ n
         → Fails symbols.now e (to_end n is_package (file_statement_reader grammar n) false [] all_rules (symbols_from symbols.now at))) }
 {
@@ -246,7 +317,7 @@ fn file_body(
         add_file_statement(&mut parts, statement)?;
         here = after;
     }
-    let decl = file_of(alloc, name, parts)?;
+    let decl = file_of(alloc, grammar, name, parts)?;
     Ok(decl)
 }
 
@@ -254,15 +325,16 @@ fn file_body(
 #[tactic(auto, unfolding(crate::specs::Readers::Lines::file_reader))]
 pub(crate) fn file(
     alloc: Global,
-    grammar: Grammar,
+    reading: Reading,
     name: &str,
     symbols: &[Placed],
 ) -> Result<FileDecl, Refusal>
-    ensures read { IfOk result (λ d. (ss : List FileStatement) × (file_view d ≡ file_of name.now ss)
-        × ((n : ℕ) → length symbols.now ≤ n → file_reader grammar n all_rules (symbols_from symbols.now 0) ≡ Ok (ss, []))) }
-    ensures refused { IfErr result (λ e. (n : ℕ) → length symbols.now ≤ n → Fails symbols.now e (file_reader grammar n all_rules (symbols_from symbols.now 0))) }
+    ensures read { IfOk result (λ d. (x : Grammar × List FileStatement) × (file_view d ≡ file_of x.0 name.now x.1)
+        × ((n : ℕ) → length symbols.now ≤ n → file_reader reading n all_rules (symbols_from symbols.now 0) ≡ Ok (x, []))) }
+    ensures refused { IfErr result (λ e. (n : ℕ) → length symbols.now ≤ n
+        → Fails symbols.now e (file_reader reading n all_rules (symbols_from symbols.now 0))) }
 {
-    let after = syntax(symbols, 0)?;
+    let (grammar, after) = syntax(reading, symbols, 0)?;
     let decl = file_body(alloc, grammar, name, symbols, after)?;
     Ok(decl)
 }

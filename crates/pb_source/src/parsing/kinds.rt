@@ -47,7 +47,7 @@ fn message_word(word: &str) -> Option<MessageKind>
         "map" => Some(MessageKind::Map),
         "extend" => Some(MessageKind::Extend),
         "extensions" => Some(MessageKind::Extensions),
-        "required" => None,
+        "required" => Some(MessageKind::Required),
         _ => Some(MessageKind::Field),
     }
 }
@@ -84,7 +84,7 @@ pub(crate) fn extend_kind(symbol: &Symbol) -> Option<ExtendKind>
     match *word {
         "repeated" => Some(ExtendKind::Repeated),
         "optional" => Some(ExtendKind::Optional),
-        "required" => None,
+        "required" => Some(ExtendKind::Required),
         _ => Some(ExtendKind::Field),
     }
 }

@@ -7,7 +7,8 @@ ghost use Rattle.pb_tokens.specs.Readers.Forms.{Reader, if_some, mapped, until, 
 ghost use Rattle.pb_tokens.specs.Readers.Phrases.{message_range_reader};
 ghost use Rattle.pb_tokens.specs.Readers.Given.{ReadsInSteps};
 ghost use Rattle.pb_source.specs.Meaning.{MessageStatement, message_of};
-ghost use Rattle.pb_source.specs.Readers.Lines.{is_closing, reserved_reader, dropped, extend_reader, extensions_reader, message_statement_line, room_statement_reader, message_reader};
+ghost use Rattle.pb_source.specs.Readers.Lines.{is_closing, reserved_reader, dropped, extend_reader, extensions_reader, message_statement_line};
+ghost use Rattle.pb_source.specs.Readers.Lines.{room_statement_reader, message_reader};
 ghost use Rattle.pb_source.specs.StatementView.{message_statement_view};
 ghost use Rattle.pb_source.specs.PartsView.{is_member, is_plain, IsCounted};
 
@@ -18,6 +19,7 @@ use crate::parsing::extensions::{extend, extensions};
 use crate::parsing::fields::{field, labelled_field, map_or_field, oneof};
 use crate::parsing::kinds::message_kind;
 use crate::parsing::statement::MessageSaid;
+use crate::parsing::syntaxes::{is_proto2, optional_label};
 use pb_decl::MessageDecl;
 use pb_tokens::grammar::Grammar;
 use pb_tokens::parsing::options::option;
@@ -61,7 +63,7 @@ fn extend_statement(
 {
     match grammar {
         Grammar::Strict => Err(Refusal::At { at, rule: None }),
-        Grammar::Proto3 => {
+        Grammar::Lenient(_) => {
             let after = extend(alloc, grammar, symbols, at)?;
             Ok((MessageSaid::Nothing, after))
         }
@@ -82,7 +84,7 @@ fn extensions_statement(
 {
     match grammar {
         Grammar::Strict => Err(Refusal::At { at, rule: None }),
-        Grammar::Proto3 => {
+        Grammar::Lenient(_) => {
             let after = extensions(alloc, grammar, symbols, at)?;
             Ok((MessageSaid::Nothing, after))
         }
@@ -120,7 +122,21 @@ fn member(
                 alloc,
                 grammar,
                 "optional",
-                Label::Optional,
+                optional_label(grammar),
+                symbols,
+                at,
+            )?;
+            Ok((MessageSaid::Field(field), after))
+        }
+        MessageKind::Required => {
+            if !is_proto2(grammar) {
+                return Err(Refusal::At { at, rule: None });
+            }
+            let (field, after) = labelled_field(
+                alloc,
+                grammar,
+                "required",
+                Label::Unlabelled,
                 symbols,
                 at,
             )?;
@@ -131,6 +147,9 @@ fn member(
             Ok((member, after))
         }
         MessageKind::Field => {
+            if is_proto2(grammar) {
+                return Err(Refusal::At { at, rule: None });
+            }
             let (field, after) = field(alloc, grammar, Label::Unlabelled, symbols, at)?;
             Ok((MessageSaid::Field(field), after))
         }
@@ -189,7 +208,11 @@ fn plain_statement(
             let (nothing, after) = extensions_statement(alloc, grammar, symbols, at)?;
             Ok((nothing, after))
         }
-        MessageKind::Repeated | MessageKind::Optional | MessageKind::Map | MessageKind::Field => {
+        MessageKind::Repeated
+        | MessageKind::Optional
+        | MessageKind::Required
+        | MessageKind::Map
+        | MessageKind::Field => {
             let (member, after) = member(alloc, grammar, kind, symbols, at)?;
             Ok((member, after))
         }

@@ -7,7 +7,9 @@ ghost use Rattle.pb_source.specs.Meaning.{FileStatement, scoped_field, scoped, f
 ghost use Rattle.pb_source.specs.PartsView.{FileHolds};
 
 use crate::parsing::declared::FileParts;
+use crate::parsing::syntaxes::is_proto2;
 use pb_decl::{FieldDecl, FileDecl, MessageDecl};
+use pb_tokens::grammar::Grammar;
 use std::alloc::{AllocError, Global};
 
 /// Appends a name to the scope that it stands in.
@@ -93,9 +95,14 @@ fn scope_messages(
     Ok(())
 }
 
-/// The file of this name with these parts.
-pub(crate) fn file_of(alloc: Global, name: &str, parts: FileParts) -> Result<FileDecl, AllocError>
-    ensures { IfOk result (λ f. (ss : List FileStatement) → FileHolds parts ss → file_view f ≡ file_of name.now ss) }
+/// The file of this name, read by a grammar, with these parts.
+pub(crate) fn file_of(
+    alloc: Global,
+    grammar: Grammar,
+    name: &str,
+    parts: FileParts,
+) -> Result<FileDecl, AllocError>
+    ensures { IfOk result (λ f. (ss : List FileStatement) → FileHolds parts ss → file_view f ≡ file_of grammar name.now ss) }
 {
     let name = String::from_str(alloc, name)?;
     let mut scope = String::from_str(alloc, parts.package.as_str())?;
@@ -109,6 +116,6 @@ pub(crate) fn file_of(alloc: Global, name: &str, parts: FileParts) -> Result<Fil
         messages,
         enums: parts.enums,
         services: parts.services,
-        proto2: false,
+        proto2: is_proto2(grammar),
     })
 }

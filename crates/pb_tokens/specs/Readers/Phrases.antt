@@ -15,7 +15,8 @@ use Rattle.pb_tokens.specs.declared.bracket.Role.TheVariants.{Plain, Opens, Clos
 use Rattle.pb_tokens.specs.declared.parsing.floats.Begun.{Begun}
 use Rattle.pb_tokens.specs.declared.parsing.floats.Begun.TheVariants.{Whole, Open, MayPoint, MustPoint}
 use Rattle.pb_tokens.specs.declared.grammar.Grammar.{Grammar}
-use Rattle.pb_tokens.specs.declared.grammar.Grammar.TheVariants.{Strict, Proto3}
+use Rattle.pb_tokens.specs.declared.grammar.Grammar.TheVariants.{Strict, Lenient}
+use Rattle.pb_tokens.specs.declared.grammar.Syntax.TheVariants.{Proto2, Proto3}
 use Rattle.pb_tokens.specs.Phrases.{is_the_name, found_in, key_words, scalar_code, end_behind}
 use Rattle.pb_tokens.specs.Readers.Forms.{Reader, answer, chain, mapped, behind, before, choice, by_kind, symbol, plain}
 use Rattle.pb_tokens.specs.Readers.Forms.{judged, is_keyword, is_mark, tested, keyword_reader, mark_reader, separated}
@@ -178,15 +179,15 @@ any_value_reader n = choice is_word (mapped (λ _. tt) (fullname_reader n)) nume
 -- the same with its sign
 unfoldable pub signed_value_reader : Grammar → ℕ → Reader (Unit {0})
 signed_value_reader Strict n = behind plus_or_minus_reader (plain_value_reader n)
-signed_value_reader Proto3 n = behind plus_or_minus_reader (any_value_reader n)
+signed_value_reader (Lenient s) n = behind plus_or_minus_reader (any_value_reader n)
 
 abbrev pub braced_value_reader : ℕ → Reader (Unit {0})
-braced_value_reader n = choice (is_mark (codes "{")) (aggregate_reader n) (signed_value_reader Proto3 n)
+braced_value_reader n = choice (is_mark (codes "{")) (aggregate_reader n) (signed_value_reader (Lenient Proto3) n)
 
 -- a constant that is no text
 unfoldable pub unquoted_reader : Grammar → ℕ → Reader (Unit {0})
 unquoted_reader Strict n = signed_value_reader Strict n
-unquoted_reader Proto3 n = braced_value_reader n
+unquoted_reader (Lenient s) n = braced_value_reader n
 
 -- constant
 unfoldable pub constant_reader : Grammar → ℕ → Reader (Unit {0})
@@ -206,7 +207,7 @@ any_part_reader n =
 -- a part of an option's name
 unfoldable pub part_reader : Grammar → ℕ → Reader (List ℕ)
 part_reader Strict n = symbol (judged options_known part_in)
-part_reader Proto3 n = any_part_reader n
+part_reader (Lenient s) n = any_part_reader n
 
 -- optname   = part { "." part }
 unfoldable pub optname_reader : Grammar → ℕ → Reader (List (List ℕ))
@@ -235,24 +236,38 @@ said_reader g n false = mapped (λ _. None) (constant_reader g n)
 unfoldable pub setting_reader : Grammar → ℕ → List ℕ → Reader (Option Bool)
 setting_reader g n v = chain (optname_reader g n) (λ name. behind (mark_reader (codes "=")) (said_reader g n (is_the_name v name)))
 
-abbrev pub no_default : Symbol → Option (Unit {0})
-no_default s = if is_keyword (codes "default") s then None else Some tt
+-- the symbol begins no option's name in a field, though it is a word
+abbrev pub is_barred : Grammar → Symbol → Bool
+is_barred Strict s = is_keyword (codes "default") s
+is_barred (Lenient Proto2) s = false
+is_barred (Lenient Proto3) s = is_keyword (codes "default") s
+
+abbrev pub if_allowed : Grammar → Symbol → Option (Unit {0})
+if_allowed g s = if is_barred g s then None else Some tt
 
 unfoldable pub field_option_reader : Grammar → ℕ → Reader (Option Bool)
-field_option_reader g n = by_kind no_default (λ _. Some (setting_reader g n (codes "packed")))
+field_option_reader g n = by_kind (if_allowed g) (λ _. Some (setting_reader g n (codes "packed")))
 
--- opts ";"
-unfoldable pub options_reader : {I : Type 0} → ℕ → Reader I → Reader (List I)
-options_reader n item =
-    behind (mark_reader (codes "[")) (before (listed n item) (behind (mark_reader (codes "]")) (mark_reader (codes ";"))))
+-- opts, and the sign after them
+unfoldable pub options_reader : {I : Type 0} → List ℕ → ℕ → Reader I → Reader (List I)
+options_reader close n item =
+    behind (mark_reader (codes "[")) (before (listed n item) (behind (mark_reader (codes "]")) (mark_reader close)))
+
+-- [ opts ], and the sign after them
+unfoldable pub ended_reader : List ℕ → Grammar → ℕ → Reader (Option Bool)
+ended_reader close g n =
+    choice (is_mark (codes "[")) (mapped (last_said None) (options_reader close n (field_option_reader g n))) (mapped (λ _. None) (mark_reader close))
 
 -- [ opts ] ";"
-unfoldable pub field_end_reader : Grammar → ℕ → Reader (Option Bool)
-field_end_reader g n =
-    choice (is_mark (codes "[")) (mapped (last_said None) (options_reader n (field_option_reader g n))) (mapped (λ _. None) (mark_reader (codes ";")))
+abbrev pub field_end_reader : Grammar → ℕ → Reader (Option Bool)
+field_end_reader = ended_reader (codes ";")
+
+-- [ opts ] "{"
+abbrev pub group_end_reader : Grammar → ℕ → Reader (Option Bool)
+group_end_reader = ended_reader (codes "{")
 
 unfoldable pub value_end_reader : Grammar → ℕ → Reader (Unit {0})
-value_end_reader g n = choice (is_mark (codes "[")) (mapped (λ _. tt) (options_reader n (assignment_reader g n))) (mark_reader (codes ";"))
+value_end_reader g n = choice (is_mark (codes "[")) (mapped (λ _. tt) (options_reader (codes ";") n (assignment_reader g n))) (mark_reader (codes ";"))
 
 -- ---- types
 

@@ -6,7 +6,7 @@ ghost use Rattle.pb_tokens.specs.Tokens.{Stops};
 ghost use Rattle.pb_tokens.specs.Symbols.{number as a_number};
 ghost use Rattle.pb_tokens.specs.SymbolView.{symbol_of};
 ghost use Rattle.pb_tokens.specs.Integers.{integer_of};
-ghost use Rattle.pb_tokens.specs.Floats.{is_decimal, is_decimals, behind_digits, exponent_in, power_in, scaled_in, fraction_in, begun_of, begun_in};
+ghost use Rattle.pb_tokens.specs.Floats.{is_decimal, is_decimals, after_digits, exponent_in, power_in, scaled_in, fraction_in, begun_of, begun_in};
 ghost use Rattle.pb_tokens.specs.Readers.Forms.{symbol, plain, behind, first_passes, mark_reader};
 ghost use Rattle.pb_tokens.specs.Readers.Phrases.{decimals_in, sign_reader, exponent_end_reader, scaled_reader};
 ghost use Rattle.pb_tokens.specs.Readers.Phrases.{begins_fraction, fraction_reader, begun_end_reader, numeral_reader};
@@ -44,7 +44,7 @@ fn is_decimal(byte: u8) -> bool
     char::from(byte).is_digit(10)
 }
 
-/// How many decimal digits stand at the front.
+/// How many decimal digits are at the front.
 fn digits_len(bytes: &[u8]) -> usize
     ensures within { result ≤ length bytes.now }
     ensures passes { list_all is_decimal (take result bytes.now) ≡ true }
@@ -58,9 +58,9 @@ fn digits_len(bytes: &[u8]) -> usize
     bytes.len()
 }
 
-/// What stands behind the decimal digits at the front.
-fn behind_digits(bytes: &[u8]) -> &[u8]
-    ensures { result.now ≡ behind_digits bytes.now }
+/// What follows the decimal digits at the front.
+fn after_digits(bytes: &[u8]) -> &[u8]
+    ensures { result.now ≡ after_digits bytes.now }
 {
     &bytes[digits_len(bytes)..]
 }
@@ -84,7 +84,7 @@ fn exponent_in(bytes: &[u8]) -> Option<bool>
     None
 }
 
-/// The same where decimals stand before the exponent.
+/// The same where decimals come before the exponent.
 fn power_in(bytes: &[u8]) -> Option<bool>
     ensures { result ≡ power_in bytes.now }
 {
@@ -94,7 +94,7 @@ fn power_in(bytes: &[u8]) -> Option<bool>
     if !is_decimal(bytes[0]) {
         return None;
     }
-    exponent_in(behind_digits(&bytes[1..]))
+    exponent_in(after_digits(&bytes[1..]))
 }
 
 /// Whether an exponent's sign and decimals follow, where the word is decimals, with or without an exponent.
@@ -137,7 +137,7 @@ fn scaled_in(symbol: &Symbol) -> Option<bool>
     }
 }
 
-/// Whether an exponent's sign and decimals follow, where the symbol stands behind a point.
+/// Whether an exponent's sign and decimals follow, where the symbol follows a point.
 fn fraction_in(symbol: &Symbol) -> Option<bool>
     ensures { result ≡ fraction_in (symbol_of symbol.now) }
 {
@@ -218,7 +218,7 @@ fn scaled(symbols: &[Placed], at: usize) -> Result<usize, Refusal>
     Ok(after)
 }
 
-/// Whether a word or a number word stands there.
+/// Whether a word or a number word is there.
 fn begins_fraction(symbols: &[Placed], at: usize) -> bool
     ensures { result ≡ first_passes begins_fraction (symbols_from symbols.now at) }
 {
@@ -231,7 +231,7 @@ fn begins_fraction(symbols: &[Placed], at: usize) -> bool
     }
 }
 
-/// Reads what stands behind a point: decimals and an exponent, either, or neither.
+/// Reads what follows a point: decimals and an exponent, either, or neither.
 #[tactic(auto, unfolding(crate::specs::Readers::Phrases::fraction_reader))]
 fn fraction(symbols: &[Placed], at: usize) -> Result<usize, Refusal>
     requires { at ≤ length symbols.now }

@@ -8,11 +8,14 @@ ghost use Rattle.pb_tokens.specs.Readers.Forms.{behind, before, mapped, symbol, 
 ghost use Rattle.pb_tokens.specs.Readers.Phrases.{part_in, truth_in, said_reader, listed, typename_reader, part_reader, optname_reader};
 ghost use Rattle.pb_tokens.specs.Readers.Phrases.{plus_or_minus_reader, any_part_reader, plain_value_reader, any_value_reader};
 ghost use Rattle.pb_tokens.specs.Readers.Phrases.{signed_value_reader, braced_value_reader, unquoted_reader, constant_reader};
-ghost use Rattle.pb_tokens.specs.Readers.Phrases.{assignment_reader, option_reader, setting_reader, field_option_reader, field_end_reader, value_end_reader};
+ghost use Rattle.pb_tokens.specs.Readers.Phrases.{assignment_reader, option_reader, setting_reader, field_option_reader, ended_reader, field_end_reader};
+ghost use Rattle.pb_tokens.specs.Readers.Phrases.{group_end_reader, value_end_reader};
+ghost use Rattle.pb_tokens.specs.Readers.Phrases.{is_barred};
+ghost use Rattle.pb_tokens.specs.SymbolView.{symbol_of};
 ghost use Rattle.pb_tokens.specs.PhraseView.{words_view};
 ghost use Rattle.pb_tokens.specs.Readers.Given.{Reads, ReadsInSteps};
 
-use crate::grammar::Grammar;
+use crate::grammar::{Grammar, Syntax};
 use crate::parsing::aggregates::aggregate;
 use crate::parsing::floats::numeral;
 use crate::parsing::names::{typename, words};
@@ -93,7 +96,7 @@ fn part<'a>(
             let (word, after) = plain_part(symbols, at)?;
             Ok((word, after))
         }
-        Grammar::Proto3 => {
+        Grammar::Lenient(_) => {
             let (word, after) = any_part(alloc, symbols, at)?;
             Ok((word, after))
         }
@@ -197,7 +200,7 @@ fn signed_value(
             let after = plain_value(alloc, symbols, after)?;
             Ok(after)
         }
-        Grammar::Proto3 => {
+        Grammar::Lenient(_) => {
             let after = any_value(alloc, symbols, after)?;
             Ok(after)
         }
@@ -213,7 +216,7 @@ fn braced_value(alloc: Global, symbols: &[Placed], at: usize) -> Result<usize, R
         let after = aggregate(alloc, symbols, at)?;
         return Ok(after);
     }
-    let after = signed_value(alloc, Grammar::Proto3, symbols, at)?;
+    let after = signed_value(alloc, Grammar::Lenient(Syntax::Proto3), symbols, at)?;
     Ok(after)
 }
 
@@ -233,7 +236,7 @@ fn unquoted(
             let after = signed_value(alloc, Grammar::Strict, symbols, at)?;
             Ok(after)
         }
-        Grammar::Proto3 => {
+        Grammar::Lenient(_) => {
             let after = braced_value(alloc, symbols, at)?;
             Ok(after)
         }
@@ -356,6 +359,16 @@ pub fn setting(
     Ok((said, after))
 }
 
+/// Whether the symbol begins no option's name in a field, though it is a word: `default`, but in proto2.
+fn is_barred(grammar: Grammar, symbol: &Symbol) -> bool
+    ensures { result ≡ is_barred grammar (symbol_of symbol.now) }
+{
+    match grammar {
+        Grammar::Lenient(Syntax::Proto2) => false,
+        Grammar::Strict | Grammar::Lenient(Syntax::Proto3) => is_keyword(symbol, "default"),
+    }
+}
+
 /// Reads an option of a field, and what it says of `packed`.
 #[tactic(auto, unfolding(crate::specs::Readers::Phrases::field_option_reader))]
 fn field_option(
@@ -370,7 +383,7 @@ fn field_option(
     let Some(first) = symbol_at(symbols, at) else {
         return Err(Refusal::At { at, rule: None });
     };
-    if is_keyword(&first.symbol, "default") {
+    if is_barred(grammar, &first.symbol) {
         return Err(Refusal::At { at, rule: None });
     }
     let (said, after) = setting(alloc, grammar, "packed", symbols, at)?;
@@ -427,8 +440,30 @@ fn last_said(options: &[Option<bool>]) -> Option<bool>
     last
 }
 
+/// Reads the options of a field, if any, and the sign after them, and gives what the last option says of `packed`, if one does.
+#[tactic(auto, unfolding(crate::specs::Readers::Phrases::ended_reader, crate::specs::Readers::Phrases::options_reader))]
+fn ended(
+    alloc: Global,
+    grammar: Grammar,
+    close: &str,
+    symbols: &[Placed],
+    at: usize,
+) -> Result<(Option<bool>, usize), Refusal>
+    ensures within { IfOk result (λ x. (at < x.1) × (x.1 ≤ length symbols.now)) }
+    ensures read { ReadsInSteps symbols.now at (λ x. x) result (ended_reader close.now grammar) }
+{
+    if !begins_with_mark("[", symbols, at) {
+        let after = mark(close, symbols, at)?;
+        return Ok((None, after));
+    }
+    let after = mark("[", symbols, at)?;
+    let (options, after) = field_options(alloc, grammar, symbols, after)?;
+    let after = mark("]", symbols, after)?;
+    let after = mark(close, symbols, after)?;
+    Ok((last_said(options.as_slice()), after))
+}
+
 /// Reads the end of a field, up to its `;`: its options, if any, and what the last of them says of `packed`, if one does.
-#[tactic(auto, unfolding(crate::specs::Readers::Phrases::field_end_reader, crate::specs::Readers::Phrases::options_reader))]
 pub fn field_end(
     alloc: Global,
     grammar: Grammar,
@@ -438,15 +473,22 @@ pub fn field_end(
     ensures within { IfOk result (λ x. (at < x.1) × (x.1 ≤ length symbols.now)) }
     ensures read { ReadsInSteps symbols.now at (λ x. x) result (field_end_reader grammar) }
 {
-    if !begins_with_mark("[", symbols, at) {
-        let after = mark(";", symbols, at)?;
-        return Ok((None, after));
-    }
-    let after = mark("[", symbols, at)?;
-    let (options, after) = field_options(alloc, grammar, symbols, after)?;
-    let after = mark("]", symbols, after)?;
-    let after = mark(";", symbols, after)?;
-    Ok((last_said(options.as_slice()), after))
+    let (packed, after) = ended(alloc, grammar, ";", symbols, at)?;
+    Ok((packed, after))
+}
+
+/// Reads what is between a group's number and its fields, up to the `{`, as `field_end` reads the end of a field.
+pub fn group_end(
+    alloc: Global,
+    grammar: Grammar,
+    symbols: &[Placed],
+    at: usize,
+) -> Result<(Option<bool>, usize), Refusal>
+    ensures within { IfOk result (λ x. (at < x.1) × (x.1 ≤ length symbols.now)) }
+    ensures read { ReadsInSteps symbols.now at (λ x. x) result (group_end_reader grammar) }
+{
+    let (packed, after) = ended(alloc, grammar, "{", symbols, at)?;
+    Ok((packed, after))
 }
 
 /// Reads a comma, and an option of a value.

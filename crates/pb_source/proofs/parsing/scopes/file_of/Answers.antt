@@ -18,5 +18,5 @@ returns c ss h =
           ∙ ap (λ s. all_scoped s (file_messages ss)) package_said) i;
       enums = h.enums i;
       services = h.services i;
-      is_proto2 = false;
+      is_proto2 = c.is_proto2.ensures i;
     }
