@@ -12,7 +12,7 @@ use Rattle.pb_rules.specs.Faults.{LinkFault, IsUnlinked}
 use Rattle.pb_rules.specs.declared.cause.LinkCause.{LinkCause}
 use Rattle.pb_rules.specs.declared.error.LinkError.{LinkError}
 use Rattle.pb_rules.specs.declared.error.LinkError.TheVariants as link
-use Rattle.pb_tokens.specs.declared.grammar.Grammar.{Grammar}
+use Rattle.pb_source.specs.declared.reading.Reading.{Reading}
 use Rattle.pb_tokens.specs.declared.fault.SourceCause.{SourceCause}
 use Rattle.pb_c.specs.declared.pool.compile.Unparsed.{Unparsed}
 use Rattle.pb_c.specs.declared.pool.compile.Unparsed.TheVariants.{Source, Memory}
@@ -53,7 +53,7 @@ told_together (descr.Decl i c) First Second Both to first second = to (PoolFault
 told_together descr.Memory First Second Both to first second = tt
 
 -- of sources that are not parsed the fault is told, where memory is there
-pub unparsed : (grammar : Grammar) (names texts : List Bytes) (e : Unparsed) (First : ℕ → ℕ → SourceCause → Type 0) (Told : PoolFault → Type 0) (answer : ℕ)
+pub unparsed : (grammar : Reading) (names texts : List Bytes) (e : Unparsed) (First : ℕ → ℕ → SourceCause → Type 0) (Told : PoolFault → Type 0) (answer : ℕ)
     → IsUnparsed (SourceFails grammar names texts) e → IsUnparsed First e → ((i byte : ℕ) (c : SourceCause) → First i byte c → Told (PoolFault.in_source i byte c))
     → (e ≡ Memory → answer ≡ 14) → answer ≢ 14 → (w : PoolFault) × SourcesFail grammar names texts w × Told w
 unparsed grammar names texts (Source i byte c) First Told answer is told to memory other = (PoolFault.in_source i byte c, is, to i byte c told)

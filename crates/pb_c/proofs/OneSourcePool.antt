@@ -5,7 +5,7 @@ use Rattle.pb_decl.specs.Decls.{DeclaredFile}
 use Rattle.pb_tokens.specs.Fault.{fault}
 use Rattle.pb_tokens.specs.declared.fault.SourceCause.{SourceCause}
 use Rattle.pb_tokens.specs.declared.fault.SourceFault.{SourceFault}
-use Rattle.pb_tokens.specs.declared.grammar.Grammar.{Grammar}
+use Rattle.pb_source.specs.declared.reading.Reading.{Reading}
 use Rattle.pb_source.specs.Source.{IsSourceIn, HasFaultIn}
 use Rattle.pb_source.proofs.OneSource.{one_file_in}
 use Rattle.pb_link.specs.Linking.{Links}
@@ -15,7 +15,7 @@ use Rattle.pb_c.specs.PoolFault.{PoolFault}
 use Rattle.pb_c.specs.SourcePool.{Bytes, AreSources, SourceFails, SourcesFail, SourcesMake}
 use Rattle.pb_c.proofs.OneSetPool.{of_files}
 
-module _ (grammar : Grammar) where
+module _ (grammar : Reading) where
   -- a source has no fault
   sound : (name text : Bytes) (d : DeclaredFile) (byte : ℕ) (c : SourceCause) → IsSourceIn grammar name.now text.now d → HasFaultIn grammar text.now byte c → ⊥
   sound name text d byte c is has = (one_file_in grammar name.now text.now).not_both d (fault byte c) is has

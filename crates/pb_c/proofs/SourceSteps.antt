@@ -4,7 +4,7 @@ use Rattle.std.specs.Prelude.{IsUtf8}
 use Rattle.std.proofs.lemmas.List.{take_more}
 use Rattle.pb_decl.specs.Decls.{DeclaredFile}
 use Rattle.pb_source.specs.Source.{IsSourceIn, HasFaultIn}
-use Rattle.pb_tokens.specs.declared.grammar.Grammar.{Grammar}
+use Rattle.pb_source.specs.declared.reading.Reading.{Reading}
 use Rattle.pb_tokens.specs.declared.fault.SourceCause.{SourceCause}
 use Rattle.pb_c.specs.declared.pool.compile.Unparsed.{Unparsed}
 use Rattle.pb_c.specs.declared.pool.compile.Unparsed.TheVariants.{Source, Memory}
@@ -15,7 +15,7 @@ name_at [] i o all within = absurd (omega (arith, within))
 name_at (name ∷ names) zero o all within = all.0
 name_at (name ∷ names) (suc i) o all within = name_at names i o all.1 (omega (arith, within))
 
-module _ (grammar : Grammar) where
+module _ (grammar : Reading) where
   -- sources with one more behind them
   one_more : (names texts : List Bytes) (ds : List DeclaredFile) (name text : Bytes) (d : DeclaredFile) → AreSources grammar names texts ds → IsSourceIn grammar name.now text.now d
       → AreSources grammar (names ++ name ∷ []) (texts ++ text ∷ []) (ds ++ d ∷ [])

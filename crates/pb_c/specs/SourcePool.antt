@@ -4,7 +4,7 @@ use Rattle.std.specs.Borrow.{Bor}
 use Rattle.std.specs.List.{AllByRecursion}
 use Rattle.pb_schema.specs.Types.{Types}
 use Rattle.pb_decl.specs.Decls.{DeclaredFile}
-use Rattle.pb_tokens.specs.declared.grammar.Grammar.{Grammar}
+use Rattle.pb_source.specs.declared.reading.Reading.{Reading}
 use Rattle.pb_source.specs.Source.{IsSourceIn, HasFaultIn}
 use Rattle.pb_tokens.specs.declared.fault.SourceCause.{SourceCause}
 use Rattle.pb_link.specs.Linking.{Links}
@@ -25,7 +25,7 @@ abbrev pub AreNamed : List Bytes → List Bytes → Type 0
 AreNamed names texts = (length names ≡ length texts) × AreNames names
 
 -- the sources are read by a grammar: the strict one, or that of all of proto3
-module _ (grammar : Grammar) where
+module _ (grammar : Reading) where
   -- the texts are sources that declare these files, each by its name
   abbrev pub AreSources : List Bytes → List Bytes → List DeclaredFile → Type 0
   AreSources [] [] [] = ⊤

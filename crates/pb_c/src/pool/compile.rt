@@ -6,7 +6,7 @@ ghost use Rattle.pb_decl.specs.View.{file_view};
 ghost use Rattle.pb_schema.specs.Types.{Types};
 ghost use Rattle.pb_tokens.specs.Fault.{out_of_memory};
 ghost use Rattle.pb_source.specs.Source.{HasFaultIn, IsSourceIn};
-ghost use Rattle.pb_tokens.specs.declared.grammar.Grammar.TheVariants.{Proto3, Strict};
+ghost use Rattle.pb_source.specs.declared.reading.Reading.TheVariants.{Lenient, Strict};
 ghost use Rattle.pb_c.specs.Held.{types_held};
 ghost use Rattle.pb_c.specs.PoolFault.{PoolFault, TellsRefusal};
 ghost use Rattle.pb_c.specs.SourcePool.{AreNames, AreNamed, AreSources, IsUnparsed, SourceFails, SourcesFail, SourcesMake};
@@ -16,8 +16,8 @@ use super::refusal::Refusal;
 use crate::handle::{PoolHandle, take};
 use crate::told::{BAD_NAME, DONE, MEMORY};
 use pb_decl::FileDecl;
+use pb_source::reading::Reading;
 use pb_source::{SourceCause, SourceFault, parse, parse_lenient};
-use pb_tokens::grammar::Grammar;
 use std::alloc::{AllocFailed, Global};
 
 /// Why sources are not parsed: the first that is none, by its index, where, and why.
@@ -56,7 +56,7 @@ fn are_names(names: &[&[u8]]) -> bool
 /// What a source declares by a grammar, as the file of its name.
 fn parse_by(
     alloc: Global,
-    grammar: Grammar,
+    grammar: Reading,
     name: &str,
     text: &[u8],
 ) -> Result<FileDecl, SourceFault>
@@ -64,15 +64,15 @@ fn parse_by(
     ensures refused { IfErr result (λ e. (e ≡ out_of_memory) ⊎ HasFaultIn grammar text.now e.byte e.cause) }
 {
     match grammar {
-        Grammar::Strict => parse(alloc, name, text),
-        Grammar::Proto3 => parse_lenient(alloc, name, text),
+        Reading::Strict => parse(alloc, name, text),
+        Reading::Lenient => parse_lenient(alloc, name, text),
     }
 }
 
 /// What the source of an index declares, as the file of its name.
 fn parse_at(
     alloc: Global,
-    grammar: Grammar,
+    grammar: Reading,
     index: usize,
     name: &[u8],
     text: &[u8],
@@ -99,7 +99,7 @@ fn parse_at(
 /// What sources declare, as the files of their names.
 fn parse_all(
     alloc: Global,
-    grammar: Grammar,
+    grammar: Reading,
     names: &[&[u8]],
     texts: &[&[u8]],
 ) -> Result<Vec<FileDecl>, Unparsed>
@@ -137,7 +137,7 @@ fn tell_source(error: &Unparsed, refusal: &mut Refusal) -> u32
 /// As `mb_pool_compile`, by a grammar, said of what was answered.
 fn compile_sources(
     alloc: Global,
-    grammar: Grammar,
+    grammar: Reading,
     names: &[&[u8]],
     texts: &[&[u8]],
     pool: &mut PoolHandle,
@@ -189,7 +189,7 @@ pub extern "C" fn mb_pool_compile(
     ensures told { AreNamed names.now texts.now → (w : PoolFault) → SourcesFail Strict names.now texts.now w
         → TellsRefusal w result refusal.old refusal.new text.old text.new ⊎ (result ≡ MEMORY) }
 {
-    compile_sources(alloc, Grammar::Strict, names, texts, pool, refusal, text)
+    compile_sources(alloc, Reading::Strict, names, texts, pool, refusal, text)
 }
 
 /// Links the types of sources into a handle, as `mb_pool_compile` does, by the grammar of all of proto3: what declares no message, enum or
@@ -206,18 +206,18 @@ pub extern "C" fn mb_pool_compile_lenient(
     refusal: &mut Refusal,
     text: &mut [u8],
 ) -> u32
-    ensures made { result ≡ DONE → (ts : Types) × SourcesMake Proto3 names.now texts.now ts × (types_held pool.new ≡ Some ts) }
+    ensures made { result ≡ DONE → (ts : Types) × SourcesMake Lenient names.now texts.now ts × (types_held pool.new ≡ Some ts) }
     ensures left { result ≢ DONE → types_held pool.new ≡ None }
     ensures bad_name { result ≡ BAD_NAME ↔ ¬ AreNamed names.now texts.now }
-    ensures refused { AreNamed names.now texts.now → result ≢ DONE → result ≢ MEMORY → (w : PoolFault) × SourcesFail Proto3 names.now texts.now w
+    ensures refused { AreNamed names.now texts.now → result ≢ DONE → result ≢ MEMORY → (w : PoolFault) × SourcesFail Lenient names.now texts.now w
         × TellsRefusal w result refusal.old refusal.new text.old text.new }
     ensures untold { (result ≡ DONE) ⊎ (result ≡ BAD_NAME) ⊎ (result ≡ MEMORY) → (refusal.new ≡ refusal.old) × (text.new ≡ text.old) }
 
     // What makes a pool is linked, and the fault of what makes none is reported, unless memory runs out.
-    ensures accepted { AreNamed names.now texts.now → (ts : Types) → SourcesMake Proto3 names.now texts.now ts
+    ensures accepted { AreNamed names.now texts.now → (ts : Types) → SourcesMake Lenient names.now texts.now ts
         → ((result ≡ DONE) × (types_held pool.new ≡ Some ts)) ⊎ (result ≡ MEMORY) }
-    ensures told { AreNamed names.now texts.now → (w : PoolFault) → SourcesFail Proto3 names.now texts.now w
+    ensures told { AreNamed names.now texts.now → (w : PoolFault) → SourcesFail Lenient names.now texts.now w
         → TellsRefusal w result refusal.old refusal.new text.old text.new ⊎ (result ≡ MEMORY) }
 {
-    compile_sources(alloc, Grammar::Proto3, names, texts, pool, refusal, text)
+    compile_sources(alloc, Reading::Lenient, names, texts, pool, refusal, text)
 }

@@ -1,5 +1,5 @@
 -- Sources make one pool or have one fault, so what was answered is all that may be.
-use Rattle.pb_tokens.specs.declared.grammar.Grammar.TheVariants.{Strict}
+use Rattle.pb_source.specs.declared.reading.Reading.TheVariants.{Strict}
 use Rattle.pb_c.specs.Held.{types_held}
 use Rattle.pb_c.specs.PoolFault.{TellsRefusal}
 use Rattle.pb_c.specs.SourcePool.{SourcesFail, SourcesMake}

@@ -1,5 +1,5 @@
 -- Sources make one pool or have one fault, so what was answered is all that may be.
-use Rattle.pb_tokens.specs.declared.grammar.Grammar.TheVariants.{Proto3}
+use Rattle.pb_source.specs.declared.reading.Reading.TheVariants.{Lenient}
 use Rattle.pb_c.specs.Held.{types_held}
 use Rattle.pb_c.specs.PoolFault.{TellsRefusal}
 use Rattle.pb_c.specs.SourcePool.{SourcesFail, SourcesMake}
@@ -10,11 +10,11 @@ use Rattle.pb_c.proofs.pool.compile.mb_pool_compile_lenient.Goals as goal
 pub returns-clause-accepted : goal.returns-clause-accepted
 returns-clause-accepted c named =
     let names = c.args.names.now in let texts = c.args.texts.now in let s = c.compile_sources in
-    accepted (SourcesMake Proto3 names texts) (SourcesFail Proto3 names texts) (never_both Proto3 names texts) s.result (types_held s.new.pool)
-    (λ w. TellsRefusal w s.result c.args.refusal.now s.new.refusal c.args.text.now s.new.text) s.ensures.made (s.ensures.refused named) (one_types Proto3 names texts)
+    accepted (SourcesMake Lenient names texts) (SourcesFail Lenient names texts) (never_both Lenient names texts) s.result (types_held s.new.pool)
+    (λ w. TellsRefusal w s.result c.args.refusal.now s.new.refusal c.args.text.now s.new.text) s.ensures.made (s.ensures.refused named) (one_types Lenient names texts)
 
 pub returns-clause-told : goal.returns-clause-told
 returns-clause-told c named =
     let names = c.args.names.now in let texts = c.args.texts.now in let s = c.compile_sources in
-    told (SourcesMake Proto3 names texts) (SourcesFail Proto3 names texts) (never_both Proto3 names texts) s.result (types_held s.new.pool)
-    (λ w. TellsRefusal w s.result c.args.refusal.now s.new.refusal c.args.text.now s.new.text) s.ensures.made (s.ensures.refused named) (one_fault Proto3 names texts)
+    told (SourcesMake Lenient names texts) (SourcesFail Lenient names texts) (never_both Lenient names texts) s.result (types_held s.new.pool)
+    (λ w. TellsRefusal w s.result c.args.refusal.now s.new.refusal c.args.text.now s.new.text) s.ensures.made (s.ensures.refused named) (one_fault Lenient names texts)
