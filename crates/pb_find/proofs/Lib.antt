@@ -4,9 +4,11 @@ pub mod ReadLemmas
 pub mod CountLemmas
 -- what is found, record by record, is the scalar that the message has at the path
 pub mod FoundLemmas
--- for the loop over records: those that an iterator has left, and what stands inside one
-pub mod WalkLemmas
--- for the tests of records: which of them count for a field, and which end what was found
+-- what an iterator gives of one record
+pub mod OnlyLemmas
+-- for the tests of records: which of them count for a field, which end what was found, and where a path leads
 pub mod TargetLemmas
--- for `find`: an encoding is a payload of its message type, and what is found of it
+-- for records that are read and looked through at once
+pub mod WalkLemmas
+-- for `find`: what is found of an encoding is the scalar of its message
 pub mod FindLemmas

@@ -1,244 +1,301 @@
--- The records that an iterator has left, and what stands inside one of them.
-use Rattle.std.proofs.Common.{◌≡◌, ℕ, ◌+◌, ◌≤◌, ◌<◌, ◌^◌, List, [], ◌∷◌, ◌++◌, length, length-append, arith, refl, sym, ap, ◌∙◌, subst, Option, Some, None, Ok, Err}
-use Rattle.std.specs.Prelude.{true, fold}
-use Rattle.pb_wire.specs.Record.{Record, group_of, records_in, wire_type}
-use Rattle.pb_wire.specs.Record as wire
-use Rattle.pb_wire.specs.RecordIter.{Seen, seen, varint, fixed64, len, group, fixed32, Shows, IsShown, AreShown, Gives, NextGives, all_ok}
-use Rattle.pb_wire.specs.Rest.{Rest}
-use Rattle.pb_wire.specs.Inside.{records_spelled, records_inside}
-use Rattle.pb_wire.specs.Spell.{Body, Spells, AreRecords}
+-- Records that are read and looked through at once: whole ones, and what refuses the others.
+use Rattle.std.proofs.Common.{◌≡◌, ◌≢◌, ℕ, zero, suc, ◌-◌, ◌<◌, ◌≤◌, ◌^◌, List, [], ◌∷◌, ◌++◌, length, take, drop, refl, sym, ap, subst, ◌∙◌, arith, length-drop, Option, Some, None, inl, inr, ⊎_elim, IsUtf8}
+use Rattle.std.specs.Prelude.{IfSome, fold}
+use Rattle.std.proofs.lemmas.List.{take_all, take_at, drop_all, length-take, append-nil}
+use Rattle.std.proofs.lemmas.List.Sums.{fold-append}
+use Rattle.pb_wire.specs.Record.{Payload, varint, fixed64, len, group, fixed32, Record, group_of, wire_type}
+use Rattle.pb_wire.specs.Spell.{Body, AreRecords}
+use Rattle.pb_wire.specs.Fault.{Place, Moves, Leads, HasTag, HasLength, Fault, TagFault}
+use Rattle.pb_wire.specs.Schema.{Schema, records, in_group, message, text}
 use Rattle.pb_wire.specs.Sound.{Sound, AllSound}
-use Rattle.pb_wire.specs.Schema.{blank}
-use Rattle.pb_wire.specs.Schema as schema
-use Rattle.pb_wire.specs.Grammar.{IsText}
-use Rattle.pb_wire.specs.Limits.{full}
-use Rattle.pb_wire.specs.declared.fault.WireFault.{WireFault}
-use Rattle.pb_wire.specs.declared.iter.Payload.{Payload}
-use Rattle.pb_wire.proofs.DepthLemmas.{sound_records}
-use Rattle.pb_wire.proofs.InsideLemmas.{records_spelled-AreRecords}
-use Rattle.pb_schema.specs.declared.types.Kind.{Kind}
-use Rattle.pb_schema.specs.declared.types.Kind.TheVariants as kind
-use Rattle.pb_schema.specs.declared.types.Shape.{Shape}
-use Rattle.pb_schema.specs.declared.types.Shape.TheVariants as shape
-use Rattle.pb_schema.specs.Types.{FieldView, Types, message_fields, field_numbered}
+use Rattle.pb_wire.specs.Grammar.{Whole}
+use Rattle.pb_wire.specs.Exact.{IsOver, IsRead}
+use Rattle.pb_wire.proofs.DepthLemmas.{sound_higher}
+use Rattle.pb_wire.proofs.Fronts.{RecordAt, ValueAt, align, record_parts, value_at, not_end_tag, len_value, group_value, sound_text, sound_message, sound_group, AreRecords-from_group}
+use Rattle.pb_wire.proofs.OneFault.{not_both, no_tag_at_end}
+use Rattle.pb_wire.proofs.Places.{fewer, moves_from, moves_split}
+use Rattle.pb_wire.proofs.ReadingLemmas.{moves_both, SpellsGroup-from_records}
+use Rattle.pb_wire.proofs.Tokens.{ends_some, one_tag, one_length, length_not_both, cut_not_both}
+use Rattle.pb_schema.specs.Types.{Types}
+use Rattle.pb_schema.specs.Context.{Context, a_message, schema_of}
 use Rattle.pb_schema.specs.Scalar.{Scalar}
-use Rattle.pb_schema.specs.Kinds.{message_of_kind}
-use Rattle.pb_schema.specs.Fits.{fits_type, fits_shape}
-use Rattle.pb_schema.specs.Context.{Context, a_message, schema_of, read_shaped, group_shaped, read_field, group_of_field}
-use Rattle.pb_value.proofs.GroupLemmas.{records_in-group_of}
-use Rattle.pb_value.proofs.SoundLemmas.{sound_text, sound_message, sound_inside, all_sound_depth}
-use Rattle.pb_find.specs.Found.{is_single, target, after_typed, after_payload, after_record, after_records, found}
-use Rattle.pb_find.specs.Loops.{payload_of, record_of, IsPayload, IsInside, IsRecord, IsString}
+use Rattle.pb_schema.specs.View.{field_view}
+use Rattle.pb_validate.specs.Here.{here}
+use Rattle.pb_validate.specs.Judging.{Front, ReadsAll, ReadsValue, opened}
+use Rattle.pb_validate.specs.Payloads.{UnreadFault}
+use Rattle.pb_validate.proofs.HereLemmas.{payload_between}
+use Rattle.pb_validate.proofs.JudgeLemmas.{front_none, front_push, records_between, blank_sound, begins_given, tag_refused, message_sound}
+use Rattle.pb_find.specs.declared.target.Target.{Target}
+use Rattle.pb_find.specs.Found.{found, after_record}
+use Rattle.pb_find.specs.Loops.{IsOne}
+use Rattle.pb_find.specs.Walk.{record_at, after_target, NoRecord}
 
--- ---- the records of a payload
+pub some_map : {A : Type 0} (r : Option A) (P Q : A → Type 0) → ((a : A) → P a → Q a) → IfSome r P → IfSome r Q
+some_map None P Q f h = tt
+some_map (Some a) P Q f h = f a h
 
--- they are a text of records of no schema
-pub blank_text : {pool : Types} {m : ℕ} {b : List ℕ} → IsPayload pool m b → IsText blank tt full b (records_spelled b)
-blank_text {b = b} p = record {
-  size = (let small = p.size in omega (arith, small));
-  spelled = p.spelled;
-  sound = (let deep = all_sound_depth p.sound in let most = p.most in sound_records (records_spelled b) 100 (omega (arith, deep, most)));
+-- ---- what was found, after one more record
+
+pub nothing_more :
+    (pool : Types) (m : ℕ) (path : List ℕ) (t : Option Target) (x y : Option Scalar) (rs : List Record) (r : Record) → t ≡ None
+    → ((x : Option Scalar) (rs : List Record) → after_target pool m t x rs ≡ found pool path m x rs) → y ≡ found pool path m x rs
+    → y ≡ found pool path m x (rs ++ r ∷ [])
+nothing_more pool m path t x y rs r is same so_far =
+    so_far ∙ sym (same x rs) ∙ ap (λ (o : Option Target). after_target pool m o x rs) is ∙ sym (ap (λ (o : Option Target). after_target pool m o x (rs ++ r ∷ [])) is) ∙ same x (rs ++ r ∷ [])
+
+pub one_more :
+    (pool : Types) (m : ℕ) (path : List ℕ) (t : Option Target) (own : Target) (x y z : Option Scalar) (rs : List Record) (r : Record) → t ≡ Some own
+    → ((x : Option Scalar) (rs : List Record) → after_target pool m t x rs ≡ found pool path m x rs) → y ≡ found pool path m x rs
+    → z ≡ after_record (found pool own.rest.now) pool m own.rest.now (field_view own.field.now) y r
+    → z ≡ found pool path m x (rs ++ r ∷ [])
+one_more pool m path t own x y z rs r is same so_far next =
+    let step : Option Scalar → Record → Option Scalar = after_record (found pool own.rest.now) pool m own.rest.now (field_view own.field.now) in
+    let before : y ≡ fold step x rs = so_far ∙ sym (same x rs) ∙ ap (λ (o : Option Target). after_target pool m o x rs) is in
+    next ∙ ap (λ (w : Option Scalar). step w r) before ∙ sym (fold-append step x rs (r ∷ []))
+    ∙ sym (ap (λ (o : Option Target). after_target pool m o x (rs ++ r ∷ [])) is) ∙ same x (rs ++ r ∷ [])
+
+pub none_found :
+    (pool : Types) (m : ℕ) (path : List ℕ) (t : Option Target) (x : Option Scalar)
+    → ((x : Option Scalar) (rs : List Record) → after_target pool m t x rs ≡ found pool path m x rs) → x ≡ found pool path m x []
+none_found pool m path None x same = same x []
+none_found pool m path (Some own) x same = same x []
+
+-- ---- no record
+
+-- no tag begins at the end
+over_no_tag : {p q : Place} {k w : ℕ} → IsOver p → HasTag p k w q → ⊥
+over_no_tag (inl e) tag = no_tag_at_end e tag
+over_no_tag {p} {q} (inr e) tag =
+    let some = ends_some tag.tag.0 tag.tag.1.ends in
+    let all = fewer tag.tag.0 tag.tag.2 in
+    let none : length p.rest ≡ 0 = ap length e.1 in
+    omega (arith, some, all, none)
+
+reads_value : {S : Schema} {c : S.Context} {levels k w : ℕ} {p q : Place} → (v : ValueAt S c levels k w p q) → ReadsValue S c levels k w p v.payload q
+reads_value v = record { type = v.type; spelled = (v.body, v.spelled, v.moves); sound = v.sound }
+
+value_of : (pool : Types) (m levels k w : ℕ) (p q : Place) (payload : Payload) → ReadsValue (schema_of pool) (a_message m) levels k w p payload q → ValueAt (schema_of pool) (a_message m) levels k w p q
+value_of pool m levels k w p q payload v = record { payload = payload; type = v.type; body = v.spelled.0; spelled = v.spelled.1; sound = v.sound; moves = v.spelled.2 }
+
+-- where a tag has no record after whole ones, all is not read
+pub not_read :
+    (pool : Types) (m levels k w : ℕ) (g : Option ℕ) (p q s : Place) (rs : List Record) → Front (schema_of pool) (a_message m) levels p rs q
+    → HasTag q k w s → w ≢ 4 → NoRecord pool m levels k w s → IsRead (schema_of pool) (opened g (a_message m)) levels p → ⊥
+not_read pool m levels k w None p q s rs front tag no_end unread good =
+    ⊎_elim (λ (e : q ≡ good.1). over_no_tag (subst IsOver (sym e) good.4) tag)
+    (⊎_elim (λ (h : RecordAt (schema_of pool) (a_message m) levels q). let v = value_at h tag in unread v.1.payload v.0 (reads_value v.1))
+    (λ (h : RecordAt (schema_of pool) (a_message m) levels good.1). over_no_tag good.4 (record_parts h).tag))
+    (align rs good.2.0 front.spelled.0 good.0 front.spelled.1 good.2.1 front.sound good.2.2 front.spelled.2 good.3)
+not_read pool m levels k w (Some n) p q s rs front tag no_end unread good =
+    ⊎_elim (λ (e : q ≡ good.1). no_end (one_tag tag (rw (sym e) at good.4.1)).1)
+    (⊎_elim (λ (h : RecordAt (schema_of pool) (a_message m) levels q). let v = value_at h tag in unread v.1.payload v.0 (reads_value v.1))
+    (λ (h : RecordAt (schema_of pool) (a_message m) levels good.1). not_end_tag h good.4.1))
+    (align rs good.2.0 front.spelled.0 good.0 front.spelled.1 good.2.1 front.sound good.2.2 front.spelled.2 good.3)
+
+-- nor where a tag is refused
+pub no_tag :
+    (pool : Types) (m levels : ℕ) (g : Option ℕ) (b : List ℕ) (at now : ℕ) (rs : List Record) (f : Fault)
+    → Front (schema_of pool) (a_message m) levels (here b at None) rs (here b now None) → now ≤ length b → (g ≡ None → now < length b)
+    → TagFault g (here b now None) f → IsRead (schema_of pool) (opened g (a_message m)) levels (here b at None) → ⊥
+no_tag pool m levels g b at now rs f front within more bad good =
+    not_both
+    (tag_refused pool g (a_message m) levels (here b at None) (here b now None) rs f front
+    (λ none. begins_given g (a_message m) b now None none refl within (λ e. let less = more none in omega (arith, e, less))) bad)
+    good
+
+-- ---- all records
+
+pub read_to_end :
+    (pool : Types) (m levels : ℕ) (g : Option ℕ) (b : List ℕ) (at now : ℕ) (rs : List Record)
+    → Front (schema_of pool) (a_message m) levels (here b at None) rs (here b now None) → g ≡ None → length b ≤ now
+    → ReadsAll (schema_of pool) (opened g (a_message m)) levels (here b at None) rs (here b now None)
+read_to_end pool m levels None b at now rs front none ends = (front, inr (refl, drop_all now b ends))
+read_to_end pool m levels (Some k) b at now rs front none ends = absurd (cc)
+
+pub read_to_end_tag :
+    (pool : Types) (m levels k w : ℕ) (g : Option ℕ) (p q s : Place) (rs : List Record) → Front (schema_of pool) (a_message m) levels p rs q
+    → HasTag q k w s → w ≡ 4 → g ≡ Some k → ReadsAll (schema_of pool) (opened g (a_message m)) levels p rs s
+read_to_end_tag pool m levels k w None p q s rs front tag end own = absurd (cc)
+read_to_end_tag pool m levels k w (Some n) p q s rs front tag end own =
+    let same : k ≡ n = cc in (q, front, rw (end, same) at tag)
+
+-- ---- one record by itself
+
+pub one_alone :
+    (pool : Types) (m levels k w : ℕ) (b : List ℕ) (at start end : ℕ) (payload : Payload) → length b < 2 ^ 31 → levels ≤ 100
+    → HasTag (here b at None) k w (here b start None) → ReadsValue (schema_of pool) (a_message m) levels k w (here b start None) payload (here b end None)
+    → (one : IsOne (take (end - at) (drop at b))) × (one.only ≡ record_at k payload)
+one_alone pool m levels k w b at start end payload small most tag value =
+    let front : Front (schema_of pool) (a_message m) levels (here b at None) (record_at k payload ∷ []) (here b end None) =
+    front_push [] payload (front_none (schema_of pool) (a_message m) levels (here b at None)) tag value in (
+      record {
+        only = record_at k payload;
+        size = let e = length-take (end - at) (drop at b) in let f = length-drop at b in omega (arith, e, f, small);
+        spelled = records_between levels b at end None (record_at k payload ∷ []) front;
+        sound = sound_higher 100 most (blank_sound front.sound);
+      },
+      refl,
+    )
+
+-- ---- messages and groups
+
+-- the payload of a message, from records that are all of it
+pub message_value :
+    (pool : Types) (m t levels k w : ℕ) (b : List ℕ) (at start end : ℕ) (rs : List Record) → 0 < levels → w ≡ 2
+    → (schema_of pool).reading (a_message m) k ≡ message (a_message t) → HasLength (here b at None) (end - start) (here b start None) → start ≤ end → end ≤ length b
+    → AreRecords rs (take (end - start) (drop start b)) → AllSound (schema_of pool) (a_message t) (levels - 1) rs
+    → ReadsValue (schema_of pool) (a_message m) levels k w (here b at None) (len (take (end - start) (drop start b))) (here b end None)
+message_value pool m t levels k w b at start end rs some is_len read size rises within spelled sound = record {
+  type = sym is_len;
+  spelled = payload_between b at start end None size rises within k;
+  sound = message_sound (schema_of pool) (a_message m) (a_message t) levels k (take (end - start) (drop start b)) rs some read spelled sound;
 }
 
--- bytes that encode sound records are a payload
-pub payload_from : (pool : Types) (m levels : ℕ) (b : List ℕ) (rs : List Record) → levels ≤ 100 → length b < 2 ^ 31 → AreRecords rs b → AllSound (schema_of pool) (a_message m) levels rs → IsPayload pool m b
-payload_from pool m levels b rs most size spelled sound =
-    let same : records_spelled b ≡ rs = records_spelled-AreRecords rs b spelled (omega (arith, size)) in record {
-      levels = levels;
-      most = most;
-      size = size;
-      spelled = subst (λ (xs : List Record). AreRecords xs b) (sym same) spelled;
-      sound = subst (λ (xs : List Record). AllSound (schema_of pool) (a_message m) levels xs) (sym same) sound;
+-- records up to the end of a slice are all of it
+pub all_of :
+    (pool : Types) (t levels : ℕ) (s : List ℕ) (end : ℕ) (rs : List Record) → end ≤ length s
+    → ReadsAll (schema_of pool) (records (a_message t)) levels (here s 0 None) rs (here s end None)
+    → AreRecords rs s × AllSound (schema_of pool) (a_message t) levels rs
+all_of pool t levels s end rs within all =
+    let spelled = records_between levels s 0 end None rs all.0 in
+    let ends : length s ≤ end = by_end all.1 in
+    (subst (AreRecords rs) (take_all (end - 0) s (omega (arith, ends))) spelled, all.0.sound)
+  where
+    by_end : IsOver (here s end None) → length s ≤ end
+    by_end (inl e) = absurd (cc)
+    by_end (inr e) = let none : length (drop end s) ≡ 0 = ap length e.1 in let left = length-drop end s in omega (arith, none, left)
+
+-- the records of a group, as its payload
+pub group_value_of :
+    (pool : Types) (m t levels k w : ℕ) (p q : Place) (rs : List Record) → 0 < levels → w ≡ 3 → (schema_of pool).group_context (a_message m) k ≡ a_message t
+    → ReadsAll (schema_of pool) (in_group k (a_message t)) (levels - 1) p rs q
+    → ReadsValue (schema_of pool) (a_message m) levels k w p (group (group_of rs)) q
+group_value_of pool m t zero k w p q rs some is_group read all = absurd (omega arith)
+group_value_of pool m t (suc n) k w p q rs some is_group read (end, front, tag) =
+    let e : suc n - 1 ≡ n = omega arith in
+    let sound : AllSound (schema_of pool) ((schema_of pool).group_context (a_message m) k) n rs = subst (λ (c : Context). AllSound (schema_of pool) c n rs) (sym read) (rw e at front.sound) in
+    record {
+      type = sym is_group;
+      spelled = (
+        front.spelled.0 ++ tag.tag.0,
+        (front.spelled.0, tag.tag.0, SpellsGroup-from_records rs _ front.spelled.1, tag.tag.1, refl),
+        moves_both _ _ front.spelled.2 tag.tag.2,
+      );
+      sound = Sound.a_group refl sound;
     }
 
--- what is found of records at a path that begins with the number of a target
-pub found_at :
-    (pool : Types) (m n : ℕ) (path rest : List ℕ) (f : FieldView) (x : Option Scalar) (rs : List Record) → path ≡ n ∷ rest → target pool m n ≡ Some f
-    → fold (after_record (found pool rest) pool m rest f) x rs ≡ found pool path m x rs
-found_at pool m n path rest f x rs is at =
-    sym (ap (λ (p : List ℕ). found pool p m x rs) is ∙ ap (λ (o : Option FieldView). after_records (found pool rest) pool m rest o x rs) at)
+-- with no levels left, none is sound
+pub too_deep_message :
+    (pool : Types) (m t levels k w : ℕ) (p : Place) → levels ≡ 0 → w ≡ 2 → (schema_of pool).reading (a_message m) k ≡ message (a_message t) → NoRecord pool m levels k w p
+too_deep_message pool m t levels k w p none is_len read payload q v =
+    let value : ValueAt (schema_of pool) (a_message m) levels k 2 p q = rw is_len at (value_of pool m levels k w p q payload v) in
+    let it = len_value value in
+    let deeper = (sound_message it.bytes (a_message t) it.sound refl read).1 in
+    omega (arith, deeper, none)
 
--- and with no such number
-pub found_nowhere : (pool : Types) (m n : ℕ) (path rest : List ℕ) (x : Option Scalar) (rs : List Record) → path ≡ n ∷ rest → target pool m n ≡ None → x ≡ found pool path m x rs
-found_nowhere pool m n path rest x rs is at =
-    sym (ap (λ (p : List ℕ). found pool p m x rs) is ∙ ap (λ (o : Option FieldView). after_records (found pool rest) pool m rest o x rs) at)
+pub too_deep_group : (pool : Types) (m levels k w : ℕ) (p : Place) → levels ≡ 0 → w ≡ 3 → NoRecord pool m levels k w p
+too_deep_group pool m levels k w p none is_group payload q v =
+    let value : ValueAt (schema_of pool) (a_message m) levels k 3 p q = rw is_group at (value_of pool m levels k w p q payload v) in
+    let it = group_value value in
+    let deeper = (sound_group it.inside it.sound refl).1 in
+    omega (arith, deeper, none)
 
-pub found_here : (pool : Types) (m : ℕ) (path : List ℕ) (x : Option Scalar) (rs : List Record) → length path ≡ 0 → x ≡ found pool path m x rs
-found_here pool m [] x rs e = refl
-found_here pool m (n ∷ rest) x rs e = absurd (omega (arith, e))
+-- a group whose records are not read is none
+pub no_group :
+    (pool : Types) (m t levels k w : ℕ) (p : Place) → w ≡ 3 → (0 < k) × (k < 2 ^ 29) → (schema_of pool).group_context (a_message m) k ≡ a_message t
+    → (IsRead (schema_of pool) (in_group k (a_message t)) (levels - 1) p → ⊥) → NoRecord pool m levels k w p
+no_group pool m t levels k w p is_group number read unread payload q v =
+    let value : ValueAt (schema_of pool) (a_message m) levels k 3 p q = rw is_group at (value_of pool m levels k w p q payload v) in
+    let it = group_value value in
+    let inside = sound_group it.inside it.sound refl in
+    let deeper = inside.1 in
+    let less : levels - 1 ≡ inside.0 = omega (arith, deeper) in
+    let end : HasTag it.start k 4 q = record { tag = it.end; number = number; type = let e : 4 < 6 = omega arith in e } in
+    let sound : AllSound (schema_of pool) (a_message t) (levels - 1) inside.2 =
+    rw less (subst (λ (c : Context). AllSound (schema_of pool) c inside.0 inside.2) read inside.4) in
+    unread (it.bytes, it.start, (inside.2, AreRecords-from_group inside.2 it.bytes (rw inside.3 at it.spelled), sound), it.moves, (q, end))
 
--- ---- one of them after another
+-- a length and bytes, as they lie in the input
+pub len_read :
+    (k : ℕ) (p q : Place) (s : List ℕ) → Leads (Body k (len s)) p q → (start : Place) × HasLength p (length s) start × Moves start s q
+len_read k p q s (body, (small, size, is_size, joined), moves) =
+    let parts = moves_split {p = p} {r = q} size s (rw joined at moves) in
+    (parts.0, record { length_is = (size, is_size, parts.1); small = small; within = parts.2.within }, parts.2)
 
--- what a step makes of all records, from x at the first of those that are left, comes to y
-pub record IsLeft (pool : Types) (m : ℕ) (step : Option Scalar → Record → Option Scalar) (x y : Option Scalar) (s : Rest) : Type 0 where
-  pub left : List Record
-  pub xs : List (ℕ × Seen)
-  pub bytes : List ℕ
-  pub levels : ℕ
-  pub shown : AreShown left xs bytes
-  pub size : length bytes < 2 ^ 31
-  pub most : levels ≤ 100
-  pub sound : AllSound (schema_of pool) (a_message m) levels left
-  pub gives : Gives s (all_ok xs)
-  pub comes_to : fold step x left ≡ y
+-- a payload that is not whole is none
+pub no_payload : (k : ℕ) (p q : Place) (f : Fault) (s : List ℕ) → UnreadFault p f → Leads (Body k (len s)) p q → ⊥
+no_payload k p q f s (UnreadFault.a_length bad) leads = length_not_both bad (len_read k p q s leads).1
+no_payload k p q f s (UnreadFault.cut bad) leads =
+    let it = len_read k p q s leads in let all = fewer s it.2 in cut_not_both bad it.1 (omega (arith, all))
 
-pub all_left :
-    (pool : Types) (m : ℕ) (step : Option Scalar → Record → Option Scalar) (x y : Option Scalar) (b : List ℕ) (s : Rest) → IsPayload pool m b
-    → (xs : List (ℕ × Seen)) × AreShown (records_spelled b) xs b × Gives s (all_ok xs) → fold step x (records_spelled b) ≡ y → IsLeft pool m step x y s
-all_left pool m step x y b s p (xs, shown, gives) comes = record {
-  left = records_spelled b;
-  xs = xs;
-  bytes = b;
-  levels = p.levels;
-  shown = shown;
-  size = p.size;
-  most = p.most;
-  sound = p.sound;
-  gives = gives;
-  comes_to = comes;
-}
+-- the payload is the bytes of its length
+pub same_payload :
+    (k : ℕ) (b : List ℕ) (at start end : ℕ) (q : Place) (s : List ℕ) → HasLength (here b at None) (end - start) (here b start None)
+    → Leads (Body k (len s)) (here b at None) q → s ≡ take (end - start) (drop start b)
+same_payload k b at start end q s size leads =
+    let it = len_read k (here b at None) q s leads in
+    let same = one_length size it.1 in
+    let moves : Moves (here b start None) s q = moves_from s (sym same.1) it.2 in
+    sym (ap (take (end - start)) moves.given ∙ take_at s q.rest (end - start) (sym same.0))
 
--- what is shown of a payload
-shown_payload : (x : Seen) (r : Record) (b : List ℕ) → Shows x r b → Spells r b → length b < 2 ^ 31 → (r.payload ≡ payload_of x) × IsInside x
-shown_payload (varint n) r b e spelled size = (e, tt)
-shown_payload (fixed64 n) r b e spelled size = (e, tt)
-shown_payload (fixed32 n) r b e spelled size = (e, tt)
-shown_payload (len s) r b e spelled size = let body : Body r.number (wire.len s) spelled.body = subst (λ (p : wire.Payload). Body r.number p spelled.body) e spelled.follows in (e, body.0)
-shown_payload (group s) r b (rs, e, inside, encloses) spelled size =
-    let whole : length b ≡ length encloses.start + (length s + length encloses.end) =
-    ap length encloses.joined ∙ length-append encloses.start (s ++ encloses.end) ∙ ap (λ (n : ℕ). length encloses.start + n) (length-append s encloses.end) in
-    let small : length s < 2 ^ 31 = omega (arith, whole, size) in
-    let same : records_spelled s ≡ rs = records_spelled-AreRecords rs s inside (omega (arith, small)) in
-    (e ∙ ap (λ (xs : List Record). wire.group (group_of xs)) (sym same), (small, subst (λ (xs : List Record). AreRecords xs s) (sym same) inside))
+-- bytes that are all records are read
+pub whole_read :
+    (pool : Types) (t levels : ℕ) (s : List ℕ) → Whole (schema_of pool) (a_message t) levels s → IsRead (schema_of pool) (records (a_message t)) levels (here s 0 None)
+whole_read pool t levels s whole = (
+  s,
+  here s (length s) None,
+  whole,
+  record {
+    given = sym (ap (λ (l : List ℕ). s ++ l) (drop_all (length s) s (omega arith)) ∙ append-nil s);
+    within = tt;
+    at = omega arith;
+    known = refl;
+  },
+  inr (refl, drop_all (length s) s (omega arith)),
+)
 
-record_shown : (r : Record) (k : ℕ) (p : wire.Payload) → k ≡ r.number → r.payload ≡ p → r ≡ record { number = k; payload = p }
-record_shown r k p e q =
-    ap (λ (i : ℕ). let it : Record = record { number = i; payload = r.payload } in it) (sym e) ∙ ap (λ (z : wire.Payload). let it : Record = record { number = k; payload = z } in it) q
+-- a message whose records are not read is none
+pub no_message :
+    (pool : Types) (m t levels k w : ℕ) (b : List ℕ) (at start end : ℕ) → w ≡ 2 → (schema_of pool).reading (a_message m) k ≡ message (a_message t)
+    → HasLength (here b at None) (end - start) (here b start None)
+    → (IsRead (schema_of pool) (records (a_message t)) (levels - 1) (here (take (end - start) (drop start b)) 0 None) → ⊥)
+    → NoRecord pool m levels k w (here b at None)
+no_message pool m t levels k w b at start end is_len read size unread payload q v =
+    let value : ValueAt (schema_of pool) (a_message m) levels k 2 (here b at None) q = rw is_len at (value_of pool m levels k w (here b at None) q payload v) in
+    let it = len_value value in
+    let inside = sound_message it.bytes (a_message t) it.sound refl read in
+    let deeper = inside.1 in
+    let less : levels - 1 ≡ inside.0 = omega (arith, deeper) in
+    let same = one_length size it.size in
+    let moves : Moves (here b start None) it.bytes q = moves_from it.bytes (sym same.1) it.moves in
+    let bytes : it.bytes ≡ take (end - start) (drop start b) = sym (ap (take (end - start)) moves.given ∙ take_at it.bytes q.rest (end - start) (sym same.0)) in
+    unread (whole_read pool t (levels - 1) (take (end - start) (drop start b)) (rw (less, sym bytes) inside.2))
 
--- the next one, and those that are left after it
-pub next_left :
-    (pool : Types) (m : ℕ) (step : Option Scalar → Record → Option Scalar) (x y : Option Scalar) (s t : Rest) (z : ℕ × Payload) → IsLeft pool m step x y s → NextGives s (Some (Ok z)) t
-    → IsRecord pool m z.0 (seen z.1) × IsLeft pool m step (step x (record_of (z.0, seen z.1))) y t
-next_left pool m step x y s t z p next = by p.left p.xs p.bytes p.shown p.size p.sound p.gives p.comes_to
+-- ---- strings
+
+pub no_cut_message : (pool : Types) (m levels k w : ℕ) (p : Place) (f : Fault) → w ≡ 2 → UnreadFault p f → NoRecord pool m levels k w p
+no_cut_message pool m levels k w p f is_len bad payload q v =
+    let value : ValueAt (schema_of pool) (a_message m) levels k 2 p q = rw is_len at (value_of pool m levels k w p q payload v) in
+    let it = len_value value in by_fault bad it.size (let all = fewer it.bytes it.moves in omega (arith, all))
   where
-    by :
-        (left : List Record) (xs : List (ℕ × Seen)) (b : List ℕ) → AreShown left xs b → length b < 2 ^ 31 → AllSound (schema_of pool) (a_message m) p.levels left → Gives s (all_ok xs)
-        → fold step x left ≡ y → IsRecord pool m z.0 (seen z.1) × IsLeft pool m step (step x (record_of (z.0, seen z.1))) y t
-    by left [] b shown size sound gives comes = let first = next.first [] gives in let e = first.1 in absurd (cc)
-    by [] (w ∷ ws) b shown size sound gives comes = absurd shown
-    by (r ∷ left) (w ∷ ws) b shown size (AllSound.one sound others) gives comes =
-        let first = next.first (all_ok (w ∷ ws)) gives in
-        let e = first.1 in
-        let same : w ≡ (z.0, seen z.1) = cc in
-        let rest : all_ok ws ≡ first.0 = cc in
-        let total : length b ≡ length shown.0 + length shown.1 = ap length shown.4 ∙ length-append shown.0 shown.1 in
-        let is : IsShown r (z.0, seen z.1) shown.0 = subst (λ (v : ℕ × Seen). IsShown r v shown.0) same shown.2 in
-        let it = shown_payload (seen z.1) r shown.0 is.payload is.spelled (omega (arith, total, size)) in
-        let known : r ≡ record_of (z.0, seen z.1) = record_shown r z.0 (payload_of (seen z.1)) is.number it.0 in (
-          record {
-            levels = p.levels;
-            most = p.most;
-            sound = subst (λ (q : Record). Sound (schema_of pool) (a_message m) p.levels q.number q.payload) known sound;
-            inside = it.1;
-          },
-          record {
-            left = left;
-            xs = ws;
-            bytes = shown.1;
-            levels = p.levels;
-            shown = shown.3;
-            size = omega (arith, total, size);
-            most = p.most;
-            sound = others;
-            gives = subst (Gives t) (sym rest) first.2;
-            comes_to = ap (λ (q : Record). fold step (step x q) left) (sym known) ∙ comes;
-          },
-        )
+    by_fault : {n : ℕ} {r : Place} → UnreadFault p f → HasLength p n r → n ≤ length r.rest → ⊥
+    by_fault (UnreadFault.a_length bad) size whole = length_not_both bad size
+    by_fault (UnreadFault.cut bad) size whole = cut_not_both bad size whole
 
--- no more are left
-pub last_left : (pool : Types) (m : ℕ) (step : Option Scalar → Record → Option Scalar) (x y : Option Scalar) (s t : Rest) → IsLeft pool m step x y s → NextGives s None t → x ≡ y
-last_left pool m step x y s t p next = by p.left p.xs p.bytes p.shown p.gives p.comes_to
+-- a record of a string, and none where no string is
+pub string_value :
+    (pool : Types) (m levels k w : ℕ) (p q : Place) (s : List ℕ) → w ≡ 2 → (schema_of pool).reading (a_message m) k ≡ text → IsUtf8 s
+    → ((k : ℕ) → Leads (Body k (len s)) p q) → ReadsValue (schema_of pool) (a_message m) levels k w p (len s) q
+string_value pool m levels k w p q s is_len read utf8 leads = record { type = sym is_len; spelled = leads k; sound = Sound.a_text read utf8 }
+
+pub no_string :
+    (pool : Types) (m levels k w : ℕ) (p : Place) → w ≡ 2 → (schema_of pool).reading (a_message m) k ≡ text
+    → ((s : List ℕ) (k : ℕ) (q : Place) → Leads (Body k (len s)) p q → IsUtf8 s → ⊥) → NoRecord pool m levels k w p
+no_string pool m levels k w p is_len read none payload q v = by_payload payload v.type v
   where
-    by : (left : List Record) (xs : List (ℕ × Seen)) (b : List ℕ) → AreShown left xs b → Gives s (all_ok xs) → fold step x left ≡ y → x ≡ y
-    by [] [] b shown gives comes = comes
-    by (r ∷ left) [] b shown gives comes = absurd shown
-    by left (w ∷ ws) b shown gives comes = let e = (next.first (all_ok (w ∷ ws)) gives).0 in absurd (cc)
-
--- no fault comes
-pub no_fault_left :
-    (pool : Types) (m : ℕ) (step : Option Scalar → Record → Option Scalar) (x y : Option Scalar) (s t : Rest) (w : WireFault) → IsLeft pool m step x y s → NextGives s (Some (Err w)) t → ⊥
-no_fault_left pool m step x y s t w p next = by p.xs p.gives
-  where
-    by : (xs : List (ℕ × Seen)) → Gives s (all_ok xs) → ⊥
-    by [] gives = let e = (next.first [] gives).1 in cc
-    by (v ∷ vs) gives = let e = (next.first (all_ok (v ∷ vs)) gives).1 in cc
-
--- ---- what stands inside one
-
-no_map : (c : Context) (s : Shape) (k : Kind) → is_single s ≡ true → (read_shaped c s k ≡ read_shaped c shape.Explicit k) × (group_shaped s k ≡ group_shaped shape.Explicit k)
-no_map c shape.Implicit k e = (refl, refl)
-no_map c shape.Explicit k e = (refl, refl)
-no_map c (shape.OneofMember o) k e = (refl, refl)
-no_map c (shape.List p) k e = absurd (cc)
-no_map c (shape.Map key) k e = absurd (cc)
-
-single_type : (s : Shape) (k : Kind) (w : ℕ) → is_single s ≡ true → fits_shape s k w ≡ fits_shape shape.Explicit k w
-single_type shape.Implicit k w e = refl
-single_type shape.Explicit k w e = refl
-single_type (shape.OneofMember o) k w e = refl
-single_type (shape.List p) k w e = absurd (cc)
-single_type (shape.Map key) k w e = absurd (cc)
-
-module _ (pool : Types) (m : ℕ) (f : FieldView) (at : field_numbered f.number (message_fields pool m) ≡ Some f) (single : is_single f.shape ≡ true) where
-  reads : (schema_of pool).reading (a_message m) f.number ≡ read_shaped (a_message m) shape.Explicit f.kind
-  reads = ap (read_field (a_message m)) at ∙ (no_map (a_message m) f.shape f.kind single).0
-
-  groups : (schema_of pool).group_context (a_message m) f.number ≡ group_shaped shape.Explicit f.kind
-  groups = ap group_of_field at ∙ (no_map (a_message m) f.shape f.kind single).1
-
-  -- a string is UTF-8
-  pub string_read : (x : Seen) → IsRecord pool m f.number x → IsString f.kind x
-  string_read (varint n) p = tt
-  string_read (fixed64 n) p = tt
-  string_read (group s) p = tt
-  string_read (fixed32 n) p = tt
-  string_read (len s) p = λ is. sound_text p.sound (reads ∙ ap (read_shaped (a_message m) shape.Explicit) is)
-
-  -- the bytes of a message are its payload
-  pub bytes_inside : (t : ℕ) (s : List ℕ) → message_of_kind f.kind ≡ Some t → fits_type f 2 ≡ true → IsRecord pool m f.number (len s) → IsPayload pool t s
-  bytes_inside t s is fit p = by_kind f.kind is (sym (single_type f.shape f.kind 2 single) ∙ fit) reads
-    where
-      by_kind : (k : Kind) → message_of_kind k ≡ Some t → fits_shape shape.Explicit k 2 ≡ true → (schema_of pool).reading (a_message m) f.number ≡ read_shaped (a_message m) shape.Explicit k → IsPayload pool t s
-      by_kind (kind.Message j) is fit read =
-          let same : j.0 ≡ t = cc in
-          let below = sound_message p.sound (a_message t) (read ∙ ap (λ (i : ℕ). schema.message (a_message i)) same) in
-          let most = p.most in
-          let less = below.1 in
-          payload_from pool t below.0 s below.2.records (omega (arith, most, less)) p.inside below.2.spelled below.2.sound
-      by_kind (kind.Group j) is fit read = absurd (cc)
-      by_kind k is fit read = absurd (cc)
-
-  -- so are those of a group
-  pub group_inside : (t : ℕ) (s : List ℕ) → message_of_kind f.kind ≡ Some t → fits_type f 3 ≡ true → IsRecord pool m f.number (group s) → IsPayload pool t s
-  group_inside t s is fit p = by_kind f.kind is (sym (single_type f.shape f.kind 3 single) ∙ fit) groups
-    where
-      by_kind : (k : Kind) → message_of_kind k ≡ Some t → fits_shape shape.Explicit k 3 ≡ true → (schema_of pool).group_context (a_message m) f.number ≡ group_shaped shape.Explicit k → IsPayload pool t s
-      by_kind (kind.Group j) is fit read =
-          let same : j.0 ≡ t = cc in
-          let below = sound_inside p.sound in
-          let most = p.most in
-          let less = below.1 in
-          let records : records_spelled s ≡ below.2 = sym (records_in-group_of (records_spelled s)) ∙ ap records_in below.3 ∙ records_in-group_of below.2 in
-          payload_from pool t below.0 s below.2 (omega (arith, most, less)) p.inside.0 (subst (λ (xs : List Record). AreRecords xs s) records p.inside.1)
-          (subst (λ (c : Context). AllSound (schema_of pool) c below.0 below.2) (read ∙ ap a_message same) below.4)
-      by_kind (kind.Message j) is fit read = absurd (cc)
-      by_kind k is fit read = absurd (cc)
-
--- what is found after the payload of a message is what is found of the records inside
-pub found_inside :
-    (pool : Types) (rest : List ℕ) (f : FieldView) (x : Option Scalar) (t : ℕ) (p : wire.Payload) → message_of_kind f.kind ≡ Some t
-    → found pool rest t x (records_inside p) ≡ after_payload (found pool rest) rest f x p
-found_inside pool rest f x t p is = sym (ap (λ (o : Option ℕ). after_typed (found pool rest) o rest f x p) is)
-
-pub group_records : (s : List ℕ) → records_spelled s ≡ records_inside (payload_of (group s))
-group_records s = sym (records_in-group_of (records_spelled s))
+    by_payload : (payload : Payload) → wire_type payload ≡ w → ReadsValue (schema_of pool) (a_message m) levels k w p payload q → ⊥
+    by_payload (len s) e v = none s k q v.spelled (sound_text s v.sound refl read)
+    by_payload (varint n) e v = absurd (omega (arith, e, is_len))
+    by_payload (fixed64 n) e v = absurd (omega (arith, e, is_len))
+    by_payload (fixed32 n) e v = absurd (omega (arith, e, is_len))
+    by_payload (group g) e v = absurd (omega (arith, e, is_len))

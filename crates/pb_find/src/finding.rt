@@ -1,6 +1,6 @@
 //! The scalar at a path of field numbers, without a message.
 
-ghost use Rattle.std.specs.Prelude.{◌≡◌, ◌<◌, length, IfOk, IfErr, IsOkAnd};
+ghost use Rattle.std.specs.Prelude.{◌≡◌, ◌<◌, None, length, IfOk, IfErr, IfSome, IsOkAnd};
 ghost use Rattle.pb_wire.specs.Fault.{Fault};
 ghost use Rattle.pb_value.specs.Data.{Message};
 ghost use Rattle.pb_value.specs.Derives.{Text};
@@ -9,8 +9,8 @@ ghost use Rattle.pb_decode.specs.Push.{IsFaultOf, Tells};
 ghost use Rattle.pb_find.specs.ScalarAt.{scalar_at, message_of, IsFound};
 ghost use Rattle.pb_find.specs.View.{found_view};
 
-use crate::looking::found_in;
 use crate::scalar_ref::ScalarRef;
+use crate::walking::{Level, walk};
 use pb_decode::{DecodeError, validate};
 use pb_schema::{MessageId, Pool};
 use pb_wire::Limits;
@@ -21,7 +21,7 @@ use std::alloc::Global;
 ///
 /// The answer is `None` where the scalar is absent, and where the path names no field of one scalar. A string and bytes are slices of the
 /// input. What is no message of the type has the fault that `decode` reports. Nothing is built: memory is taken for the path of a fault
-/// alone. `message_type` is a type of the pool. The time is that of `validate`, and of a second pass over the records on the way.
+/// alone. `message_type` is a type of the pool. A message is read once, in the time of `validate`.
 pub fn find<'a>(
     alloc: Global,
     pool: &Pool,
@@ -37,9 +37,39 @@ pub fn find<'a>(
         → IsOkAnd result (λ x. found_view x ≡ scalar_at path.now (message_of pool.now message_type.0 v)) }
     ensures refused { (f : Fault) → IsFaultOf pool.now message_type.0 limits bytes.now f → Tells result f }
 {
-    let _most = limits.max_bytes();
-    let _depth = limits.max_depth();
+    if let Some(found) = found_in_message(alloc, pool, message_type, bytes, limits, path) {
+        return Ok(found);
+    }
+    match validate(alloc, pool, message_type, bytes, limits) {
+        Err(error) => Err(error),
+        Ok(()) => unreachable!(),
+    }
+}
+
+/// What is found at a path in a message. None where the bytes are no message of the type.
+fn found_in_message<'a>(
+    alloc: Global,
+    pool: &Pool,
+    message_type: MessageId,
+    bytes: &'a [u8],
+    limits: Limits,
+    path: &[u32],
+) -> Option<Option<ScalarRef<'a>>>
+    requires { message_type.0 < length pool.now.messages }
+    ensures found { IfSome result (λ x. IsFound pool.now message_type.0 limits bytes.now path.now (found_view x)) }
+    ensures none { result ≡ None → (v : Message) → Text pool.now message_type.0 limits bytes.now v → ⊥ }
+{
     let _types = pool.messages();
-    validate(alloc, pool, message_type, bytes, limits)?;
-    Ok(found_in(pool, message_type, bytes, path, None))
+    let most = limits.max_bytes();
+    let levels = limits.max_depth();
+    if bytes.len() > most as usize {
+        return None;
+    }
+    let top = Level {
+        message_type,
+        group: None,
+        levels,
+    };
+    let (_, found) = walk(alloc, pool, bytes, 0, top, path, None)?;
+    Some(found)
 }

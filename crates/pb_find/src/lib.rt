@@ -20,10 +20,11 @@
 
 mod finding;
 pub mod laws;
-mod looking;
 mod reading;
 mod scalar_ref;
+mod single;
 mod target;
+mod walking;
 
 pub use finding::find;
 pub use scalar_ref::ScalarRef;

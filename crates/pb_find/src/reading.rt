@@ -1,13 +1,13 @@
 //! Payloads as scalars.
 
-ghost use Rattle.std.specs.Prelude.{◌≡◌, IsUtf8, option_and_then};
+ghost use Rattle.std.specs.Prelude.{◌≡◌, ◌≢◌, option_and_then};
 ghost use Rattle.pb_wire.specs.Record.{varint, fixed64, len, fixed32};
 ghost use Rattle.pb_wire.specs.RecordIter.{seen};
 ghost use Rattle.pb_schema.specs.declared.types.Kind.TheVariants.{Text};
 ghost use Rattle.pb_schema.specs.Scalar.{is_default as default};
 ghost use Rattle.pb_schema.specs.Kinds.{read};
-ghost use Rattle.pb_find.specs.Found.{kept};
-ghost use Rattle.pb_find.specs.Loops.{payload_of, IsString};
+ghost use Rattle.pb_find.specs.Found.{kept as kept_by};
+ghost use Rattle.pb_find.specs.Loops.{payload_of};
 ghost use Rattle.pb_find.specs.View.{scalar_view, found_view};
 
 use crate::scalar_ref::ScalarRef;
@@ -58,16 +58,12 @@ fn of_four_bytes<'a>(kind: Kind, number: u32) -> Option<ScalarRef<'a>>
     }
 }
 
-/// The same of the bytes after a length. Those of a string are UTF-8.
+/// The same of the bytes after a length.
 fn of_bytes(kind: Kind, bytes: &[u8]) -> Option<ScalarRef<'_>>
-    requires { kind ≡ Text → IsUtf8 bytes.now }
+    requires { kind ≢ Text }
     ensures { found_view result ≡ read kind (len bytes.now) }
 {
     match kind {
-        Kind::Text => match simdutf8::basic::from_utf8(bytes) {
-            Ok(string) => Some(ScalarRef::Text(string)),
-            Err(_) => unreachable!(),
-        },
         Kind::Bytes => Some(ScalarRef::Bytes(bytes)),
         _ => None,
     }
@@ -88,9 +84,9 @@ fn is_default(scalar: ScalarRef<'_>) -> bool
     }
 }
 
-/// The scalar of a kind that a payload encodes. A payload of another wire type encodes none.
+/// The scalar of a kind, but for strings, that a payload encodes. A payload of another wire type encodes none.
 fn scalar_of(kind: Kind, payload: Payload<'_>) -> Option<ScalarRef<'_>>
-    requires { IsString kind (seen payload) }
+    requires { kind ≢ Text }
     ensures { found_view result ≡ read kind (payload_of (seen payload.entry)) }
 {
     match payload {
@@ -102,14 +98,21 @@ fn scalar_of(kind: Kind, payload: Payload<'_>) -> Option<ScalarRef<'_>>
     }
 }
 
-/// The scalar that a field of a shape and a kind has by a payload. With implicit presence a default is none.
-pub(crate) fn scalar_by(shape: Shape, kind: Kind, payload: Payload<'_>) -> Option<ScalarRef<'_>>
-    requires { IsString kind (seen payload) }
-    ensures { found_view result ≡ option_and_then (kept shape) (read kind (payload_of (seen payload.entry))) }
+/// What a field of a shape keeps of a scalar: with implicit presence, none that is the default.
+pub(crate) fn kept(shape: Shape, scalar: ScalarRef<'_>) -> Option<ScalarRef<'_>>
+    ensures { found_view result ≡ kept_by shape (scalar_view scalar.entry) }
 {
-    let scalar = scalar_of(kind, payload)?;
     if shape == Shape::Implicit && is_default(scalar) {
         return None;
     }
     Some(scalar)
+}
+
+/// The scalar that a field of a shape and a kind, but for strings, has by a payload.
+pub(crate) fn scalar_by(shape: Shape, kind: Kind, payload: Payload<'_>) -> Option<ScalarRef<'_>>
+    requires { kind ≢ Text }
+    ensures { found_view result ≡ option_and_then (kept_by shape) (read kind (payload_of (seen payload.entry))) }
+{
+    let scalar = scalar_of(kind, payload)?;
+    kept(shape, scalar)
 }
