@@ -1,0 +1,58 @@
+//! The schema that the tests speak of.
+
+ghost use Rattle.std.specs.Prelude.{◌<◌, length};
+
+use pb_samples::{EnumRow, FieldRow, PACKED, TypeRow, UNPACKED, pool_of};
+use pb_schema::{Kind, MessageId, Pool, Shape};
+use pb_value::{Body, DynamicMessage, ValueError};
+use std::alloc::Global;
+use std::test::Fail;
+
+/// A pool and a message type of it.
+#[derive(Drop)]
+pub(crate) struct Schema {
+    pub(crate) pool: Pool,
+    pub(crate) message_type: MessageId,
+    ghost within: { message_type.0 < length pool.messages },
+}
+
+impl Schema {
+    pub(crate) fn made(&self, alloc: Global, body: Body) -> Result<DynamicMessage<'_>, ValueError> {
+        DynamicMessage::from_body(alloc, &self.pool, self.message_type, body)
+    }
+}
+
+/// package a.b; message T { int32 a = 1; string b = 2; T c = 3; repeated int32 e = 6; oneof o { uint32 x = 7; T y = 8; }
+/// map<string, int32> m = 9; optional bool p = 10; map<uint32, T> n = 12; repeated string u = 13; repeated T r = 19;
+/// N l = 20; } message N { string z = 1; }
+pub(crate) fn sample(alloc: Global) -> Result<Schema, Fail> {
+    let pool = pool_of(alloc, &[("t.proto", "a.b", false)], TYPES, ENUMS)?;
+    let message_type = pool.message_by_name("a.b.T").ok_or("no type")?;
+    Ok(Schema { pool, message_type })
+}
+
+const TYPES: &[TypeRow] = &[
+    ("T", 0, None, FIELDS_OF_T, &["o"]),
+    ("N", 0, None, FIELDS_OF_N, &[]),
+];
+
+const ENUMS: &[EnumRow] = &[];
+
+const T: Kind = Kind::Message(MessageId(0));
+
+const FIELDS_OF_T: &[FieldRow] = &[
+    ("a", 1, Kind::Int32, Shape::Implicit),
+    ("b", 2, Kind::Text, Shape::Implicit),
+    ("c", 3, T, Shape::Explicit),
+    ("e", 6, Kind::Int32, PACKED),
+    ("x", 7, Kind::Uint32, Shape::OneofMember(0)),
+    ("y", 8, T, Shape::OneofMember(0)),
+    ("m", 9, Kind::Int32, Shape::Map { key: Kind::Text }),
+    ("p", 10, Kind::Bool, Shape::Explicit),
+    ("n", 12, T, Shape::Map { key: Kind::Uint32 }),
+    ("u", 13, Kind::Text, UNPACKED),
+    ("r", 19, T, UNPACKED),
+    ("l", 20, Kind::Message(MessageId(1)), Shape::Explicit),
+];
+
+const FIELDS_OF_N: &[FieldRow] = &[("z", 1, Kind::Text, Shape::Implicit)];
