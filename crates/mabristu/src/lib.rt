@@ -23,7 +23,8 @@ pub use pb_source::{SourceCause, SourceFault, parse, parse_lenient};
 
 // What a change of a schema does to old messages.
 pub use pb_compat::{
-    ComparedTypes, Difference, Report, Severity, Step, compare, compare_all, namesake,
+    ComparedTypes, Difference, Report, Severity, Step, breaks_reading, compare, compare_all,
+    namesake, witness,
 };
 
 // Messages: what they hold, changes, what is at a place of one, and changes there.
@@ -45,8 +46,9 @@ pub use pb_encode::{EncodeError, Plan, encode, encode_to, encoded_len};
 pub use pb_find::{ScalarRef, find};
 pub use pb_stream::{DelimitedReader, read_delimited, write_delimited};
 
-// What messages print as.
+// What messages print as, and messages read from JSON.
 pub use pb_json::{JsonCause, JsonError, JsonForm, Layout, Names, Refusal, write_json};
+pub use pb_json_read::{JsonReadCause, JsonReadError, JsonRules, read_json};
 pub use pb_listing::{
     FloatForm, write_listing, write_message, write_message_as, write_nested, write_types,
 };
