@@ -152,8 +152,9 @@ static bool list_sources(PyObject *items, struct mb_bytes *listed, PyObject *hel
 
 PyDoc_STRVAR(of_sources_doc,
 "of_sources(sources, *, lenient=False)\n--\n\nLinks sources of proto3: a mapping from their names, as imports name them, to their texts (str or bytes). What they\n"
-"import has to be among them, google/protobuf/timestamp.proto too. With lenient=True what declares no message, enum or service is read and left out,\n"
-"as parts of an option's name in parentheses, constants in braces, blocks of extend and ranges of extensions.");
+"import has to be among them, google/protobuf/timestamp.proto too. With lenient=True sources of proto2 are taken too, and what declares no message,\n"
+"enum or service is read and left out, as parts of an option's name in parentheses, constants in braces, default values,\n"
+"blocks of extend and ranges of extensions.");
 
 static PyObject *pool_of_sources(PyObject *type, PyObject *args, PyObject *kwargs)
 {

@@ -66,8 +66,8 @@ impl Pool {
         Pool::compile(calls::mb_pool_compile, sources)
     }
 
-    /// As [`Pool::of_sources`], of sources of all of proto3: what declares no message, enum or service is read and left out, as parts of an option's
-    /// name in parentheses, constants in braces, blocks of `extend` and ranges of extensions.
+    /// As [`Pool::of_sources`], of sources of all of proto2 and proto3: what declares no message, enum or service is read and left out, as
+    /// parts of an option's name in parentheses, constants in braces, default values, blocks of `extend` and ranges of extensions.
     pub fn of_sources_lenient<N: AsRef<str>, T: AsRef<[u8]>>(sources: impl IntoIterator<Item = (N, T)>) -> Result<Pool, Error> {
         Pool::compile(calls::mb_pool_compile_lenient, sources)
     }
