@@ -134,8 +134,8 @@ struct mb_bytes {
 uint32_t mb_pool_compile(const struct mb_bytes *names, size_t names_len, const struct mb_bytes *texts, size_t texts_len, struct mb_pool *pool,
                          struct mb_refusal *refusal, uint8_t *text, size_t text_len);
 
-/* As mb_pool_compile, of sources of all of proto2 and proto3: what declares no message, enum or service is read and left out, as parts of an option's
- * name in parentheses, constants in braces, default values, blocks of extend and ranges of extensions. */
+/* As mb_pool_compile, of sources of all of proto3, and of proto2 without groups: what declares no message, enum or service is read and left out, as parts
+ * of an option's name in parentheses, constants in braces, default values, blocks of extend and ranges of extensions. */
 uint32_t mb_pool_compile_lenient(const struct mb_bytes *names, size_t names_len, const struct mb_bytes *texts, size_t texts_len, struct mb_pool *pool,
                                  struct mb_refusal *refusal, uint8_t *text, size_t text_len);
 
