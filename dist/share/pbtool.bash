@@ -3,17 +3,18 @@ _pbtool() {
     local current=${COMP_WORDS[COMP_CWORD]} before=${COMP_WORDS[COMP_CWORD - 1]} command=${COMP_WORDS[1]} words=() flags names at
     COMPREPLY=()
     if [ "$COMP_CWORD" -eq 1 ]; then
-        COMPREPLY=($(compgen -W "raw check show canon json frames types compile compat --help --version -h -V" -- "$current"))
+        COMPREPLY=($(compgen -W "raw check show canon json frames types compile compat from-json --help --version -h -V" -- "$current"))
         return
     fi
     case $command in
-        raw) flags="--short --nested --help -h" ;;
-        show) flags="--decimal --lenient --help -h" ;;
-        frames) flags="--decimal --keep-going --lenient --help -h" ;;
-        check | types) flags="--lenient --help -h" ;;
-        canon) flags="--out --lenient --help -h" ;;
-        json) flags="--pretty --lenient --help -h" ;;
-        compile) flags="-I --lenient --help -h" ;;
+        raw) flags="--short --nested --explain --help -h" ;;
+        show) flags="--decimal --explain --lenient --help -h" ;;
+        frames) flags="--decimal --keep-going --explain --lenient --help -h" ;;
+        check | from-json) flags="--explain --lenient --help -h" ;;
+        types) flags="--lenient --help -h" ;;
+        canon) flags="--out --explain --lenient --help -h" ;;
+        json) flags="--pretty --explain --lenient --help -h" ;;
+        compile) flags="-I --explain --lenient --help -h" ;;
         compat) flags="--lenient --both --help -h" ;;
         *) return ;;
     esac
@@ -42,7 +43,7 @@ _pbtool() {
         esac
     done
     case $command,${#words[@]} in
-        check,1 | show,1 | canon,1 | json,1 | frames,1)
+        check,1 | show,1 | canon,1 | json,1 | frames,1 | from-json,1)
             names=$("${COMP_WORDS[0]}" types --lenient "${words[0]}" 2>/dev/null | awk '$1 == "message" { print $2 }')
             COMPREPLY=($(compgen -W "$names" -- "$current"))
             ;;

@@ -111,9 +111,9 @@ never e = cc
 pub no_name_left :
     (s : Option Text) → (s ≡ Some (codes "raw") → false ≡ true) → (s ≡ Some (codes "check") → false ≡ true) → (s ≡ Some (codes "show") → false ≡ true)
     → (s ≡ Some (codes "canon") → false ≡ true) → (s ≡ Some (codes "json") → false ≡ true) → (s ≡ Some (codes "frames") → false ≡ true)
-    → (s ≡ Some (codes "types") → false ≡ true) → (s ≡ Some (codes "compile") → false ≡ true) → (s ≡ Some (codes "compat") → false ≡ true)
-    → Any (λ n. s ≡ Some n) tool_names → ⊥
-no_name_left s raw check show canon json frames types compile compat has = by (at_index s tool_names has.0 has.1 has.2 has.3 has.4)
+    → (s ≡ Some (codes "types") → false ≡ true) → (s ≡ Some (codes "compile") → false ≡ true) → (s ≡ Some (codes "from-json") → false ≡ true)
+    → (s ≡ Some (codes "compat") → false ≡ true) → Any (λ n. s ≡ Some n) tool_names → ⊥
+no_name_left s raw check show canon json frames types compile from_json compat has = by (at_index s tool_names has.0 has.1 has.2 has.3 has.4)
   where
     by : IsOneOf s tool_names → ⊥
     by (inl is) = never (raw is)
@@ -125,4 +125,5 @@ no_name_left s raw check show canon json frames types compile compat has = by (a
     by (inr (inr (inr (inr (inr (inr (inl is))))))) = never (types is)
     by (inr (inr (inr (inr (inr (inr (inr (inl is)))))))) = never (compile is)
     by (inr (inr (inr (inr (inr (inr (inr (inr (inl is))))))))) = never (compat is)
-    by (inr (inr (inr (inr (inr (inr (inr (inr (inr nothing))))))))) = nothing
+    by (inr (inr (inr (inr (inr (inr (inr (inr (inr (inl is)))))))))) = never (from_json is)
+    by (inr (inr (inr (inr (inr (inr (inr (inr (inr (inr nothing)))))))))) = nothing

@@ -9,7 +9,7 @@ use Rattle.clap.specs.Simple.{on_top}
 use Rattle.clap.specs.declared.builder.ArgAction.TheVariants.{Append, Set, SetTrue}
 use Rattle.pb_command.specs.declared.command.Command.{Command}
 use Rattle.pb_command.specs.declared.command.Command.TheVariants.{Raw, Check, Show, Canon, Json, Frames, AllFrames, Types, Compile}
-use Rattle.pb_command.specs.declared.command.Command.TheVariants.{Compat}
+use Rattle.pb_command.specs.declared.command.Command.TheVariants.{Compat, FromJson}
 use Rattle.pb_command.specs.declared.command.Comparison.{Comparison}
 use Rattle.pb_verdict.specs.declared.verdict.Readers.{Readers}
 use Rattle.pb_verdict.specs.declared.verdict.Readers.TheVariants.{Both, New}
@@ -35,16 +35,22 @@ wanted id = record (new_rule id) { required = true }
 abbrev pub nested_rule : Rule
 nested_rule = record (new_rule (codes "nested")) { long = Some (codes "nested"); action = Some SetTrue }
 
--- `raw [--short] [--nested] FILE`
+abbrev pub explain_rule : Rule
+explain_rule = record (new_rule (codes "explain")) { long = Some (codes "explain"); action = Some SetTrue }
+
+-- `raw [--short] [--nested] [--explain] FILE`
 abbrev pub raw_command : App
-raw_command = with_rule (with_rule (with_rule (new_app (codes "raw")) short_rule) nested_rule) (wanted (codes "FILE"))
+raw_command =
+    with_rule (with_rule (with_rule (with_rule (new_app (codes "raw")) short_rule) nested_rule) explain_rule) (wanted (codes "FILE"))
 
 abbrev pub lenient_rule : Rule
 lenient_rule = record (new_rule (codes "lenient")) { long = Some (codes "lenient"); action = Some SetTrue }
 
--- with `[--lenient] SET TYPE FILE`
+-- with `[--explain] [--lenient] SET TYPE FILE`
 abbrev pub of_source : App → App
-of_source a = with_rule (with_rule (with_rule (with_rule a lenient_rule) (wanted (codes "SET"))) (wanted (codes "TYPE"))) (wanted (codes "FILE"))
+of_source a =
+    with_rule (with_rule (with_rule (with_rule (with_rule a explain_rule) lenient_rule) (wanted (codes "SET"))) (wanted (codes "TYPE")))
+    (wanted (codes "FILE"))
 
 abbrev pub check_command : App
 check_command = of_source (new_app (codes "check"))
@@ -52,28 +58,28 @@ check_command = of_source (new_app (codes "check"))
 abbrev pub decimal_rule : Rule
 decimal_rule = record (new_rule (codes "decimal")) { long = Some (codes "decimal"); action = Some SetTrue }
 
--- `show [--decimal] [--lenient] SET TYPE FILE`
+-- `show [--decimal] [--explain] [--lenient] SET TYPE FILE`
 abbrev pub show_command : App
 show_command = of_source (with_rule (new_app (codes "show")) decimal_rule)
 
 abbrev pub out_rule : Rule
 out_rule = record (new_rule (codes "out")) { long = Some (codes "out"); action = Some Set }
 
--- `canon [--out OUT] [--lenient] SET TYPE FILE`
+-- `canon [--out OUT] [--explain] [--lenient] SET TYPE FILE`
 abbrev pub canon_command : App
 canon_command = of_source (with_rule (new_app (codes "canon")) out_rule)
 
 abbrev pub pretty_rule : Rule
 pretty_rule = record (new_rule (codes "pretty")) { long = Some (codes "pretty"); action = Some SetTrue }
 
--- `json [--pretty] [--lenient] SET TYPE FILE`
+-- `json [--pretty] [--explain] [--lenient] SET TYPE FILE`
 abbrev pub json_command : App
 json_command = of_source (with_rule (new_app (codes "json")) pretty_rule)
 
 abbrev pub keep_going_rule : Rule
 keep_going_rule = record (new_rule (codes "keep-going")) { long = Some (codes "keep-going"); action = Some SetTrue }
 
--- `frames [--decimal] [--keep-going] [--lenient] SET TYPE FILE`
+-- `frames [--decimal] [--keep-going] [--explain] [--lenient] SET TYPE FILE`
 abbrev pub frames_command : App
 frames_command = of_source (with_rule (with_rule (new_app (codes "frames")) decimal_rule) keep_going_rule)
 
@@ -85,10 +91,11 @@ types_command = with_rule (with_rule (with_rule (new_app (codes "types")) lenien
 abbrev pub directory_rule : Rule
 directory_rule = record (new_rule (codes "DIR")) { short = Some 73; action = Some Append }
 
--- `compile [--lenient] [-I DIR].. ROOT OUT FILE..`
+-- `compile [--explain] [--lenient] [-I DIR].. ROOT OUT FILE..`
 abbrev pub compile_command : App
 compile_command =
-    with_rule (with_rule (with_rule (with_rule (with_rule (new_app (codes "compile")) lenient_rule) directory_rule) (wanted (codes "ROOT"))) (wanted (codes "OUT")))
+    with_rule (with_rule (with_rule (with_rule (with_rule (with_rule (new_app (codes "compile")) explain_rule) lenient_rule) directory_rule)
+    (wanted (codes "ROOT"))) (wanted (codes "OUT")))
     (record (wanted (codes "FILE")) { action = Some Append })
 
 abbrev pub both_rule : Rule
@@ -99,6 +106,10 @@ abbrev pub compat_command : App
 compat_command =
     with_rule (with_rule (with_rule (with_rule (with_rule (new_app (codes "compat")) lenient_rule) both_rule) (wanted (codes "OLD"))) (wanted (codes "NEW")))
     (new_rule (codes "TYPE"))
+
+-- `from-json [--explain] [--lenient] SET TYPE FILE OUT`
+abbrev pub from_json_command : App
+from_json_command = with_rule (of_source (new_app (codes "from-json"))) (wanted (codes "OUT"))
 
 -- a subcommand is wanted, and `help` is none
 abbrev pub wants_subcommand : Shape → Shape
@@ -111,7 +122,7 @@ with_version s = record s { has_version = true }
 abbrev pub tool_top : App
 tool_top = on_top wants_subcommand (on_top with_version (new_app (codes "pbtool")))
 
--- all commands but `compat`
+-- all commands but `compat` and `from-json`
 abbrev pub other_tool : App
 other_tool =
     with_subcommand (with_subcommand (with_subcommand (with_subcommand (with_subcommand (with_subcommand (with_subcommand (with_subcommand tool_top raw_command.top)
@@ -119,11 +130,12 @@ other_tool =
 
 -- the whole command line
 abbrev pub tool : App
-tool = with_subcommand other_tool compat_command.top
+tool = with_subcommand (with_subcommand other_tool compat_command.top) from_json_command.top
 
 abbrev pub tool_names : List Text
 tool_names =
-    codes "raw" ∷ codes "check" ∷ codes "show" ∷ codes "canon" ∷ codes "json" ∷ codes "frames" ∷ codes "types" ∷ codes "compile" ∷ codes "compat" ∷ []
+    codes "raw" ∷ codes "check" ∷ codes "show" ∷ codes "canon" ∷ codes "json" ∷ codes "frames" ∷ codes "types" ∷ codes "compile" ∷ codes "compat"
+    ∷ codes "from-json" ∷ []
 
 abbrev pub words_of : List (String Global) → List Text
 words_of = map string_bytes
@@ -131,6 +143,10 @@ words_of = map string_bytes
 -- a flag is given
 abbrev pub flag_of : Text → List Row → Bool
 flag_of id rows = option_map_or (λ text. bytes_eq text (codes "true")) (first_of id rows) false
+
+-- the words say that the command explains its refusals
+abbrev pub is_explained : Option (Text × List Row) → Bool
+is_explained matched = option_map_or (flag_of (codes "explain")) (option_map (λ m. m.1) matched) false
 
 -- the value of an argument that is required
 abbrev pub value_of : Text → List Row → Text
@@ -215,6 +231,7 @@ IsNamed name rows (Types reading set type_name) =
 IsNamed name rows (Compile roots out names) =
     (name ≡ codes "compile") × AreRoots rows roots × (out.now ≡ value_of (codes "OUT") rows)
     × (texts_of names.now ≡ values_of (codes "FILE") rows)
+IsNamed name rows (FromJson out source) = (name ≡ codes "from-json") × (out.now ≡ value_of (codes "OUT") rows) × IsSource rows source
 IsNamed name rows (Compat comparison) = (name ≡ codes "compat") × IsComparison rows comparison
 
 -- the command shows frames, as these words say

@@ -1,15 +1,16 @@
 //! From the words of the command line to the exit status.
 
 ghost use Rattle.std.specs.Prelude.{◌≡◌, ◌≢◌, ◌⊎◌, ℕ, List, [], codes, true, false, Any, Some};
-ghost use Rattle.clap.specs.Words.{fault_of, found_of, is_simple_and_free, kind_of, rows_of, subcommand_name_of, subcommand_rows_of, takes};
+ghost use Rattle.clap.specs.Words.{fault_of, found_of, is_simple_and_free, kind_of, rows_of, subcommand_name_of, subcommand_of, subcommand_rows_of, takes};
 ghost use Rattle.pb_command.specs.Answers.{Does};
 ghost use Rattle.pb_command.specs.CompileAnswer.{texts_of};
 ghost use Rattle.pb_files.specs.FileMap.{IsHonest, IsSaved, IsUnsaved};
 ghost use Rattle.pb_files.specs.Report.{device_line, memory_line};
 ghost use Rattle.pb_output.specs.Sending.{Cut, Sent, SentOrCut};
-ghost use Rattle.pb_cli.specs.Running.{DoesNamed, RefusesWords};
+ghost use Rattle.pb_cli.specs.Running.{DoesBy, DoesNamed, RefusesWords};
+ghost use Rattle.pb_command.specs.Explained.{DoesExplained};
 ghost use Rattle.pb_cli.specs.Words.{AreRoots, IsMatched, IsRawForm, IsSource, ShowsFrames, flag_of, floats_of, layout_of, reading_of};
-ghost use Rattle.pb_cli.specs.Words.{IsComparison, readers_of, value_of, values_of, tool, tool_names, words_of};
+ghost use Rattle.pb_cli.specs.Words.{IsComparison, is_explained, readers_of, value_of, values_of, tool, tool_names, words_of};
 ghost use Rattle.pb_command.specs.declared.command.Command.{Command as Told};
 
 use crate::words::definition;
@@ -17,7 +18,7 @@ use clap::error::ErrorKind;
 use clap::{ArgMatches, Error};
 use pb_command::{
     Afterwards, Command, Comparison, Files, FloatForm, Layout, RawForm, Readers, Reading, Refusal,
-    Roots, Source, execute_then,
+    Roots, Source, execute_explained, execute_then,
 };
 use pb_wire::{Output, write_all};
 use std::alloc::Global;
@@ -35,7 +36,10 @@ pub fn run<F: Files, O: Output, E: Output>(
     ensures taken { fault_of tool (words_of args.now) ≡ []
         → DoesNamed (Sent O.written O.failures out.old out.new) (Cut O.written O.failures out.old out.new)
         (SentOrCut E.written E.failures err.old err.new) (IsSaved F.contents files.old files.new)
-        (IsUnsaved F.contents F.failures files.old files.new) result (IsHonest F.contents F.is_steady files.old) (words_of args.now) }
+        (IsUnsaved F.contents F.failures files.old files.new) result (IsHonest F.contents F.is_steady files.old)
+        (DoesExplained F.contents F.failures files.old (Sent O.written O.failures out.old out.new)
+        (Cut O.written O.failures out.old out.new) (SentOrCut E.written E.failures err.old err.new) result (IsHonest F.contents F.is_steady files.old))
+        (words_of args.now) }
 
     // Where they are not taken, nothing goes to standard output.
     ensures refused { fault_of tool (words_of args.now) ≢ []
@@ -47,12 +51,13 @@ pub fn run<F: Files, O: Output, E: Output>(
 
     // Where opening or writing a file failed, the status is 3 and the line names a device. Inputs count
     // their failed reads themselves, of which these clauses do not speak.
-    ensures kept { result ≢ 3 → F.failures files.new ≡ F.failures files.old }
-    ensures failed { F.failures files.new ≢ F.failures files.old
+    ensures kept { is_explained (subcommand_of tool (words_of args.now)) ≡ false → result ≢ 3 → F.failures files.new ≡ F.failures files.old }
+    ensures failed { is_explained (subcommand_of tool (words_of args.now)) ≡ false → F.failures files.new ≢ F.failures files.old
         → (path : List ℕ) × SentOrCut E.written E.failures err.old err.new (device_line path) }
 
     // Steady files that take writes do not fail.
-    ensures unfailing { F.is_steady files.old ≡ true → F.takes_writes files.old ≡ true → F.failures files.new ≡ F.failures files.old }
+    ensures unfailing { is_explained (subcommand_of tool (words_of args.now)) ≡ false
+        → F.is_steady files.old ≡ true → F.takes_writes files.old ≡ true → F.failures files.new ≡ F.failures files.old }
 {
     run_then(alloc, Afterwards::GoesOn, args, files, out, err)
 }
@@ -71,7 +76,10 @@ pub fn run_then<F: Files, O: Output, E: Output>(
     ensures taken { fault_of tool (words_of args.now) ≡ []
         → DoesNamed (Sent O.written O.failures out.old out.new) (Cut O.written O.failures out.old out.new)
         (SentOrCut E.written E.failures err.old err.new) (IsSaved F.contents files.old files.new)
-        (IsUnsaved F.contents F.failures files.old files.new) result (IsHonest F.contents F.is_steady files.old) (words_of args.now) }
+        (IsUnsaved F.contents F.failures files.old files.new) result (IsHonest F.contents F.is_steady files.old)
+        (DoesExplained F.contents F.failures files.old (Sent O.written O.failures out.old out.new)
+        (Cut O.written O.failures out.old out.new) (SentOrCut E.written E.failures err.old err.new) result (IsHonest F.contents F.is_steady files.old))
+        (words_of args.now) }
 
     // Where they are not taken, nothing goes to standard output.
     ensures refused { fault_of tool (words_of args.now) ≢ []
@@ -83,12 +91,13 @@ pub fn run_then<F: Files, O: Output, E: Output>(
 
     // Where opening or writing a file failed, the status is 3 and the line names a device. Inputs count
     // their failed reads themselves, of which these clauses do not speak.
-    ensures kept { result ≢ 3 → F.failures files.new ≡ F.failures files.old }
-    ensures failed { F.failures files.new ≢ F.failures files.old
+    ensures kept { is_explained (subcommand_of tool (words_of args.now)) ≡ false → result ≢ 3 → F.failures files.new ≡ F.failures files.old }
+    ensures failed { is_explained (subcommand_of tool (words_of args.now)) ≡ false → F.failures files.new ≢ F.failures files.old
         → (path : List ℕ) × SentOrCut E.written E.failures err.old err.new (device_line path) }
 
     // Steady files that take writes do not fail.
-    ensures unfailing { F.is_steady files.old ≡ true → F.takes_writes files.old ≡ true → F.failures files.new ≡ F.failures files.old }
+    ensures unfailing { is_explained (subcommand_of tool (words_of args.now)) ≡ false
+        → F.is_steady files.old ≡ true → F.takes_writes files.old ≡ true → F.failures files.new ≡ F.failures files.old }
 {
     let Ok(definition) = definition(alloc) else {
         return Refusal::Memory.tell(err);
@@ -115,7 +124,7 @@ fn usage<E: Output>(alloc: Global, error: &Error, err: &mut E) -> u8
     2
 }
 
-/// Does the command that the words named.
+/// Does the command that the words named, and explains its refusal if they say so.
 fn dispatch<F: Files, O: Output, E: Output>(
     alloc: Global,
     afterwards: Afterwards,
@@ -126,17 +135,36 @@ fn dispatch<F: Files, O: Output, E: Output>(
 ) -> u8
     requires { Any (λ name. subcommand_name_of matches.now ≡ Some name) tool_names }
     ensures done { (command : Told) × IsMatched (subcommand_rows_of matches.now) command
-        × Does (Sent O.written O.failures out.old out.new) (Cut O.written O.failures out.old out.new)
+        × DoesBy (is_explained (subcommand_rows_of matches.now))
+        (Does (Sent O.written O.failures out.old out.new) (Cut O.written O.failures out.old out.new)
         (SentOrCut E.written E.failures err.old err.new) (IsSaved F.contents files.old files.new)
-        (IsUnsaved F.contents F.failures files.old files.new) result (IsHonest F.contents F.is_steady files.old) command }
+        (IsUnsaved F.contents F.failures files.old files.new) result (IsHonest F.contents F.is_steady files.old) command)
+        (DoesExplained F.contents F.failures files.old (Sent O.written O.failures out.old out.new)
+        (Cut O.written O.failures out.old out.new) (SentOrCut E.written E.failures err.old err.new) result
+        (IsHonest F.contents F.is_steady files.old) command) }
     ensures status { result ≢ 2 }
-    ensures kept { result ≢ 3 → F.failures files.new ≡ F.failures files.old }
-    ensures failed { F.failures files.new ≢ F.failures files.old
+    ensures kept { is_explained (subcommand_rows_of matches.now) ≡ false → result ≢ 3 → F.failures files.new ≡ F.failures files.old }
+    ensures failed { is_explained (subcommand_rows_of matches.now) ≡ false → F.failures files.new ≢ F.failures files.old
         → (path : List ℕ) × SentOrCut E.written E.failures err.old err.new (device_line path) }
-    ensures unfailing { F.is_steady files.old ≡ true → F.takes_writes files.old ≡ true → F.failures files.new ≡ F.failures files.old }
+    ensures unfailing { is_explained (subcommand_rows_of matches.now) ≡ false
+        → F.is_steady files.old ≡ true → F.takes_writes files.old ≡ true → F.failures files.new ≡ F.failures files.old }
 {
     let command = command_of(matches);
-    execute_then(alloc, afterwards, &command, files, out, err)
+    if explains(matches) {
+        execute_explained(alloc, afterwards, &command, files, out, err)
+    } else {
+        execute_then(alloc, afterwards, &command, files, out, err)
+    }
+}
+
+/// Whether the command that the words named explains its refusal.
+fn explains(matches: &ArgMatches<'_>) -> bool
+    ensures { result ≡ is_explained (subcommand_rows_of matches.now) }
+{
+    match matches.subcommand() {
+        Some((_, inner)) => flag(inner, "explain"),
+        None => false,
+    }
 }
 
 /// The command that the words named.
@@ -188,6 +216,12 @@ fn command_of<'m>(matches: &'m ArgMatches<'_>) -> Command<'m>
             roots: roots(inner),
             out: value(inner, "OUT"),
             names: values(inner, "FILE"),
+        };
+    }
+    if let Some(inner) = matches.subcommand_matches("from-json") {
+        return Command::FromJson {
+            out: value(inner, "OUT"),
+            source: source(inner),
         };
     }
     if let Some(inner) = matches.subcommand_matches("compat") {

@@ -40,5 +40,5 @@ mod words;
 pub use command_line::{run, run_then};
 pub use pb_command::{
     Afterwards, Command, Comparison, Files, FloatForm, HostFiles, Layout, MemFiles, RawForm,
-    Readers, Reading, Refusal, Roots, Source, execute, execute_then,
+    Readers, Reading, Refusal, Roots, Source, execute, execute_explained, execute_then,
 };

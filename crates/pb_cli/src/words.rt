@@ -2,9 +2,9 @@
 ghost use Rattle.std.specs.Prelude.{◌≡◌, false, IfOk};
 ghost use Rattle.clap.specs.Words.{app_of, rule_of};
 ghost use Rattle.clap.specs.declared.builder.command.Command.TheViews.{out-Command};
-ghost use Rattle.pb_cli.specs.Words.{both_rule, compat_command, other_tool};
+ghost use Rattle.pb_cli.specs.Words.{both_rule, compat_command, from_json_command, other_tool};
 ghost use Rattle.pb_cli.specs.Words.{canon_command, check_command, compile_command, frames_command, json_command, raw_command, show_command, types_command};
-ghost use Rattle.pb_cli.specs.Words.{decimal_rule, directory_rule, keep_going_rule, lenient_rule, nested_rule, of_source, tool, tool_top, wanted};
+ghost use Rattle.pb_cli.specs.Words.{decimal_rule, directory_rule, explain_rule, keep_going_rule, lenient_rule, nested_rule, of_source, tool, tool_top, wanted};
 
 use clap::{Arg, ArgAction, Command};
 use std::alloc::{AllocError, Global};
@@ -19,11 +19,12 @@ pub fn definition<'a>(alloc: Global) -> Result<Command<'a>, AllocError>
     ensures closed { IfOk result (λ c. (out-Command c).allow_external_subcommands ≡ false) }
 {
     let others = other_commands(alloc)?;
-    let whole = others.subcommand(compat(alloc)?)?;
+    let with_compat = others.subcommand(compat(alloc)?)?;
+    let whole = with_compat.subcommand(from_json(alloc)?)?;
     Ok(whole)
 }
 
-/// All commands but `compat`.
+/// All commands but `compat` and `from-json`.
 fn other_commands<'a>(alloc: Global) -> Result<Command<'a>, AllocError>
     ensures app { IfOk result (λ c. app_of c ≡ other_tool) }
     ensures local { IfOk result (λ c. (out-Command c).has_globals ≡ false) }
@@ -69,7 +70,9 @@ fn raw<'a>(alloc: Global) -> Result<Command<'a>, AllocError>
     let with_short = command.arg(short)?;
     let nested = nested_option(alloc);
     let with_nested = with_short.arg(nested)?;
-    let whole = with_nested.arg(file)?;
+    let explain = explain_option(alloc);
+    let with_explain = with_nested.arg(explain)?;
+    let whole = with_explain.arg(file)?;
     Ok(whole)
 }
 
@@ -161,8 +164,10 @@ fn compile<'a>(alloc: Global) -> Result<Command<'a>, AllocError>
     let command = Command::new(alloc, "compile").about(
         "Write the descriptor set of sources and their imports",
     );
+    let explain = explain_option(alloc);
+    let with_explain = command.arg(explain)?;
     let lenient = lenient_sources_option(alloc);
-    let with_lenient = command.arg(lenient)?;
+    let with_lenient = with_explain.arg(lenient)?;
     let directory = directory_option(alloc);
     let with_directory = with_lenient.arg(directory)?;
     let root = wanted(alloc, "ROOT", "The folder of the sources");
@@ -201,6 +206,19 @@ fn compat<'a>(alloc: Global) -> Result<Command<'a>, AllocError>
     let with_new = with_old.arg(new)?;
     let name = Arg::new(alloc, "TYPE").help("Compare only the message type of this full name");
     let whole = with_new.arg(name)?;
+    Ok(whole)
+}
+
+fn from_json<'a>(alloc: Global) -> Result<Command<'a>, AllocError>
+    ensures app { IfOk result (λ c. app_of c ≡ from_json_command) }
+    ensures local { IfOk result (λ c. (out-Command c).has_globals ≡ false) }
+{
+    let command = Command::new(alloc, "from-json").about(
+        "Write the canonical bytes of a message that is given as JSON",
+    );
+    let with_source = with_source(alloc, command)?;
+    let out = wanted(alloc, "OUT", "The file to write");
+    let whole = with_source.arg(out)?;
     Ok(whole)
 }
 
@@ -264,8 +282,10 @@ fn with_source<'a>(alloc: Global, command: Command<'a>) -> Result<Command<'a>, A
     ensures app { (out-Command command.entry).has_globals ≡ false → IfOk result (λ c. app_of c ≡ of_source (app_of command.entry)) }
     ensures local { (out-Command command.entry).has_globals ≡ false → IfOk result (λ c. (out-Command c).has_globals ≡ false) }
 {
+    let explain = explain_option(alloc);
+    let with_explain = command.arg(explain)?;
     let lenient = lenient_option(alloc);
-    let with_lenient = command.arg(lenient)?;
+    let with_lenient = with_explain.arg(lenient)?;
     let set = wanted(alloc, "SET", "The file with the descriptor set of the type");
     let with_set = with_lenient.arg(set)?;
     let name = wanted(alloc, "TYPE", "The full name of the message type");
@@ -273,6 +293,19 @@ fn with_source<'a>(alloc: Global, command: Command<'a>) -> Result<Command<'a>, A
     let file = wanted(alloc, "FILE", "The file with the bytes");
     let whole = with_type.arg(file)?;
     Ok(whole)
+}
+
+/// The flag for lines that explain a refusal.
+fn explain_option<'a>(alloc: Global) -> Arg<'a>
+    ensures rule { rule_of result ≡ explain_rule }
+    ensures local { result.global ≡ false }
+{
+    Arg::new(alloc, "explain")
+        .long("explain")
+        .action(ArgAction::SetTrue)
+        .help(
+            "After the line of a refusal print where it is, what was expected and the bytes around",
+        )
 }
 
 /// The flag for lenient reading of the set.

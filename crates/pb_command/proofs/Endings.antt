@@ -7,7 +7,7 @@ use Rattle.pb_files.specs.Refusal.{names_device, refusal_line, refusal_status}
 use Rattle.pb_command.specs.Steps.{Comes, FailsAt}
 use Rattle.pb_files.specs.declared.report.Refusal.{Refusal}
 use Rattle.pb_files.specs.declared.report.Refusal.TheVariants.{Fault, Set, SetFile, Link, UnknownType, TooLarge, Frame, Frames, Source, Json, Device, File, Memory}
-use Rattle.pb_files.specs.declared.report.Refusal.TheVariants.{Breaks}
+use Rattle.pb_files.specs.declared.report.Refusal.TheVariants.{Breaks, JsonText}
 
 module _
     (Out Cut Told : List ℕ → Type 0) (Saved : Option (List ℕ × List ℕ) → Type 0) (Unsaved : List ℕ → Type 0) (status : ℕ)
@@ -38,6 +38,7 @@ module _
   ends_from Quiet (Err (Frames lines refused count)) quiet h told = stop_ends _ h told
   ends_from Quiet (Err (Source file byte cause)) quiet h told = stop_ends _ h told
   ends_from Quiet (Err (Json path cause)) quiet h told = stop_ends _ h told
+  ends_from Quiet (Err (JsonText byte cause)) quiet h told = stop_ends _ h told
   ends_from Quiet (Err Breaks) quiet h told = stop_ends _ h told
   ends_from Quiet (Err (Device path)) quiet h told = fail_ends path.now h told
   ends_from Quiet (Err (File path)) quiet h told = fail_ends (string_bytes path) h told
@@ -61,6 +62,7 @@ never_two Quiet Told (Err e) status concluded two = no_two e (sym concluded.0 �
     no_two (Frames lines refused count) is = omega (arith, is)
     no_two (Source file byte cause) is = omega (arith, is)
     no_two (Json path cause) is = omega (arith, is)
+    no_two (JsonText byte cause) is = omega (arith, is)
     no_two Breaks is = omega (arith, is)
     no_two (Device path) is = omega (arith, is)
     no_two (File path) is = omega (arith, is)
@@ -85,6 +87,7 @@ kept_but_at_three Quiet Told (Err e) status Kept concluded kept other = by e con
     by (Frames lines refused count) is kept = kept refl
     by (Source file byte cause) is kept = kept refl
     by (Json path cause) is kept = kept refl
+    by (JsonText byte cause) is kept = kept refl
     by Breaks is kept = kept refl
     by (Device path) is kept = absurd (other is)
     by (File path) is kept = absurd (other is)
@@ -109,6 +112,7 @@ device_told Quiet Told (Err e) status Kept concluded kept failed = by e conclude
     by (Frames lines refused count) told kept = absurd (failed (kept refl))
     by (Source file byte cause) told kept = absurd (failed (kept refl))
     by (Json path cause) told kept = absurd (failed (kept refl))
+    by (JsonText byte cause) told kept = absurd (failed (kept refl))
     by Breaks told kept = absurd (failed (kept refl))
     by (Device path) told kept = (path.now, told)
     by (File path) told kept = (string_bytes path, told)

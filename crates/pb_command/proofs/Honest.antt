@@ -20,11 +20,13 @@ use Rattle.pb_command.specs.TypesAnswer.{TypesAnswer, no_types, shown}
 use Rattle.pb_command.specs.TypeAnswer.{TypeAnswer, no_type, missing, opened}
 use Rattle.pb_command.specs.declared.command.Command.{Command}
 use Rattle.pb_command.specs.declared.command.Command.TheVariants.{Raw, Check, Show, Canon, Json, Frames, AllFrames, Compile}
-use Rattle.pb_command.specs.declared.command.Command.TheVariants.{Compat}
+use Rattle.pb_command.specs.declared.command.Command.TheVariants.{Compat, FromJson}
 use Rattle.pb_command.specs.declared.command.Command.TheVariants as command
 use Rattle.pb_command.proofs.CompatSteps.{compat_any, compat_of_map}
 use Rattle.pb_command.specs.declared.form.Form.{Form}
 use Rattle.pb_command.specs.declared.form.Form.TheVariants as form
+use Rattle.pb_command.proofs.FromJsonSteps.{json_any, json_whole}
+use Rattle.pb_command.specs.FromJsonAnswer.{rules_by}
 use Rattle.pb_command.proofs.Judged.{answer_whole}
 use Rattle.pb_command.proofs.SetWhole.{no_pool_whole, no_type_whole, pool_at, type_at}
 use Rattle.pb_command.proofs.SourceSteps.{compile_of_any, compile_of_map}
@@ -107,6 +109,9 @@ module _ {F : Type 0} (contents : F → Option FileMap) (is_steady : F → Bool)
     right_of_map (Json layout source) a h =
         type_of_map _ _ source.reading source.type_name.now source.set.now source.file.now a
         (λ pool m. message_map _ _ _ _ (form.Json layout) pool m a (λ f known. known map honest) (λ v known. known.1 map honest)) h
+    right_of_map (FromJson out source) a h =
+        type_of_map _ _ source.reading source.type_name.now source.set.now source.file.now a
+        (λ pool m. json_whole (rules_by source.reading) out.now pool m (map source.file.now) a (λ b known. known map honest)) h
     right_of_map (Frames floats source) a h =
         type_of_map _ _ source.reading source.type_name.now source.set.now source.file.now a
         (λ pool m. frames_map _ _ _ _ _ _ source.file.now pool m a (λ text known. known.1 map honest) (λ count text f known. known.1 map honest)
@@ -124,6 +129,7 @@ module _ {F : Type 0} (contents : F → Option FileMap) (is_steady : F → Bool)
     begun_of_map (Show floats source) text h = h
     begun_of_map (Canon to source) text h = h
     begun_of_map (Json layout source) text h = h
+    begun_of_map (FromJson out source) text h = h
     begun_of_map (command.Types reading set name) text h = h
     begun_of_map (Compile roots out names) text h = h
     begun_of_map (Compat comparison) text h = h
@@ -151,6 +157,9 @@ module _ {F : Type 0} (contents : F → Option FileMap) (is_steady : F → Bool)
   right_of_any (Json layout source) a h =
       type_any _ _ _ _ source.reading source.type_name.now source.set.now source.file.now a
       (λ pool m. message_map _ _ _ _ (form.Json layout) pool m a (λ f known. tt) (λ v known. known.0)) h
+  right_of_any (FromJson out source) a h =
+      type_any _ _ _ _ source.reading source.type_name.now source.set.now source.file.now a
+      (λ pool m. json_any _ (rules_by source.reading) out.now pool m a) h
   right_of_any (Frames floats source) a h =
       type_any _ _ _ _ source.reading source.type_name.now source.set.now source.file.now a
       (λ pool m. frames_map _ _ _ _ _ _ source.file.now pool m a (λ text known. known.0) (λ count text f known. known.0) (λ text known. known.0)) h
@@ -168,6 +177,7 @@ module _ {F : Type 0} (contents : F → Option FileMap) (is_steady : F → Bool)
   begun_of_any (Show floats source) text h = h
   begun_of_any (Canon to source) text h = h
   begun_of_any (Json layout source) text h = h
+  begun_of_any (FromJson out source) text h = h
   begun_of_any (command.Types reading set name) text h = h
   begun_of_any (Compile roots out names) text h = h
   begun_of_any (Compat comparison) text h = h

@@ -10,8 +10,12 @@ pub mod Coming
 pub mod FileSteps
 -- for the message of a file
 pub mod MessageSteps
+-- for a message that is read from JSON
+pub mod FromJsonSteps
 -- for a line of JSON: a text and then a line feed
 pub mod JsonSteps
+-- for the line of a refusal, and the lines that explain it
+pub mod ExplainedSteps
 -- for the loop of `frames`: the frames of a stream, one after another
 pub mod Streams
 -- for the loop of `frames --keep-going`: all frames of a stream, also those that are refused

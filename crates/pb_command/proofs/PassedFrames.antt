@@ -38,7 +38,7 @@ few_refused none_there = omega arith
 few_refused (shown_there before well offset size taken lines) = let fewer = few_refused before in omega (arith, fewer)
 few_refused (refused_there before size f) = let fewer = few_refused before in omega (arith, fewer)
 
--- so many frames have no fewer bytes
+-- frames have no fewer bytes than they are
 pub frames_have_bytes :
     {floats : FloatForm} {pool : Types} {m : ℕ} {input : List ℕ} {s : Passed} {rest : List ℕ} → Passes floats pool m input s rest → s.count ≤ s.offset
 frames_have_bytes none_yet = omega arith
@@ -237,6 +237,7 @@ module _
   over_answered (Err (refusal.Frame index byte steps cause)) h none = absurd none
   over_answered (Err (refusal.Source file byte cause)) h none = absurd none
   over_answered (Err (refusal.Json steps cause)) h none = absurd none
+  over_answered (Err (refusal.JsonText byte cause)) h none = absurd none
   over_answered (Err refusal.Breaks) h none = absurd none
   over_answered (Err (refusal.Device device)) h none = absurd none
   over_answered (Err (refusal.File device)) h none = absurd none
@@ -340,7 +341,7 @@ module _
         lines = rw (h.lines, count) (sym line);
       }
 
-  -- so many frames were read that no byte can be left
+  -- more frames were read than bytes can be left
   pub turn_most :
       {old mid : D} {a b : Sink} {start now : I} {index : ℕ} {p : Progress} (path : List ℕ)
       → IsGoing written failures left is_steady old mid a b start now floats pool m index p → index ≡ 2 ^ 64 - 1

@@ -54,7 +54,7 @@ frame_has_byte {rest = rest} frame =
     let inner = length-append frame.front frame.text in
     omega (arith, some, size, inner)
 
--- so many frames have no fewer bytes
+-- frames have no fewer bytes than they are
 frames_size :
     {floats : FloatForm} {pool : Types} {m : ℕ} {input : List ℕ} {count offset : ℕ} {text rest : List ℕ} → BeginsWith floats pool m input count offset text rest → count ≤ offset
 frames_size no_frame = omega arith
@@ -69,7 +69,7 @@ no_bytes (x ∷ xs) e = absurd (omega (arith, e))
 
 -- WHAT WAS READ
 
--- so many frames of an input were read, with these lines, and the reader goes on
+-- this number of frames of an input was read, with these lines, and the reader goes on
 pub record AreRead {I : Type 0} (left : I → Option (List ℕ)) (is_steady : I → Bool) (floats : FloatForm) (start now : Stream I) (count : ℕ) (text : List ℕ) : Type 0 where
   pub frames : AreFrames floats start.pool start.kind count text
   pub pool : now.pool ≡ start.pool

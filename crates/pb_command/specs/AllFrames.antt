@@ -24,7 +24,7 @@ pub record Passed : Type 0 where
 abbrev pub none_passed : Passed
 none_passed = record { count = 0; refused = 0; offset = 0; text = []; lines = [] }
 
--- and a frame of so many bytes more, with these lines
+-- and a frame of this number of bytes more, with these lines
 abbrev pub and_shown : Passed → ℕ → List ℕ → Passed
 and_shown s size shown =
     record { count = suc s.count; refused = s.refused; offset = s.offset + size; text = s.text ++ shown; lines = s.lines }
@@ -49,7 +49,7 @@ pub data Passes (floats : FloatForm) (pool : Types) (m : ℕ) (input : List ℕ)
       {s : Passed} {span rest : List ℕ} {f : Fault} → Passes floats pool m input s (span ++ rest) → IsSpan span → FrameFault pool m full span f
       → Passes floats pool m input (and_refused s (length span) f) rest
 
--- so many frames, whatever their places
+-- this number of frames, whatever their places
 pub data ArePassed (floats : FloatForm) (pool : Types) (m : ℕ) : Passed → Type 0 where
   none_there : ArePassed floats pool m none_passed
   shown_there :

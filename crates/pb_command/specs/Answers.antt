@@ -17,6 +17,7 @@ use Rattle.pb_command.specs.CompatAnswer.{CompatAnswer}
 use Rattle.pb_command.specs.CompileAnswer.{CompileAnswer, places_of, texts_of}
 use Rattle.pb_files.specs.FileMap.{FileMap}
 use Rattle.pb_command.specs.FramesAnswer.{AreFrames, BeginsWith, FramesAnswer}
+use Rattle.pb_command.specs.FromJsonAnswer.{FromJsonAnswer, rules_by}
 use Rattle.pb_command.specs.MessageAnswer.{MessageAnswer}
 use Rattle.pb_command.specs.RawAnswer.{RawAnswer}
 use Rattle.pb_files.specs.SetFile.{HasType}
@@ -24,7 +25,7 @@ use Rattle.pb_command.specs.TypeAnswer.{TypeAnswer}
 use Rattle.pb_command.specs.TypesAnswer.{TypesAnswer}
 use Rattle.pb_command.specs.declared.command.Command.{Command}
 use Rattle.pb_command.specs.declared.command.Command.TheVariants.{Raw, Check, Show, Canon, Json, Frames, AllFrames, Compile}
-use Rattle.pb_command.specs.declared.command.Command.TheVariants.{Compat}
+use Rattle.pb_command.specs.declared.command.Command.TheVariants.{Compat, FromJson}
 use Rattle.pb_command.specs.declared.command.Command.TheVariants as command
 use Rattle.pb_command.specs.declared.command.Source.{Source}
 use Rattle.pb_command.specs.declared.form.Form.{Form}
@@ -68,6 +69,11 @@ module _ (map : FileMap) where
       TypeAnswer (λ content. content ≡ map s.set.now) (map s.file.now ≡ None)
       (MessageAnswer (FaultAt (map s.file.now)) (TextAt (map s.file.now)) form) s.reading s.type_name.now s.set.now s.file.now
 
+  abbrev pub JsonReadsTo : List ℕ → Source → Answer → Type 0
+  JsonReadsTo out s =
+      TypeAnswer (λ content. content ≡ map s.set.now) (map s.file.now ≡ None) (FromJsonAnswer (λ b. Some b ≡ map s.file.now) (rules_by s.reading) out)
+      s.reading s.type_name.now s.set.now s.file.now
+
   abbrev pub FramesComeTo : FloatForm → Source → Answer → Type 0
   FramesComeTo floats s =
       TypeAnswer (λ content. content ≡ map s.set.now) (map s.file.now ≡ None)
@@ -86,6 +92,7 @@ module _ (map : FileMap) where
   Answers (Show floats source) = MessageComesTo (form.Listing floats) source
   Answers (Canon to source) = MessageComesTo (canonical_form to) source
   Answers (Json layout source) = MessageComesTo (form.Json layout) source
+  Answers (FromJson out source) = JsonReadsTo out.now source
   Answers (Frames floats source) = FramesComeTo floats source
   Answers (AllFrames floats source) = AllFramesComeTo floats source
   Answers (command.Types reading set name) = TypesAnswer (λ content. content ≡ map set.now) reading set.now (option_map (λ n. n.now) name)
@@ -99,6 +106,7 @@ module _ (map : FileMap) where
   Begins (Show floats source) text = text ≡ []
   Begins (Canon to source) text = text ≡ []
   Begins (Json layout source) text = text ≡ []
+  Begins (FromJson out source) text = text ≡ []
   Begins (command.Types reading set name) text = text ≡ []
   Begins (Compile roots out names) text = text ≡ []
   Begins (Compat comparison) text = text ≡ []
@@ -116,6 +124,9 @@ module _ (map : FileMap) where
 abbrev pub AnyMessage : Form → Source → Answer → Type 0
 AnyMessage form s =
     TypeAnswer (λ content. ⊤) ⊤ (MessageAnswer (λ pool m f. ⊤) IsWellFormed form) s.reading s.type_name.now s.set.now s.file.now
+
+abbrev pub AnyReading : List ℕ → Source → Answer → Type 0
+AnyReading out s = TypeAnswer (λ content. ⊤) ⊤ (FromJsonAnswer (λ b. ⊤) (rules_by s.reading) out) s.reading s.type_name.now s.set.now s.file.now
 
 abbrev pub AnyFrames : FloatForm → Types → ℕ → List ℕ → Type 0
 AnyFrames floats pool m text = (count : ℕ) × AreFrames floats pool m count text
@@ -138,6 +149,7 @@ AnyAnswers (Check source) a = AnyMessage form.Check source a
 AnyAnswers (Show floats source) a = AnyMessage (form.Listing floats) source a
 AnyAnswers (Canon to source) a = AnyMessage (canonical_form to) source a
 AnyAnswers (Json layout source) a = AnyMessage (form.Json layout) source a
+AnyAnswers (FromJson out source) a = AnyReading out.now source a
 AnyAnswers (Frames floats source) a = AnyStream floats source a
 AnyAnswers (AllFrames floats source) a = AnyAllFrames floats source a
 AnyAnswers (command.Types reading set name) a = TypesAnswer (λ content. ⊤) reading set.now (option_map (λ n. n.now) name) a
@@ -150,6 +162,7 @@ AnyBegins (Check source) text = text ≡ []
 AnyBegins (Show floats source) text = text ≡ []
 AnyBegins (Canon to source) text = text ≡ []
 AnyBegins (Json layout source) text = text ≡ []
+AnyBegins (FromJson out source) text = text ≡ []
 AnyBegins (command.Types reading set name) text = text ≡ []
 AnyBegins (Compile roots out names) text = text ≡ []
 AnyBegins (Compat comparison) text = text ≡ []

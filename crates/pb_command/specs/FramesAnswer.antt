@@ -21,14 +21,14 @@ abbrev pub AreFrameLines : FloatForm → Types → ℕ → ℕ → ℕ → ℕ �
 AreFrameLines floats pool m index offset size v s =
     (inside : List ℕ) × (s ≡ frame_line index offset size ++ inside) × AreMessageLines floats pool 1 m v inside
 
--- the lines of so many frames, whatever their places
+-- the lines of this number of frames, whatever their places
 pub data AreFrames (floats : FloatForm) (pool : Types) (m : ℕ) : ℕ → List ℕ → Type 0 where
   none : AreFrames floats pool m 0 []
   one_more :
       {count : ℕ} {text lines : List ℕ} {v : Message} → AreFrames floats pool m count text → IsWellFormed pool m v → (offset size : ℕ)
       → AreFrameLines floats pool m count offset size v lines → AreFrames floats pool m (suc count) (text ++ lines)
 
--- an input begins with so many frames, of so many bytes and with these lines, and the rest follows
+-- an input begins with these numbers of frames and of bytes, with these lines, and the rest follows
 pub data BeginsWith (floats : FloatForm) (pool : Types) (m : ℕ) (input : List ℕ) : ℕ → ℕ → List ℕ → List ℕ → Type 0 where
   no_frame : BeginsWith floats pool m input 0 0 [] input
   frame_more :

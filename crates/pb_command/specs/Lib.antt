@@ -4,11 +4,13 @@ pub mod TypeAnswer
 pub mod TypesAnswer
 pub mod JsonAnswer
 pub mod MessageAnswer
+pub mod FromJsonAnswer
 pub mod FramesAnswer
 pub mod AllFrames
 pub mod CompileAnswer
 pub mod CompatAnswer
 pub mod Answers
+pub mod Explained
 pub mod Steps
 pub mod Streaming
 pub mod PassingOn

@@ -39,7 +39,7 @@ pub record HasPassed
 module _
     {D I : Type 0} (written : D → Option (List ℕ)) (failures : D → ℕ) (left : I → Option (List ℕ)) (is_steady : I → Bool) (old new : D) (a b : Sink)
     (start now : I) (floats : FloatForm) (pool : Types) (m : ℕ) where
-  -- so many frames were read, and their lines were put
+  -- this number of frames was read, and their lines were put
   pub record IsGoing (index : ℕ) (p : Progress) : Type 0 where
     pub state : Passed
     pub put : Puts written failures old new a b state.text
@@ -49,7 +49,7 @@ module _
     pub offset : state.offset ≡ p.offset
     pub lines : state.lines ≡ p.lines.items
 
-  -- all frames were read, so many
+  -- all frames were read, this number of them
   pub record IsOver (path : List ℕ) (count : ℕ) (p : Progress) : Type 0 where
     pub state : Passed
     pub put : Puts written failures old new a b state.text

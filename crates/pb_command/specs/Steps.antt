@@ -12,6 +12,7 @@ use Rattle.pb_json.specs.Refusals as json
 use Rattle.pb_json.specs.declared.error.JsonError.{JsonError}
 use Rattle.pb_json.specs.declared.error.JsonError.TheVariants as json_error
 use Rattle.pb_json.specs.declared.form.Layout.{Layout}
+use Rattle.pb_json_read.specs.declared.rules.JsonRules.{JsonRules}
 use Rattle.pb_decl.specs.Decls.{DeclaredFile}
 use Rattle.pb_files.specs.Answer.{Answer, stopped, broken, device_failed, IsPrinted}
 use Rattle.pb_listing.specs.declared.form.FloatForm.{FloatForm}
@@ -22,6 +23,7 @@ use Rattle.pb_command.specs.CompileAnswer.{CompileAnswer, places_of, texts_of, t
 use Rattle.pb_files.specs.FileMap.{FileMap, IsHonest}
 use Rattle.pb_command.specs.FramesAnswer.{AreFrames, FramesAnswer}
 use Rattle.pb_command.specs.Gathering.{Gathered, GathersUnder, HasTroubleUnder, IsAbsentUnder, DeclaresUnder, Places, Origin, Outcome, Trouble, stopped_at}
+use Rattle.pb_command.specs.FromJsonAnswer.{FromJsonAnswer, rules_by}
 use Rattle.pb_command.specs.MessageAnswer.{MessageAnswer}
 use Rattle.pb_command.specs.RawAnswer.{RawAnswer}
 use Rattle.pb_files.specs.Refusal.{ByRefusal, Refuses}
@@ -35,7 +37,7 @@ use Rattle.pb_files.specs.SetFile.{HasType}
 use Rattle.pb_files.specs.declared.set_file.Reading.{Reading}
 use Rattle.pb_command.specs.declared.command.Command.{Command}
 use Rattle.pb_command.specs.declared.command.Command.TheVariants.{Raw, Check, Show, Canon, Json, Frames, AllFrames, Compile}
-use Rattle.pb_command.specs.declared.command.Command.TheVariants.{Compat}
+use Rattle.pb_command.specs.declared.command.Command.TheVariants.{Compat, FromJson}
 use Rattle.pb_command.specs.declared.command.Command.TheVariants as command
 use Rattle.pb_command.specs.declared.command.Comparison.{Comparison}
 use Rattle.pb_command.specs.declared.command.RawForm.{RawForm}
@@ -103,6 +105,11 @@ module _ {F : Type 0} (contents : F → Option FileMap) (is_steady : F → Bool)
       ⊎ MessageAnswer (λ pool m f. OfFiles contents is_steady files path (λ content. FaultAt content pool m f))
       (λ pool m v. IsWellFormed pool m v × OfFiles contents is_steady files path (λ content. TextAt content pool m v)) form pool m a
 
+  -- or its JSON text is read
+  abbrev pub JsonReadAt : JsonRules → List ℕ → Types → ℕ → List ℕ → Answer → Type 0
+  JsonReadAt rules out pool m path a =
+      IsMissing path a ⊎ FromJsonAnswer (λ b. IsReadOf contents is_steady files (full.bytes + 1) path (Some b)) rules out pool m a
+
   -- or its frames are shown
   abbrev pub StreamAt : FloatForm → Types → ℕ → List ℕ → Answer → Type 0
   StreamAt floats pool m path a =
@@ -131,6 +138,13 @@ module _ {F : Type 0} (contents : F → Option FileMap) (is_steady : F → Bool)
       TypeAnswer (IsReadOf contents is_steady files (full.bytes + 1) s.set.now) (OfFiles contents is_steady files s.file.now (λ content. content ≡ None))
       (MessageAnswer (λ pool m f. OfFiles contents is_steady files s.file.now (λ content. FaultAt content pool m f))
       (λ pool m v. IsWellFormed pool m v × OfFiles contents is_steady files s.file.now (λ content. TextAt content pool m v)) form)
+      s.reading s.type_name.now s.set.now s.file.now
+
+  -- what `from-json` answers
+  abbrev pub JsonReadOf : List ℕ → Source → Answer → Type 0
+  JsonReadOf out s =
+      TypeAnswer (IsReadOf contents is_steady files (full.bytes + 1) s.set.now) (OfFiles contents is_steady files s.file.now (λ content. content ≡ None))
+      (FromJsonAnswer (λ b. IsReadOf contents is_steady files (full.bytes + 1) s.file.now (Some b)) (rules_by s.reading) out)
       s.reading s.type_name.now s.set.now s.file.now
 
   -- what `frames` answers
@@ -206,6 +220,7 @@ module _ {F : Type 0} (contents : F → Option FileMap) (is_steady : F → Bool)
   RightOf (Show floats source) a = MessageOf (form.Listing floats) source a
   RightOf (Canon to source) a = MessageOf (canonical_form to) source a
   RightOf (Json layout source) a = MessageOf (form.Json layout) source a
+  RightOf (FromJson out source) a = JsonReadOf out.now source a
   RightOf (Frames floats source) a = StreamOf floats source a
   RightOf (AllFrames floats source) a = AllFramesOf floats source a
   RightOf (command.Types reading set name) a = TypesOf reading set.now (option_map (λ n. n.now) name) a
@@ -218,6 +233,7 @@ module _ {F : Type 0} (contents : F → Option FileMap) (is_steady : F → Bool)
   BegunOf (Show floats source) text = IsNothing text
   BegunOf (Canon to source) text = IsNothing text
   BegunOf (Json layout source) text = IsNothing text
+  BegunOf (FromJson out source) text = IsNothing text
   BegunOf (Frames floats source) text = StreamBegun floats source text
   BegunOf (AllFrames floats source) text = AllBegunOf floats source text
   BegunOf (command.Types reading set name) text = IsNothing text

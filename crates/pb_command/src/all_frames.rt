@@ -204,7 +204,7 @@ fn put_turn<'a, I: Input, O: Output>(
 }
 
 impl Progress {
-    /// Reports the frame of an index, which is refused and has so many bytes.
+    /// Reports the frame of an index, which is refused and has this number of bytes.
     fn report<'a>(
         &mut self,
         alloc: Global,

@@ -73,6 +73,12 @@ pub enum Command<'a> {
         layout: Layout,
         source: Source<'a>,
     },
+    /// Writes the canonical bytes of the message that a file holds as JSON to the file `out`. What lenient reading leaves out of a set, it
+    /// passes over in the JSON too.
+    FromJson {
+        out: &'a str,
+        source: Source<'a>,
+    },
     /// Shows the messages of a file, each after its length, with their floats in a form.
     Frames {
         floats: FloatForm,

@@ -16,6 +16,7 @@ use crate::compat::compat;
 use crate::compile::compile;
 use crate::form::Form;
 use crate::frames::frames;
+use crate::from_json::from_json;
 use crate::message::message;
 use crate::raw::raw;
 use crate::types::types;
@@ -85,7 +86,7 @@ pub fn execute_then<F: Files, O: Output, E: Output>(
 }
 
 /// The work of a command, without the line that reports a refusal.
-fn perform<'a, F: Files, O: Output>(
+pub(crate) fn perform<'a, F: Files, O: Output>(
     alloc: Global,
     afterwards: Afterwards,
     command: &Command<'a>,
@@ -125,6 +126,7 @@ fn perform<'a, F: Files, O: Output>(
             files,
             out,
         ),
+        Command::FromJson { out: to, source } => from_json(alloc, afterwards, source, to, files),
         Command::Frames { floats, source } => frames(
             alloc, afterwards, *floats, source, files, out,
         ),

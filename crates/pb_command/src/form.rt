@@ -147,7 +147,8 @@ fn write_hex_line<O: Output>(bytes: &[u8], out: &mut O) -> Result<(), DeviceFaul
     sink.finish(out)
 }
 
-fn save_canonical<'a, F: Files>(
+/// Writes its canonical bytes to a file.
+pub(crate) fn save_canonical<'a, F: Files>(
     message: &DynamicMessage<'_>,
     path: &'a str,
     files: &mut F,

@@ -4,7 +4,7 @@ use Rattle.pb_files.specs.Answer.{Answer, refused, device_failed}
 use Rattle.pb_files.specs.Refusal.{ByRefusal, Refuses}
 use Rattle.pb_files.specs.declared.report.Refusal.{Refusal}
 use Rattle.pb_files.specs.declared.report.Refusal.TheVariants.{Fault, Set, SetFile, Link, UnknownType, TooLarge, Frame, Frames, Source, Json, Device, File, Memory}
-use Rattle.pb_files.specs.declared.report.Refusal.TheVariants.{Breaks}
+use Rattle.pb_files.specs.declared.report.Refusal.TheVariants.{Breaks, JsonText}
 
 pub by_refusal_map :
     (I J : List ℕ → Type 0) (F G : List ℕ → Type 0) (M N : Type 0) (e : Refusal) → ((line : List ℕ) → I line → J line) → ((path : List ℕ) → F path → G path)
@@ -19,6 +19,7 @@ by_refusal_map I J F G M N (Frame index byte path cause) i f m h = i _ h
 by_refusal_map I J F G M N (Frames lines refused count) i f m h = i _ h
 by_refusal_map I J F G M N (Source file byte cause) i f m h = i _ h
 by_refusal_map I J F G M N (Json path cause) i f m h = i _ h
+by_refusal_map I J F G M N (JsonText byte cause) i f m h = i _ h
 by_refusal_map I J F G M N Breaks i f m h = i _ h
 by_refusal_map I J F G M N (Device path) i f m h = f _ h
 by_refusal_map I J F G M N (File path) i f m h = f _ h
@@ -38,6 +39,7 @@ by_refusal_any X I F M (Frame index byte path cause) i f m h = i _ h
 by_refusal_any X I F M (Frames lines refused count) i f m h = i _ h
 by_refusal_any X I F M (Source file byte cause) i f m h = i _ h
 by_refusal_any X I F M (Json path cause) i f m h = i _ h
+by_refusal_any X I F M (JsonText byte cause) i f m h = i _ h
 by_refusal_any X I F M Breaks i f m h = i _ h
 by_refusal_any X I F M (Device path) i f m h = f _ h
 by_refusal_any X I F M (File path) i f m h = f _ h

@@ -9,10 +9,10 @@ use Rattle.pb_rules.specs.declared.error.LinkError.{LinkError}
 use Rattle.pb_rules.specs.declared.error.LinkError.TheVariants as link
 use Rattle.pb_files.specs.Answer.{Answer, refused, device_failed}
 use Rattle.pb_files.specs.Report.{fault_line, set_fault_line, set_cause_line, link_line, type_line, too_large_line}
-use Rattle.pb_files.specs.Report.{frame_fault_line, frames_line, source_line, json_line, device_line, memory_line}
+use Rattle.pb_files.specs.Report.{frame_fault_line, frames_line, source_line, json_line, json_text_line, device_line, memory_line}
 use Rattle.pb_files.specs.declared.report.Refusal.{Refusal}
 use Rattle.pb_files.specs.declared.report.Refusal.TheVariants.{Fault, Set, SetFile, Link, UnknownType, TooLarge, Frame, Frames, Source, Json, Device, File, Memory}
-use Rattle.pb_files.specs.declared.report.Refusal.TheVariants.{Breaks}
+use Rattle.pb_files.specs.declared.report.Refusal.TheVariants.{Breaks, JsonText}
 
 abbrev pub refusal_line : Refusal → List ℕ
 refusal_line (Fault byte path cause) = fault_line (fault byte path.items cause)
@@ -25,6 +25,7 @@ refusal_line (Frame index byte path cause) = frame_fault_line index (fault byte 
 refusal_line (Frames lines refused count) = lines.items ++ frames_line refused count
 refusal_line (Source file byte cause) = source_line (string_bytes file) byte cause
 refusal_line (Json path cause) = json_line path.items cause
+refusal_line (JsonText byte cause) = json_text_line byte cause.now
 refusal_line Breaks = []
 refusal_line (Device path) = device_line path.now
 refusal_line (File path) = device_line (string_bytes path)
@@ -42,6 +43,7 @@ refusal_status (Frame index byte path cause) = 1
 refusal_status (Frames lines refused count) = 1
 refusal_status (Source file byte cause) = 1
 refusal_status (Json path cause) = 1
+refusal_status (JsonText byte cause) = 1
 refusal_status Breaks = 1
 refusal_status (Device path) = 3
 refusal_status (File path) = 3
@@ -59,6 +61,7 @@ names_device (Frame index byte path cause) = false
 names_device (Frames lines refused count) = false
 names_device (Source file byte cause) = false
 names_device (Json path cause) = false
+names_device (JsonText byte cause) = false
 names_device Breaks = false
 names_device (Device path) = true
 names_device (File path) = true
@@ -80,6 +83,7 @@ ByRefusal Input Failed OutOfMemory (Frame index byte path cause) = Input (frame_
 ByRefusal Input Failed OutOfMemory (Frames lines refused count) = Input (lines.items ++ frames_line refused count)
 ByRefusal Input Failed OutOfMemory (Source file byte cause) = Input (source_line (string_bytes file) byte cause)
 ByRefusal Input Failed OutOfMemory (Json path cause) = Input (json_line path.items cause)
+ByRefusal Input Failed OutOfMemory (JsonText byte cause) = Input (json_text_line byte cause.now)
 ByRefusal Input Failed OutOfMemory Breaks = Input []
 ByRefusal Input Failed OutOfMemory (Device path) = Failed path.now
 ByRefusal Input Failed OutOfMemory (File path) = Failed (string_bytes path)

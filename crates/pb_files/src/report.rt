@@ -3,7 +3,7 @@
 ghost use Rattle.std.specs.Prelude.{◌≡◌, ◌≤◌, ◌++◌, codes, decimal, flat_map, length, MatchResult};
 ghost use Rattle.pb_wire.specs.Fault.{fault};
 ghost use Rattle.pb_wire.specs.PathText.{dotted, path_text, step_text};
-ghost use Rattle.pb_files.specs.Report.{cause_end, device_line, fault_line, fields_text, frame_fault_line, frames_line, json_line, link_line};
+ghost use Rattle.pb_files.specs.Report.{cause_end, device_line, fault_line, fields_text, frame_fault_line, frames_line, json_line, json_text_line, link_line};
 ghost use Rattle.pb_files.specs.Report.{set_cause_line, set_fault_line, shown_name, source_line, type_line};
 ghost use Rattle.pb_files.specs.Refusal.{refusal_line, refusal_status};
 ghost use Rattle.pb_output.specs.Sending.{Cut, Sent, SentOrCut};
@@ -73,6 +73,11 @@ pub enum Refusal<'a> {
     Json {
         path: Vec<u32>,
         cause: JsonCause,
+    },
+    /// A JSON text that is not read as a message: where it fails, and the name of the cause.
+    JsonText {
+        byte: u64,
+        cause: &'static str,
     },
     /// A difference between two sets breaks reading. Standard output has it, and there is no line.
     Breaks,
@@ -154,7 +159,7 @@ impl<T: Drop> From<AllocFailed<T>> for Refusal<'_> {
 
 impl Refusal<'_> {
     /// The exit status: 1 where an input is refused, and 3 for devices and memory.
-    fn status(&self) -> u8
+    pub fn status(&self) -> u8
         ensures { result ≡ refusal_status self.now }
     {
         match self {
@@ -168,6 +173,7 @@ impl Refusal<'_> {
             | Refusal::Frames { .. }
             | Refusal::Source { .. }
             | Refusal::Json { .. }
+            | Refusal::JsonText { .. }
             | Refusal::Breaks => 1,
             Refusal::Device(_) | Refusal::File(_) | Refusal::Memory => 3,
         }
@@ -226,6 +232,7 @@ fn put_refusal<O: Output>(sink: &mut Sink, out: &mut O, refusal: &Refusal<'_>)
             *cause,
         ),
         Refusal::Json { path, cause } => put_json(sink, out, path, *cause),
+        Refusal::JsonText { byte, cause } => put_json_text(sink, out, *byte, cause),
         Refusal::Breaks => sink.put(out, b""),
         Refusal::Device(path) => put_device(sink, out, path),
         Refusal::File(path) => put_device(sink, out, path.as_str()),
@@ -408,6 +415,14 @@ fn put_json<O: Output>(sink: &mut Sink, out: &mut O, path: &[u32], cause: JsonCa
     sink.put(out, b"json path ");
     put_fields(sink, out, path);
     put_cause(sink, out, cause.name());
+}
+
+fn put_json_text<O: Output>(sink: &mut Sink, out: &mut O, byte: u64, cause: &str)
+    ensures { Puts O.written O.failures out.old out.new sink.old sink.new (json_text_line byte cause.now) }
+{
+    sink.put(out, b"json");
+    put_at(sink, out, byte);
+    put_cause(sink, out, cause);
 }
 
 /// The numbers of fields joined by dots, or `-` where there are none.

@@ -2,10 +2,14 @@
 //! encoding guide's rules, worked out by hand.
 
 mod calls;
+mod compat;
 mod compiled;
 mod decimal;
 mod early;
+mod explain;
+mod from_json;
 mod json;
+mod keep_going;
 mod lenient;
 mod nested;
 mod typed;

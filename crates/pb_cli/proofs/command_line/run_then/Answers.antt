@@ -2,7 +2,8 @@ use Rattle.std.proofs.Common.{◌≡◌, refl, sym, inl, inr, ap, ◌∙◌, sub
 use Rattle.std.proofs.KnownBytes.{Appends-nil}
 use Rattle.clap.specs.Words.{App, Row, Text, is_simple, is_simple_and_free, fault_of, kind_of, subcommand_of, takes}
 use Rattle.clap.specs.declared.error.kind.ErrorKind.TheVariants.{OutOfMemory}
-use Rattle.pb_cli.specs.Words.{IsMatched, tool, words_of}
+use Rattle.pb_cli.specs.Running.{DoesBy}
+use Rattle.pb_cli.specs.Words.{IsMatched, is_explained, tool, words_of}
 use Rattle.pb_files.proofs.KnownLemmas.{keeps_same}
 use Rattle.pb_cli.proofs.Matches.{subcommand_named}
 use Rattle.pb_cli.proofs.Refusals.{no_kind, not_true}
@@ -14,7 +15,11 @@ returns-in-Ok-try_get_matches_from-clause-taken g c = λ taken.
     let app = c.in-Ok.ensures.app in
     let matched = (c.in-Ok-try_get_matches_from.ensures.matches (ap is_simple app)).1 ∙ ap (λ (a : App). subcommand_of a words) app in
     let done = c.dispatch.ensures.done in
-    inr (done.0, subst (λ (s : Option (Text × List Row)). IsMatched s done.0) matched done.1, done.2)
+    inr (
+      done.0,
+      subst (λ (s : Option (Text × List Row)). IsMatched s done.0) matched done.1,
+      subst (λ (s : Option (Text × List Row)). DoesBy (is_explained s) _ _) matched done.2,
+    )
 
 pub returns-in-Err-clause-taken : goal.returns-in-Err-clause-taken
 returns-in-Err-clause-taken g c = λ taken.
@@ -64,10 +69,28 @@ pub returns-in_default-clause-simple : goal.returns-in_default-clause-simple
 returns-in_default-clause-simple g c = refl
 
 pub returns-in-Ok-try_get_matches_from-clause-failed : goal.returns-in-Ok-try_get_matches_from-clause-failed
-returns-in-Ok-try_get_matches_from-clause-failed g c = c.dispatch.ensures.failed
+returns-in-Ok-try_get_matches_from-clause-failed g c = λ unexplained.
+    let app = c.in-Ok.ensures.app in
+    let matched =
+    (c.in-Ok-try_get_matches_from.ensures.matches (ap is_simple app)).1 ∙ ap (λ (a : App). subcommand_of a (words_of c.args.args.now)) app in
+    c.dispatch.ensures.failed (ap is_explained matched ∙ unexplained)
+
+pub returns-in-Ok-try_get_matches_from-clause-kept : goal.returns-in-Ok-try_get_matches_from-clause-kept
+returns-in-Ok-try_get_matches_from-clause-kept g c = λ unexplained.
+    let app = c.in-Ok.ensures.app in
+    let matched =
+    (c.in-Ok-try_get_matches_from.ensures.matches (ap is_simple app)).1 ∙ ap (λ (a : App). subcommand_of a (words_of c.args.args.now)) app in
+    c.dispatch.ensures.kept (ap is_explained matched ∙ unexplained)
 
 pub returns-in-Err-clause-failed : goal.returns-in-Err-clause-failed
-returns-in-Err-clause-failed g c = λ failed. absurd (failed refl)
+returns-in-Err-clause-failed g c = λ unexplained failed. absurd (failed refl)
 
 pub returns-in_default-clause-failed : goal.returns-in_default-clause-failed
-returns-in_default-clause-failed g c = λ failed. absurd (failed refl)
+returns-in_default-clause-failed g c = λ unexplained failed. absurd (failed refl)
+
+pub returns-in-Ok-try_get_matches_from-clause-unfailing : goal.returns-in-Ok-try_get_matches_from-clause-unfailing
+returns-in-Ok-try_get_matches_from-clause-unfailing g c = λ unexplained.
+    let app = c.in-Ok.ensures.app in
+    let matched =
+    (c.in-Ok-try_get_matches_from.ensures.matches (ap is_simple app)).1 ∙ ap (λ (a : App). subcommand_of a (words_of c.args.args.now)) app in
+    c.dispatch.ensures.unfailing (ap is_explained matched ∙ unexplained)

@@ -17,7 +17,10 @@ returns-clause-app c =
     (c.in_ok-with_directory.ensures.shape (search rules)
     ∙ ap₂ with_rule
     (c.in_ok-with_lenient.ensures.shape (search rules)
-    ∙ ap₂ with_rule (ap app_of_fields c.about-command.ensures ∙ c.new.ensures.app) c.lenient_sources_option-lenient.ensures.rule)
+    ∙ ap₂ with_rule
+    (c.in_ok-with_explain.ensures.shape (search rules)
+    ∙ ap₂ with_rule (ap app_of_fields c.about-command.ensures ∙ c.new.ensures.app) c.explain_option-explain.ensures.rule)
+    c.lenient_sources_option-lenient.ensures.rule)
     c.directory_option-directory.ensures.rule)
     c.wanted-root.ensures.rule)
     c.wanted-out.ensures.rule)

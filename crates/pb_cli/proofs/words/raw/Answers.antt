@@ -10,9 +10,12 @@ returns-clause-app c =
     let file_is : rule_of c.help-file.result ≡ wanted (codes "FILE") = search rules in
     c.in_ok-whole.ensures.shape (search rules)
     ∙ ap₂ with_rule
+    (c.in_ok-with_explain.ensures.shape (search rules)
+    ∙ ap₂ with_rule
     (c.in_ok-with_nested.ensures.shape (search rules)
     ∙ ap₂ with_rule
     (c.in_ok-with_short.ensures.shape (search rules)
     ∙ ap₂ with_rule (ap app_of_fields c.after_help-command.ensures ∙ ap app_of_fields c.about.ensures ∙ c.new-3.ensures.app) short_is)
     c.nested_option-nested.ensures.rule)
+    c.explain_option-explain.ensures.rule)
     file_is

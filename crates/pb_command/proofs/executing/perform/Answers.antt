@@ -1,6 +1,6 @@
 use Rattle.pb_files.specs.FileMap.{IsSaved, IsUnsaved}
 use Rattle.pb_command.specs.Steps.{IsNothing, RightOf}
-use Rattle.pb_command.specs.declared.command.Command.TheVariants.{Compile}
+use Rattle.pb_command.specs.declared.command.Command.TheVariants.{Compile, FromJson}
 use Rattle.pb_command.proofs.CompileSteps.{nothing_out}
 use Rattle.pb_command.proofs.executing.perform.Goals as goal
 
@@ -32,6 +32,14 @@ returns-in-Compile-clause-comes g c =
     (IsUnsaved g.F.Files.contents g.F.Files.failures c.args.files.now c.compile.new.files)
     (RightOf g.F.Files.contents g.F.Files.is_steady c.args.files.now (Compile c.in-Compile.roots c.in-Compile.to c.in-Compile.names)) IsNothing
     c.compile.result c.compile.ensures.comes)
+
+pub returns-in-FromJson-clause-comes : goal.returns-in-FromJson-clause-comes
+returns-in-FromJson-clause-comes g c =
+    rw c.in-FromJson.is
+    (nothing_out g.O.Output.written g.O.Output.failures c.args.out.now (IsSaved g.F.Files.contents c.args.files.now c.from_json.new.files)
+    (IsUnsaved g.F.Files.contents g.F.Files.failures c.args.files.now c.from_json.new.files)
+    (RightOf g.F.Files.contents g.F.Files.is_steady c.args.files.now (FromJson c.in-FromJson.to c.in-FromJson.source)) IsNothing
+    c.from_json.result c.from_json.ensures.comes)
 
 pub returns-in-Types-clause-comes : goal.returns-in-Types-clause-comes
 returns-in-Types-clause-comes g c = rw c.in-Types.is c.types.ensures.comes

@@ -1,0 +1,124 @@
+//! The message that a file holds as JSON, by its type.
+
+ghost use Rattle.std.specs.Prelude.{◌≡◌, ◌⊎◌, ◌<◌, ◌≤◌, [], length, true, IfOk, IfErr};
+ghost use Rattle.pb_wire.specs.Limits.{full};
+ghost use Rattle.pb_files.specs.Answer.{refused};
+ghost use Rattle.pb_files.specs.FileMap.{IsSaved, IsUnsaved};
+ghost use Rattle.pb_files.specs.Refusal.{KeepsFailures, Refuses};
+ghost use Rattle.pb_files.specs.Report.{json_text_line};
+ghost use Rattle.pb_json_read.specs.Answers.{IsReadAs, IsRefusedWith};
+ghost use Rattle.pb_json_read.specs.Faults.{name_of, out_of_memory};
+ghost use Rattle.pb_json_read.specs.declared.error.JsonReadError.{JsonReadError as ReadError};
+ghost use Rattle.pb_command.specs.FromJsonAnswer.{rules_by, too_long_line};
+ghost use Rattle.pb_command.specs.Steps.{Comes, IsNothing, JsonReadAt, JsonReadOf};
+
+use crate::afterwards::{Afterwards, part_with};
+use crate::command::Source;
+use crate::form::save_canonical;
+use pb_files::{Files, Reading, Refusal, find_type, read_file};
+use pb_json_read::{JsonReadCause, JsonReadError, JsonRules, read_json};
+use pb_schema::{MessageId, Pool};
+use pb_value::DynamicMessage;
+use pb_wire::Limits;
+use std::alloc::Global;
+
+/// Writes the canonical bytes of the message that a file holds as JSON to a file: whole, or nothing where it is refused.
+pub fn from_json<'a, F: Files>(
+    alloc: Global,
+    afterwards: Afterwards,
+    source: &Source<'a>,
+    out: &'a str,
+    files: &mut F,
+) -> Result<(), Refusal<'a>>
+    ensures comes { Comes (λ text. text ≡ []) (λ _. ⊥)
+        (IsSaved F.contents files.old files.new) (IsUnsaved F.contents F.failures files.old files.new)
+        (JsonReadOf F.contents F.is_steady files.old out.entry.now source.now) IsNothing result }
+    ensures kept { KeepsFailures F.failures files.old files.new result }
+    ensures unfailing { F.is_steady files.old ≡ true → F.takes_writes files.old ≡ true → F.failures files.new ≡ F.failures files.old }
+{
+    let (pool, message_type) = find_type(
+        alloc,
+        source.reading,
+        source.set,
+        source.type_name,
+        files,
+    )?;
+    let rules = rules_of(source.reading);
+    let answer = from_json_at(alloc, rules, &pool, message_type, source.file, out, files);
+    part_with(pool, afterwards);
+    answer
+}
+
+/// How JSON is read, by how the set is.
+fn rules_of(reading: Reading) -> JsonRules
+    ensures { result ≡ rules_by reading }
+{
+    match reading {
+        Reading::Strict => JsonRules::Strict,
+        Reading::Lenient => JsonRules::Lenient,
+    }
+}
+
+/// The same of a message type.
+fn from_json_at<'a, F: Files>(
+    alloc: Global,
+    rules: JsonRules,
+    pool: &Pool,
+    message_type: MessageId,
+    path: &'a str,
+    out: &'a str,
+    files: &mut F,
+) -> Result<(), Refusal<'a>>
+    requires { message_type.0 < length pool.now.messages }
+    ensures comes { Comes (λ text. text ≡ []) (λ _. ⊥)
+        (IsSaved F.contents files.old files.new) (IsUnsaved F.contents F.failures files.old files.new)
+        (JsonReadAt F.contents F.is_steady files.old rules out.entry.now pool.now message_type.0 path.entry.now) IsNothing result }
+    ensures kept { KeepsFailures F.failures files.old files.new result }
+    ensures unfailing { F.is_steady files.old ≡ true → F.takes_writes files.old ≡ true → F.failures files.new ≡ F.failures files.old }
+{
+    let text = read_file(alloc, Limits::FULL, path, files)?;
+    let message = read_text(alloc, rules, pool, message_type, text.as_slice())?;
+    save_canonical(&message, out, files)
+}
+
+/// The message of a text. One that is too long is refused.
+fn read_text<'p, 'a>(
+    alloc: Global,
+    rules: JsonRules,
+    pool: &'p Pool,
+    message_type: MessageId,
+    text: &[u8],
+) -> Result<DynamicMessage<'p>, Refusal<'a>>
+    requires { message_type.0 < length pool.now.messages }
+    ensures of_type { IfOk result (λ m. (m.pool ≡ pool.now) × (m.kind ≡ message_type.0)) }
+    ensures short { IfOk result (λ m. length text.now ≤ full.bytes) }
+    ensures read { IfOk result (λ m. IsReadAs pool.now rules message_type.0 text.now m.body) }
+    ensures refused { IfErr result (Refuses (λ a. ((full.bytes < length text.now) × (a ≡ refused too_long_line))
+        ⊎ ((e : ReadError) × (length text.now ≤ full.bytes) × IsRefusedWith pool.now rules message_type.0 text.now e
+        × (a ≡ refused (json_text_line e.byte (name_of e.cause)))))) }
+{
+    if text.len() > Limits::FULL.max_bytes() as usize {
+        return Err(Refusal::JsonText {
+            byte: u64::from(Limits::FULL.max_bytes()),
+            cause: "InputTooLarge",
+        });
+    }
+    match read_json(alloc, pool, message_type, text, rules) {
+        Ok(message) => Ok(message),
+        Err(error) => Err(refusal_of(error)),
+    }
+}
+
+/// Why a text is refused.
+fn refusal_of<'a>(error: JsonReadError) -> Refusal<'a>
+    ensures memory { error ≡ out_of_memory → result ≡ Refusal.Memory }
+    ensures reported { Refuses (λ a. a ≡ refused (json_text_line error.byte (name_of error.cause))) result }
+{
+    if error.cause == JsonReadCause::OutOfMemory {
+        return Refusal::Memory;
+    }
+    Refusal::JsonText {
+        byte: error.byte as u64,
+        cause: error.cause.name(),
+    }
+}

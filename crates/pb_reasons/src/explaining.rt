@@ -1,0 +1,140 @@
+//! The lines for a person about a refusal.
+
+use crate::bytes::{At, explain_frame, explain_message, explain_set_bytes};
+use crate::declared::Unlinked;
+use crate::lines::put;
+use crate::sets::{explain_set_file, explain_unlinked_set};
+use crate::sources::{explain_source, explain_unlinked_source, put_source};
+use crate::subject::Subject;
+use pb_files::{Files, Refusal, read_file};
+use pb_wire::{Limits, MemOutput};
+use std::alloc::Global;
+
+/// Writes the lines about a refusal. Files are read again, up to the bytes that are shown; one that cannot be read again is left out.
+pub fn explain<F: Files>(
+    alloc: Global,
+    subject: Subject<'_>,
+    refusal: &Refusal<'_>,
+    files: &mut F,
+    lines: &mut MemOutput,
+) {
+    match refusal {
+        Refusal::Fault { byte, path, cause } => {
+            let at = At {
+                byte: *byte,
+                path,
+                cause: *cause,
+            };
+            explain_message(alloc, subject, at, files, lines)
+        }
+        Refusal::Frame {
+            index,
+            byte,
+            path,
+            cause,
+        } => {
+            let at = At {
+                byte: *byte,
+                path,
+                cause: *cause,
+            };
+            explain_frame(alloc, subject, *index, at, files, lines)
+        }
+        Refusal::Set { byte, path, cause } => {
+            let at = At {
+                byte: *byte,
+                path,
+                cause: *cause,
+            };
+            explain_set_bytes(alloc, subject, at, files, lines)
+        }
+        Refusal::SetFile { file, cause } => explain_set_file(
+            alloc, subject, *file, *cause, files, lines,
+        ),
+        Refusal::Link {
+            file,
+            full_name,
+            cause,
+        } => {
+            let unlinked = Unlinked {
+                file: file.as_str(),
+                full_name: full_name.as_str(),
+                cause: *cause,
+            };
+            explain_unlinked(alloc, subject, unlinked, files, lines)
+        }
+        Refusal::Source {
+            file,
+            byte,
+            cause: _,
+        } => explain_source(alloc, subject, file.as_str(), *byte, files, lines),
+        Refusal::JsonText { byte, cause: _ } => explain_json_text(
+            alloc, subject, *byte, files, lines,
+        ),
+        Refusal::Device(path) => explain_device(path, files, lines),
+        Refusal::File(path) => explain_device(path.as_str(), files, lines),
+        Refusal::UnknownType(_)
+        | Refusal::TooLarge
+        | Refusal::Frames { .. }
+        | Refusal::Json { .. }
+        | Refusal::Breaks
+        | Refusal::Memory => {}
+    }
+}
+
+/// Writes the lines about a declaration that does not link.
+fn explain_unlinked<F: Files>(
+    alloc: Global,
+    subject: Subject<'_>,
+    unlinked: Unlinked<'_>,
+    files: &mut F,
+    lines: &mut MemOutput,
+) {
+    if let Subject::Sources {
+        reading,
+        root,
+        others,
+    } = subject
+    {
+        explain_unlinked_source(alloc, reading, root, others, unlinked, files, lines);
+    } else if let Some(set) = subject.set() {
+        explain_unlinked_set(alloc, set, unlinked, files, lines);
+    }
+}
+
+/// Writes the lines about a byte of a file of JSON.
+fn explain_json_text<F: Files>(
+    alloc: Global,
+    subject: Subject<'_>,
+    byte: u64,
+    files: &mut F,
+    lines: &mut MemOutput,
+) {
+    let Subject::Messages {
+        message_type: _,
+        file,
+    } = subject
+    else {
+        return;
+    };
+    let Ok(text) = read_file(alloc, Limits::FULL, file, files) else {
+        return;
+    };
+    put_source(&text, byte, lines);
+}
+
+/// Says whether the file of a path can be opened.
+fn explain_device<F: Files>(path: &str, files: &mut F, lines: &mut MemOutput) {
+    if path == "-" {
+        put(lines, b"  standard output takes no more\n");
+        return;
+    }
+    match files.open(path) {
+        Ok(Some(_)) => put(
+            lines,
+            b"  the file can be opened, but not read or written, as a folder\n",
+        ),
+        Ok(None) => put(lines, b"  no file has this path\n"),
+        Err(_) => put(lines, b"  the file cannot be opened\n"),
+    }
+}
