@@ -15,7 +15,8 @@ use Rattle.std.specs.declared.boxed.Box.{Box}
 use Rattle.std.specs.declared.alloc.Global.{Global}
 use Rattle.pb_command.specs.declared.command.Command.{Command}
 use Rattle.pb_command.specs.CompileAnswer.{texts_of}
-use Rattle.pb_cli.specs.Words.{IsMatched, IsNamed, tool, tool_names}
+use Rattle.pb_cli.specs.Running.{DoesBy}
+use Rattle.pb_cli.specs.Words.{IsMatched, IsNamed, is_explained, tool, tool_names}
 
 pairs_matched : (s : Option (Text × List Row)) (name : Text) (rows : List Row) (command : Command)
     → option_map (λ p. p.0) s ≡ Some name → option_map (λ p. p.1) s ≡ Some rows → IsNamed name rows command → IsMatched s command
@@ -33,6 +34,14 @@ matched_named m name rows command n r named = pairs_matched (subcommand_rows_of 
     names : (o : Option (Box SubCommand Global)) → option_map (λ b. (out-SubCommand (box_value b)).name.now) o ≡ Some name → option_map (λ p. p.0) (subcommand_rows o) ≡ Some name
     names None e = e
     names (Some b) e = e
+
+-- what is done of a subcommand's command is done of what these words name
+pub named_done :
+    (P Q : Command → Type 0) (s t : Option (Text × List Row)) → s ≡ t
+    → (command : Command) × IsMatched s command × DoesBy (is_explained s) (P command) (Q command)
+    → (command : Command) × IsMatched t command × DoesBy (is_explained t) (P command) (Q command)
+named_done P Q s t same done =
+    subst (λ (u : Option (Text × List Row)). (command : Command) × IsMatched u command × DoesBy (is_explained u) (P command) (Q command)) same done
 
 -- values, or none where there are none
 pub texts_or_none :

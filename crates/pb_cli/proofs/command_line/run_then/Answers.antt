@@ -1,11 +1,10 @@
-use Rattle.std.proofs.Common.{◌≡◌, refl, sym, inl, inr, ap, ◌∙◌, subst, arith, Option, List}
+use Rattle.std.proofs.Common.{◌≡◌, refl, sym, inl, inr, ap, ◌∙◌, arith}
 use Rattle.std.proofs.KnownBytes.{Appends-nil}
-use Rattle.clap.specs.Words.{App, Row, Text, is_simple, is_simple_and_free, fault_of, kind_of, subcommand_of, takes}
+use Rattle.clap.specs.Words.{App, is_simple, is_simple_and_free, fault_of, kind_of, subcommand_of, takes}
 use Rattle.clap.specs.declared.error.kind.ErrorKind.TheVariants.{OutOfMemory}
-use Rattle.pb_cli.specs.Running.{DoesBy}
-use Rattle.pb_cli.specs.Words.{IsMatched, is_explained, tool, words_of}
+use Rattle.pb_cli.specs.Words.{is_explained, tool, words_of}
 use Rattle.pb_files.proofs.KnownLemmas.{keeps_same}
-use Rattle.pb_cli.proofs.Matches.{subcommand_named}
+use Rattle.pb_cli.proofs.Matches.{named_done, subcommand_named}
 use Rattle.pb_cli.proofs.Refusals.{no_kind, not_true}
 use Rattle.pb_cli.proofs.command_line.run_then.Goals as goal
 
@@ -14,12 +13,7 @@ returns-in-Ok-try_get_matches_from-clause-taken g c = λ taken.
     let words = words_of c.args.args.now in
     let app = c.in-Ok.ensures.app in
     let matched = (c.in-Ok-try_get_matches_from.ensures.matches (ap is_simple app)).1 ∙ ap (λ (a : App). subcommand_of a words) app in
-    let done = c.dispatch.ensures.done in
-    inr (
-      done.0,
-      subst (λ (s : Option (Text × List Row)). IsMatched s done.0) matched done.1,
-      subst (λ (s : Option (Text × List Row)). DoesBy (is_explained s) _ _) matched done.2,
-    )
+    inr (named_done _ _ _ _ matched c.dispatch.ensures.done)
 
 pub returns-in-Err-clause-taken : goal.returns-in-Err-clause-taken
 returns-in-Err-clause-taken g c = λ taken.

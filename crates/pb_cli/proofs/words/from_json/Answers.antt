@@ -7,4 +7,4 @@ use Rattle.pb_cli.proofs.words.from_json.Goals as goal
 pub returns-clause-app : goal.returns-clause-app
 returns-clause-app c =
     let of = c.in_ok-with_source.ensures.app (search rules) ∙ ap of_source (ap app_of_fields c.about-command.ensures ∙ c.new.ensures.app) in
-    c.in_ok-whole.ensures.shape (c.in_ok-with_source.ensures.local (search rules)) ∙ ap₂ with_rule of c.wanted-out.ensures.rule
+    c.in_ok-whole.ensures.shape (search rules) ∙ ap₂ with_rule of c.wanted-out.ensures.rule
