@@ -8,7 +8,7 @@ use Rattle.pb_tokens.specs.declared.fault.SourceCause.{SourceCause}
 use Rattle.pb_tokens.specs.declared.fault.SourceCause.TheVariants as cause
 use Rattle.pb_tokens.specs.declared.fault.SourceFault.{SourceFault}
 use Rattle.pb_source.specs.Source.{IsSourceIn, HasFaultIn, too_large, bad_utf8, in_token, in_syntax}
-use Rattle.pb_source.specs.declared.reading.Reading.{Reading}
+use Rattle.pb_source.specs.declared.reading.Reading.{Reading as SourceReading}
 use Rattle.pb_files.specs.declared.set_file.Reading.{Reading}
 use Rattle.pb_files.specs.declared.set_file.Reading.TheVariants.{Strict, Lenient}
 use Rattle.pb_files.specs.Answer.{Answer, device_failed, refused}
@@ -207,7 +207,7 @@ module _ {F : Type 0} (contents : F → Option FileMap) (is_steady : F → Bool)
 
 -- ALL BYTES
 
-module _ (grammar : Reading) where
+module _ (grammar : SourceReading) where
   source_whole_in : (name b : List ℕ) (f : DeclaredFile) → IsSourceIn grammar name (take (full.bytes + 1) b) f → IsSourceIn grammar name b f
   source_whole_in name b f s = subst (λ (x : List ℕ). IsSourceIn grammar name x f) (front_whole full.bytes b s.size) s
 
